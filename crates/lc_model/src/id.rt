@@ -5,7 +5,7 @@ ghost use Rattle.std.specs.Ordering.{nat_cmp};
 ghost use Rattle.std.specs.Prelude.{Some, refl};
 ghost use Rattle.lc_model.specs.Text.{IsIdText};
 
-use crate::NoMemory;
+use crate::{NoMemory, PlainData};
 use std::alloc::Global;
 use std::cmp::Ordering;
 use std::marker::Model;
@@ -55,12 +55,12 @@ impl Id {
     {
         self.text.as_str()
     }
+}
 
-    pub fn copy(&self) -> Result<Id, NoMemory>
-        ensures { IfOk result (λ id. id ≡ self.now) }
-    {
+impl PlainData for Id {
+    fn copy(&self, alloc: Global) -> Result<Id, NoMemory> {
         Ok(Id {
-            text: self.text.clone()?,
+            text: String::from_str(alloc, self.text.as_str())?,
         })
     }
 }

@@ -3,18 +3,22 @@
 //! nothing but `std`.
 #![tactic(auto)]
 
+mod call;
 mod date;
 mod id;
+mod key;
 mod memory;
 mod moment;
 mod page;
 mod run;
 mod text;
 
+pub use call::{Call, Calls};
 pub use date::ServiceDate;
 pub use id::Id;
-pub use memory::NoMemory;
+pub use key::RunKey;
+pub use memory::{NoMemory, PlainData, copy_each};
 pub use moment::{MOMENTS_END, Moment};
 pub use page::PageName;
-pub use run::RunKey;
+pub use run::{Run, Runs};
 pub use text::{Bytes, Text};

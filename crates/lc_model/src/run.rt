@@ -1,26 +1,63 @@
-ghost use Rattle.std.specs.Prelude.{◌≡◌, ◌<◌, IfOk};
-ghost use Rattle.std.specs.Option.{ForSome};
+ghost use Rattle.std.specs.Prelude.{◌≡◌};
+ghost use Rattle.lc_model.specs.Run.{InKeyOrder};
 
-use crate::{Id, NoMemory, ServiceDate};
+use crate::{Calls, NoMemory, PlainData, RunKey, copy_each};
+use std::alloc::Global;
+use std::marker::Model;
 
-/// What names a run: its trip, its service date and, where the trip is repeated by a headway, its start in seconds of
-/// the service day, below 360,000 (100 hours).
-#[derive(Debug, PartialEq, Eq, PartialOrd, Ord, Drop)]
-pub struct RunKey {
-    pub trip: Id,
-    pub date: ServiceDate,
-    pub start: Option<u32>,
-    pub ghost start_in_range: { ForSome start (λ seconds. seconds < 360_000) },
+/// One journey of a vehicle on one service date.
+#[derive(Debug, Drop)]
+pub struct Run {
+    pub key: RunKey,
+    pub calls: Calls,
 }
 
-impl RunKey {
-    pub fn copy(&self) -> Result<RunKey, NoMemory>
-        ensures { IfOk result (λ key. key ≡ self.now) }
-    {
-        Ok(RunKey {
-            trip: self.trip.copy()?,
-            date: self.date,
-            start: self.start,
+impl PlainData for Run {
+    fn copy(&self, alloc: Global) -> Result<Run, NoMemory> {
+        Ok(Run {
+            key: self.key.copy(alloc)?,
+            calls: self.calls.copy(alloc)?,
         })
+    }
+}
+
+/// The runs of a timetable, strictly ordered by their keys.
+#[derive(Debug, Drop)]
+pub struct Runs {
+    items: Vec<Run>,
+}
+
+impl Model for Runs {
+    ghost use Rattle.std.specs.Prelude.{List};
+    ghost use Rattle.lc_model.specs.declared.run.Run.{Run};
+    ghost use Rattle.lc_model.specs.Run.{InKeyOrder};
+
+    ghost Value = { List Run };
+
+    ghost view = { λ r. r.items.items };
+
+    ghost invariant = { λ r. InKeyOrder r.items.items };
+}
+
+impl Runs {
+    pub fn from_list(list: Vec<Run>) -> Runs
+        requires { InKeyOrder list.items }
+        ensures { result ≡ list.items }
+    {
+        Runs { items: list }
+    }
+
+    pub fn as_slice(&self) -> &[Run]
+        ensures value { result.now ≡ self.now }
+        ensures in_order { InKeyOrder result.now }
+    {
+        self.items.as_slice()
+    }
+}
+
+impl PlainData for Runs {
+    fn copy(&self, alloc: Global) -> Result<Runs, NoMemory> {
+        let items = copy_each(alloc, self.as_slice())?;
+        Ok(Runs::from_list(items))
     }
 }

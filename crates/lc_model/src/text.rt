@@ -2,7 +2,7 @@ ghost use Rattle.std.specs.Prelude.{◌≡◌, IfOk};
 ghost use Rattle.std.specs.Str.{IsUtf8};
 ghost use Rattle.std.specs.String.{string_bytes};
 
-use crate::NoMemory;
+use crate::{NoMemory, PlainData};
 use std::alloc::Global;
 use std::marker::Model;
 
@@ -34,12 +34,12 @@ impl Text {
     {
         self.text.as_str()
     }
+}
 
-    pub fn copy(&self) -> Result<Text, NoMemory>
-        ensures { IfOk result (λ text. text ≡ self.now) }
-    {
+impl PlainData for Text {
+    fn copy(&self, alloc: Global) -> Result<Text, NoMemory> {
         Ok(Text {
-            text: self.text.clone()?,
+            text: String::from_str(alloc, self.text.as_str())?,
         })
     }
 }
@@ -70,10 +70,10 @@ impl Bytes {
     {
         self.items.as_slice()
     }
+}
 
-    pub fn copy(&self, alloc: Global) -> Result<Bytes, NoMemory>
-        ensures { IfOk result (λ bytes. bytes ≡ self.now) }
-    {
+impl PlainData for Bytes {
+    fn copy(&self, alloc: Global) -> Result<Bytes, NoMemory> {
         Ok(Bytes {
             items: self.items.as_slice().to_vec(alloc)?,
         })

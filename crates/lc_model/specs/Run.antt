@@ -1,0 +1,10 @@
+-- The runs of a timetable.
+use Rattle.std.specs.Prelude.{List}
+use Rattle.std.specs.Ordering.{on}
+use Rattle.lc_model.specs.Order.{IsStrict}
+use Rattle.lc_model.specs.RunKey.{key_cmp}
+use Rattle.lc_model.specs.declared.run.Run.{Run}
+
+-- runs stand strictly by their keys
+abbrev pub InKeyOrder : List Run → Type 0
+InKeyOrder runs = IsStrict (on (λ (r : Run). r.key) key_cmp) runs
