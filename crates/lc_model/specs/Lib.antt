@@ -1,6 +1,14 @@
 pub mod Calendar
 pub mod Call
+pub mod Change
+pub mod Connection
+pub mod Journey
+pub mod Leg
 pub mod Order
+pub mod Question
+pub mod Ride
 pub mod Run
 pub mod RunKey
+pub mod Stop
+pub mod StopsDoc
 pub mod Text

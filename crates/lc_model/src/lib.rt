@@ -3,22 +3,40 @@
 //! nothing but `std`.
 #![tactic(auto)]
 
+mod answer;
 mod call;
+mod change;
+mod changes;
+mod connection;
 mod date;
+mod doc;
 mod id;
+mod journey;
 mod key;
 mod memory;
 mod moment;
 mod page;
+mod query;
+mod ride;
 mod run;
+mod stop;
 mod text;
 
+pub use answer::Answer;
 pub use call::{Call, Calls};
+pub use change::Change;
+pub use changes::Changes;
+pub use connection::{Connection, Connections};
 pub use date::ServiceDate;
+pub use doc::StopsDoc;
 pub use id::Id;
+pub use journey::Journey;
 pub use key::RunKey;
 pub use memory::{NoMemory, PlainData, copy_each};
 pub use moment::{MOMENTS_END, Moment};
 pub use page::PageName;
+pub use query::{FIRST_LEAVE, LAST_LEAVE, Query};
+pub use ride::{Ride, Rides};
 pub use run::{Run, Runs};
+pub use stop::{Stop, Stops};
 pub use text::{Bytes, Text};

@@ -1,0 +1,55 @@
+ghost use Rattle.std.specs.Prelude.{◌≡◌, IfOk};
+ghost use Rattle.lc_model.specs.Change.{InChangeOrder, change_between, changes_from};
+
+use crate::{Change, Id, NoMemory, PlainData, copy_each};
+use std::alloc::Global;
+use std::marker::Model;
+
+/// Changes, strictly ordered by the stop that one leaves and the stop that one reaches.
+#[derive(Debug, Drop)]
+pub struct Changes {
+    items: Vec<Change>,
+}
+
+impl Model for Changes {
+    ghost use Rattle.std.specs.Prelude.{List};
+    ghost use Rattle.lc_model.specs.declared.change.Change.{Change};
+    ghost use Rattle.lc_model.specs.Change.{InChangeOrder};
+
+    ghost Value = { List Change };
+
+    ghost view = { λ c. c.items.items };
+
+    ghost invariant = { λ c. InChangeOrder c.items.items };
+}
+
+impl Changes {
+    pub fn from_list(list: Vec<Change>) -> Result<Changes, NoMemory>
+        requires { InChangeOrder list.items }
+        ensures { IfOk result (λ changes. changes ≡ list.items) }
+    {
+        Ok(Changes { items: list })
+    }
+
+    /// The seconds of the change from one stop to another, if there is one. Linear in the changes.
+    pub fn between(&self, from: &Id, to: &Id) -> Option<u32>
+        ensures { result ≡ change_between self.now from.now to.now }
+    {
+        let found = self.items.iter().find(|c| c.from == *from && c.to == *to);
+        found.map(|c| c.seconds)
+    }
+
+    pub fn as_slice(&self) -> &[Change]
+        ensures value { result.now ≡ self.now }
+        ensures in_order { InChangeOrder result.now }
+    {
+        self.items.as_slice()
+    }
+}
+
+impl PlainData for Changes {
+    fn copy(&self, alloc: Global) -> Result<Changes, NoMemory> {
+        let items = copy_each(alloc, self.as_slice())?;
+        Changes::from_list(items)
+    }
+}
