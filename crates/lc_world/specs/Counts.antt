@@ -1,0 +1,15 @@
+-- Counts of faults. A count is a number of 64 bits that stays at its last value once it has reached it.
+use Rattle.std.specs.Prelude.{ℕ, ◌+◌, ◌-◌, ◌^◌, ◌≤◌, min}
+
+-- The count rose: it is greater than before, or it stands at its last value, where any number may have been added.
+abbrev pub Rose : ℕ → ℕ → Type 0
+Rose before now = min (before + 1) (2 ^ 64 - 1) ≤ now
+
+-- The count has not fallen, and the outcome that it counts comes only where it rose.
+pub record HasCause (before now : ℕ) (outcome : Type 0) : Type 0 where
+  pub not_fallen : before ≤ now
+  pub rose : outcome → Rose before now
+
+-- one more, up to the last value
+abbrev pub one_more : ℕ → ℕ
+one_more count = min (count + 1) (2 ^ 64 - 1)

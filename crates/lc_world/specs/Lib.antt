@@ -1,0 +1,10 @@
+pub mod Counts
+pub mod Door
+pub mod Folder
+pub mod Link
+pub mod ListLink
+pub mod MemFolder
+pub mod MemSink
+pub mod Pieces
+pub mod Sink
+pub mod SureFolder

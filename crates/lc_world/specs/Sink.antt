@@ -1,0 +1,11 @@
+-- What a sink is seen to be.
+use Rattle.std.specs.Prelude.{◌≡◌, ℕ, ◌≤◌, List, ◌++◌, take, length, Option, option_map, Result, MatchResult, IfOk, ◌<◌}
+
+-- The bytes written so far, where the sink tells them, and how often a write has failed.
+pub record SinkSeen : Type 0 where
+  pub written : Option (List ℕ)
+  pub faults : ℕ
+
+-- what is written after the first n bytes of a piece are taken
+abbrev pub written_after : Option (List ℕ) → List ℕ → ℕ → Option (List ℕ)
+written_after written piece n = option_map (λ bytes. bytes ++ take n piece) written

@@ -1,0 +1,82 @@
+ghost use Rattle.std.specs.Prelude.{◌≡◌, [], IfOk, OnErr, OnOk, IsErrOf};
+ghost use Rattle.lc_world.specs.Counts.{HasCause};
+ghost use Rattle.lc_world.specs.declared.link.LinkFail.TheVariants.{Failed};
+
+use crate::{Link, LinkFail};
+use lc_model::{Bytes, NoMemory};
+use std::alloc::Global;
+use std::marker::Model;
+
+/// A link that gives the replies of a list in order, whatever is asked, and fails after the last of them.
+#[derive(Debug, Drop)]
+pub struct ListLink {
+    replies: Vec<Bytes>,
+    given: usize,
+    faults: u64,
+}
+
+impl Model for ListLink {
+    ghost use Rattle.lc_world.specs.ListLink.{ListLinkState};
+
+    ghost Value = { ListLinkState };
+
+    ghost view = { λ l. record { replies = l.replies.items; given = l.given; faults = l.faults } };
+}
+
+impl ListLink {
+    pub fn new(replies: Vec<Bytes>) -> Result<ListLink, NoMemory>
+        ensures { IfOk result (λ link. link ≡ record { replies = replies.items; given = 0; faults = 0 }) }
+    {
+        Ok(ListLink {
+            replies,
+            given: 0,
+            faults: 0,
+        })
+    }
+
+    /// Puts the next reply in the place of what `reply` holds, and says whether there was one.
+    fn give_next(&mut self, reply: &mut Vec<u8>) -> Result<bool, LinkFail>
+        ensures empty { OnErr result (reply.new.items ≡ []) }
+        ensures memory { OnErr result (result ≡ Err LinkFail.NoMemory) }
+        ensures faults { self.new.faults ≡ self.old.faults }
+    {
+        let Some(next) = self.replies.get(self.given) else {
+            return Ok(false);
+        };
+        reply.clear();
+        if reply.extend_from_slice(next.as_slice()).is_err() {
+            return Err(LinkFail::NoMemory);
+        }
+        self.given = self.given.saturating_add(1);
+        Ok(true)
+    }
+}
+
+impl Link for ListLink {
+    ghost seen = { λ l. record { faults = l.faults } };
+
+    fn exchange(
+        &mut self,
+        _: Global,
+        _: &str,
+        _: &[u8],
+        reply: &mut Vec<u8>,
+    ) -> Result<(), LinkFail> {
+        if self.give_next(reply)? {
+            return Ok(());
+        }
+        reply.clear();
+        self.faults = self.faults.saturating_add(1);
+        Err(LinkFail::Failed)
+    }
+
+    /// Where no reply is left the answer stays as it is.
+    fn pass(&mut self, _: Global, _: &str, _: &[u8], reply: &mut Vec<u8>) -> Result<(), LinkFail> {
+        self.give_next(reply)?;
+        Ok(())
+    }
+
+    fn faults(&self) -> u64 {
+        self.faults
+    }
+}
