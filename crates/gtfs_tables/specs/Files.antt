@@ -1,0 +1,30 @@
+-- The files of a feed (GTFS Schedule Reference, "Dataset files"), as far as they are there.
+use Rattle.std.specs.Prelude.{ℕ, List, ◌++◌, Option, codes}
+use Rattle.lc_world.specs.Folder.{bytes_named}
+use Rattle.lc_world.specs.declared.file.File.{File}
+
+-- the bytes of each file, in the order in which the files are read
+pub record FeedFiles : Type 0 where
+  pub stops : Option (List ℕ)
+  pub trips : Option (List ℕ)
+  pub stop_times : Option (List ℕ)
+  pub calendar : Option (List ℕ)
+  pub calendar_dates : Option (List ℕ)
+  pub frequencies : Option (List ℕ)
+  pub transfers : Option (List ℕ)
+
+-- the name of a file of the feed
+abbrev pub path_of : List ℕ → List ℕ → List ℕ
+path_of feed file = feed ++ codes "/" ++ file
+
+-- the files of the feed in a folder of these files
+abbrev pub files_of : List File → List ℕ → FeedFiles
+files_of files feed = record {
+  stops = bytes_named files (path_of feed (codes "stops.txt"));
+  trips = bytes_named files (path_of feed (codes "trips.txt"));
+  stop_times = bytes_named files (path_of feed (codes "stop_times.txt"));
+  calendar = bytes_named files (path_of feed (codes "calendar.txt"));
+  calendar_dates = bytes_named files (path_of feed (codes "calendar_dates.txt"));
+  frequencies = bytes_named files (path_of feed (codes "frequencies.txt"));
+  transfers = bytes_named files (path_of feed (codes "transfers.txt"));
+}

@@ -1,0 +1,9 @@
+pub mod CalendarDates
+pub mod Feed
+pub mod Files
+pub mod Plain
+pub mod Said
+pub mod StopTimeOrder
+pub mod StopTimes
+pub mod Stops
+pub mod Trips

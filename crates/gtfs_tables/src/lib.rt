@@ -1,0 +1,14 @@
+//! The tables of a GTFS feed, read from a folder: stops, trips, stop times and the dates of services. Only plain feeds
+//! are read; of every other feed the first file that is not plain is named. It stands on `gtfs_rows`, `lc_time` and
+//! `lc_world`.
+#![tactic(auto)]
+
+mod dates;
+mod stop_times;
+mod tables;
+mod trips;
+
+pub use dates::{DateRow, DateRows};
+pub use stop_times::{StopTime, StopTimes};
+pub use tables::Tables;
+pub use trips::{TripRow, TripRows};
