@@ -7,7 +7,8 @@ use Rattle.lc_model.specs.declared.call.Call.{Call}
 abbrev pub InSequence : List Call → Type 0
 InSequence calls = AllPairs (λ (x y : Call). x.seq < y.seq) calls
 
--- no call departs before it arrives, and none arrives before an earlier one departed
+-- the sequences rise, no call departs before it arrives, and none arrives before an earlier one departed
 pub record GoesForward (calls : List Call) : Type 0 where
+  pub in_sequence : InSequence calls
   pub at_a_stop : All (λ (x : Call). x.arr ≤ x.dep) calls
   pub along : AllPairs (λ (x y : Call). x.dep ≤ y.arr) calls
