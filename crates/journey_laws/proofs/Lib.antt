@@ -1,0 +1,5 @@
+mod Journeys
+mod Ordered
+mod Pairs
+mod Places
+mod RidesAreLegs

@@ -1,0 +1,7 @@
+//! The law that a list of connections in departure order has the journeys of the timetable that it comes from: each ride
+//! of a run is a leg of the list, and each leg a ride. It stands on `lc_model`.
+#![tactic(auto)]
+
+mod law;
+
+pub use law::chains_are_journeys;

@@ -1,0 +1,6 @@
+//! The command `lc`: it plans journeys over a timetable. It stands on the folder, the tables and the scan.
+#![tactic(auto)]
+
+mod words;
+
+fn main() {}
