@@ -11,6 +11,7 @@ mod iso;
 #[cfg(test)]
 mod tests;
 
+pub use calendar::days_at;
 pub use clock::{CLOCK_END, read_gtfs_time, read_start, start_text};
 pub use date::{date_text, read_date};
 pub use http::{http_date, read_http_date};
