@@ -88,11 +88,11 @@ found_changes [] (c ∷ changes) from to are = absurd are
 found_changes (s ∷ stops) [] from to are = absurd are
 found_changes (s ∷ stops) (c ∷ changes) from to are =
     let agrees : is_same_id s.id from ≡ true → is_same_id s.id to ≡ is_same_id from to =
-      λ here. ap (λ id. is_same_id id to) ((bytes_decides s.id from).0 here) in
+    λ here. ap (λ id. is_same_id id to) ((bytes_decides s.id from).0 here) in
     let leaves : is_same_id c.from from ≡ is_same_id s.id from = ap (λ id. is_same_id id from) are.0.from_is in
     let reaches : is_same_id c.to to ≡ is_same_id s.id to = ap (λ id. is_same_id id to) are.0.to_is in
     let test : (is_same_id c.from from && is_same_id c.to to) ≡ (is_same_id s.id from && is_same_id s.id to) =
-      ap (λ b. b && is_same_id c.to to) leaves ∙ ap (λ b. is_same_id s.id from && b) reaches in
+    ap (λ b. b && is_same_id c.to to) leaves ∙ ap (λ b. is_same_id s.id from && b) reaches in
     ap (λ b. option_map (λ (d : Change). d.seconds) (cond b (Some c) (find (λ (d : Change). is_same_id d.from from && is_same_id d.to to) changes))) test
     ∙ choose (is_same_id s.id from) (is_same_id s.id to) (is_same_id from to) (list_any (λ (t : Stop). is_same_id t.id from) stops) c
-      (find (λ (d : Change). is_same_id d.from from && is_same_id d.to to) changes) are.0.seconds_are agrees (found_changes stops changes from to are.1)
+    (find (λ (d : Change). is_same_id d.from from && is_same_id d.to to) changes) are.0.seconds_are agrees (found_changes stops changes from to are.1)

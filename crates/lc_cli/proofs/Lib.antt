@@ -1,2 +1,3 @@
 mod DocLemmas
+mod TextLemmas
 mod WordsLemmas

@@ -1,2 +1,3 @@
+pub mod AnswerText
 pub mod Doc
 pub mod Words

@@ -1,6 +1,7 @@
 //! The command `lc`: it plans journeys over a timetable. It stands on the folder, the tables and the scan.
 #![tactic(auto)]
 
+mod answer_text;
 mod doc;
 mod words;
 

@@ -9,7 +9,7 @@ pub loop-stop-preserved : goal.loop-stop-preserved
 loop-stop-preserved c =
     let stops = c.as_slice-stop-items.result.now in
     let passed : take (c.loop-stop.stop-index + 1) stops ≡ take c.loop-stop.stop-index stops ++ c.stop-item.result ∷ [] =
-      take_more stops c.loop-stop.stop-index c.stop-item.result (omega arith) ∙ ap (λ s. take c.loop-stop.stop-index stops ++ s ∷ []) (sym c.stop-item.is) in
+    take_more stops c.loop-stop.stop-index c.stop-item.result (omega arith) ∙ ap (λ s. take c.loop-stop.stop-index stops ++ s ∷ []) (sym c.stop-item.is) in
     let pushed = one_more_change (take c.loop-stop.stop-index stops) c.loop-stop.changes.items c.stop-item.result c.in_ok-change.change c.loop-stop.invariant c.in_ok-change.ensures in
     subst (λ changes. AreChangesAt (take (c.loop-stop.stop-index + 1) stops) changes) (sym c.in_ok-push.ensures.items)
     (subst (λ front. AreChangesAt front (c.loop-stop.changes.items ++ c.in_ok-change.change ∷ [])) (sym passed) pushed)
