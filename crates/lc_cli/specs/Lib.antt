@@ -1,3 +1,7 @@
 pub mod AnswerText
+pub mod Block
 pub mod Doc
+pub mod Refusal
+pub mod Status
 pub mod Words
+pub mod Writing

@@ -2,7 +2,10 @@
 #![tactic(auto)]
 
 mod answer_text;
+mod block;
 mod doc;
+mod refusal;
+mod status;
 mod words;
 
 fn main() {}
