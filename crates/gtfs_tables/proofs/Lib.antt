@@ -1,1 +1,4 @@
+pub mod Keys
+pub mod Listed
+pub mod Marks
 pub mod Strict

@@ -3,7 +3,11 @@
 //! `lc_world`.
 #![tactic(auto)]
 
+mod apart;
+mod columns;
 mod dates;
+mod plain;
+mod read_stops;
 mod stop_times;
 mod tables;
 mod trips;
