@@ -3,6 +3,7 @@ pub mod CalendarDates
 pub mod Columns
 pub mod Feed
 pub mod Files
+pub mod Lent
 pub mod Plain
 pub mod Said
 pub mod StopTimeOrder
