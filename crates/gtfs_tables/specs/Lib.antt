@@ -1,8 +1,10 @@
 pub mod CalendarDates
 pub mod Feed
 pub mod Files
+pub mod Only
 pub mod Plain
 pub mod Said
+pub mod StopTimeColumns
 pub mod StopTimeOrder
 pub mod StopTimes
 pub mod Stops

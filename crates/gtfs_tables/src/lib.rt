@@ -4,6 +4,8 @@
 #![tactic(auto)]
 
 mod dates;
+mod number;
+mod stop_time_row;
 mod stop_times;
 mod tables;
 mod trips;
