@@ -1,1 +1,2 @@
+pub mod SaidFacts
 pub mod StopTimeFacts
