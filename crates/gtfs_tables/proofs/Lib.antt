@@ -1,2 +1,3 @@
 pub mod SaidFacts
 pub mod StopTimeFacts
+pub mod Strict
