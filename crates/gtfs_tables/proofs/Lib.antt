@@ -1,3 +1,4 @@
+pub mod OrderFacts
 pub mod SaidFacts
 pub mod StopTimeFacts
 pub mod Strict

@@ -6,6 +6,7 @@
 mod dates;
 mod number;
 mod said_stop_times;
+mod stop_time_order;
 mod stop_time_row;
 mod stop_times;
 mod tables;
