@@ -42,10 +42,10 @@ number_tie x y e = ranked x y Equal (sym e)
 number_less : (x y : ℕ) → nat_cmp x y ≡ Less → x < y
 number_less x y e = ranked x y Less (sym e)
 
-id_tie : (x y : List ℕ) → id_cmp x y ≡ Equal → x ≡ y
+pub id_tie : (x y : List ℕ) → id_cmp x y ≡ Equal → x ≡ y
 id_tie x y e = exact_bytes x y e
 
-same_id : (x y : List ℕ) → x ≡ y → id_cmp x y ≡ Equal
+pub same_id : (x y : List ℕ) → x ≡ y → id_cmp x y ≡ Equal
 same_id x y e = subst (λ z. id_cmp x z ≡ Equal) e (tied_itself nat_list_cmp_total x)
 
 same_number : (x y : ℕ) → x ≡ y → nat_cmp x y ≡ Equal

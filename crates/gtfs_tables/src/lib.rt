@@ -4,6 +4,7 @@
 #![tactic(auto)]
 
 mod dates;
+mod known;
 mod number;
 mod said_stop_times;
 mod stop_time_order;
