@@ -1,3 +1,6 @@
+pub mod Keys
+pub mod Listed
+pub mod Marks
 pub mod OrderFacts
 pub mod SaidFacts
 pub mod SearchFacts

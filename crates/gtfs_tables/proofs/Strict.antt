@@ -3,16 +3,13 @@ use Rattle.std.proofs.Common.{◌≡◌, ◌≢◌, ◌∙◌, ℕ, ◌+◌, ◌
 use Rattle.std.proofs.lemmas.List.Sorted.{ranks_by, sorted_far}
 use Rattle.std.proofs.lemmas.Map.Keys.{IsDistinct-from_apart, IsDistinct-IsPermutation, apart_from_distinct}
 use Rattle.std.specs.Cmp.{IsTotalOrder}
-use Rattle.std.specs.List.{AllPairs, IsDistinct}
+use Rattle.std.specs.List.{IsDistinct}
 use Rattle.std.specs.List.Sorted.{IsPermutation, IsSorted}
 use Rattle.std.specs.Ordering.{is_eq, is_lt, ordering_reverse}
 use Rattle.std.specs.declared.cmp.Ordering.{Ordering}
 use Rattle.std.specs.declared.cmp.Ordering.TheVariants.{Less, Equal, Greater}
 use Rattle.lc_model.specs.Order.{IsStrict}
-
--- no two items of the list tie
-abbrev pub AreApart : {X : Type 0} → (X → X → Ordering) → List X → Type 0
-AreApart cmp xs = AllPairs (λ x y. cmp x y ≢ Equal) xs
+use Rattle.gtfs_tables.specs.Apart.{AreApart}
 
 -- no two neighbours of the list tie
 abbrev pub NeighboursApart : {X : Type 0} → (X → X → Ordering) → List X → Type 0
@@ -46,6 +43,12 @@ strict_from_neighbours {X} cmp total xs sorted apart i j d before inside =
     let not_less : is_lt (cmp (get_or xs j d) (get_or xs (i + 1) d)) ≡ false =
     sorted_far (λ x y. is_lt (cmp x y)) (ranks_by total (λ x. x)) xs sorted (i + 1) j d (omega arith) inside in
     cc)
+
+-- so nothing ties where no neighbours do
+pub apart_from_neighbours : {X : Type 0} (cmp : X → X → Ordering) → IsTotalOrder cmp → (xs : List X) → IsSorted cmp xs → NeighboursApart cmp xs → AreApart cmp xs
+apart_from_neighbours cmp total xs sorted apart i j d before inside ties =
+    let less : cmp (get_or xs i d) (get_or xs j d) ≡ Less = strict_from_neighbours cmp total xs sorted apart i j d before inside in
+    cc
 
 not_equal : (o : Ordering) → o ≢ Equal → is_eq o ≡ false
 not_equal Less apart = refl

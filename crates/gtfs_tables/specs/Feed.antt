@@ -1,6 +1,6 @@
 -- Plain feeds. The points that a plain feed meets stand in the order in which its files are read; where one does not
 -- hold, the feed is refused, and the file of the first such point is named.
-use Rattle.std.specs.Prelude.{◌≡◌, ℕ, List, [], ◌∷◌, ◌⊎◌, Option, Some, IsNone, IsSome, codes}
+use Rattle.std.specs.Prelude.{◌≡◌, ℕ, List, ◌⊎◌, Option, Some, IsNone, IsSome, codes}
 use Rattle.std.specs.List.Sorted.{IsPermutation}
 use Rattle.lc_model.specs.declared.stop.Stop.{Stop}
 use Rattle.gtfs_tables.specs.CalendarDates.{ArePlainDates}

@@ -1,4 +1,6 @@
+pub mod Apart
 pub mod CalendarDates
+pub mod Columns
 pub mod Feed
 pub mod Files
 pub mod Only

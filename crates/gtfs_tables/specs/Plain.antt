@@ -1,5 +1,5 @@
 -- Plain tables: what a file of a feed has to be so that it is read.
-use Rattle.std.specs.Prelude.{◌≡◌, ℕ, ◌≤◌, List, [], Option, length, slice_index_or, unwrap_or, option_map}
+use Rattle.std.specs.Prelude.{◌≡◌, ℕ, ◌≤◌, List, [], length, slice_index_or, unwrap_or, option_map}
 use Rattle.csv.specs.Reading.{strip_bom}
 use Rattle.gtfs_rows.specs.Sheet.{Sheet, IsTable, column_of}
 

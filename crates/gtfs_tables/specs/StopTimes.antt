@@ -1,7 +1,6 @@
 -- stop_times.txt of a plain feed (GTFS Schedule Reference, stop_times.txt).
-use Rattle.std.specs.Prelude.{◌≡◌, ◌≢◌, ℕ, ◌<◌, ◌≤◌, Bool, not, List, [], ◌∷◌, Some, Option, codes}
+use Rattle.std.specs.Prelude.{◌≡◌, ◌≢◌, ℕ, ◌<◌, ◌≤◌, Bool, not, List, [], ◌∷◌, codes}
 use Rattle.std.specs.List.{All, AllPairs, Contains}
-use Rattle.std.specs.Option.{IfSome}
 use Rattle.std.specs.Str.{bytes_eq}
 use Rattle.gtfs_rows.specs.Sheet.{Sheet}
 use Rattle.lc_model.specs.Stop.{HasStop}

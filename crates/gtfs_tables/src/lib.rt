@@ -3,9 +3,13 @@
 //! `lc_world`.
 #![tactic(auto)]
 
+mod apart;
+mod columns;
 mod dates;
 mod known;
 mod number;
+mod plain;
+mod read_stops;
 mod said_stop_times;
 mod stop_time_order;
 mod stop_time_row;

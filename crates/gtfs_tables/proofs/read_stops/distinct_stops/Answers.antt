@@ -1,0 +1,17 @@
+use Rattle.std.proofs.Common.{◌≢◌, refl, rules}
+use Rattle.std.proofs.lemmas.Cmp.{nat_list_cmp_total, on_total}
+use Rattle.std.specs.List.{AllPairs}
+use Rattle.std.specs.Ordering.{on}
+use Rattle.lc_model.specs.Text.{id_cmp}
+use Rattle.lc_model.specs.declared.stop.Stop.{Stop}
+use Rattle.gtfs_tables.proofs.Keys.{apart_from_distinct}
+use Rattle.gtfs_tables.proofs.Strict.{apart_permuted, strict_from_sorted}
+use Rattle.gtfs_tables.proofs.read_stops.distinct_stops.Goals as goal
+
+pub from_list-requires : goal.from_list-requires
+from_list-requires c =
+    let total = on_total (λ (s : Stop). s.id) nat_list_cmp_total in
+    let distinct : AllPairs (λ (x y : Stop). x.id ≢ y.id) c.args.stops.items = search rules in
+    strict_from_sorted (on (λ (s : Stop). s.id) id_cmp) total c.sort_by_id.new.stops.items c.in_ok-sort_by_id.ensures.sorted
+    (apart_permuted (on (λ (s : Stop). s.id) id_cmp) total c.args.stops.items c.sort_by_id.new.stops.items c.sort_by_id.ensures.permutation
+    (apart_from_distinct (λ (s : Stop). s.id) (λ (s : Stop). s.id) c.args.stops.items c.args.stops.items refl distinct))
