@@ -1,5 +1,5 @@
 -- Lists that are said row by row: one more row, and a row that says nothing.
-use Rattle.std.proofs.Common.{◌≡◌, ◌∙◌, ℕ, ◌+◌, ◌<◌, suc, zero, List, [], ◌∷◌, ◌++◌, take, get_or, length, refl, sym, ap, ap₂, subst, arith}
+use Rattle.std.proofs.Common.{◌≡◌, ◌∙◌, ℕ, ◌+◌, ◌<◌, suc, zero, List, [], ◌∷◌, ◌++◌, take, get_or, length, refl, ap, ap₂, arith}
 use Rattle.std.proofs.lemmas.List.{take_more}
 use Rattle.gtfs_tables.specs.Said.{SaidBy}
 

@@ -1,13 +1,11 @@
 -- What a row says of a stop time: one time at most.
-use Rattle.std.proofs.Common.{◌≡◌, ◌∙◌, ℕ, List, Option, Some, None, Bool, sym, subst}
+use Rattle.std.proofs.Common.{◌≡◌, ◌∙◌, ℕ, List, Option, Some, None, sym, subst}
 use Rattle.std.specs.Prelude.{codes}
 use Rattle.gtfs_rows.specs.Sheet.{Sheet}
 use Rattle.lc_time.specs.Clock.{SaysGtfsTime}
-use Rattle.lc_model.specs.Text.{IsIdText}
 use Rattle.gtfs_tables.specs.Only.{IsOnly}
 use Rattle.gtfs_tables.specs.Plain.{text_at}
-use Rattle.gtfs_tables.specs.Said.{SaysNumber}
-use Rattle.gtfs_tables.specs.StopTimes.{SaysStopTime, allows}
+use Rattle.gtfs_tables.specs.StopTimes.{SaysStopTime}
 use Rattle.gtfs_tables.specs.declared.stop_times.StopTime.{StopTime}
 
 -- the text says no time but this

@@ -9,5 +9,6 @@ pub mod Said
 pub mod StopTimeColumns
 pub mod StopTimeOrder
 pub mod StopTimes
+pub mod StopTimesParts
 pub mod Stops
 pub mod Trips

@@ -1,13 +1,8 @@
 -- Where the columns of stop_times.txt stand in a sheet.
-use Rattle.std.specs.Prelude.{◌≡◌, ℕ, ◌<◌, List, Option, codes, length}
-use Rattle.std.specs.Option.{IfSome}
-use Rattle.gtfs_rows.specs.Sheet.{Sheet, column_of}
+use Rattle.std.specs.Prelude.{codes}
+use Rattle.gtfs_rows.specs.Sheet.{Sheet}
+use Rattle.gtfs_tables.specs.Columns.{IsColumn}
 use Rattle.gtfs_tables.specs.declared.stop_time_row.Columns.{Columns}
-
--- the place of the column of this name, where there is one
-pub record IsColumn (sheet : Sheet) (name : List ℕ) (column : Option ℕ) : Type 0 where
-  pub place : column ≡ column_of sheet name
-  pub within : IfSome column (λ place. place < length sheet.names)
 
 -- the places of the columns that are read
 pub record AreColumns (sheet : Sheet) (columns : Columns) : Type 0 where

@@ -9,6 +9,7 @@ mod dates;
 mod known;
 mod number;
 mod plain;
+mod read_stop_times;
 mod read_stops;
 mod said_stop_times;
 mod stop_time_order;

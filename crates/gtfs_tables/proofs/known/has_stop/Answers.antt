@@ -1,5 +1,5 @@
 -- The search tells whether the stop is there.
-use Rattle.std.proofs.Common.{◌≡◌, ℕ, List, subst, rules}
+use Rattle.std.proofs.Common.{ℕ, List, subst, rules}
 use Rattle.std.proofs.lemmas.Cmp.{nat_list_cmp_total, on_total}
 use Rattle.std.proofs.lemmas.Fn.{always_returns_same}
 use Rattle.std.specs.Ordering.{on}

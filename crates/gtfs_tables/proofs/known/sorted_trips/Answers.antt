@@ -1,5 +1,5 @@
 -- A sort only moves the ids.
-use Rattle.std.proofs.Common.{Bor, ◌≡◌, ◌∙◌, ◌≤◌, ℕ, List, ap, arith, length, map, take}
+use Rattle.std.proofs.Common.{Bor, ◌≡◌, ◌∙◌, ℕ, List, ap, arith, map, take}
 use Rattle.std.proofs.lemmas.List.{take_all}
 use Rattle.gtfs_tables.specs.declared.trips.TripRow.{TripRow}
 use Rattle.gtfs_tables.proofs.SearchFacts.{trips_moved}

@@ -1,6 +1,5 @@
 -- A row that says nothing ends the reading, and one more row says one more time.
-use Rattle.std.proofs.Common.{◌<◌, length, [], arith, subst}
-use Rattle.gtfs_tables.specs.Only.{IsOnly}
+use Rattle.std.proofs.Common.{◌<◌, length, [], arith}
 use Rattle.gtfs_tables.specs.StopTimes.{SaysStopTime}
 use Rattle.gtfs_tables.proofs.SaidFacts.{row_says_none, say_more}
 use Rattle.gtfs_tables.proofs.said_stop_times.read_rows.Goals as goal
