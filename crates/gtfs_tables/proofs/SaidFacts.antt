@@ -1,45 +1,50 @@
--- Lists that rows say, one row after the other.
-use Rattle.std.proofs.Common.{◌≡◌, ◌∙◌, ℕ, ◌+◌, ◌<◌, ◌≤◌, zero, suc, List, [], ◌∷◌, ◌++◌, length, get_or, take, ap, ap₂, arith, refl, subst, sym}
-use Rattle.std.proofs.lemmas.List.{take_all, take_more}
+-- Lists that are said row by row: one more row, and a row that says nothing.
+use Rattle.std.proofs.Common.{◌≡◌, ◌∙◌, ℕ, ◌+◌, ◌<◌, suc, zero, List, [], ◌∷◌, ◌++◌, take, get_or, length, refl, ap, ap₂, arith}
+use Rattle.std.proofs.lemmas.List.{take_more}
 use Rattle.gtfs_tables.specs.Said.{SaidBy}
 
 module _ {Row Item : Type 0} (Says : Row → Item → Type 0) where
-  said_push : (rows : List Row) (items : List Item) (row : Row) (item : Item) → SaidBy Says rows items → Says row item → SaidBy Says (rows ++ row ∷ []) (items ++ item ∷ [])
-  said_push [] [] row item said here = (here, tt)
-  said_push [] (i ∷ items) row item said here = absurd said
-  said_push (r ∷ rows) [] row item said here = absurd said
-  said_push (r ∷ rows) (i ∷ items) row item said here = (said.0, said_push rows items row item said.1 here)
-
-  said_pop : (rows : List Row) (row : Row) (said : List Item) → SaidBy Says (rows ++ row ∷ []) said
-      → (front : List Item) × (item : Item) × SaidBy Says rows front × Says row item × (said ≡ front ++ item ∷ [])
-  said_pop [] row [] h = absurd h
-  said_pop [] row (i ∷ []) h = ([], i, tt, h.0, refl)
-  said_pop [] row (i ∷ j ∷ items) h = absurd h.1
-  said_pop (r ∷ rows) row [] h = absurd h
-  said_pop (r ∷ rows) row (i ∷ items) h =
-      let rest = said_pop rows row items h.1 in
-      (i ∷ rest.0, rest.1, (h.0, rest.2), rest.3, ap (λ (l : List Item). i ∷ l) rest.4)
-
-  -- where rows say a list, each row says an item
-  pub said_at : (rows : List Row) (said : List Item) (place : ℕ) (d : Row) → SaidBy Says rows said → place < length rows → (item : Item) × Says (get_or rows place d) item
-  said_at [] said place d h inside = absurd (omega arith)
-  said_at (r ∷ rows) [] place d h inside = absurd h
-  said_at (r ∷ rows) (i ∷ items) zero d h inside = (i, h.0)
-  said_at (r ∷ rows) (i ∷ items) (suc place) d h inside = said_at rows items place d h.1 (omega arith)
-
   -- the rows say this list and no other
-  abbrev pub SaysOnly : List Row → List Item → Type 0
-  SaysOnly rows items = SaidBy Says rows items × ((said : List Item) → SaidBy Says rows said → said ≡ items)
+  pub record SayOnly (rows : List Row) (items : List Item) : Type 0 where
+    pub said : SaidBy Says rows items
+    pub only : (others : List Item) → SaidBy Says rows others → others ≡ items
 
-  pub says_only_more : (rows : List Row) (items : List Item) (place : ℕ) (d : Row) (item : Item) → place < length rows → SaysOnly (take place rows) items
-      → Says (get_or rows place d) item → ((other : Item) → Says (get_or rows place d) other → other ≡ item) → SaysOnly (take (place + 1) rows) (items ++ item ∷ [])
-  says_only_more rows items place d item inside (said, only) here one =
-      let same = take_more rows place d inside in (
-        subst (λ (r : List Row). SaidBy Says r (items ++ item ∷ [])) (sym same) (said_push (take place rows) items (get_or rows place d) item said here),
-        (λ other h.
-            let parts = said_pop (take place rows) (get_or rows place d) other (subst (λ (r : List Row). SaidBy Says r other) same h) in
-            parts.4 ∙ ap₂ (λ (l : List Item) (x : Item). l ++ x ∷ []) (only parts.0 parts.2) (one parts.1 parts.3)),
-      )
+  said_push : (rows : List Row) (items : List Item) (row : Row) (item : Item) → SaidBy Says rows items → Says row item → SaidBy Says (rows ++ row ∷ []) (items ++ item ∷ [])
+  said_push [] [] row item h says = (says, tt)
+  said_push [] (x ∷ xs) row item h says = absurd h
+  said_push (r ∷ rs) [] row item h says = absurd h
+  said_push (r ∷ rs) (x ∷ xs) row item h says = (h.0, said_push rs xs row item h.1 says)
 
-  pub says_only_all : (rows : List Row) (items : List Item) (place : ℕ) → length rows ≤ place → SaysOnly (take place rows) items → SaysOnly rows items
-  says_only_all rows items place past h = subst (λ (r : List Row). SaysOnly r items) (take_all place rows past) h
+  -- what rows and one more row say is a list and one more item
+  said_split : (rows : List Row) (row : Row) (others : List Item) → SaidBy Says (rows ++ row ∷ []) others
+      → (front : List Item) × (last : Item) × (others ≡ front ++ last ∷ []) × SaidBy Says rows front × Says row last
+  said_split [] row [] h = absurd h
+  said_split [] row (x ∷ []) h = ([], x, refl, tt, h.0)
+  said_split [] row (x ∷ y ∷ ys) h = absurd h.1
+  said_split (r ∷ rs) row [] h = absurd h
+  said_split (r ∷ rs) row (x ∷ xs) h =
+      let s = said_split rs row xs h.1 in
+      (x ∷ s.0, s.1, ap (λ l. x ∷ l) s.2, (h.0, s.3), s.4)
+
+  -- one more row
+  pub say_more : (rows : List Row) (items : List Item) (k : ℕ) (d : Row) (item : Item) → k < length rows → SayOnly (take k rows) items
+      → Says (get_or rows k d) item → ((other : Item) → Says (get_or rows k d) other → other ≡ item) → SayOnly (take (k + 1) rows) (items ++ item ∷ [])
+  say_more rows items k d item inside so_far says one =
+      rw (take_more rows k d inside) record {
+        said = said_push (take k rows) items (get_or rows k d) item so_far.said says;
+        only = λ others h.
+            let s = said_split (take k rows) (get_or rows k d) others h in
+            s.2 ∙ ap₂ (λ (front : List Item) (last : Item). front ++ last ∷ []) (so_far.only s.0 s.3) (one s.1 s.4);
+      }
+
+  -- a list that rows say has an item for each row
+  said_at : (rows : List Row) (items : List Item) (k : ℕ) (d : Row) → k < length rows → SaidBy Says rows items → (item : Item) × Says (get_or rows k d) item
+  said_at [] items k d inside h = absurd (omega arith)
+  said_at (r ∷ rs) [] k d inside h = absurd h
+  said_at (r ∷ rs) (x ∷ xs) zero d inside h = (x, h.0)
+  said_at (r ∷ rs) (x ∷ xs) (suc k) d inside h = said_at rs xs k d (omega arith) h.1
+
+  -- a row that says nothing lets the rows say no list
+  pub row_says_none : (rows : List Row) (k : ℕ) (d : Row) → k < length rows → ((item : Item) → Says (get_or rows k d) item → ⊥)
+      → (items : List Item) → SaidBy Says rows items → ⊥
+  row_says_none rows k d inside none items h = let at = said_at rows items k d inside h in none at.0 at.1
