@@ -1,11 +1,12 @@
 -- Pairs of a list and pairs of the keys of its items.
-use Rattle.std.proofs.Common.{◌≡◌, ◌≢◌, ◌∙◌, ℕ, ◌<◌, List, [], ◌∷◌, length, get_or, map, arith, ap, subst, sym}
-use Rattle.std.proofs.lemmas.Cmp.{nat_list_cmp_total, tied_itself}
+use Rattle.std.proofs.Common.{◌↔◌, Bool, IfOk, IsTrue, Result, Ok, Err, ◌≡◌, ◌≢◌, ◌∙◌, ◌<◌, List, [], ◌∷◌, length, get_or, map, arith, ap, subst, sym}
+use Rattle.std.proofs.lemmas.Cmp.{tied_itself}
 use Rattle.std.proofs.lemmas.List.{get_or-map, length-map}
-use Rattle.std.proofs.lemmas.Map.Lookups.{exact_bytes}
+use Rattle.std.proofs.lemmas.Map.Lookups.{CmpEqualImpliesEq}
+use Rattle.std.specs.Cmp.{IsTotalOrder}
 use Rattle.std.specs.List.{AllPairs}
+use Rattle.std.specs.declared.cmp.Ordering.{Ordering}
 use Rattle.std.specs.declared.cmp.Ordering.TheVariants.{Equal}
-use Rattle.lc_model.specs.Text.{id_cmp}
 use Rattle.gtfs_tables.specs.Apart.{AreApart}
 
 pub pairs_of_items : {X Y : Type 0} (R : Y → Y → Type 0) (key : X → Y) (xs : List X) → AllPairs R (map key xs) → AllPairs (λ x y. R (key x) (key y)) xs
@@ -29,23 +30,28 @@ pairs_of_keys {X} R key (x ∷ rest) h i j e before inside = at (x ∷ rest) h i
         let at_j : get_or (map key xs) j e ≡ key (get_or xs j x) = get_or-map key xs j x e second in
         subst (λ v. R v (get_or (map key xs) j e)) (sym at_i) (subst (λ v. R (key (get_or xs i x)) v) (sym at_j) (k i j x before second))
 
--- texts tie exactly where they are one
-pub apart_texts : (texts : List (List ℕ)) → AreApart id_cmp texts → AllPairs (λ x y. x ≢ y) texts
-apart_texts texts apart i j d before inside same =
-    apart i j d before inside (ap (id_cmp (get_or texts i d)) (sym same) ∙ tied_itself nat_list_cmp_total (get_or texts i d))
+-- keys that tie exactly where they are one
+module _ {Z : Type 0} (cmp : Z → Z → Ordering) (total : IsTotalOrder cmp) (exact : CmpEqualImpliesEq cmp) where
+  apart_keys : (keys : List Z) → AreApart cmp keys → AllPairs (λ x y. x ≢ y) keys
+  apart_keys keys apart i j d before inside same =
+      apart i j d before inside (ap (cmp (get_or keys i d)) (sym same) ∙ tied_itself total (get_or keys i d))
 
-pub texts_apart : (texts : List (List ℕ)) → AllPairs (λ x y. x ≢ y) texts → AreApart id_cmp texts
-texts_apart texts distinct i j d before inside ties = distinct i j d before inside (exact_bytes _ _ ties)
+  keys_apart : (keys : List Z) → AllPairs (λ x y. x ≢ y) keys → AreApart cmp keys
+  keys_apart keys distinct i j d before inside ties = distinct i j d before inside (exact _ _ ties)
 
--- items that have the same texts as others do not tie by them where the texts of the others differ
-pub apart_from_distinct : {X Y : Type 0} (f : X → List ℕ) (g : Y → List ℕ) (xs : List X) (ys : List Y) → map f xs ≡ map g ys
-    → AllPairs (λ x y. g x ≢ g y) ys → AreApart (λ x y. id_cmp (f x) (f y)) xs
-apart_from_distinct f g xs ys same distinct =
-    pairs_of_items (λ x y. id_cmp x y ≢ Equal) f xs
-    (subst (AreApart id_cmp) (sym same) (texts_apart (map g ys) (pairs_of_keys (λ x y. x ≢ y) g ys distinct)))
+  -- items that have the same keys as others do not tie by them where the keys of the others differ
+  pub apart_from_distinct : {X Y : Type 0} (f : X → Z) (g : Y → Z) (xs : List X) (ys : List Y) → map f xs ≡ map g ys
+      → AllPairs (λ x y. g x ≢ g y) ys → AreApart (λ x y. cmp (f x) (f y)) xs
+  apart_from_distinct f g xs ys same distinct =
+      pairs_of_items (λ x y. cmp x y ≢ Equal) f xs (subst (AreApart cmp) (sym same) (keys_apart (map g ys) (pairs_of_keys (λ x y. x ≢ y) g ys distinct)))
 
-pub distinct_from_apart : {X Y : Type 0} (f : X → List ℕ) (g : Y → List ℕ) (xs : List X) (ys : List Y) → map f xs ≡ map g ys
-    → AreApart (λ x y. id_cmp (f x) (f y)) xs → AllPairs (λ x y. g x ≢ g y) ys
-distinct_from_apart f g xs ys same apart =
-    pairs_of_items (λ x y. x ≢ y) g ys
-    (subst (AllPairs (λ x y. x ≢ y)) same (apart_texts (map f xs) (pairs_of_keys (λ x y. id_cmp x y ≢ Equal) f xs apart)))
+  pub distinct_from_apart : {X Y : Type 0} (f : X → Z) (g : Y → Z) (xs : List X) (ys : List Y) → map f xs ≡ map g ys
+      → AreApart (λ x y. cmp (f x) (f y)) xs → AllPairs (λ x y. g x ≢ g y) ys
+  distinct_from_apart f g xs ys same apart =
+      pairs_of_items (λ x y. x ≢ y) g ys (subst (AllPairs (λ x y. x ≢ y)) same (apart_keys (map f xs) (pairs_of_keys (λ x y. cmp x y ≢ Equal) f xs apart)))
+
+  -- a test that answers for the one list answers for the other
+  pub apart_iff_distinct : {X Y : Type 0} {E : Type 0} (f : X → Z) (g : Y → Z) (xs : List X) (ys : List Y) (r : Result Bool E) → map f xs ≡ map g ys
+      → IfOk r (λ b. IsTrue b ↔ AreApart (λ x y. cmp (f x) (f y)) xs) → IfOk r (λ b. IsTrue b ↔ AllPairs (λ x y. g x ≢ g y) ys)
+  apart_iff_distinct f g xs ys (Ok b) same h = ((λ t. distinct_from_apart f g xs ys same (h.0 t)), (λ d. h.1 (apart_from_distinct f g xs ys same d)))
+  apart_iff_distinct f g xs ys (Err e) same h = tt

@@ -1,4 +1,11 @@
+pub mod DateKeys
 pub mod Keys
 pub mod Listed
 pub mod Marks
+pub mod OrderFacts
+pub mod PlainStopTimeFacts
+pub mod SaidFacts
+pub mod SearchFacts
+pub mod SequenceFacts
+pub mod StopTimeFacts
 pub mod Strict

@@ -3,9 +3,14 @@ pub mod CalendarDates
 pub mod Columns
 pub mod Feed
 pub mod Files
+pub mod Lent
+pub mod Only
 pub mod Plain
 pub mod Said
+pub mod Steps
+pub mod StopTimeColumns
 pub mod StopTimeOrder
 pub mod StopTimes
+pub mod StopTimesParts
 pub mod Stops
 pub mod Trips

@@ -1,5 +1,6 @@
 use Rattle.std.proofs.Common.{◌≢◌, refl, rules}
 use Rattle.std.proofs.lemmas.Cmp.{nat_list_cmp_total, on_total}
+use Rattle.std.proofs.lemmas.Map.Lookups.{exact_bytes}
 use Rattle.std.specs.List.{AllPairs}
 use Rattle.std.specs.Ordering.{on}
 use Rattle.lc_model.specs.Text.{id_cmp}
@@ -14,4 +15,4 @@ from_list-requires c =
     let distinct : AllPairs (λ (x y : Stop). x.id ≢ y.id) c.args.stops.items = search rules in
     strict_from_sorted (on (λ (s : Stop). s.id) id_cmp) total c.sort_by_id.new.stops.items c.in_ok-sort_by_id.ensures.sorted
     (apart_permuted (on (λ (s : Stop). s.id) id_cmp) total c.args.stops.items c.sort_by_id.new.stops.items c.sort_by_id.ensures.permutation
-    (apart_from_distinct (λ (s : Stop). s.id) (λ (s : Stop). s.id) c.args.stops.items c.args.stops.items refl distinct))
+    (apart_from_distinct id_cmp nat_list_cmp_total exact_bytes (λ (s : Stop). s.id) (λ (s : Stop). s.id) c.args.stops.items c.args.stops.items refl distinct))
