@@ -1,14 +1,15 @@
 -- Counting day by day from 1970-01-01 agrees with the calendar's count of days.
-use Rattle.std.proofs.Common.{◌≡◌, ℕ, zero, suc, ◌+◌, ◌≤◌, ◌<◌, inl, inr, sym, ap, subst, ◌∙◌, arith, ℤ, pos, to_z, of_z, to_z-of_z, w16, w32, FitsSigned}
+use Rattle.std.proofs.Common.{◌≡◌, ℕ, zero, suc, ◌+◌, ◌≤◌, ◌<◌, ◌<ℤ◌, ◌≤ℤ◌, negsuc, refl, inl, inr, sym, ap, subst, ◌∙◌, arith, ℤ, pos, to_z, of_z, to_z-of_z, w16, w32, neg_ℤ, FitsSigned}
+use Rattle.std.specs.Int.{FitsUnsignedBits}
 use Rattle.std.proofs.lemmas.Bool.{cases_lt, lt-ltb, le-ltb}
 use Rattle.lc_model.specs.Calendar.{days_in_month, IsCivilDate}
 use Rattle.lc_time.specs.Calendar.{Day, day_after, day_at}
 use Rattle.jiff_core.specs.Calendar.{day_count, days_from_civil}
 use Rattle.jiff_core.specs.Date.{epoch_day}
 use Rattle.jiff_core.specs.declared.civil.date.Date.{Date}
-use Rattle.jiff_core.proofs.DateLemmas.{epoch_day_injective}
+use Rattle.jiff_core.proofs.DateLemmas.{epoch_day_injective, epoch_day_range, civil as jiff_civil}
 use Rattle.jiff_core.proofs.SignedLemmas.{signed_arith}
-use Rattle.jiff_core.proofs.CalendarLemmas.{day_count-epoch, days_from_civil-day_count, day_count-day, day_count-next_month, day_count-next_year, day_count-last_of_year, day_count-end, days_in_month_bounds}
+use Rattle.jiff_core.proofs.CalendarLemmas.{day_count-epoch, days_from_civil-day_count, day_count-day, day_count-next_month, day_count-next_year, day_count-lt_year, day_count-day_of_year, day_count-last_of_year, day_count-end, days_in_month_bounds}
 
 -- the day has this number, and the calendar has the day
 pub record IsDayNumber (n : ℕ) (d : Day) : Type 0 where
@@ -130,3 +131,67 @@ pub days_back : (z : ℤ) (n : ℕ) → z ≡ pos n → n < 2_932_897 → to_z w
 days_back z n e h =
     let f : FitsSigned w32 (pos n) = omega (arith, signed_arith) in
     rw (e, to_z-of_z f)
+
+-- the date as the calendar's library has it
+library_date : (y m d : ℕ) → IsCivilDate y m d → Date
+library_date y m d civil = record {
+  year = pos y;
+  month = m;
+  day = d;
+  year_in = (omega (arith, signed_arith), omega (arith, signed_arith, civil.year_to));
+  month_in = (civil.month_from, civil.month_to);
+  day_in = (civil.day_from, civil.day_to);
+}
+
+-- 1970-01-01
+epoch : Date
+epoch = library_date 1970 1 1 (record { year_from = omega arith; year_to = omega arith; month_from = omega arith; month_to = omega arith; day_from = omega arith; day_to = omega arith })
+
+-- a date from 1970 on has a number, and counting from 1970-01-01 reaches it by that number
+pub record HasNumber (y m d : ℕ) : Type 0 where
+  pub number : ℕ
+  pub bound : number < 2_932_897
+  pub is : days_from_civil (pos y) m d ≡ pos number
+  pub year : y ≡ (day_at number).year
+  pub month : m ≡ (day_at number).month
+  pub day : d ≡ (day_at number).day
+
+as_natural : (z : ℤ) → pos 0 ≤ℤ z → (n : ℕ) × (z ≡ pos n)
+as_natural (pos n) h = (n, refl)
+as_natural (negsuc n) h = absurd (omega (arith, signed_arith, h))
+
+pub from_1970 : (y m d : ℕ) → IsCivilDate y m d → 1970 ≤ y → HasNumber y m d
+unfolding library_date epoch
+from_1970 y m d civil from =
+    let date = library_date y m d civil in
+    let range = epoch_day_range date in
+    let later : 4_371_953 ≤ day_count (pos y) 1 1 = elim (cases_lt 1970 y) [
+      | inl lt ↦ omega (arith, day_count-epoch, day_count-lt_year (pos 1970) 1 1 (pos y) 1 1 (jiff_civil epoch) (omega arith) (omega (arith, signed_arith)))
+      | inr le ↦ let e : 1970 ≡ y = omega arith in subst (λ (v : ℕ). 4_371_953 ≤ day_count (pos v) 1 1) e (omega (arith, day_count-epoch))
+    ] in
+    let within = day_count-day_of_year (pos y) m d civil.day_from in
+    let natural = as_natural (days_from_civil (pos y) m d) (omega (arith, signed_arith, days_from_civil-day_count (pos y) m d)) in
+    let number = natural.0 in
+    let is = natural.1 in
+    let bound : number < 2_932_897 = omega (arith, signed_arith, range.1) in
+    let at = date_at_number number date bound is in
+    record { number = number; bound = bound; is = is; year = omega (arith, signed_arith, at.0); month = at.1; day = at.2 }
+
+-- a date before 1970 has a number below 0
+pub before_1970 : (y m d : ℕ) → IsCivilDate y m d → y < 1970 → days_from_civil (pos y) m d <ℤ pos 0
+unfolding library_date
+before_1970 y m d civil lt =
+    omega (arith, signed_arith, days_from_civil-day_count (pos y) m d, day_count-epoch, day_count-lt_year (pos y) m d (pos 1970) 1 1 (jiff_civil (library_date y m d civil)) (omega arith) (omega (arith, signed_arith)))
+
+no_sign : (z : ℤ) → FitsUnsignedBits 32 z → pos 0 ≤ℤ z
+no_sign (pos n) h = omega (arith, signed_arith)
+no_sign (negsuc n) h = absurd h
+
+-- a negative number of days does not fit where no sign is
+pub no_days : (z : ℤ) → z <ℤ pos 0 → neg_ℤ (pos 4_371_587) ≤ℤ z → FitsUnsignedBits 32 (to_z w32 (of_z w32 z)) → ⊥
+no_days z lt low h =
+    let f : FitsSigned w32 z = omega (arith, signed_arith) in
+    let same = to_z-of_z f in
+    let at : FitsUnsignedBits 32 z = subst (λ (v : ℤ). FitsUnsignedBits 32 v) same h in
+    let up = no_sign z at in
+    omega (arith, signed_arith)

@@ -1,4 +1,4 @@
-ghost use Rattle.std.specs.Prelude.{◌≡◌, ℕ, ◌+◌, ◌<◌, ◌≤◌, Some, IfSome};
+ghost use Rattle.std.specs.Prelude.{◌≡◌, ℕ, ◌+◌, ◌<◌, ◌≤◌, ◌↔◌, Some, IsNone, IfSome};
 ghost use Rattle.lc_time.specs.Calendar.{day_at};
 
 use jiff_core::civil::Date;
@@ -25,10 +25,13 @@ pub fn date_at(days: u32) -> ServiceDate
     }
 }
 
-/// How many days the date comes after 1970-01-01, if it does not come before it.
+/// How many days the date comes after 1970-01-01, or none where it comes before it.
 pub fn days_at(date: ServiceDate) -> Option<u32>
-    ensures { (days : ℕ) → days < DAYS_END → date.year ≡ (day_at days).year → date.month ≡ (day_at days).month
-        → date.day ≡ (day_at days).day → result ≡ Some days }
+    ensures is_date { IfSome result (λ days. (days < DAYS_END) × (date.year ≡ (day_at days).year)
+        × (date.month ≡ (day_at days).month) × (date.day ≡ (day_at days).day)) }
+    ensures every_date { (days : ℕ) → days < DAYS_END → date.year ≡ (day_at days).year
+        → date.month ≡ (day_at days).month → date.day ≡ (day_at days).day → result ≡ Some days }
+    ensures before_1970 { IsNone result ↔ (date.year < 1970) }
 {
     let date = Date {
         year: date.year as i16,

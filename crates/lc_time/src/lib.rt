@@ -9,6 +9,7 @@ mod digits;
 mod http;
 mod iso;
 
+pub use calendar::days_at;
 pub use clock::{read_gtfs_time, read_start, start_text};
 pub use date::{date_text, read_date};
 pub use http::{http_date, read_http_date};

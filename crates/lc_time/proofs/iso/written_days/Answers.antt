@@ -22,7 +22,7 @@ returns-in-Some c = λ days bound text.
     (known.month at.year at.month at.day room same ∙ sym parts.1)
     (known.day at.year at.month at.day room same ∙ sym parts.2) in
     let date : c.in-Some.date ≡ date_of days bound = cc in
-    c.days_at.ensures days bound (ap (λ (d : Civil). d.year) date ∙ parts.0) (ap (λ (d : Civil). d.month) date ∙ parts.1) (ap (λ (d : Civil). d.day) date ∙ parts.2)
+    c.days_at.ensures.every_date days bound (ap (λ (d : Civil). d.year) date ∙ parts.0) (ap (λ (d : Civil). d.month) date ∙ parts.1) (ap (λ (d : Civil). d.day) date ∙ parts.2)
 
 pub returns-in-None : goal.returns-in-None
 returns-in-None c = λ days bound text.
