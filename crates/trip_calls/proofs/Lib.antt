@@ -1,0 +1,6 @@
+pub mod Lists
+pub mod Orders
+pub mod Ranges
+pub mod RunLemmas
+pub mod ServiceDayLemmas
+pub mod TimeLemmas
