@@ -1,3 +1,4 @@
+pub mod ConnectionLemmas
 pub mod Lists
 pub mod Orders
 pub mod Ranges

@@ -2,9 +2,11 @@
 #![tactic(auto)]
 
 mod all_runs;
+mod run_connections;
 mod service_days;
 mod trip_runs;
 mod window;
 
 pub use all_runs::runs;
+pub use run_connections::connections;
 pub use window::Window;
