@@ -1,6 +1,6 @@
 -- The runs of a plain feed in a window of days, in UTC.
 use Rattle.std.specs.Prelude.{◌≡◌, ℕ, ◌+◌, ◌*◌, ◌<◌, ◌≤◌, ◌↔◌, true, List, None, map, filter}
-use Rattle.std.specs.List.{Contains}
+use Rattle.std.specs.List.{All, AllPairs, Contains}
 use Rattle.lc_model.specs.Change.{is_same_id}
 use Rattle.lc_model.specs.declared.call.Call.{Call}
 use Rattle.lc_model.specs.declared.date.ServiceDate.{ServiceDate}
@@ -10,6 +10,7 @@ use Rattle.gtfs_tables.specs.declared.dates.DateRow.{DateRow}
 use Rattle.gtfs_tables.specs.declared.stop_times.StopTime.{StopTime}
 use Rattle.gtfs_tables.specs.declared.tables.Tables.{Tables}
 use Rattle.gtfs_tables.specs.declared.trips.TripRow.{TripRow}
+use Rattle.trip_calls.specs.declared.window.Window.{Window}
 use Rattle.std.specs.Prelude.{pos}
 
 -- the date is the day that comes so many days after 1970-01-01
@@ -17,11 +18,6 @@ pub record IsDay (date : ServiceDate) (day : ℕ) : Type 0 where
   pub year : date.year ≡ (day_at day).year
   pub month : date.month ≡ (day_at day).month
   pub of_month : date.day ≡ (day_at day).day
-
--- so many days from a first one on, counted from 1970-01-01
-pub record Window : Type 0 where
-  pub first : ℕ
-  pub count : ℕ
 
 -- The service runs on the date, which is this day of the window (GTFS Schedule Reference, calendar_dates.txt).
 pub record RunsOn (dates : List DateRow) (window : Window) (service : List ℕ) (date : ServiceDate) (day : ℕ) : Type 0 where
@@ -61,6 +57,19 @@ pub record IsRunOf (tables : Tables) (window : Window) (run : Run) : Type 0 wher
   pub trip_is : run.key.trip ≡ trip.trip
   pub no_start : run.key.start ≡ None
   pub calls : run.calls ≡ map (call_at day) (times_of tables.stop_times trip.trip)
+
+-- the times are those of a service day of fewer than 100 hours
+abbrev pub AreInRange : List StopTime → Type 0
+AreInRange times = All (λ (t : StopTime). (t.arr < 360_000) × (t.dep < 360_000)) times
+
+-- no call departs before it arrives, and none arrives before an earlier one departed
+pub record GoesForward (calls : List Call) : Type 0 where
+  pub at_a_stop : All (λ (x : Call). x.arr ≤ x.dep) calls
+  pub along : AllPairs (λ (x y : Call). x.dep ≤ y.arr) calls
+
+-- no run goes back in time
+abbrev pub RunsForward : List Run → Type 0
+RunsForward runs = All (λ (r : Run). GoesForward r.calls) runs
 
 -- the list has exactly the runs of the feed in the window
 abbrev pub AreRunsOf : Tables → Window → List Run → Type 0

@@ -1,0 +1,7 @@
+pub mod ConnectionLemmas
+pub mod Lists
+pub mod Orders
+pub mod Ranges
+pub mod RunLemmas
+pub mod ServiceDayLemmas
+pub mod TimeLemmas
