@@ -1,4 +1,5 @@
 pub mod AnswerText
+pub mod Ask
 pub mod Block
 pub mod Doc
 pub mod Refusal

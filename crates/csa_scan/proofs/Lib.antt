@@ -1,0 +1,16 @@
+pub mod Arriving
+pub mod Changes
+pub mod Growth
+pub mod Least
+pub mod ListPlaces
+pub mod Steps
+pub mod Walk
+pub mod Keys
+pub mod NumbersGrow
+pub mod Sought
+pub mod Relaxing
+pub mod Linking
+pub mod Taking
+pub mod Room
+pub mod Order
+pub mod Begun

@@ -1,0 +1,46 @@
+use Rattle.std.proofs.Common.{List, ℕ, ◌++◌, ◌<◌, length, sym, subst}
+use Rattle.std.specs.List.{All}
+use Rattle.lc_model.specs.Connection.{InDepartureOrder}
+use Rattle.lc_model.specs.Leg.{in_time}
+use Rattle.lc_model.specs.declared.connection.Connection.{Connection}
+use Rattle.lc_model.specs.declared.query.Query.{Query}
+use Rattle.lc_model.specs.declared.doc.StopsDoc.{StopsDoc}
+use Rattle.csa_scan.specs.Kept.{kept_of}
+use Rattle.csa_scan.specs.Numbers.{AreNumbersOf}
+use Rattle.csa_scan.specs.Stands.{IsAsked, Stands}
+use Rattle.csa_scan.proofs.Begun.{numbers_known}
+use Rattle.csa_scan.proofs.scan.Scan.take_all.Goals as goal
+
+pub take_each-requires-clause-known : goal.take_each-requires-clause-known
+take_each-requires-clause-known c =
+    let room = c.in_ok-numbers.ensures.room in
+    let P : List ℕ → Type 0 = λ numbers. All (λ n. n < length c.prepare.new.self.progress.boardings.items) numbers in
+    subst P (sym c.as_slice.ensures.value)
+    (numbers_known c.prepare.new.self.runs c.as_slice-list.result.now c.in_ok-numbers.numbers.items (length c.prepare.new.self.progress.boardings.items) c.in_ok-numbers.ensures.numbers room.each_run)
+
+pub returns-clause-ok : goal.returns-clause-ok
+returns-clause-ok c =
+    let mid = c.prepare.new.self in
+    let list = c.as_slice-list.result.now in
+    let same = c.as_slice-list.ensures.value in
+    let N : List ℕ → Type 0 = λ numbers. AreNumbersOf mid.runs list numbers in
+    let are = subst N (sym c.as_slice.ensures.value) c.in_ok-numbers.ensures.numbers in
+    λ query doc taken in_order old.
+    let s = c.prepare.ensures.same query doc taken old in
+    let O : List Connection → Type 0 = λ l. InDepartureOrder (taken ++ l) in
+    let Q : Query → Type 0 = λ q. IsAsked q mid.doc in
+    let D : StopsDoc → Type 0 = λ d. IsAsked query d in
+    let asked = subst Q (sym s.same_query) (subst D (sym s.same_doc) s.asked) in
+    let Q1 : Query → Type 0 = λ q. Stands q mid.doc mid.runs (kept_of mid.progress) (in_time q taken) in
+    let D1 : StopsDoc → Type 0 = λ d. Stands query d mid.runs (kept_of mid.progress) (in_time query taken) in
+    let stood = subst Q1 (sym s.same_query) (subst D1 (sym s.same_doc) s.stands) in
+    let now = c.take_each.ensures.stands mid.runs taken asked c.in_ok-numbers.ensures.distinct are (subst O (sym same) in_order) c.as_slice-list.ensures.forward stood in
+    let Q2 : Query → Type 0 = λ q. Stands q mid.doc mid.runs (kept_of c.take_each.new.self) (in_time q (taken ++ list)) in
+    let D2 : StopsDoc → Type 0 = λ d. Stands query d mid.runs (kept_of c.take_each.new.self) (in_time query (taken ++ list)) in
+    let L2 : List Connection → Type 0 = λ l. Stands query doc mid.runs (kept_of c.take_each.new.self) (in_time query (taken ++ l)) in
+    record {
+      same_query = s.same_query;
+      same_doc = s.same_doc;
+      asked = s.asked;
+      stands = subst L2 same (subst D2 s.same_doc (subst Q2 s.same_query now));
+    }

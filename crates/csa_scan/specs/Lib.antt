@@ -1,0 +1,12 @@
+pub mod Boards
+pub mod Kept
+pub mod Linked
+pub mod Next
+pub mod Numbers
+pub mod PlaceOf
+pub mod Reach
+pub mod Relaxed
+pub mod RidesTo
+pub mod Stands
+pub mod StandsFor
+pub mod Takes

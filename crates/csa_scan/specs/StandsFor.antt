@@ -1,0 +1,40 @@
+-- What a scan stands for: a question, over a stops document, and the list of all connections that it took.
+use Rattle.std.specs.Prelude.{◌≡◌, ℕ, ◌≤◌, List, Option, Some, None, ◌++◌}
+use Rattle.lc_model.specs.Connection.{InDepartureOrder}
+use Rattle.lc_model.specs.Journey.{IsBest}
+use Rattle.lc_model.specs.Leg.{IsChain, IsLegOf, in_time}
+use Rattle.lc_model.specs.Question.{latest_of}
+use Rattle.lc_model.specs.declared.connection.Connection.{Connection}
+use Rattle.lc_model.specs.declared.doc.StopsDoc.{StopsDoc}
+use Rattle.lc_model.specs.declared.journey.Journey.{Journey}
+use Rattle.lc_model.specs.declared.query.Query.{Query}
+use Rattle.lc_model.specs.declared.ride.Ride.{Ride}
+use Rattle.csa_scan.specs.Kept.{kept_of}
+use Rattle.csa_scan.specs.Stands.{IsAsked, Stands}
+use Rattle.csa_scan.specs.declared.scan.Scan.{Scan}
+
+-- the scan was begun for the question over the document, and took the connections of the list, in its order
+pub record StandsFor (scan : Scan) (query : Query) (doc : StopsDoc) (list : List Connection) : Type 0 where
+  pub same_query : scan.query ≡ query
+  pub same_doc : scan.doc ≡ doc
+  pub asked : IsAsked query doc
+  pub stands : Stands query doc scan.runs (kept_of scan.progress) (in_time query list)
+
+-- whatever list the scan stood for, it stands for that list with the new one behind it, where this is in departure order
+abbrev pub GoesOnBy : Scan → Scan → List Connection → Type 0
+GoesOnBy old new list =
+    (query : Query) (doc : StopsDoc) (taken : List Connection) → InDepartureOrder (taken ++ list) → StandsFor old query doc taken → StandsFor new query doc (taken ++ list)
+
+-- whatever list the scan stood for, it stands for still
+abbrev pub StaysAsItWas : Scan → Scan → Type 0
+StaysAsItWas old new = (query : Query) (doc : StopsDoc) (taken : List Connection) → StandsFor old query doc taken → StandsFor new query doc taken
+
+-- the journey is a chain of the list, and none arrives earlier; or there is no chain
+abbrev pub IsBestChain : Query → StopsDoc → List Connection → Option Journey → Type 0
+IsBestChain query doc list None = (journey : List Ride) → IsChain query doc list journey → ⊥
+IsBestChain query doc list (Some journey) = IsBest (IsLegOf (in_time query list)) query doc journey.rides
+
+-- no chain of later connections can arrive earlier than the best one does, or within the horizon where there is none
+abbrev pub IsDone : Query → Option ℕ → ℕ → Type 0
+IsDone query None last = latest_of query ≤ last
+IsDone query (Some arrival) last = arrival ≤ last

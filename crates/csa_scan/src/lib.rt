@@ -1,0 +1,17 @@
+//! Earliest arrivals over connections in departure order, by the Connection Scan Algorithm (Dibbelt et al.): a scan is
+//! begun for a question, takes lists of connections, and tells the best arrival and a journey that has it. It stands on
+//! the words of `lc_model`.
+#![tactic(auto)]
+
+mod board;
+mod fault;
+mod journey;
+mod places;
+mod progress;
+mod ready;
+mod run_numbers;
+mod scan;
+mod trace;
+
+pub use fault::BeginFault;
+pub use scan::Scan;

@@ -1,0 +1,48 @@
+ghost use Rattle.std.specs.Prelude.{◌≡◌, ◌<◌, ◌↔◌, IsTrue, MatchOption, Some, length};
+ghost use Rattle.lc_model.specs.Change.{InChangeOrder};
+ghost use Rattle.lc_model.specs.Question.{IsEnd};
+ghost use Rattle.lc_model.specs.Stop.{InStopOrder};
+ghost use Rattle.csa_scan.specs.PlaceOf.{IsPlaceOf, LacksId};
+ghost use Rattle.csa_scan.specs.Reach.{id_at};
+ghost use Rattle.csa_scan.specs.Relaxed.{AreChangesFrom};
+
+use lc_model::{Change, Id, Stop};
+
+/// The place of the stop of this id. Takes the logarithm of the stops.
+pub fn place_of(stops: &[Stop], id: &Id) -> Option<usize>
+    requires { InStopOrder stops.now }
+    ensures { MatchOption result (LacksId stops.now id.now) (IsPlaceOf stops.now id.now) }
+{
+    stops.binary_search_by(|stop| stop.id.cmp(id)).ok()
+}
+
+/// The changes from the stop. Takes the logarithm of the changes.
+pub fn changes_from<'a>(changes: &'a [Change], from: &Id) -> &'a [Change]
+    requires { InChangeOrder changes.now }
+    ensures { AreChangesFrom changes.now from.now result.now }
+{
+    let start = changes.partition_point(|change| change.from.cmp(from).is_lt());
+    let behind = &changes[start..];
+    let count = behind.partition_point(|change| change.from.cmp(from).is_le());
+    &behind[..count]
+}
+
+/// Whether the stop has this parent.
+pub fn has_parent(stop: &Stop, named: &Id) -> bool
+    ensures { IsTrue result ↔ (stop.now.parent ≡ Some named.now) }
+{
+    match &stop.parent {
+        Some(parent) => parent == named,
+        None => false,
+    }
+}
+
+/// Whether the stop at the place is the named one or a child of it.
+pub fn is_end(stops: &[Stop], place: usize, named: &Id) -> bool
+    requires in_order { InStopOrder stops.now }
+    requires within { place < length stops.now }
+    ensures { IsTrue result ↔ IsEnd stops.now named.now (id_at stops.now place) }
+{
+    let stop = &stops[place];
+    stop.id == *named || has_parent(stop, named)
+}

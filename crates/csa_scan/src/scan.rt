@@ -1,0 +1,125 @@
+ghost use Rattle.std.specs.Prelude.{◌≡◌, ◌≤◌, length};
+
+use crate::BeginFault;
+use crate::journey::rides_to;
+use crate::places::place_of;
+use crate::progress::Progress;
+use crate::run_numbers::{RunNumbers, number_each};
+use lc_model::{
+    Connection, Connections, Journey, Moment, NoMemory, PlainData, Query, Rides, StopsDoc,
+};
+use std::alloc::Global;
+
+/// A scan for one question. It takes connections in departure order, list by list, and tells at any time the best
+/// arrival over what it took.
+#[derive(Debug, Drop)]
+pub struct Scan {
+    query: Query,
+    doc: StopsDoc,
+    runs: RunNumbers,
+    progress: Progress,
+    ghost one_each: { length progress.ready.items ≡ length doc.stops },
+    ghost numbered: { length progress.boardings.items ≤ length runs },
+}
+
+impl Scan {
+    ghost use Rattle.std.specs.Prelude.{◌≡◌, ◌≤◌, ◌↔◌, ◌++◌, ◌⊎◌, [], ℕ, List, Option, Err, IfOk, OnOk, OnErr, IsTrue};
+    ghost use Rattle.lc_model.specs.Leg.{IsListBest};
+    ghost use Rattle.lc_model.specs.Stop.{HasStop};
+    ghost use Rattle.lc_model.specs.declared.connection.Connection.{Connection};
+    ghost use Rattle.lc_model.specs.declared.doc.StopsDoc.{StopsDoc};
+    ghost use Rattle.lc_model.specs.declared.query.Query.{Query};
+    ghost use Rattle.csa_scan.specs.Kept.{HasRoom};
+    ghost use Rattle.csa_scan.specs.Numbers.{AreDistinct, AreNumbersOf};
+    ghost use Rattle.csa_scan.specs.StandsFor.{GoesOnBy, IsBestChain, IsDone, StandsFor, StaysAsItWas};
+
+    /// Begins a scan for the question. Linear in the document.
+    pub fn begin(alloc: Global, query: &Query, doc: &StopsDoc) -> Result<Scan, BeginFault>
+        requires from_one { 1 ≤ query.now.horizon }
+        requires up_to_a_week { query.now.horizon ≤ 604_800 }
+        ensures ok { IfOk result (λ scan. StandsFor scan query.now doc.now []) }
+        ensures known { OnOk result (HasStop doc.now.stops query.now.from × HasStop doc.now.stops query.now.to) }
+        ensures unknown_from { result ≡ Err BeginFault.UnknownFrom → ¬ HasStop doc.now.stops query.now.from }
+        ensures unknown_to { result ≡ Err BeginFault.UnknownTo → HasStop doc.now.stops query.now.from × (¬ HasStop doc.now.stops query.now.to) }
+    {
+        let stops = doc.stops.as_slice();
+        if place_of(stops, &query.from).is_none() {
+            return Err(BeginFault::UnknownFrom);
+        }
+        if place_of(stops, &query.to).is_none() {
+            return Err(BeginFault::UnknownTo);
+        }
+        let progress = Progress::new(alloc, stops.len())?;
+        Ok(Scan {
+            query: query.copy(alloc)?,
+            doc: doc.copy(alloc)?,
+            runs: RunNumbers::new(alloc),
+            progress,
+        })
+    }
+
+    /// Takes the connections behind those taken before. Departures before the question leaves are not boarded, and
+    /// what arrives after its horizon is left out. Takes the logarithm of all that was taken for each connection.
+    pub fn take_all(&mut self, alloc: Global, list: &Connections) -> Result<(), NoMemory>
+        ensures ok { OnOk result (GoesOnBy self.old self.new list.now) }
+        ensures err { OnErr result (StaysAsItWas self.old self.new) }
+    {
+        let list = list.as_slice();
+        let numbers = self.prepare(alloc, list)?;
+        self.progress
+            .take_each(&self.query, &self.doc, list, numbers.as_slice());
+        Ok(())
+    }
+
+    /// The numbers of the connections' runs, with room for all that the connections can bring: taking them needs no
+    /// memory then.
+    fn prepare(&mut self, alloc: Global, list: &[Connection]) -> Result<Vec<usize>, NoMemory>
+        ensures numbers { IfOk result (λ numbers. AreNumbersOf self.new.runs list.now numbers.items) }
+        ensures room { OnOk result (HasRoom self.new.progress (length self.new.runs) (length list.now)) }
+        ensures distinct { OnOk result (AreDistinct self.new.runs) }
+        ensures same { StaysAsItWas self.old self.new }
+    {
+        let numbers = number_each(alloc, &mut self.runs, list)?;
+        self.progress.make_room(self.runs.len(), list.len())?;
+        Ok(numbers)
+    }
+
+    /// The least arrival of a chain of the connections taken, or none where there is no chain.
+    pub fn best(&self) -> Option<Moment>
+        ensures { (query : Query) (doc : StopsDoc) (taken : List Connection) → StandsFor self.now query doc taken → IsListBest query doc taken result }
+    {
+        self.progress.best.map(|goal| goal.arr)
+    }
+
+    /// Whether connections that depart at the moment or later change nothing any more.
+    pub fn done(&self, last: Moment) -> bool
+        ensures { (query : Query) (doc : StopsDoc) (taken : List Connection) (best : Option ℕ) → StandsFor self.now query doc taken → IsListBest query doc taken best
+            → (IsTrue result ↔ IsDone query best last) }
+    {
+        match self.best() {
+            Some(arrival) => arrival <= last,
+            None => self.query.leave.seconds() + u64::from(self.query.horizon) <= last.seconds(),
+        }
+    }
+
+    /// A chain of the connections taken that arrives at the least arrival, or none where there is no chain.
+    pub fn journey(&self, alloc: Global) -> Result<Option<Journey>, NoMemory>
+        ensures { IfOk result (λ journey. (query : Query) (doc : StopsDoc) (taken : List Connection)
+            → StandsFor self.now query doc taken → IsBestChain query doc taken journey) }
+    {
+        let Some(goal) = self.progress.best else {
+            return Ok(None);
+        };
+        let stops = self.doc.stops.as_slice();
+        let rides = rides_to(
+            alloc,
+            stops,
+            self.runs.as_slice(),
+            self.progress.arrivals.as_slice(),
+            goal.place,
+        )?;
+        Ok(Some(Journey {
+            rides: Rides::from_list(rides),
+        }))
+    }
+}

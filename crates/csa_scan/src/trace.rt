@@ -1,0 +1,35 @@
+use lc_model::Moment;
+
+/// How a run is boarded first: at the connection of this sequence. The stop is a place in the stops document.
+#[derive(Clone, Copy, Debug)]
+pub struct Boarding {
+    pub seq: u32,
+    pub stop: usize,
+    pub dep: Moment,
+    /// The arrival after which the run is boarded; none where the journey begins.
+    pub after: Option<usize>,
+}
+
+/// A ride by which a stop was reached. The run is a number of `RunNumbers`, the stop a place in the stops document.
+#[derive(Clone, Copy, Debug)]
+pub struct Arrival {
+    pub run: usize,
+    pub boarding: Boarding,
+    pub last_seq: u32,
+    pub stop: usize,
+    pub arr: Moment,
+}
+
+/// The first second at which one may board at a stop, and the arrival after which one does.
+#[derive(Clone, Copy, Debug)]
+pub struct Ready {
+    pub at: u64,
+    pub after: usize,
+}
+
+/// An arrival at an end of the question.
+#[derive(Clone, Copy, Debug)]
+pub struct Goal {
+    pub arr: Moment,
+    pub place: usize,
+}
