@@ -20,6 +20,8 @@ mod query;
 mod ride;
 mod run;
 mod stop;
+#[cfg(test)]
+mod tests;
 mod text;
 
 pub use answer::Answer;

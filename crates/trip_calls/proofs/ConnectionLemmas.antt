@@ -11,7 +11,7 @@ use Rattle.std.proofs.lemmas.List.Elements.{All-nil, All-cons, All-head, All-tai
 use Rattle.std.proofs.lemmas.List.{flat_map_more, take_more}
 use Rattle.std.proofs.lemmas.List.Kept.{AllPairs-cons}
 use Rattle.std.proofs.lemmas.List.Sorted.{All-permutation}
-use Rattle.lc_model.specs.Call.{InSequence}
+use Rattle.lc_model.specs.Call.{GoesForward, InSequence}
 use Rattle.lc_model.specs.Connection.{AreConnectionsOf, NoneArrivesEarly, connection_between, connections_from, connections_of, connections_of_calls, departure_cmp}
 use Rattle.lc_model.specs.Run.{InKeyOrder}
 use Rattle.lc_model.specs.RunKey.{key_cmp}
@@ -19,7 +19,7 @@ use Rattle.lc_model.specs.declared.call.Call.{Call}
 use Rattle.lc_model.specs.declared.connection.Connection.{Connection}
 use Rattle.lc_model.specs.declared.key.RunKey.{RunKey}
 use Rattle.lc_model.specs.declared.run.Run.{Run}
-use Rattle.trip_calls.specs.Runs.{GoesForward, RunsForward}
+use Rattle.trip_calls.specs.Runs.{RunsForward}
 use Rattle.trip_calls.proofs.Lists.{All-from_contains, AllPairs-flat_map, AllPairs-head, AllPairs-nil, AllPairs-tail, StandsIn-flat_map}
 use Rattle.trip_calls.proofs.Orders.{IsStrict-from_sorted}
 use Rattle.trip_calls.proofs.RunLemmas.{key_cmp_total}

@@ -26,7 +26,8 @@ use Rattle.gtfs_tables.specs.declared.dates.DateRow.{DateRow}
 use Rattle.gtfs_tables.specs.declared.stop_times.StopTime.{StopTime}
 use Rattle.gtfs_tables.specs.declared.tables.Tables.{Tables}
 use Rattle.gtfs_tables.specs.declared.trips.TripRow.{TripRow}
-use Rattle.trip_calls.specs.Runs.{call_at, times_of, AreRunsOf, IsRunOf, GoesForward, RunsForward}
+use Rattle.lc_model.specs.Call.{GoesForward}
+use Rattle.trip_calls.specs.Runs.{call_at, times_of, AreRunsOf, IsRunOf, RunsForward}
 use Rattle.trip_calls.specs.ServiceDays.{AreServiceDays, days_of}
 use Rattle.trip_calls.specs.TripRuns.{HasMoments, key_on, run_on, runs_of_trip, runs_of_trips}
 use Rattle.trip_calls.specs.declared.service_days.ServiceDay.{ServiceDay}
@@ -155,6 +156,7 @@ module _ (tables : Tables) (window : Window) (days : List ServiceDay) (are : Are
 
   forward : (trip : List ℕ) (day : ℕ) → InTripOrder times → AreTimely times → GoesForward (map (call_at day) (times_of times trip))
   forward trip day up timely = record {
+    in_sequence = AllPairs-map (λ (x y : Call). x.seq < y.seq) (call_at day) (times_of times trip) (RiseInSequence-times_of times trip up);
     at_a_stop = All-map (λ (c : Call). c.arr ≤ c.dep) (call_at day) (times_of times trip) (λ k d lt. let h = All-filter (λ (t : StopTime). is_same_id t.trip trip) (λ (t : StopTime). t.arr ≤ t.dep) times timely.at_a_stop k d lt in omega (arith, h));
     along = AllPairs-map (λ (x y : Call). x.dep ≤ y.arr) (call_at day) (times_of times trip) (AllPairs-weaker (λ (x y : StopTime). x.seq < y.seq) (λ (x y : StopTime). 86_400 * day + x.dep ≤ 86_400 * day + y.arr) (times_of times trip)
         (λ x y kx ky lt.

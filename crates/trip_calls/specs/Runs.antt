@@ -1,6 +1,7 @@
 -- The runs of a plain feed in a window of days, in UTC.
 use Rattle.std.specs.Prelude.{◌≡◌, ℕ, ◌+◌, ◌*◌, ◌<◌, ◌≤◌, ◌↔◌, true, List, None, map, filter}
 use Rattle.std.specs.List.{All, AllPairs, Contains}
+use Rattle.lc_model.specs.Call.{GoesForward}
 use Rattle.lc_model.specs.Change.{is_same_id}
 use Rattle.lc_model.specs.declared.call.Call.{Call}
 use Rattle.lc_model.specs.declared.date.ServiceDate.{ServiceDate}
@@ -61,11 +62,6 @@ pub record IsRunOf (tables : Tables) (window : Window) (run : Run) : Type 0 wher
 -- the times are those of a service day of fewer than 100 hours
 abbrev pub AreInRange : List StopTime → Type 0
 AreInRange times = All (λ (t : StopTime). (t.arr < 360_000) × (t.dep < 360_000)) times
-
--- no call departs before it arrives, and none arrives before an earlier one departed
-pub record GoesForward (calls : List Call) : Type 0 where
-  pub at_a_stop : All (λ (x : Call). x.arr ≤ x.dep) calls
-  pub along : AllPairs (λ (x y : Call). x.dep ≤ y.arr) calls
 
 -- no run goes back in time
 abbrev pub RunsForward : List Run → Type 0
