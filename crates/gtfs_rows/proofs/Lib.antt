@@ -1,1 +1,3 @@
+pub mod ReadFacts
+pub mod SheetLaws
 pub mod SpaceFacts

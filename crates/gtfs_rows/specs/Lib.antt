@@ -1,1 +1,4 @@
+pub mod Reading
+pub mod Sheet
 pub mod Spaces
+pub mod Store

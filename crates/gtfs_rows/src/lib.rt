@@ -2,6 +2,7 @@
 //! the spaces round them. It stands on `lc_model` and on the records of `csv`.
 #![tactic(auto)]
 
+mod reading;
 mod spaces;
 
 pub use spaces::without_spaces;
