@@ -1,3 +1,4 @@
 pub mod ReadFacts
 pub mod SheetLaws
 pub mod SpaceFacts
+pub mod StoreFacts

@@ -16,6 +16,10 @@ pub record Sheet : Type 0 where
 abbrev pub AreRecordsOf : List ℕ → List (List (List ℕ)) → Type 0
 AreRecordsOf bytes records = AreRecords default_config st.StartRecord (strip_bom bytes) records
 
+-- the same records, without the spaces at both ends of each field
+abbrev pub AreTrimmedRecordsOf : List ℕ → List (List (List ℕ)) → Type 0
+AreTrimmedRecordsOf bytes records = (read : List (List (List ℕ))) × AreRecordsOf bytes read × (records ≡ map (map without_spaces) read)
+
 -- the bytes are UTF-8, their first record is the header, and this is their sheet: the spaces at both ends of a name
 -- or a field are dropped
 pub record IsSheetOf (bytes : List ℕ) (sheet : Sheet) : Type 0 where

@@ -3,6 +3,7 @@
 #![tactic(auto)]
 
 mod reading;
+mod records;
 mod spaces;
 
 pub use spaces::without_spaces;
