@@ -1,6 +1,6 @@
 -- The bytes have one reading: its records, and so its sheet, are the same however they were found.
-use Rattle.std.proofs.Common.{◌≡◌, ◌∙◌, ℕ, List, [], ◌∷◌, Some, None, map, refl, sym, ap, ap₂}
-use Rattle.csv.specs.Machine.{Read, next_record}
+use Rattle.std.proofs.Common.{◌≡◌, ◌∙◌, ℕ, List, [], ◌∷◌, map, refl, sym, ap, ap₂}
+use Rattle.csv.specs.Machine.{Read}
 use Rattle.csv.specs.Reading.{AreRecords, Reached}
 use Rattle.csv.specs.declared.parser.Config.{Config}
 use Rattle.csv.specs.declared.parser.State.{State}

@@ -1,12 +1,12 @@
 -- How records that are read come to lie in one list of fields.
-use Rattle.std.proofs.Common.{Bor, ◌≡◌, ◌∙◌, ℕ, suc, ◌+◌, ◌-◌, ◌<◌, ◌≤◌, List, [], ◌∷◌, ◌++◌, Bool, true, false, Option, Some, None, length, map, take, drop, get_or, refl, sym, ap, subst, arith}
+use Rattle.std.proofs.Common.{Bor, ◌≡◌, ◌∙◌, ℕ, zero, suc, ◌+◌, ◌-◌, ◌<◌, ◌≤◌, List, [], ◌∷◌, ◌++◌, true, false, Option, Some, None, length, map, take, drop, get_or, refl, sym, ap, subst, arith}
 use Rattle.std.specs.Prelude.{unwrap_or}
-use Rattle.std.proofs.lemmas.List.{append-nil, drop-append-le, drop_at, length-append, length-drop, map-append, take-append-le, take_all}
+use Rattle.std.proofs.lemmas.List.{drop-append-le, drop_at, get_or-drop, get_or-take, length-take-le, length-append, length-drop, map-append, take-append-le, take_all}
 use Rattle.csv.proofs.ReadFacts.{reached-more, rows-end}
-use Rattle.csv.proofs.RecordFacts.{last-append, rising-end, rising-first, rising-more}
+use Rattle.csv.proofs.RecordFacts.{field-bounds, last-append, rising-end, rising-first, rising-more}
 use Rattle.csv.specs.Machine.{Read, ends_at_end, next_record}
 use Rattle.csv.specs.Reading.{NextIs, Reached, ReadRecord, ReadsNext, default_config, pending_of, reader_state, source_of, strip_bom}
-use Rattle.csv.specs.Records.{Rising, Row, fields_of, last_end, partial_of}
+use Rattle.csv.specs.Records.{Rising, Row, fields_of, last_end, partial_of, prev}
 use Rattle.csv.specs.declared.parser.State.{State}
 use Rattle.csv.specs.declared.parser.State.TheVariants as st
 use Rattle.csv.specs.declared.reader.Reader.{Reader}
@@ -85,7 +85,7 @@ store_push ends fields row records n store size =
     record {
       rising = rw size (rising-end 0 ends (length (fields ++ row)) (rising-more 0 ends (length fields) (length (fields ++ row)) store.rising more));
       whole = last-append 0 ends n ∙ size;
-      cut = cut-push 0 ends fields row n store.rising store.whole sum ∙ ap (λ (r : List (List (List ℕ))). r ++ (row ∷ [])) store.cut
+      cut = cut-push 0 ends fields row n store.rising store.whole sum ∙ ap (λ (r : List (List (List ℕ))). r ++ (row ∷ [])) store.cut;
     }
 
 pub store_none : IsStore [] [] []
@@ -100,7 +100,7 @@ pub reading_more : (bytes : List ℕ) (a b : Reader (Bor (List ℕ))) (ends ends
 reading_more bytes a b ends ends2 fields fields2 f n was read plain more closed size ended =
     let (p, next, is, state, left) = read_next_is a b f was.left was.plain was.source read in
     let rows : map (map without_spaces) (was.read ++ (p.0 ∷ [])) ≡ map (map without_spaces) was.read ++ (map without_spaces f ∷ []) =
-        map-append (map without_spaces) was.read (p.0 ∷ []) ∙ ap (λ (r : List (List ℕ)). map (map without_spaces) was.read ++ (map without_spaces r ∷ [])) (sym is) in
+    map-append (map without_spaces) was.read (p.0 ∷ []) ∙ ap (λ (r : List (List ℕ)). map (map without_spaces) was.read ++ (map without_spaces r ∷ [])) (sym is) in
     let Ends : State → Type 0 = λ x. Reached default_config st.StartRecord (strip_bom bytes) (was.read ++ (p.0 ∷ [])) x p.2 in
     record {
       plain = plain;
@@ -110,7 +110,7 @@ reading_more bytes a b ends ends2 fields fields2 f n was read plain more closed 
       read = was.read ++ (p.0 ∷ []);
       reached = subst Ends (sym state) (reached-more default_config st.StartRecord (reader_state a) (strip_bom bytes) was.left was.read p was.reached next);
       store = rw (ended, more, rows) (store_push ends (fields_of fields) (map without_spaces f) (map (map without_spaces) was.read) n was.store (rw (← more) size));
-      closed = closed
+      closed = closed;
     }
 
 pub reading_shorter : (bytes : List ℕ) (a b : Reader (Bor (List ℕ))) (ends : List ℕ) (fields : Row) (f : List (List ℕ))
@@ -137,5 +137,49 @@ reading_start bytes a fields plain start source empty closed = record {
   read = [];
   reached = (sym start, refl);
   store = rw empty store_none;
-  closed = closed
+  closed = closed;
 }
+
+pub length-cut_records : (start : ℕ) (ends : List ℕ) (fields : List (List ℕ)) → length (cut_records start ends fields) ≡ length ends
+unfolding cut_records
+length-cut_records start [] fields = refl
+length-cut_records start (end ∷ ends) fields = ap suc (length-cut_records end ends fields)
+
+-- the record at a place is the fields between its start and its end
+get_or-cut_records : (start : ℕ) (ends : List ℕ) (fields : List (List ℕ)) (i : ℕ) → i < length ends
+    → get_or (cut_records start ends fields) i [] ≡ take (get_or ends i 0 - prev start ends i) (drop (prev start ends i) fields)
+unfolding cut_records prev
+get_or-cut_records start [] fields i h = absurd (omega arith)
+get_or-cut_records start (end ∷ ends) fields zero h = refl
+get_or-cut_records start (end ∷ ends) fields (suc i) h = get_or-cut_records end ends fields i (omega arith)
+
+pub length-record : (ends : List ℕ) (fields : List (List ℕ)) (i : ℕ) → Rising 0 ends (length fields) → i < length ends
+    → length (get_or (cut_records 0 ends fields) i []) ≡ get_or ends i 0 - prev 0 ends i
+length-record ends fields i rising h =
+    let bounds = field-bounds 0 ends (length fields) i rising h in
+    let rest = length-drop (prev 0 ends i) fields in
+    let within : get_or ends i 0 - prev 0 ends i ≤ length (drop (prev 0 ends i) fields) = omega arith in
+    rw (get_or-cut_records 0 ends fields i h) (length-take-le (get_or ends i 0 - prev 0 ends i) (drop (prev 0 ends i) fields) within)
+
+pub get_or-record : (ends : List ℕ) (fields : List (List ℕ)) (i j : ℕ) → Rising 0 ends (length fields) → i < length ends
+    → j < length (get_or (cut_records 0 ends fields) i [])
+    → get_or (get_or (cut_records 0 ends fields) i []) j [] ≡ get_or fields (prev 0 ends i + j) []
+get_or-record ends fields i j rising h k =
+    let size = length-record ends fields i rising h in
+    let within : j < get_or ends i 0 - prev 0 ends i = omega arith in
+    rw (get_or-cut_records 0 ends fields i h, get_or-take (get_or ends i 0 - prev 0 ends i) (drop (prev 0 ends i) fields) j [] within) (get_or-drop (prev 0 ends i) fields j [])
+
+-- a field of a record lies among the fields
+pub field_within : (ends : List ℕ) (fields : List (List ℕ)) (i j : ℕ) → Rising 0 ends (length fields) → i < length ends
+    → j < length (get_or (cut_records 0 ends fields) i [])
+    → (prev 0 ends i + j < length fields) × (prev 0 ends i + j < get_or ends i 0)
+field_within ends fields i j rising h k =
+    let size = length-record ends fields i rising h in
+    let bounds = field-bounds 0 ends (length fields) i rising h in
+    (omega arith, omega arith)
+
+pub record_there : (ends : List ℕ) (fields : List (List ℕ)) (records : List (List (List ℕ))) (i : ℕ) → cut_records 0 ends fields ≡ records → i < length records → i < length ends
+record_there ends fields records i cut h =
+    let size = length-cut_records 0 ends fields in
+    let same = ap length cut in
+    omega arith

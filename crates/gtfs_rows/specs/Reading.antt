@@ -1,7 +1,6 @@
 -- How the records of a text are read, one after the other.
 use Rattle.std.specs.Prelude.{ℕ, ◌≡◌, List, true}
 use Rattle.std.specs.Borrow.{Bor}
-
 use Rattle.csv.specs.Reading.{Ready, default_config, is_flexible, reader_config, reader_trim}
 use Rattle.csv.specs.declared.reader.Reader.{Reader}
 use Rattle.csv.specs.declared.reader.Trim.TheVariants as trim

@@ -2,8 +2,13 @@
 //! the spaces round them. It stands on `lc_model` and on the records of `csv`.
 #![tactic(auto)]
 
+mod fault;
 mod reading;
 mod records;
+mod rows;
 mod spaces;
+mod tabulate;
 
-pub use spaces::without_spaces;
+pub use fault::RowFault;
+pub use rows::Rows;
+pub use tabulate::table;

@@ -1,7 +1,8 @@
-ghost use Rattle.std.specs.Prelude.{◌≡◌, ◌+◌, ◌<◌, ◌++◌, [], IfOk, OnOk, length, map, slice_index_or};
-ghost use Rattle.csv.specs.Records.{fields_of, partial_of};
-ghost use Rattle.gtfs_rows.specs.Sheet.{AreTrimmedRecordsOf};
+ghost use Rattle.std.specs.Prelude.{◌≡◌, ◌+◌, ◌<◌, ◌^◌, ◌++◌, [], IfNone, IfOk, OnOk, length, map, option_map, slice_index, slice_index_or};
+ghost use Rattle.csv.specs.Records.{fields_of, partial_of, prev};
+ghost use Rattle.gtfs_rows.specs.Sheet.{AreTrimmedRecordsOf, column_of, missing_column, ragged_row};
 ghost use Rattle.gtfs_rows.specs.Spaces as spec;
+ghost use Rattle.gtfs_rows.specs.Store.{IsEven, sheet_of};
 
 use crate::reading::read_next;
 use crate::spaces::without_spaces;
@@ -48,6 +49,84 @@ impl Records {
         }
         Ok(Records { fields, ends })
     }
+
+    /// How many records there are.
+    pub(crate) fn len(&self) -> usize
+        ensures { result ≡ length self.now }
+    {
+        self.ends.len()
+    }
+
+    /// How many fields the record at this place has.
+    pub(crate) fn width(&self, place: usize) -> usize
+        requires { place < length self.now }
+        ensures { result ≡ length (slice_index_or self.now place []) }
+    {
+        let (start, end) = bounds(self.ends.as_slice(), place);
+        end - start
+    }
+
+    /// The field at this place of the record at that place.
+    pub(crate) fn field(&self, place: usize, column: usize) -> &[u8]
+        requires record_there { place < length self.now }
+        requires field_there { column < length (slice_index_or self.now place []) }
+        ensures { result.now ≡ slice_index_or (slice_index_or self.now place []) column [] }
+    {
+        let (start, _) = bounds(self.ends.as_slice(), place);
+        nth(&self.fields, start + column)
+    }
+
+    /// The place, from 0, of the first column with this name.
+    pub(crate) fn column(&self, name: &str) -> Option<usize>
+        requires { 0 < length self.now }
+        ensures { result ≡ column_of (sheet_of self.now) name.now }
+    {
+        'columns: for column in 0..self.width(0) {
+            if self.field(0, column) == name.as_bytes() {
+                return Some(column);
+            }
+        }
+        None
+    }
+
+    /// The first of these columns that is missing.
+    pub(crate) fn missing<'a>(&self, columns: &[&'a str]) -> Option<&'a str>
+        requires { 0 < length self.now }
+        ensures { option_map (λ name. name.now) result ≡ missing_column (sheet_of self.now) (map (λ name. name.now) columns.now) }
+    {
+        'columns: for name in columns {
+            if self.column(name).is_none() {
+                return Some(*name);
+            }
+        }
+        None
+    }
+
+    /// The first row, counted from 1, that has another number of fields than the header.
+    pub(crate) fn ragged(&self) -> Option<usize>
+        requires { 0 < length self.now }
+        ensures row { result ≡ ragged_row (sheet_of self.now) }
+        ensures even { IfNone result (IsEven self.now) }
+    {
+        let width = self.width(0);
+        'rows: for row in 1..self.len() {
+            if self.width(row) != width {
+                return Some(row);
+            }
+        }
+        None
+    }
+}
+
+// Where the record at this place starts and ends.
+fn bounds(ends: &[usize], place: usize) -> (usize, usize)
+    requires { place < length ends.now }
+    ensures start { result.0 ≡ prev 0 ends.now place }
+    ensures end { result.1 ≡ slice_index ends.now place }
+    ensures in_range { result.1 < 2 ^ 64 }
+{
+    let start = if place == 0 { 0 } else { ends[place - 1] };
+    (start, ends[place])
 }
 
 // Adds the fields of a record, without the spaces at their ends.

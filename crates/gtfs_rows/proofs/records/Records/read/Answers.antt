@@ -16,7 +16,7 @@ records-init c =
       untrimmed = rw (even, named) at set.trim ∙ c.new.ensures.trim;
       ready = inr (inr (rw (even, named) at set.has_headers, set.headers));
       default = rw (even, named) at set.config ∙ c.new.ensures.config;
-      flexible = rw even at set.flexible
+      flexible = rw even at set.flexible;
     })
     set.state
     set.source

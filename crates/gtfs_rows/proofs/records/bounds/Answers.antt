@@ -1,0 +1,13 @@
+use Rattle.std.proofs.Common.{◌≡◌, ◌<◌, ◌+◌, ◌-◌, ◌∙◌, arith, length, sym}
+use Rattle.csv.proofs.RecordFacts.{prev-first, prev-next}
+use Rattle.gtfs_rows.proofs.records.bounds.Goals as goal
+use Rattle.gtfs_rows.proofs.records.bounds.Goals.{then-place-eq0, else-place-eq0}
+
+pub returns-clause-start : goal.returns-clause-start
+returns-clause-start c = elim c.if-place-eq0.branch [
+  | then-place-eq0 w ↦ rw (w.start-is, w.if-place-eq0.true) (sym (prev-first _))
+  | else-place-eq0 w ↦
+      let one : (c.args.place - 1) + 1 ≡ c.args.place = omega arith in
+      let inside : (c.args.place - 1) + 1 < length c.args.ends.now = omega arith in
+      w.start-is ∙ sym (rw one at (prev-next 0 c.args.ends.now (c.args.place - 1) 0 inside))
+]

@@ -1,0 +1,55 @@
+ghost use Rattle.std.specs.Prelude.{◌≡◌};
+ghost use Rattle.gtfs_rows.specs.declared.fault.RowFault.TheVariants.{NoMemory as want_of_memory};
+
+use lc_model::{NoMemory, Text};
+use std::alloc::AllocError;
+use std::error::Error;
+use std::fmt;
+
+/// Why the bytes of a file are no table with the columns that are asked for.
+#[derive(Debug, Drop)]
+pub enum RowFault {
+    /// The bytes are not UTF-8.
+    NotUtf8,
+    /// There is no header record.
+    NoHeader,
+    /// There is no column of this name; of several that are missing, the first that was asked for.
+    NoColumn { name: Text },
+    /// This row, counted from 1, has another number of fields than the header; of several such rows, the first.
+    Ragged { row: u64 },
+    /// There was not enough memory.
+    NoMemory,
+}
+
+impl fmt::Display for RowFault {
+    fn fmt<W: fmt::Write>(&self, f: &mut fmt::Formatter<W>) -> fmt::Result {
+        match self {
+            RowFault::NotUtf8 => write!(f, "not UTF-8"),
+            RowFault::NoHeader => write!(f, "no header"),
+            RowFault::NoColumn { name } => write!(f, "no column {}", name.as_str()),
+            RowFault::Ragged { row } => write!(
+                f,
+                "row {row} has another number of fields than the header"
+            ),
+            RowFault::NoMemory => write!(f, "no memory"),
+        }
+    }
+}
+
+impl Error for RowFault {}
+
+impl From<NoMemory> for RowFault {
+    ghost from_gives = { λ _ fault. fault ≡ want_of_memory };
+
+    fn from(_: NoMemory) -> RowFault {
+        RowFault::NoMemory
+    }
+}
+
+impl From<AllocError> for RowFault {
+    ghost from_gives = { λ _ fault. fault ≡ want_of_memory };
+
+    fn from(_: AllocError) -> RowFault {
+        RowFault::NoMemory
+    }
+}

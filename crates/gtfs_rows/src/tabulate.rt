@@ -1,0 +1,50 @@
+ghost use Rattle.std.specs.Prelude.{◌≡◌, ◌⊎◌, ◌↔◌, Err, IfErr, IfOk, IsOkUnless, IsTrue, map};
+ghost use Rattle.std.specs.Str.{IsUtf8};
+ghost use Rattle.gtfs_rows.specs.Fault.{Breaks};
+ghost use Rattle.gtfs_rows.specs.Sheet.{IsSheetOf, IsTable, Sheet};
+ghost use Rattle.gtfs_rows.specs.declared.fault.RowFault.{RowFault};
+
+use crate::fault::RowFault;
+use crate::records::Records;
+use crate::rows::Rows;
+use lc_model::Text;
+use std::alloc::Global;
+use std::str;
+
+/// The rows of a CSV text, which has at least these columns. Linear in the bytes.
+///
+/// The text is UTF-8, with or without a byte-order mark at its start. Its first record is the header. Of two columns
+/// with one name the first stands. The faults are tested in the order in which [`RowFault`] lists them.
+pub fn table(alloc: Global, bytes: &[u8], columns: &[&str]) -> Result<Rows, RowFault>
+    ensures ok { IfOk result (IsTable bytes.now (map (λ name. name.now) columns.now)) }
+    ensures fault { IfErr result (λ fault. (fault ≡ RowFault.NoMemory) ⊎ Breaks bytes.now (map (λ name. name.now) columns.now) fault) }
+
+    // Where the bytes are a table there is no fault but want of memory, and where they break a rule there is no other.
+    ensures table { (sheet : Sheet) → IsTable bytes.now (map (λ name. name.now) columns.now) sheet → IsOkUnless result RowFault.NoMemory }
+    ensures only { (fault : RowFault) → Breaks bytes.now (map (λ name. name.now) columns.now) fault → (result ≡ Err fault) ⊎ (result ≡ Err RowFault.NoMemory) }
+
+    // No other reading of the bytes gives another sheet.
+    ensures same { IfOk result (λ rows. (sheet : Sheet) → IsSheetOf bytes.now sheet → sheet ≡ rows) }
+{
+    if !is_utf8(bytes) {
+        return Err(RowFault::NotUtf8);
+    }
+    let records = Records::read(alloc, bytes)?;
+    if records.len() == 0 {
+        return Err(RowFault::NoHeader);
+    }
+    if let Some(name) = records.missing(columns) {
+        let name = Text::from_string(String::from_str(alloc, name)?);
+        return Err(RowFault::NoColumn { name });
+    }
+    if let Some(row) = records.ragged() {
+        return Err(RowFault::Ragged { row: row as u64 });
+    }
+    Ok(Rows::from_records(records))
+}
+
+fn is_utf8(bytes: &[u8]) -> bool
+    ensures { IsTrue result ↔ IsUtf8 bytes.now }
+{
+    str::from_utf8(bytes).is_ok()
+}
