@@ -7,6 +7,7 @@ use Rattle.gtfs_rows.specs.Spaces.{without_spaces}
 use Rattle.gtfs_rows.specs.Store.{sheet_of}
 use Rattle.gtfs_rows.specs.declared.fault.RowFault.{RowFault}
 use Rattle.gtfs_rows.specs.declared.fault.RowFault.TheVariants.{NotUtf8, NoHeader, NoColumn, Ragged, NoMemory}
+use Rattle.gtfs_rows.proofs.TableFacts.{complete_from, complete_to, even_from, even_to}
 use Rattle.gtfs_rows.proofs.SheetLaws.{records_of_are_one, sheets_are_one}
 
 -- a text with a sheet has a record
@@ -25,9 +26,9 @@ pub table_breaks_none : (bytes : List ℕ) (columns : List (List ℕ)) (sheet : 
 table_breaks_none bytes columns sheet NotUtf8 t b = b t.read.utf8
 table_breaks_none bytes columns sheet NoHeader t b = has_header bytes sheet t.read b.1
 table_breaks_none bytes columns sheet (NoColumn name) t (other, is, missing) =
-    let e : None ≡ Some name = one_missing bytes columns sheet other None (Some name) t.read is t.complete missing in cc
+    let e : None ≡ Some name = one_missing bytes columns sheet other None (Some name) t.read is (complete_to sheet columns t.complete) missing in cc
 table_breaks_none bytes columns sheet (Ragged row) t (other, is, complete, ragged) =
-    let e : None ≡ Some row = one_ragged bytes sheet other None (Some row) t.read is t.even ragged in cc
+    let e : None ≡ Some row = one_ragged bytes sheet other None (Some row) t.read is (even_to sheet t.even) ragged in cc
 table_breaks_none bytes columns sheet NoMemory t b = b
 
 not_utf8_is_one : (bytes : List ℕ) (columns : List (List ℕ)) (b : RowFault) → ¬ (IsUtf8 bytes) → Breaks bytes columns b → NotUtf8 ≡ b
@@ -101,7 +102,7 @@ ragged_here bytes columns records row utf8 are some complete ragged =
 pub table_here : (bytes : List ℕ) (columns : List (List ℕ)) (records : List (List (List ℕ))) → IsUtf8 bytes → AreTrimmedRecordsOf bytes records
     → (length records ≡ 0 → ⊥) → None ≡ missing_column (sheet_of records) columns → None ≡ ragged_row (sheet_of records) → IsTable bytes columns (sheet_of records)
 table_here bytes columns records utf8 are some complete even =
-    record { read = sheet_read bytes records utf8 are (omega arith); complete = sym complete; even = sym even }
+    record { read = sheet_read bytes records utf8 are (omega arith); complete = complete_from (sheet_of records) columns (sym complete); even = even_from (sheet_of records) (sym even) }
 
 pub only_fault : {A : Type 0} (bytes : List ℕ) (columns : List (List ℕ)) (a b : RowFault) → Breaks bytes columns a → Breaks bytes columns b
     → (◌≡◌ {A = Result A RowFault} (Err a) (Err b)) ⊎ (◌≡◌ {A = Result A RowFault} (Err a) (Err NoMemory))

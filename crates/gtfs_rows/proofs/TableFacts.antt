@@ -1,11 +1,12 @@
 -- How the tests of a table find the first missing column and the first ragged row.
-use Rattle.std.proofs.Common.{Bor, ◌≡◌, ◌≢◌, ◌∙◌, ℕ, ◌+◌, ◌-◌, ◌<◌, ◌≤◌, true, false, List, [], Option, Some, None, ap, arith, drop, eq-eqb, get_or, length, map, refl, sym}
-use Rattle.std.specs.Prelude.{◌==◌, is_none, is_some, not, position}
+use Rattle.std.proofs.Common.{Bor, ◌≡◌, ◌≢◌, ◌∙◌, ℕ, ◌+◌, ◌-◌, ◌<◌, ◌≤◌, true, false, List, [], Option, Some, None, ap, arith, drop, eq-eqb, get_or, inl, inr, length, map, refl, sym}
+use Rattle.std.specs.Prelude.{All, IsSome, option_map, ◌==◌, is_none, is_some, not, position}
 use Rattle.std.proofs.lemmas.Bool.{ne_eqb}
+use Rattle.std.proofs.lemmas.Bool.Decides.{eqb_tells}
 use Rattle.std.proofs.lemmas.List.{get_or-drop, get_or-map, length-drop, length-map}
 use Rattle.gtfs_rows.specs.Sheet.{Sheet, column_of, missing_column, ragged_row}
 use Rattle.gtfs_rows.specs.Store.{sheet_of}
-use Rattle.gtfs_rows.proofs.PlaceFacts.{find-found, find-passed, position-found, position-none}
+use Rattle.gtfs_rows.proofs.PlaceFacts.{find-found, find-none_all, find-none_each, find-passed, position-found, position-none, position-none_each}
 
 none_is : (o : Option ℕ) → is_some o ≡ false → is_none o ≡ true
 none_is None h = refl
@@ -73,3 +74,32 @@ ragged-none records row past even =
     let place : position (λ r. not (length r == length (get_or records 0 []))) (drop 1 records) ≡ None =
     position-none (λ r. not (length r == length (get_or records 0 []))) (drop 1 records) [] (λ k h. even_passes records row k even (omega arith)) in
     sym (rw place refl)
+
+is_some_from : (o : Option ℕ) → is_none o ≡ false → is_some o ≡ true
+is_some_from None h = cc h
+is_some_from (Some x) h = refl
+
+-- nothing is missing exactly where each column is there
+pub complete_from : (sheet : Sheet) (columns : List (List ℕ)) → missing_column sheet columns ≡ None → All (λ column. IsSome (column_of sheet column)) columns
+complete_from sheet columns h k d inside = is_some_from _ (find-none_each (λ column. is_none (column_of sheet column)) columns h k d inside)
+
+pub complete_to : (sheet : Sheet) (columns : List (List ℕ)) → All (λ column. IsSome (column_of sheet column)) columns → missing_column sheet columns ≡ None
+complete_to sheet columns h = find-none_all (λ column. is_none (column_of sheet column)) columns (λ k d inside. some_is _ (h k d inside))
+
+none_mapped : (o : Option ℕ) → option_map (λ place. place + 1) o ≡ None → o ≡ None
+none_mapped None h = refl
+none_mapped (Some x) h = cc h
+
+same_from : (a b : ℕ) → not (a == b) ≡ false → a ≡ b
+same_from a b h = elim (eqb_tells a b) [ inl p ↦ p.1 | inr p ↦ let no : true ≡ false = rw p.0 at h in cc ]
+
+-- no row is ragged exactly where each is as wide as the header
+pub even_from : (sheet : Sheet) → ragged_row sheet ≡ None → All (λ row. length row ≡ length sheet.names) sheet.rows
+even_from sheet h k d inside =
+    same_from _ _ (position-none_each (λ row. not (length row == length sheet.names)) sheet.rows (none_mapped _ h) k d inside)
+
+pub even_to : (sheet : Sheet) → All (λ row. length row ≡ length sheet.names) sheet.rows → ragged_row sheet ≡ None
+even_to sheet h =
+    let place : position (λ row. not (length row == length sheet.names)) sheet.rows ≡ None =
+    position-none (λ row. not (length row == length sheet.names)) sheet.rows [] (λ k inside. even_test _ _ (h k [] inside)) in
+    rw place refl

@@ -1,5 +1,5 @@
 -- What the bytes of a CSV text say as a table (GTFS Schedule Reference, "File requirements").
-use Rattle.std.specs.Prelude.{ℕ, ◌+◌, ◌-◌, ◌≡◌, ◌==◌, List, [], ◌∷◌, Option, option_map, map, length, not, is_none, slice_index_or, position}
+use Rattle.std.specs.Prelude.{All, IsSome, ℕ, ◌+◌, ◌-◌, ◌≡◌, ◌==◌, List, [], ◌∷◌, Option, option_map, map, length, not, is_none, slice_index_or, position}
 use Rattle.std.specs.List.{find}
 use Rattle.std.specs.Str.{IsUtf8, bytes_eq}
 use Rattle.csv.specs.Reading.{AreRecords, default_config, strip_bom}
@@ -50,8 +50,9 @@ missing_column sheet columns = find (λ column. is_none (column_of sheet column)
 abbrev pub ragged_row : Sheet → Option ℕ
 ragged_row sheet = option_map (λ place. place + 1) (position (λ row. not (length row == length sheet.names)) sheet.rows)
 
--- the bytes are a table with these columns, and this is its sheet
+-- the bytes are a table with these columns, and this is its sheet: each column is there, and each row has as many
+-- fields as there are columns
 pub record IsTable (bytes : List ℕ) (columns : List (List ℕ)) (sheet : Sheet) : Type 0 where
   pub read : IsSheetOf bytes sheet
-  pub complete : missing_column sheet columns ≡ Option.None
-  pub even : ragged_row sheet ≡ Option.None
+  pub complete : All (λ column. IsSome (column_of sheet column)) columns
+  pub even : All (λ row. length row ≡ length sheet.names) sheet.rows

@@ -27,10 +27,7 @@ impl fmt::Display for RowFault {
             RowFault::NotUtf8 => write!(f, "not UTF-8"),
             RowFault::NoHeader => write!(f, "no header"),
             RowFault::NoColumn { name } => write!(f, "no column {}", name.as_str()),
-            RowFault::Ragged { row } => write!(
-                f,
-                "row {row} has another number of fields than the header"
-            ),
+            RowFault::Ragged { row } => write!(f, "row {row} is ragged"),
             RowFault::NoMemory => write!(f, "no memory"),
         }
     }

@@ -12,3 +12,6 @@ mod tabulate;
 pub use fault::RowFault;
 pub use rows::Rows;
 pub use tabulate::table;
+
+#[cfg(test)]
+mod tests;
