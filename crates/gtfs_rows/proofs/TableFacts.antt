@@ -4,7 +4,7 @@ use Rattle.std.specs.Prelude.{All, IsSome, option_map, ◌==◌, is_none, is_som
 use Rattle.std.proofs.lemmas.Bool.{ne_eqb}
 use Rattle.std.proofs.lemmas.Bool.Decides.{eqb_tells}
 use Rattle.std.proofs.lemmas.List.{get_or-drop, get_or-map, length-drop, length-map}
-use Rattle.gtfs_rows.specs.Sheet.{Sheet, column_of, missing_column, ragged_row}
+use Rattle.gtfs_rows.specs.Sheet.{Sheet, column_of, missing_column, names_of, ragged_row}
 use Rattle.gtfs_rows.specs.Store.{sheet_of}
 use Rattle.gtfs_rows.proofs.PlaceFacts.{find-found, find-none_all, find-none_each, find-passed, position-found, position-none, position-none_each}
 
@@ -15,10 +15,6 @@ none_is (Some x) h = cc h
 some_is : (o : Option ℕ) → is_some o ≡ true → is_none o ≡ false
 some_is None h = cc h
 some_is (Some x) h = refl
-
--- the names that references point to
-abbrev names_of : List (Bor (List ℕ)) → List (List ℕ)
-names_of columns = map (λ (name : Bor (List ℕ)). name.now) columns
 
 pub missing-found : (sheet : Sheet) (columns : List (Bor (List ℕ))) (i : ℕ) (d : Bor (List ℕ)) → i < length columns
     → is_some (column_of sheet (get_or columns i d).now) ≡ false

@@ -1,5 +1,6 @@
 -- What the bytes of a CSV text say as a table (GTFS Schedule Reference, "File requirements").
 use Rattle.std.specs.Prelude.{All, IsSome, ℕ, ◌+◌, ◌-◌, ◌≡◌, ◌==◌, List, [], ◌∷◌, Option, option_map, map, length, not, is_none, slice_index_or, position}
+use Rattle.std.specs.Borrow.{Bor}
 use Rattle.std.specs.List.{find}
 use Rattle.std.specs.Str.{IsUtf8, bytes_eq}
 use Rattle.csv.specs.Reading.{AreRecords, default_config, strip_bom}
@@ -41,6 +42,10 @@ field_at sheet place column = slice_index_or (slice_index_or sheet.rows place []
 -- the field of a row, counted from 1, in the column of this name; none where there is no such column
 abbrev pub field_of : Sheet → ℕ → List ℕ → Option (List ℕ)
 field_of sheet row name = option_map (λ column. field_at sheet (row - 1) column) (column_of sheet name)
+
+-- the names that references point to
+abbrev pub names_of : List (Bor (List ℕ)) → List (List ℕ)
+names_of columns = map (λ (name : Bor (List ℕ)). name.now) columns
 
 -- the first of these columns that the sheet does not have
 abbrev pub missing_column : Sheet → List (List ℕ) → Option (List ℕ)

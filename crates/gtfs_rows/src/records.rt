@@ -1,6 +1,6 @@
 ghost use Rattle.std.specs.Prelude.{◌≡◌, ◌+◌, ◌<◌, ◌^◌, ◌++◌, [], IfNone, IfOk, OnOk, length, map, option_map, slice_index, slice_index_or};
 ghost use Rattle.csv.specs.Records.{fields_of, partial_of, prev};
-ghost use Rattle.gtfs_rows.specs.Sheet.{AreTrimmedRecordsOf, column_of, missing_column, ragged_row};
+ghost use Rattle.gtfs_rows.specs.Sheet.{AreTrimmedRecordsOf, column_of, missing_column, names_of, ragged_row};
 ghost use Rattle.gtfs_rows.specs.Spaces as spec;
 ghost use Rattle.gtfs_rows.specs.Store.{IsEven, sheet_of};
 
@@ -92,7 +92,7 @@ impl Records {
     /// The first of these columns that is missing.
     pub(crate) fn missing<'a>(&self, columns: &[&'a str]) -> Option<&'a str>
         requires { 0 < length self.now }
-        ensures { option_map (λ name. name.now) result ≡ missing_column (sheet_of self.now) (map (λ name. name.now) columns.now) }
+        ensures { option_map (λ name. name.now) result ≡ missing_column (sheet_of self.now) (names_of columns.now) }
     {
         'columns: for name in columns {
             if self.column(name).is_none() {

@@ -1,7 +1,7 @@
-ghost use Rattle.std.specs.Prelude.{◌≡◌, ◌⊎◌, ◌↔◌, Err, IfErr, IfOk, IsOkUnless, IsTrue, map};
+ghost use Rattle.std.specs.Prelude.{◌≡◌, ◌⊎◌, ◌↔◌, Err, IfErr, IfOk, IsOkUnless, IsTrue};
 ghost use Rattle.std.specs.Str.{IsUtf8};
 ghost use Rattle.gtfs_rows.specs.Fault.{Breaks};
-ghost use Rattle.gtfs_rows.specs.Sheet.{IsSheetOf, IsTable, Sheet};
+ghost use Rattle.gtfs_rows.specs.Sheet.{IsSheetOf, IsTable, Sheet, names_of};
 ghost use Rattle.gtfs_rows.specs.declared.fault.RowFault.{RowFault};
 
 use crate::fault::RowFault;
@@ -16,12 +16,12 @@ use std::str;
 /// The text is UTF-8, with or without a byte-order mark at its start. Its first record is the header. Of two columns
 /// with one name the first stands. The faults are tested in the order in which [`RowFault`] lists them.
 pub fn table(alloc: Global, bytes: &[u8], columns: &[&str]) -> Result<Rows, RowFault>
-    ensures ok { IfOk result (IsTable bytes.now (map (λ name. name.now) columns.now)) }
-    ensures fault { IfErr result (λ fault. (fault ≡ RowFault.NoMemory) ⊎ Breaks bytes.now (map (λ name. name.now) columns.now) fault) }
+    ensures ok { IfOk result (IsTable bytes.now (names_of columns.now)) }
+    ensures fault { IfErr result (λ fault. (fault ≡ RowFault.NoMemory) ⊎ Breaks bytes.now (names_of columns.now) fault) }
 
     // Where the bytes are a table there is no fault but want of memory, and where they break a rule there is no other.
-    ensures table { (sheet : Sheet) → IsTable bytes.now (map (λ name. name.now) columns.now) sheet → IsOkUnless result RowFault.NoMemory }
-    ensures only { (fault : RowFault) → Breaks bytes.now (map (λ name. name.now) columns.now) fault → (result ≡ Err fault) ⊎ (result ≡ Err RowFault.NoMemory) }
+    ensures table { (sheet : Sheet) → IsTable bytes.now (names_of columns.now) sheet → IsOkUnless result RowFault.NoMemory }
+    ensures only { (fault : RowFault) → Breaks bytes.now (names_of columns.now) fault → (result ≡ Err fault) ⊎ (result ≡ Err RowFault.NoMemory) }
 
     // No other reading of the bytes gives another sheet.
     ensures same { IfOk result (λ rows. (sheet : Sheet) → IsSheetOf bytes.now sheet → sheet ≡ rows) }

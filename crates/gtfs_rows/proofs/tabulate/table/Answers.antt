@@ -2,16 +2,12 @@
 use Rattle.std.proofs.Common.{Bor, ℕ, List, [], None, Some, ◌≡◌, ◌∙◌, ap, inr, length, map, rules, sym}
 use Rattle.std.specs.Str.{IsUtf8}
 use Rattle.gtfs_rows.specs.Fault.{Breaks}
-use Rattle.gtfs_rows.specs.Sheet.{AreRecordsOf, IsTable, missing_column}
+use Rattle.gtfs_rows.specs.Sheet.{AreRecordsOf, IsTable, missing_column, names_of}
 use Rattle.gtfs_rows.specs.Store.{sheet_of}
 use Rattle.gtfs_rows.specs.declared.fault.RowFault.TheVariants.{NoColumn, NoHeader, Ragged}
 use Rattle.gtfs_rows.proofs.FaultLaws.{no_column_here, none_read, only_fault, ragged_here, table_breaks_none, table_here}
 use Rattle.gtfs_rows.proofs.SheetLaws.{sheets_are_one}
 use Rattle.gtfs_rows.proofs.tabulate.table.Goals as goal
-
--- the names that references point to
-abbrev names_of : List (Bor (List ℕ)) → List (List ℕ)
-names_of columns = map (λ (name : Bor (List ℕ)). name.now) columns
 
 pub returns-then-len-eq0-clause-table : goal.returns-then-len-eq0-clause-table
 returns-then-len-eq0-clause-table c =
