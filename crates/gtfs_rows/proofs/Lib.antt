@@ -1,7 +1,8 @@
 pub mod FaultLaws
-pub mod PlaceFacts
-pub mod ReadFacts
+mod PlaceFacts
+mod ReadFacts
 pub mod SheetLaws
-pub mod SpaceFacts
-pub mod StoreFacts
-pub mod TableFacts
+mod SpaceFacts
+mod StoreFacts
+mod TableFacts
+mod Utf8Facts

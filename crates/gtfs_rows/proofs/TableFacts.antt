@@ -1,5 +1,5 @@
 -- How the tests of a table find the first missing column and the first ragged row.
-use Rattle.std.proofs.Common.{Bor, ◌≡◌, ◌≢◌, ◌∙◌, ℕ, ◌+◌, ◌-◌, ◌<◌, ◌≤◌, true, false, List, [], Option, Some, None, ap, arith, drop, eq-eqb, get_or, inl, inr, length, map, refl, sym}
+use Rattle.std.proofs.Common.{Bor, ◌≡◌, ◌≢◌, ◌∙◌, ℕ, ◌+◌, ◌-◌, ◌<◌, ◌≤◌, true, false, List, [], Option, Some, None, ap, arith, drop, eq-eqb, get_or, inl, inr, length, refl, sym}
 use Rattle.std.specs.Prelude.{All, IsSome, option_map, ◌==◌, is_none, is_some, not, position}
 use Rattle.std.proofs.lemmas.Bool.{ne_eqb}
 use Rattle.std.proofs.lemmas.Bool.Decides.{eqb_tells}

@@ -1,5 +1,6 @@
 -- Records that lie one after the other in one list of fields, the first with the names of the columns.
 use Rattle.std.specs.Prelude.{ℕ, ◌-◌, ◌<◌, ◌≡◌, List, [], ◌∷◌, drop, length, slice_index_or, take}
+use Rattle.std.specs.Str.{IsUtf8}
 use Rattle.gtfs_rows.specs.Sheet.{Sheet}
 
 -- the records that end at these places of a list of fields, after a start
@@ -15,3 +16,12 @@ sheet_of records = record { names = slice_index_or records 0 []; rows = drop 1 r
 pub record IsEven (records : List (List (List ℕ))) : Type 0 where
   pub named : 0 < length records
   pub even : (place : ℕ) → place < length records → length (slice_index_or records place []) ≡ length (slice_index_or records 0 [])
+
+-- each field of each record is UTF-8
+abbrev pub AreTexts : List (List (List ℕ)) → Type 0
+AreTexts records = (place column : ℕ) → IsUtf8 (slice_index_or (slice_index_or records place []) column [])
+
+-- what rows are kept as: records as wide as the first, which has the names, of texts
+pub record IsGrid (records : List (List (List ℕ))) : Type 0 where
+  pub even : IsEven records
+  pub texts : AreTexts records

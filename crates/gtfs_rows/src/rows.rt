@@ -1,6 +1,7 @@
 ghost use Rattle.std.specs.Prelude.{◌≡◌, ◌<◌, ◌≤◌, ◌↔◌, [], IfSome, IsTrue, length, option_map};
+ghost use Rattle.std.specs.Str.{IsUtf8};
 ghost use Rattle.gtfs_rows.specs.Sheet.{column_of, field_at, field_of};
-ghost use Rattle.gtfs_rows.specs.Store.{IsEven, sheet_of};
+ghost use Rattle.gtfs_rows.specs.Store.{IsGrid, sheet_of};
 
 use crate::records::Records;
 use std::marker::Model;
@@ -14,18 +15,18 @@ pub struct Rows {
 
 impl Model for Rows {
     ghost use Rattle.gtfs_rows.specs.Sheet.{Sheet};
-    ghost use Rattle.gtfs_rows.specs.Store.{IsEven, sheet_of};
+    ghost use Rattle.gtfs_rows.specs.Store.{IsGrid, sheet_of};
 
     ghost Value = { Sheet };
 
     ghost view = { λ r. sheet_of r.records };
 
-    ghost invariant = { λ r. IsEven r.records };
+    ghost invariant = { λ r. IsGrid r.records };
 }
 
 impl Rows {
     pub(crate) fn from_records(records: Records) -> Rows
-        requires { IsEven records }
+        requires { IsGrid records }
         ensures { result ≡ sheet_of records }
     {
         Rows { records }
@@ -58,7 +59,8 @@ impl Rows {
     pub fn at(&self, place: usize, column: usize) -> &[u8]
         requires row_there { place < length self.now.rows }
         requires column_there { column < length self.now.names }
-        ensures { result.now ≡ field_at self.now place column }
+        ensures value { result.now ≡ field_at self.now place column }
+        ensures text { IsUtf8 result.now }
     {
         // There are fewer records than `usize` counts.
         let _count = self.records.len();
@@ -70,7 +72,8 @@ impl Rows {
     pub fn field(&self, row: usize, name: &str) -> Option<&[u8]>
         requires from { 1 ≤ row }
         requires to { row ≤ length self.now.rows }
-        ensures { option_map (λ field. field.now) result ≡ field_of self.now row name.now }
+        ensures value { option_map (λ field. field.now) result ≡ field_of self.now row name.now }
+        ensures text { IfSome result (λ field. IsUtf8 field.now) }
     {
         let column = self.column(name)?;
         Some(self.at(row - 1, column))

@@ -1,5 +1,5 @@
 -- Each return has one reason: the rule that the bytes break there, or the table that they are.
-use Rattle.std.proofs.Common.{Bor, ℕ, List, [], None, Some, ◌≡◌, ◌∙◌, ap, inr, length, map, rules, sym}
+use Rattle.std.proofs.Common.{[], None, Some, ◌≡◌, ◌∙◌, ap, inr, length, rules, sym}
 use Rattle.std.specs.Str.{IsUtf8}
 use Rattle.gtfs_rows.specs.Fault.{Breaks}
 use Rattle.gtfs_rows.specs.Sheet.{AreRecordsOf, IsTable, missing_column, names_of}
@@ -7,6 +7,7 @@ use Rattle.gtfs_rows.specs.Store.{sheet_of}
 use Rattle.gtfs_rows.specs.declared.fault.RowFault.TheVariants.{NoColumn, NoHeader, Ragged}
 use Rattle.gtfs_rows.proofs.FaultLaws.{no_column_here, none_read, only_fault, ragged_here, table_breaks_none, table_here}
 use Rattle.gtfs_rows.proofs.SheetLaws.{sheets_are_one}
+use Rattle.gtfs_rows.proofs.Utf8Facts.{texts_of}
 use Rattle.gtfs_rows.proofs.tabulate.table.Goals as goal
 
 pub returns-then-len-eq0-clause-table : goal.returns-then-len-eq0-clause-table
@@ -94,3 +95,11 @@ returns-clause-same c =
     let complete : None ≡ missing_column (sheet_of c.in_ok-records.records) (names_of c.args.columns.now) = c.in_default.ensures in
     let here : IsTable c.args.bytes.now (names_of c.args.columns.now) (sheet_of c.in_ok-records.records) = table_here c.args.bytes.now (names_of c.args.columns.now) c.in_ok-records.records utf8 c.in_ok-records.ensures some complete c.in_default-ragged.ensures.row in
     λ sheet is. sheets_are_one c.args.bytes.now sheet (sheet_of c.in_ok-records.records) is here.read ∙ sym c.from_records.ensures
+
+pub from_records-requires : goal.from_records-requires
+from_records-requires c =
+    let utf8 : IsUtf8 c.args.bytes.now = search rules in
+    record {
+      even = c.in_default-ragged.ensures.even;
+      texts = texts_of c.args.bytes.now c.in_ok-records.records utf8 c.in_ok-records.ensures;
+    }

@@ -1,4 +1,4 @@
-use Rattle.std.proofs.Common.{◌≡◌, drop, map}
+use Rattle.std.proofs.Common.{◌≡◌, drop}
 use Rattle.gtfs_rows.specs.Sheet.{missing_column, names_of}
 use Rattle.gtfs_rows.specs.Store.{sheet_of}
 use Rattle.gtfs_rows.proofs.records.Records.missing.Given as goal
