@@ -1,0 +1,6 @@
+pub mod Varint
+pub mod Grammar
+pub mod Parts
+pub mod Reading
+pub mod Held
+pub mod Message
