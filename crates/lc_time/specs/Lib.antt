@@ -1,0 +1,5 @@
+pub mod Calendar
+pub mod Clock
+pub mod Date
+pub mod Digits
+pub mod Iso
