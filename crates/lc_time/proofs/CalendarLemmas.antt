@@ -38,7 +38,7 @@ to_next_month n d is last lt =
       number = omega (arith, is.number, civil.day_to);
     }
 
-december : (n : ℕ) (d : Day) → IsDayNumber n d → days_in_month d.year d.month ≤ d.day → 12 ≤ d.month → (d.month ≡ 12) × (d.day ≡ 31)
+pub december : (n : ℕ) (d : Day) → IsDayNumber n d → days_in_month d.year d.month ≤ d.day → 12 ≤ d.month → (d.month ≡ 12) × (d.day ≡ 31)
 december n d is last end =
     let civil = is.civil in
     let m : d.month ≡ 12 = omega (arith, civil.month_to) in

@@ -13,3 +13,7 @@ clock_text_of seconds =
 pub record SaysGtfsTime (text : List ℕ) (seconds : ℕ) : Type 0 where
   pub in_range : seconds < 360_000
   pub written : (text ≡ clock_text_of seconds) ⊎ (48 ∷ text ≡ clock_text_of seconds)
+
+-- HHMMSS, a start of fewer than 100 hours
+abbrev pub start_text_of : ℕ → List ℕ
+start_text_of start = two_digits (start / 3600) ++ two_digits (start / 60 % 60) ++ two_digits (start % 60)

@@ -2,4 +2,5 @@ pub mod Calendar
 pub mod Clock
 pub mod Date
 pub mod Digits
+pub mod Http
 pub mod Iso

@@ -1,5 +1,5 @@
 ghost use Rattle.std.specs.Prelude.{◌≡◌, ℕ, ◌<◌, Some, IfSome};
-ghost use Rattle.lc_time.specs.Clock.{clock_text_of, SaysGtfsTime};
+ghost use Rattle.lc_time.specs.Clock.{clock_text_of, start_text_of, SaysGtfsTime};
 
 use crate::digits::{number, two_digits};
 
@@ -51,6 +51,27 @@ pub fn read_gtfs_time(text: &[u8]) -> Option<u32>
     match *text {
         [h1, c0, m0, m1, c1, s0, s1] => read_clock([b'0', h1, c0, m0, m1, c1, s0, s1]),
         [h0, h1, c0, m0, m1, c1, s0, s1] => read_clock([h0, h1, c0, m0, m1, c1, s0, s1]),
+        _ => None,
+    }
+}
+
+/// The start of a run as six digits, HHMMSS.
+pub fn start_text(start: u32) -> [u8; 6]
+    requires { start < CLOCK_END }
+    ensures { result ≡ start_text_of start }
+{
+    let [h0, h1, _, m0, m1, _, s0, s1] = clock_text(start);
+    [h0, h1, m0, m1, s0, s1]
+}
+
+/// The start that six digits say. None exactly where the text is no start below 360,000, written so.
+pub fn read_start(text: &[u8]) -> Option<u32>
+    ensures in_range { IfSome result (λ start. start < CLOCK_END) }
+    ensures said { IfSome result (λ start. text.now ≡ start_text_of start) }
+    ensures exact { (start : ℕ) → start < CLOCK_END → text.now ≡ start_text_of start → result ≡ Some start }
+{
+    match *text {
+        [h0, h1, m0, m1, s0, s1] => read_clock([h0, h1, b':', m0, m1, b':', s0, s1]),
         _ => None,
     }
 }

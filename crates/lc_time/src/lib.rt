@@ -6,8 +6,10 @@ mod calendar;
 mod clock;
 mod date;
 mod digits;
+mod http;
 mod iso;
 
-pub use clock::read_gtfs_time;
+pub use clock::{read_gtfs_time, read_start, start_text};
 pub use date::{date_text, read_date};
+pub use http::{http_date, read_http_date};
 pub use iso::{iso_text, read_iso};

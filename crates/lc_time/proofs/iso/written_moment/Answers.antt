@@ -1,9 +1,6 @@
-use Rattle.std.proofs.Common.{◌≡◌, ℕ, ◌+◌, ◌*◌, ◌/◌, ◌%◌, ap, Option, Some, None, SomeIff, arith, ◌∙◌}
+use Rattle.std.proofs.Common.{◌≡◌, ◌+◌, ◌*◌, ◌/◌, ◌%◌, ap, Some, arith, ◌∙◌}
+use Rattle.lc_time.proofs.OptionLemmas.{some_at}
 use Rattle.lc_time.proofs.iso.written_moment.Goals as goal
-
-some_at : (r : Option ℕ) (P : Type 0) (v : ℕ) → SomeIff r P v → P → r ≡ Some v
-some_at None P v not h = absurd (not h)
-some_at (Some x) P v is h = ap Some is.1
 
 pub returns-in-Some : goal.returns-in-Some
 returns-in-Some c = λ moment bound day clock.
