@@ -1,0 +1,4 @@
+pub mod CalendarLemmas
+pub mod DateLemmas
+pub mod HttpLemmas
+pub mod OptionLemmas

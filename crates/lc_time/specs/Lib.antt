@@ -1,0 +1,6 @@
+pub mod Calendar
+pub mod Clock
+pub mod Date
+pub mod Digits
+pub mod Http
+pub mod Iso

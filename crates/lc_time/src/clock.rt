@@ -1,0 +1,77 @@
+ghost use Rattle.std.specs.Prelude.{◌≡◌, ℕ, ◌<◌, Some, IfSome};
+ghost use Rattle.lc_time.specs.Clock.{clock_text_of, start_text_of, SaysGtfsTime};
+
+use crate::digits::{number, two_digits};
+
+/// Hours that two digits can count, in seconds.
+const CLOCK_END: u32 = 360_000;
+
+/// HH:MM:SS.
+pub(crate) fn clock_text(seconds: u32) -> [u8; 8]
+    requires { seconds < CLOCK_END }
+    ensures { result ≡ clock_text_of seconds }
+{
+    let [h0, h1] = two_digits((seconds / 3600) as u8);
+    let [m0, m1] = two_digits((seconds / 60 % 60) as u8);
+    let [s0, s1] = two_digits((seconds % 60) as u8);
+    [h0, h1, b':', m0, m1, b':', s0, s1]
+}
+
+/// The seconds that this text would write. Whether it is written so is not tested.
+pub(crate) fn clock_seconds(text: [u8; 8]) -> u32
+    ensures bound { result < 20_000_000 }
+    ensures value { (seconds : ℕ) → seconds < CLOCK_END → text ≡ clock_text_of seconds → result ≡ seconds }
+{
+    let [h0, h1, _, m0, m1, _, s0, s1] = text;
+    u32::from(number(h0, h1)) * 3600 + u32::from(number(m0, m1)) * 60 + u32::from(number(s0, s1))
+}
+
+/// The seconds of HH:MM:SS.
+fn read_clock(text: [u8; 8]) -> Option<u32>
+    ensures said { IfSome result (λ seconds. (seconds < CLOCK_END) × (text ≡ clock_text_of seconds)) }
+    ensures exact { (seconds : ℕ) → seconds < CLOCK_END → text ≡ clock_text_of seconds → result ≡ Some seconds }
+{
+    let seconds = clock_seconds(text);
+    if seconds >= CLOCK_END {
+        return None;
+    }
+    if clock_text(seconds) == text {
+        Some(seconds)
+    } else {
+        None
+    }
+}
+
+/// The seconds that a time of GTFS says, as `25:10:00` or `7:05:00`: two digits of hours, or one, and two of minutes and
+/// seconds up to 59. None exactly where the text is no such time.
+pub fn read_gtfs_time(text: &[u8]) -> Option<u32>
+    ensures said { IfSome result (SaysGtfsTime text.now) }
+    ensures exact { (seconds : ℕ) → SaysGtfsTime text.now seconds → result ≡ Some seconds }
+{
+    match *text {
+        [h1, c0, m0, m1, c1, s0, s1] => read_clock([b'0', h1, c0, m0, m1, c1, s0, s1]),
+        [h0, h1, c0, m0, m1, c1, s0, s1] => read_clock([h0, h1, c0, m0, m1, c1, s0, s1]),
+        _ => None,
+    }
+}
+
+/// The start of a run as six digits, HHMMSS.
+pub fn start_text(start: u32) -> [u8; 6]
+    requires { start < CLOCK_END }
+    ensures { result ≡ start_text_of start }
+{
+    let [h0, h1, _, m0, m1, _, s0, s1] = clock_text(start);
+    [h0, h1, m0, m1, s0, s1]
+}
+
+/// The start that six digits say. None exactly where the text is no start below 360,000, written so.
+pub fn read_start(text: &[u8]) -> Option<u32>
+    ensures in_range { IfSome result (λ start. start < CLOCK_END) }
+    ensures said { IfSome result (λ start. text.now ≡ start_text_of start) }
+    ensures exact { (start : ℕ) → start < CLOCK_END → text.now ≡ start_text_of start → result ≡ Some start }
+{
+    match *text {
+        [h0, h1, m0, m1, s0, s1] => read_clock([h0, h1, b':', m0, m1, b':', s0, s1]),
+        _ => None,
+    }
+}

@@ -1,0 +1,47 @@
+ghost use Rattle.std.specs.Prelude.{◌≡◌, ℕ, reverse, Some, IfSome};
+ghost use Rattle.lc_time.specs.Http.{http_date_of, without_front_blanks, SaysHttpDate};
+
+use httpdate::HttpDate;
+use lc_model::Moment;
+
+/// The moment as a date of HTTP, in the format IMF-fixdate of RFC 9110, section 5.6.7.
+pub fn http_date(moment: Moment) -> [u8; 29]
+    ensures text { result ≡ http_date_of moment }
+    ensures says { SaysHttpDate result moment }
+{
+    HttpDate::from_unix_secs(moment.seconds())
+        .unwrap()
+        .to_bytes()
+}
+
+/// The moment that a date of HTTP says, in one of the three formats of RFC 9110, section 5.6.7, with spaces and tabs
+/// dropped at both ends. None exactly where the text is no such date of a moment.
+pub fn read_http_date(text: &[u8]) -> Option<Moment>
+    ensures said { IfSome result (SaysHttpDate text.now) }
+    ensures exact { (moment : ℕ) → SaysHttpDate text.now moment → result ≡ Some moment }
+{
+    match HttpDate::parse_ascii(trim_end(trim_front(text))) {
+        Ok(date) => Moment::new(date.unix_secs()),
+        Err(_) => None,
+    }
+}
+
+/// The text without the spaces and tabs at its front.
+fn trim_front(mut text: &[u8]) -> &[u8]
+    ensures { result.now ≡ without_front_blanks text.now }
+{
+    while let [b' ' | b'\t', rest @ ..] = text {
+        text = rest;
+    }
+    text
+}
+
+/// The text without the spaces and tabs at its end.
+fn trim_end(mut text: &[u8]) -> &[u8]
+    ensures { result.now ≡ reverse (without_front_blanks (reverse text.now)) }
+{
+    while let [rest @ .., b' ' | b'\t'] = text {
+        text = rest;
+    }
+    text
+}

@@ -1,0 +1,15 @@
+//! Moments, service dates and times of day as texts, each with one spelling that is read back exactly. It stands on
+//! `lc_model`, on the calendar of `jiff` and on `httpdate`.
+#![tactic(auto)]
+
+mod calendar;
+mod clock;
+mod date;
+mod digits;
+mod http;
+mod iso;
+
+pub use clock::{read_gtfs_time, read_start, start_text};
+pub use date::{date_text, read_date};
+pub use http::{http_date, read_http_date};
+pub use iso::{iso_text, read_iso};
