@@ -1,10 +1,11 @@
 -- Every list of bytes parts in exactly one way.
-use Rattle.std.proofs.Common.{◌≡◌, ◌≢◌, ℕ, zero, suc, ◌+◌, ◌-◌, ◌<◌, ◌≤◌, List, [], ◌∷◌, ◌++◌, length, Result, Ok, Err, refl, sym, ap, subst, ◌∙◌, arith}
+use Rattle.std.proofs.Common.{Option, Some, None, ◌≡◌, ◌≢◌, ℕ, zero, suc, ◌+◌, ◌-◌, ◌<◌, ◌≤◌, List, [], ◌∷◌, ◌++◌, length, Result, Ok, Err, refl, sym, ap, subst, ◌∙◌, arith}
+use Rattle.std.specs.Prelude.{option_map}
 use Rattle.std.proofs.lemmas.List.{length-append}
 use Rattle.rt_protobuf.specs.declared.fault.WireFault.{WireFault}
 use Rattle.rt_protobuf.specs.Varint.{Spells}
-use Rattle.rt_protobuf.specs.Grammar.{WireField, wire_type, IsTag, IsField, IsBroken}
-use Rattle.rt_protobuf.specs.Parts.{Parts, whole, broken, field, PartsInto}
+use Rattle.rt_protobuf.specs.Grammar.{WireField, wire_type, IsTag, IsField, IsBroken, AreFields}
+use Rattle.rt_protobuf.specs.Parts.{Parts, whole, broken, field, PartsInto, fields_in}
 use Rattle.rt_protobuf.specs.Reading.{field_at, begin, parts_within, parts_of}
 use Rattle.rt_protobuf.proofs.Steps.{ok_is, err_is, ok_or_err}
 use Rattle.rt_protobuf.proofs.Fields.{field_takes, field_again, field_fails, broken_again}
@@ -82,3 +83,36 @@ one_way (field at next f others) (field at' next' f' others') place bytes h k =
 
 pub only_parts : (place : ℕ) (bytes : List ℕ) (parts : Parts) → PartsInto place bytes parts → parts ≡ parts_of place bytes
 only_parts place bytes parts h = one_way parts (parts_of place bytes) place bytes h (parts_are place bytes)
+
+-- ---- fields and nothing else
+
+abbrev fields_then : Parts → List WireField → Type 0
+fields_then parts fields = fields_in parts ≡ Some fields
+
+parts_with : (place : ℕ) (bytes : List ℕ) (fields : List WireField) → AreFields bytes fields → (parts : Parts) × PartsInto place bytes parts × fields_then parts fields
+parts_with place bytes [] a = (whole, a, refl)
+parts_with place bytes (first ∷ others) a =
+    let rest = parts_with (place + length a.0) a.1 others a.4 in
+    (field place (place + length a.0) first rest.0, (refl, a.0, a.1, a.2, a.3, refl, rest.1), ap (option_map (λ (fields : List WireField). first ∷ fields)) rest.2)
+
+pub fields_are : (place : ℕ) (bytes : List ℕ) (fields : List WireField) → AreFields bytes fields → fields_in (parts_of place bytes) ≡ Some fields
+fields_are place bytes fields a =
+    let p = parts_with place bytes fields a in
+    ap fields_in (sym (only_parts place bytes p.0 p.1)) ∙ p.2
+
+some_of : {X : Type 0} (o : Option X) (f : X → X) (y : X) → option_map f o ≡ Some y → (x : X) × (o ≡ Some x) × (f x ≡ y)
+some_of None f y e = absurd cc
+some_of (Some x) f y e = (x, refl, cc)
+
+nothing_is : (fields : List WireField) → fields_then whole fields → [] ≡ fields
+nothing_is fields e = cc
+
+are_fields_of : (parts : Parts) (place : ℕ) (bytes : List ℕ) (fields : List WireField) → PartsInto place bytes parts → fields_then parts fields → AreFields bytes fields
+are_fields_of whole place bytes fields h e = subst (λ (fs : List WireField). AreFields bytes fs) (nothing_is fields e) h
+are_fields_of (broken fault) place bytes fields h e = absurd cc
+are_fields_of (field at next first others) place bytes fields h e =
+    let s = some_of (fields_in others) (λ (fields : List WireField). first ∷ fields) fields e in
+    subst (λ (fs : List WireField). AreFields bytes fs) s.2 (h.1, h.2, h.3, h.4, are_fields_of others next h.2 s.0 h.6 s.1)
+
+pub are_fields : (place : ℕ) (bytes : List ℕ) (fields : List WireField) → fields_in (parts_of place bytes) ≡ Some fields → AreFields bytes fields
+are_fields place bytes fields e = are_fields_of (parts_of place bytes) place bytes fields (parts_are place bytes) e

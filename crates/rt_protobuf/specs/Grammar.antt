@@ -1,5 +1,5 @@
 -- Fields, as the encoding of Protocol Buffers has them ("Message Structure"), and what a broken field is.
-use Rattle.std.specs.Prelude.{◌≡◌, ℕ, ◌+◌, ◌*◌, ◌<◌, ◌≤◌, ◌⊎◌, List, ◌++◌, length}
+use Rattle.std.specs.Prelude.{◌≡◌, ℕ, ◌+◌, ◌*◌, ◌<◌, ◌≤◌, ◌⊎◌, List, ◌++◌, length, ◌∷◌, []}
 use Rattle.std.specs.Int.{w32, w64, from_le_bytes}
 use Rattle.rt_protobuf.specs.declared.fault.WireFault.{WireFault}
 use Rattle.rt_protobuf.specs.declared.fault.WireFault.TheVariants.{Cut, LongVarint, Group, BadField}
@@ -39,6 +39,11 @@ IsTag bytes number wire = (wire < 8) × IsVarint bytes (number * 8 + wire)
 
 abbrev pub IsField : List ℕ → WireField → Type 0
 IsField bytes field = (tag : List ℕ) × (behind : List ℕ) × (bytes ≡ tag ++ behind) × IsTag tag field.number (wire_type field.content) × IsNumber field.number × IsContent behind field.content
+
+-- the bytes are those of one field, and then those of the others
+abbrev pub AreFields : List ℕ → List WireField → Type 0
+AreFields bytes [] = bytes ≡ []
+AreFields bytes (first ∷ others) = (front : List ℕ) × (behind : List ℕ) × (bytes ≡ front ++ behind) × IsField front first × AreFields behind others
 
 -- the bytes begin with a tag, and this holds of its number, its wire type and the bytes behind it
 abbrev pub AtTag : List ℕ → (ℕ → ℕ → List ℕ → Type 0) → Type 0

@@ -1,5 +1,5 @@
 -- What a list of bytes parts into: field after field, up to the end or a fault.
-use Rattle.std.specs.Prelude.{◌≡◌, ◌≢◌, ℕ, ◌+◌, List, [], ◌++◌, length}
+use Rattle.std.specs.Prelude.{◌≡◌, ◌≢◌, ℕ, ◌+◌, List, [], ◌++◌, length, ◌∷◌, Option, Some, None, option_map}
 use Rattle.rt_protobuf.specs.declared.fault.WireFault.{WireFault}
 use Rattle.rt_protobuf.specs.Grammar.{WireField, IsField, IsBroken}
 
@@ -14,3 +14,9 @@ abbrev pub PartsInto : ℕ → List ℕ → Parts → Type 0
 PartsInto place bytes whole = bytes ≡ []
 PartsInto place bytes (broken fault) = (bytes ≢ []) × IsBroken place bytes fault
 PartsInto place bytes (field at next first others) = (at ≡ place) × (front : List ℕ) × (behind : List ℕ) × (bytes ≡ front ++ behind) × IsField front first × (next ≡ place + length front) × PartsInto next behind others
+
+-- the fields alone, where no fault stands behind them
+abbrev pub fields_in : Parts → Option (List WireField)
+fields_in whole = Some []
+fields_in (broken fault) = None
+fields_in (field place next first others) = option_map (λ fields. first ∷ fields) (fields_in others)

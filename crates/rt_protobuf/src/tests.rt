@@ -151,5 +151,6 @@ fn odd_forms(rt: HostRuntime) {
             next: 7
         }))
     );
+    one_parting();
     assert_eq!(rt; next_field(long, 0, 6), Err(WireFault::Cut { place: 0 }));
 }

@@ -8,7 +8,7 @@ use Rattle.rt_protobuf.proofs.Places.{behind_within, lands, no_parts, breaks, is
 use Rattle.rt_protobuf.proofs.reading.next_field.Goals as goal
 
 pub returns-then-from-to-clause-parts : goal.returns-then-from-to-clause-parts
-returns-then-from-to-clause-parts c = no_parts c.args.bytes.now c.args.from c.args.to c.if-from-to.true
+returns-then-from-to-clause-parts c = no_parts c.args.bytes.now c.args.from c.args.to (omega arith)
 
 pub returns-in_err-number-clause-fault : goal.returns-in_err-number-clause-fault
 returns-in_err-number-clause-fault c =
