@@ -19,3 +19,6 @@ pub use law::one_meaning;
 pub use message::read_message;
 pub use news::{Event, NewsList, Relation, StopNews, StopNewsList, TripNews};
 pub use update::Update;
+
+#[cfg(test)]
+mod tests;
