@@ -1,0 +1,5 @@
+pub mod Steps
+pub mod Trees
+pub mod Walking
+pub mod Embedded
+pub mod Said

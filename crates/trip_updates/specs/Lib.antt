@@ -1,0 +1,9 @@
+pub mod Wire
+pub mod Tree
+pub mod Table
+pub mod Choices
+pub mod Dates
+pub mod Meaning
+pub mod Message
+pub mod Faults
+pub mod Shows

@@ -1,0 +1,88 @@
+-- What the code has read so far, as the tree of fields that it stands for.
+use Rattle.std.specs.Prelude.{◌≡◌, ℕ, ◌≤◌, map, Option, Some, None, option_map, is_some, unwrap_or, Result, Ok, Err, ◌⊎◌}
+use Rattle.std.specs.Option.{option_copied}
+use Rattle.rt_protobuf.specs.declared.field.Value.{Value}
+use Rattle.rt_protobuf.specs.declared.field.Value.TheVariants as values
+use Rattle.trip_updates.specs.declared.descriptor.Descriptor.{Descriptor}
+use Rattle.trip_updates.specs.declared.entity.Entity.{Entity}
+use Rattle.trip_updates.specs.declared.entity.EntityFields.{EntityFields}
+use Rattle.trip_updates.specs.declared.header.HeaderFields.{HeaderFields}
+use Rattle.trip_updates.specs.declared.message.FeedFields.{FeedFields}
+use Rattle.trip_updates.specs.declared.stop.StopFields.{StopFields}
+use Rattle.trip_updates.specs.declared.trip.TripFields.{TripFields}
+use Rattle.trip_updates.specs.declared.trip.TripSaid.{TripSaid}
+use Rattle.trip_updates.specs.declared.update.Update.{Update}
+use Rattle.trip_updates.specs.declared.fault.RtFault.{RtFault}
+use Rattle.trip_updates.specs.declared.fault.RtFault.TheVariants as faults
+use Rattle.trip_updates.specs.declared.news.Event.{Event}
+use Rattle.trip_updates.specs.Tree.{Tree, last_varint, last_text, last_message, messages}
+use Rattle.trip_updates.specs.Table.{low_32}
+use Rattle.trip_updates.specs.Meaning.{event_of, relation_of, stop_news_of, news_of, passed_or, entity_of, moment_of, update_of}
+
+-- What a function gave is what reading gives, unless memory ran out.
+abbrev pub Answers : {X : Type 0} → (X → Tree → Type 0) → Result X RtFault → Result Tree RtFault → Type 0
+Answers shows (Ok x) (Ok tree) = shows x tree
+Answers shows (Ok x) (Err fault) = ⊥
+Answers shows (Err e) (Ok tree) = e ≡ faults.NoMemory
+Answers shows (Err e) (Err fault) = (e ≡ faults.NoMemory) ⊎ (e ≡ fault)
+
+abbrev pub ShowsEvent : Event → Tree → Type 0
+ShowsEvent event tree = event ≡ event_of tree
+
+-- a span lies within the bytes and ends where its field ends
+abbrev pub SpanEnds : ℕ → ℕ → Value → Type 0
+SpanEnds len next (values.Varint n) = Unit {0}
+SpanEnds len next (values.Eight n) = Unit {0}
+SpanEnds len next (values.Span from to) = (from ≤ to) × (to ≡ next) × (next ≤ len)
+SpanEnds len next (values.Four n) = Unit {0}
+
+abbrev pub ShowsHeader : HeaderFields → Tree → Type 0
+ShowsHeader header tree = header ≡ record {
+  has_version = is_some (last_text 1 tree);
+  incrementality = low_32 (unwrap_or (last_varint 2 tree) 0);
+  timestamp = last_varint 3 tree;
+}
+
+abbrev pub ShowsMoment : ℕ → Tree → Type 0
+ShowsMoment moment tree = moment ≡ moment_of tree
+
+pub record ShowsDescriptor (descriptor : Descriptor) (tree : Tree) : Type 0 where
+  pub trip : option_copied descriptor.trip ≡ last_text 1 tree
+  pub start_time : option_copied descriptor.start_time ≡ last_text 2 tree
+  pub start_date : option_copied descriptor.start_date ≡ last_text 3 tree
+  pub relationship : descriptor.relationship ≡ low_32 (unwrap_or (last_varint 4 tree) 0)
+
+pub record ShowsStop (stop : StopFields) (tree : Tree) : Type 0 where
+  pub seq : stop.seq ≡ option_map low_32 (last_varint 1 tree)
+  pub named : option_copied stop.stop ≡ last_text 4 tree
+  pub relation : stop.relation ≡ relation_of (low_32 (unwrap_or (last_varint 5 tree) 0))
+  pub arrival : stop.arrival ≡ option_map event_of (last_message 2 tree)
+  pub departure : stop.departure ≡ option_map event_of (last_message 3 tree)
+
+-- both are there or none, and one shows the other
+abbrev pub BothShow : {X : Type 0} → (X → Tree → Type 0) → Option X → Option Tree → Type 0
+BothShow shows None None = Unit {0}
+BothShow shows None (Some tree) = ⊥
+BothShow shows (Some x) None = ⊥
+BothShow shows (Some x) (Some tree) = shows x tree
+
+pub record ShowsTrip (trip : TripFields) (tree : Tree) : Type 0 where
+  pub descriptor : BothShow ShowsDescriptor trip.descriptor (last_message 1 tree)
+  pub stops : trip.stops.items ≡ map stop_news_of (messages 2 tree)
+
+abbrev pub ShowsSaid : TripSaid → Tree → Type 0
+ShowsSaid said tree = said ≡ passed_or (news_of tree)
+
+pub record ShowsEntityFields (entity : EntityFields) (tree : Tree) : Type 0 where
+  pub id : entity.has_id ≡ is_some (last_text 1 tree)
+  pub said : entity.said ≡ option_map (λ update. passed_or (news_of update)) (last_message 3 tree)
+
+abbrev pub ShowsEntity : Entity → Tree → Type 0
+ShowsEntity entity tree = entity ≡ entity_of tree
+
+pub record ShowsFeed (feed : FeedFields) (tree : Tree) : Type 0 where
+  pub moment : feed.moment ≡ option_map moment_of (last_message 1 tree)
+  pub entities : feed.entities.items ≡ map entity_of (messages 2 tree)
+
+abbrev pub ShowsUpdate : Update → Tree → Type 0
+ShowsUpdate update tree = update ≡ update_of tree
