@@ -1,4 +1,5 @@
 pub mod CalendarLemmas
 pub mod DateLemmas
 pub mod HttpLemmas
+pub mod IsoLemmas
 pub mod OptionLemmas

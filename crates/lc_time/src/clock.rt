@@ -3,8 +3,8 @@ ghost use Rattle.lc_time.specs.Clock.{clock_text_of, start_text_of, SaysGtfsTime
 
 use crate::digits::{number, two_digits};
 
-/// Hours that two digits can count, in seconds.
-const CLOCK_END: u32 = 360_000;
+/// The first number of seconds whose hours two digits cannot count, 100 hours.
+pub const CLOCK_END: u32 = 360_000;
 
 /// HH:MM:SS.
 pub(crate) fn clock_text(seconds: u32) -> [u8; 8]
@@ -17,29 +17,32 @@ pub(crate) fn clock_text(seconds: u32) -> [u8; 8]
     [h0, h1, b':', m0, m1, b':', s0, s1]
 }
 
-/// The seconds that this text would write. Whether it is written so is not tested.
-pub(crate) fn clock_seconds(text: [u8; 8]) -> u32
-    ensures bound { result < 20_000_000 }
-    ensures value { (seconds : ℕ) → seconds < CLOCK_END → text ≡ clock_text_of seconds → result ≡ seconds }
+/// The seconds of HH:MM:SS, in which hours may reach 99.
+pub(crate) fn read_clock(text: &[u8]) -> Option<u32>
+    ensures in_range { IfSome result (λ seconds. seconds < CLOCK_END) }
+    ensures said { IfSome result (λ seconds. text.now ≡ clock_text_of seconds) }
+    ensures exact { (seconds : ℕ) → seconds < CLOCK_END → text.now ≡ clock_text_of seconds → result ≡ Some seconds }
 {
-    let [h0, h1, _, m0, m1, _, s0, s1] = text;
-    u32::from(number(h0, h1)) * 3600 + u32::from(number(m0, m1)) * 60 + u32::from(number(s0, s1))
-}
-
-/// The seconds of HH:MM:SS.
-fn read_clock(text: [u8; 8]) -> Option<u32>
-    ensures said { IfSome result (λ seconds. (seconds < CLOCK_END) × (text ≡ clock_text_of seconds)) }
-    ensures exact { (seconds : ℕ) → seconds < CLOCK_END → text ≡ clock_text_of seconds → result ≡ Some seconds }
-{
-    let seconds = clock_seconds(text);
+    let &[h0, h1, _, m0, m1, _, s0, s1] = text else {
+        return None;
+    };
+    let seconds = written_seconds([h0, h1, m0, m1, s0, s1]);
     if seconds >= CLOCK_END {
         return None;
     }
-    if clock_text(seconds) == text {
+    if clock_text(seconds).as_slice() == text {
         Some(seconds)
     } else {
         None
     }
+}
+
+/// The seconds that these digits would write. Whether they are digits is not tested.
+fn written_seconds(text: [u8; 6]) -> u32
+    ensures { (seconds : ℕ) → seconds < CLOCK_END → text ≡ start_text_of seconds → result ≡ seconds }
+{
+    let [h0, h1, m0, m1, s0, s1] = text;
+    u32::from(number(h0, h1)) * 3600 + u32::from(number(m0, m1)) * 60 + u32::from(number(s0, s1))
 }
 
 /// The seconds that a time of GTFS says, as `25:10:00` or `7:05:00`: two digits of hours, or one, and two of minutes and
@@ -49,9 +52,8 @@ pub fn read_gtfs_time(text: &[u8]) -> Option<u32>
     ensures exact { (seconds : ℕ) → SaysGtfsTime text.now seconds → result ≡ Some seconds }
 {
     match *text {
-        [h1, c0, m0, m1, c1, s0, s1] => read_clock([b'0', h1, c0, m0, m1, c1, s0, s1]),
-        [h0, h1, c0, m0, m1, c1, s0, s1] => read_clock([h0, h1, c0, m0, m1, c1, s0, s1]),
-        _ => None,
+        [h1, c0, m0, m1, c1, s0, s1] => read_clock(&[b'0', h1, c0, m0, m1, c1, s0, s1]),
+        _ => read_clock(text),
     }
 }
 
@@ -71,7 +73,7 @@ pub fn read_start(text: &[u8]) -> Option<u32>
     ensures exact { (start : ℕ) → start < CLOCK_END → text.now ≡ start_text_of start → result ≡ Some start }
 {
     match *text {
-        [h0, h1, m0, m1, s0, s1] => read_clock([h0, h1, b':', m0, m1, b':', s0, s1]),
+        [h0, h1, m0, m1, s0, s1] => read_clock(&[h0, h1, b':', m0, m1, b':', s0, s1]),
         _ => None,
     }
 }

@@ -8,8 +8,10 @@ mod date;
 mod digits;
 mod http;
 mod iso;
+#[cfg(test)]
+mod tests;
 
-pub use clock::{read_gtfs_time, read_start, start_text};
+pub use clock::{CLOCK_END, read_gtfs_time, read_start, start_text};
 pub use date::{date_text, read_date};
 pub use http::{http_date, read_http_date};
 pub use iso::{iso_text, read_iso};

@@ -1,22 +1,9 @@
-use Rattle.std.proofs.Common.{codes, inr, refl, rules}
-use Rattle.lc_time.specs.Iso.{IsFraction}
+use Rattle.std.proofs.Common.{◌<◌, arith}
+use Rattle.lc_time.proofs.IsoLemmas.{says_text}
 use Rattle.lc_time.proofs.iso.iso_text.Goals as goal
 
-thousandths : IsFraction (codes ".000Z")
-thousandths = record {
-  tenths = 48;
-  hundredths = 48;
-  thousandths = 48;
-  tenths_digit = search rules;
-  hundredths_digit = search rules;
-  thousandths_digit = search rules;
-  written = refl;
-}
-
 pub returns-clause-says : goal.returns-clause-says
-returns-clause-says c = record {
-  rest = codes ".000Z";
-  in_range = c.second_text.ensures.in_range;
-  written = rw c.second_text.ensures.text refl;
-  ended = inr thousandths;
-}
+returns-clause-says c =
+    let bound : c.args.moment < 253_402_128_000 = omega (arith, c.seconds-seconds.ensures.in_range) in
+    rw (c.copy_from_slice-2.ensures.after, c.copy_from_slice.ensures.after, c.clock_text.ensures, c.day_text.ensures, c.seconds-seconds.ensures.value)
+    (says_text c.args.moment bound)
