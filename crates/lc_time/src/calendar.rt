@@ -25,7 +25,7 @@ pub fn date_at(days: u32) -> ServiceDate
     }
 }
 
-/// How many days the date comes after 1970-01-01, if it does not come before it.
+/// How many days the date comes after 1970-01-01. What is found for a date before it is left open.
 pub fn days_at(date: ServiceDate) -> Option<u32>
     ensures { (days : ℕ) → days < DAYS_END → date.year ≡ (day_at days).year → date.month ≡ (day_at days).month
         → date.day ≡ (day_at days).day → result ≡ Some days }

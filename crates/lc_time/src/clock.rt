@@ -1,4 +1,4 @@
-ghost use Rattle.std.specs.Prelude.{◌≡◌, ℕ, ◌<◌, Some, IfSome};
+ghost use Rattle.std.specs.Prelude.{◌≡◌, ℕ, ◌<◌, Some, IfSome, IsAscii};
 ghost use Rattle.lc_time.specs.Clock.{clock_text_of, start_text_of, SaysGtfsTime};
 
 use crate::digits::{number, two_digits};
@@ -60,7 +60,8 @@ pub fn read_gtfs_time(text: &[u8]) -> Option<u32>
 /// The start of a run as six digits, HHMMSS.
 pub fn start_text(start: u32) -> [u8; 6]
     requires { start < CLOCK_END }
-    ensures { result ≡ start_text_of start }
+    ensures text { result ≡ start_text_of start }
+    ensures ascii { IsAscii result }
 {
     let [h0, h1, _, m0, m1, _, s0, s1] = clock_text(start);
     [h0, h1, m0, m1, s0, s1]

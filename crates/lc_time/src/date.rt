@@ -1,4 +1,4 @@
-ghost use Rattle.std.specs.Prelude.{◌≡◌, ◌<◌, ◌≤◌, ℕ, Some, IfSome};
+ghost use Rattle.std.specs.Prelude.{◌≡◌, ◌<◌, ◌≤◌, ℕ, Some, IfSome, IsAscii};
 ghost use Rattle.lc_model.specs.declared.date.ServiceDate.{ServiceDate as Civil};
 ghost use Rattle.lc_time.specs.Date.{date_text_of, AreDateNumbers};
 
@@ -8,7 +8,8 @@ use lc_model::ServiceDate;
 
 /// The date as eight digits, YYYYMMDD.
 pub fn date_text(date: ServiceDate) -> [u8; 8]
-    ensures { result ≡ date_text_of date.year date.month date.day }
+    ensures text { result ≡ date_text_of date.year date.month date.day }
+    ensures ascii { IsAscii result }
 {
     let [y0, y1, y2, y3] = four_digits(date.year);
     let [m0, m1] = two_digits(date.month);

@@ -1,4 +1,4 @@
-ghost use Rattle.std.specs.Prelude.{◌≡◌, ◌/◌, ◌%◌, ◌<◌, ◌⊎◌, ◌↔◌, ℕ, Some, IfSome, IsTrue, codes};
+ghost use Rattle.std.specs.Prelude.{◌≡◌, ◌/◌, ◌%◌, ◌<◌, ◌⊎◌, ◌↔◌, ℕ, Some, IfSome, IsTrue, IsAscii, codes};
 ghost use Rattle.lc_time.specs.Calendar.{day_at};
 ghost use Rattle.lc_time.specs.Iso.{iso_text_of, day_text_of, SaysMoment, IsFraction};
 
@@ -14,6 +14,7 @@ const DAY_SECONDS: u32 = 86_400;
 pub fn iso_text(moment: Moment) -> [u8; 24]
     ensures text { result ≡ iso_text_of moment }
     ensures says { SaysMoment result moment }
+    ensures ascii { IsAscii result }
 {
     let seconds = moment.seconds();
     let mut text = *b"YYYY-MM-DDTHH:MM:SS.000Z";
