@@ -1,0 +1,3 @@
+pub mod BaseLemmas
+pub mod ByteLemmas
+pub mod EncodingLemmas

@@ -1,0 +1,74 @@
+ghost use Rattle.std.specs.Prelude.{◌≡◌, ◌++◌, ◌↔◌, ℕ, List, Some, IsTrue, IfOk, IfSome, OnOk};
+ghost use Rattle.std.specs.String.{string_bytes};
+ghost use Rattle.lc_model.specs.Text.{IsIdText};
+ghost use Rattle.connection_uri.specs.Encoding.{is_unreserved, encoded};
+
+use lc_model::{Id, NoMemory, Text};
+use percent_encoding::{AsciiSet, NON_ALPHANUMERIC, ascii_set, percent_decode, percent_encode};
+use std::alloc::Global;
+
+/// The ASCII bytes that are not unreserved.
+const RESERVED: AsciiSet = ascii_set!(
+    NON_ALPHANUMERIC
+        .remove(b'-')
+        .remove(b'.')
+        .remove(b'_')
+        .remove(b'~')
+);
+
+/// The id with each byte but `A-Z a-z 0-9 - . _ ~` percent-encoded, with capital letters (RFC 3986, section 2.1).
+pub fn encode(alloc: Global, id: &Id) -> Result<Text, NoMemory>
+    ensures { IfOk result (λ text. text ≡ encoded id.now) }
+{
+    let mut text = String::new(alloc);
+    append_encoded(&mut text, id.bytes())?;
+    Ok(Text::from_string(text))
+}
+
+/// The id whose encoding the text is. None exactly where the text is no encoding of an id, as where it has a small
+/// letter in an escape, or an escape that is not needed.
+pub fn decode(alloc: Global, text: &[u8]) -> Result<Option<Id>, NoMemory>
+    ensures said { IfOk result (λ read. IfSome read (λ id. text.now ≡ encoded id)) }
+    ensures exact { IfOk result (λ read. (id : List ℕ) → IsIdText id → text.now ≡ encoded id → read ≡ Some id) }
+{
+    let Some(id) = written_id(alloc, text)? else {
+        return Ok(None);
+    };
+    if is_encoding(alloc, &id, text)? {
+        Ok(Some(id))
+    } else {
+        Ok(None)
+    }
+}
+
+/// The id that this text would encode. Whether it does is not tested.
+fn written_id(alloc: Global, text: &[u8]) -> Result<Option<Id>, NoMemory>
+    ensures { IfOk result (λ read. (id : List ℕ) → IsIdText id → text.now ≡ encoded id → read ≡ Some id) }
+{
+    let mut bytes = Vec::new(alloc);
+    percent_decode(text).append_to(&mut bytes)?;
+    Id::new(alloc, bytes.as_slice())
+}
+
+/// Whether the text is the encoding of the id.
+fn is_encoding(alloc: Global, id: &Id, text: &[u8]) -> Result<bool, NoMemory>
+    ensures { IfOk result (λ same. IsTrue same ↔ (text.now ≡ encoded id.now)) }
+{
+    let encoding = encode(alloc, id)?;
+    Ok(encoding.as_str().as_bytes() == text)
+}
+
+/// Appends the encoding of the bytes.
+pub(crate) fn append_encoded(text: &mut String, bytes: &[u8]) -> Result<(), NoMemory>
+    ensures { OnOk result (string_bytes text.new ≡ string_bytes text.old ++ encoded bytes.now) }
+{
+    percent_encode(bytes, RESERVED).append_to(text)?;
+    Ok(())
+}
+
+/// Whether the byte is a letter, a digit, or one of `-`, `.`, `_` and `~`.
+pub(crate) fn is_unreserved(byte: u8) -> bool
+    ensures { result ≡ is_unreserved byte }
+{
+    byte.is_ascii_alphanumeric() || byte == b'-' || byte == b'.' || byte == b'_' || byte == b'~'
+}

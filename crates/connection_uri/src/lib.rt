@@ -1,0 +1,9 @@
+//! The names of connections and the URLs of pages under a base, each with one spelling that is read back exactly. It
+//! stands on `lc_model`, on `lc_time`, on `url` and on `percent_encoding`.
+#![tactic(auto)]
+
+mod base;
+mod encoding;
+
+pub use base::Base;
+pub use encoding::{decode, encode};
