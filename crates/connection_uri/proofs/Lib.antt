@@ -1,3 +1,5 @@
 pub mod BaseLemmas
 pub mod ByteLemmas
 pub mod EncodingLemmas
+pub mod NameLemmas
+pub mod PageLemmas

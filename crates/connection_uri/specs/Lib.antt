@@ -1,2 +1,5 @@
 pub mod Base
 pub mod Encoding
+pub mod Name
+pub mod Page
+pub mod Parts

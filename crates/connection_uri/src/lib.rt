@@ -4,6 +4,11 @@
 
 mod base;
 mod encoding;
+mod names;
+mod pages;
+mod parts;
 
 pub use base::Base;
 pub use encoding::{decode, encode};
+pub use names::{append_run, name, names_differ, read_name};
+pub use pages::{page_url, read_page_url};

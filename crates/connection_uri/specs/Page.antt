@@ -1,0 +1,16 @@
+-- The URLs of pages.
+use Rattle.std.specs.Prelude.{ℕ, List, ◌++◌, codes}
+use Rattle.lc_model.specs.declared.page.PageName.{PageName}
+use Rattle.lc_time.specs.Iso.{iso_text_of}
+use Rattle.connection_uri.specs.Base.{BaseParts}
+
+-- {base}memento/connections?version=V&departureTime=T, with both moments in ISO 8601
+abbrev pub page_url_of : BaseParts → PageName → List ℕ
+page_url_of base name =
+    base.text ++ codes "memento/connections?version=" ++ iso_text_of name.version ++ codes "&departureTime="
+    ++ iso_text_of name.departs
+
+-- the same of any two texts for the moments, grouped from the right
+abbrev pub page_parts_of : BaseParts → List ℕ → List ℕ → List ℕ
+page_parts_of base version departs =
+    base.text ++ (codes "memento/connections?version=" ++ (version ++ (codes "&departureTime=" ++ departs)))
