@@ -11,7 +11,12 @@ use lc_world::{Folder, FolderFail};
 use std::alloc::Global;
 
 /// The bytes of a file of the feed, none where it is absent.
-pub(crate) fn look<F: Folder>(alloc: Global, folder: &mut F, feed: &str, file: FeedFile) -> Result<Option<Vec<u8>>, End>
+pub(crate) fn look<F: Folder>(
+    alloc: Global,
+    folder: &mut F,
+    feed: &str,
+    file: FeedFile,
+) -> Result<Option<Vec<u8>>, End>
     ensures kept { Keeps (F.seen folder.old) (F.seen folder.new) }
     ensures looked { IfOk result (λ bytes. IsLooked (F.seen folder.old).files feed.now (name_of file) (option_map (λ b. b.items) bytes)) }
     ensures absent { IfOk result (λ bytes. IfNone bytes (Rose (F.seen folder.old).absences (F.seen folder.new).absences)) }
