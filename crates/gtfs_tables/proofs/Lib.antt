@@ -4,8 +4,10 @@ pub mod Listed
 pub mod Marks
 pub mod OrderFacts
 pub mod PlainStopTimeFacts
+pub mod RestFacts
 pub mod SaidFacts
 pub mod SearchFacts
 pub mod SequenceFacts
+pub mod StepFacts
 pub mod StopTimeFacts
 pub mod Strict

@@ -1,7 +1,9 @@
 pub mod Apart
 pub mod CalendarDates
 pub mod Columns
+pub mod Faults
 pub mod Feed
+pub mod FeedSteps
 pub mod Files
 pub mod Lent
 pub mod Only

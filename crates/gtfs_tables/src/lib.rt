@@ -6,14 +6,17 @@
 mod apart;
 mod columns;
 mod dates;
+mod feed;
 mod known;
 mod look;
 mod number;
 mod plain;
+mod plain_files;
 mod read_dates;
 mod read_stop_times;
 mod read_stops;
 mod read_trips;
+mod rest;
 mod said_stop_times;
 mod step;
 mod stop_time_order;
@@ -23,6 +26,7 @@ mod tables;
 mod trips;
 
 pub use dates::{DateRow, DateRows};
+pub use feed::{FeedFault, read_feed};
 pub use stop_times::{StopTime, StopTimes};
 pub use tables::Tables;
 pub use trips::{TripRow, TripRows};
