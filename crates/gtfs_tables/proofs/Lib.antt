@@ -1,3 +1,4 @@
+mod NoTable
 pub mod DateKeys
 pub mod Keys
 pub mod Listed

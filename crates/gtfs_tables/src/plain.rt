@@ -1,4 +1,4 @@
-ghost use Rattle.std.specs.Prelude.{◌≡◌, ◌≤◌, ◌↔◌, IfOk, IfSome, IsTrue, MatchOption, length, map};
+ghost use Rattle.std.specs.Prelude.{◌≡◌, ◌≢◌, ◌≤◌, ◌↔◌, None, IfOk, IfSome, IsTrue, MatchOption, length, map};
 ghost use Rattle.csv.specs.Reading.{strip_bom};
 ghost use Rattle.gtfs_rows.specs.Sheet.{IsSheetOf, IsTable, Sheet};
 ghost use Rattle.gtfs_tables.specs.Plain.{IsPlainTable};
@@ -52,8 +52,20 @@ fn any_table(alloc: Global, bytes: &[u8], columns: &[&str]) -> Result<Option<Row
 {
     match table(alloc, bytes, columns) {
         Ok(rows) => Ok(Some(rows)),
-        Err(RowFault::NoMemory) => Err(NoMemory),
-        Err(_) => Ok(None),
+        Err(fault) => no_table(fault),
+    }
+}
+
+// There are no rows, for another cause than memory.
+fn no_table(fault: RowFault) -> Result<Option<Rows>, NoMemory>
+    ensures { IfOk result (λ rows. (rows ≡ None) × (fault ≢ RowFault.NoMemory)) }
+{
+    match fault {
+        RowFault::NoMemory => Err(NoMemory),
+        RowFault::NotUtf8
+        | RowFault::NoHeader
+        | RowFault::NoColumn { .. }
+        | RowFault::Ragged { .. } => Ok(None),
     }
 }
 

@@ -35,3 +35,8 @@ returns-in-Some-clause-exact c =
 pub returns-in-Some-clause-same : goal.returns-in-Some-clause-same
 returns-in-Some-clause-same c =
     few_only c.args.bytes.now c.in-Some.rows c.if_few.result (rw c.in-Some.is at c.in_ok-rows.ensures.same) c.if_few.ensures
+
+pub returns-in-None-clause-exact : goal.returns-in-None-clause-exact
+returns-in-None-clause-exact c = λ sheet plain.
+    let none = rw c.in-None.is at c.in_ok-rows.ensures.exact in
+    none sheet plain.table
