@@ -9,7 +9,7 @@ use Rattle.std.proofs.lemmas.List.Elements.{All-head, All-tail}
 use Rattle.std.proofs.lemmas.Fmt.{decimal_injective}
 use Rattle.lc_model.specs.Text.{IsIdText}
 use Rattle.lc_model.specs.declared.date.ServiceDate.{ServiceDate}
-use Rattle.lc_model.specs.declared.run.RunKey.{RunKey}
+use Rattle.lc_model.specs.declared.key.RunKey.{RunKey}
 use Rattle.lc_time.specs.Clock.{start_text_of}
 use Rattle.lc_time.specs.Date.{date_text_of}
 use Rattle.lc_time.specs.Digits.{two_digits}

@@ -1,7 +1,7 @@
 -- The names of connections.
 use Rattle.std.specs.Prelude.{◌≡◌, ◌≢◌, ℕ, ◌<◌, ◌^◌, List, [], ◌∷◌, ◌++◌, codes, decimal, Option, Some, None}
 use Rattle.lc_model.specs.Text.{IsIdText}
-use Rattle.lc_model.specs.declared.run.RunKey.{RunKey}
+use Rattle.lc_model.specs.declared.key.RunKey.{RunKey}
 use Rattle.lc_time.specs.Clock.{start_text_of}
 use Rattle.lc_time.specs.Date.{date_text_of}
 use Rattle.connection_uri.specs.Base.{BaseParts}

@@ -1,6 +1,6 @@
 -- The parts of a name behind its base.
 use Rattle.std.specs.Prelude.{◌≡◌, ℕ, List, ◌∷◌, ◌++◌, decimal}
-use Rattle.lc_model.specs.declared.run.RunKey.{RunKey}
+use Rattle.lc_model.specs.declared.key.RunKey.{RunKey}
 use Rattle.lc_time.specs.Date.{date_text_of}
 use Rattle.connection_uri.specs.declared.parts.NameParts.{NameParts}
 use Rattle.connection_uri.specs.Encoding.{encoded}

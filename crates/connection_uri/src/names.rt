@@ -1,7 +1,7 @@
 ghost use Rattle.std.specs.Prelude.{◌≡◌, ◌++◌, ◌<◌, ◌^◌, ℕ, List, codes, decimal, Some, IfOk, IfSome, OnOk, IsSomeAnd};
 ghost use Rattle.std.specs.String.{string_bytes};
 ghost use Rattle.lc_model.specs.Text.{IsIdText};
-ghost use Rattle.lc_model.specs.declared.run.RunKey.{RunKey as Key};
+ghost use Rattle.lc_model.specs.declared.key.RunKey.{RunKey as Key};
 ghost use Rattle.connection_uri.specs.Name.{start_part_of, run_part_of, name_of, NamesDiffer};
 ghost use Rattle.connection_uri.specs.Parts.{joined, ArePartsOf};
 
