@@ -60,3 +60,7 @@ least_unique IsRide query doc (Some a) None h k = absurd (k h.0.0 h.0.1)
 least_unique IsRide query doc (Some a) (Some b) h k =
     let p = h.1 k.0.0 k.0.1 in let q = k.1 h.0.0 h.0.1 in let r = h.0.2 in let s = k.0.2 in
     let e : a ≡ b = omega arith in ap Some e
+
+-- what holds of one question and document holds of the same
+pub carried : (P : Query → StopsDoc → Type 0) (q query : Query) (d doc : StopsDoc) → q ≡ query → d ≡ doc → P q d → P query doc
+carried P q query d doc e f h = let Q : Query → Type 0 = λ x. P x d in let D : StopsDoc → Type 0 = λ x. P query x in subst D f (subst Q e h)

@@ -1,4 +1,5 @@
 pub mod Boards
+pub mod Done
 pub mod Kept
 pub mod Linked
 pub mod Next

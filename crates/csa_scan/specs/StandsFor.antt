@@ -33,8 +33,3 @@ StaysAsItWas old new = (query : Query) (doc : StopsDoc) (taken : List Connection
 abbrev pub IsBestChain : Query → StopsDoc → List Connection → Option Journey → Type 0
 IsBestChain query doc list None = (journey : List Ride) → IsChain query doc list journey → ⊥
 IsBestChain query doc list (Some journey) = IsBest (IsLegOf (in_time query list)) query doc journey.rides
-
--- no chain of later connections can arrive earlier than the best one does, or within the horizon where there is none
-abbrev pub IsDone : Query → Option ℕ → ℕ → Type 0
-IsDone query None last = latest_of query ≤ last
-IsDone query (Some arrival) last = arrival ≤ last

@@ -3,6 +3,7 @@ ghost use Rattle.std.specs.List.{slice_get};
 ghost use Rattle.lc_model.specs.Question.{latest_of};
 ghost use Rattle.lc_model.specs.Stop.{InStopOrder};
 ghost use Rattle.csa_scan.specs.Boards.{CannotBoard, IsFirstBoarding, IsNotThere, IsThere};
+ghost use Rattle.csa_scan.specs.Done.{IsDone};
 ghost use Rattle.csa_scan.specs.Takes.{IsArrivalOf, IsReachedAlready, PicksGoal};
 ghost use Rattle.csa_scan.specs.declared.trace.Ready.{Ready};
 
@@ -134,5 +135,15 @@ pub fn better(best: Option<Goal>, is_goal: bool, goal: Goal) -> Option<Goal>
         Some(best) if !is_goal || best.arr <= goal.arr => Some(best),
         None if !is_goal => None,
         _ => Some(goal),
+    }
+}
+
+/// Whether the moment is at or after the best arrival, or at or after the end of the horizon where there is none.
+pub fn is_over(query: &Query, best: Option<Moment>, last: Moment) -> bool
+    ensures { IsTrue result ↔ IsDone query.now best last }
+{
+    match best {
+        Some(arrival) => arrival <= last,
+        None => query.leave.seconds() + u64::from(query.horizon) <= last.seconds(),
     }
 }

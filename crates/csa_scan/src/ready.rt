@@ -1,11 +1,18 @@
-ghost use Rattle.std.specs.Prelude.{◌≡◌, ◌<◌, ◌↔◌, IsTrue, Some, length};
+ghost use Rattle.std.specs.Prelude.{◌≡◌, ◌+◌, ◌<◌, ◌↔◌, IsTrue, Some, length};
 ghost use Rattle.lc_model.specs.Stop.{InStopOrder};
 ghost use Rattle.csa_scan.specs.Relaxed.{Improves, Relaxes};
 ghost use Rattle.csa_scan.specs.declared.trace.Ready.{Ready};
 
 use crate::places::{changes_from, place_of};
 use crate::trace::Ready;
-use lc_model::{Id, Moment, Stop, StopsDoc};
+use lc_model::{Change, Id, Moment, Stop, StopsDoc};
+
+/// The second at which the change after the arrival is made.
+fn changed_at(arr: Moment, change: &Change) -> u64
+    ensures { result ≡ arr + change.now.seconds }
+{
+    arr.seconds() + u64::from(change.seconds)
+}
 
 /// Whether the second is before the stop was ready so far.
 fn is_sooner(at: u64, ready: Option<Ready>) -> bool
@@ -40,7 +47,6 @@ pub fn relax(doc: &StopsDoc, ready: &mut [Option<Ready>], stop: usize, arr: Mome
 {
     let stops = doc.stops.as_slice();
     for change in changes_from(doc.changes.as_slice(), &stops[stop].id) {
-        let at = arr.seconds() + u64::from(change.seconds);
-        improve(stops, ready, &change.to, at, after);
+        improve(stops, ready, &change.to, changed_at(arr, change), after);
     }
 }

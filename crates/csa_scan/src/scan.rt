@@ -1,6 +1,7 @@
 ghost use Rattle.std.specs.Prelude.{◌≡◌, ◌≤◌, length};
 
 use crate::BeginFault;
+use crate::board::is_over;
 use crate::journey::rides_to;
 use crate::places::place_of;
 use crate::progress::Progress;
@@ -29,9 +30,10 @@ impl Scan {
     ghost use Rattle.lc_model.specs.declared.connection.Connection.{Connection};
     ghost use Rattle.lc_model.specs.declared.doc.StopsDoc.{StopsDoc};
     ghost use Rattle.lc_model.specs.declared.query.Query.{Query};
+    ghost use Rattle.csa_scan.specs.Done.{IsDone};
     ghost use Rattle.csa_scan.specs.Kept.{HasRoom};
     ghost use Rattle.csa_scan.specs.Numbers.{AreDistinct, AreNumbersOf};
-    ghost use Rattle.csa_scan.specs.StandsFor.{GoesOnBy, IsBestChain, IsDone, StandsFor, StaysAsItWas};
+    ghost use Rattle.csa_scan.specs.StandsFor.{GoesOnBy, IsBestChain, StandsFor, StaysAsItWas};
 
     /// Begins a scan for the question. Linear in the document.
     pub fn begin(alloc: Global, query: &Query, doc: &StopsDoc) -> Result<Scan, BeginFault>
@@ -96,10 +98,7 @@ impl Scan {
         ensures { (query : Query) (doc : StopsDoc) (taken : List Connection) (best : Option ℕ) → StandsFor self.now query doc taken → IsListBest query doc taken best
             → (IsTrue result ↔ IsDone query best last) }
     {
-        match self.best() {
-            Some(arrival) => arrival <= last,
-            None => self.query.leave.seconds() + u64::from(self.query.horizon) <= last.seconds(),
-        }
+        is_over(&self.query, self.best(), last)
     }
 
     /// A chain of the connections taken that arrives at the least arrival, or none where there is no chain.

@@ -1,4 +1,4 @@
-use Rattle.std.proofs.Common.{List, ℕ, ◌≡◌, ◌+◌, get_or, ap, ◌∙◌, sym, subst, arith}
+use Rattle.std.proofs.Common.{List, ℕ, get_or, ap, ◌∙◌, sym, subst, arith}
 use Rattle.std.proofs.lemmas.List.{take_all}
 use Rattle.lc_model.specs.Change.{InChangeOrder}
 use Rattle.lc_model.specs.declared.change.Change.{Change}
@@ -14,11 +14,10 @@ loop-change-init c = relaxed_none c.args.doc.now.stops c.args.after c.args.arr c
 pub loop-change-preserved : goal.loop-change-preserved
 loop-change-preserved c =
     let change = c.change-item.result in
-    let at : c.seconds.result + c.from.result ≡ c.args.arr + change.seconds = let v = c.seconds.ensures.value in let w = c.from.ensures in omega arith in
-    let P : List Stop → Type 0 = λ stops. Improves stops change.to (c.seconds.result + c.from.result) c.args.after c.loop-change.ready c.improve.new.ready in
+    let P : List Stop → Type 0 = λ stops. Improves stops change.to c.changed_at.result c.args.after c.loop-change.ready c.improve.new.ready in
     let Q : ℕ → Type 0 = λ n. Improves c.args.doc.now.stops change.to n c.args.after c.loop-change.ready c.improve.new.ready in
     relaxed_more c.args.doc.now.stops c.changes_from-change-items.result.now c.loop-change.change-index change c.args.after c.args.arr c.args.ready.now c.loop-change.ready c.improve.new.ready
-    (omega arith) c.change-item.is c.loop-change.invariant (subst Q at (subst P c.as_slice-stops.ensures.value c.improve.ensures))
+    (omega arith) c.change-item.is c.loop-change.invariant (subst Q c.changed_at.ensures (subst P c.as_slice-stops.ensures.value c.improve.ensures))
 
 pub returns : goal.returns
 returns c =

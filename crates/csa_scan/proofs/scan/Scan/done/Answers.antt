@@ -1,14 +1,15 @@
-use Rattle.std.proofs.Common.{◌≤◌, ℕ, Option, Some, IsTrue, subst, rules}
+use Rattle.std.proofs.Common.{ℕ, Option, IsTrue, subst}
 use Rattle.lc_model.specs.Leg.{IsLegOf, in_time}
-use Rattle.csa_scan.specs.StandsFor.{IsDone}
+use Rattle.lc_model.specs.declared.query.Query.{Query}
+use Rattle.csa_scan.specs.Done.{IsDone}
 use Rattle.csa_scan.proofs.Begun.{least_unique}
 use Rattle.csa_scan.proofs.scan.Scan.done.Goals as goal
 
-pub returns-in-Some : goal.returns-in-Some
-returns-in-Some c =
-    let to : IsTrue c.le.result → c.in-Some.arrival ≤ c.args.last = search rules in
-    let from : c.in-Some.arrival ≤ c.args.last → IsTrue c.le.result = search rules in
-    λ query doc taken best s is.
-    let same = least_unique (IsLegOf (in_time query taken)) query doc (Some c.in-Some.arrival) best (c.in-Some.ensures query doc taken s) is in
-    let P : Option ℕ → Type 0 = λ o. (IsTrue c.le.result → IsDone query o c.args.last) × (IsDone query o c.args.last → IsTrue c.le.result) in
-    subst P same (to, from)
+pub returns : goal.returns
+returns c = λ query doc taken best s is.
+    let over = c.is_over.result in
+    let last = c.args.last in
+    let same = least_unique (IsLegOf (in_time query taken)) query doc c.best.result best (c.best.ensures query doc taken s) is in
+    let Q : Query → Type 0 = λ q. (IsTrue over → IsDone q c.best.result last) × (IsDone q c.best.result last → IsTrue over) in
+    let P : Option ℕ → Type 0 = λ o. (IsTrue over → IsDone query o last) × (IsDone query o last → IsTrue over) in
+    subst P same (subst Q s.same_query c.is_over.ensures)

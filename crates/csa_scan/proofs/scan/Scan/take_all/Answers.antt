@@ -3,12 +3,10 @@ use Rattle.std.specs.List.{All}
 use Rattle.lc_model.specs.Connection.{InDepartureOrder}
 use Rattle.lc_model.specs.Leg.{in_time}
 use Rattle.lc_model.specs.declared.connection.Connection.{Connection}
-use Rattle.lc_model.specs.declared.query.Query.{Query}
-use Rattle.lc_model.specs.declared.doc.StopsDoc.{StopsDoc}
 use Rattle.csa_scan.specs.Kept.{kept_of}
 use Rattle.csa_scan.specs.Numbers.{AreNumbersOf}
 use Rattle.csa_scan.specs.Stands.{IsAsked, Stands}
-use Rattle.csa_scan.proofs.Begun.{numbers_known}
+use Rattle.csa_scan.proofs.Begun.{carried, numbers_known}
 use Rattle.csa_scan.proofs.scan.Scan.take_all.Goals as goal
 
 pub take_each-requires-clause-known : goal.take_each-requires-clause-known
@@ -28,19 +26,13 @@ returns-clause-ok c =
     λ query doc taken in_order old.
     let s = c.prepare.ensures.same query doc taken old in
     let O : List Connection → Type 0 = λ l. InDepartureOrder (taken ++ l) in
-    let Q : Query → Type 0 = λ q. IsAsked q mid.doc in
-    let D : StopsDoc → Type 0 = λ d. IsAsked query d in
-    let asked = subst Q (sym s.same_query) (subst D (sym s.same_doc) s.asked) in
-    let Q1 : Query → Type 0 = λ q. Stands q mid.doc mid.runs (kept_of mid.progress) (in_time q taken) in
-    let D1 : StopsDoc → Type 0 = λ d. Stands query d mid.runs (kept_of mid.progress) (in_time query taken) in
-    let stood = subst Q1 (sym s.same_query) (subst D1 (sym s.same_doc) s.stands) in
+    let asked = carried IsAsked query mid.query doc mid.doc (sym s.same_query) (sym s.same_doc) s.asked in
+    let stood = carried (λ q d. Stands q d mid.runs (kept_of mid.progress) (in_time q taken)) query mid.query doc mid.doc (sym s.same_query) (sym s.same_doc) s.stands in
     let now = c.take_each.ensures.stands mid.runs taken asked c.in_ok-numbers.ensures.distinct are (subst O (sym same) in_order) c.as_slice-list.ensures.forward stood in
-    let Q2 : Query → Type 0 = λ q. Stands q mid.doc mid.runs (kept_of c.take_each.new.self) (in_time q (taken ++ list)) in
-    let D2 : StopsDoc → Type 0 = λ d. Stands query d mid.runs (kept_of c.take_each.new.self) (in_time query (taken ++ list)) in
-    let L2 : List Connection → Type 0 = λ l. Stands query doc mid.runs (kept_of c.take_each.new.self) (in_time query (taken ++ l)) in
+    let L : List Connection → Type 0 = λ l. Stands query doc mid.runs (kept_of c.take_each.new.self) (in_time query (taken ++ l)) in
     record {
       same_query = s.same_query;
       same_doc = s.same_doc;
       asked = s.asked;
-      stands = subst L2 same (subst D2 s.same_doc (subst Q2 s.same_query now));
+      stands = subst L same (carried (λ q d. Stands q d mid.runs (kept_of c.take_each.new.self) (in_time q (taken ++ list))) mid.query query mid.doc doc s.same_query s.same_doc now);
     }
