@@ -4,4 +4,5 @@ pub mod Orders
 pub mod Ranges
 pub mod RunLemmas
 pub mod ServiceDayLemmas
+pub mod TestLemmas
 pub mod TimeLemmas

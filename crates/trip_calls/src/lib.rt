@@ -10,3 +10,6 @@ mod window;
 pub use all_runs::runs;
 pub use run_connections::connections;
 pub use window::Window;
+
+#[cfg(test)]
+mod tests;
