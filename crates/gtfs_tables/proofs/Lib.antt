@@ -1,8 +1,9 @@
-mod NoTable
 pub mod DateKeys
+pub mod FeedLaws
 pub mod Keys
 pub mod Listed
 pub mod Marks
+mod NoTable
 pub mod OrderFacts
 pub mod PlainStopTimeFacts
 pub mod RestFacts

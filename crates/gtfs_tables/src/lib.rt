@@ -23,6 +23,8 @@ mod stop_time_order;
 mod stop_time_row;
 mod stop_times;
 mod tables;
+#[cfg(test)]
+mod tests;
 mod trips;
 
 pub use dates::{DateRow, DateRows};
