@@ -1,3 +1,6 @@
 mod DocLemmas
+mod OutcomeLemmas
+mod PlainFacts
+mod PlanLemmas
 mod TextLemmas
 mod WordsLemmas

@@ -1,10 +1,8 @@
 -- What the command `ask` does with a plain feed: the client asks, and prints a best journey, that there is none, or why
 -- the question is refused.
 use Rattle.std.specs.Prelude.{◌≡◌, ◌≢◌, ℕ, ◌-◌, ◌/◌, List, ◌++◌, Option, Some, None, codes}
-use Rattle.std.specs.Option.{IfSome}
 use Rattle.lc_model.specs.Journey.{IsAnswer}
 use Rattle.lc_model.specs.Ride.{IsRideAt}
-use Rattle.lc_model.specs.Run.{InKeyOrder}
 use Rattle.lc_model.specs.Stop.{HasStop}
 use Rattle.lc_model.specs.declared.answer.Answer.{Answer}
 use Rattle.lc_model.specs.declared.doc.StopsDoc.{StopsDoc}
@@ -39,7 +37,6 @@ pub record IsAskable (stops : List Stop) (query : Query) : Type 0 where
 pub record AnswersQuestion (tables : Tables) (query : Query) (answer : Answer) : Type 0 where
   pub runs : List Run
   pub are_runs : AreRunsOf tables (window_of query) runs
-  pub in_order : InKeyOrder runs
   pub doc : StopsDoc
   pub is_doc : IsDocOf tables.stops doc
   pub best : IsAnswer (IsRideAt runs) query doc answer

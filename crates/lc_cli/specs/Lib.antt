@@ -2,7 +2,10 @@ pub mod AnswerText
 pub mod Ask
 pub mod Block
 pub mod Doc
+pub mod Expands
+pub mod Outcome
 pub mod Refusal
+pub mod Run
 pub mod Status
 pub mod Words
 pub mod Writing

@@ -1,0 +1,110 @@
+ghost use Rattle.std.specs.Prelude.{◌≤◌, IfOk, None, length};
+
+use lc_world::{Folder, FolderFail, Sink, SinkFail};
+use std::alloc::Global;
+use std::fs;
+use std::io::{self, ErrorKind, Write};
+use std::rt::Files;
+
+/// The largest file that is read, in bytes.
+const MOST_BYTES: usize = 1 << 30;
+
+/// The files of the system, by their paths. It tells nothing of what they hold.
+#[derive(Drop)]
+pub struct DirFolder<'a, R: Files + AllocGlobal> {
+    rt: &'a R,
+    faults: u64,
+    absences: u64,
+}
+
+impl<'a, R: Files + AllocGlobal> DirFolder<'a, R> {
+    pub fn new(rt: &'a R) -> DirFolder<'a, R> {
+        DirFolder {
+            rt,
+            faults: 0,
+            absences: 0,
+        }
+    }
+}
+
+impl<R: Files + AllocGlobal> Folder for DirFolder<'_, R> {
+    ghost seen = { λ f. record { files = None; faults = f.faults; absences = f.absences } };
+
+    /// A file above 1 GiB is a fault.
+    fn read(&mut self, _: Global, name: &str) -> Result<Vec<u8>, FolderFail> {
+        match fs::read(self.rt, name) {
+            Ok(bytes) => {
+                if bytes.len() <= MOST_BYTES {
+                    return Ok(bytes);
+                }
+                self.faults = self.faults.saturating_add(1);
+                Err(FolderFail::Failed)
+            }
+            Err(e) => match fail_of(e.kind()) {
+                FolderFail::Failed => {
+                    self.faults = self.faults.saturating_add(1);
+                    Err(FolderFail::Failed)
+                }
+                FolderFail::Absent => {
+                    self.absences = self.absences.saturating_add(1);
+                    Err(FolderFail::Absent)
+                }
+                FolderFail::NoMemory => Err(FolderFail::NoMemory),
+            },
+        }
+    }
+
+    fn faults(&self) -> u64 {
+        self.faults
+    }
+}
+
+/// Why a file could not be read.
+fn fail_of(kind: ErrorKind) -> FolderFail {
+    match kind {
+        ErrorKind::NotFound => FolderFail::Absent,
+        ErrorKind::OutOfMemory => FolderFail::NoMemory,
+        _ => FolderFail::Failed,
+    }
+}
+
+/// The standard output. Each write is flushed, and one that takes nothing is a fault. It tells nothing of what is there.
+#[derive(Drop)]
+pub struct StdSink<'a, R: Print> {
+    rt: &'a R,
+    faults: u64,
+}
+
+impl<'a, R: Print> StdSink<'a, R> {
+    pub fn new(rt: &'a R) -> StdSink<'a, R> {
+        StdSink { rt, faults: 0 }
+    }
+}
+
+impl<R: Print> Sink for StdSink<'_, R> {
+    ghost seen = { λ s. record { written = None; faults = s.faults } };
+
+    fn write(&mut self, piece: &[u8]) -> Result<usize, SinkFail> {
+        match flushed(self.rt, piece) {
+            Ok(count) if count > 0 || piece.is_empty() => Ok(count),
+            _ => {
+                self.faults = self.faults.saturating_add(1);
+                Err(SinkFail::Failed)
+            }
+        }
+    }
+
+    fn faults(&self) -> u64 {
+        self.faults
+    }
+}
+
+/// Writes once, and flushes.
+fn flushed<R: Print>(rt: &R, piece: &[u8]) -> io::Result<usize>
+    ensures { IfOk result (λ count. count ≤ length piece.now) }
+{
+    let mut out = io::writer(rt);
+    let count = out.write(piece)?;
+    out.flush()?;
+    Ok(count)
+}

@@ -1,0 +1,39 @@
+ghost use Rattle.std.specs.Prelude.{◌≡◌};
+ghost use Rattle.lc_cli.specs.Run.{IsRight};
+ghost use Rattle.lc_cli.specs.Words.{texts_of};
+
+use crate::ask::outcome;
+use crate::block::write_block;
+use crate::refusal::refuse;
+use crate::status::Status;
+use lc_world::{Door, Folder, Link, Sink};
+use std::alloc::Global;
+
+/// Runs the command of these words, over a folder, a link, a door and a sink, and gives the link back.
+///
+/// The one command is `ask FEED FROM TO MOMENT`: by the plain GTFS feed of that name in the folder, it prints a best
+/// journey from one stop to another that leaves at the moment or later and arrives within a day, or that there is none.
+/// The link and the door are not used by it.
+pub fn run<F: Folder, L: Link, D: Door, S: Sink>(
+    alloc: Global,
+    words: &[String],
+    folder: &mut F,
+    link: L,
+    door: &mut D,
+    out: &mut S,
+) -> (Status, L)
+    ensures status { IsRight (record {
+      words = texts_of words.now;
+      folder_before = F.seen folder.old;
+      folder_after = F.seen folder.new;
+      sink_before = S.seen out.old;
+      sink_after = S.seen out.new;
+    }) result.0 }
+    ensures link { result.1 ≡ link }
+    ensures door { door.new ≡ door.old }
+{
+    match outcome(alloc, words, folder) {
+        Ok(block) => (write_block(&block, out), link),
+        Err(refusal) => (refuse(alloc, refusal, out), link),
+    }
+}
