@@ -3,13 +3,19 @@ use Rattle.std.specs.Prelude.{◌≡◌, ℕ, List, Some, None, codes}
 use Rattle.lc_world.specs.Counts.{Rose}
 use Rattle.lc_world.specs.Folder.{FolderSeen}
 use Rattle.lc_world.specs.Sink.{SinkSeen}
+use Rattle.lc_world.specs.declared.file.File.{File}
+use Rattle.gtfs_tables.specs.Feed.{ArePlainTables}
+use Rattle.gtfs_tables.specs.Files.{files_of}
+use Rattle.gtfs_tables.specs.declared.tables.Tables.{Tables}
 use Rattle.lc_cli.specs.Outcome.{IsRightBlock, IsRightRefusal}
 use Rattle.lc_cli.specs.Refusal.{feed_line_of}
+use Rattle.lc_cli.specs.Words.{SaysAsk}
 use Rattle.lc_cli.specs.Writing.{Wrote, WroteFront}
 use Rattle.lc_cli.specs.declared.block.Block.{Block}
 use Rattle.lc_cli.specs.declared.refusal.Refusal.TheVariants as refused
 use Rattle.lc_cli.specs.declared.status.Status.{Status}
 use Rattle.lc_cli.specs.declared.status.Status.TheVariants.{Done, Usage, FeedBroken, FolderFault, SinkFault, QueryRefused, NoMemory}
+use Rattle.lc_cli.specs.declared.words.Ask.{Ask}
 
 -- the words, and what is seen of the folder and of the sink before and after the run
 pub record Past : Type 0 where
@@ -48,3 +54,24 @@ IsRight p (FolderFault before after) =
     IsRightRefusal p.words p.folder_before p.folder_after (refused.FolderFault before after)
     × WroteFront p.sink_before p.sink_after (codes "error folder\n")
 IsRight p NoMemory = (text : List ℕ) × WroteFront p.sink_before p.sink_after text
+
+-- the run ended with the block of its client, or for want of memory
+abbrev pub IsAnswered : Status → Type 0
+IsAnswered Done = Unit {0}
+IsAnswered (QueryRefused client fault) = Unit {0}
+IsAnswered NoMemory = Unit {0}
+IsAnswered Usage = ⊥
+IsAnswered (FeedBroken rule file row) = ⊥
+IsAnswered (FolderFault before after) = ⊥
+IsAnswered (SinkFault before after) = ⊥
+
+-- The words ask a question of a plain feed in a folder that tells its files, and neither count of faults rose.
+pub record IsClear (p : Past) : Type 0 where
+  pub ask : Ask
+  pub says : SaysAsk p.words ask
+  pub told : List File
+  pub tells : p.folder_before.files ≡ Some told
+  pub tables : Tables
+  pub plain : ArePlainTables (files_of told ask.feed) tables
+  pub no_folder_fault : Rose p.folder_before.faults p.folder_after.faults → ⊥
+  pub no_sink_fault : Rose p.sink_before.faults p.sink_after.faults → ⊥

@@ -1,6 +1,7 @@
-ghost use Rattle.std.specs.Prelude.{◌≡◌};
-ghost use Rattle.lc_cli.specs.Run.{IsRight};
-ghost use Rattle.lc_cli.specs.Words.{texts_of};
+ghost use Rattle.std.specs.Prelude.{◌≡◌, ◌⊎◌};
+ghost use Rattle.lc_cli.specs.Run.{IsAnswered, IsClear, IsRight};
+ghost use Rattle.lc_cli.specs.Words.{SaysAsk, texts_of};
+ghost use Rattle.lc_cli.specs.declared.words.Ask.{Ask};
 
 use crate::ask::outcome;
 use crate::block::write_block;
@@ -29,6 +30,20 @@ pub fn run<F: Folder, L: Link, D: Door, S: Sink>(
       sink_before = S.seen out.old;
       sink_after = S.seen out.new;
     }) result.0 }
+
+    // Usage comes wherever the words ask no question, memory apart.
+    ensures usage_only { ((ask : Ask) → SaysAsk (texts_of words.now) ask → ⊥)
+        → (result.0 ≡ Status.Usage) ⊎ (result.0 ≡ Status.NoMemory) }
+
+    // Nothing but memory keeps the answer to a question of a plain feed from being printed, where no fault is counted.
+    ensures complete { IsClear (record {
+        words = texts_of words.now;
+        folder_before = F.seen folder.old;
+        folder_after = F.seen folder.new;
+        sink_before = S.seen out.old;
+        sink_after = S.seen out.new;
+    }) → IsAnswered result.0 }
+
     ensures link { result.1 ≡ link }
     ensures door { door.new ≡ door.old }
 {

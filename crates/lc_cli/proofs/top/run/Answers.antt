@@ -1,10 +1,12 @@
-use Rattle.lc_cli.specs.Run.{Past}
+use Rattle.std.proofs.Common.{refl}
+use Rattle.lc_cli.specs.Run.{IsRight, Past}
 use Rattle.lc_cli.specs.Words.{texts_of}
 use Rattle.lc_cli.proofs.OutcomeLemmas.{right_block, right_refusal}
+use Rattle.lc_cli.proofs.RunLemmas.{complete, usage_only}
 use Rattle.lc_cli.proofs.top.run.Goals as goal
 
-pub returns-in-Ok-clause-status : goal.returns-in-Ok-clause-status
-returns-in-Ok-clause-status g c =
+pub returns-in-Ok : goal.returns-in-Ok
+returns-in-Ok g c =
     let p : Past = record {
       words = texts_of c.args.words.now;
       folder_before = g.F.Folder.seen c.args.folder.now;
@@ -12,10 +14,17 @@ returns-in-Ok-clause-status g c =
       sink_before = g.S.Sink.seen c.args.out.now;
       sink_after = g.S.Sink.seen c.write_block.new.out;
     } in
-    right_block p c.in-Ok.block c.write_block.result c.in-Ok.ensures.block c.write_block.ensures
+    let right : IsRight p c.write_block.result = right_block p c.in-Ok.block c.write_block.result c.in-Ok.ensures.block c.write_block.ensures in
+    record {
+      status = right;
+      usage_only = usage_only p c.write_block.result right;
+      complete = complete p c.write_block.result right;
+      link = refl;
+      door = refl;
+    }
 
-pub returns-in-Err-clause-status : goal.returns-in-Err-clause-status
-returns-in-Err-clause-status g c =
+pub returns-in-Err : goal.returns-in-Err
+returns-in-Err g c =
     let p : Past = record {
       words = texts_of c.args.words.now;
       folder_before = g.F.Folder.seen c.args.folder.now;
@@ -23,4 +32,11 @@ returns-in-Err-clause-status g c =
       sink_before = g.S.Sink.seen c.args.out.now;
       sink_after = g.S.Sink.seen c.refuse.new.out;
     } in
-    right_refusal p c.in-Err.refusal c.refuse.result c.in-Err.ensures.refused c.refuse.ensures.line c.refuse.ensures.status
+    let right : IsRight p c.refuse.result = right_refusal p c.in-Err.refusal c.refuse.result c.in-Err.ensures.refused c.refuse.ensures.line c.refuse.ensures.status in
+    record {
+      status = right;
+      usage_only = usage_only p c.refuse.result right;
+      complete = complete p c.refuse.result right;
+      link = refl;
+      door = refl;
+    }

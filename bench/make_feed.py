@@ -1,0 +1,86 @@
+#!/usr/bin/env python3
+"""Writes a plain GTFS feed.
+
+    make_feed.py ROWS DIR
+
+DIR gets stops.txt, trips.txt, stop_times.txt and calendar_dates.txt. stop_times.txt has ROWS rows behind its header:
+trips of 10 calls each, the last one of what is left. There are about sqrt(ROWS) stops. With 0 rows, each file is its
+header line. The same ROWS gives the same feed: it is drawn at random from a fixed seed.
+
+The ids are as wide in a small feed as in a large one, so a row has as many bytes in each.
+"""
+
+import math
+import os
+import random
+import sys
+
+MOST_ROWS = 10_000  # A plain file has at most so many.
+CALLS = 10  # of a trip
+FIRST_START = 5 * 3600  # Trips start from 05:00:00 on,
+LAST_START = 22 * 3600  # and before 22:00:00.
+DWELL = 30  # Seconds from an arrival to the departure.
+RIDE = (120, 420)  # Seconds from a departure to the next arrival, least and most.
+
+STOPS = "stop_id,stop_name"
+TRIPS = "route_id,service_id,trip_id"
+STOP_TIMES = "trip_id,arrival_time,departure_time,stop_id,stop_sequence"
+CALENDAR_DATES = "service_id,date,exception_type"
+
+
+def stop_count(rows):
+    """How many stops a feed of so many rows has: enough for the calls of a trip, each at another stop."""
+    return max(CALLS, round(math.sqrt(rows))) if rows > 0 else 0
+
+
+def stop_id(place):
+    return f"s{place:05}"
+
+
+def trip_id(place):
+    return f"t{place:05}"
+
+
+def clock(seconds):
+    return f"{seconds // 3600:02}:{seconds // 60 % 60:02}:{seconds % 60:02}"
+
+
+def trip_calls(chance, trip, stops, calls):
+    """The rows of one trip, at so many different stops. The times rise."""
+    lines = []
+    arrival = chance.randrange(FIRST_START, LAST_START)
+    for seq, stop in enumerate(chance.sample(range(stops), calls), start=1):
+        departure = arrival + DWELL
+        lines.append(f"{trip_id(trip)},{clock(arrival)},{clock(departure)},{stop_id(stop)},{seq}")
+        arrival = departure + chance.randint(*RIDE)
+    return lines
+
+
+def feed(rows):
+    """The lines of each file."""
+    chance = random.Random(1)
+    stops = stop_count(rows)
+    trips = -(-rows // CALLS)
+    times = []
+    for trip in range(trips):
+        times += trip_calls(chance, trip, stops, min(CALLS, rows - len(times)))
+    return {
+        "stops.txt": [STOPS] + [f"{stop_id(s)},Stop {s:05}" for s in range(stops)],
+        "trips.txt": [TRIPS] + [f"r,w,{trip_id(t)}" for t in range(trips)],
+        "stop_times.txt": [STOP_TIMES] + times,
+        "calendar_dates.txt": [CALENDAR_DATES] + (["w,20240501,1"] if rows > 0 else []),
+    }
+
+
+def main(words):
+    if len(words) != 2 or not words[0].isdecimal() or int(words[0]) > MOST_ROWS:
+        sys.exit(f"usage: make_feed.py ROWS DIR, with at most {MOST_ROWS} rows")
+    rows, folder = int(words[0]), words[1]
+    os.makedirs(folder, exist_ok=True)
+    for name, lines in feed(rows).items():
+        with open(os.path.join(folder, name), "w", encoding="ascii", newline="\n") as file:
+            file.write("\n".join(lines) + "\n")
+
+
+if __name__ == "__main__":
+    main(sys.argv[1:])

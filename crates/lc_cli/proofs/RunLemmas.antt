@@ -1,0 +1,50 @@
+-- What follows from the cause of a status.
+use Rattle.std.proofs.Common.{◌≡◌, ◌⊎◌, inl, inr, ℕ, List, Some, refl, ap, subst, sym, ◌∙◌}
+use Rattle.std.specs.Option.{IfSome}
+use Rattle.lc_world.specs.Counts.{Rose}
+use Rattle.lc_world.specs.declared.file.File.{File}
+use Rattle.gtfs_tables.specs.Feed.{ArePlainTables, FirstNotPlain}
+use Rattle.gtfs_tables.specs.Files.{AreSeen, FeedFiles, files_of}
+use Rattle.gtfs_tables.proofs.FeedLaws.{plain_or_broken}
+use Rattle.lc_cli.specs.Outcome.{IsBroken}
+use Rattle.lc_cli.specs.Run.{IsAnswered, IsClear, IsRight, Past}
+use Rattle.lc_cli.specs.Words.{AreAskWords, SaysAsk}
+use Rattle.lc_cli.specs.declared.status.Status.{Status}
+use Rattle.lc_cli.specs.declared.status.Status.TheVariants.{Done, Usage, FeedBroken, FolderFault, SinkFault, QueryRefused, NoMemory}
+use Rattle.lc_cli.specs.declared.words.Ask.{Ask}
+
+-- every other status has a question that the words ask
+pub usage_only : (p : Past) (status : Status) → IsRight p status → ((ask : Ask) → SaysAsk p.words ask → ⊥) → (status ≡ Usage) ⊎ (status ≡ NoMemory)
+usage_only p Usage right none = inl refl
+usage_only p NoMemory right none = inr refl
+usage_only p Done right none = absurd (none right.1.0 right.1.1)
+usage_only p (QueryRefused client fault) right none = absurd (none right.1.1.0 right.1.1.1)
+usage_only p (SinkFault before after) right none = absurd (none right.3.1.0 right.3.1.1)
+usage_only p (FeedBroken rule file row) right none = absurd (none right.0.0 right.0.1)
+usage_only p (FolderFault before after) right none = absurd (none right.0.0 right.0.1)
+
+-- the words ask of one feed
+same_feed : (words : List (List ℕ)) (feed from to moment feed' from' to' moment' : List ℕ) → AreAskWords words feed from to moment → AreAskWords words feed' from' to' moment' → feed ≡ feed'
+same_feed words feed from to moment feed' from' to' moment' here there =
+    let all = sym here.are ∙ there.are in
+    cc
+
+-- a feed that is plain is not broken
+not_broken : (p : Past) (clear : IsClear p) (ask : Ask) (rule : ℕ) (file : List ℕ) (row : ℕ) → SaysAsk p.words ask → IsBroken ask p.folder_before p.folder_after rule file row → ⊥
+not_broken p clear ask rule file row says broken =
+    let feed = same_feed p.words clear.ask.feed clear.says.from clear.says.to clear.says.moment ask.feed says.from says.to says.moment clear.says.words_are says.words_are in
+    let seen : broken.files ≡ files_of clear.told ask.feed = subst (λ files. AreSeen files ask.feed broken.files) clear.tells broken.seen in
+    let plain : ArePlainTables broken.files clear.tables = subst (λ files. ArePlainTables files clear.tables) (ap (files_of clear.told) feed ∙ sym seen) clear.plain in
+    plain_or_broken broken.files clear.tables file plain broken.first
+
+-- nothing but memory keeps the answer from being printed
+pub complete : (p : Past) (status : Status) → IsRight p status → IsClear p → IsAnswered status
+complete p Done right clear = tt
+complete p (QueryRefused client fault) right clear = tt
+complete p NoMemory right clear = tt
+complete p Usage right clear = right.0 clear.ask clear.says
+complete p (FeedBroken rule file row) right clear = not_broken p clear right.0.0 rule file row right.0.1 right.0.2
+complete p (FolderFault before after) right clear =
+    clear.no_folder_fault (subst (λ count. Rose count p.folder_after.faults) right.0.2.before_is (subst (λ count. Rose before count) right.0.2.after_is right.0.2.rose))
+complete p (SinkFault before after) right clear =
+    clear.no_sink_fault (subst (λ count. Rose count p.sink_after.faults) right.0 (subst (λ count. Rose before count) right.1 right.2))
