@@ -1,5 +1,6 @@
 #!/bin/sh
-# How the processor time of `lc ask` grows with the rows of stop_times.txt. Prints a table; see docs/PERFORMANCE.md.
+# How the processor time of the command `ask` grows with the rows of stop_times.txt. Prints a table, and fails where
+# doubling the rows takes more than 2.3 times. See docs/PERFORMANCE.md.
 #
 #   bench/ask.sh
 #
@@ -10,7 +11,7 @@ bench=$(cd "$(dirname "$0")" && pwd)
 LC=${LC:-$bench/../crates/lc_cli/out/lc_cli}
 ROUNDS=${ROUNDS:-11}
 RUNS=${RUNS:-20}
-SIZES="1250 2500 5000 10000"
+set -- 1250 2500 5000 10000
 
 [ -x "$LC" ] || { echo "ask.sh: no program at $LC" >&2; exit 1; }
 
@@ -19,17 +20,18 @@ trap 'rm -rf "$feeds"' EXIT
 trap 'exit 1' HUP INT TERM
 
 # The feed of 0 rows has header lines only: what it takes is the start-up.
-for rows in 0 $SIZES; do
+for rows in 0 "$@"; do
     python3 "$bench/make_feed.py" "$rows" "$feeds/$rows"
 done
 
-python3 - "$LC" "$feeds" "$ROUNDS" "$RUNS" $SIZES <<'PYTHON'
+python3 - "$LC" "$feeds" "$ROUNDS" "$RUNS" "$@" <<'PYTHON'
 import os
 import sys
 
 lc, feeds = sys.argv[1:3]
 rounds, runs = int(sys.argv[3]), int(sys.argv[4])
 sizes = [int(word) for word in sys.argv[5:]]
+MOST = 2.3  # Doubling the rows takes at most so many times.
 MOMENT = "2024-05-01T06:00:00Z"
 ANSWERED, UNKNOWN_FROM = 0, 9  # Exit statuses. A feed without stops has no answer.
 
@@ -63,11 +65,13 @@ for _ in range(rounds):
 work = {rows: least[rows] - least[0] for rows in sizes}
 if min(work.values()) <= 0:
     sys.exit("ask.sh: a feed took no longer than the start-up; raise ROUNDS")
+ratios = {b: work[b] / work[a] for a, b in zip(sizes, sizes[1:])}
+
 print("|   rows | time, less start-up | to the row before |")
 print("|-------:|--------------------:|------------------:|")
-before = None
 for rows in sizes:
-    ratio = f"{work[rows] / work[before]:.2f}" if before else "-"
+    ratio = f"{ratios[rows]:.2f}" if rows in ratios else "-"
     print(f"| {rows:6,} | {work[rows] / work[sizes[0]]:19.2f} | {ratio:>17} |")
-    before = rows
+if max(ratios.values()) > MOST:
+    sys.exit(f"ask.sh: doubling the rows took more than {MOST} times")
 PYTHON

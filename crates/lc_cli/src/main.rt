@@ -10,6 +10,8 @@ mod plan;
 mod question;
 mod refusal;
 mod status;
+#[cfg(test)]
+mod tests;
 mod top;
 mod words;
 

@@ -37,11 +37,11 @@ pub fn run<F: Folder, L: Link, D: Door, S: Sink>(
 
     // Nothing but memory keeps the answer to a question of a plain feed from being printed, where no fault is counted.
     ensures complete { IsClear (record {
-        words = texts_of words.now;
-        folder_before = F.seen folder.old;
-        folder_after = F.seen folder.new;
-        sink_before = S.seen out.old;
-        sink_after = S.seen out.new;
+      words = texts_of words.now;
+      folder_before = F.seen folder.old;
+      folder_after = F.seen folder.new;
+      sink_before = S.seen out.old;
+      sink_after = S.seen out.new;
     }) → IsAnswered result.0 }
 
     ensures link { result.1 ≡ link }

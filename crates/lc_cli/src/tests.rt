@@ -1,0 +1,241 @@
+use crate::status::{Status, code};
+use crate::top::run;
+use lc_model::{Bytes, Text};
+use lc_world::{File, Folder, ListLink, MemFolder, MemSink, SureDoor, SureFolder, SureSink};
+use std::alloc::Global;
+use std::test::Fail;
+
+const STOPS: &str = "stop_id,stop_name\nA,A\nB,B\nC,C\nD,D\nE,E\nF,F\n";
+
+const TRIPS: &str = "route_id,service_id,trip_id\nr,w,T1\nr,w,T2\nr,w,T3\nr,w,T4\nr,w,T5\n";
+
+const DATES: &str = "service_id,date,exception_type\nw,20240501,1\n";
+
+const TIMES: &str = "trip_id,arrival_time,departure_time,stop_id,stop_sequence
+T1,08:00:00,08:00:00,A,1
+T1,08:10:00,08:11:00,B,2
+T1,08:30:00,08:30:00,C,3
+T2,08:20:00,08:20:00,B,1
+T2,08:40:00,08:40:00,D,2
+T3,08:12:00,08:12:00,B,1
+T3,08:31:00,08:31:00,D,2
+T4,09:00:00,09:00:00,E,1
+T4,09:10:00,09:10:00,F,2
+T5,10:00:00,10:00:00,E,1
+T5,10:10:00,10:10:00,F,2
+";
+
+const FIRST: &str = "client 1
+journey 2 arrives 2024-05-01T08:31:00.000Z
+ride T1 20240501 - 1 1 A 2024-05-01T08:00:00.000Z B 2024-05-01T08:10:00.000Z
+ride T3 20240501 - 1 1 B 2024-05-01T08:12:00.000Z D 2024-05-01T08:31:00.000Z
+";
+
+const TINY: [(&str, &str); 4] = [
+    ("tiny/stops.txt", STOPS),
+    ("tiny/trips.txt", TRIPS),
+    ("tiny/stop_times.txt", TIMES),
+    ("tiny/calendar_dates.txt", DATES),
+];
+
+fn files_of(alloc: Global, files: &[(&str, &str)]) -> Result<Vec<File>, Fail> {
+    let mut list = Vec::new(alloc);
+    for (name, text) in files {
+        list.push(File {
+            name: Text::from_string(String::from_str(alloc, *name)?),
+            bytes: Bytes::from_list(Vec::from_slice(alloc, text.as_bytes())?),
+        })?;
+    }
+    Ok(list)
+}
+
+fn words_of(alloc: Global, words: &str) -> Result<Vec<String>, Fail> {
+    let mut list = Vec::new(alloc);
+    for word in words.split(' ') {
+        list.push(String::from_str(alloc, word)?)?;
+    }
+    Ok(list)
+}
+
+// The status and the output of words over a folder.
+fn ask<F: Folder>(alloc: Global, folder: &mut F, words: &str) -> Result<(u8, Vec<u8>), Fail> {
+    let words = words_of(alloc, words)?;
+    let link = ListLink::new(Vec::new(alloc))?;
+    let mut door = SureDoor::new(alloc, Vec::new(alloc))?;
+    let mut out = SureSink::new(alloc)?;
+    let (status, _) = run(alloc, words.as_slice(), folder, link, &mut door, &mut out);
+    let text = Vec::from_slice(alloc, out.written())?;
+    Ok((code(&status), text))
+}
+
+// Questions of the feed Tiny: by hand from its ten minutes at B and its two minutes of change.
+#[test]
+fn questions_of_tiny(rt: HostRuntime) -> Result<(), Fail> {
+    let alloc = rt.alloc();
+    for (words, status, output) in [
+        ("ask tiny A D 2024-05-01T08:00:00Z", 0, FIRST),
+        (
+            "ask tiny A D 2024-05-01T08:00:01Z",
+            0,
+            "client 1\nno journey\n",
+        ),
+        ("ask tiny A D yesterday", 2, "error usage\n"),
+        (
+            "ask tiny A D 2024-05-01T08:00:00Z --cache 0",
+            2,
+            "error usage\n",
+        ),
+        ("ask tiny A D 1970-01-10T23:59:59Z", 2, "error usage\n"),
+        (
+            "ask tiny A A 2024-05-01T08:00:00Z",
+            9,
+            "client 1\nrefused same stop\n",
+        ),
+        (
+            "ask tiny X D 2024-05-01T08:00:00Z",
+            9,
+            "client 1\nrefused unknown from\n",
+        ),
+        (
+            "ask tiny A X 2024-05-01T08:00:00Z",
+            9,
+            "client 1\nrefused unknown to\n",
+        ),
+        (
+            "ask none A D 2024-05-01T08:00:00Z",
+            3,
+            "error feed F16 stops.txt row 0\n",
+        ),
+    ] {
+        let mut folder = SureFolder::new(files_of(alloc, TINY.as_slice())?)?;
+        let (code, text) = ask(alloc, &mut folder, words)?;
+        assert_eq!(rt; code, status, "{words}");
+        assert_eq!(rt; text.as_slice(), output.as_bytes(), "{words}");
+    }
+    Ok(())
+}
+
+// Other feeds with one question: of header lines alone, without trips, a ride over two calls at one moment, and feeds
+// that are not plain.
+#[test]
+fn other_feeds(rt: HostRuntime) -> Result<(), Fail> {
+    let alloc = rt.alloc();
+    let no_trips = "service_id,trip_id\n";
+    let no_times = "trip_id,arrival_time,departure_time,stop_id,stop_sequence\n";
+    let over_y = "trip_id,arrival_time,departure_time,stop_id,stop_sequence
+T1,09:00:00,09:00:00,A,1
+T1,09:00:00,09:00:00,B,2
+T1,09:05:00,09:05:00,D,3
+";
+    let unknown_trip =
+        "trip_id,arrival_time,departure_time,stop_id,stop_sequence\nT9,09:00:00,09:00:00,A,1\n";
+    for (stops, trips, times, extra, status, output) in [
+        (
+            "stop_id\n",
+            no_trips,
+            no_times,
+            ("x", ""),
+            9,
+            "client 1\nrefused unknown from\n",
+        ),
+        (
+            STOPS,
+            no_trips,
+            no_times,
+            ("x", ""),
+            0,
+            "client 1\nno journey\n",
+        ),
+        (
+            STOPS,
+            TRIPS,
+            over_y,
+            ("x", ""),
+            0,
+            "client 1
+journey 1 arrives 2024-05-01T09:05:00.000Z
+ride T1 20240501 - 1 2 A 2024-05-01T09:00:00.000Z D 2024-05-01T09:05:00.000Z
+",
+        ),
+        (
+            STOPS,
+            TRIPS,
+            unknown_trip,
+            ("x", ""),
+            3,
+            "error feed F16 stop_times.txt row 0\n",
+        ),
+        (
+            STOPS,
+            TRIPS,
+            TIMES,
+            ("tiny/transfers.txt", ""),
+            3,
+            "error feed F16 transfers.txt row 0\n",
+        ),
+        (
+            STOPS,
+            TRIPS,
+            TIMES,
+            ("tiny/calendar.txt", ""),
+            3,
+            "error feed F16 calendar.txt row 0\n",
+        ),
+    ] {
+        let files = [
+            ("tiny/stops.txt", stops),
+            ("tiny/trips.txt", trips),
+            ("tiny/stop_times.txt", times),
+            ("tiny/calendar_dates.txt", DATES),
+            extra,
+        ];
+        let mut folder = SureFolder::new(files_of(alloc, files.as_slice())?)?;
+        let (code, text) = ask(alloc, &mut folder, "ask tiny A D 2024-05-01T08:00:00Z")?;
+        assert_eq!(rt; code, status, "{output}");
+        assert_eq!(rt; text.as_slice(), output.as_bytes(), "{output}");
+    }
+    let mut folder = SureFolder::new(files_of(alloc, &TINY[..3])?)?;
+    let (code, text) = ask(alloc, &mut folder, "ask tiny A D 2024-05-01T08:00:00Z")?;
+    assert_eq!(rt; code, 3);
+    assert_eq!(rt;
+        text.as_slice(),
+        b"error feed F16 calendar.txt row 0\n".as_slice()
+    );
+    Ok(())
+}
+
+// A folder of which the second read fails, and a sink of which the first write does.
+#[test]
+fn faults(rt: HostRuntime) -> Result<(), Fail> {
+    let alloc = rt.alloc();
+    let mut folder = MemFolder::new(files_of(alloc, TINY.as_slice())?, vec![in alloc; 2]?)?;
+    let (status, text) = ask(alloc, &mut folder, "ask tiny A D 2024-05-01T08:00:00Z")?;
+    assert_eq!(rt; status, 5);
+    assert_eq!(rt; text.as_slice(), b"error folder\n".as_slice());
+
+    let mut folder = SureFolder::new(files_of(alloc, TINY.as_slice())?)?;
+    let words = words_of(alloc, "ask tiny A D 2024-05-01T08:00:00Z")?;
+    let link = ListLink::new(Vec::new(alloc))?;
+    let mut door = SureDoor::new(alloc, Vec::new(alloc))?;
+    let mut out = MemSink::new(alloc, vec![in alloc; 1]?)?;
+    let (status, _) = run(
+        alloc,
+        words.as_slice(),
+        &mut folder,
+        link,
+        &mut door,
+        &mut out,
+    );
+    assert_eq!(rt; code(&status), 6);
+    assert!(rt;
+        matches!(
+            &status,
+            Status::SinkFault {
+                before: 0,
+                after: 1
+            }
+        )
+    );
+    assert!(rt; out.written().is_empty());
+    Ok(())
+}
