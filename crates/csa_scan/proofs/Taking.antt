@@ -40,11 +40,6 @@ in_time-taken query list c early =
     filter-append (λ (x : Connection). nat_le x.arr (latest_of query)) list (c ∷ [])
     ∙ ap (λ t. in_time query list ++ cond t (c ∷ []) []) yes
 
-pub take_late : (query : Query) (doc : StopsDoc) (runs : List RunKey) (kept : Kept) (list : List Connection) (c : Connection) → latest_of query < c.arr →
-    Stands query doc runs kept (in_time query list) → Stands query doc runs kept (in_time query (list ++ c ∷ []))
-take_late query doc runs kept list c late s =
-    let P : List Connection → Type 0 = λ l. Stands query doc runs kept l in subst P (sym (in_time-late query list c late)) s
-
 pub take_off : (query : Query) (doc : StopsDoc) (runs : List RunKey) (kept : Kept) (list : List Connection) (run : ℕ) (c : Connection) → c.arr ≤ latest_of query →
     (before : Option Boarding) → slice_get kept.boardings run ≡ Some before → (before ≡ None) × (c.board ≡ true → CannotBoard query doc kept.ready c) →
     IsAsked query doc → IsNext runs (in_time query list) run c → Stands query doc runs kept (in_time query list) → Stands query doc runs kept (in_time query (list ++ c ∷ []))
