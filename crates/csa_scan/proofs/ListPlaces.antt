@@ -9,9 +9,6 @@ slice_get-append [] ys i x e = absurd (cc)
 slice_get-append (y ∷ xs) ys zero x e = e
 slice_get-append (y ∷ xs) ys (suc i) x e = slice_get-append xs ys i x e
 
-pub slice_get-grown : {X : Type 0} (xs ys zs : List X) (i : ℕ) (x : X) → zs ≡ xs ++ ys → slice_get xs i ≡ Some x → slice_get zs i ≡ Some x
-slice_get-grown xs ys zs i x e h = rw e (slice_get-append xs ys i x h)
-
 -- the new item stands at the end
 pub slice_get-last : {X : Type 0} (xs : List X) (y : X) → slice_get (xs ++ y ∷ []) (length xs) ≡ Some y
 slice_get-last [] y = refl

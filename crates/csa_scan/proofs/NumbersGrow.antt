@@ -9,7 +9,7 @@ use Rattle.std.proofs.lemmas.List.{take_more, length_push}
 use Rattle.lc_model.specs.RunKey.{key_cmp}
 use Rattle.lc_model.specs.declared.connection.Connection.{Connection}
 use Rattle.lc_model.specs.declared.key.RunKey.{RunKey}
-use Rattle.csa_scan.specs.Numbers.{AreNumbers, AreNumbersOf, AreDistinct, Extends}
+use Rattle.csa_scan.specs.Numbers.{AreNumbers, AreNumbersOf, Extends}
 use Rattle.csa_scan.proofs.Keys.{same_keys}
 use Rattle.csa_scan.proofs.ListPlaces.{slice_get-append, slice_get-last, push_cases}
 
@@ -50,9 +50,6 @@ numbers-push old new keys key h none u = record {
         subst P (sym now.1) (u.1 ∙ ap Some (sym now.0))
   ];
 }
-
-pub numbers_distinct : (numbers : BTreeMap RunKey ℕ) (keys : List RunKey) → AreNumbers numbers keys → AreDistinct keys
-numbers_distinct numbers keys h i j key e f = let p = h.complete i key e in let q = h.complete j key f in cc
 
 -- one connection more
 numbers_of-push : (old new : List RunKey) (list : List Connection) (numbers : List ℕ) (c : Connection) (n : ℕ) → AreNumbersOf old list numbers → Extends old new →

@@ -87,10 +87,6 @@ more_taken query doc runs kept taken list i c l at s =
     let more = append_assoc taken (take i list) (c ∷ []) ∙ ap (λ cs. taken ++ cs) (sym (take_more list i c l ∙ ap (λ (x : Connection). take i list ++ x ∷ []) (sym at))) in
     subst P more s
 
--- none of the list
-pub none_taken : (query : Query) (doc : StopsDoc) (runs : List RunKey) (kept : Kept) (taken list : List Connection) → Stands query doc runs kept (in_time query taken) → Stands query doc runs kept (in_time query (taken ++ take 0 list))
-none_taken query doc runs kept taken list s = let P : List Connection → Type 0 = λ cs. Stands query doc runs kept (in_time query cs) in subst P (sym (append-nil taken)) s
-
 -- all of the list
 pub all_taken : (query : Query) (doc : StopsDoc) (runs : List RunKey) (kept : Kept) (taken list : List Connection) (i : ℕ) → length list ≤ i → Stands query doc runs kept (in_time query (taken ++ take i list)) →
     Stands query doc runs kept (in_time query (taken ++ list))

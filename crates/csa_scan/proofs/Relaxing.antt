@@ -4,7 +4,7 @@ use Rattle.std.specs.List.{slice_get}
 use Rattle.std.proofs.lemmas.List.{take_more, length-set}
 use Rattle.lc_model.specs.declared.change.Change.{Change}
 use Rattle.lc_model.specs.declared.stop.Stop.{Stop}
-use Rattle.csa_scan.specs.PlaceOf.{IsPlaceOf, LacksId}
+use Rattle.csa_scan.specs.PlaceOf.{IsPlaceOf}
 use Rattle.csa_scan.specs.Reach.{id_at}
 use Rattle.csa_scan.specs.Relaxed.{IsRelaxed, Improves}
 use Rattle.csa_scan.specs.declared.trace.Ready.{Ready}
@@ -58,15 +58,6 @@ relaxed_more stops changes i c after arr old mid new l e h k =
     let P : List Change → Type 0 = λ cs. IsRelaxed stops cs after arr old new in
     let more = take_more changes i c l ∙ ap (λ (x : Change). take i changes ++ x ∷ []) (sym e) in
     subst P (sym more) (relaxed_push stops (take i changes) c after arr old mid new h k)
-
--- no stop has the id
-pub improves_nothing : (stops : List Stop) (to : List ℕ) (at after : ℕ) (ready : List (Option Ready)) → LacksId stops to → Improves stops to at after ready ready
-improves_nothing stops to at after ready lacks = record {
-  same_stops = refl;
-  sound = λ stop r e. inl e;
-  no_later = λ stop r e. (r, e, (omega arith));
-  complete = λ stop l e. absurd (lacks stop l e);
-}
 
 -- the stop is ready by then already
 pub improves_no_more : (stops : List Stop) (to : List ℕ) (at after : ℕ) (ready : List (Option Ready)) (place : ℕ) → IsPlaceOf stops to place → (r : Ready) → slice_get ready place ≡ Some (Some r) → r.at ≤ at →

@@ -2,7 +2,6 @@
 use Rattle.std.proofs.Common.{◌≡◌, ℕ, ◌<◌, ◌≤◌, ◌⊎◌, List, [], ◌∷◌, ◌++◌, Option, Some, None, Bool, true, false, cond, set, sym, ◌∙◌, ap, subst, inl, inr, arith}
 use Rattle.std.specs.Prelude.{nat_le}
 use Rattle.std.specs.List.{slice_get}
-use Rattle.std.proofs.lemmas.List.{append-nil}
 use Rattle.std.proofs.lemmas.Bool.Decides.{nat_tests}
 use Rattle.std.proofs.lemmas.List.Elements.{filter-append}
 use Rattle.lc_model.specs.Leg.{in_time}
@@ -27,23 +26,12 @@ use Rattle.csa_scan.proofs.Sought.{below}
 use Rattle.std.proofs.lemmas.Bool.{false≢true}
 use Rattle.csa_scan.proofs.Steps.{gets_on, follows-boarded, stands-passed, complete-boarded}
 
--- a late connection is left out, and any other is taken
-in_time-late : (query : Query) (list : List Connection) (c : Connection) → latest_of query < c.arr → in_time query (list ++ c ∷ []) ≡ in_time query list
-in_time-late query list c late =
-    let no : nat_le c.arr (latest_of query) ≡ false = grind (arith, nat_tests) in
-    filter-append (λ (x : Connection). nat_le x.arr (latest_of query)) list (c ∷ [])
-    ∙ ap (λ t. in_time query list ++ cond t (c ∷ []) []) no ∙ append-nil (in_time query list)
-
+-- a connection that is not late is taken
 in_time-taken : (query : Query) (list : List Connection) (c : Connection) → c.arr ≤ latest_of query → in_time query (list ++ c ∷ []) ≡ in_time query list ++ c ∷ []
 in_time-taken query list c early =
     let yes : nat_le c.arr (latest_of query) ≡ true = grind (arith, nat_tests) in
     filter-append (λ (x : Connection). nat_le x.arr (latest_of query)) list (c ∷ [])
     ∙ ap (λ t. in_time query list ++ cond t (c ∷ []) []) yes
-
-pub take_late : (query : Query) (doc : StopsDoc) (runs : List RunKey) (kept : Kept) (list : List Connection) (c : Connection) → latest_of query < c.arr →
-    Stands query doc runs kept (in_time query list) → Stands query doc runs kept (in_time query (list ++ c ∷ []))
-take_late query doc runs kept list c late s =
-    let P : List Connection → Type 0 = λ l. Stands query doc runs kept l in subst P (sym (in_time-late query list c late)) s
 
 pub take_off : (query : Query) (doc : StopsDoc) (runs : List RunKey) (kept : Kept) (list : List Connection) (run : ℕ) (c : Connection) → c.arr ≤ latest_of query →
     (before : Option Boarding) → slice_get kept.boardings run ≡ Some before → (before ≡ None) × (c.board ≡ true → CannotBoard query doc kept.ready c) →

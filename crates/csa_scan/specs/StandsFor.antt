@@ -1,9 +1,8 @@
 -- What a scan stands for: a question, over a stops document, and the list of all connections that it took.
-use Rattle.std.specs.Prelude.{◌≡◌, ℕ, ◌≤◌, List, Option, Some, None, ◌++◌}
+use Rattle.std.specs.Prelude.{◌≡◌, List, Option, Some, None, ◌++◌}
 use Rattle.lc_model.specs.Connection.{InDepartureOrder}
 use Rattle.lc_model.specs.Journey.{IsBest}
 use Rattle.lc_model.specs.Leg.{IsChain, IsLegOf, in_time}
-use Rattle.lc_model.specs.Question.{latest_of}
 use Rattle.lc_model.specs.declared.connection.Connection.{Connection}
 use Rattle.lc_model.specs.declared.doc.StopsDoc.{StopsDoc}
 use Rattle.lc_model.specs.declared.journey.Journey.{Journey}

@@ -15,3 +15,6 @@ mod trace;
 
 pub use fault::BeginFault;
 pub use scan::Scan;
+
+#[cfg(test)]
+mod tests;
