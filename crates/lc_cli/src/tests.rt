@@ -85,6 +85,11 @@ fn questions_of_tiny(rt: HostRuntime) -> Result<(), Fail> {
             2,
             "error usage\n",
         ),
+        (
+            "ask tiny A D 2024-05-01T08:00:00Z --base http://lc.example/a!b/",
+            2,
+            "error usage\n",
+        ),
         ("ask tiny A D 1970-01-10T23:59:59Z", 2, "error usage\n"),
         (
             "ask tiny A A 2024-05-01T08:00:00Z",
