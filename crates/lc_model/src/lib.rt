@@ -15,6 +15,7 @@ mod journey;
 mod key;
 mod memory;
 mod moment;
+mod news;
 mod page;
 mod query;
 mod ride;
@@ -23,6 +24,7 @@ mod stop;
 #[cfg(test)]
 mod tests;
 mod text;
+mod update;
 
 pub use answer::Answer;
 pub use call::{Call, Calls};
@@ -36,9 +38,11 @@ pub use journey::Journey;
 pub use key::RunKey;
 pub use memory::{NoMemory, PlainData, copy_each};
 pub use moment::{MOMENTS_END, Moment};
+pub use news::{Event, NewsList, Relation, StopNews, StopNewsList, TripNews};
 pub use page::PageName;
 pub use query::{FIRST_LEAVE, LAST_LEAVE, Query};
 pub use ride::{Ride, Rides};
 pub use run::{Run, Runs};
 pub use stop::{Stop, Stops};
 pub use text::{Bytes, Text};
+pub use update::Update;

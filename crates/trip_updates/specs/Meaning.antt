@@ -5,12 +5,12 @@ use Rattle.std.specs.Int.{w32, w64, cast_signed}
 use Rattle.trip_updates.specs.declared.entity.Entity.{Entity}
 use Rattle.trip_updates.specs.declared.trip.TripSaid.{TripSaid}
 use Rattle.trip_updates.specs.declared.trip.TripSaid.TheVariants as saids
-use Rattle.trip_updates.specs.declared.news.TripNews.{TripNews}
-use Rattle.trip_updates.specs.declared.news.StopNews.{StopNews}
-use Rattle.trip_updates.specs.declared.news.Event.{Event}
-use Rattle.trip_updates.specs.declared.news.Relation.{Relation}
-use Rattle.trip_updates.specs.declared.news.Relation.TheVariants as relations
-use Rattle.trip_updates.specs.declared.update.Update.{Update}
+use Rattle.lc_model.specs.declared.news.TripNews.{TripNews}
+use Rattle.lc_model.specs.declared.news.StopNews.{StopNews}
+use Rattle.lc_model.specs.declared.news.Event.{Event}
+use Rattle.lc_model.specs.declared.news.Relation.{Relation}
+use Rattle.lc_model.specs.declared.news.Relation.TheVariants as relations
+use Rattle.lc_model.specs.declared.update.Update.{Update}
 use Rattle.trip_updates.specs.Tree.{Tree, last_varint, last_text, last_message, messages}
 use Rattle.trip_updates.specs.Table.{low_32}
 use Rattle.trip_updates.specs.Dates.{date_said, start_said}

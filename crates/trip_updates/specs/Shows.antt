@@ -11,10 +11,10 @@ use Rattle.trip_updates.specs.declared.message.FeedFields.{FeedFields}
 use Rattle.trip_updates.specs.declared.stop.StopFields.{StopFields}
 use Rattle.trip_updates.specs.declared.trip.TripFields.{TripFields}
 use Rattle.trip_updates.specs.declared.trip.TripSaid.{TripSaid}
-use Rattle.trip_updates.specs.declared.update.Update.{Update}
+use Rattle.lc_model.specs.declared.update.Update.{Update}
 use Rattle.trip_updates.specs.declared.fault.RtFault.{RtFault}
 use Rattle.trip_updates.specs.declared.fault.RtFault.TheVariants as faults
-use Rattle.trip_updates.specs.declared.news.Event.{Event}
+use Rattle.lc_model.specs.declared.news.Event.{Event}
 use Rattle.trip_updates.specs.Tree.{Tree, last_varint, last_text, last_message, messages}
 use Rattle.trip_updates.specs.Table.{low_32}
 use Rattle.trip_updates.specs.Meaning.{event_of, relation_of, stop_news_of, news_of, passed_or, entity_of, moment_of, update_of}

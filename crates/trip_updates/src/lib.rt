@@ -9,16 +9,13 @@ mod fault;
 mod header;
 mod law;
 mod message;
-mod news;
 mod stop;
 mod trip;
-mod update;
 
 pub use fault::{Part, RtFault};
 pub use law::one_meaning;
+pub use lc_model::{Event, NewsList, Relation, StopNews, StopNewsList, TripNews, Update};
 pub use message::read_message;
-pub use news::{Event, NewsList, Relation, StopNews, StopNewsList, TripNews};
-pub use update::Update;
 
 #[cfg(test)]
 mod tests;

@@ -7,16 +7,14 @@ ghost use Rattle.trip_updates.specs.Shows.{Answers, SpanEnds, ShowsFeed, ShowsUp
 ghost use Rattle.trip_updates.specs.Meaning.{update_with, news_said, is_passed};
 ghost use Rattle.trip_updates.specs.Message.{IsMessage};
 ghost use Rattle.trip_updates.specs.Faults.{fault_of};
-ghost use Rattle.trip_updates.specs.declared.update.Update.{Update as Said};
+ghost use Rattle.lc_model.specs.declared.update.Update.{Update as Said};
 ghost use Rattle.trip_updates.specs.declared.fault.RtFault.TheVariants.{NoMemory};
 
 use crate::entity::{Entity, read_entity};
 use crate::fault::{Part, RtFault};
 use crate::header::read_header;
-use crate::news::{NewsList, TripNews};
 use crate::trip::TripSaid;
-use crate::update::Update;
-use lc_model::Moment;
+use lc_model::{Moment, NewsList, TripNews, Update};
 use rt_protobuf::{Field, Value, next_field};
 use std::alloc::Global;
 

@@ -10,9 +10,8 @@ ghost use Rattle.trip_updates.specs.Dates.{date_said, start_said};
 
 use crate::descriptor::{Descriptor, read_descriptor};
 use crate::fault::{Part, RtFault};
-use crate::news::{StopNews, StopNewsList, TripNews};
 use crate::stop::{read_stop, stop_news};
-use lc_model::{Bytes, ServiceDate};
+use lc_model::{Bytes, ServiceDate, StopNews, StopNewsList, TripNews};
 use lc_time::{read_date, read_gtfs_time};
 use rt_protobuf::{Field, Value, next_field};
 use std::alloc::{AllocError, Global};

@@ -1,5 +1,5 @@
 -- Lists in strict order: what a sort makes of a list without ties.
-use Rattle.std.proofs.Common.{◌≡◌, ◌≢◌, ℕ, ◌<◌, ◌⊎◌, inl, inr, List, length, get_or, Bool, false, ap, ◌∙◌, refl, arith}
+use Rattle.std.proofs.Common.{◌≡◌, ◌≢◌, ℕ, ◌+◌, ◌<◌, ◌⊎◌, inl, inr, List, length, get_or, Bool, true, false, ap, ◌∙◌, sym, refl, arith}
 use Rattle.std.specs.Cmp.{IsTotalOrder, IsStrictWeakOrder}
 use Rattle.std.specs.Fn.{Called, ComparesAs}
 use Rattle.std.specs.List.{AllPairs, swap}
@@ -13,7 +13,7 @@ use Rattle.std.proofs.lemmas.List.Edits.{swapped_from_swap, length-swap}
 use Rattle.std.proofs.lemmas.List.Sorted.{IsPermutation-keeps, ranks_by, sorted_far, answers_always}
 use denote.Param.Members.{Mut}
 use denote.Ref.{Bor}
-use Rattle.lc_model.specs.Order.{IsStrict}
+use Rattle.lc_model.specs.Order.{AreApart, IsStrict}
 
 module _ {X : Type 0} (R : X → X → Type 0) where
   -- the relation holds of any two places
@@ -63,20 +63,54 @@ module _ {X : Type 0} (R : X → X → Type 0) where
   AllPairs-permutation back xs ys moved h =
       pairs_from_apart ys (IsPermutation-keeps xs AllApart (apart_from_pairs back xs h) apart_swapped ys moved)
 
-less_of_reverse : (o p : Ordering) → o ≡ ordering_reverse p → is_lt p ≡ false → o ≢ Equal → o ≡ Less
-less_of_reverse o Less e not_less untied = cc
-less_of_reverse o Equal e not_less untied = absurd (untied e)
-less_of_reverse o Greater e not_less untied = e
+-- no two neighbours of the list tie
+abbrev pub NeighboursApart : {X : Type 0} → (X → X → Ordering) → List X → Type 0
+NeighboursApart {X} cmp xs = (k : ℕ) (d : X) → k + 1 < length xs → cmp (get_or xs k d) (get_or xs (k + 1) d) ≢ Equal
+
+less_from : (o r : Ordering) → o ≡ ordering_reverse r → is_lt r ≡ false → o ≢ Equal → o ≡ Less
+less_from o Less e not_less apart = cc
+less_from o Equal e not_less apart = absurd (apart e)
+less_from o Greater e not_less apart = e
+
+-- of two items of a sorted list that do not tie the earlier is less
+less_before : {X : Type 0} (cmp : X → X → Ordering) → IsTotalOrder cmp → (xs : List X) → IsSorted cmp xs → (i j : ℕ) (d : X) → i < j → j < length xs
+    → cmp (get_or xs i d) (get_or xs j d) ≢ Equal → cmp (get_or xs i d) (get_or xs j d) ≡ Less
+less_before cmp total xs sorted i j d before inside apart =
+    less_from _ (cmp (get_or xs j d) (get_or xs i d)) (total.antisymm _ _)
+    (sorted_far (λ x y. is_lt (cmp x y)) (ranks_by total (λ x. x)) xs sorted i j d (omega arith) inside)
+    apart
+
+-- sorted without ties is strict
+pub strict_from_sorted : {X : Type 0} (cmp : X → X → Ordering) → IsTotalOrder cmp → (xs : List X) → IsSorted cmp xs → AreApart cmp xs → IsStrict cmp xs
+strict_from_sorted cmp total xs sorted apart i j d before inside =
+    less_before cmp total xs sorted i j d before inside (apart i j d before inside)
+
+-- for this it is enough to look at neighbours
+pub strict_from_neighbours : {X : Type 0} (cmp : X → X → Ordering) → IsTotalOrder cmp → (xs : List X) → IsSorted cmp xs → NeighboursApart cmp xs → IsStrict cmp xs
+strict_from_neighbours {X} cmp total xs sorted apart i j d before inside =
+    less_before cmp total xs sorted i j d before inside (λ ties.
+    let next : cmp (get_or xs i d) (get_or xs (i + 1) d) ≡ Less = less_before cmp total xs sorted i (i + 1) d (omega arith) (omega arith) (apart i d (omega arith)) in
+    let same : cmp (get_or xs i d) (get_or xs (i + 1) d) ≡ cmp (get_or xs j d) (get_or xs (i + 1) d) = total.congr _ _ _ ties in
+    let less : is_lt (cmp (get_or xs j d) (get_or xs (i + 1) d)) ≡ true = ap is_lt (sym same ∙ next) in
+    let not_less : is_lt (cmp (get_or xs j d) (get_or xs (i + 1) d)) ≡ false =
+    sorted_far (λ x y. is_lt (cmp x y)) (ranks_by total (λ x. x)) xs sorted (i + 1) j d (omega arith) inside in
+    cc)
+
+-- so nothing ties where no neighbours do
+pub apart_from_neighbours : {X : Type 0} (cmp : X → X → Ordering) → IsTotalOrder cmp → (xs : List X) → IsSorted cmp xs → NeighboursApart cmp xs → AreApart cmp xs
+apart_from_neighbours cmp total xs sorted apart i j d before inside ties =
+    let less : cmp (get_or xs i d) (get_or xs j d) ≡ Less = strict_from_neighbours cmp total xs sorted apart i j d before inside in
+    cc
+
+-- items that do not tie do not in any other order of the list
+pub apart_permuted : {X : Type 0} (cmp : X → X → Ordering) → IsTotalOrder cmp → (xs ys : List X) → IsPermutation xs ys → AreApart cmp xs → AreApart cmp ys
+apart_permuted cmp total xs ys moved apart =
+    AllPairs-permutation (λ x y. cmp x y ≢ Equal) (λ x y untied ties. untied (tied_back total y x ties)) xs ys moved apart
 
 module _ {X : Type 0} (R : X → X → Ordering) (total : IsTotalOrder R) where
-  less_unless_tied : (x y : X) → is_lt (R y x) ≡ false → R x y ≢ Equal → R x y ≡ Less
-  less_unless_tied x y not_less untied = less_of_reverse (R x y) (R y x) (total.antisymm x y) not_less untied
-
   -- a list without ties, once it is sorted, is in strict order
-  pub IsStrict-from_sorted : (xs ys : List X) → IsPermutation xs ys → IsSorted R ys → AllPairs (λ x y. R x y ≢ Equal) xs → IsStrict R ys
-  IsStrict-from_sorted xs ys moved up untied =
-      let apart = AllPairs-permutation (λ x y. R x y ≢ Equal) (λ x y ne e. ne (tied_back total y x e)) xs ys moved untied in
-      λ i j d lt lj. less_unless_tied _ _ (sorted_far (λ x y. is_lt (R x y)) (ranks_by total (λ x. x)) ys up i j d (omega arith) lj) (apart i j d lt lj)
+  pub IsStrict-from_sorted : (xs ys : List X) → IsPermutation xs ys → IsSorted R ys → AreApart R xs → IsStrict R ys
+  IsStrict-from_sorted xs ys moved up apart = strict_from_sorted R total ys up (apart_permuted R total xs ys moved apart)
 
   -- what a sort by a closure ensures, where the closure compares by the order
   pub IsSorted-from_closure : {F : Type 0} {g : Mut F (Bor X × (Bor X × Unit {0})) Ordering} {f : F} (xs : List X) → ((lt : X → X → Bool) → IsStrictWeakOrder lt → ComparesAs g lt f → IsSortedBy lt xs) → ((f : F) (a : Bor X × (Bor X × Unit {0})) (r : Ordering) (f' : F) → Called g f a r f' → r ≡ R a.0.now a.1.0.now) → IsSorted R xs

@@ -1,6 +1,7 @@
 ghost use Rattle.std.specs.Prelude.{◌≡◌};
 
-use lc_model::{Bytes, ServiceDate};
+use crate::{Bytes, NoMemory, PlainData, ServiceDate, copy_each};
+use std::alloc::Global;
 use std::marker::Model;
 
 /// What a message says of the arrival or the departure at a stop.
@@ -30,6 +31,18 @@ pub struct StopNews {
     pub dep: Option<Event>,
 }
 
+impl PlainData for StopNews {
+    fn copy(&self, alloc: Global) -> Result<StopNews, NoMemory> {
+        Ok(StopNews {
+            seq: self.seq,
+            stop: self.stop.copy(alloc)?,
+            relation: self.relation,
+            arr: self.arr,
+            dep: self.dep,
+        })
+    }
+}
+
 /// The news of one trip: which run it names, whether the run is cancelled, and the news of its stops.
 #[derive(Debug, Drop)]
 pub struct TripNews {
@@ -41,6 +54,18 @@ pub struct TripNews {
     pub stops: StopNewsList,
 }
 
+impl PlainData for TripNews {
+    fn copy(&self, alloc: Global) -> Result<TripNews, NoMemory> {
+        Ok(TripNews {
+            trip: self.trip.copy(alloc)?,
+            date: self.date,
+            start: self.start,
+            cancelled: self.cancelled,
+            stops: self.stops.copy(alloc)?,
+        })
+    }
+}
+
 /// The news of stops in the order of the message. A contract sees the list.
 #[derive(Debug, Drop)]
 pub struct StopNewsList {
@@ -49,7 +74,7 @@ pub struct StopNewsList {
 
 impl Model for StopNewsList {
     ghost use Rattle.std.specs.Prelude.{List};
-    ghost use Rattle.trip_updates.specs.declared.news.StopNews.{StopNews};
+    ghost use Rattle.lc_model.specs.declared.news.StopNews.{StopNews};
 
     ghost Value = { List StopNews };
 
@@ -70,6 +95,13 @@ impl StopNewsList {
     }
 }
 
+impl PlainData for StopNewsList {
+    fn copy(&self, alloc: Global) -> Result<StopNewsList, NoMemory> {
+        let items = copy_each(alloc, self.as_slice())?;
+        Ok(StopNewsList::from_list(items))
+    }
+}
+
 /// The news of trips in the order of the message. A contract sees the list.
 #[derive(Debug, Drop)]
 pub struct NewsList {
@@ -78,7 +110,7 @@ pub struct NewsList {
 
 impl Model for NewsList {
     ghost use Rattle.std.specs.Prelude.{List};
-    ghost use Rattle.trip_updates.specs.declared.news.TripNews.{TripNews};
+    ghost use Rattle.lc_model.specs.declared.news.TripNews.{TripNews};
 
     ghost Value = { List TripNews };
 
@@ -96,5 +128,12 @@ impl NewsList {
         ensures { result.now ≡ self.now }
     {
         self.items.as_slice()
+    }
+}
+
+impl PlainData for NewsList {
+    fn copy(&self, alloc: Global) -> Result<NewsList, NoMemory> {
+        let items = copy_each(alloc, self.as_slice())?;
+        Ok(NewsList::from_list(items))
     }
 }
