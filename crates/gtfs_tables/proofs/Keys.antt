@@ -7,7 +7,7 @@ use Rattle.std.specs.Cmp.{IsTotalOrder}
 use Rattle.std.specs.List.{AllPairs}
 use Rattle.std.specs.declared.cmp.Ordering.{Ordering}
 use Rattle.std.specs.declared.cmp.Ordering.TheVariants.{Equal}
-use Rattle.gtfs_tables.specs.Apart.{AreApart}
+use Rattle.lc_model.specs.Order.{AreApart}
 
 pub pairs_of_items : {X Y : Type 0} (R : Y → Y → Type 0) (key : X → Y) (xs : List X) → AllPairs R (map key xs) → AllPairs (λ x y. R (key x) (key y)) xs
 pairs_of_items R key xs h i j d before inside =

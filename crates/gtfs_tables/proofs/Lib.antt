@@ -12,4 +12,3 @@ pub mod SearchFacts
 pub mod SequenceFacts
 pub mod StepFacts
 pub mod StopTimeFacts
-pub mod Strict

@@ -1,4 +1,3 @@
-pub mod Apart
 pub mod CalendarDates
 pub mod Columns
 pub mod Faults

@@ -1,6 +1,6 @@
 ghost use Rattle.std.specs.Prelude.{◌↔◌, IfOk, IsTrue};
 ghost use Rattle.std.specs.List.Sorted.{IsSorted};
-ghost use Rattle.gtfs_tables.specs.Apart.{AreApart};
+ghost use Rattle.lc_model.specs.Order.{AreApart};
 
 use lc_model::NoMemory;
 

@@ -3,8 +3,8 @@ use Rattle.std.proofs.lemmas.List.Sorted.{IsPermutation-sym}
 use Rattle.std.specs.Cmp.{IsTotalOrder}
 use Rattle.std.specs.List.Sorted.{IsPermutation}
 use Rattle.std.specs.declared.cmp.Ordering.{Ordering}
-use Rattle.gtfs_tables.specs.Apart.{AreApart}
-use Rattle.gtfs_tables.proofs.Strict.{apart_permuted}
+use Rattle.lc_model.specs.Order.{AreApart}
+use Rattle.lc_model.proofs.Orders.{apart_permuted}
 use Rattle.gtfs_tables.proofs.apart.are_apart.Goals as goal
 
 -- what is known of the keys in another order is known of the keys
