@@ -7,6 +7,8 @@ mod encoding;
 mod names;
 mod pages;
 mod parts;
+#[cfg(test)]
+mod tests;
 
 pub use base::Base;
 pub use encoding::{decode, encode};
