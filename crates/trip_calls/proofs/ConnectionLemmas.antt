@@ -21,7 +21,7 @@ use Rattle.lc_model.specs.declared.key.RunKey.{RunKey}
 use Rattle.lc_model.specs.declared.run.Run.{Run}
 use Rattle.trip_calls.specs.Runs.{RunsForward}
 use Rattle.trip_calls.proofs.Lists.{All-from_contains, AllPairs-flat_map, AllPairs-head, AllPairs-nil, AllPairs-tail, StandsIn-flat_map}
-use Rattle.trip_calls.proofs.Orders.{IsStrict-from_sorted}
+use Rattle.lc_model.proofs.Orders.{IsStrict-from_sorted}
 use Rattle.trip_calls.proofs.RunLemmas.{key_cmp_total}
 use Rattle.trip_calls.proofs.TimeLemmas.{same_heads}
 

@@ -1,6 +1,5 @@
 pub mod ConnectionLemmas
 pub mod Lists
-pub mod Orders
 pub mod Ranges
 pub mod RunLemmas
 pub mod ServiceDayLemmas

@@ -14,7 +14,7 @@ use Rattle.trip_calls.specs.Runs.{AreRunsOf, RunsForward}
 use Rattle.trip_calls.specs.ServiceDays.{AreServiceDays}
 use Rattle.trip_calls.specs.TripRuns.{HasMoments, runs_of_trips}
 use Rattle.trip_calls.specs.declared.service_days.ServiceDay.{ServiceDay}
-use Rattle.trip_calls.proofs.Orders.{IsSorted-from_closure}
+use Rattle.lc_model.proofs.Orders.{IsSorted-from_closure}
 use Rattle.trip_calls.proofs.RunLemmas.{AreRunsOf-sorted, RunsForward-sorted, InKeyOrder-sorted, HasMoments-days, key_cmp_total}
 use Rattle.trip_calls.proofs.all_runs.runs.Goals as goal
 

@@ -5,7 +5,7 @@ use Rattle.lc_model.specs.Connection.{AreConnectionsOf, connections_of, departur
 use Rattle.lc_model.specs.Run.{InKeyOrder}
 use Rattle.lc_model.specs.declared.run.Run.{Run}
 use Rattle.trip_calls.proofs.ConnectionLemmas.{AreConnectionsOf-sorted, NoneArrivesEarly-sorted, departure_cmp_total}
-use Rattle.trip_calls.proofs.Orders.{IsSorted-from_closure}
+use Rattle.lc_model.proofs.Orders.{IsSorted-from_closure}
 use Rattle.trip_calls.proofs.run_connections.connections.Goals as goal
 
 abbrev RiseInRuns : List Run → Type 0
