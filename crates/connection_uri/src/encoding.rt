@@ -28,12 +28,14 @@ pub fn encode(alloc: Global, id: &Id) -> Result<Text, NoMemory>
 /// The id whose encoding the text is. None exactly where the text is no encoding of an id, as where it has a small
 /// letter in an escape, or an escape that is not needed.
 pub fn decode(alloc: Global, text: &[u8]) -> Result<Option<Id>, NoMemory>
-    ensures said { IfOk result (λ read. IfSome read (λ id. text.now ≡ encoded id)) }
+    ensures said { IfOk result (λ read. IfSome read (λ id. IsIdText id × (text.now ≡ encoded id))) }
     ensures exact { IfOk result (λ read. (id : List ℕ) → IsIdText id → text.now ≡ encoded id → read ≡ Some id) }
 {
     let Some(id) = written_id(alloc, text)? else {
         return Ok(None);
     };
+    // The bytes of an id are a text.
+    let _text = id.bytes();
     if is_encoding(alloc, &id, text)? {
         Ok(Some(id))
     } else {

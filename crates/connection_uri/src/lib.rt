@@ -14,3 +14,4 @@ pub use base::Base;
 pub use encoding::{decode, encode};
 pub use names::{append_run, name, names_differ, read_name};
 pub use pages::{page_url, read_page_url};
+pub use parts::behind_base;
