@@ -1,9 +1,14 @@
+use crate::edge::{DirFolder, StdSink};
 use crate::status::{Status, code};
 use crate::top::run;
 use lc_model::{Bytes, Text};
-use lc_world::{File, Folder, ListLink, MemFolder, MemSink, SureDoor, SureFolder, SureSink};
+use lc_world::{
+    File, Folder, FolderFail, ListLink, MemFolder, MemSink, Sink, SureDoor, SureFolder, SureSink,
+    put_all,
+};
 use std::alloc::Global;
 use std::test::Fail;
+use std::{env, fs};
 
 const STOPS: &str = "stop_id,stop_name\nA,A\nB,B\nC,C\nD,D\nE,E\nF,F\n";
 
@@ -120,26 +125,35 @@ fn questions_of_tiny(rt: HostRuntime) -> Result<(), Fail> {
     Ok(())
 }
 
-// Other feeds with one question: of header lines alone, without trips, a ride over two calls at one moment, and feeds
-// that are not plain.
+// Feeds with one question each: of header lines alone, without trips, a ride over two calls at one moment, and feeds that
+// are not plain.
 #[test]
 fn other_feeds(rt: HostRuntime) -> Result<(), Fail> {
     let alloc = rt.alloc();
     let no_trips = "service_id,trip_id\n";
     let no_times = "trip_id,arrival_time,departure_time,stop_id,stop_sequence\n";
+    let no_dates = "service_id,date,exception_type\n";
     let over_y = "trip_id,arrival_time,departure_time,stop_id,stop_sequence
-T1,09:00:00,09:00:00,A,1
-T1,09:00:00,09:00:00,B,2
-T1,09:05:00,09:05:00,D,3
+T6,09:00:00,09:00:00,X,1
+T6,09:00:00,09:00:00,Y,2
+T6,09:05:00,09:05:00,Z,3
 ";
-    let unknown_trip =
-        "trip_id,arrival_time,departure_time,stop_id,stop_sequence\nT9,09:00:00,09:00:00,A,1\n";
-    for (stops, trips, times, extra, status, output) in [
+    let unknown_trip = "trip_id,arrival_time,departure_time,stop_id,stop_sequence
+T1,08:00:00,08:00:00,A,1
+T1,08:10:00,08:11:00,B,2
+T1,08:30:00,08:30:00,C,3
+T9,08:20:00,08:20:00,B,1
+T2,08:40:00,08:40:00,D,2
+";
+    let a_to_d = "ask tiny A D 2024-05-01T08:00:00Z";
+    for (stops, trips, times, dates, extra, words, status, output) in [
         (
-            "stop_id\n",
+            "stop_id,stop_name\n",
             no_trips,
             no_times,
-            ("x", ""),
+            no_dates,
+            "x",
+            a_to_d,
             9,
             "client 1\nrefused unknown from\n",
         ),
@@ -147,26 +161,32 @@ T1,09:05:00,09:05:00,D,3
             STOPS,
             no_trips,
             no_times,
-            ("x", ""),
+            no_dates,
+            "x",
+            a_to_d,
             0,
             "client 1\nno journey\n",
         ),
         (
-            STOPS,
-            TRIPS,
+            "stop_id\nX\nY\nZ\n",
+            "service_id,trip_id\nw,T6\n",
             over_y,
-            ("x", ""),
+            DATES,
+            "x",
+            "ask tiny X Z 2024-05-01T09:00:00Z",
             0,
             "client 1
 journey 1 arrives 2024-05-01T09:05:00.000Z
-ride T1 20240501 - 1 2 A 2024-05-01T09:00:00.000Z D 2024-05-01T09:05:00.000Z
+ride T6 20240501 - 1 2 X 2024-05-01T09:00:00.000Z Z 2024-05-01T09:05:00.000Z
 ",
         ),
         (
             STOPS,
             TRIPS,
             unknown_trip,
-            ("x", ""),
+            DATES,
+            "x",
+            a_to_d,
             3,
             "error feed F16 stop_times.txt row 0\n",
         ),
@@ -174,7 +194,9 @@ ride T1 20240501 - 1 2 A 2024-05-01T09:00:00.000Z D 2024-05-01T09:05:00.000Z
             STOPS,
             TRIPS,
             TIMES,
-            ("tiny/transfers.txt", ""),
+            DATES,
+            "tiny/transfers.txt",
+            a_to_d,
             3,
             "error feed F16 transfers.txt row 0\n",
         ),
@@ -182,7 +204,9 @@ ride T1 20240501 - 1 2 A 2024-05-01T09:00:00.000Z D 2024-05-01T09:05:00.000Z
             STOPS,
             TRIPS,
             TIMES,
-            ("tiny/calendar.txt", ""),
+            DATES,
+            "tiny/calendar.txt",
+            a_to_d,
             3,
             "error feed F16 calendar.txt row 0\n",
         ),
@@ -191,22 +215,50 @@ ride T1 20240501 - 1 2 A 2024-05-01T09:00:00.000Z D 2024-05-01T09:05:00.000Z
             ("tiny/stops.txt", stops),
             ("tiny/trips.txt", trips),
             ("tiny/stop_times.txt", times),
-            ("tiny/calendar_dates.txt", DATES),
-            extra,
+            ("tiny/calendar_dates.txt", dates),
+            (extra, ""),
         ];
         let mut folder = SureFolder::new(files_of(alloc, files.as_slice())?)?;
-        let (code, text) = ask(alloc, &mut folder, "ask tiny A D 2024-05-01T08:00:00Z")?;
+        let (code, text) = ask(alloc, &mut folder, words)?;
         assert_eq!(rt; code, status, "{output}");
         assert_eq!(rt; text.as_slice(), output.as_bytes(), "{output}");
     }
     let mut folder = SureFolder::new(files_of(alloc, &TINY[..3])?)?;
-    let (code, text) = ask(alloc, &mut folder, "ask tiny A D 2024-05-01T08:00:00Z")?;
+    let (code, text) = ask(alloc, &mut folder, a_to_d)?;
     assert_eq!(rt; code, 3);
     assert_eq!(rt;
         text.as_slice(),
         b"error feed F16 calendar.txt row 0\n".as_slice()
     );
     Ok(())
+}
+
+// The system's files: one that is there, one that is not, and a folder in the place of a file.
+#[test]
+fn files_of_the_system(rt: HostRuntime) -> Result<(), Fail> {
+    let alloc = rt.alloc();
+    let temporary = env::temp_dir(&rt)?;
+    let place = temporary.to_str().expect(&rt, "a path in UTF-8");
+    let file = format!(in alloc; "{place}/monteneem-edge-test.txt")?;
+    fs::write(&rt, file.as_str(), b"stop_id\nA\n".as_slice())?;
+    let mut folder = DirFolder::new(&rt);
+    let bytes = folder.read(alloc, file.as_str()).expect(&rt, "the file");
+    assert_eq!(rt; bytes.as_slice(), b"stop_id\nA\n".as_slice());
+    fs::remove_file(&rt, file.as_str())?;
+    assert!(rt; matches!(folder.read(alloc, file.as_str()), Err(FolderFail::Absent)));
+    assert_eq!(rt; folder.faults(), 0);
+    assert!(rt; matches!(folder.read(alloc, place), Err(FolderFail::Failed)));
+    assert_eq!(rt; folder.faults(), 1);
+    Ok(())
+}
+
+// The system's standard output takes a line.
+#[test]
+fn standard_output(rt: HostRuntime) {
+    let mut out = StdSink::new(&rt);
+    let line = b"a line of a test\n".as_slice();
+    assert!(rt; put_all(&mut out, line).is_ok());
+    assert_eq!(rt; out.faults(), 0);
 }
 
 // A folder of which the second read fails, and a sink of which the first write does.
