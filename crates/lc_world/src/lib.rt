@@ -14,6 +14,8 @@ mod sink;
 mod sure_door;
 mod sure_folder;
 mod sure_sink;
+#[cfg(test)]
+mod tests;
 
 pub use door::{Door, DoorFail, Next};
 pub use file::File;
