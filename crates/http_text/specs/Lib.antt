@@ -1,0 +1,9 @@
+pub mod Fields
+pub mod Length
+pub mod Line
+pub mod Reply
+pub mod ReplyText
+pub mod Request
+pub mod RequestText
+pub mod Taken
+pub mod Target

@@ -1,0 +1,40 @@
+-- What is taken of the bytes that have come on a connection.
+use Rattle.std.specs.Prelude.{◌≡◌, ℕ, ◌+◌, ◌≤◌, ◌⊎◌, nat_lt, nat_le, List, length, Option, Some, None, if◌then◌else◌}
+use Rattle.httparse.specs.Grammar.{RequestHead, print_request, ReadsRequest, HasNoRequest, MayBecomeRequest, NeverHasRequest, EndsInTarget}
+use Rattle.http_text.specs.declared.taken.Taken.{Taken}
+use Rattle.http_text.specs.declared.taken.Taken.TheVariants.{Whole, NotYet, Refused}
+use Rattle.http_text.specs.Request.{refusal_of_head, body_len, front_of}
+
+-- the head stands at the front of the bytes, within the limit
+abbrev pub HasHead : List ℕ → RequestHead → Type 0
+HasHead bytes h = (rest : List ℕ) × ReadsRequest (front_of bytes) h rest
+
+-- no head stands there, and one may follow; or the target is still being read
+abbrev pub IsOpen : List ℕ → Type 0
+IsOpen bytes = HasNoRequest (front_of bytes) × MayBecomeRequest (front_of bytes)
+
+-- no head will stand there, whatever follows
+abbrev pub IsHopeless : List ℕ → Type 0
+IsHopeless bytes = NeverHasRequest (front_of bytes)
+
+-- of a head and so many bytes in all: its refusal, or the request, or its body is still to come
+abbrev pub taken_of : Option ℕ → ℕ → ℕ → Taken
+taken_of (Some status) needed got = Refused status
+taken_of None needed got = if nat_le needed got then Whole needed else NotYet
+
+abbrev pub needed : RequestHead → ℕ
+needed h = length (print_request h) + body_len h
+
+-- what an open head is after so many bytes
+abbrev pub open_taken : ℕ → Taken
+open_taken got = if nat_lt got 16_384 then NotYet else Refused 431
+
+-- what is taken of the bytes: by the head that stands there, by there being none yet, or by there never being one
+abbrev pub Takes : List ℕ → Taken → Type 0
+Takes bytes taken =
+    ((h : RequestHead) × HasHead bytes h × (taken ≡ taken_of (refusal_of_head h) (needed h) (length bytes)))
+    ⊎ (IsOpen bytes × (taken ≡ open_taken (length bytes))) ⊎ (IsHopeless bytes × (taken ≡ Refused 400))
+
+-- the bytes end inside a target that no bytes make a text: whether that is seen before the target ends is left open
+abbrev pub IsEither : List ℕ → Type 0
+IsEither bytes = EndsInTarget (front_of bytes) × IsHopeless bytes

@@ -1,0 +1,26 @@
+ghost use Rattle.std.specs.Prelude.{◌≡◌, ◌++◌, codes, IfOk};
+ghost use Rattle.http_text.specs.RequestText.{request_text_of};
+
+use crate::line::{append_line, append_moment};
+use connection_uri::Base;
+use lc_model::{Moment, NoMemory};
+use std::alloc::Global;
+
+/// The text of a GET request: the target, the host, the moment up to which the asker knows, and that the connection ends
+/// after it (RFC 9112, section 3; RFC 7089, section 2.1.1).
+pub fn request_text(
+    alloc: Global,
+    base: &Base,
+    target: &str,
+    known: Option<Moment>,
+) -> Result<Vec<u8>, NoMemory>
+    ensures text { IfOk result (λ text. text.items ≡ request_text_of base.now.authority target.now known) }
+{
+    let mut text = Vec::new(alloc);
+    append_line(&mut text, b"GET ", target.as_bytes(), b" HTTP/1.1")?;
+    append_line(&mut text, b"Host: ", base.authority().as_bytes(), b"")?;
+    append_moment(&mut text, b"Accept-Datetime: ", known)?;
+    append_line(&mut text, b"Connection: close", b"", b"")?;
+    text.extend_from_slice(b"\r\n")?;
+    Ok(text)
+}

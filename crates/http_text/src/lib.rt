@@ -1,0 +1,25 @@
+//! Messages of HTTP/1.1: requests and replies taken from bytes, refused, read and written exactly. It stands on the
+//! grammar of `httparse`, on `form_urlencoded` for queries, on `connection_uri` for bases and on `lc_time` for dates.
+#![tactic(auto)]
+
+mod answering;
+mod asking;
+mod field;
+mod length;
+mod line;
+mod member;
+mod reply;
+mod reply_fault;
+mod reply_parts;
+mod request;
+mod taken;
+
+pub use answering::reply_text;
+pub use asking::request_text;
+pub use field::{Field, Fields};
+pub use member::{Member, Members};
+pub use reply::Reply;
+pub use reply_fault::ReplyFault;
+pub use reply_parts::{Allow, BodyKind, ReplyParts};
+pub use request::Request;
+pub use taken::Taken;

@@ -1,0 +1,13 @@
+use lc_model::{Moment, Text};
+
+/// What a reply says. The body lies from `body_from` up to `body_to` in its bytes.
+#[derive(Debug, Drop)]
+pub struct Reply {
+    pub status: u16,
+    /// The URL of the Location field, or none where it is missing or no UTF-8.
+    pub location: Option<Text>,
+    /// The date of the Memento-Datetime field, or none where it is missing or no date.
+    pub memento: Option<Moment>,
+    pub body_from: usize,
+    pub body_to: usize,
+}

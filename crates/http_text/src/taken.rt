@@ -1,0 +1,10 @@
+/// What stands at the front of the bytes that have come on a connection.
+#[derive(Clone, Copy, Debug, PartialEq, Eq)]
+pub enum Taken {
+    /// One whole request of so many bytes.
+    Whole { length: usize },
+    /// Less than a whole request.
+    NotYet,
+    /// A head that is refused with this status of HTTP.
+    Refused { status: u16 },
+}
