@@ -8,6 +8,7 @@ mod field;
 mod length;
 mod line;
 mod member;
+mod named;
 mod reply;
 mod reply_fault;
 mod reply_parts;
