@@ -1,5 +1,5 @@
 -- The length of a body as the fields of a head say it (RFC 9110, section 8.6).
-use Rattle.std.specs.Prelude.{ℕ, Bool, ◌&&◌, nat_lt, nat_le, List, [], ◌∷◌, length, codes, if◌then◌else◌}
+use Rattle.std.specs.Prelude.{ℕ, Bool, true, false, ◌&&◌, nat_lt, nat_le, List, [], ◌∷◌, length, codes, if◌then◌else◌}
 use Rattle.std.specs.List.{list_all}
 use Rattle.std.specs.Char.{is_ascii_digit}
 use Rattle.std.specs.Str.Parse.{digits_value}
@@ -11,10 +11,14 @@ use Rattle.http_text.specs.Fields.{FieldText, values_of}
 abbrev pub is_length : List ℕ → Bool
 is_length value = nat_lt 0 (length value) && nat_le (length value) 10 && list_all is_ascii_digit value
 
+-- the number that the value writes
+abbrev pub length_at : List ℕ → Length
+length_at value = if is_length value then Said (digits_value 10 value) else Wrong
+
 -- what the values of the Content-Length fields say: one length, and no second one, even an equal one
 abbrev pub length_in : List (List ℕ) → Length
 length_in [] = Missing
-length_in (value ∷ []) = if is_length value then Said (digits_value 10 value) else Wrong
+length_in (value ∷ []) = length_at value
 length_in (value ∷ second ∷ values) = Wrong
 
 abbrev pub length_of : List FieldText → Length
@@ -22,9 +26,9 @@ length_of fields = length_in (values_of (codes "content-length") fields)
 
 -- two lengths, or one that is no number
 abbrev pub is_wrong : Length → Bool
-is_wrong Missing = Bool.false
-is_wrong (Said n) = Bool.false
-is_wrong Wrong = Bool.true
+is_wrong Missing = false
+is_wrong (Said n) = false
+is_wrong Wrong = true
 
 -- the length, or this one where none is said
 abbrev pub said_or : Length → ℕ → ℕ

@@ -1,5 +1,5 @@
 -- Request targets (RFC 9112, section 3.2): origin form, and absolute form of http.
-use Rattle.std.specs.Prelude.{ℕ, Bool, ◌||◌, ◌==◌, List, [], ◌∷◌, take, drop, map, codes, if◌then◌else◌}
+use Rattle.std.specs.Prelude.{ℕ, Bool, false, ◌||◌, ◌==◌, List, [], ◌∷◌, take, drop, map, codes, if◌then◌else◌}
 use Rattle.std.specs.List.{before_first, after_first}
 use Rattle.std.specs.Str.{str_eq_ignore_ascii_case}
 use Rattle.std.specs.Str.Lossy.{utf8_lossy}
@@ -8,7 +8,7 @@ use Rattle.http_text.specs.declared.member.Member.{Member}
 
 -- the target begins with a slash
 abbrev pub is_origin_form : List ℕ → Bool
-is_origin_form [] = Bool.false
+is_origin_form [] = false
 is_origin_form (byte ∷ rest) = byte == 47
 
 -- the target begins with http://, without regard to case

@@ -4,6 +4,7 @@
 
 mod answering;
 mod asking;
+mod connection;
 mod field;
 mod length;
 mod line;
