@@ -1,10 +1,11 @@
-ghost use Rattle.std.specs.Prelude.{◌≡◌, ◌<◌, ◌==◌, [], ◌∷◌, length, position, reverse, All, IfSome, MatchOption};
+ghost use Rattle.std.specs.Prelude.{◌≡◌, ◌<◌, [], ◌∷◌, length, reverse, All, IfSome, MatchOption};
 ghost use Rattle.lc_time.specs.Http.{without_front_blanks};
 ghost use Rattle.form_urlencoded.specs.Form.{split};
 ghost use Rattle.httparse.specs.Spans.{IsHeaderWithin};
 ghost use Rattle.http_text.specs.Fields.{is_close, has_close, closes};
 ghost use Rattle.http_text.specs.Named.{texts_at};
 
+use crate::front::first_place;
 use crate::named::{is_named, is_same};
 use httparse::spans::HeaderSpan;
 
@@ -42,17 +43,10 @@ fn split_at_comma(list: &[u8]) -> Option<(&[u8], &[u8])>
     ensures parts { MatchOption result (split 44 list.now ≡ list.now ∷ [])
         (λ parts. split 44 list.now ≡ parts.0.now ∷ split 44 parts.1.now) }
 {
-    match first_comma(list) {
+    match first_place(list, b',') {
         Some(at) => Some((&list[..at], &list[at + 1..])),
         None => None,
     }
-}
-
-fn first_comma(list: &[u8]) -> Option<usize>
-    ensures in_range { IfSome result (λ at. at < length list.now) }
-    ensures first { result ≡ position (λ b. b == 44) list.now }
-{
-    list.iter().position(|byte| *byte == b',')
 }
 
 fn is_close(member: &[u8]) -> bool

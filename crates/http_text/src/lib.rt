@@ -6,6 +6,8 @@ mod answering;
 mod asking;
 mod connection;
 mod field;
+mod front;
+mod head;
 mod length;
 mod line;
 mod member;
@@ -15,6 +17,7 @@ mod reply_fault;
 mod reply_parts;
 mod request;
 mod taken;
+mod target;
 
 pub use answering::reply_text;
 pub use asking::request_text;
