@@ -1,2 +1,4 @@
 pub mod MemberLemmas
 pub mod PlaceLemmas
+pub mod HeadLemmas
+pub mod TakenLemmas

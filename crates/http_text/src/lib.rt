@@ -16,6 +16,7 @@ mod reply;
 mod reply_fault;
 mod reply_parts;
 mod request;
+mod room;
 mod taken;
 mod target;
 
@@ -27,4 +28,5 @@ pub use reply::Reply;
 pub use reply_fault::ReplyFault;
 pub use reply_parts::{Allow, BodyKind, ReplyParts};
 pub use request::Request;
+pub use room::{HeadRoom, take_request};
 pub use taken::Taken;
