@@ -41,16 +41,19 @@ front_of bytes = take 16_384 bytes
 abbrev pub field_said : FieldText → FieldSaid
 field_said field = record { name = field.0; value = field.1 }
 
--- what a head says
-abbrev pub request_of : RequestHead → Request
-request_of h = record {
-  method = h.method;
-  path = path_of h.target;
-  query = members_of (query_of h.target);
-  fields = map field_said (texts_of h.fields);
-  body_from = length (print_request h);
-  close = closes h.minor (texts_of h.fields);
+-- what a head of these parts says, which has so many bytes
+abbrev pub request_said : List ℕ → List ℕ → ℕ → List FieldText → ℕ → Request
+request_said method target minor fields len = record {
+  method = method;
+  path = path_of target;
+  query = members_of (query_of target);
+  fields = map field_said fields;
+  body_from = len;
+  close = closes minor fields;
 }
+
+abbrev pub request_of : RequestHead → Request
+request_of h = request_said h.method h.target h.minor (texts_of h.fields) (length (print_request h))
 
 -- the bytes are this head, which is not refused, and its body
 pub record IsWholeWith (bytes : List ℕ) (h : RequestHead) (body : List ℕ) : Type 0 where

@@ -40,9 +40,13 @@ path_of target = or_slash (before_first (λ b. b == 63) (behind_authority target
 abbrev pub query_of : List ℕ → List ℕ
 query_of target = after_first (λ b. b == 63) (behind_authority target)
 
+-- A text of a query, decoded: `+` is a space, escapes are decoded, and what is no UTF-8 becomes U+FFFD.
+abbrev pub decoded_text : List ℕ → List ℕ
+decoded_text text = utf8_lossy (decode text)
+
 -- a name and a value, decoded
 abbrev pub member_of : List ℕ × List ℕ → Member
-member_of pair = record { name = utf8_lossy (decode pair.0); value = utf8_lossy (decode pair.1) }
+member_of pair = record { name = decoded_text pair.0; value = decoded_text pair.1 }
 
 -- the members of a query, in order (URL Standard, section 5.1)
 abbrev pub members_of : List ℕ → List Member
