@@ -1,6 +1,6 @@
 -- Replies as a client reads them (RFC 9112, sections 4 and 6; RFC 7089, section 2.1).
 use Rattle.std.specs.Prelude.{◌≡◌, ℕ, ◌+◌, ◌-◌, ◌≤◌, ◌<◌, ◌⊎◌, nat_lt, List, [], ◌∷◌, length, take, drop, codes, Option, Some, None, MatchOption, Result, Ok, Err, IsUtf8, if◌then◌else◌}
-use Rattle.httparse.specs.Grammar.{ResponseHead, print_response, ReadsResponse, status_code, HasNoResponse, NeverHasResponse}
+use Rattle.httparse.specs.Grammar.{ResponseHead, print_response, ReadsResponse, status_code, HasNoResponse, MayBecomeResponse, NeverHasResponse}
 use Rattle.lc_time.specs.Http.{SaysHttpDate}
 use Rattle.http_text.specs.declared.reply.Reply.{Reply}
 use Rattle.http_text.specs.declared.reply_fault.ReplyFault.{ReplyFault}
@@ -34,13 +34,13 @@ fault_of fields got =
     else (if nat_lt got (said_or (length_of fields) got) then Some (faults.Cut (said_or (length_of fields) got) got)
     else None)))
 
--- what a head says, behind which so many bytes follow
-pub record SaysOf (h : ResponseHead) (got : ℕ) (reply : Reply) : Type 0 where
-  pub status : reply.status ≡ status_code h
-  pub location : IsTextOf (first_of (values_of (codes "location") (texts_of h.fields))) reply.location
-  pub memento : IsMomentOf (first_of (values_of (codes "memento-datetime") (texts_of h.fields))) reply.memento
-  pub body_from : reply.body_from ≡ length (print_response h)
-  pub body_to : reply.body_to ≡ length (print_response h) + said_or (length_of (texts_of h.fields)) got
+-- what a head of so many bytes says, behind which so many follow: without a length the body is all of them
+pub record SaysOf (status len got : ℕ) (fields : List FieldText) (reply : Reply) : Type 0 where
+  pub status_is : reply.status ≡ status
+  pub location_is : IsTextOf (first_of (values_of (codes "location") fields)) reply.location
+  pub memento_is : IsMomentOf (first_of (values_of (codes "memento-datetime") fields)) reply.memento
+  pub body_from_is : reply.body_from ≡ len
+  pub body_to_is : reply.body_to ≡ len + said_or (length_of fields) got
 
 -- the head stands at the front of the bytes, within the first 16,384
 abbrev pub HasReplyHead : List ℕ → ResponseHead → Type 0
@@ -53,13 +53,17 @@ behind bytes h = length bytes - length (print_response h)
 abbrev pub IsReply : List ℕ → Reply → Type 0
 IsReply bytes reply =
     (h : ResponseHead) × HasReplyHead bytes h × (fault_of (texts_of h.fields) (behind bytes h) ≡ None)
-    × SaysOf h (behind bytes h) reply
+    × SaysOf (status_code h) (length (print_response h)) (behind bytes h) (texts_of h.fields) reply
+
+-- the fault of bytes that end within their head: the head is cut, or it is longer
+abbrev pub open_fault : ℕ → ReplyFault
+open_fault got = if nat_lt got 16_384 then faults.Head else faults.LongHead
 
 -- no head stands in the first 16,384 bytes: none will, or the bytes end within it; or it is longer
 abbrev pub HasHeadFault : List ℕ → ReplyFault → Type 0
 HasHeadFault bytes fault =
     (NeverHasResponse (front_of bytes) × (fault ≡ faults.Head))
-    ⊎ (HasNoResponse (front_of bytes) × ¬ (NeverHasResponse (front_of bytes)) × (fault ≡ (if nat_lt (length bytes) 16_384 then faults.Head else faults.LongHead)))
+    ⊎ (HasNoResponse (front_of bytes) × MayBecomeResponse (front_of bytes) × (fault ≡ open_fault (length bytes)))
 
 -- the first fault of the bytes
 abbrev pub HasFault : List ℕ → ReplyFault → Type 0

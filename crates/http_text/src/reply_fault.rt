@@ -1,7 +1,7 @@
 ghost use Rattle.std.specs.Prelude.{◌≡◌};
 ghost use Rattle.http_text.specs.declared.reply_fault.ReplyFault.TheVariants.{NoMemory as OutOfMemory};
 
-use std::alloc::{AllocError, AllocFailed};
+use lc_model::NoMemory;
 use std::error::Error;
 use std::fmt;
 
@@ -37,18 +37,10 @@ impl fmt::Display for ReplyFault {
 
 impl Error for ReplyFault {}
 
-impl From<AllocError> for ReplyFault {
+impl From<NoMemory> for ReplyFault {
     ghost from_gives = { λ _ e. e ≡ OutOfMemory };
 
-    fn from(_: AllocError) -> ReplyFault {
-        ReplyFault::NoMemory
-    }
-}
-
-impl<T: Drop> From<AllocFailed<T>> for ReplyFault {
-    ghost from_gives = { λ _ e. e ≡ OutOfMemory };
-
-    fn from(_: AllocFailed<T>) -> ReplyFault {
+    fn from(_: NoMemory) -> ReplyFault {
         ReplyFault::NoMemory
     }
 }

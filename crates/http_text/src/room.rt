@@ -1,16 +1,21 @@
-ghost use Rattle.std.specs.Prelude.{◌≡◌, ◌+◌, ◌≤◌, ◌⊎◌, ℕ, None, length, take, All, IfOk, vec_len};
+ghost use Rattle.std.specs.Prelude.{◌≡◌, ◌+◌, ◌≤◌, ◌⊎◌, ℕ, None, Ok, Err, length, take, All, IfOk, IfErr, vec_len};
 ghost use Rattle.httparse.specs.Spans.{IsHeaderWithin, span_bytes, IsWithin};
+ghost use Rattle.http_text.specs.declared.reply.Reply.{Reply as Said};
+ghost use Rattle.http_text.specs.declared.reply_fault.ReplyFault.{ReplyFault as Fault};
+ghost use Rattle.http_text.specs.declared.reply_fault.ReplyFault.TheVariants.{NoMemory as OutOfMemory};
 ghost use Rattle.http_text.specs.declared.taken.Taken.{Taken as Answer};
 ghost use Rattle.http_text.specs.declared.taken.Taken.TheVariants.{Whole as WholeRequest};
 ghost use Rattle.http_text.specs.Length.{length_of, said_or};
 ghost use Rattle.http_text.specs.Named.{texts_at};
+ghost use Rattle.http_text.specs.Reply.{IsReply, HasFault};
 ghost use Rattle.http_text.specs.Request.{refusal_of, IsWhole};
 ghost use Rattle.http_text.specs.Taken.{Takes, IsEither, taken_of, open_taken};
 
-use crate::Taken;
 use crate::front::{HEAD_BYTES, front_of};
 use crate::head::refusal_of;
 use crate::length::length_of;
+use crate::reply_reading::reply_in;
+use crate::{Reply, ReplyFault, Taken};
 use httparse::Status;
 use httparse::spans::{EMPTY_HEADER_SPAN, HeaderSpan, RequestSpans, parse_request};
 use lc_model::NoMemory;
@@ -43,6 +48,17 @@ impl HeadRoom {
         ensures every_whole { (n : ℕ) → n ≤ length bytes.now → IsWhole (take n bytes.now) → result ≡ WholeRequest n }
     {
         taken_in(self.fields.as_mut_slice(), bytes)
+    }
+
+    /// What a reply of these bytes says, or its first fault. Takes time linear in the first 16,384 bytes.
+    pub fn read_reply(&mut self, alloc: Global, bytes: &[u8]) -> Result<Reply, ReplyFault>
+        ensures said { IfOk result (IsReply bytes.now) }
+        ensures only { (reply : Said) → IsReply bytes.now reply → (result ≡ Ok reply) ⊎ (result ≡ Err OutOfMemory) }
+        ensures fault { IfErr result (λ fault. (fault ≡ OutOfMemory) ⊎ HasFault bytes.now fault) }
+        ensures only_fault { (fault : Fault) → HasFault bytes.now fault
+            → (result ≡ Err fault) ⊎ (result ≡ Err OutOfMemory) }
+    {
+        reply_in(alloc, self.fields.as_mut_slice(), bytes)
     }
 }
 
