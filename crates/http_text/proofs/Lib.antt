@@ -3,3 +3,8 @@ pub mod PlaceLemmas
 pub mod HeadLemmas
 pub mod TakenLemmas
 pub mod ReplyLemmas
+pub mod ByteLemmas
+pub mod DateLemmas
+pub mod EntryLemmas
+pub mod AskLemmas
+pub mod AnswerLemmas

@@ -1,6 +1,8 @@
 -- The replies that a publisher writes (RFC 9112, section 4; RFC 9110, section 15; RFC 7089, section 2).
-use Rattle.std.specs.Prelude.{◌≢◌, ℕ, Bool, true, false, ◌==◌, List, [], ◌++◌, codes, decimal, Option, Some, None, if◌then◌else◌}
+use Rattle.std.specs.Prelude.{◌≡◌, ◌≢◌, ℕ, ◌+◌, ◌-◌, ◌<◌, ◌≤◌, Bool, true, false, ◌==◌, List, [], ◌++◌, length, codes, decimal, Option, Some, None, IfSome, IsUtf8, if◌then◌else◌}
 use Rattle.httparse.specs.Ascii.{crlf_bytes}
+use Rattle.httparse.specs.Grammar.{AllPass, is_uri_byte, is_value_byte}
+use Rattle.http_text.specs.declared.reply.Reply.{Reply}
 use Rattle.http_text.specs.declared.reply_parts.Allow.{Allow}
 use Rattle.http_text.specs.declared.reply_parts.Allow.TheVariants.{Reading, Posting}
 use Rattle.http_text.specs.declared.reply_parts.BodyKind.{BodyKind}
@@ -79,3 +81,22 @@ abbrev pub reply_text_of : ReplyParts → List ℕ
 reply_text_of reply =
     status_line reply.status ++ body_lines reply ++ target_lines reply ++ allow_line reply.allow
     ++ close_line reply.close ++ crlf_bytes ++ reply.body
+
+-- The text of the reply can be read back: its URLs can stand in a field, the length is that of the body, and neither
+-- the head nor the body is too long.
+pub record IsReadable (reply : ReplyParts) (text : List ℕ) : Type 0 where
+  pub location_bytes : IfSome reply.location (λ url. AllPass is_uri_byte url × IsUtf8 url)
+  pub original_bytes : IfSome reply.original (AllPass is_value_byte)
+  pub length_is : IfSome reply.length (λ len. len ≡ length reply.body)
+  pub body_fits : length reply.body < 10_000_000_000
+  pub head_fits : length text ≤ 16_384 + length reply.body
+
+-- what the text of the reply says
+abbrev pub reply_said : ReplyParts → List ℕ → Reply
+reply_said reply text = record {
+  status = reply.status;
+  location = reply.location;
+  memento = reply.memento;
+  body_from = length text - length reply.body;
+  body_to = length text;
+}

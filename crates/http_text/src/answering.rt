@@ -1,5 +1,6 @@
-ghost use Rattle.std.specs.Prelude.{◌≡◌, ◌++◌, IfOk, OnOk};
-ghost use Rattle.http_text.specs.ReplyText.{reason_of, HasReason, status_line, kind_line, length_line, location_lines, link_line, allow_line, close_line, target_lines, body_lines, reply_text_of};
+ghost use Rattle.std.specs.Prelude.{◌≡◌, ◌++◌, ◌-◌, ◌<◌, length, drop, IfOk, IfSome, OnOk};
+ghost use Rattle.http_text.specs.ReplyText.{reason_of, HasReason, status_line, kind_line, length_line, location_lines, link_line, allow_line, close_line, target_lines, body_lines, reply_text_of, IsReadable, reply_said};
+ghost use Rattle.http_text.specs.Reply.{IsReply};
 
 use crate::line::{append_line, append_moment};
 use crate::{Allow, BodyKind, ReplyParts};
@@ -11,6 +12,19 @@ use std::alloc::Global;
 pub fn reply_text(alloc: Global, reply: &ReplyParts) -> Result<Vec<u8>, NoMemory>
     requires { HasReason reply.now.status }
     ensures text { IfOk result (λ text. text.items ≡ reply_text_of reply.now) }
+    // It is read back with its status, location, memento and body.
+    ensures read { IfOk result (λ text. IsReadable reply.now text.items
+        → IsReply text.items (reply_said reply.now text.items)) }
+    ensures body { IfOk result (λ text.
+        drop (length text.items - length reply.now.body) text.items ≡ reply.now.body) }
+{
+    let text = text_of(alloc, reply)?;
+    Ok(text)
+}
+
+fn text_of(alloc: Global, reply: &ReplyParts) -> Result<Vec<u8>, NoMemory>
+    ensures text { IfOk result (λ text. text.items ≡ reply_text_of reply.now) }
+    ensures in_range { OnOk result (IfSome reply.now.memento (λ m. m < 253_402_128_000)) }
 {
     let mut text = Vec::new(alloc);
     append_status(&mut text, reply.status)?;
@@ -90,7 +104,8 @@ fn append_length(text: &mut Vec<u8>, length: Option<u64>) -> Result<(), NoMemory
 
 /// Appends the lines on where pages are and of which version.
 fn append_target_lines(text: &mut Vec<u8>, reply: &ReplyParts) -> Result<(), NoMemory>
-    ensures { OnOk result (text.new.items ≡ text.old.items ++ target_lines reply.now) }
+    ensures text { OnOk result (text.new.items ≡ text.old.items ++ target_lines reply.now) }
+    ensures in_range { OnOk result (IfSome reply.now.memento (λ m. m < 253_402_128_000)) }
 {
     append_location(text, &reply.location)?;
     append_moment(text, b"Memento-Datetime: ", reply.memento)?;

@@ -21,6 +21,8 @@ mod request;
 mod room;
 mod taken;
 mod target;
+#[cfg(test)]
+mod tests;
 
 pub use answering::reply_text;
 pub use asking::request_text;

@@ -1,4 +1,4 @@
-ghost use Rattle.std.specs.Prelude.{◌≡◌, ◌++◌, OnOk};
+ghost use Rattle.std.specs.Prelude.{◌≡◌, ◌++◌, ◌<◌, OnOk, IfSome};
 ghost use Rattle.http_text.specs.Line.{line, moment_line};
 
 use lc_model::{Moment, NoMemory};
@@ -26,7 +26,8 @@ pub fn append_moment(
     front: &[u8],
     moment: Option<Moment>,
 ) -> Result<(), NoMemory>
-    ensures { OnOk result (text.new.items ≡ text.old.items ++ moment_line front.now moment) }
+    ensures text { OnOk result (text.new.items ≡ text.old.items ++ moment_line front.now moment) }
+    ensures in_range { OnOk result (IfSome moment (λ m. m < 253_402_128_000)) }
 {
     match moment {
         None => Ok(()),
