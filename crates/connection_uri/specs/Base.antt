@@ -1,5 +1,5 @@
 -- Bases: the http URLs under which a publisher's documents stand.
-use Rattle.std.specs.Prelude.{◌≡◌, ℕ, ◌-◌, ◌≤◌, Bool, true, ◌||◌, ◌==◌, List, [], ◌++◌, length, slice_get, codes, decimal, Option, Some, None, Ok}
+use Rattle.std.specs.Prelude.{◌≡◌, ℕ, ◌-◌, ◌≤◌, Bool, true, ◌&&◌, ◌||◌, nat_lt, ◌==◌, List, [], ◌++◌, length, slice_get, codes, decimal, Option, Some, None, Ok}
 use Rattle.std.specs.List.{list_all}
 use Rattle.std.specs.Str.{IsUtf8}
 use Rattle.url.specs.Host.{host_text}
@@ -16,6 +16,10 @@ pub record BaseParts : Type 0 where
 -- a byte that the path of a base may have: unreserved, `%` or `/`
 abbrev pub is_path_byte : ℕ → Bool
 is_path_byte byte = is_unreserved byte || (byte == 37) || (byte == 47)
+
+-- a byte that an authority may have: visible ASCII
+abbrev pub is_visible : ℕ → Bool
+is_visible byte = nat_lt 32 byte && nat_lt byte 127
 
 -- the path ends with a slash, and has plain bytes alone
 pub record IsPlainPath (path : List ℕ) : Type 0 where
@@ -51,9 +55,10 @@ pub record ReadsAsBase (text : List ℕ) (url : Parts) : Type 0 where
   pub parsed : parse_url None text ≡ Ok url
   pub plain : IsPlain url
 
--- a base's text is its scheme, its authority and its path
+-- a base's text is its scheme, its authority and its path; the authority is visible
 pub record IsBase (base : BaseParts) : Type 0 where
   pub text_is : base.text ≡ codes "http://" ++ base.authority ++ base.path
+  pub authority : list_all is_visible base.authority ≡ true
   pub path : IsPlainPath base.path
   pub text_len : length base.text ≤ 4096
 

@@ -100,13 +100,13 @@ nonempty : (target : List ℕ) → is_origin_form target ≡ true → 0 < length
 nonempty [] e = absurd (cc)
 nonempty (b ∷ target) e = omega arith
 
-is_head : (authority target text : List ℕ) (k : Option ℕ) → CanAsk authority target text → IsUtf8 target → IfSome k (λ m. m < 253_402_128_000) → IsRequestHead (head authority target k)
-is_head authority target text k can utf8 bound = record {
+is_head : (authority target text : List ℕ) (k : Option ℕ) → AllPass is_value_byte authority → CanAsk target text → IsUtf8 target → IfSome k (λ m. m < 253_402_128_000) → IsRequestHead (head authority target k)
+is_head authority target text k bytes can utf8 bound = record {
   method = get_token;
   target = (nonempty target can.origin, can.visible);
   target_text = utf8;
   minor = omega arith;
-  fields = valid (entries authority k) (are_entries authority k can.authority_bytes bound);
+  fields = valid (entries authority k) (are_entries authority k bytes bound);
 }
 
 -- ---- it is not refused, and has no body
@@ -130,8 +130,8 @@ knows : (authority target : List ℕ) (k : Option ℕ) → IfSome k (λ m. m < 2
 knows authority target None bound = refl
 knows authority target (Some m) bound = subst (λ (v : List ℕ). SaysHttpDate v m) (sym (date_trimmed m)) (says_date m bound)
 
-pub asks : (authority target text : List ℕ) (k : Option ℕ) → text ≡ request_text_of authority target k → CanAsk authority target text → IsUtf8 target → IfSome k (λ m. m < 253_402_128_000) → (request : Request) × IsWholeRequest text request × SaysGet target k text request
-asks authority target text k e can utf8 bound =
+pub asks : (authority target text : List ℕ) (k : Option ℕ) → text ≡ request_text_of authority target k → AllPass is_value_byte authority → CanAsk target text → IsUtf8 target → IfSome k (λ m. m < 253_402_128_000) → (request : Request) × IsWholeRequest text request × SaysGet target k text request
+asks authority target text k e bytes can utf8 bound =
     let h = head authority target k in
     let reads : text ≡ print_request h ++ [] = e ∙ text_is authority target k in
     let len : length text ≡ length (print_request h) = ap length (reads ∙ append-nil (print_request h)) in (
@@ -140,7 +140,7 @@ asks authority target text k e can utf8 bound =
         h,
         [],
         record {
-          reads = (is_head authority target text k can utf8 bound, reads);
+          reads = (is_head authority target text k bytes can utf8 bound, reads);
           head_fits = omega (arith, len, can.head_fits);
           accepted = accepted authority target k can.origin;
           body_is = bodiless authority target k;

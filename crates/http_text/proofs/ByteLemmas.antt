@@ -10,6 +10,7 @@ use Rattle.std.proofs.lemmas.List.Sums.{AllPass-from_list_all, list_all-from_All
 use Rattle.std.proofs.lemmas.Fmt.{decimal_by_steps, decimal_is_IsNumeral, length-decimal-le, decimal_nonempty}
 use Rattle.httparse.specs.Grammar.{AllPass, is_uri_byte, is_value_byte, is_ows, skip_ows, trim_ows}
 use Rattle.lc_time.specs.Http.{is_blank, http_date_of, without_front_blanks, without_blanks, SaysHttpDate}
+use Rattle.connection_uri.specs.Base.{is_visible}
 use Rattle.http_text.specs.Length.{is_length}
 
 -- ---- dropping blanks
@@ -49,6 +50,18 @@ visible_values (x ∷ xs) h =
 
 pub value_bytes : (xs : List ℕ) → AllPass is_uri_byte xs → AllPass is_value_byte xs
 value_bytes xs is = AllPass-from_list_all is_value_byte xs (visible_values xs (list_all-from_AllPass is_uri_byte xs is))
+
+authority_value : (b : ℕ) → is_visible b ≡ true → is_value_byte b ≡ true
+authority_value b h = grind arith
+
+authority_values : (xs : List ℕ) → list_all is_visible xs ≡ true → list_all is_value_byte xs ≡ true
+authority_values [] h = refl
+authority_values (x ∷ xs) h =
+    let parts = and_parts (is_visible x) (list_all is_visible xs) h in
+    rw (authority_value x parts.0) (authority_values xs parts.1)
+
+pub authority_bytes : (xs : List ℕ) → list_all is_visible xs ≡ true → AllPass is_value_byte xs
+authority_bytes xs is = AllPass-from_list_all is_value_byte xs (authority_values xs is)
 
 -- ---- decimal numbers
 

@@ -1,7 +1,7 @@
 -- The requests that a client makes (RFC 9112, section 3; RFC 7089, section 2.1.1).
 use Rattle.std.specs.Prelude.{◌≡◌, ℕ, ◌≤◌, true, List, ◌++◌, length, map, codes, Option}
 use Rattle.httparse.specs.Ascii.{crlf_bytes}
-use Rattle.httparse.specs.Grammar.{AllPass, is_uri_byte, is_value_byte}
+use Rattle.httparse.specs.Grammar.{AllPass, is_uri_byte}
 use Rattle.http_text.specs.declared.field.Field.{Field}
 use Rattle.http_text.specs.declared.request.Request.{Request}
 use Rattle.http_text.specs.Fields.{FieldText, values_of}
@@ -15,11 +15,10 @@ request_text_of authority target known =
     line (codes "GET " ++ target ++ codes " HTTP/1.1") ++ line (codes "Host: " ++ authority)
     ++ moment_line (codes "Accept-Datetime: ") known ++ line (codes "Connection: close") ++ crlf_bytes
 
--- the target begins with a slash and is visible, the authority can stand in a field, and the head is not too long
-pub record CanAsk (authority target text : List ℕ) : Type 0 where
+-- the target begins with a slash and is visible, and the head is not too long
+pub record CanAsk (target text : List ℕ) : Type 0 where
   pub origin : is_origin_form target ≡ true
   pub visible : AllPass is_uri_byte target
-  pub authority_bytes : AllPass is_value_byte authority
   pub head_fits : length text ≤ 16_384
 
 abbrev pub field_text : Field → FieldText

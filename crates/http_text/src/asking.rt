@@ -18,7 +18,7 @@ pub fn request_text(
 ) -> Result<Vec<u8>, NoMemory>
     ensures text { IfOk result (λ text. text.items ≡ request_text_of base.now.authority target.now known) }
     // It is one whole GET request, which says the target.
-    ensures whole { IfOk result (λ text. CanAsk base.now.authority target.now text.items
+    ensures whole { IfOk result (λ text. CanAsk target.now text.items
         → (request : Request) × IsWholeRequest text.items request × SaysGet target.now known text.items request) }
 {
     let text = text_of(alloc, base.authority(), target, known)?;
