@@ -3,7 +3,6 @@ use Rattle.std.proofs.Common.{◌≡◌, ℕ, ◌+◌, ◌<◌, ◌≤◌, Bool,
 use Rattle.std.specs.Prelude.{IfSome, IsUtf8}
 use Rattle.std.specs.List.{flat_map, list_all, AllByRecursion}
 use Rattle.std.proofs.lemmas.List.Sums.{AllPass-from_list_all}
-use Rattle.form_urlencoded.specs.Form.{split}
 use Rattle.httparse.specs.Ascii.{crlf_bytes}
 use Rattle.httparse.specs.Grammar.{crlf, print_field, print_version, IsToken, is_token_byte, AllPass, is_uri_byte, is_value_byte, trim_ows, RequestHead, print_request, IsRequestHead}
 use Rattle.httparse.proofs.GrammarLemmas.{print_request-append}
@@ -12,6 +11,7 @@ use Rattle.lc_time.proofs.HttpLemmas.{says_date}
 use Rattle.http_text.specs.declared.request.Request.{Request}
 use Rattle.http_text.specs.Fields.{texts_of, values_of, closes}
 use Rattle.http_text.specs.Line.{moment_line}
+use Rattle.http_text.specs.Members.{members}
 use Rattle.http_text.specs.Reply.{first_of, IsMomentOf}
 use Rattle.http_text.specs.Request.{field_said, refusal_of, refusal_of_head, body_len, request_of, IsWholeWith, IsWholeRequest}
 use Rattle.http_text.specs.RequestText.{request_text_of, CanAsk, field_text, SaysGet}
@@ -122,7 +122,7 @@ bodiless authority target (Some m) = refl
 -- ---- what it says
 
 ends : (authority target : List ℕ) (k : Option ℕ) → closes 1 (texts_of (fields_from (entries authority k))) ≡ true
-unfolding trim_ows split
+unfolding trim_ows members
 ends authority target None = refl
 ends authority target (Some m) = refl
 

@@ -1,61 +1,76 @@
 -- The members of a list are what stands before its first comma, and those of what stands behind it.
-use Rattle.std.proofs.Common.{◌≡◌, ◌≢◌, ℕ, suc, ◌+◌, ◌<◌, ◌-◌, inl, inr, Bool, true, false, cond, not, eqb, List, [], ◌∷◌, length, take, drop, Option, Some, None, refl, sym, ap, ap₂, ◌∙◌, arith, add-one}
-use Rattle.std.specs.List.{position_or_len, position}
-use Rattle.std.specs.Option.{MatchOption}
-use Rattle.std.proofs.lemmas.Bool.{cases_eq, cases_lt, lt-ltb, le-ltb, eq-eqb, ne_eqb, cond-true, cond-false}
-use Rattle.form_urlencoded.specs.Form.{split, onto_first}
+use Rattle.std.proofs.Common.{◌≡◌, ℕ, suc, ◌+◌, ◌-◌, ◌<◌, ◌≤◌, Bool, true, false, cond, List, [], ◌∷◌, ◌++◌, length, get_or, take, drop, refl, sym, ap, ◌∙◌, arith, add-one, append_assoc, append-nil, length-drop, drop-cons}
+use Rattle.std.proofs.lemmas.Bool.{cond-true, cond-false}
+use Rattle.std.proofs.lemmas.List.{take_more, take_all, drop_all}
+use Rattle.http_text.specs.declared.connection.Quoting.{Quoting}
+use Rattle.http_text.specs.declared.connection.Quoting.TheVariants.{Outside}
+use Rattle.http_text.specs.Members.{members, is_part, quoting_after, onto_first}
 
-split_same : (s b : ℕ) (bs : List ℕ) → b ≡ s → split s (b ∷ bs) ≡ [] ∷ split s bs
-unfolding split
-split_same s b bs e = cond-true _ _ _ (eq-eqb b s e)
+-- these bytes begin the first member
+abbrev pub with_front : List ℕ → List (List ℕ) → List (List ℕ)
+with_front front [] = front ∷ []
+with_front front (member ∷ others) = (front ++ member) ∷ others
 
-split_other : (s b : ℕ) (bs : List ℕ) → b ≢ s → split s (b ∷ bs) ≡ onto_first b (split s bs)
-unfolding split
-split_other s b bs other = cond-false _ _ _ (ne_eqb b s other)
+at_comma : (q : Quoting) (b : ℕ) (bs : List ℕ) → is_part q b ≡ true → members q (b ∷ bs) ≡ [] ∷ members Outside bs
+unfolding members
+at_comma q b bs is = cond-true _ _ _ is
 
--- where the first separator is
-abbrev at : ℕ → List ℕ → ℕ
-at s bs = position_or_len (λ b. eqb b s) bs
+past : (q : Quoting) (b : ℕ) (bs : List ℕ) → is_part q b ≡ false → members q (b ∷ bs) ≡ onto_first b (members (quoting_after q b) bs)
+unfolding members
+past q b bs is = cond-false _ _ _ is
 
-at_same : (s b : ℕ) (bs : List ℕ) → b ≡ s → at s (b ∷ bs) ≡ 0
-at_same s b bs e = rw (eq-eqb b s e)
+at_end : (q : Quoting) → members q [] ≡ [] ∷ []
+unfolding members
+at_end q = refl
 
-at_other : (s b : ℕ) (bs : List ℕ) → b ≢ s → at s (b ∷ bs) ≡ 1 + at s bs
-at_other s b bs other = rw (ne_eqb b s other)
+onto_front : (front : List ℕ) (b : ℕ) (ms : List (List ℕ)) → with_front front (onto_first b ms) ≡ with_front (front ++ b ∷ []) ms
+onto_front front b [] = refl
+onto_front front b (m ∷ ms) = ap (λ (x : List ℕ). x ∷ ms) (sym (append_assoc front (b ∷ []) m))
 
--- with a separator
-pub split_at : (s : ℕ) (bs : List ℕ) → at s bs < length bs → split s bs ≡ take (at s bs) bs ∷ split s (drop (suc (at s bs)) bs)
-split_at s [] h = absurd (omega arith)
-split_at s (b ∷ bs) h =
-    elim (cases_eq b s) [
-      | inl same ↦ split_same s b bs same ∙ sym (ap (λ (n : ℕ). take n (b ∷ bs) ∷ split s (drop (suc n) (b ∷ bs))) (at_same s b bs same))
-      | inr other ↦
-          let here : at s (b ∷ bs) ≡ suc (at s bs) = omega (arith, at_other s b bs other) in
-          let inside : at s bs < length bs = omega (arith, here, h) in
-          split_other s b bs other ∙ ap (onto_first b) (split_at s bs inside)
-          ∙ sym (ap (λ (n : ℕ). take n (b ∷ bs) ∷ split s (drop (suc n) (b ∷ bs))) here)
-    ]
+onto_some : (b : ℕ) (ms : List (List ℕ)) → 0 < length (onto_first b ms)
+onto_some b [] = omega arith
+onto_some b (m ∷ ms) = omega arith
 
--- without one
-pub split_none : (s : ℕ) (bs : List ℕ) → length bs < suc (at s bs) → split s bs ≡ bs ∷ []
-unfolding split
-split_none s [] h = refl
-split_none s (b ∷ bs) h =
-    elim (cases_eq b s) [
-      | inl same ↦ absurd (omega (arith, at_same s b bs same, h))
-      | inr other ↦
-          let past : length bs < suc (at s bs) = omega (arith, at_other s b bs other, h) in
-          split_other s b bs other ∙ ap (onto_first b) (split_none s bs past)
-    ]
+either_some : (t : Bool) (b : ℕ) (xs ys : List (List ℕ)) → 0 < length (cond t ([] ∷ xs) (onto_first b ys))
+either_some true b xs ys = omega arith
+either_some false b xs ys = onto_some b ys
 
--- what the search for the first separator says of the members
-pub split_search : (s : ℕ) (bs : List ℕ) (r : Option ℕ) → r ≡ position (λ b. eqb b s) bs → MatchOption r (split s bs ≡ bs ∷ []) (λ n. split s bs ≡ take n bs ∷ split s (drop (n + 1) bs))
-split_search s bs r e =
-    elim (cases_lt (at s bs) (length bs)) [
-      | inl lt ↦
-          let here : r ≡ Some (at s bs) = e ∙ cond-true _ _ _ (lt-ltb _ _ lt) in
-          rw here (rw add-one (split_at s bs lt))
-      | inr ge ↦
-          let here : r ≡ None = e ∙ cond-false _ _ _ (le-ltb _ _ ge) in
-          rw here (split_none s bs (omega arith))
-    ]
+some : (q : Quoting) (list : List ℕ) → 0 < length (members q list)
+unfolding members
+some q [] = omega arith
+some q (b ∷ bs) = either_some (is_part q b) b (members Outside bs) (members (quoting_after q b) bs)
+
+with_none : (ms : List (List ℕ)) → 0 < length ms → with_front [] ms ≡ ms
+with_none [] h = absurd (omega arith)
+with_none (m ∷ ms) h = refl
+
+pub begins : (list : List ℕ) → with_front [] (members Outside list) ≡ members Outside list
+begins list = with_none (members Outside list) (some Outside list)
+
+-- what is left is from this byte on
+here : (list : List ℕ) (at : ℕ) → at < length list → drop at list ≡ get_or list at 0 ∷ drop (at + 1) list
+here list at lt = rw (add-one, drop-cons list at 0) refl
+
+pub goes_on : (list : List ℕ) (at : ℕ) (q : Quoting) (total : List (List ℕ)) → at < length list → is_part q (get_or list at 0) ≡ false → with_front (take at list) (members q (drop at list)) ≡ total → with_front (take (at + 1) list) (members (quoting_after q (get_or list at 0)) (drop (at + 1) list)) ≡ total
+goes_on list at q total lt is so_far =
+    let b = get_or list at 0 in
+    let step = past q b (drop (at + 1) list) is in
+    let one : with_front (take at list) (members q (drop at list)) ≡ with_front (take at list ++ b ∷ []) (members (quoting_after q b) (drop (at + 1) list)) =
+    ap (λ (x : List ℕ). with_front (take at list) (members q x)) (here list at lt) ∙ ap (with_front (take at list)) step ∙ onto_front (take at list) b (members (quoting_after q b) (drop (at + 1) list)) in
+    ap (λ (x : List ℕ). with_front x (members (quoting_after q b) (drop (at + 1) list))) (take_more list at 0 lt) ∙ sym one ∙ so_far
+
+pub parted : (list : List ℕ) (at : ℕ) (q : Quoting) (total : List (List ℕ)) → at < length list → is_part q (get_or list at 0) ≡ true → with_front (take at list) (members q (drop at list)) ≡ total → total ≡ take at list ∷ members Outside (take (length list - (at + 1)) (drop (at + 1) list))
+parted list at q total lt is so_far =
+    let b = get_or list at 0 in
+    let rest : List ℕ = drop (at + 1) list in
+    let end : take (length list - (at + 1)) rest ≡ rest = take_all (length list - (at + 1)) rest (omega (arith, length-drop {A = ℕ})) in
+    sym so_far ∙ ap (λ (x : List ℕ). with_front (take at list) (members q x)) (here list at lt)
+    ∙ ap (with_front (take at list)) (at_comma q b rest is)
+    ∙ ap (λ (x : List ℕ). x ∷ members Outside rest) (append-nil (take at list))
+    ∙ ap (λ (x : List ℕ). take at list ∷ members Outside x) (sym end)
+
+pub ended : (list : List ℕ) (at : ℕ) (q : Quoting) (total : List (List ℕ)) → length list ≤ at → with_front (take at list) (members q (drop at list)) ≡ total → total ≡ list ∷ []
+ended list at q total le so_far =
+    sym so_far ∙ ap (λ (x : List ℕ). with_front (take at list) (members q x)) (drop_all at list le)
+    ∙ ap (with_front (take at list)) (at_end q)
+    ∙ ap (λ (x : List ℕ). x ∷ []) (append-nil (take at list) ∙ take_all at list le)

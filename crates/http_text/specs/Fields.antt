@@ -2,10 +2,11 @@
 use Rattle.std.specs.Prelude.{ℕ, Bool, ◌||◌, ◌==◌, List, map, codes}
 use Rattle.std.specs.List.{filter, list_any}
 use Rattle.std.specs.Str.{str_eq_ignore_ascii_case}
-use Rattle.form_urlencoded.specs.Form.{split}
 use Rattle.httparse.specs.Grammar.{Field}
 use Rattle.httparse.specs.Spans.{name_and_value}
 use Rattle.lc_time.specs.Http.{without_blanks}
+use Rattle.http_text.specs.Members.{members}
+use Rattle.http_text.specs.declared.connection.Quoting.TheVariants.{Outside}
 
 -- a field as its name and its value, without the blanks around the value
 abbrev pub FieldText : Type 0
@@ -27,9 +28,9 @@ values_of name fields = map (λ (f : FieldText). f.1) (filter (is_named name) fi
 abbrev pub is_close : List ℕ → Bool
 is_close member = str_eq_ignore_ascii_case (without_blanks member) (codes "close")
 
--- a member of the list, which commas part, is the word `close`
+-- a member of the list is the word `close`
 abbrev pub has_close : List ℕ → Bool
-has_close value = list_any is_close (split 44 value)
+has_close value = list_any is_close (members Outside value)
 
 -- the connection ends after the message: HTTP/1.0, or `close` as a member of a Connection field
 abbrev pub closes : ℕ → List FieldText → Bool

@@ -1,6 +1,7 @@
 pub mod Fields
 pub mod Length
 pub mod Line
+pub mod Members
 pub mod Named
 pub mod Reply
 pub mod ReplyText

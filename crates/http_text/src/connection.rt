@@ -1,11 +1,11 @@
 ghost use Rattle.std.specs.Prelude.{◌≡◌, ◌<◌, [], ◌∷◌, length, reverse, All, IfSome, MatchOption};
 ghost use Rattle.lc_time.specs.Http.{without_front_blanks};
-ghost use Rattle.form_urlencoded.specs.Form.{split};
+ghost use Rattle.http_text.specs.declared.connection.Quoting.TheVariants.{Outside as Start};
+ghost use Rattle.http_text.specs.Members.{members, is_part, quoting_after};
 ghost use Rattle.httparse.specs.Spans.{IsHeaderWithin};
 ghost use Rattle.http_text.specs.Fields.{is_close, has_close, closes};
 ghost use Rattle.http_text.specs.Named.{texts_at};
 
-use crate::front::first_place;
 use crate::named::{is_named, is_same};
 use httparse::spans::HeaderSpan;
 
@@ -37,15 +37,50 @@ fn has_close(value: &[u8]) -> bool
     is_close(rest)
 }
 
+/// Where a byte of a list stands: outside of quoted strings, inside one, or behind a backslash inside one.
+#[derive(Clone, Copy)]
+enum Quoting {
+    Outside,
+    Inside,
+    Escaped,
+}
+
 /// The first member of a list, and the others, if there are others.
 fn split_at_comma(list: &[u8]) -> Option<(&[u8], &[u8])>
     ensures shorter { IfSome result (λ parts. length parts.1.now < length list.now) }
-    ensures parts { MatchOption result (split 44 list.now ≡ list.now ∷ [])
-        (λ parts. split 44 list.now ≡ parts.0.now ∷ split 44 parts.1.now) }
+    ensures parts { MatchOption result (members Start list.now ≡ list.now ∷ [])
+        (λ parts. members Start list.now ≡ parts.0.now ∷ members Start parts.1.now) }
 {
-    match first_place(list, b',') {
-        Some(at) => Some((&list[..at], &list[at + 1..])),
-        None => None,
+    let mut quoting = Quoting::Outside;
+    for (at, byte) in list.iter().enumerate() {
+        if is_part(quoting, *byte) {
+            return Some((&list[..at], &list[at + 1..]));
+        }
+        quoting = quoting_after(quoting, *byte);
+    }
+    None
+}
+
+/// Whether the byte parts the members: a comma outside of quoted strings.
+fn is_part(quoting: Quoting, byte: u8) -> bool
+    ensures { result ≡ is_part quoting byte }
+{
+    match quoting {
+        Quoting::Outside => byte == b',',
+        Quoting::Inside | Quoting::Escaped => false,
+    }
+}
+
+/// Where the byte behind this one stands.
+fn quoting_after(quoting: Quoting, byte: u8) -> Quoting
+    ensures { result ≡ quoting_after quoting byte }
+{
+    match (quoting, byte) {
+        (Quoting::Outside, b'"') => Quoting::Inside,
+        (Quoting::Outside, _) => Quoting::Outside,
+        (Quoting::Inside, b'"') => Quoting::Outside,
+        (Quoting::Inside, b'\\') => Quoting::Escaped,
+        (Quoting::Inside | Quoting::Escaped, _) => Quoting::Inside,
     }
 }
 

@@ -266,6 +266,18 @@ fn reads_requests(rt: HostRuntime) -> Result<(), Fail> {
             false,
         ),
         (
+            "GET / HTTP/1.1\r\nHost: x\r\nConnection: \"a\\\", close, b\"\r\n\r\n",
+            "GET",
+            "/",
+            false,
+        ),
+        (
+            "GET / HTTP/1.1\r\nHost: x\r\nConnection: \"a, b\", close\r\n\r\n",
+            "GET",
+            "/",
+            true,
+        ),
+        (
             "GET / HTTP/1.1\r\nHost: x\r\nConnection: closed\r\n\r\n",
             "GET",
             "/",

@@ -1,15 +1,24 @@
-use Rattle.std.proofs.Common.{ℕ, List, ◌+◌, ◌-◌, ◌∷◌, take, drop, length, arith, ap, sym, ◌∙◌, length-drop}
-use Rattle.std.proofs.lemmas.List.{take_all}
-use Rattle.form_urlencoded.specs.Form.{split}
-use Rattle.http_text.proofs.MemberLemmas.{split_search}
+use Rattle.std.proofs.Common.{◌≡◌, ◌+◌, ◌∙◌, List, ℕ, take, drop, sym, ap}
+use Rattle.http_text.specs.declared.connection.Quoting.{Quoting}
+use Rattle.http_text.specs.declared.connection.Quoting.TheVariants.{Outside}
+use Rattle.http_text.specs.Members.{members}
+use Rattle.http_text.proofs.MemberLemmas.{with_front, begins, goes_on, parted, ended}
 use Rattle.http_text.proofs.connection.split_at_comma.Goals as goal
 
-pub returns-in-Some-clause-parts : goal.returns-in-Some-clause-parts
-returns-in-Some-clause-parts c =
-    let at = c.in-Some.at in
-    let list = c.args.list.now in
-    split_search 44 list _ c.in-Some.ensures.first
-    ∙ ap (λ (rest : List ℕ). take at list ∷ split 44 rest) (sym (take_all (length list - (at + 1)) (drop (at + 1) list) (omega (arith, length-drop {A = ℕ}))))
+pub loop-at-init : goal.loop-at-init
+loop-at-init c = begins c.args.list.now
 
-pub returns-in-None-clause-parts : goal.returns-in-None-clause-parts
-returns-in-None-clause-parts c = split_search 44 c.args.list.now _ c.in-None.ensures.first
+pub loop-at-preserved : goal.loop-at-preserved
+loop-at-preserved c =
+    let list = c.args.list.now in
+    let at = c.loop-at.at in
+    ap (λ (q : Quoting). with_front (take (at + 1) list) (members q (drop (at + 1) list))) c.quoting_after-quoting.ensures
+    ∙ goes_on list at c.loop-at.quoting (members Outside list) c.loop-at-test.true (sym c.is_part.ensures ∙ c.if-is_part.false) c.loop-at.invariant
+
+pub returns-then-is_part-clause-parts : goal.returns-then-is_part-clause-parts
+returns-then-is_part-clause-parts c =
+    parted c.args.list.now c.loop-at.at c.loop-at.quoting (members Outside c.args.list.now) c.loop-at-test.true (sym c.is_part.ensures ∙ c.if-is_part.true) c.loop-at.invariant
+
+pub returns-clause-parts : goal.returns-clause-parts
+returns-clause-parts c =
+    ended c.args.list.now c.loop-at.at c.loop-at.quoting (members Outside c.args.list.now) c.loop-at-test.false c.loop-at.invariant
