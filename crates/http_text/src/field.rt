@@ -1,6 +1,7 @@
 ghost use Rattle.std.specs.Prelude.{◌≡◌};
 
-use lc_model::Bytes;
+use lc_model::{Bytes, NoMemory, PlainData, copy_each};
+use std::alloc::Global;
 use std::marker::Model;
 
 /// A field of a head. The value stands without the blanks around it.
@@ -8,6 +9,15 @@ use std::marker::Model;
 pub struct Field {
     pub name: Bytes,
     pub value: Bytes,
+}
+
+impl PlainData for Field {
+    fn copy(&self, alloc: Global) -> Result<Field, NoMemory> {
+        Ok(Field {
+            name: self.name.copy(alloc)?,
+            value: self.value.copy(alloc)?,
+        })
+    }
 }
 
 /// The fields of a head, in order.
@@ -36,5 +46,12 @@ impl Fields {
         ensures { result.now ≡ self.now }
     {
         self.items.as_slice()
+    }
+}
+
+impl PlainData for Fields {
+    fn copy(&self, alloc: Global) -> Result<Fields, NoMemory> {
+        let items = copy_each(alloc, self.as_slice())?;
+        Ok(Fields::from_list(items))
     }
 }

@@ -1,6 +1,7 @@
 ghost use Rattle.std.specs.Prelude.{◌≡◌};
 
-use lc_model::Text;
+use lc_model::{NoMemory, PlainData, Text, copy_each};
+use std::alloc::Global;
 use std::marker::Model;
 
 /// A member of a query, decoded.
@@ -8,6 +9,15 @@ use std::marker::Model;
 pub struct Member {
     pub name: Text,
     pub value: Text,
+}
+
+impl PlainData for Member {
+    fn copy(&self, alloc: Global) -> Result<Member, NoMemory> {
+        Ok(Member {
+            name: self.name.copy(alloc)?,
+            value: self.value.copy(alloc)?,
+        })
+    }
 }
 
 /// The members of a query, in order.
@@ -36,5 +46,12 @@ impl Members {
         ensures { result.now ≡ self.now }
     {
         self.items.as_slice()
+    }
+}
+
+impl PlainData for Members {
+    fn copy(&self, alloc: Global) -> Result<Members, NoMemory> {
+        let items = copy_each(alloc, self.as_slice())?;
+        Ok(Members::from_list(items))
     }
 }

@@ -1,4 +1,5 @@
-use lc_model::{Moment, Text};
+use lc_model::{Moment, NoMemory, PlainData, Text};
+use std::alloc::Global;
 
 /// What a reply says. The body lies from `body_from` up to `body_to` in its bytes.
 #[derive(Debug, Drop)]
@@ -10,4 +11,16 @@ pub struct Reply {
     pub memento: Option<Moment>,
     pub body_from: usize,
     pub body_to: usize,
+}
+
+impl PlainData for Reply {
+    fn copy(&self, alloc: Global) -> Result<Reply, NoMemory> {
+        Ok(Reply {
+            status: self.status,
+            location: self.location.copy(alloc)?,
+            memento: self.memento,
+            body_from: self.body_from,
+            body_to: self.body_to,
+        })
+    }
 }

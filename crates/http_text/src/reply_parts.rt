@@ -1,4 +1,5 @@
-use lc_model::{Bytes, Moment, Text};
+use lc_model::{Bytes, Moment, NoMemory, PlainData, Text};
+use std::alloc::Global;
 
 /// What a body is.
 #[derive(Clone, Copy, Debug, PartialEq, Eq)]
@@ -34,4 +35,20 @@ pub struct ReplyParts {
     /// Whether the connection ends after the reply.
     pub close: bool,
     pub body: Bytes,
+}
+
+impl PlainData for ReplyParts {
+    fn copy(&self, alloc: Global) -> Result<ReplyParts, NoMemory> {
+        Ok(ReplyParts {
+            status: self.status,
+            kind: self.kind,
+            length: self.length,
+            location: self.location.copy(alloc)?,
+            memento: self.memento,
+            original: self.original.copy(alloc)?,
+            allow: self.allow,
+            close: self.close,
+            body: self.body.copy(alloc)?,
+        })
+    }
 }

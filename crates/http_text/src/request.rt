@@ -1,5 +1,6 @@
 use crate::{Fields, Members};
-use lc_model::Bytes;
+use lc_model::{Bytes, NoMemory, PlainData};
+use std::alloc::Global;
 
 /// What a request says. Its body lies from `body_from` to the end of its bytes.
 #[derive(Debug, Drop)]
@@ -12,4 +13,17 @@ pub struct Request {
     pub body_from: usize,
     /// Whether the connection ends after the reply.
     pub close: bool,
+}
+
+impl PlainData for Request {
+    fn copy(&self, alloc: Global) -> Result<Request, NoMemory> {
+        Ok(Request {
+            method: self.method.copy(alloc)?,
+            path: self.path.copy(alloc)?,
+            query: self.query.copy(alloc)?,
+            fields: self.fields.copy(alloc)?,
+            body_from: self.body_from,
+            close: self.close,
+        })
+    }
 }

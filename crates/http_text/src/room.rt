@@ -65,9 +65,12 @@ impl HeadRoom {
 /// What stands at the front of the bytes that have come, as `HeadRoom::take_request` says it, with room made for it.
 pub fn take_request(alloc: Global, bytes: &[u8]) -> Result<Taken, NoMemory>
     ensures said { IfOk result (Takes bytes.now) }
-    ensures only { IfOk result (λ taken. (other : Answer) → Takes bytes.now other → (taken ≡ other) ⊎ IsEither bytes.now) }
-    ensures whole { IfOk result (λ taken. (n : ℕ) → taken ≡ WholeRequest n → (n ≤ length bytes.now) × IsWhole (take n bytes.now)) }
-    ensures every_whole { IfOk result (λ taken. (n : ℕ) → n ≤ length bytes.now → IsWhole (take n bytes.now) → taken ≡ WholeRequest n) }
+    ensures only { IfOk result (λ taken. (other : Answer) → Takes bytes.now other
+        → (taken ≡ other) ⊎ IsEither bytes.now) }
+    ensures whole { IfOk result (λ taken. (n : ℕ) → taken ≡ WholeRequest n
+        → (n ≤ length bytes.now) × IsWhole (take n bytes.now)) }
+    ensures every_whole { IfOk result (λ taken. (n : ℕ) → n ≤ length bytes.now
+        → IsWhole (take n bytes.now) → taken ≡ WholeRequest n) }
 {
     Ok(HeadRoom::new(alloc)?.take_request(bytes))
 }
