@@ -1,10 +1,10 @@
 -- The text of a reply is read back with its status, location, memento and body.
-use Rattle.std.proofs.Common.{◌≡◌, ℕ, ◌+◌, ◌-◌, ◌*◌, ◌/◌, ◌%◌, ◌^◌, ◌<◌, ◌≤◌, inl, inr, Bool, true, false, cond, List, [], ◌∷◌, ◌++◌, length, take, drop, map, codes, decimal, Option, Some, None, All, refl, sym, ap, ap₂, subst, ◌∙◌, arith, append_assoc, append-nil, length-append}
+use Rattle.std.proofs.Common.{◌≡◌, ℕ, ◌+◌, ◌-◌, ◌/◌, ◌^◌, ◌<◌, ◌≤◌, inl, inr, Bool, true, false, cond, List, [], ◌∷◌, ◌++◌, length, take, drop, codes, decimal, Option, Some, None, refl, sym, ap, ap₂, subst, ◌∙◌, arith, append_assoc, append-nil, length-append}
 use Rattle.std.specs.Prelude.{IfSome, IsUtf8, nat_lt}
-use Rattle.std.specs.List.{flat_map, list_all, AllByRecursion}
+use Rattle.std.specs.List.{list_all, AllByRecursion}
 use Rattle.std.specs.Char.{is_ascii_digit}
 use Rattle.std.specs.Str.Parse.{digits_value}
-use Rattle.std.proofs.lemmas.Bool.{cases_eq, ne_eqb, cond-true, cond-false, le-ltb}
+use Rattle.std.proofs.lemmas.Bool.{cases_eq, ne_eqb, cond-true, le-ltb}
 use Rattle.std.proofs.lemmas.List.{length-map}
 use Rattle.std.proofs.lemmas.List.Sums.{AllPass-from_list_all}
 use Rattle.std.proofs.lemmas.Fmt.{decimal_digit, decimal_step, decimal_is_IsNumeral}
@@ -12,20 +12,19 @@ use Rattle.std.proofs.lemmas.List.Elements.{All-append}
 use Rattle.std.proofs.Math.Seq.{take-append-add, drop-append_seam}
 use Rattle.httparse.specs.Spans.{name_and_value}
 use Rattle.httparse.specs.Ascii.{crlf_bytes}
-use Rattle.httparse.specs.Grammar.{crlf, print_field, print_version, IsToken, is_token_byte, AllPass, is_uri_byte, is_value_byte, trim_ows, ResponseHead, print_response, IsResponseHead}
+use Rattle.httparse.specs.Grammar.{crlf, print_version, IsToken, is_token_byte, AllPass, is_uri_byte, is_value_byte, ResponseHead, print_response, IsResponseHead}
 use Rattle.httparse.proofs.GrammarLemmas.{print_response-append}
-use Rattle.lc_time.specs.Http.{http_date_of, SaysHttpDate}
+use Rattle.lc_time.specs.Http.{SaysHttpDate}
 use Rattle.lc_time.proofs.HttpLemmas.{says_date}
 use Rattle.http_text.specs.declared.length.Length.{Length}
 use Rattle.http_text.specs.declared.length.Length.TheVariants.{Missing, Said}
-use Rattle.http_text.specs.declared.reply.Reply.{Reply}
 use Rattle.http_text.specs.declared.reply_fault.ReplyFault.{ReplyFault}
 use Rattle.http_text.specs.declared.reply_parts.Allow.{Allow}
 use Rattle.http_text.specs.declared.reply_parts.Allow.TheVariants.{Reading, Posting}
 use Rattle.http_text.specs.declared.reply_parts.BodyKind.{BodyKind}
 use Rattle.http_text.specs.declared.reply_parts.BodyKind.TheVariants.{Page, Stops}
 use Rattle.http_text.specs.declared.reply_parts.ReplyParts.{ReplyParts}
-use Rattle.http_text.specs.Fields.{texts_of, values_of}
+use Rattle.http_text.specs.Fields.{texts_of}
 use Rattle.http_text.specs.Length.{length_of, length_in, length_at, is_wrong, said_or}
 use Rattle.http_text.specs.Line.{moment_line}
 use Rattle.http_text.specs.Reply.{first_of, IsTextOf, IsMomentOf, fault_of, SaysOf, HasReplyHead, behind, IsReply}
@@ -34,7 +33,7 @@ use Rattle.http_text.specs.Request.{front_of, has_field}
 use Rattle.http_text.proofs.AskLemmas.{date_of, token, connection_token, close_bytes, dates_bytes}
 use Rattle.http_text.proofs.ByteLemmas.{trimmed, value_bytes, decimal_visible, decimal_digits, decimal_length}
 use Rattle.http_text.proofs.DateLemmas.{date_trimmed}
-use Rattle.http_text.proofs.EntryLemmas.{Entry, fields_from, line_at, lines_from, printed, IsEntry, valid, few, cons_value, values_in, values_from}
+use Rattle.http_text.proofs.EntryLemmas.{Entry, fields_from, line_at, lines_from, printed, IsEntry, valid, few, cons_value, values_from}
 
 -- ---- statuses
 

@@ -1,10 +1,10 @@
 -- The text of a GET request is one whole request, which says its target.
-use Rattle.std.proofs.Common.{◌≡◌, ℕ, ◌+◌, ◌<◌, ◌≤◌, Bool, true, false, cond, List, [], ◌∷◌, ◌++◌, length, map, codes, Option, Some, None, All, refl, sym, ap, subst, ◌∙◌, arith, append_assoc, append-nil, length-append}
+use Rattle.std.proofs.Common.{◌≡◌, ℕ, ◌<◌, true, List, [], ◌∷◌, ◌++◌, length, map, codes, Option, Some, None, refl, sym, ap, subst, ◌∙◌, arith, append_assoc, append-nil}
 use Rattle.std.specs.Prelude.{IfSome, IsUtf8}
-use Rattle.std.specs.List.{flat_map, list_all, AllByRecursion}
+use Rattle.std.specs.List.{list_all, AllByRecursion}
 use Rattle.std.proofs.lemmas.List.Sums.{AllPass-from_list_all}
 use Rattle.httparse.specs.Ascii.{crlf_bytes}
-use Rattle.httparse.specs.Grammar.{crlf, print_field, print_version, IsToken, is_token_byte, AllPass, is_uri_byte, is_value_byte, trim_ows, RequestHead, print_request, IsRequestHead}
+use Rattle.httparse.specs.Grammar.{crlf, print_version, IsToken, is_token_byte, AllPass, is_value_byte, trim_ows, RequestHead, print_request, IsRequestHead}
 use Rattle.httparse.proofs.GrammarLemmas.{print_request-append}
 use Rattle.lc_time.specs.Http.{http_date_of, SaysHttpDate}
 use Rattle.lc_time.proofs.HttpLemmas.{says_date}
@@ -13,7 +13,7 @@ use Rattle.http_text.specs.Fields.{texts_of, values_of, closes}
 use Rattle.http_text.specs.Line.{moment_line}
 use Rattle.http_text.specs.Members.{members}
 use Rattle.http_text.specs.Reply.{first_of, IsMomentOf}
-use Rattle.http_text.specs.Request.{field_said, refusal_of, refusal_of_head, body_len, request_of, IsWholeWith, IsWholeRequest}
+use Rattle.http_text.specs.Request.{field_said, refusal_of_head, body_len, request_of, IsWholeRequest}
 use Rattle.http_text.specs.RequestText.{request_text_of, CanAsk, field_text, SaysGet}
 use Rattle.http_text.specs.Target.{is_origin_form}
 use Rattle.http_text.proofs.DateLemmas.{date_bytes, date_trimmed}

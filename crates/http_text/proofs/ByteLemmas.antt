@@ -1,15 +1,14 @@
 -- Bytes that stand in a field's value, and what dropping blanks leaves of them.
-use Rattle.std.proofs.Common.{◌≡◌, ℕ, zero, suc, ◌+◌, ◌-◌, ◌*◌, ◌/◌, ◌%◌, ◌^◌, ◌<◌, ◌≤◌, inl, inr, Bool, true, false, cond, ◌&&◌, List, [], ◌∷◌, ◌++◌, length, reverse, codes, decimal, refl, sym, ap, ap₂, subst, ◌∙◌, arith}
+use Rattle.std.proofs.Common.{◌≡◌, ℕ, ◌+◌, ◌%◌, ◌^◌, ◌<◌, Bool, true, false, List, [], ◌∷◌, ◌++◌, reverse, decimal, refl, arith}
 use Rattle.std.specs.List.{list_all}
 use Rattle.std.specs.Char.{is_ascii_digit}
 use Rattle.std.specs.Str.Parse.{digits_value}
-use Rattle.std.proofs.lemmas.Bool.{and_parts, cases_lt, le-leb, lt-ltb}
+use Rattle.std.proofs.lemmas.Bool.{and_parts, le-leb, lt-ltb}
 use Rattle.std.proofs.lemmas.List.{reverse-append, reverse-reverse}
 use Rattle.std.proofs.lemmas.List.Folds.{list_all-append}
 use Rattle.std.proofs.lemmas.List.Sums.{AllPass-from_list_all, list_all-from_AllPass}
 use Rattle.std.proofs.lemmas.Fmt.{decimal_by_steps, decimal_is_IsNumeral, length-decimal-le, decimal_nonempty}
 use Rattle.httparse.specs.Grammar.{AllPass, is_uri_byte, is_value_byte, is_ows, skip_ows, trim_ows}
-use Rattle.lc_time.specs.Http.{is_blank, http_date_of, without_front_blanks, without_blanks, SaysHttpDate}
 use Rattle.connection_uri.specs.Base.{is_visible}
 use Rattle.http_text.specs.Length.{is_length}
 

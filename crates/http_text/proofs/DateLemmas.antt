@@ -1,14 +1,13 @@
 -- A date of HTTP stands in a field's value as it is written.
-use Rattle.std.proofs.Common.{◌≡◌, ℕ, zero, suc, ◌+◌, ◌-◌, ◌/◌, ◌%◌, ◌<◌, ◌≤◌, Bool, true, false, List, [], ◌∷◌, ◌++◌, reverse, codes, refl, sym, ap, subst, ◌∙◌, arith}
+use Rattle.std.proofs.Common.{◌≡◌, ℕ, zero, suc, ◌+◌, ◌-◌, ◌/◌, ◌%◌, ◌<◌, true, false, List, [], ◌∷◌, ◌++◌, reverse, codes, refl, sym, ap, subst, ◌∙◌, arith}
 use Rattle.std.specs.Prelude.{slice_index_or}
 use Rattle.std.specs.List.{list_all}
 use Rattle.std.proofs.lemmas.List.{reverse-append, reverse-reverse}
 use Rattle.std.proofs.lemmas.List.Folds.{list_all-append}
 use Rattle.std.proofs.lemmas.List.Sums.{AllPass-from_list_all}
-use Rattle.httparse.specs.Grammar.{AllPass, is_value_byte, is_ows, skip_ows, trim_ows}
+use Rattle.httparse.specs.Grammar.{AllPass, is_value_byte, skip_ows, trim_ows}
 use Rattle.httpdate.specs.Text.{day_name, month_name, two_digits, four_digits, time_of_day}
 use Rattle.httpdate.specs.declared.parts.Parts.{Parts}
-use Rattle.lc_time.specs.Calendar.{day_at}
 use Rattle.lc_time.specs.Http.{http_parts_of, http_date_of, is_blank, without_front_blanks, without_blanks}
 use Rattle.lc_time.proofs.DateLemmas.{day_fits}
 

@@ -1,10 +1,10 @@
 -- Heads in the first 16,384 bytes: how many fields they have at most, and that there is one at most.
-use Rattle.std.proofs.Common.{◌≡◌, ℕ, suc, ◌+◌, ◌-◌, ◌*◌, ◌<◌, ◌≤◌, inl, inr, List, [], ◌∷◌, ◌++◌, length, take, drop, All, refl, sym, ap, ◌∙◌, arith, length-append, append_assoc}
+use Rattle.std.proofs.Common.{◌≡◌, ℕ, ◌+◌, ◌*◌, ◌≤◌, List, [], ◌∷◌, ◌++◌, length, All, sym, ap, ◌∙◌, arith, length-append}
 use Rattle.std.specs.List.{flat_map}
-use Rattle.std.proofs.lemmas.List.{take-append-drop, length-take}
+use Rattle.std.proofs.lemmas.List.{length-take}
 use Rattle.std.proofs.lemmas.List.Elements.{All-head, All-tail}
 use Rattle.std.proofs.lemmas.List.Concat.{flat_map-cons}
-use Rattle.httparse.specs.Grammar.{LineEnd, crlf, lf, Field, print_field, IsField, print_section, print_blank, print_version, print_end, RequestHead, print_request, ReadsRequest, ResponseHead, print_response, print_reason, ReadsResponse, NeverHasRequest, NeverHasResponse}
+use Rattle.httparse.specs.Grammar.{LineEnd, crlf, lf, Field, print_field, IsField, print_section, print_end, RequestHead, print_request, ResponseHead, print_response, NeverHasResponse}
 use Rattle.httparse.specs.Spans.{RequestExceeds, ResponseExceeds}
 use Rattle.httparse.proofs.GrammarLemmas.{request_unique, ReadsRequest-append, response_unique, ReadsResponse-append}
 use Rattle.http_text.specs.Request.{front_of}

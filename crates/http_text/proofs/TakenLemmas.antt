@@ -1,7 +1,7 @@
 -- Which answers are right for the bytes that have come.
-use Rattle.std.proofs.Common.{◌≡◌, ◌≢◌, ℕ, ◌+◌, ◌-◌, ◌<◌, ◌≤◌, ◌⊎◌, inl, inr, Bool, true, false, cond, ltb, leb, List, [], ◌++◌, length, take, drop, Option, Some, None, refl, sym, ap, ap₂, subst, ◌∙◌, arith, append_assoc, length-append}
+use Rattle.std.proofs.Common.{◌≡◌, ◌≢◌, ℕ, ◌+◌, ◌-◌, ◌≤◌, ◌⊎◌, inl, inr, Bool, true, false, cond, ltb, leb, List, [], ◌++◌, length, take, drop, Option, Some, None, refl, sym, ap, ap₂, subst, ◌∙◌, arith, append_assoc, length-append}
 use Rattle.std.proofs.lemmas.Bool.{leb-true, le-leb}
-use Rattle.std.proofs.lemmas.List.{take-append-drop, length-take-le, length-drop}
+use Rattle.std.proofs.lemmas.List.{take-append-drop, length-take-le}
 use Rattle.std.proofs.Math.Seq.{take-append-add}
 use Rattle.httparse.specs.declared.Error.{Error}
 use Rattle.httparse.specs.declared.Error.TheVariants.{TooManyHeaders}
@@ -11,7 +11,7 @@ use Rattle.http_text.specs.declared.taken.Taken.{Taken}
 use Rattle.http_text.specs.declared.taken.Taken.TheVariants.{Whole, NotYet, Refused}
 use Rattle.http_text.specs.Request.{refusal_of_head, body_len, front_of, IsWhole, IsWholeWith}
 use Rattle.http_text.specs.Taken.{Takes, HasHead, IsOpen, IsHopeless, IsEither, taken_of, needed, open_taken}
-use Rattle.http_text.proofs.HeadLemmas.{one_head, hope, front_len, front_inside, no_request_exceeds}
+use Rattle.http_text.proofs.HeadLemmas.{one_head, hope, front_len, no_request_exceeds}
 
 -- an open head that no bytes complete ends inside its target
 open_hopeless : (bytes : List ℕ) → IsOpen bytes → IsHopeless bytes → IsEither bytes

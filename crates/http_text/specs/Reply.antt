@@ -1,5 +1,5 @@
 -- Replies as a client reads them (RFC 9112, sections 4 and 6; RFC 7089, section 2.1).
-use Rattle.std.specs.Prelude.{◌≡◌, ℕ, ◌+◌, ◌-◌, ◌≤◌, ◌<◌, ◌⊎◌, nat_lt, List, [], ◌∷◌, length, take, drop, codes, Option, Some, None, MatchOption, Result, Ok, Err, IsUtf8, if◌then◌else◌}
+use Rattle.std.specs.Prelude.{◌≡◌, ℕ, ◌+◌, ◌-◌, ◌⊎◌, nat_lt, List, [], ◌∷◌, length, codes, Option, Some, None, MatchOption, IsUtf8, if◌then◌else◌}
 use Rattle.httparse.specs.Grammar.{ResponseHead, print_response, ReadsResponse, status_code, HasNoResponse, MayBecomeResponse, NeverHasResponse}
 use Rattle.lc_time.specs.Http.{SaysHttpDate}
 use Rattle.http_text.specs.declared.reply.Reply.{Reply}

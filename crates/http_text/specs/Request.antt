@@ -1,5 +1,5 @@
 -- Requests (RFC 9112, sections 2 to 6): what a head asks for, why it is refused, and what a whole request says.
-use Rattle.std.specs.Prelude.{◌≡◌, ℕ, ◌+◌, ◌≤◌, Bool, not, ◌&&◌, ◌||◌, ◌==◌, nat_lt, List, [], ◌∷◌, length, take, map, codes, Option, Some, None, if◌then◌else◌}
+use Rattle.std.specs.Prelude.{◌≡◌, ℕ, ◌≤◌, Bool, not, ◌&&◌, ◌||◌, ◌==◌, nat_lt, List, length, take, map, codes, Option, Some, None, if◌then◌else◌}
 use Rattle.httparse.specs.Grammar.{RequestHead, print_request, ReadsRequest}
 use Rattle.http_text.specs.declared.field.Field.{Field as FieldSaid}
 use Rattle.http_text.specs.declared.request.Request.{Request}

@@ -1,5 +1,5 @@
 -- What is taken of the bytes that have come on a connection.
-use Rattle.std.specs.Prelude.{◌≡◌, ℕ, ◌+◌, ◌≤◌, ◌⊎◌, nat_lt, nat_le, List, length, Option, Some, None, if◌then◌else◌}
+use Rattle.std.specs.Prelude.{◌≡◌, ℕ, ◌+◌, ◌⊎◌, nat_lt, nat_le, List, length, Option, Some, None, if◌then◌else◌}
 use Rattle.httparse.specs.Grammar.{RequestHead, print_request, ReadsRequest, HasNoRequest, MayBecomeRequest, NeverHasRequest, EndsInTarget}
 use Rattle.http_text.specs.declared.taken.Taken.{Taken}
 use Rattle.http_text.specs.declared.taken.Taken.TheVariants.{Whole, NotYet, Refused}

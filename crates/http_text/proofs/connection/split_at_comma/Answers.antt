@@ -1,4 +1,4 @@
-use Rattle.std.proofs.Common.{◌≡◌, ◌+◌, ◌∙◌, List, ℕ, take, drop, sym, ap}
+use Rattle.std.proofs.Common.{◌+◌, ◌∙◌, take, drop, sym, ap}
 use Rattle.http_text.specs.declared.connection.Quoting.{Quoting}
 use Rattle.http_text.specs.declared.connection.Quoting.TheVariants.{Outside}
 use Rattle.http_text.specs.Members.{members}

@@ -1,4 +1,4 @@
-use Rattle.std.proofs.Common.{◌≡◌, ℕ, List, length, Err, inl, inr, refl, ap, subst, arith}
+use Rattle.std.proofs.Common.{ℕ, length, Err, inl, inr, refl, ap, subst, arith}
 use Rattle.httparse.specs.Spans.{ResponseExceeds}
 use Rattle.http_text.proofs.HeadLemmas.{front_inside}
 use Rattle.http_text.proofs.ReplyLemmas.{refused_is}

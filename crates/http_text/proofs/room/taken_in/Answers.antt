@@ -1,6 +1,5 @@
-use Rattle.std.proofs.Common.{◌≡◌, ℕ, List, length, Err, inr, refl, ap, subst, arith}
+use Rattle.std.proofs.Common.{ℕ, length, Err, inr, refl, ap, subst, arith}
 use Rattle.httparse.specs.Spans.{RequestExceeds}
-use Rattle.http_text.specs.Request.{front_of}
 use Rattle.http_text.proofs.HeadLemmas.{front_inside}
 use Rattle.http_text.proofs.TakenLemmas.{refused_is}
 use Rattle.http_text.proofs.room.taken_in.Goals as goal

@@ -1,4 +1,4 @@
-use Rattle.std.proofs.Common.{ℕ, List, ap, sym, ◌∙◌, ◌+◌, take, drop}
+use Rattle.std.proofs.Common.{ℕ, ap, sym, ◌∙◌, ◌+◌, take, drop}
 use Rattle.http_text.proofs.PlaceLemmas.{found, to_end, all_before, none_after}
 use Rattle.http_text.proofs.target.split_at_mark.Goals as goal
 

@@ -1,4 +1,4 @@
-use Rattle.std.proofs.Common.{subst, ◌≡◌}
+use Rattle.std.proofs.Common.{subst}
 use Rattle.http_text.specs.Taken.{Takes}
 use Rattle.http_text.proofs.TakenLemmas.{one_answer, whole_is, every_whole}
 use Rattle.http_text.proofs.room.HeadRoom.take_request.Goals as goal
