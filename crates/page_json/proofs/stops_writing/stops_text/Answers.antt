@@ -1,0 +1,12 @@
+-- The tree has no float.
+use Rattle.std.proofs.Common.{◌∙◌, ap}
+use Rattle.serde_json.specs.Written.{compact_text, has_float}
+use Rattle.page_json.specs.Tree.{stops_text_of}
+use Rattle.page_json.proofs.Floats.{stops_plain}
+use Rattle.page_json.proofs.stops_writing.stops_text.Goals as goal
+
+pub returns : goal.returns
+unfolding stops_text_of
+returns c =
+    c.in_ok-to_vec.ensures.text (ap has_float c.in_ok-value.ensures ∙ stops_plain c.args.base.now c.args.doc.now)
+    ∙ ap compact_text c.in_ok-value.ensures

@@ -1,0 +1,52 @@
+ghost use Rattle.std.specs.Prelude.{◌≡◌};
+ghost use Rattle.page_json.specs.declared.fault.PageFault.TheVariants.{NoMemory as want_of_memory};
+
+use lc_model::{NoMemory, Text};
+use std::alloc::AllocError;
+use std::error::Error;
+use std::fmt;
+
+/// The first fault of bytes that are no page, or no stops document.
+#[derive(Debug, Drop)]
+pub enum PageFault {
+    /// The bytes are no JSON text (RFC 8259), or one that nests too deep.
+    NotJson,
+    /// A member that is needed is missing.
+    NoMember { name: Text },
+    /// A member has another form than is asked.
+    BadMember { name: Text },
+    /// The item at this place of a list, counted from 0, does not come after the one before it.
+    NotOrdered { place: usize },
+    /// There was not enough memory.
+    NoMemory,
+}
+
+impl fmt::Display for PageFault {
+    fn fmt<W: fmt::Write>(&self, f: &mut fmt::Formatter<W>) -> fmt::Result {
+        match self {
+            PageFault::NotJson => write!(f, "not JSON"),
+            PageFault::NoMember { name } => write!(f, "no member {}", name.as_str()),
+            PageFault::BadMember { name } => write!(f, "bad member {}", name.as_str()),
+            PageFault::NotOrdered { place } => write!(f, "item {place} is not in order"),
+            PageFault::NoMemory => write!(f, "no memory"),
+        }
+    }
+}
+
+impl Error for PageFault {}
+
+impl From<NoMemory> for PageFault {
+    ghost from_gives = { λ _ fault. fault ≡ want_of_memory };
+
+    fn from(_: NoMemory) -> PageFault {
+        PageFault::NoMemory
+    }
+}
+
+impl From<AllocError> for PageFault {
+    ghost from_gives = { λ _ fault. fault ≡ want_of_memory };
+
+    fn from(_: AllocError) -> PageFault {
+        PageFault::NoMemory
+    }
+}

@@ -1,0 +1,16 @@
+//! The pages of connections and the stops document as JSON, each with its exact text, read back, and with the first fault
+//! of every other text. It stands on `lc_model`, on `lc_time`, on `connection_uri` and on `serde_json`.
+#![tactic(auto)]
+
+mod connection_writing;
+mod fault;
+mod members;
+mod page;
+mod page_writing;
+mod stops_writing;
+mod urls;
+
+pub use fault::PageFault;
+pub use page::Page;
+pub use page_writing::page_text;
+pub use stops_writing::stops_text;

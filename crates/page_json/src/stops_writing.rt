@@ -1,0 +1,78 @@
+ghost use Rattle.std.specs.Prelude.{◌≡◌, IfOk};
+ghost use Rattle.serde_json.specs.Data.{array};
+ghost use Rattle.serde_json.specs.View.{view};
+ghost use Rattle.page_json.specs.Tree.{change_tree, items_from, stop_tree, stops_text_of, stops_tree};
+
+use crate::members::put_text;
+use connection_uri::Base;
+use lc_model::{Change, NoMemory, Stop, StopsDoc};
+use serde_json::{Map, Value, put};
+use std::alloc::Global;
+
+/// The text of the stops document: JSON without spaces, its members in the order of their bytes. Linear in the stops and
+/// the changes.
+#[tactic(auto, unfolding(crate::specs::Tree::stops_text_of))]
+pub fn stops_text(alloc: Global, base: &Base, doc: &StopsDoc) -> Result<Vec<u8>, NoMemory>
+    ensures { IfOk result (λ text. text.items ≡ stops_text_of base.now doc.now) }
+{
+    let value = stops_value(alloc, base, doc)?;
+    Ok(value.to_vec(alloc)?)
+}
+
+fn stops_value(alloc: Global, base: &Base, doc: &StopsDoc) -> Result<Value, NoMemory>
+    ensures { IfOk result (λ v. view v ≡ stops_tree base.now doc.now) }
+{
+    let stops = stop_values(alloc, doc.stops.as_slice())?;
+    let changes = change_values(alloc, doc.changes.as_slice())?;
+    let mut url = String::from_str(alloc, base.text())?;
+    url.push_str("stops")?;
+    let mut members = Map::new(alloc);
+    put_text(&mut members, alloc, "@id", url.as_str())?;
+    put(&mut members, alloc, "changes", changes)?;
+    put(&mut members, alloc, "stops", stops)?;
+    Ok(Value::Object(members))
+}
+
+fn stop_values(alloc: Global, stops: &[Stop]) -> Result<Value, NoMemory>
+    ensures { IfOk result (λ v. view v ≡ array (items_from stop_tree stops.now)) }
+{
+    let mut values = Vec::with_capacity(alloc, stops.len())?;
+    for stop in stops {
+        values.push(stop_value(alloc, stop)?)?;
+    }
+    Ok(Value::Array(values))
+}
+
+#[tactic(auto, unfolding(crate::specs::Tree::stop_tree))]
+fn stop_value(alloc: Global, stop: &Stop) -> Result<Value, NoMemory>
+    ensures { IfOk result (λ v. view v ≡ stop_tree stop.now) }
+{
+    let mut members = Map::new(alloc);
+    put_text(&mut members, alloc, "id", stop.id.as_str())?;
+    put_text(&mut members, alloc, "name", stop.name.as_str())?;
+    if let Some(parent) = &stop.parent {
+        put_text(&mut members, alloc, "parent", parent.as_str())?;
+    }
+    Ok(Value::Object(members))
+}
+
+fn change_values(alloc: Global, changes: &[Change]) -> Result<Value, NoMemory>
+    ensures { IfOk result (λ v. view v ≡ array (items_from change_tree changes.now)) }
+{
+    let mut values = Vec::with_capacity(alloc, changes.len())?;
+    for change in changes {
+        values.push(change_value(alloc, change)?)?;
+    }
+    Ok(Value::Array(values))
+}
+
+#[tactic(auto, unfolding(crate::specs::Tree::change_tree))]
+fn change_value(alloc: Global, change: &Change) -> Result<Value, NoMemory>
+    ensures { IfOk result (λ v. view v ≡ change_tree change.now) }
+{
+    let mut members = Map::new(alloc);
+    put_text(&mut members, alloc, "from", change.from.as_str())?;
+    put(&mut members, alloc, "seconds", Value::from(change.seconds))?;
+    put_text(&mut members, alloc, "to", change.to.as_str())?;
+    Ok(Value::Object(members))
+}
