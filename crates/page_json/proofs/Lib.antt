@@ -1,1 +1,5 @@
+pub mod Each
 pub mod Floats
+pub mod Lists
+pub mod Orders
+pub mod Readings

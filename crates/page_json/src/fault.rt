@@ -2,7 +2,7 @@ ghost use Rattle.std.specs.Prelude.{◌≡◌};
 ghost use Rattle.page_json.specs.declared.fault.PageFault.TheVariants.{NoMemory as want_of_memory};
 
 use lc_model::{NoMemory, Text};
-use std::alloc::AllocError;
+use std::alloc::{AllocError, AllocFailed};
 use std::error::Error;
 use std::fmt;
 
@@ -47,6 +47,14 @@ impl From<AllocError> for PageFault {
     ghost from_gives = { λ _ fault. fault ≡ want_of_memory };
 
     fn from(_: AllocError) -> PageFault {
+        PageFault::NoMemory
+    }
+}
+
+impl<T: Drop> From<AllocFailed<T>> for PageFault {
+    ghost from_gives = { λ _ fault. fault ≡ want_of_memory };
+
+    fn from(_: AllocFailed<T>) -> PageFault {
         PageFault::NoMemory
     }
 }

@@ -2,15 +2,20 @@
 //! of every other text. It stands on `lc_model`, on `lc_time`, on `connection_uri` and on `serde_json`.
 #![tactic(auto)]
 
+mod connection_reading;
 mod connection_writing;
+mod disorder;
 mod fault;
+mod json_reading;
 mod members;
 mod page;
+mod page_reading;
 mod page_writing;
 mod stops_writing;
 mod urls;
 
 pub use fault::PageFault;
 pub use page::Page;
+pub use page_reading::read_page;
 pub use page_writing::page_text;
 pub use stops_writing::stops_text;

@@ -1,0 +1,72 @@
+-- A list without a disorder is in strict order.
+use Rattle.std.proofs.Common.{◌≡◌, ℕ, suc, List, [], ◌∷◌, Option, Some, None, refl, arith}
+use Rattle.std.proofs.lemmas.Cmp.{nat_cmp_total, nat_list_cmp_total, on_total, then_total}
+use Rattle.std.proofs.lemmas.List.Elements.{All-cons, All-nil, All-weaker}
+use Rattle.std.proofs.lemmas.List.Kept.{AllPairs-cons}
+use Rattle.std.specs.Prelude.{if◌then◌else◌}
+use Rattle.std.specs.Cmp.{IsTotalOrder}
+use Rattle.std.specs.Cmp.Lexicographic.{options_total}
+use Rattle.std.specs.List.{All, AllPairs}
+use Rattle.std.specs.Ordering.{is_lt, on}
+use Rattle.std.specs.declared.cmp.Ordering.{Ordering}
+use Rattle.std.specs.declared.cmp.Ordering.TheVariants.{Less, Equal, Greater}
+use Rattle.lc_model.specs.Change.{change_cmp}
+use Rattle.lc_model.specs.Connection.{departure_cmp}
+use Rattle.lc_model.specs.Order.{IsStrict}
+use Rattle.lc_model.specs.RunKey.{date_cmp, key_cmp}
+use Rattle.lc_model.specs.Text.{id_cmp}
+use Rattle.lc_model.specs.declared.change.Change.{Change}
+use Rattle.lc_model.specs.declared.connection.Connection.{Connection}
+use Rattle.lc_model.specs.declared.date.ServiceDate.{ServiceDate}
+use Rattle.lc_model.specs.declared.key.RunKey.{RunKey}
+use Rattle.lc_model.specs.declared.stop.Stop.{Stop}
+use Rattle.page_json.specs.Disorder.{disorder_after, first_disorder}
+
+AllPairs-nil : {X : Type 0} (R : X → X → Type 0) → AllPairs R []
+AllPairs-nil R i j d lt inside = absurd (omega arith)
+
+record StandsBehind {X : Type 0} (cmp : X → X → Ordering) (first : X) (rest : List X) : Type 0 where
+  pub later : All (λ (y : X). cmp first y ≡ Less) rest
+  pub strict : IsStrict cmp rest
+
+next_is_less : (o : Ordering) (place : ℕ) (r : Option ℕ) → (if is_lt o then r else Some place) ≡ None → (o ≡ Less) × (r ≡ None)
+next_is_less Less place r e = (refl, e)
+next_is_less Equal place r e = absurd (cc)
+next_is_less Greater place r e = absurd (cc)
+
+behind : {X : Type 0} (cmp : X → X → Ordering) → IsTotalOrder cmp → (first : X) (place : ℕ) (rest : List X) → disorder_after cmp first place rest ≡ None → StandsBehind cmp first rest
+behind {X} cmp total first place [] e = record { later = All-nil (λ (y : X). cmp first y ≡ Less); strict = AllPairs-nil (λ x y. cmp x y ≡ Less) }
+behind {X} cmp total first place (x ∷ rest) e =
+    let step = next_is_less (cmp first x) place (disorder_after cmp x (suc place) rest) e in
+    let more = behind cmp total x (suc place) rest step.1 in
+    record {
+      later = All-cons (λ (y : X). cmp first y ≡ Less) x rest step.0 (All-weaker (λ (y : X). cmp x y ≡ Less) (λ (y : X). cmp first y ≡ Less) (λ y less. total.trans first x y step.0 less) rest more.later);
+      strict = AllPairs-cons (λ x y. cmp x y ≡ Less) x rest more.later more.strict;
+    }
+
+pub strict_without_disorder : {X : Type 0} (cmp : X → X → Ordering) → IsTotalOrder cmp → (list : List X) → first_disorder cmp list ≡ None → IsStrict cmp list
+strict_without_disorder cmp total [] e = AllPairs-nil (λ x y. cmp x y ≡ Less)
+strict_without_disorder cmp total (first ∷ rest) e =
+    let are = behind cmp total first 1 rest e in
+    AllPairs-cons (λ x y. cmp x y ≡ Less) first rest are.later are.strict
+
+date_cmp_total : IsTotalOrder date_cmp
+date_cmp_total =
+    then_total (on_total (λ (d : ServiceDate). d.year) nat_cmp_total)
+    (then_total (on_total (λ (d : ServiceDate). d.month) nat_cmp_total) (on_total (λ (d : ServiceDate). d.day) nat_cmp_total))
+
+key_cmp_total : IsTotalOrder key_cmp
+key_cmp_total =
+    then_total (on_total (λ (k : RunKey). k.trip) nat_list_cmp_total)
+    (then_total (on_total (λ (k : RunKey). k.date) date_cmp_total) (on_total (λ (k : RunKey). k.start) (options_total nat_cmp_total)))
+
+pub departure_cmp_total : IsTotalOrder departure_cmp
+departure_cmp_total =
+    then_total (on_total (λ (c : Connection). c.dep) nat_cmp_total)
+    (then_total (on_total (λ (c : Connection). c.key) key_cmp_total) (on_total (λ (c : Connection). c.seq) nat_cmp_total))
+
+pub stop_cmp_total : IsTotalOrder (on (λ (s : Stop). s.id) id_cmp)
+stop_cmp_total = on_total (λ (s : Stop). s.id) nat_list_cmp_total
+
+pub change_cmp_total : IsTotalOrder change_cmp
+change_cmp_total = then_total (on_total (λ (c : Change). c.from) nat_list_cmp_total) (on_total (λ (c : Change). c.to) nat_list_cmp_total)
