@@ -3,3 +3,4 @@ pub mod Floats
 pub mod Lists
 pub mod Orders
 pub mod Readings
+pub mod SearchFacts

@@ -10,13 +10,13 @@ use Rattle.connection_uri.specs.Base.{BaseParts}
 use Rattle.serde_json.specs.Data.{Data}
 use Rattle.serde_json.specs.Find.{as_str, get}
 use Rattle.serde_json.specs.Read.{read}
-use Rattle.page_json.specs.Disorder.{first_disorder}
+use Rattle.page_json.specs.Disorder.{first_disorder, unless_disorder}
 use Rattle.page_json.specs.Members.{delay_of, list_of, object_under, said_at, said_if_there}
 use Rattle.page_json.specs.Reading.{Reading, each_in, exactly, gives, ◌>>=◌}
 use Rattle.page_json.specs.Says.{SaysLink, SaysName, SaysPage, SaysStop}
 use Rattle.page_json.specs.declared.connection_reading.End.{End}
 use Rattle.page_json.specs.declared.fault.PageFault.{PageFault}
-use Rattle.page_json.specs.declared.fault.PageFault.TheVariants.{BadMember, NotJson, NotOrdered}
+use Rattle.page_json.specs.declared.fault.PageFault.TheVariants.{BadMember, NotJson}
 use Rattle.page_json.specs.declared.page.Page.{Page}
 
 -- the delay, the stop and the moment of an arrival or a departure, by their members
@@ -64,11 +64,6 @@ connection_in base tree = do
   arrival ← end_at base (codes "arrivalDelay") (codes "arrivalStop") (codes "arrivalTime") tree
   departure ← end_at base (codes "departureDelay") (codes "departureStop") (codes "departureTime") tree
   exactly (unless_early (joined tree name arrival departure))
-
--- the page, unless its connections are not in departure order
-abbrev pub unless_disorder : Option ℕ → Page → Result Page PageFault
-unless_disorder None page = Ok page
-unless_disorder (Some place) page = Err (NotOrdered place)
 
 -- a page: its name, its connections, its links, and then their order
 unfoldable pub page_in : BaseParts → Data → Reading Page

@@ -2,15 +2,19 @@
 //! of every other text. It stands on `lc_model`, on `lc_time`, on `connection_uri` and on `serde_json`.
 #![tactic(auto)]
 
+mod change_reading;
 mod connection_reading;
 mod connection_writing;
 mod disorder;
 mod fault;
 mod json_reading;
+mod known;
 mod members;
 mod page;
 mod page_reading;
 mod page_writing;
+mod stop_reading;
+mod stops_reading;
 mod stops_writing;
 mod urls;
 
@@ -18,4 +22,5 @@ pub use fault::PageFault;
 pub use page::Page;
 pub use page_reading::read_page;
 pub use page_writing::page_text;
+pub use stops_reading::read_stops;
 pub use stops_writing::stops_text;

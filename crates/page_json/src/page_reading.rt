@@ -2,9 +2,9 @@ ghost use Rattle.std.specs.Prelude.{◌≡◌, ◌<◌, ℕ, List, codes, Some, 
 ghost use Rattle.lc_model.specs.Connection.{InDepartureOrder, NoneArrivesEarly, departure_cmp};
 ghost use Rattle.lc_model.specs.declared.page.PageName.{PageName as Named};
 ghost use Rattle.serde_json.specs.View.{view};
-ghost use Rattle.page_json.specs.Disorder.{first_disorder};
+ghost use Rattle.page_json.specs.Disorder.{first_disorder, unless_disorder};
 ghost use Rattle.page_json.specs.Members.{said_at, said_if_there, said_in};
-ghost use Rattle.page_json.specs.PageReading.{page_in, page_of_bytes, unless_disorder};
+ghost use Rattle.page_json.specs.PageReading.{page_in, page_of_bytes};
 ghost use Rattle.page_json.specs.Reading.{Meets, exactly};
 ghost use Rattle.page_json.specs.Says.{SaysLink, SaysPage};
 ghost use Rattle.page_json.specs.Valid.{IsOfVersion, IsValidPage};

@@ -1,0 +1,58 @@
+ghost use Rattle.std.specs.Prelude.{◌≡◌, ℕ, ◌↔◌, Any, IfOk, IfSome, IsTrue, List};
+ghost use Rattle.std.specs.List.Sorted.{IsSorted};
+ghost use Rattle.std.specs.Ordering.{on};
+ghost use Rattle.lc_model.specs.Stop.{HasStop};
+ghost use Rattle.lc_model.specs.Text.{id_cmp};
+ghost use Rattle.page_json.specs.StopsReading.{AreParents};
+
+use lc_model::{Id, NoMemory, Stop, Stops};
+use std::alloc::Global;
+
+/// Whether the list has a stop of this id. A binary search.
+pub fn has_stop(stops: &Stops, id: &Id) -> bool
+    ensures { IsTrue result ↔ HasStop stops.now id.now }
+{
+    stops
+        .as_slice()
+        .binary_search_by(|stop| stop.id.cmp(id))
+        .is_ok()
+}
+
+/// Whether each parent is one of the stops, in whatever order they stand. Sorts their ids, and looks each parent up by
+/// binary search.
+pub fn have_parents(alloc: Global, stops: &[Stop]) -> Result<bool, NoMemory>
+    ensures { IfOk result (λ all. IsTrue all ↔ AreParents stops.now) }
+{
+    let ids = sorted_ids(alloc, stops)?;
+    Ok(stops.iter().all(|stop| has_parent(ids.as_slice(), stop)))
+}
+
+// The ids of the stops, sorted.
+fn sorted_ids(alloc: Global, stops: &[Stop]) -> Result<Vec<&[u8]>, NoMemory>
+    ensures sorted { IfOk result (λ ids. IsSorted (on (λ id. id.now) id_cmp) ids.items) }
+    ensures stops { IfOk result (λ ids. (id : List ℕ) → Any (λ x. x.now ≡ id) ids.items ↔ HasStop stops.now id) }
+{
+    let mut ids = Vec::with_capacity(alloc, stops.len())?;
+    'stops: for stop in stops {
+        ids.push(stop.id.bytes())?;
+    }
+    ids.sort()?;
+    Ok(ids)
+}
+
+fn has_parent(ids: &[&[u8]], stop: &Stop) -> bool
+    requires { IsSorted (on (λ x. x.now) id_cmp) ids.now }
+    ensures { IsTrue result ↔ IfSome stop.now.parent (λ parent. Any (λ x. x.now ≡ parent) ids.now) }
+{
+    match &stop.parent {
+        Some(parent) => has_id(ids, parent),
+        None => true,
+    }
+}
+
+fn has_id(ids: &[&[u8]], id: &Id) -> bool
+    requires { IsSorted (on (λ x. x.now) id_cmp) ids.now }
+    ensures { IsTrue result ↔ Any (λ x. x.now ≡ id.now) ids.now }
+{
+    ids.binary_search(&id.bytes()).is_ok()
+}

@@ -1,0 +1,99 @@
+ghost use Rattle.std.specs.Prelude.{◌≡◌, ◌≢◌, All, codes, IfOk, IfErr, OnOk};
+ghost use Rattle.std.specs.Ordering.{on};
+ghost use Rattle.lc_model.specs.Change.{change_cmp};
+ghost use Rattle.lc_model.specs.Stop.{HasStop};
+ghost use Rattle.lc_model.specs.Text.{id_cmp};
+ghost use Rattle.lc_model.specs.declared.change.Change.{Change as ToldChange};
+ghost use Rattle.lc_model.specs.declared.stop.Stop.{Stop as ToldStop};
+ghost use Rattle.serde_json.specs.View.{view};
+ghost use Rattle.page_json.specs.Disorder.{first_disorder, unless_disorder};
+ghost use Rattle.page_json.specs.Reading.{Meets, exactly};
+ghost use Rattle.page_json.specs.StopsReading.{AreParents, changes_in, doc_in, doc_of_bytes, stops_in};
+ghost use Rattle.page_json.specs.declared.fault.PageFault.TheVariants.{BadMember as bad, NoMemory as want_of_memory};
+
+use crate::PageFault;
+use crate::change_reading::each_change;
+use crate::disorder::first_disorder;
+use crate::json_reading::json_in;
+use crate::known::have_parents;
+use crate::members::{bad_member, needed_list, object_under};
+use crate::stop_reading::each_stop;
+use lc_model::{Change, Changes, Stop, Stops, StopsDoc};
+use serde_json::Value;
+use std::alloc::Global;
+
+/// The stops document that a text of JSON says, or the first fault of the text: first of its stops, then of its changes.
+/// It takes the time of a sort of the stops, and of two binary searches for each change.
+pub fn read_stops(alloc: Global, bytes: &[u8]) -> Result<StopsDoc, PageFault>
+    ensures { Meets (doc_of_bytes bytes.now) result }
+{
+    let value = json_in(alloc, bytes)?;
+    doc_in(alloc, &value)
+}
+
+fn doc_in(alloc: Global, value: &Value) -> Result<StopsDoc, PageFault>
+    ensures { Meets (doc_in (view value.now)) result }
+{
+    object_under(alloc, value, "stops")?;
+    let stops = stops_in(alloc, value)?;
+    let changes = changes_in(alloc, &stops, value)?;
+    Ok(StopsDoc { stops, changes })
+}
+
+/// The stops, each of whose parents is one of them.
+fn stops_in(alloc: Global, value: &Value) -> Result<Stops, PageFault>
+    ensures said { Meets (stops_in (view value.now)) result }
+    ensures parents { IfOk result AreParents }
+{
+    let items = needed_list(alloc, value, "stops")?;
+    let stops = each_stop(alloc, items)?;
+    with_parents(alloc, stops.as_slice())?;
+    ordered_stops(stops)
+}
+
+/// That each parent is one of the stops.
+fn with_parents(alloc: Global, stops: &[Stop]) -> Result<(), PageFault>
+    ensures ok { OnOk result (AreParents stops.now) }
+    ensures err { IfErr result
+        (λ fault. fault ≢ want_of_memory → (fault ≡ bad (codes "parent")) × (AreParents stops.now → ⊥)) }
+{
+    if have_parents(alloc, stops)? {
+        Ok(())
+    } else {
+        Err(bad_member(alloc, "parent"))
+    }
+}
+
+/// The stops, unless they are not in order.
+fn ordered_stops(stops: Vec<Stop>) -> Result<Stops, PageFault>
+    ensures said { Meets (exactly
+        (unless_disorder (first_disorder (on (λ (s : ToldStop). s.id) id_cmp) stops.items) stops.items)) result }
+    ensures same { IfOk result (λ same. same ≡ stops.items) }
+{
+    match first_disorder(stops.as_slice()) {
+        Some(place) => Err(PageFault::NotOrdered { place }),
+        None => Ok(Stops::from_list(stops)),
+    }
+}
+
+/// The changes, each of whose ends is one of the stops.
+fn changes_in(alloc: Global, stops: &Stops, value: &Value) -> Result<Changes, PageFault>
+    ensures said { Meets (changes_in stops.now (view value.now)) result }
+    ensures from { IfOk result (All (λ (c : ToldChange). HasStop stops.now c.from)) }
+    ensures to { IfOk result (All (λ (c : ToldChange). HasStop stops.now c.to)) }
+{
+    let items = needed_list(alloc, value, "changes")?;
+    let changes = each_change(alloc, stops, items)?;
+    ordered_changes(changes)
+}
+
+/// The changes, unless they are not in order.
+fn ordered_changes(changes: Vec<Change>) -> Result<Changes, PageFault>
+    ensures said { Meets (exactly (unless_disorder (first_disorder change_cmp changes.items) changes.items)) result }
+    ensures same { IfOk result (λ same. same ≡ changes.items) }
+{
+    match first_disorder(changes.as_slice()) {
+        Some(place) => Err(PageFault::NotOrdered { place }),
+        None => Ok(Changes::from_list(changes)?),
+    }
+}
