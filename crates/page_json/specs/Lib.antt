@@ -3,6 +3,7 @@ pub mod Members
 pub mod PageReading
 pub mod Reading
 pub mod Says
+pub mod Sound
 pub mod StopsReading
 pub mod Tree
 pub mod Urls
