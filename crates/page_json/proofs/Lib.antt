@@ -1,8 +1,12 @@
+pub mod ConnectionLaw
 pub mod Each
 pub mod Floats
 pub mod JsonLaw
 pub mod Lists
+pub mod MembersLaw
 pub mod Only
 pub mod Orders
+pub mod PageLaw
 pub mod Readings
 pub mod SearchFacts
+pub mod StopsLaw

@@ -40,3 +40,6 @@ only_each inner tree_of Sound h (x ∷ xs) sound =
 pub meets_only : {X : Type 0} (reading : Reading X) (x : X) (result : Result X PageFault) → IsOnly reading x → Meets reading result → Meets (gives x) result
 meets_only reading x (Ok y) one h = one.is (Ok y) h
 meets_only reading x (Err fault) one h = λ other. one.is (Err fault) (h other)
+
+pub only_exactly_by : {X : Type 0} (answer : Result X PageFault) (x : X) → answer ≡ Ok x → IsOnly (exactly answer) x
+only_exactly_by answer x e = record { is = λ result h. h ∙ e }

@@ -1,7 +1,11 @@
--- Pages that a publisher may write.
+-- Pages and stops documents that a publisher may write.
 use Rattle.std.specs.Prelude.{◌≡◌, ℕ, Option}
 use Rattle.std.specs.Option.{IfSome}
 use Rattle.lc_model.specs.Connection.{InDepartureOrder, NoneArrivesEarly}
+use Rattle.lc_model.specs.Change.{InChangeOrder}
+use Rattle.lc_model.specs.Stop.{InStopOrder}
+use Rattle.lc_model.specs.StopsDoc.{NamesItsStops}
+use Rattle.lc_model.specs.declared.doc.StopsDoc.{StopsDoc}
 use Rattle.lc_model.specs.declared.page.PageName.{PageName}
 use Rattle.page_json.specs.declared.page.Page.{Page}
 
@@ -15,3 +19,9 @@ pub record IsValidPage (page : Page) : Type 0 where
   pub forward : NoneArrivesEarly page.list
   pub next : IsOfVersion page.name.version page.next
   pub previous : IsOfVersion page.name.version page.previous
+
+-- both lists stand in strict order, and each parent and each end of a change is one of the stops
+pub record IsValidDoc (doc : StopsDoc) : Type 0 where
+  pub stops : InStopOrder doc.stops
+  pub changes : InChangeOrder doc.changes
+  pub closed : NamesItsStops doc.stops doc.changes

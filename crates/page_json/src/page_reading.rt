@@ -1,13 +1,17 @@
 ghost use Rattle.std.specs.Prelude.{◌≡◌, ◌<◌, ℕ, List, codes, Some, IfOk, IfSome};
 ghost use Rattle.lc_model.specs.Connection.{InDepartureOrder, NoneArrivesEarly, departure_cmp};
 ghost use Rattle.lc_model.specs.declared.page.PageName.{PageName as Named};
+ghost use Rattle.std.specs.Str.{IsUtf8};
 ghost use Rattle.serde_json.specs.View.{view};
 ghost use Rattle.page_json.specs.Disorder.{first_disorder, unless_disorder};
 ghost use Rattle.page_json.specs.Members.{said_at, said_if_there, said_in};
 ghost use Rattle.page_json.specs.PageReading.{page_in, page_of_bytes};
-ghost use Rattle.page_json.specs.Reading.{Meets, exactly};
+ghost use Rattle.page_json.specs.Reading.{Meets, exactly, gives};
 ghost use Rattle.page_json.specs.Says.{SaysLink, SaysPage};
+ghost use Rattle.page_json.specs.Sound.{IsSoundPage};
+ghost use Rattle.page_json.specs.Tree.{page_text_of};
 ghost use Rattle.page_json.specs.Valid.{IsOfVersion, IsValidPage};
+ghost use Rattle.page_json.specs.declared.page.Page.{Page as Told};
 
 use crate::connection_reading::connections_in;
 use crate::disorder::first_disorder;
@@ -117,6 +121,10 @@ fn page_in(alloc: Global, base: &Base, value: &Value) -> Result<Page, PageFault>
 pub fn read_page(alloc: Global, base: &Base, bytes: &[u8]) -> Result<Page, PageFault>
     ensures said { Meets (page_of_bytes base.now bytes.now) result }
     ensures valid { IfOk result IsValidPage }
+
+    // The text of a valid page is read as that page.
+    ensures again { (page : Told) → IsValidPage page → IsSoundPage page → IsUtf8 bytes.now
+        → bytes.now ≡ page_text_of base.now page → Meets (gives page) result }
 {
     let value = json_in(alloc, bytes)?;
     page_in(alloc, base, &value)

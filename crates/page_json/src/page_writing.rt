@@ -1,4 +1,5 @@
 ghost use Rattle.std.specs.Prelude.{◌≡◌, IfOk, OnOk};
+ghost use Rattle.std.specs.Str.{IsUtf8};
 ghost use Rattle.serde_json.specs.Data.{no_members, put};
 ghost use Rattle.serde_json.specs.View.{view, members_view};
 ghost use Rattle.page_json.specs.Tree.{context_tree, iri_tree, mapping_tree, page_text_of, page_tree, search_tree, typed_tree, with_connection_terms, with_link};
@@ -16,7 +17,8 @@ use std::alloc::Global;
 #[tactic(auto, unfolding(crate::specs::Tree::page_text_of))]
 pub fn page_text(alloc: Global, base: &Base, page: &Page) -> Result<Vec<u8>, NoMemory>
     requires { IsValidPage page.now }
-    ensures { IfOk result (λ text. text.items ≡ page_text_of base.now page.now) }
+    ensures text { IfOk result (λ text. text.items ≡ page_text_of base.now page.now) }
+    ensures utf8 { IfOk result (λ text. IsUtf8 text.items) }
 {
     let value = page_value(alloc, base, page)?;
     Ok(value.to_vec(alloc)?)

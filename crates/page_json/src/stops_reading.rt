@@ -5,10 +5,16 @@ ghost use Rattle.lc_model.specs.Stop.{HasStop};
 ghost use Rattle.lc_model.specs.Text.{id_cmp};
 ghost use Rattle.lc_model.specs.declared.change.Change.{Change as ToldChange};
 ghost use Rattle.lc_model.specs.declared.stop.Stop.{Stop as ToldStop};
+ghost use Rattle.std.specs.Str.{IsUtf8};
+ghost use Rattle.lc_model.specs.declared.doc.StopsDoc.{StopsDoc as Told};
+ghost use Rattle.connection_uri.specs.Base.{BaseParts};
 ghost use Rattle.serde_json.specs.View.{view};
 ghost use Rattle.page_json.specs.Disorder.{first_disorder, unless_disorder};
-ghost use Rattle.page_json.specs.Reading.{Meets, exactly};
+ghost use Rattle.page_json.specs.Reading.{Meets, exactly, gives};
+ghost use Rattle.page_json.specs.Sound.{IsSoundDoc};
 ghost use Rattle.page_json.specs.StopsReading.{AreParents, changes_in, doc_in, doc_of_bytes, stops_in};
+ghost use Rattle.page_json.specs.Tree.{stops_text_of};
+ghost use Rattle.page_json.specs.Valid.{IsValidDoc};
 ghost use Rattle.page_json.specs.declared.fault.PageFault.TheVariants.{BadMember as bad, NoMemory as want_of_memory};
 
 use crate::PageFault;
@@ -25,7 +31,11 @@ use std::alloc::Global;
 /// The stops document that a text of JSON says, or the first fault of the text: first of its stops, then of its changes.
 /// It takes the time of a sort of the stops, and of two binary searches for each change.
 pub fn read_stops(alloc: Global, bytes: &[u8]) -> Result<StopsDoc, PageFault>
-    ensures { Meets (doc_of_bytes bytes.now) result }
+    ensures said { Meets (doc_of_bytes bytes.now) result }
+
+    // The text of a valid document is read as that document.
+    ensures again { (base : BaseParts) (doc : Told) → IsValidDoc doc → IsSoundDoc doc → IsUtf8 bytes.now
+        → bytes.now ≡ stops_text_of base doc → Meets (gives doc) result }
 {
     let value = json_in(alloc, bytes)?;
     doc_in(alloc, &value)

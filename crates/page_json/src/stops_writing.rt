@@ -1,4 +1,5 @@
 ghost use Rattle.std.specs.Prelude.{◌≡◌, IfOk};
+ghost use Rattle.std.specs.Str.{IsUtf8};
 ghost use Rattle.serde_json.specs.Data.{array};
 ghost use Rattle.serde_json.specs.View.{view};
 ghost use Rattle.page_json.specs.Tree.{change_tree, items_from, stop_tree, stops_text_of, stops_tree};
@@ -13,7 +14,8 @@ use std::alloc::Global;
 /// the changes.
 #[tactic(auto, unfolding(crate::specs::Tree::stops_text_of))]
 pub fn stops_text(alloc: Global, base: &Base, doc: &StopsDoc) -> Result<Vec<u8>, NoMemory>
-    ensures { IfOk result (λ text. text.items ≡ stops_text_of base.now doc.now) }
+    ensures text { IfOk result (λ text. text.items ≡ stops_text_of base.now doc.now) }
+    ensures utf8 { IfOk result (λ text. IsUtf8 text.items) }
 {
     let value = stops_value(alloc, base, doc)?;
     Ok(value.to_vec(alloc)?)

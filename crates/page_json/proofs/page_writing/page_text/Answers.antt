@@ -5,8 +5,8 @@ use Rattle.page_json.specs.Tree.{page_text_of}
 use Rattle.page_json.proofs.Floats.{page_plain}
 use Rattle.page_json.proofs.page_writing.page_text.Goals as goal
 
-pub returns : goal.returns
+pub returns-clause-text : goal.returns-clause-text
 unfolding page_text_of
-returns c =
+returns-clause-text c =
     c.in_ok-to_vec.ensures.text (ap has_float c.in_ok-value.ensures ∙ page_plain c.args.base.now c.args.page.now)
     ∙ ap compact_text c.in_ok-value.ensures

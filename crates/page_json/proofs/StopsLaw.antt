@@ -1,0 +1,213 @@
+-- A stops document that is written is read as that document.
+use Rattle.std.proofs.Common.{◌≡◌, ℕ, suc, ◌+◌, ◌<◌, ◌≤◌, ◌&&◌, max, List, [], ◌∷◌, Bool, true, Option, Some, None, Result, Ok, Err, codes, map, ◌^◌, refl, ap, ap₂, subst, ◌∙◌, arith, le-leb, lt-ltb}
+use Rattle.std.proofs.Props.{props}
+use Rattle.std.proofs.lemmas.List.Elements.{All-head, All-tail}
+use Rattle.std.specs.List.{All}
+use Rattle.std.specs.Option.{IfSome}
+use Rattle.std.specs.Ordering.{on}
+use Rattle.std.specs.Str.{IsUtf8}
+use Rattle.lc_model.specs.Change.{InChangeOrder, change_cmp}
+use Rattle.lc_model.specs.Stop.{HasStop, InStopOrder}
+use Rattle.lc_model.specs.StopsDoc.{NamesItsStops}
+use Rattle.lc_model.specs.Text.{IsIdText, id_cmp}
+use Rattle.lc_model.specs.declared.change.Change.{Change}
+use Rattle.lc_model.specs.declared.doc.StopsDoc.{StopsDoc}
+use Rattle.lc_model.specs.declared.stop.Stop.{Stop}
+use Rattle.connection_uri.specs.Base.{BaseParts}
+use Rattle.serde_json.specs.Data.{Data, depth, items_depth}
+use Rattle.serde_json.specs.Find.{get}
+use Rattle.serde_json.specs.Read.{read}
+use Rattle.serde_json.specs.View.{items_of}
+use Rattle.page_json.specs.Disorder.{first_disorder, unless_disorder}
+use Rattle.page_json.specs.Members.{formed, needed}
+use Rattle.page_json.specs.Sound.{IsSoundChange, IsSoundDoc, IsSoundStop}
+use Rattle.page_json.specs.StopsReading.{AreParents, as_id, change_in, changes_in, doc_in, doc_of_bytes, id_from, if_stop, is_change, is_doc, seconds_from, stop_at, stop_in, stops_in, with_parents}
+use Rattle.page_json.specs.Tree.{change_tree, stop_tree, stops_text_of, stops_tree}
+use Rattle.page_json.specs.Valid.{IsValidDoc}
+use Rattle.page_json.specs.declared.fault.PageFault.{PageFault}
+use Rattle.page_json.proofs.JsonLaw.{AreWritable, IsWritable, read_compact}
+use Rattle.page_json.proofs.MembersLaw.{no_disorder, only_json}
+use Rattle.page_json.proofs.Only.{IsOnly, only_each, only_exactly, only_exactly_by, only_then}
+
+id_read : (id : List ℕ) → IsIdText id → id_from id ≡ Some id
+id_read [] is = absurd (is.0 refl)
+id_read (first ∷ rest) is = refl
+
+stop_of : List ℕ → List ℕ → Option (List ℕ) → Stop
+stop_of id name parent = record { id = id; name = name; parent = parent }
+
+only_stop_of : (id name : List ℕ) (parent : Option (List ℕ)) → IsIdText id → IfSome parent IsIdText → IsOnly (stop_in (stop_tree (stop_of id name parent))) (stop_of id name parent)
+unfolding stop_in stop_tree stop_of
+only_stop_of id name None is parent =
+    only_then _ _ _ (stop_of id name None) (only_exactly _)
+    (only_then _ id _ (stop_of id name None) (only_exactly_by _ id (ap (formed (codes "id")) (id_read id is)))
+    (only_then _ name _ (stop_of id name None) (only_exactly name)
+    (only_then _ None _ (stop_of id name None) (only_exactly None) (only_exactly (stop_of id name None)))))
+only_stop_of id name (Some up) is parent =
+    only_then _ _ _ (stop_of id name (Some up)) (only_exactly _)
+    (only_then _ id _ (stop_of id name (Some up)) (only_exactly_by _ id (ap (formed (codes "id")) (id_read id is)))
+    (only_then _ name _ (stop_of id name (Some up)) (only_exactly name)
+    (only_then _ (Some up) _ (stop_of id name (Some up)) (only_exactly_by _ (Some up) (rw (id_read up parent) refl)) (only_exactly (stop_of id name (Some up))))))
+
+only_stop : (stop : Stop) → IsSoundStop stop → IsOnly (stop_in (stop_tree stop)) stop
+unfolding stop_of
+only_stop stop sound = only_stop_of stop.id stop.name stop.parent sound.id sound.parent
+
+only_parents : (stops : List Stop) → AreParents stops → IsOnly (with_parents stops) stops
+only_parents stops are = record { is = go } where
+  go : (result : Result (List Stop) PageFault) → with_parents stops result → result ≡ Ok stops
+  go (Ok same) h = ap Ok h.0
+  go (Err fault) h = absurd (h.1 are)
+
+only_known : (stops : List Stop) (key id : List ℕ) → HasStop stops id → IsOnly (if_stop stops key id) id
+only_known stops key id has = record { is = go } where
+  go : (result : Result (List ℕ) PageFault) → if_stop stops key id result → result ≡ Ok id
+  go (Ok same) h = ap Ok h.0
+  go (Err fault) h = absurd (h.1 has)
+
+abbrev change : (from to : List ℕ) (seconds : ℕ) → 1 ≤ seconds → Change
+change from to seconds takes_time = record { from = from; to = to; seconds = seconds; takes_time = takes_time }
+
+le_prop : (m n : ℕ) → IsProp (m ≤ n)
+le_prop m n = hlevel props
+
+same_seconds : (from to : List ℕ) (m n : ℕ) (p : 1 ≤ m) (q : 1 ≤ n) → m ≡ n → change from to m p ≡ change from to n q
+same_seconds from to m n p q e =
+    subst (λ (v : ℕ). (q : 1 ≤ v) → change from to m p ≡ change from to v q) e (λ q. ap (change from to m) (le_prop 1 m p q)) q
+
+change_of : (a b : Change) → a.from ≡ b.from → a.seconds ≡ b.seconds → a.to ≡ b.to → a ≡ b
+change_of a b e f g =
+    ap₂ (λ (from to : List ℕ). change from to a.seconds a.takes_time) e g ∙ same_seconds b.from b.to a.seconds b.seconds a.takes_time b.takes_time f
+
+only_change_of : (change : Change) → IsOnly (is_change change.from change.seconds change.to) change
+only_change_of change = record { is = go } where
+  go : (result : Result Change PageFault) → is_change change.from change.seconds change.to result → result ≡ Ok change
+  go (Ok other) h = ap Ok (change_of other change h.0 h.1 h.2)
+  go (Err fault) h = absurd h
+
+abbrev doc : (stops : List Stop) (changes : List Change) → ∥ NamesItsStops stops changes ∥₁ → StopsDoc
+doc stops changes closed = record { stops = stops; changes = changes; closed = closed }
+
+closed_prop : (stops : List Stop) (changes : List Change) → IsProp ∥ NamesItsStops stops changes ∥₁
+closed_prop stops changes = hlevel props
+
+same_changes : (stops : List Stop) (c d : List Change) (p : ∥ NamesItsStops stops c ∥₁) (q : ∥ NamesItsStops stops d ∥₁) → c ≡ d → doc stops c p ≡ doc stops d q
+same_changes stops c d p q e =
+    subst (λ (v : List Change). (q : ∥ NamesItsStops stops v ∥₁) → doc stops c p ≡ doc stops v q) e (λ q. ap (doc stops c) (closed_prop stops c p q)) q
+
+doc_of : (a b : StopsDoc) → a.stops ≡ b.stops → a.changes ≡ b.changes → a ≡ b
+doc_of a b e f =
+    subst (λ (v : List Stop). (q : ∥ NamesItsStops v b.changes ∥₁) → doc a.stops a.changes a.closed ≡ doc v b.changes q) e
+    (λ q. same_changes a.stops a.changes b.changes a.closed q f) b.closed
+
+only_doc_of : (d : StopsDoc) → IsOnly (is_doc d.stops d.changes) d
+only_doc_of d = record { is = go } where
+  go : (result : Result StopsDoc PageFault) → is_doc d.stops d.changes result → result ≡ Ok d
+  go (Ok other) h = ap Ok (doc_of other d h.0 h.1)
+  go (Err fault) h = absurd h
+
+seconds_read : (n : ℕ) → 1 ≤ n → n < 2 ^ 32 → seconds_from n ≡ Some n
+seconds_read n low high = rw (le-leb 1 n low, lt-ltb n (2 ^ 32) high) refl
+
+only_end : (stops : List Stop) (key : List ℕ) (tree : Data) (id : List ℕ) → needed as_id key (get key tree) ≡ formed key (id_from id) → IsIdText id → HasStop stops id → IsOnly (stop_at stops key tree) id
+unfolding stop_at
+only_end stops key tree id e is has =
+    only_then _ id _ id (only_exactly_by _ id (e ∙ ap (formed key) (id_read id is))) (only_known stops key id has)
+
+-- what the list of changes holds of each
+record IsGoodChange (stops : List Stop) (c : Change) : Type 0 where
+  sound : IsSoundChange c
+  from : HasStop stops c.from
+  to : HasStop stops c.to
+
+only_change : (stops : List Stop) (c : Change) → IsGoodChange stops c → IsOnly (change_in stops (change_tree c)) c
+unfolding change_in change_tree
+only_change stops c good =
+    let tree = change_tree c in
+    only_then _ _ _ c (only_exactly _)
+    (only_then _ c.from _ c (only_end stops (codes "from") tree c.from refl good.sound.from good.from)
+    (only_then _ c.seconds _ c (only_exactly_by _ c.seconds (ap (formed (codes "seconds")) (seconds_read c.seconds c.takes_time good.sound.seconds)))
+    (only_then _ c.to _ c (only_end stops (codes "to") tree c.to refl good.sound.to good.to)
+    (only_change_of c))))
+
+good_changes : (stops : List Stop) (changes : List Change) → All IsSoundChange changes → NamesItsStops stops changes → All (IsGoodChange stops) changes
+good_changes stops changes sound names =
+    λ k d inside. record { sound = sound k d inside; from = names.changes_from k d inside; to = names.changes_to k d inside }
+
+stops_ordered : (stops : List Stop) → InStopOrder stops → unless_disorder (first_disorder (on (λ (s : Stop). s.id) id_cmp) stops) stops ≡ Ok stops
+stops_ordered stops h = ap (λ (place : Option ℕ). unless_disorder place stops) (no_disorder (on (λ (s : Stop). s.id) id_cmp) stops h)
+
+changes_ordered : (changes : List Change) → InChangeOrder changes → unless_disorder (first_disorder change_cmp changes) changes ≡ Ok changes
+changes_ordered changes h = ap (λ (place : Option ℕ). unless_disorder place changes) (no_disorder change_cmp changes h)
+
+only_stops : (base : BaseParts) (d : StopsDoc) → IsValidDoc d → IsSoundDoc d → IsOnly (stops_in (stops_tree base d)) d.stops
+unfolding stops_in
+only_stops base d valid sound =
+    only_then _ (items_of (map stop_tree d.stops)) _ d.stops (only_exactly _)
+    (only_then _ d.stops _ d.stops (only_each stop_in stop_tree IsSoundStop only_stop d.stops sound.stops)
+    (only_then _ d.stops _ d.stops (only_parents d.stops valid.closed.parents)
+    (only_exactly_by _ d.stops (stops_ordered d.stops valid.stops))))
+
+only_changes : (base : BaseParts) (d : StopsDoc) → IsValidDoc d → IsSoundDoc d → IsOnly (changes_in d.stops (stops_tree base d)) d.changes
+unfolding changes_in
+only_changes base d valid sound =
+    only_then _ (items_of (map change_tree d.changes)) _ d.changes (only_exactly _)
+    (only_then _ d.changes _ d.changes (only_each (change_in d.stops) change_tree (IsGoodChange d.stops) (only_change d.stops) d.changes (good_changes d.stops d.changes sound.changes valid.closed))
+    (only_exactly_by _ d.changes (changes_ordered d.changes valid.changes)))
+
+only_doc : (base : BaseParts) (d : StopsDoc) → IsValidDoc d → IsSoundDoc d → IsOnly (doc_in (stops_tree base d)) d
+unfolding doc_in
+only_doc base d valid sound =
+    only_then _ _ _ d (only_exactly _)
+    (only_then _ d.stops _ d (only_stops base d valid sound)
+    (only_then _ d.changes _ d (only_changes base d valid sound) (only_doc_of d)))
+
+parent_writable : (id name : List ℕ) (parent : Option (List ℕ)) → IsWritable (stop_tree (stop_of id name parent))
+unfolding stop_tree stop_of
+parent_writable id name None = ((tt, (tt, tt)), refl)
+parent_writable id name (Some up) = ((tt, (tt, (tt, tt))), refl)
+
+stops_writable : (stops : List Stop) → AreWritable (items_of (map stop_tree stops))
+unfolding stop_of
+stops_writable [] = tt
+stops_writable (s ∷ rest) = (parent_writable s.id s.name s.parent, stops_writable rest)
+
+change_writable : (c : Change) → c.seconds < 2 ^ 32 → IsWritable (change_tree c)
+unfolding change_tree
+change_writable c h = let fits : c.seconds < 2 ^ 64 = omega arith in ((tt, (fits, (tt, tt))), refl)
+
+changes_writable : (changes : List Change) → All IsSoundChange changes → AreWritable (items_of (map change_tree changes))
+changes_writable [] h = tt
+changes_writable (c ∷ rest) h = (change_writable c (All-head IsSoundChange c rest h).seconds, changes_writable rest (All-tail IsSoundChange c rest h))
+
+parent_depth : (id name : List ℕ) (parent : Option (List ℕ)) → depth (stop_tree (stop_of id name parent)) ≡ 1
+unfolding stop_tree stop_of
+parent_depth id name None = refl
+parent_depth id name (Some up) = refl
+
+stops_depth : (stops : List Stop) → items_depth (items_of (map stop_tree stops)) ≤ 1
+unfolding stop_of
+stops_depth [] = omega arith
+stops_depth (s ∷ rest) = omega (arith, parent_depth s.id s.name s.parent, stops_depth rest)
+
+change_depth : (c : Change) → depth (change_tree c) ≡ 1
+unfolding change_tree
+change_depth c = refl
+
+changes_depth : (changes : List Change) → items_depth (items_of (map change_tree changes)) ≤ 1
+changes_depth [] = omega arith
+changes_depth (c ∷ rest) = omega (arith, change_depth c, changes_depth rest)
+
+doc_writable : (base : BaseParts) (d : StopsDoc) → IsSoundDoc d → IsWritable (stops_tree base d)
+doc_writable base d sound = ((tt, (changes_writable d.changes sound.changes, (stops_writable d.stops, tt))), refl)
+
+doc_depth : (base : BaseParts) (d : StopsDoc) → depth (stops_tree base d) ≤ 127
+doc_depth base d = omega (arith, changes_depth d.changes, stops_depth d.stops)
+
+-- the text of a stops document says that document alone
+pub only_stops_text : (base : BaseParts) (d : StopsDoc) (bytes : List ℕ) → IsValidDoc d → IsSoundDoc d → IsUtf8 bytes → bytes ≡ stops_text_of base d → IsOnly (doc_of_bytes bytes) d
+unfolding doc_of_bytes stops_text_of
+only_stops_text base d bytes valid sound utf8 e =
+    let tree = stops_tree base d in
+    only_then _ tree _ d (only_json bytes tree utf8 (ap read e ∙ read_compact tree (doc_writable base d sound) (doc_depth base d)))
+    (only_doc base d valid sound)
