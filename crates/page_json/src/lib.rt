@@ -16,6 +16,8 @@ mod page_writing;
 mod stop_reading;
 mod stops_reading;
 mod stops_writing;
+#[cfg(test)]
+mod tests;
 mod urls;
 
 pub use fault::PageFault;
