@@ -1,20 +1,17 @@
 -- A connection that is written is read as that connection.
-use Rattle.std.proofs.Common.{◌≡◌, ℕ, suc, ◌≤◌, max, List, [], ◌∷◌, Bool, true, Option, Some, None, Result, Ok, codes, map, refl, sym, ap, ap₂, ◌∙◌, arith, le-leb}
+use Rattle.std.proofs.Common.{◌≡◌, ◌≤◌, List, [], ◌∷◌, Bool, Ok, codes, map, refl, ap, ap₂, ◌∙◌, arith, le-leb}
 use Rattle.std.specs.List.{All}
-use Rattle.std.specs.Prelude.{if◌then◌else◌}
 use Rattle.std.proofs.lemmas.List.Elements.{All-head, All-tail}
 use Rattle.lc_model.specs.declared.connection.Connection.{Connection}
 use Rattle.lc_time.specs.Iso.{SaysMoment, iso_text_of}
 use Rattle.connection_uri.specs.Base.{BaseParts}
 use Rattle.connection_uri.specs.Name.{name_of}
-use Rattle.serde_json.specs.Data.{Data, depth, items_depth}
-use Rattle.serde_json.specs.Find.{as_object}
+use Rattle.serde_json.specs.Data.{depth, items_depth}
 use Rattle.serde_json.specs.View.{items_of}
-use Rattle.page_json.specs.Members.{delay_of, formed, object_under}
-use Rattle.page_json.specs.PageReading.{allows, connection_in, end_at, joined, unless_early}
-use Rattle.page_json.specs.Reading.{exactly}
+use Rattle.page_json.specs.Members.{formed}
+use Rattle.page_json.specs.PageReading.{connection_in, end_at, joined, unless_early}
 use Rattle.page_json.specs.Says.{SaysName, SaysStop}
-use Rattle.page_json.specs.Sound.{IsDelay, IsSoundConnection}
+use Rattle.page_json.specs.Sound.{IsSoundConnection}
 use Rattle.page_json.specs.Tree.{connection_tree}
 use Rattle.page_json.specs.Urls.{stop_url_of}
 use Rattle.page_json.specs.declared.connection_reading.End.{End}

@@ -10,3 +10,5 @@ pub mod PageLaw
 pub mod Readings
 pub mod SearchFacts
 pub mod StopsLaw
+pub mod TextsLaw
+pub mod Utf8Law

@@ -1,14 +1,12 @@
 -- Members that are written are read as what they were written for.
-use Rattle.std.proofs.Common.{◌≡◌, ℕ, suc, ◌<◌, ◌^◌, ℤ, pos, negsuc, List, [], ◌∷◌, length, get_or, Bool, true, false, not, Option, Some, None, Result, Ok, Err, codes, refl, sym, ap, ◌∙◌, arith, inr, lt-ltb}
-use Rattle.std.specs.List.{AllPairs}
+use Rattle.std.proofs.Common.{◌≡◌, ℕ, suc, ◌^◌, ℤ, pos, negsuc, List, [], ◌∷◌, Bool, true, false, not, Option, Some, None, Result, Ok, Err, codes, refl, ap, arith, inr, lt-ltb}
 use Rattle.std.specs.Ordering.{is_lt}
-use Rattle.std.specs.Prelude.{if◌then◌else◌}
 use Rattle.std.specs.Str.{IsUtf8, bytes_eq}
 use Rattle.std.specs.declared.cmp.Ordering.{Ordering}
-use Rattle.std.specs.declared.cmp.Ordering.TheVariants.{Less, Equal, Greater}
+use Rattle.std.specs.declared.cmp.Ordering.TheVariants.{Less}
 use Rattle.lc_model.specs.Order.{IsStrict}
 use Rattle.lc_time.specs.Iso.{SaysMoment, iso_text_of}
-use Rattle.serde_json.specs.Data.{Data, Items, Members, no_items, item, number}
+use Rattle.serde_json.specs.Data.{Data, number}
 use Rattle.serde_json.specs.Find.{as_i64, of_integer}
 use Rattle.serde_json.specs.Read.{read}
 use Rattle.page_json.specs.Disorder.{disorder_after, first_disorder}

@@ -1,12 +1,11 @@
 -- Readings that can have one result alone.
-use Rattle.std.proofs.Common.{◌≡◌, ◌≢◌, ℕ, List, [], ◌∷◌, Option, Some, None, Result, Ok, Err, map, refl, sym, ap, subst, ◌∙◌}
+use Rattle.std.proofs.Common.{◌≡◌, ℕ, List, [], ◌∷◌, Result, Ok, Err, map, sym, ap, subst, ◌∙◌}
 use Rattle.std.proofs.lemmas.List.Elements.{All-head, All-tail}
 use Rattle.std.specs.List.{All}
 use Rattle.serde_json.specs.Data.{Data}
 use Rattle.serde_json.specs.View.{items_of}
 use Rattle.page_json.specs.Reading.{Reading, Meets, after, each_in, exactly, gives, what_is_said, ◌>>=◌}
 use Rattle.page_json.specs.declared.fault.PageFault.{PageFault}
-use Rattle.page_json.specs.declared.fault.PageFault.TheVariants.{NoMemory}
 
 -- the reading gives this, if anything
 pub record IsOnly {X : Type 0} (reading : Reading X) (x : X) : Type 0 where

@@ -1,5 +1,5 @@
 -- A valid page that is written is read as that page.
-use Rattle.std.proofs.Common.{◌≡◌, ℕ, suc, ◌+◌, ◌<◌, ◌≤◌, max, List, [], ◌∷◌, length, Bool, true, Option, Some, None, Result, Ok, codes, map, option_map, refl, sym, ap, subst, ◌∙◌, arith}
+use Rattle.std.proofs.Common.{◌≡◌, ℕ, ◌≤◌, List, true, Option, Some, None, Ok, codes, map, option_map, refl, sym, ap, subst, ◌∙◌, arith}
 use Rattle.std.specs.List.{All}
 use Rattle.std.specs.Option.{IfSome}
 use Rattle.std.specs.Str.{IsUtf8}
@@ -12,7 +12,6 @@ use Rattle.serde_json.specs.Data.{Data, Members, depth, member, members_depth, n
 use Rattle.serde_json.specs.Find.{get}
 use Rattle.serde_json.specs.Read.{read}
 use Rattle.serde_json.specs.View.{items_of}
-use Rattle.serde_json.specs.Written.{compact_text}
 use Rattle.page_json.specs.Disorder.{first_disorder, unless_disorder}
 use Rattle.page_json.specs.Members.{said_if, said_if_there}
 use Rattle.page_json.specs.PageReading.{connection_in, page_in, page_of_bytes}

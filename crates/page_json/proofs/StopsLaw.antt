@@ -1,5 +1,5 @@
 -- A stops document that is written is read as that document.
-use Rattle.std.proofs.Common.{◌≡◌, ℕ, suc, ◌+◌, ◌<◌, ◌≤◌, ◌&&◌, max, List, [], ◌∷◌, Bool, true, Option, Some, None, Result, Ok, Err, codes, map, ◌^◌, refl, ap, ap₂, subst, ◌∙◌, arith, le-leb, lt-ltb}
+use Rattle.std.proofs.Common.{◌≡◌, ℕ, ◌<◌, ◌≤◌, List, [], ◌∷◌, Option, Some, None, Result, Ok, Err, codes, map, ◌^◌, refl, ap, ap₂, subst, ◌∙◌, arith, le-leb, lt-ltb}
 use Rattle.std.proofs.Props.{props}
 use Rattle.std.proofs.lemmas.List.Elements.{All-head, All-tail}
 use Rattle.std.specs.List.{All}

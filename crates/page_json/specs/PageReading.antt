@@ -4,7 +4,6 @@ use Rattle.std.specs.Str.{IsUtf8, bytes_eq}
 use Rattle.lc_model.specs.Connection.{departure_cmp}
 use Rattle.lc_model.specs.declared.connection.Connection.{Connection}
 use Rattle.lc_model.specs.declared.key.RunKey.{RunKey}
-use Rattle.lc_model.specs.declared.page.PageName.{PageName}
 use Rattle.lc_time.specs.Iso.{SaysMoment}
 use Rattle.connection_uri.specs.Base.{BaseParts}
 use Rattle.serde_json.specs.Data.{Data}

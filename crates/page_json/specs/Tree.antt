@@ -1,6 +1,6 @@
 -- The JSON of a page and of the stops document (Linked Connections 1.0, Hydra, JSON-LD 1.1). Members stand in the order
 -- of their bytes.
-use Rattle.std.specs.Prelude.{ℕ, List, [], ◌∷◌, ◌++◌, Bool, codes, Option, Some, None, map, true, if◌then◌else◌}
+use Rattle.std.specs.Prelude.{ℕ, List, ◌++◌, Bool, codes, Option, Some, None, map, true, if◌then◌else◌}
 use Rattle.lc_model.specs.declared.change.Change.{Change}
 use Rattle.lc_model.specs.declared.connection.Connection.{Connection}
 use Rattle.lc_model.specs.declared.doc.StopsDoc.{StopsDoc}
@@ -10,7 +10,7 @@ use Rattle.lc_time.specs.Iso.{iso_text_of}
 use Rattle.connection_uri.specs.Base.{BaseParts}
 use Rattle.connection_uri.specs.Name.{name_of}
 use Rattle.connection_uri.specs.Page.{page_url_of}
-use Rattle.serde_json.specs.Data.{Data, number, string, array, object, boolean, unsigned, Items, no_items, item, Members, no_members, member, put}
+use Rattle.serde_json.specs.Data.{Data, number, string, array, object, boolean, unsigned, Items, Members, no_members, member, put}
 use Rattle.serde_json.specs.Find.{of_integer}
 use Rattle.serde_json.specs.View.{items_of}
 use Rattle.serde_json.specs.Written.{compact_text}

@@ -1,7 +1,6 @@
 ghost use Rattle.std.specs.Prelude.{◌≡◌, ◌<◌, ℕ, List, codes, Some, IfOk, IfSome};
 ghost use Rattle.lc_model.specs.Connection.{InDepartureOrder, NoneArrivesEarly, departure_cmp};
 ghost use Rattle.lc_model.specs.declared.page.PageName.{PageName as Named};
-ghost use Rattle.std.specs.Str.{IsUtf8};
 ghost use Rattle.serde_json.specs.View.{view};
 ghost use Rattle.page_json.specs.Disorder.{first_disorder, unless_disorder};
 ghost use Rattle.page_json.specs.Members.{said_at, said_if_there, said_in};
@@ -123,9 +122,10 @@ pub fn read_page(alloc: Global, base: &Base, bytes: &[u8]) -> Result<Page, PageF
     ensures valid { IfOk result IsValidPage }
 
     // The text of a valid page is read as that page.
-    ensures again { (page : Told) → IsValidPage page → IsSoundPage page → IsUtf8 bytes.now
+    ensures again { (page : Told) → IsValidPage page → IsSoundPage page
         → bytes.now ≡ page_text_of base.now page → Meets (gives page) result }
 {
+    let _text = base.text();
     let value = json_in(alloc, bytes)?;
     page_in(alloc, base, &value)
 }

@@ -34,7 +34,7 @@ pub fn read_stops(alloc: Global, bytes: &[u8]) -> Result<StopsDoc, PageFault>
     ensures said { Meets (doc_of_bytes bytes.now) result }
 
     // The text of a valid document is read as that document.
-    ensures again { (base : BaseParts) (doc : Told) → IsValidDoc doc → IsSoundDoc doc → IsUtf8 bytes.now
+    ensures again { (base : BaseParts) (doc : Told) → IsUtf8 base.text → IsValidDoc doc → IsSoundDoc doc
         → bytes.now ≡ stops_text_of base doc → Meets (gives doc) result }
 {
     let value = json_in(alloc, bytes)?;

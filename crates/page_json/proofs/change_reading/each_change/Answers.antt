@@ -1,5 +1,5 @@
 -- Each item is read in its turn.
-use Rattle.std.proofs.Common.{◌+◌, List, [], Err, sym, subst}
+use Rattle.std.proofs.Common.{◌+◌, List, Err, sym, subst}
 use Rattle.std.specs.List.{All}
 use Rattle.std.proofs.lemmas.List.Elements.{All-nil, All-push}
 use Rattle.lc_model.specs.Stop.{HasStop}

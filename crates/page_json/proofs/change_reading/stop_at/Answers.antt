@@ -1,6 +1,6 @@
 -- One step after the other.
-use Rattle.std.proofs.Common.{Ok, Err, codes, refl, rules, sym}
-use Rattle.serde_json.specs.View.{items_view, view}
+use Rattle.std.proofs.Common.{Ok, Err, refl}
+use Rattle.serde_json.specs.View.{view}
 use Rattle.page_json.specs.StopsReading.{if_stop}
 use Rattle.page_json.specs.StopsReading.{stop_at}
 use Rattle.page_json.proofs.Readings.{meets_err, meets_last}

@@ -1,5 +1,5 @@
 -- One member after the other.
-use Rattle.std.proofs.Common.{Ok, Err, codes, refl, sym}
+use Rattle.std.proofs.Common.{Ok, Err, refl, sym}
 use Rattle.serde_json.specs.View.{view}
 use Rattle.page_json.specs.PageReading.{connection_in, joined, unless_early}
 use Rattle.page_json.specs.Reading.{exactly}

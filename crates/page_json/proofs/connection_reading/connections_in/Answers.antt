@@ -1,5 +1,5 @@
 -- Each connection is read in its turn.
-use Rattle.std.proofs.Common.{◌≤◌, ◌+◌, List, [], Ok, sym, subst}
+use Rattle.std.proofs.Common.{◌≤◌, ◌+◌, List, Ok, sym, subst}
 use Rattle.std.proofs.lemmas.List.Elements.{All-nil, All-push}
 use Rattle.lc_model.specs.Connection.{NoneArrivesEarly}
 use Rattle.lc_model.specs.declared.connection.Connection.{Connection}

@@ -1,5 +1,5 @@
 -- The text of the member says its moment.
-use Rattle.std.proofs.Common.{Ok, ap, codes, sym, ◌∙◌}
+use Rattle.std.proofs.Common.{Ok, ap, sym, ◌∙◌}
 use Rattle.lc_time.specs.Iso.{SaysMoment}
 use Rattle.serde_json.specs.View.{view}
 use Rattle.page_json.specs.Members.{text_of}

@@ -1,5 +1,5 @@
 -- The text of the member says its stop.
-use Rattle.std.proofs.Common.{Ok, ap, codes, sym, ◌∙◌}
+use Rattle.std.proofs.Common.{Ok, ap, sym, ◌∙◌}
 use Rattle.page_json.specs.Says.{SaysStop}
 use Rattle.serde_json.specs.View.{view}
 use Rattle.page_json.specs.Members.{text_of}

@@ -1,7 +1,6 @@
 -- Without a disorder the connections stand in departure order.
-use Rattle.std.proofs.Common.{List, sym, subst}
+use Rattle.std.proofs.Common.{sym, subst}
 use Rattle.lc_model.specs.Connection.{InDepartureOrder, departure_cmp}
-use Rattle.lc_model.specs.declared.connection.Connection.{Connection}
 use Rattle.page_json.proofs.Orders.{departure_cmp_total, strict_without_disorder}
 use Rattle.page_json.proofs.page_reading.in_order.Goals as goal
 

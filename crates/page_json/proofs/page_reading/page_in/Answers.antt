@@ -1,12 +1,10 @@
 -- One member after the other.
-use Rattle.std.proofs.Common.{Ok, Err, codes, refl, sym}
-use Rattle.std.proofs.lemmas.Result.{IfOk-weaker}
+use Rattle.std.proofs.Common.{Ok, Err, refl, sym}
 use Rattle.lc_model.specs.Connection.{departure_cmp}
 use Rattle.serde_json.specs.View.{items_view, view}
 use Rattle.page_json.specs.Disorder.{first_disorder, unless_disorder}
 use Rattle.page_json.specs.PageReading.{page_in}
 use Rattle.page_json.specs.Reading.{exactly}
-use Rattle.page_json.specs.Valid.{IsValidPage}
 use Rattle.page_json.specs.declared.page.Page.{Page}
 use Rattle.page_json.proofs.Readings.{meets_err, meets_last}
 use Rattle.page_json.proofs.page_reading.page_in.Goals as goal

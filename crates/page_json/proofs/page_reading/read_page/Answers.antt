@@ -1,9 +1,11 @@
 -- First the JSON, then the page.
-use Rattle.std.proofs.Common.{Ok, Err, refl}
+use Rattle.std.proofs.Common.{Ok, Err, refl, subst, sym}
+use Rattle.std.specs.Str.{IsUtf8}
 use Rattle.serde_json.specs.View.{view}
 use Rattle.page_json.specs.PageReading.{page_in, page_of_bytes}
 use Rattle.page_json.proofs.Only.{meets_only}
 use Rattle.page_json.proofs.PageLaw.{only_page_text}
+use Rattle.page_json.proofs.TextsLaw.{page_text_utf8}
 use Rattle.page_json.proofs.Readings.{meets_err, meets_last}
 use Rattle.page_json.proofs.page_reading.read_page.Goals as goal
 
@@ -21,9 +23,13 @@ returns-in_err-value-clause-said c =
     (λ other. (Err fault, c.in_err-value.ensures.err other, refl))
 
 pub returns-clause-again : goal.returns-clause-again
-returns-clause-again c = λ page valid sound utf8 e.
+returns-clause-again c = λ page valid sound e.
+    let base = subst IsUtf8 c.text-text.ensures.value c.text-text.utf8 in
+    let utf8 = subst IsUtf8 (sym e) (page_text_utf8 c.args.base.now page base sound) in
     meets_only (page_of_bytes c.args.base.now c.args.bytes.now) page c.page_in.result (only_page_text c.args.base.now page c.args.bytes.now valid sound utf8 e) (returns-clause-said c)
 
 pub returns-in_err-value-clause-again : goal.returns-in_err-value-clause-again
-returns-in_err-value-clause-again c = λ page valid sound utf8 e.
+returns-in_err-value-clause-again c = λ page valid sound e.
+    let base = subst IsUtf8 c.text-text.ensures.value c.text-text.utf8 in
+    let utf8 = subst IsUtf8 (sym e) (page_text_utf8 c.args.base.now page base sound) in
     meets_only (page_of_bytes c.args.base.now c.args.bytes.now) page c.from_residual.result (only_page_text c.args.base.now page c.args.bytes.now valid sound utf8 e) (returns-in_err-value-clause-said c)

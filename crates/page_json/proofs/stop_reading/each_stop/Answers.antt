@@ -1,8 +1,5 @@
 -- Each item is read in its turn.
-use Rattle.std.proofs.Common.{◌+◌, List, [], Err, sym, subst}
-use Rattle.std.specs.List.{All}
-use Rattle.std.proofs.lemmas.List.Elements.{All-nil, All-push}
-use Rattle.lc_model.specs.Stop.{HasStop}
+use Rattle.std.proofs.Common.{◌+◌, List, Err, sym, subst}
 use Rattle.lc_model.specs.declared.stop.Stop.{Stop}
 use Rattle.serde_json.specs.View.{items_view}
 use Rattle.page_json.specs.StopsReading.{stop_in}

@@ -1,5 +1,5 @@
 -- One step after the other.
-use Rattle.std.proofs.Common.{List, ◌≡◌, Ok, Err, codes, refl, subst, sym}
+use Rattle.std.proofs.Common.{List, ◌≡◌, Ok, Err, refl, subst, sym}
 use Rattle.serde_json.specs.View.{items_view, view}
 use Rattle.page_json.specs.Disorder.{first_disorder, unless_disorder}
 use Rattle.page_json.specs.Reading.{exactly}

@@ -1,10 +1,7 @@
 -- Without a disorder the changes stand in order.
-use Rattle.std.proofs.Common.{List, sym, subst}
-use Rattle.std.specs.Ordering.{on}
-use Rattle.lc_model.specs.Text.{id_cmp}
+use Rattle.std.proofs.Common.{sym, subst}
 use Rattle.lc_model.specs.Change.{InChangeOrder}
 use Rattle.lc_model.specs.Change.{change_cmp}
-use Rattle.lc_model.specs.declared.change.Change.{Change}
 use Rattle.page_json.proofs.Orders.{change_cmp_total, strict_without_disorder}
 use Rattle.page_json.proofs.stops_reading.ordered_changes.Goals as goal
 

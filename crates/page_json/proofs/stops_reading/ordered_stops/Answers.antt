@@ -1,5 +1,5 @@
 -- Without a disorder the stops stand in order.
-use Rattle.std.proofs.Common.{List, sym, subst}
+use Rattle.std.proofs.Common.{sym, subst}
 use Rattle.std.specs.Ordering.{on}
 use Rattle.lc_model.specs.Text.{id_cmp}
 use Rattle.lc_model.specs.Stop.{InStopOrder}
