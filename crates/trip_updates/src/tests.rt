@@ -23,6 +23,35 @@ const CANCELLED: &[u8] =
 const PASSED: &[u8] =
     b"\x0a\x07\x0a\x032.0\x18\x05\x12\x11\x0a\x01a\x1a\x0c\x0a\x0a\x1a\x0820240501\x12\x0c\x0a\x01b\x1a\x07\x0a\x05\x0a\x01T\x20\x01\x12\x14\x0a\x01c\x1a\x0f\x0a\x0d\x0a\x01T\x1a\x0820240230\x12\x13\x0a\x01d\x1a\x0e\x0a\x0c\x0a\x01T\x12\x077:60:00\x12\x0d\x0a\x01e\x1a\x08\x0a\x06\x0a\x00\x12\x00\x1a\x00";
 
+// LATE with a field of each wire type that no reader knows in every message: odd_varint: 300 odd_eight: 5 odd_text: "abc"
+// odd_four: 7, of the numbers 1001 to 1004.
+const UNKNOWN: &[u8] =
+    b"\x0a\x27\x0a\x032.0\x10\x00\x18\xf0\xd0\xc7\xb1\x06\xc8\x3e\xac\x02\xd1\x3e\x05\x00\x00\x00\x00\x00\x00\x00\xda\x3e\x03abc\xe5\x3e\x07\x00\x00\x00\x12\xa0\x01\x0a\x011\x1a\x80\x01\x0a\x28\x0a\x02T1\x1a\x0820240501\xc8\x3e\xac\x02\xd1\x3e\x05\x00\x00\x00\x00\x00\x00\x00\xda\x3e\x03abc\xe5\x3e\x07\x00\x00\x00\x12\x3a\x08\x02\x12\x1c\x08\x3c\xc8\x3e\xac\x02\xd1\x3e\x05\x00\x00\x00\x00\x00\x00\x00\xda\x3e\x03abc\xe5\x3e\x07\x00\x00\x00\xc8\x3e\xac\x02\xd1\x3e\x05\x00\x00\x00\x00\x00\x00\x00\xda\x3e\x03abc\xe5\x3e\x07\x00\x00\x00\xc8\x3e\xac\x02\xd1\x3e\x05\x00\x00\x00\x00\x00\x00\x00\xda\x3e\x03abc\xe5\x3e\x07\x00\x00\x00\xc8\x3e\xac\x02\xd1\x3e\x05\x00\x00\x00\x00\x00\x00\x00\xda\x3e\x03abc\xe5\x3e\x07\x00\x00\x00\xc8\x3e\xac\x02\xd1\x3e\x05\x00\x00\x00\x00\x00\x00\x00\xda\x3e\x03abc\xe5\x3e\x07\x00\x00\x00";
+
+// LATE with the fields of every message in the opposite order.
+const OPPOSITE: &[u8] =
+    b"\x12\x1d\x1a\x18\x12\x06\x12\x02\x08\x3c\x08\x02\x0a\x0e\x1a\x0820240501\x0a\x02T1\x0a\x011\x0a\x0d\x18\xf0\xd0\xc7\xb1\x06\x10\x00\x0a\x032.0";
+
+// LATE with other numbers and texts before its own: version "1.0", DIFFERENTIAL, timestamp 7, id "x", trip "T9" of 20230101,
+// CANCELED, sequence 9, SKIPPED, delay -5.
+const LAST_STANDS: &[u8] =
+    b"\x0a\x16\x0a\x031.0\x10\x01\x18\x07\x0a\x032.0\x10\x00\x18\xf0\xd0\xc7\xb1\x06\x12\x43\x0a\x01x\x0a\x011\x1a\x3b\x0a\x20\x0a\x02T9\x1a\x0820230101\x20\x03\x0a\x02T1\x1a\x0820240501\x20\x00\x12\x17\x08\x09\x28\x01\x12\x0d\x08\xfb\xff\xff\xff\xff\xff\xff\xff\xff\x01\x08\x3c\x08\x02\x28\x00";
+
+// LATE with a varint 7 behind each text and message, and a text "7" behind each number, under the same field number.
+const OTHER_TYPES: &[u8] =
+    b"\x0a\x15\x0a\x032.0\x10\x00\x18\xf0\xd0\xc7\xb1\x06\x08\x07\x12\x017\x1a\x017\x12\x40\x0a\x011\x1a\x37\x0a\x17\x0a\x02T1\x1a\x0820240501\x08\x07\x10\x07\x18\x07\x22\x017\x12\x18\x08\x02\x12\x08\x08\x3c\x0a\x017\x12\x017\x10\x07\x18\x07\x20\x07\x0a\x017\x2a\x017\x08\x07\x10\x07\x08\x07\x18\x07\x08\x07\x10\x07";
+
+// LATE and the field of an empty text that no reader knows.
+const LONGER: &[u8] =
+    b"\x0a\x0d\x0a\x032.0\x10\x00\x18\xf0\xd0\xc7\xb1\x06\x12\x1d\x0a\x011\x1a\x18\x0a\x0e\x0a\x02T1\x1a\x0820240501\x12\x06\x08\x02\x12\x02\x08\x3c\xca\x3e\x00";
+
+// header { gtfs_realtime_version: "2.0" incrementality: 4294967296 timestamp: 253402127999 } entity { id: "b" trip_update {
+// trip { trip_id: "T" schedule_relationship: 4294967299 } stop_time_update { stop_sequence: 4294967298
+// arrival { delay: 4294967206 time: -1 } schedule_relationship: 4294967297 } } } entity { id: "c" trip_update {
+// trip { trip_id: "T" schedule_relationship: 4294967297 } } }: numbers of more than 32 bits, and the last moment
+const WIDE: &[u8] =
+    b"\x0a\x12\x0a\x032.0\x10\x80\x80\x80\x80\x10\x18\xff\xbc\xc6\xff\xaf\x07\x12\x31\x0a\x01b\x1a\x2c\x0a\x09\x0a\x01T\x20\x83\x80\x80\x80\x10\x12\x1f\x08\x82\x80\x80\x80\x10\x12\x11\x08\xa6\xff\xff\xff\x0f\x10\xff\xff\xff\xff\xff\xff\xff\xff\xff\x01\x28\x81\x80\x80\x80\x10\x12\x10\x0a\x01c\x1a\x0b\x0a\x09\x0a\x01T\x20\x81\x80\x80\x80\x10";
+
 // The moment of an update, how many news it has and how many were passed over.
 fn counts(update: &Update) -> (u64, usize, u32) {
     (
@@ -32,38 +61,42 @@ fn counts(update: &Update) -> (u64, usize, u32) {
     )
 }
 
+// The news of trip T1 on 2024-05-01 and nothing else: sixty seconds late at its arrival of sequence 2.
+fn is_late(update: &Update) -> bool {
+    let [trip] = update.news.as_slice() else {
+        return false;
+    };
+    let [stop] = trip.stops.as_slice() else {
+        return false;
+    };
+    let date = trip.date.map(|date| (date.year, date.month, date.day));
+    let late = Event {
+        delay: Some(60),
+        time: None,
+    };
+    counts(update) == (1_714_546_800, 1, 0)
+        && trip.trip.as_slice() == b"T1".as_slice()
+        && date == Some((2024, 5, 1))
+        && (trip.start, trip.cancelled) == (None, false)
+        && (stop.seq, stop.stop.is_none(), stop.relation) == (Some(2), true, Relation::Scheduled)
+        && (stop.arr, stop.dep) == (Some(late), None)
+}
+
 #[test]
 fn one_late_arrival(rt: HostRuntime) -> Result<(), Fail> {
     one_meaning();
-    let update = read_message(rt.alloc(), LATE.as_slice())?;
-    assert_eq!(rt; counts(&update), (1_714_546_800, 1, 0));
-    for trip in update.news.as_slice() {
-        assert_eq!(rt; trip.trip.as_slice(), b"T1".as_slice());
-        let date = trip.date.ok_or("a date")?;
-        assert_eq!(rt; (date.year, date.month, date.day), (2024, 5, 1));
-        assert_eq!(rt; (trip.start, trip.cancelled), (None, false));
-        for stop in trip.stops.as_slice() {
-            assert_eq!(rt;
-                (stop.seq, stop.stop.is_none(), stop.relation),
-                (Some(2), true, Relation::Scheduled)
-            );
-            assert_eq!(rt;
-                stop.arr,
-                Some(Event {
-                    delay: Some(60),
-                    time: None
-                })
-            );
-            assert_eq!(rt; stop.dep, None);
-        }
+    let rows: [&[u8]; 6] = [
+        LATE.as_slice(),
+        LONGER,
+        UNKNOWN,
+        OPPOSITE,
+        LAST_STANDS,
+        OTHER_TYPES,
+    ];
+    for bytes in rows {
+        let update = read_message(rt.alloc(), bytes)?;
+        assert!(rt; is_late(&update), "{bytes:?}");
     }
-    let mut longer = LATE.as_slice().to_vec(rt.alloc())?;
-    // odd_varint: 300 odd_eight: 5 odd_text: "abc" odd_four: 7, all of numbers above 1000, and an empty text 1001
-    longer.extend_from_slice(
-        b"\xc8\x3e\xac\x02\xd1\x3e\x05\x00\x00\x00\x00\x00\x00\x00\xda\x3e\x03abc\xe5\x3e\x07\x00\x00\x00\xca\x3e\x00",
-    )?;
-    let update = read_message(rt.alloc(), longer.as_slice())?;
-    assert_eq!(rt; counts(&update), (1_714_546_800, 1, 0));
     Ok(())
 }
 
@@ -106,6 +139,21 @@ fn news_of_every_kind(rt: HostRuntime) -> Result<(), Fail> {
     }
     let passed = read_message(rt.alloc(), PASSED)?;
     assert_eq!(rt; counts(&passed), (5, 1, 4));
+    let wide = read_message(rt.alloc(), WIDE)?;
+    assert_eq!(rt; counts(&wide), (253_402_127_999, 1, 1));
+    for trip in wide.news.as_slice() {
+        assert!(rt; trip.cancelled);
+        for stop in trip.stops.as_slice() {
+            assert_eq!(rt; (stop.seq, stop.relation), (Some(2), Relation::Skipped));
+            assert_eq!(rt;
+                stop.arr,
+                Some(Event {
+                    delay: Some(-90),
+                    time: Some(-1)
+                })
+            );
+        }
+    }
     Ok(())
 }
 
@@ -119,7 +167,7 @@ fn fault(rt: &HostRuntime, bytes: &[u8]) -> Option<RtFault> {
 // A header of the moment 5, and behind it each row; then bytes without it.
 #[test]
 fn faults(rt: HostRuntime) -> Result<(), Fail> {
-    let behind: [(&[u8], RtFault); 9] = [
+    let behind: [(&[u8], RtFault); 13] = [
         (
             b"\x0a\x07\x0a\x032.0\x18\x05",
             RtFault::Repeated {
@@ -153,6 +201,29 @@ fn faults(rt: HostRuntime) -> Result<(), Fail> {
                 field: Part::Departure,
             },
         ),
+        // trip, trip_update, arrival and departure split in two
+        (
+            b"\x12\x16\x0a\x01a\x1a\x11\x0a\x03\x0a\x01T\x0a\x0a\x1a\x0820240501",
+            RtFault::Repeated { field: Part::Trip },
+        ),
+        (
+            b"\x12\x10\x0a\x01a\x1a\x05\x0a\x03\x0a\x01T\x1a\x04\x12\x02\x08\x02",
+            RtFault::Repeated {
+                field: Part::TripUpdate,
+            },
+        ),
+        (
+            b"\x12\x14\x0a\x01a\x1a\x0f\x0a\x03\x0a\x01T\x12\x08\x12\x02\x08\x01\x12\x02\x10\x01",
+            RtFault::Repeated {
+                field: Part::Arrival,
+            },
+        ),
+        (
+            b"\x12\x14\x0a\x01a\x1a\x0f\x0a\x03\x0a\x01T\x12\x08\x1a\x02\x08\x01\x1a\x02\x10\x01",
+            RtFault::Repeated {
+                field: Part::Departure,
+            },
+        ),
         (
             b"\x12\x06\x1a\x04\x12\x02\x12\x05",
             RtFault::Cut { place: 15 },
@@ -167,7 +238,7 @@ fn faults(rt: HostRuntime) -> Result<(), Fail> {
         message.extend_from_slice(bytes)?;
         assert_eq!(rt; fault(&rt, message.as_slice()), Some(want), "{bytes:?}");
     }
-    let alone: [(&[u8], RtFault); 12] = [
+    let alone: [(&[u8], RtFault); 16] = [
         (
             b"",
             RtFault::Missing {
@@ -200,11 +271,41 @@ fn faults(rt: HostRuntime) -> Result<(), Fail> {
             b"\x0a\x0d\x0a\x032.0\x10\x01\x18\xf0\xd0\xc7\xb1\x06",
             RtFault::Differential,
         ),
-        (&LATE[..40], RtFault::Cut { place: 15 }),
+        // incrementality: 4294967297
+        (
+            b"\x0a\x0d\x0a\x032.0\x10\x81\x80\x80\x80\x10\x18\x05",
+            RtFault::Differential,
+        ),
+        // DIFFERENTIAL without a timestamp, and without a version
+        (b"\x0a\x07\x0a\x032.0\x10\x01", RtFault::NoMoment),
+        (
+            b"\x0a\x02\x10\x01",
+            RtFault::Missing {
+                field: Part::Version,
+            },
+        ),
+        // a header split in two
+        (b"\x0a\x05\x0a\x032.0\x0a\x02\x18\x05", RtFault::NoMoment),
+        // the header of LATE twice
+        (
+            b"\x0a\x0d\x0a\x032.0\x10\x00\x18\xf0\xd0\xc7\xb1\x06\x0a\x0d\x0a\x032.0\x10\x00\x18\xf0\xd0\xc7\xb1\x06",
+            RtFault::Repeated {
+                field: Part::Header,
+            },
+        ),
         (b"\x12\x01\x0b\x0a", RtFault::Group { place: 2 }),
     ];
     for (bytes, want) in alone {
         assert_eq!(rt; fault(&rt, bytes), Some(want), "{bytes:?}");
+    }
+    // Each front of LATE: it ends within the header, behind it, or within the entity.
+    for len in 1..46 {
+        let want = match len {
+            15 => None,
+            1..15 => Some(RtFault::Cut { place: 0 }),
+            _ => Some(RtFault::Cut { place: 15 }),
+        };
+        assert_eq!(rt; fault(&rt, &LATE[..len]), want, "{len} bytes");
     }
     Ok(())
 }
@@ -220,5 +321,36 @@ fn many_entities(rt: HostRuntime) -> Result<(), Fail> {
     }
     let update = read_message(rt.alloc(), message.as_slice())?;
     assert_eq!(rt; counts(&update), (1_714_546_800, 10_000, 0));
+    Ok(())
+}
+
+#[test]
+fn texts_of_faults(rt: HostRuntime) -> Result<(), Fail> {
+    let rows = [
+        (
+            RtFault::Cut { place: 15 },
+            "the bytes end within the field at 15",
+        ),
+        (
+            RtFault::LongVarint { place: 0 },
+            "a varint of the field at 0 has more than ten bytes",
+        ),
+        (RtFault::Group { place: 2 }, "a group stands at 2"),
+        (RtFault::BadField { place: 7 }, "no field begins at 7"),
+        (RtFault::Missing { field: Part::Id }, "Id is missing"),
+        (RtFault::NoMoment, "the timestamp is no moment"),
+        (RtFault::Differential, "the message is differential"),
+        (
+            RtFault::Repeated {
+                field: Part::TripUpdate,
+            },
+            "TripUpdate stands twice",
+        ),
+        (RtFault::NoMemory, "no memory"),
+    ];
+    for (fault, want) in rows {
+        let text = format!(in rt.alloc(); "{fault}")?;
+        assert_eq!(rt; text.as_str(), want);
+    }
     Ok(())
 }
