@@ -7,3 +7,4 @@ pub mod Meaning
 pub mod Message
 pub mod Faults
 pub mod Shows
+pub mod Texts

@@ -1,5 +1,6 @@
-ghost use Rattle.std.specs.Prelude.{◌≡◌};
+ghost use Rattle.std.specs.Prelude.{◌≡◌, Some};
 ghost use Rattle.trip_updates.specs.declared.fault.RtFault.TheVariants.{NoMemory as NoMemoryFault};
+ghost use Rattle.trip_updates.specs.Texts.{part_text, fault_text};
 ghost use Rattle.trip_updates.specs.Wire.{wire};
 
 use rt_protobuf::WireFault;
@@ -17,6 +18,22 @@ pub enum Part {
     TripUpdate,
     Arrival,
     Departure,
+}
+
+impl fmt::Display for Part {
+    ghost output = { λ part. Some (part_text part) };
+
+    fn fmt<W: fmt::Write>(&self, f: &mut fmt::Formatter<W>) -> fmt::Result {
+        match self {
+            Part::Header => f.write_str("Header"),
+            Part::Version => f.write_str("Version"),
+            Part::Id => f.write_str("Id"),
+            Part::Trip => f.write_str("Trip"),
+            Part::TripUpdate => f.write_str("TripUpdate"),
+            Part::Arrival => f.write_str("Arrival"),
+            Part::Departure => f.write_str("Departure"),
+        }
+    }
 }
 
 /// The first fault of bytes that are no message. A place is the offset, in the whole message, of the tag of the field in
@@ -44,19 +61,20 @@ pub enum RtFault {
 }
 
 impl fmt::Display for RtFault {
+    ghost output = { λ fault. Some (fault_text fault) };
+
     fn fmt<W: fmt::Write>(&self, f: &mut fmt::Formatter<W>) -> fmt::Result {
         match self {
             RtFault::Cut { place } => write!(f, "the bytes end within the field at {place}"),
-            RtFault::LongVarint { place } => write!(
-                f,
-                "a varint of the field at {place} has more than ten bytes"
-            ),
+            RtFault::LongVarint { place } => {
+                write!(f, "more than ten bytes in a varint of the field at {place}")
+            }
             RtFault::Group { place } => write!(f, "a group stands at {place}"),
             RtFault::BadField { place } => write!(f, "no field begins at {place}"),
-            RtFault::Missing { field } => write!(f, "{field:?} is missing"),
+            RtFault::Missing { field } => write!(f, "{field} is missing"),
             RtFault::NoMoment => write!(f, "the timestamp is no moment"),
             RtFault::Differential => write!(f, "the message is differential"),
-            RtFault::Repeated { field } => write!(f, "{field:?} stands twice"),
+            RtFault::Repeated { field } => write!(f, "{field} stands twice"),
             RtFault::NoMemory => write!(f, "no memory"),
         }
     }

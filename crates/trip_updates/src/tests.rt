@@ -333,7 +333,7 @@ fn texts_of_faults(rt: HostRuntime) -> Result<(), Fail> {
         ),
         (
             RtFault::LongVarint { place: 0 },
-            "a varint of the field at 0 has more than ten bytes",
+            "more than ten bytes in a varint of the field at 0",
         ),
         (RtFault::Group { place: 2 }, "a group stands at 2"),
         (RtFault::BadField { place: 7 }, "no field begins at 7"),
