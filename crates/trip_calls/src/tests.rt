@@ -138,26 +138,52 @@ const TIMES: [(&str, &str, u32, u32, u32); 11] = [
     ),
 ];
 
-fn trip_rows(alloc: Global) -> Result<Vec<TripRow>, Fail> {
+/// Trip and service.
+const TRIPS: [(&str, &str); 5] = [
+    ("T1", "w"),
+    ("T2", "w"),
+    ("T3", "w"),
+    ("T4", "w"),
+    ("T5", "w"),
+];
+
+/// A trip that goes on past midnight, one without stop times, and one of a service that runs on no day.
+const NIGHT_TRIPS: [(&str, &str); 3] = [("N", "w"), ("S", "w"), ("X", "x")];
+
+const NIGHT_TIMES: [(&str, &str, u32, u32, u32); 5] = [
+    ("N", "A", 1, 23 * HOUR, 23 * HOUR),
+    (
+        "N",
+        "B",
+        5,
+        25 * HOUR + 10 * MINUTE,
+        25 * HOUR + 11 * MINUTE,
+    ),
+    ("N", "C", 9, 49 * HOUR, 49 * HOUR),
+    ("X", "A", 1, 8 * HOUR, 8 * HOUR),
+    ("X", "B", 2, 9 * HOUR, 9 * HOUR),
+];
+
+fn trip_rows(alloc: Global, rows: &[(&str, &str)]) -> Result<Vec<TripRow>, Fail> {
     let mut trips = Vec::new(alloc);
-    for trip in ["T1", "T2", "T3", "T4", "T5"] {
+    for (trip, service) in rows {
         trips.push(TripRow {
-            trip: id(alloc, trip)?,
-            service: id(alloc, "w")?,
+            trip: id(alloc, *trip)?,
+            service: id(alloc, *service)?,
         })?;
     }
     Ok(trips)
 }
 
-fn stop_times(alloc: Global) -> Result<Vec<StopTime>, Fail> {
+fn stop_times(alloc: Global, rows: &[(&str, &str, u32, u32, u32)]) -> Result<Vec<StopTime>, Fail> {
     let mut times = Vec::new(alloc);
-    for (trip, stop, seq, arr, dep) in TIMES {
+    for (trip, stop, seq, arr, dep) in rows {
         times.push(StopTime {
-            trip: id(alloc, trip)?,
-            stop: id(alloc, stop)?,
-            seq,
-            arr,
-            dep,
+            trip: id(alloc, *trip)?,
+            stop: id(alloc, *stop)?,
+            seq: *seq,
+            arr: *arr,
+            dep: *dep,
             board: true,
             alight: true,
         })?;
@@ -180,15 +206,17 @@ fn date_rows(alloc: Global, added: bool) -> Result<Vec<DateRow>, Fail> {
     Ok(dates)
 }
 
-/// How many runs five trips have in the window, and their connections: where each departs and arrives, and when.
-fn timetable(alloc: Global, added: bool, window: Window) -> Result<(Runs, Connections), Fail>
+/// The runs of these trips in the window, and their connections.
+fn timetable(
+    alloc: Global,
+    trips: Vec<TripRow>,
+    times: Vec<StopTime>,
+    added: bool,
+    window: Window,
+) -> Result<(Runs, Connections), Fail>
     requires { HasMoments (window.first + window.count) }
 {
-    let rows = tables_of(
-        trip_rows(alloc)?,
-        stop_times(alloc)?,
-        date_rows(alloc, added)?,
-    )?;
+    let rows = tables_of(trips, times, date_rows(alloc, added)?)?;
     let tables = Tables {
         stops: Stops::from_list(Vec::new(alloc)),
         trips: rows.0,
@@ -206,7 +234,9 @@ fn six_connections_of_five_trips(rt: HostRuntime) -> Result<(), Fail> {
         first: DAY,
         count: 1,
     };
-    let (runs, list) = timetable(rt.alloc(), true, window)?;
+    let trips = trip_rows(rt.alloc(), &TRIPS)?;
+    let times = stop_times(rt.alloc(), &TIMES)?;
+    let (runs, list) = timetable(rt.alloc(), trips, times, true, window)?;
     assert_eq!(rt; runs.as_slice().len(), 5);
     let expected = [
         (b"T1", 1, b"A", MIDNIGHT + 28_800, b"B", MIDNIGHT + 29_400),
@@ -240,12 +270,47 @@ fn runs_in_windows(rt: HostRuntime) -> Result<(), Fail> {
     ] {
         assert!(rt; first < 20_000);
         assert!(rt; count <= 10);
-        let (runs, _) = timetable(rt.alloc(), added, Window { first, count })?;
+        let trips = trip_rows(rt.alloc(), &TRIPS)?;
+        let times = stop_times(rt.alloc(), &TIMES)?;
+        let (runs, _) = timetable(rt.alloc(), trips, times, added, Window { first, count })?;
         assert_eq!(rt;
             runs.as_slice().len(),
             wanted,
             "from day {first}, {count} days"
         );
+    }
+    Ok(())
+}
+
+// Nobody boards or alights at the second call. A time of 25:11:00 is 01:11 of the next day.
+#[test]
+fn trips_of_a_night(rt: HostRuntime) -> Result<(), Fail> {
+    let window = Window {
+        first: DAY,
+        count: 1,
+    };
+    let trips = trip_rows(rt.alloc(), &NIGHT_TRIPS)?;
+    let mut times = stop_times(rt.alloc(), &NIGHT_TIMES)?;
+    for time in times.iter_mut() {
+        time.alight = time.seq != 5;
+        time.board = time.seq != 5;
+    }
+    let (runs, list) = timetable(rt.alloc(), trips, times, true, window)?;
+    let calls = [(b"N", 3), (b"S", 0)];
+    assert_eq!(rt; runs.as_slice().len(), 2);
+    for (run, (trip, count)) in runs.as_slice().iter().zip(calls) {
+        assert!(rt; run.key.trip.bytes() == trip.as_slice(), "{count} calls");
+        assert_eq!(rt; run.calls.as_slice().len(), count);
+    }
+    let expected = [
+        (1, MIDNIGHT + 82_800, MIDNIGHT + 90_600, true, false),
+        (5, MIDNIGHT + 90_660, MIDNIGHT + 176_400, false, true),
+    ];
+    assert_eq!(rt; list.as_slice().len(), 2);
+    for (c, (seq, dep, arr, board, alight)) in list.as_slice().iter().zip(expected) {
+        assert_eq!(rt; (c.seq, c.dep.seconds(), c.arr.seconds()), (seq, dep, arr));
+        assert_eq!(rt; (c.board, c.alight), (board, alight), "at {seq}");
+        assert_eq!(rt; (c.dep_delay, c.arr_delay), (0, 0), "at {seq}");
     }
     Ok(())
 }
