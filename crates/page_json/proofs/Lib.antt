@@ -2,7 +2,6 @@ pub mod ConnectionLaw
 pub mod Each
 pub mod Floats
 pub mod JsonLaw
-pub mod Lists
 pub mod MembersLaw
 pub mod Only
 pub mod Orders

@@ -1,10 +1,8 @@
-ghost use Rattle.std.specs.Prelude.{◌≡◌, ◌++◌, ℕ, List, Some, IfOk, IfSome, IsSomeAnd, codes};
-ghost use Rattle.lc_model.specs.Text.{IsIdText};
-ghost use Rattle.connection_uri.specs.Encoding.{encoded};
+ghost use Rattle.std.specs.Prelude.{◌≡◌, ℕ, List, Some, IfOk, IfSome};
 ghost use Rattle.page_json.specs.Says.{SaysStop};
 ghost use Rattle.page_json.specs.Urls.{stop_url_of, trip_url_of};
 
-use connection_uri::{Base, append_run, decode, encode};
+use connection_uri::{Base, append_run, behind_base, decode, encode};
 use lc_model::{Id, NoMemory, RunKey, Text};
 use std::alloc::Global;
 
@@ -34,38 +32,8 @@ pub fn read_stop_url(alloc: Global, base: &Base, text: &[u8]) -> Result<Option<I
     ensures said { IfOk result (λ read. IfSome read (SaysStop base.now text.now)) }
     ensures exact { IfOk result (λ read. (stop : List ℕ) → SaysStop base.now text.now stop → read ≡ Some stop) }
 {
-    match behind_stops(base, text) {
-        Some(id) => read_id(alloc, id),
+    match behind_base(text, base, b"stops/") {
+        Some(id) => decode(alloc, id),
         None => Ok(None),
     }
-}
-
-/// The id that is encoded so.
-fn read_id(alloc: Global, text: &[u8]) -> Result<Option<Id>, NoMemory>
-    ensures said { IfOk result (λ read. IfSome read (λ id. IsIdText id × (text.now ≡ encoded id))) }
-    ensures exact { IfOk result (λ read. (id : List ℕ) → IsIdText id → text.now ≡ encoded id → read ≡ Some id) }
-{
-    let read = decode(alloc, text)?;
-    if let Some(id) = &read {
-        let _text = id.bytes();
-    }
-    Ok(read)
-}
-
-/// What follows the base and `stops/` in the text, if the text begins with both.
-fn behind_stops<'a>(base: &Base, text: &'a [u8]) -> Option<&'a [u8]>
-    ensures said { IfSome result (λ rest. text.now ≡ base.now.text ++ (codes "stops/" ++ rest.now)) }
-    ensures exact { (rest : List ℕ) → text.now ≡ base.now.text ++ (codes "stops/" ++ rest)
-        → IsSomeAnd result (λ r. r.now ≡ rest) }
-{
-    let rest = behind(text, base.text().as_bytes())?;
-    behind(rest, b"stops/")
-}
-
-/// What follows this front in the text, if the text begins with it.
-fn behind<'a>(text: &'a [u8], front: &[u8]) -> Option<&'a [u8]>
-    ensures said { IfSome result (λ rest. text.now ≡ front.now ++ rest.now) }
-    ensures exact { (rest : List ℕ) → text.now ≡ front.now ++ rest → IsSomeAnd result (λ r. r.now ≡ rest) }
-{
-    text.strip_prefix(front)
 }
