@@ -4,12 +4,11 @@
 #
 #   bench/read_message.sh
 #
-# READER is the program that times one call; where it is not set, the script builds it from read_message_main.txt, in a
-# repository of its own with copies of the crates that it stands on. ROUNDS is how often each message is read.
+# READER is the program that times one call, built by build.sh where it is not set. ROUNDS is how often each message is
+# read.
 set -eu
 
 bench=$(cd "$(dirname "$0")" && pwd)
-top=$(cd "$bench/.." && pwd)
 READER=${READER:-}
 ROUNDS=${ROUNDS:-21}
 
@@ -17,21 +16,7 @@ work=$(mktemp -d)
 trap 'rm -rf "$work"' EXIT
 trap 'exit 1' HUP INT TERM
 
-if [ -z "$READER" ]; then
-    program=$work/crates/message_reader
-    mkdir -p "$program/src"
-    cp "$bench/read_message_main.txt" "$program/src/main.rt"
-    for crate in lc_model lc_time rt_protobuf trip_updates; do
-        mkdir "$work/crates/$crate"
-        cp -r "$top/crates/$crate/src" "$top/crates/$crate/specs" "$top/crates/$crate/proofs" "$work/crates/$crate"
-        grep "^$crate:" "$top/crates.txt" >> "$work/crates.txt"
-    done
-    echo 'message_reader: trip_updates anyhow' >> "$work/crates.txt"
-    echo 'read_message.sh: proving and building the program; the first time takes minutes' >&2
-    (cd "$program" && rt run) > "$work/log" 2>&1 < /dev/null || true
-    READER=$program/out/message_reader
-    [ -x "$READER" ] || { tail -n 40 "$work/log" >&2; echo 'read_message.sh: the program could not be built' >&2; exit 1; }
-fi
+[ -n "$READER" ] || READER=$("$bench/build.sh" "$work" "$bench/read_message_main.txt" trip_updates anyhow)
 
 # Twice the bytes have twice the trip updates: 83 or 84 bytes for each.
 python3 - "$READER" "$bench/make_message.py" "$work" "$ROUNDS" <<'PYTHON'

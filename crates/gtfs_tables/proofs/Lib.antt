@@ -8,7 +8,6 @@ pub mod OrderFacts
 pub mod PlainStopTimeFacts
 pub mod RestFacts
 pub mod SaidFacts
-pub mod SearchFacts
 pub mod SequenceFacts
 pub mod StepFacts
 pub mod StopTimeFacts

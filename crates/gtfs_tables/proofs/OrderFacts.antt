@@ -15,6 +15,7 @@ use Rattle.lc_model.specs.Text.{id_cmp}
 use Rattle.gtfs_tables.specs.StopTimeOrder.{InTripOrder, stop_time_cmp}
 use Rattle.gtfs_tables.specs.StopTimes.{AreTimely}
 use Rattle.gtfs_tables.specs.declared.stop_times.StopTime.{StopTime}
+use Rattle.lc_model.proofs.Search.{id_tie, same_id}
 use Rattle.lc_model.proofs.Orders.{apart_permuted, strict_from_neighbours, strict_from_sorted}
 
 pub stop_time_total : IsTotalOrder stop_time_cmp
@@ -41,12 +42,6 @@ number_tie x y e = ranked x y Equal (sym e)
 
 number_less : (x y : ℕ) → nat_cmp x y ≡ Less → x < y
 number_less x y e = ranked x y Less (sym e)
-
-pub id_tie : (x y : List ℕ) → id_cmp x y ≡ Equal → x ≡ y
-id_tie x y e = exact_bytes x y e
-
-pub same_id : (x y : List ℕ) → x ≡ y → id_cmp x y ≡ Equal
-same_id x y e = subst (λ z. id_cmp x z ≡ Equal) e (tied_itself nat_list_cmp_total x)
 
 same_number : (x y : ℕ) → x ≡ y → nat_cmp x y ≡ Equal
 same_number x y e = subst (λ z. nat_cmp x z ≡ Equal) e (tied_itself nat_cmp_total x)

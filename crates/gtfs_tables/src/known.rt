@@ -7,23 +7,14 @@ ghost use Rattle.gtfs_tables.specs.Trips.{HasTrip};
 ghost use Rattle.gtfs_tables.specs.declared.stop_times.StopTime.{StopTime};
 
 use crate::{StopTime, TripRows};
-use lc_model::{Id, NoMemory, Stops};
+use lc_model::{NoMemory, Stops};
 use std::alloc::Global;
 
 /// Whether each stop time is at one of these stops. Looks each up by binary search.
 pub(crate) fn have_stops(times: &[StopTime], stops: &Stops) -> bool
     ensures { IsTrue result ↔ All (λ (x : StopTime). HasStop stops.now x.stop) times.now }
 {
-    times.iter().all(|time| has_stop(stops, &time.stop))
-}
-
-fn has_stop(stops: &Stops, id: &Id) -> bool
-    ensures { IsTrue result ↔ HasStop stops.now id.now }
-{
-    stops
-        .as_slice()
-        .binary_search_by(|stop| stop.id.cmp(id))
-        .is_ok()
+    times.iter().all(|time| stops.has(&time.stop))
 }
 
 /// Whether each stop time is of one of these trips. Sorts the ids of the trips, and looks each up by binary search.
@@ -35,7 +26,7 @@ pub(crate) fn have_trips(
     ensures { IfOk result (λ all. IsTrue all ↔ All (λ (x : StopTime). HasTrip trips.now x.trip) times.now) }
 {
     let ids = sorted_trips(alloc, trips)?;
-    Ok(times.iter().all(|time| has_id(ids.as_slice(), &time.trip)))
+    Ok(times.iter().all(|time| time.trip.is_among(ids.as_slice())))
 }
 
 // The ids of the trips, sorted.
@@ -50,11 +41,4 @@ fn sorted_trips(alloc: Global, trips: &TripRows) -> Result<Vec<&[u8]>, NoMemory>
     }
     ids.sort()?;
     Ok(ids)
-}
-
-fn has_id(ids: &[&[u8]], id: &Id) -> bool
-    requires { IsSorted (on (λ x. x.now) id_cmp) ids.now }
-    ensures { IsTrue result ↔ Any (λ x. x.now ≡ id.now) ids.now }
-{
-    ids.binary_search(&id.bytes()).is_ok()
 }

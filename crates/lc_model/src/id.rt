@@ -1,9 +1,10 @@
-ghost use Rattle.std.specs.Prelude.{◌≡◌, IfOk, OnOk, SomeIff, nat_eq};
+ghost use Rattle.std.specs.Prelude.{◌≡◌, ◌↔◌, Any, IfOk, IsTrue, OnOk, SomeIff, nat_eq};
+ghost use Rattle.std.specs.List.Sorted.{IsSorted};
 ghost use Rattle.std.specs.Cmp.Lexicographic.{pointwise, slice_cmp, nat_list_eq_equiv, nat_list_cmp_total, texts_ties, texts_po};
 ghost use Rattle.std.specs.Cmp.{partial_equiv_from_equiv};
-ghost use Rattle.std.specs.Ordering.{nat_cmp};
+ghost use Rattle.std.specs.Ordering.{nat_cmp, on};
 ghost use Rattle.std.specs.Prelude.{Some, refl};
-ghost use Rattle.lc_model.specs.Text.{IsIdText};
+ghost use Rattle.lc_model.specs.Text.{IsIdText, id_cmp};
 
 use crate::{NoMemory, PlainData};
 use std::alloc::Global;
@@ -54,6 +55,14 @@ impl Id {
         ensures text { IsIdText result.now }
     {
         self.text.as_str()
+    }
+
+    /// Whether the id is one of these, which are sorted. Takes the logarithm of their number.
+    pub fn is_among(&self, sorted: &[&[u8]]) -> bool
+        requires { IsSorted (on (λ x. x.now) id_cmp) sorted.now }
+        ensures { IsTrue result ↔ Any (λ x. x.now ≡ self.now) sorted.now }
+    {
+        sorted.binary_search(&self.bytes()).is_ok()
     }
 }
 

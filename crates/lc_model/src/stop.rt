@@ -1,5 +1,5 @@
-ghost use Rattle.std.specs.Prelude.{◌≡◌};
-ghost use Rattle.lc_model.specs.Stop.{InStopOrder};
+ghost use Rattle.std.specs.Prelude.{◌≡◌, ◌↔◌, IsTrue};
+ghost use Rattle.lc_model.specs.Stop.{HasStop, InStopOrder};
 
 use crate::{Id, NoMemory, PlainData, Text, copy_each};
 use std::alloc::Global;
@@ -54,6 +54,15 @@ impl Stops {
         ensures in_order { InStopOrder result.now }
     {
         self.items.as_slice()
+    }
+
+    /// Whether one of the stops has this id. Takes the logarithm of the stops.
+    pub fn has(&self, id: &Id) -> bool
+        ensures { IsTrue result ↔ HasStop self.now id.now }
+    {
+        self.as_slice()
+            .binary_search_by(|stop| stop.id.cmp(id))
+            .is_ok()
     }
 }
 

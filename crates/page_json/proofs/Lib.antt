@@ -7,7 +7,6 @@ pub mod Only
 pub mod Orders
 pub mod PageLaw
 pub mod Readings
-pub mod SearchFacts
 pub mod StopsLaw
 pub mod TextsLaw
 pub mod Utf8Law

@@ -1,25 +1,14 @@
 -- A list without a disorder is in strict order.
 use Rattle.std.proofs.Common.{◌≡◌, ℕ, suc, List, [], ◌∷◌, Option, Some, None, refl, arith}
-use Rattle.std.proofs.lemmas.Cmp.{nat_cmp_total, nat_list_cmp_total, on_total, then_total}
 use Rattle.std.proofs.lemmas.List.Elements.{All-cons, All-nil, All-weaker}
 use Rattle.std.proofs.lemmas.List.Kept.{AllPairs-cons}
 use Rattle.std.specs.Prelude.{if◌then◌else◌}
 use Rattle.std.specs.Cmp.{IsTotalOrder}
-use Rattle.std.specs.Cmp.Lexicographic.{options_total}
 use Rattle.std.specs.List.{All, AllPairs}
-use Rattle.std.specs.Ordering.{is_lt, on}
+use Rattle.std.specs.Ordering.{is_lt}
 use Rattle.std.specs.declared.cmp.Ordering.{Ordering}
 use Rattle.std.specs.declared.cmp.Ordering.TheVariants.{Less, Equal, Greater}
-use Rattle.lc_model.specs.Change.{change_cmp}
-use Rattle.lc_model.specs.Connection.{departure_cmp}
 use Rattle.lc_model.specs.Order.{IsStrict}
-use Rattle.lc_model.specs.RunKey.{date_cmp, key_cmp}
-use Rattle.lc_model.specs.Text.{id_cmp}
-use Rattle.lc_model.specs.declared.change.Change.{Change}
-use Rattle.lc_model.specs.declared.connection.Connection.{Connection}
-use Rattle.lc_model.specs.declared.date.ServiceDate.{ServiceDate}
-use Rattle.lc_model.specs.declared.key.RunKey.{RunKey}
-use Rattle.lc_model.specs.declared.stop.Stop.{Stop}
 use Rattle.page_json.specs.Disorder.{disorder_after, first_disorder}
 
 AllPairs-nil : {X : Type 0} (R : X → X → Type 0) → AllPairs R []
@@ -49,24 +38,3 @@ strict_without_disorder cmp total [] e = AllPairs-nil (λ x y. cmp x y ≡ Less)
 strict_without_disorder cmp total (first ∷ rest) e =
     let are = behind cmp total first 1 rest e in
     AllPairs-cons (λ x y. cmp x y ≡ Less) first rest are.later are.strict
-
-date_cmp_total : IsTotalOrder date_cmp
-date_cmp_total =
-    then_total (on_total (λ (d : ServiceDate). d.year) nat_cmp_total)
-    (then_total (on_total (λ (d : ServiceDate). d.month) nat_cmp_total) (on_total (λ (d : ServiceDate). d.day) nat_cmp_total))
-
-key_cmp_total : IsTotalOrder key_cmp
-key_cmp_total =
-    then_total (on_total (λ (k : RunKey). k.trip) nat_list_cmp_total)
-    (then_total (on_total (λ (k : RunKey). k.date) date_cmp_total) (on_total (λ (k : RunKey). k.start) (options_total nat_cmp_total)))
-
-pub departure_cmp_total : IsTotalOrder departure_cmp
-departure_cmp_total =
-    then_total (on_total (λ (c : Connection). c.dep) nat_cmp_total)
-    (then_total (on_total (λ (c : Connection). c.key) key_cmp_total) (on_total (λ (c : Connection). c.seq) nat_cmp_total))
-
-pub stop_cmp_total : IsTotalOrder (on (λ (s : Stop). s.id) id_cmp)
-stop_cmp_total = on_total (λ (s : Stop). s.id) nat_list_cmp_total
-
-pub change_cmp_total : IsTotalOrder change_cmp
-change_cmp_total = then_total (on_total (λ (c : Change). c.from) nat_list_cmp_total) (on_total (λ (c : Change). c.to) nat_list_cmp_total)

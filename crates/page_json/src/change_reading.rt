@@ -9,7 +9,6 @@ ghost use Rattle.page_json.specs.StopsReading.{as_seconds, change_in, if_stop, s
 ghost use Rattle.page_json.specs.declared.fault.PageFault.TheVariants.{NoMemory as want_of_memory};
 
 use crate::PageFault;
-use crate::known::has_stop;
 use crate::members::{bad_member, no_member, object_under, or_bad};
 use crate::stop_reading::id_at;
 use lc_model::{Change, Id, Stops};
@@ -58,7 +57,7 @@ fn if_stop(alloc: Global, stops: &Stops, id: Id, key: &str) -> Result<Id, PageFa
     ensures said { Meets (if_stop stops.now key.now id) result }
     ensures known { IfOk result (HasStop stops.now) }
 {
-    if has_stop(stops, &id) {
+    if stops.has(&id) {
         Ok(id)
     } else {
         Err(bad_member(alloc, key))

@@ -5,18 +5,8 @@ ghost use Rattle.lc_model.specs.Stop.{HasStop};
 ghost use Rattle.lc_model.specs.Text.{id_cmp};
 ghost use Rattle.page_json.specs.StopsReading.{AreParents};
 
-use lc_model::{Id, NoMemory, Stop, Stops};
+use lc_model::{NoMemory, Stop};
 use std::alloc::Global;
-
-/// Whether the list has a stop of this id. A binary search.
-pub fn has_stop(stops: &Stops, id: &Id) -> bool
-    ensures { IsTrue result ↔ HasStop stops.now id.now }
-{
-    stops
-        .as_slice()
-        .binary_search_by(|stop| stop.id.cmp(id))
-        .is_ok()
-}
 
 /// Whether each parent is one of the stops, in whatever order they stand. Sorts their ids, and looks each parent up by
 /// binary search.
@@ -45,14 +35,7 @@ fn has_parent(ids: &[&[u8]], stop: &Stop) -> bool
     ensures { IsTrue result ↔ IfSome stop.now.parent (λ parent. Any (λ x. x.now ≡ parent) ids.now) }
 {
     match &stop.parent {
-        Some(parent) => has_id(ids, parent),
+        Some(parent) => parent.is_among(ids),
         None => true,
     }
-}
-
-fn has_id(ids: &[&[u8]], id: &Id) -> bool
-    requires { IsSorted (on (λ x. x.now) id_cmp) ids.now }
-    ensures { IsTrue result ↔ Any (λ x. x.now ≡ id.now) ids.now }
-{
-    ids.binary_search(&id.bytes()).is_ok()
 }

@@ -22,7 +22,7 @@ use Rattle.lc_model.specs.declared.run.Run.{Run}
 use Rattle.trip_calls.specs.Runs.{RunsForward}
 use Rattle.trip_calls.proofs.Lists.{All-from_contains, AllPairs-flat_map, AllPairs-head, AllPairs-nil, AllPairs-tail, StandsIn-flat_map}
 use Rattle.lc_model.proofs.Orders.{IsStrict-from_sorted}
-use Rattle.trip_calls.proofs.RunLemmas.{key_cmp_total}
+use Rattle.lc_model.proofs.Totals.{departure_cmp_total}
 use Rattle.trip_calls.proofs.TimeLemmas.{same_heads}
 
 -- after the last call but one there is no connection
@@ -116,12 +116,6 @@ connections_more runs i r calls old new lt is same e f =
 pub in_sequence_more : (runs : List Run) (i : ℕ) (r : Run) (calls : List Call) → i < length runs → r ≡ get_or runs i r → calls ≡ r.calls → InSequence calls → All (λ (r : Run). InSequence r.calls) (take i runs) → All (λ (r : Run). InSequence r.calls) (take (i + 1) runs)
 in_sequence_more runs i r calls lt is same rise all =
     All-more (λ (r : Run). InSequence r.calls) runs i r lt all (subst (λ (v : Run). InSequence v.calls) is (subst InSequence same rise))
-
--- the order of departures is total
-pub departure_cmp_total : IsTotalOrder departure_cmp
-departure_cmp_total =
-    then_total (on_total (λ (c : Connection). c.dep) nat_cmp_total)
-    (then_total (on_total (λ (c : Connection). c.key) key_cmp_total) (on_total (λ (c : Connection). c.seq) nat_cmp_total))
 
 -- sorted by their departures, the connections of runs are in departure order
 pub AreConnectionsOf-sorted : (runs : List Run) (made sorted : List Connection) → InKeyOrder runs → All (λ (r : Run). InSequence r.calls) runs → made ≡ connections_of runs → IsPermutation made sorted → IsSorted departure_cmp sorted → AreConnectionsOf runs sorted

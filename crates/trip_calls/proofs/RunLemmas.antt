@@ -34,6 +34,7 @@ use Rattle.trip_calls.specs.declared.service_days.ServiceDay.{ServiceDay}
 use Rattle.trip_calls.specs.declared.window.Window.{Window}
 use Rattle.trip_calls.proofs.Lists.{All-from_contains, AllPairs-flat_map, AllPairs-map, AllPairs-weaker, ComesFrom-map, Contains-filter, Contains-flat_map, Contains-map, IsKept-filter, StandsIn-flat_map}
 use Rattle.lc_model.proofs.Orders.{IsStrict-from_sorted}
+use Rattle.lc_model.proofs.Totals.{key_cmp_total}
 use Rattle.trip_calls.proofs.TimeLemmas.{RiseInSequence-times_of, id_cmp-same, same_heads, same_text}
 
 abbrev IsInDay : Option ℕ → Type 0
@@ -76,17 +77,6 @@ same_keys a b e =
     let first = same_heads _ _ e in
     let then' = same_heads (date_cmp a.date b.date) (option_cmp nat_cmp a.start b.start) first.1 in
     (same_text a.trip b.trip first.0, same_dates a.date b.date then'.0)
-
-date_cmp_total : IsTotalOrder date_cmp
-date_cmp_total =
-    then_total (on_total (λ (d : ServiceDate). d.year) nat_cmp_total)
-    (then_total (on_total (λ (d : ServiceDate). d.month) nat_cmp_total) (on_total (λ (d : ServiceDate). d.day) nat_cmp_total))
-
--- the order of keys is total
-pub key_cmp_total : IsTotalOrder key_cmp
-key_cmp_total =
-    then_total (on_total (λ (k : RunKey). k.trip) nat_list_cmp_total)
-    (then_total (on_total (λ (k : RunKey). k.date) date_cmp_total) (on_total (λ (k : RunKey). k.start) (options_total nat_cmp_total)))
 
 module _ (tables : Tables) (window : Window) (days : List ServiceDay) (are : AreServiceDays tables.dates window days) where
   abbrev times : List StopTime

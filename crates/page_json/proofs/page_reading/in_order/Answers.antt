@@ -1,7 +1,8 @@
 -- Without a disorder the connections stand in departure order.
 use Rattle.std.proofs.Common.{sym, subst}
 use Rattle.lc_model.specs.Connection.{InDepartureOrder, departure_cmp}
-use Rattle.page_json.proofs.Orders.{departure_cmp_total, strict_without_disorder}
+use Rattle.lc_model.proofs.Totals.{departure_cmp_total}
+use Rattle.page_json.proofs.Orders.{strict_without_disorder}
 use Rattle.page_json.proofs.page_reading.in_order.Goals as goal
 
 pub returns-in-None-clause-in_order : goal.returns-in-None-clause-in_order

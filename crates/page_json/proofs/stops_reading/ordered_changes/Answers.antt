@@ -2,7 +2,8 @@
 use Rattle.std.proofs.Common.{sym, subst}
 use Rattle.lc_model.specs.Change.{InChangeOrder}
 use Rattle.lc_model.specs.Change.{change_cmp}
-use Rattle.page_json.proofs.Orders.{change_cmp_total, strict_without_disorder}
+use Rattle.lc_model.proofs.Totals.{change_cmp_total}
+use Rattle.page_json.proofs.Orders.{strict_without_disorder}
 use Rattle.page_json.proofs.stops_reading.ordered_changes.Goals as goal
 
 pub from_list-requires : goal.from_list-requires

@@ -4,7 +4,8 @@ use Rattle.std.specs.Ordering.{on}
 use Rattle.lc_model.specs.Text.{id_cmp}
 use Rattle.lc_model.specs.Stop.{InStopOrder}
 use Rattle.lc_model.specs.declared.stop.Stop.{Stop}
-use Rattle.page_json.proofs.Orders.{stop_cmp_total, strict_without_disorder}
+use Rattle.lc_model.proofs.Totals.{stop_cmp_total}
+use Rattle.page_json.proofs.Orders.{strict_without_disorder}
 use Rattle.page_json.proofs.stops_reading.ordered_stops.Goals as goal
 
 pub from_list-requires : goal.from_list-requires

@@ -15,7 +15,8 @@ use Rattle.trip_calls.specs.ServiceDays.{AreServiceDays}
 use Rattle.trip_calls.specs.TripRuns.{HasMoments, runs_of_trips}
 use Rattle.trip_calls.specs.declared.service_days.ServiceDay.{ServiceDay}
 use Rattle.lc_model.proofs.Orders.{IsSorted-from_closure}
-use Rattle.trip_calls.proofs.RunLemmas.{AreRunsOf-sorted, RunsForward-sorted, InKeyOrder-sorted, HasMoments-days, key_cmp_total}
+use Rattle.trip_calls.proofs.RunLemmas.{AreRunsOf-sorted, RunsForward-sorted, InKeyOrder-sorted, HasMoments-days}
+use Rattle.lc_model.proofs.Totals.{key_cmp_total}
 use Rattle.trip_calls.proofs.all_runs.runs.Goals as goal
 
 abbrev HaveMoments : List ServiceDay → Type 0

@@ -3,7 +3,8 @@ use Rattle.std.proofs.Common.{Bor, ◌≡◌, ◌∙◌, ℕ, ◌+◌, ◌<◌, 
 use Rattle.std.specs.Prelude.{IsTrue, is_ok, Any}
 use Rattle.std.specs.Bool.{MatchBool}
 use Rattle.std.proofs.lemmas.Bool.{cases_lt}
-use Rattle.std.proofs.lemmas.Cmp.{nat_list_cmp_total}
+use Rattle.std.proofs.lemmas.Cmp.{nat_list_cmp_total, tied_itself}
+use Rattle.std.proofs.lemmas.Map.Lookups.{exact_bytes}
 use Rattle.std.proofs.lemmas.List.{get_or-map, get_or_default, length-map}
 use Rattle.std.proofs.lemmas.List.Sorted.{Contains-permutation, IsPermutation-map, IsPermutation-sym, searchable_from_sorted}
 use Rattle.std.specs.Cmp.{IsTotalOrder}
@@ -14,9 +15,12 @@ use Rattle.std.specs.declared.cmp.Ordering.{Ordering}
 use Rattle.std.specs.declared.cmp.Ordering.TheVariants.{Less, Equal, Greater}
 use Rattle.lc_model.specs.Order.{IsStrict}
 use Rattle.lc_model.specs.Text.{id_cmp}
-use Rattle.gtfs_tables.specs.Trips.{HasTrip}
-use Rattle.gtfs_tables.specs.declared.trips.TripRow.{TripRow}
-use Rattle.gtfs_tables.proofs.OrderFacts.{id_tie, same_id}
+
+pub id_tie : (x y : List ℕ) → id_cmp x y ≡ Equal → x ≡ y
+id_tie x y e = exact_bytes x y e
+
+pub same_id : (x y : List ℕ) → x ≡ y → id_cmp x y ≡ Equal
+same_id x y e = subst (λ z. id_cmp x z ≡ Equal) e (tied_itself nat_list_cmp_total x)
 
 -- the answer says whether an item has the id as its key
 abbrev pub Tells : {X : Type 0} → (X → List ℕ) → List X → List ℕ → Bool → Type 0
@@ -72,15 +76,14 @@ of_key key xs id (k, there, at_k) =
     let inside : k < length xs = rw (length-map xs key) at there in
     item_there (λ y. key y ≡ id) xs k inside (λ d. sym (get_or-map key xs k d id inside) ∙ at_k)
 
--- the ids of the trips, moved
-pub trips_moved : (ids sorted : List (Bor (List ℕ))) (trips : List TripRow) → map (λ (x : Bor (List ℕ)). x.now) ids ≡ map (λ (t : TripRow). t.trip) trips → IsPermutation ids sorted
-    → (id : List ℕ) → (Any (λ (x : Bor (List ℕ)). x.now ≡ id) sorted → HasTrip trips id) × (HasTrip trips id → Any (λ (x : Bor (List ℕ)). x.now ≡ id) sorted)
-trips_moved ids sorted trips same moved id =
+-- the ids of items, moved
+pub ids_moved : {X : Type 0} (key : X → List ℕ) (ids sorted : List (Bor (List ℕ))) (xs : List X) → map (λ (x : Bor (List ℕ)). x.now) ids ≡ map key xs → IsPermutation ids sorted
+    → (id : List ℕ) → (Any (λ (x : Bor (List ℕ)). x.now ≡ id) sorted → Any (λ x. key x ≡ id) xs) × (Any (λ x. key x ≡ id) xs → Any (λ (x : Bor (List ℕ)). x.now ≡ id) sorted)
+ids_moved key ids sorted xs same moved id =
     let now : Bor (List ℕ) → List ℕ = λ x. x.now in
-    let trip : TripRow → List ℕ = λ t. t.trip in
     let there : IsPermutation (map now ids) (map now sorted) = IsPermutation-map now ids sorted moved in
     let back : IsPermutation (map now sorted) (map now ids) = IsPermutation-sym _ _ there in
     let P : List (List ℕ) → Type 0 = λ l. Contains l id in (
-      (λ any. of_key trip trips id (subst P same (Contains-permutation (map now sorted) (map now ids) id back (keyed now sorted id any)))),
-      (λ has. of_key now sorted id (Contains-permutation (map now ids) (map now sorted) id there (subst P (sym same) (keyed trip trips id has)))),
+      (λ any. of_key key xs id (subst P same (Contains-permutation (map now sorted) (map now ids) id back (keyed now sorted id any)))),
+      (λ has. of_key now sorted id (Contains-permutation (map now ids) (map now sorted) id there (subst P (sym same) (keyed key xs id has)))),
     )
