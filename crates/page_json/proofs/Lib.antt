@@ -3,6 +3,7 @@ pub mod Each
 pub mod Floats
 pub mod JsonLaw
 pub mod MembersLaw
+pub mod OneResult
 pub mod Only
 pub mod Orders
 pub mod PageLaw

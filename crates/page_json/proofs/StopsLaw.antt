@@ -75,7 +75,7 @@ same_seconds : (from to : List ℕ) (m n : ℕ) (p : 1 ≤ m) (q : 1 ≤ n) → 
 same_seconds from to m n p q e =
     subst (λ (v : ℕ). (q : 1 ≤ v) → change from to m p ≡ change from to v q) e (λ q. ap (change from to m) (le_prop 1 m p q)) q
 
-change_of : (a b : Change) → a.from ≡ b.from → a.seconds ≡ b.seconds → a.to ≡ b.to → a ≡ b
+pub change_of : (a b : Change) → a.from ≡ b.from → a.seconds ≡ b.seconds → a.to ≡ b.to → a ≡ b
 change_of a b e f g =
     ap₂ (λ (from to : List ℕ). change from to a.seconds a.takes_time) e g ∙ same_seconds b.from b.to a.seconds b.seconds a.takes_time b.takes_time f
 
@@ -95,7 +95,7 @@ same_changes : (stops : List Stop) (c d : List Change) (p : ∥ NamesItsStops st
 same_changes stops c d p q e =
     subst (λ (v : List Change). (q : ∥ NamesItsStops stops v ∥₁) → doc stops c p ≡ doc stops v q) e (λ q. ap (doc stops c) (closed_prop stops c p q)) q
 
-doc_of : (a b : StopsDoc) → a.stops ≡ b.stops → a.changes ≡ b.changes → a ≡ b
+pub doc_of : (a b : StopsDoc) → a.stops ≡ b.stops → a.changes ≡ b.changes → a ≡ b
 doc_of a b e f =
     subst (λ (v : List Stop). (q : ∥ NamesItsStops v b.changes ∥₁) → doc a.stops a.changes a.closed ≡ doc v b.changes q) e
     (λ q. same_changes a.stops a.changes b.changes a.closed q f) b.closed

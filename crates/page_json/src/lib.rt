@@ -9,6 +9,7 @@ mod disorder;
 mod fault;
 mod json_reading;
 mod known;
+mod laws;
 mod members;
 mod page;
 mod page_reading;
@@ -21,6 +22,7 @@ mod tests;
 mod urls;
 
 pub use fault::PageFault;
+pub use laws::one_reading;
 pub use page::Page;
 pub use page_reading::read_page;
 pub use page_writing::page_text;

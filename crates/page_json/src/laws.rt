@@ -1,0 +1,15 @@
+ghost use Rattle.std.specs.Prelude.{◌≡◌, ℕ, List, Result};
+ghost use Rattle.connection_uri.specs.Base.{BaseParts};
+ghost use Rattle.lc_model.specs.declared.doc.StopsDoc.{StopsDoc};
+ghost use Rattle.page_json.specs.PageReading.{page_of_bytes};
+ghost use Rattle.page_json.specs.StopsReading.{doc_of_bytes};
+ghost use Rattle.page_json.specs.declared.fault.PageFault.{PageFault};
+ghost use Rattle.page_json.specs.declared.page.Page.{Page};
+
+/// Bytes say one page at most, or one stops document at most, or have one first fault.
+pub fn one_reading()
+    ensures page { (base : BaseParts) (bytes : List ℕ) (a b : Result Page PageFault)
+        → page_of_bytes base bytes a → page_of_bytes base bytes b → a ≡ b }
+    ensures stops { (bytes : List ℕ) (a b : Result StopsDoc PageFault)
+        → doc_of_bytes bytes a → doc_of_bytes bytes b → a ≡ b }
+{}
