@@ -1,10 +1,9 @@
 -- The changes at the stops of a document.
-use Rattle.std.proofs.Common.{◌≡◌, ℕ, zero, suc, ◌+◌, ◌<◌, List, [], ◌∷◌, ◌++◌, length, get_or, Bool, true, false, Option, Some, None, ◌&&◌, ◌||◌, cond, option_map, refl, ap, sym, subst, ◌∙◌, arith}
-use Rattle.std.specs.List.{All, AllPairs, list_any, find}
+use Rattle.std.proofs.Common.{◌≡◌, ℕ, zero, suc, ◌<◌, List, [], ◌∷◌, ◌++◌, length, get_or, Bool, true, false, Option, Some, None, ◌&&◌, ◌||◌, cond, option_map, refl, ap, sym, ◌∙◌, arith}
+use Rattle.std.specs.List.{All, list_any, find}
 use Rattle.std.specs.Cmp.Lexicographic.{bytes_decides}
 use Rattle.std.specs.Option.{IfSome}
 use Rattle.std.specs.Ordering.{ordering_then}
-use Rattle.std.specs.declared.cmp.Ordering.{Ordering}
 use Rattle.std.specs.declared.cmp.Ordering.TheVariants.{Less}
 use mathlib.Core.Bool.{true≢false}
 use Rattle.lc_model.specs.Change.{InChangeOrder, change_between, is_same_id}

@@ -1,5 +1,5 @@
 -- An answer by the legs of a list is one by the rides of its runs.
-use Rattle.std.proofs.Common.{◌≡◌, ◌↔◌, List}
+use Rattle.std.proofs.Common.{◌↔◌, List}
 use Rattle.lc_model.specs.Journey.{IsAnswer, IsJourney}
 use Rattle.lc_model.specs.declared.answer.Answer.{Answer}
 use Rattle.lc_model.specs.declared.answer.Answer.TheVariants.{Journey, NoJourney}

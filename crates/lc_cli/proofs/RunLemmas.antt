@@ -1,10 +1,8 @@
 -- What follows from the cause of a status.
-use Rattle.std.proofs.Common.{◌≡◌, ◌⊎◌, inl, inr, ℕ, List, Some, refl, ap, subst, sym, ◌∙◌}
-use Rattle.std.specs.Option.{IfSome}
+use Rattle.std.proofs.Common.{◌≡◌, ◌⊎◌, inl, inr, ℕ, List, refl, ap, subst, sym, ◌∙◌}
 use Rattle.lc_world.specs.Counts.{Rose}
-use Rattle.lc_world.specs.declared.file.File.{File}
-use Rattle.gtfs_tables.specs.Feed.{ArePlainTables, FirstNotPlain}
-use Rattle.gtfs_tables.specs.Files.{AreSeen, FeedFiles, files_of}
+use Rattle.gtfs_tables.specs.Feed.{ArePlainTables}
+use Rattle.gtfs_tables.specs.Files.{AreSeen, files_of}
 use Rattle.gtfs_tables.proofs.FeedLaws.{plain_or_broken}
 use Rattle.lc_cli.specs.Outcome.{IsBroken}
 use Rattle.lc_cli.specs.Run.{IsAnswered, IsClear, IsRight, Past}

@@ -1,5 +1,5 @@
 -- How a run ends that has a block to print.
-use Rattle.std.specs.Prelude.{◌≡◌, ℕ, Option, Some, None}
+use Rattle.std.specs.Prelude.{◌≡◌, Option, Some, None}
 use Rattle.lc_world.specs.Counts.{Rose}
 use Rattle.lc_world.specs.Sink.{SinkSeen}
 use Rattle.lc_cli.specs.Writing.{Wrote, WroteFront}

@@ -1,5 +1,5 @@
 -- What the expansion of a feed into runs stands on.
-use Rattle.std.specs.Prelude.{◌≢◌, List}
+use Rattle.std.specs.Prelude.{◌≢◌}
 use Rattle.std.specs.List.{All, AllPairs}
 use Rattle.std.specs.Option.{IfSome}
 use Rattle.lc_model.specs.Stop.{HasStop}

@@ -1,4 +1,4 @@
-ghost use Rattle.std.specs.Prelude.{◌≤◌, IfOk, None, length};
+ghost use Rattle.std.specs.Prelude.{◌≡◌, ◌≤◌, IfOk, None, length};
 
 use lc_world::{Folder, FolderFail, Sink, SinkFail};
 use std::alloc::Global;
@@ -18,7 +18,11 @@ pub struct DirFolder<'a, R: Files + AllocGlobal> {
 }
 
 impl<'a, R: Files + AllocGlobal> DirFolder<'a, R> {
-    pub fn new(rt: &'a R) -> DirFolder<'a, R> {
+    /// The folder, with its counts at 0.
+    pub fn new(rt: &'a R) -> DirFolder<'a, R>
+        ensures faults { result.faults ≡ 0 }
+        ensures absences { result.absences ≡ 0 }
+    {
         DirFolder {
             rt,
             faults: 0,
@@ -76,7 +80,10 @@ pub struct StdSink<'a, R: Print> {
 }
 
 impl<'a, R: Print> StdSink<'a, R> {
-    pub fn new(rt: &'a R) -> StdSink<'a, R> {
+    /// The output, with its count at 0.
+    pub fn new(rt: &'a R) -> StdSink<'a, R>
+        ensures { result.faults ≡ 0 }
+    {
         StdSink { rt, faults: 0 }
     }
 }

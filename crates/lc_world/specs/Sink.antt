@@ -1,5 +1,5 @@
 -- What a sink is seen to be.
-use Rattle.std.specs.Prelude.{◌≡◌, ℕ, ◌≤◌, List, ◌++◌, take, length, Option, option_map, Result, MatchResult, IfOk, ◌<◌}
+use Rattle.std.specs.Prelude.{ℕ, List, ◌++◌, take, Option, option_map}
 
 -- The bytes written so far, where the sink tells them, and how often a write has failed.
 pub record SinkSeen : Type 0 where

@@ -194,6 +194,18 @@ fn finds_the_faults_of_replies(rt: HostRuntime) -> Result<(), Fail> {
             ReplyFault::Chunked,
         ),
         (
+            "HTTP/1.1 200 OK\r\nTransfer-Encoding: chunked\r\nContent-Length: x\r\n\r\n",
+            ReplyFault::Chunked,
+        ),
+        (
+            "HTTP/1.1 200 OK\r\nContent-Length: 9\r\nTransfer-Encoding: chunked\r\n\r\n0\r\n\r\n",
+            ReplyFault::Chunked,
+        ),
+        (
+            "HTTP/1.1 200 OK\r\nContent-Length: 9\r\nContent-Length: 1\r\n\r\na",
+            ReplyFault::BadLength,
+        ),
+        (
             "HTTP/1.1 200 OK\r\nContent-Length: 1\r\nContent-Length: 1\r\n\r\na",
             ReplyFault::BadLength,
         ),

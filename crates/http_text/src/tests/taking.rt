@@ -90,6 +90,34 @@ fn takes_requests(rt: HostRuntime) -> Result<(), Fail> {
             refused(411),
         ),
         (
+            "GET / HTTP/1.1\r\nHost: x\r\nHost: x\r\nTransfer-Encoding: chunked\r\n\r\n",
+            refused(411),
+        ),
+        (
+            "GET / HTTP/1.1\r\nTransfer-Encoding: chunked\r\nHost: x\r\nHost: x\r\n\r\n",
+            refused(411),
+        ),
+        (
+            "GET / HTTP/1.1\r\nHost: x\r\nContent-Length: 99999999\r\nTransfer-Encoding: chunked\r\n\r\n",
+            refused(411),
+        ),
+        (
+            "GET / HTTP/1.1\r\nHost: x\r\nTransfer-Encoding: chunked\r\nContent-Length: 99999999\r\n\r\n",
+            refused(411),
+        ),
+        (
+            "GET / HTTP/1.1\r\nHost: x\r\nHost: x\r\nContent-Length: 99999999\r\n\r\n",
+            refused(413),
+        ),
+        (
+            "GET / HTTP/1.1\r\nContent-Length: 99999999\r\nHost: x\r\nHost: x\r\n\r\n",
+            refused(413),
+        ),
+        (
+            "GET * HTTP/1.1\r\nHost: x\r\nContent-Length: 99999999\r\n\r\n",
+            refused(413),
+        ),
+        (
             "GET / HTTP/1.1\r\nContent-Length: 99999999\r\n\r\n",
             refused(413),
         ),
@@ -152,6 +180,15 @@ fn keeps_the_limits(rt: HostRuntime) -> Result<(), Fail> {
     ] {
         let text = wide_head(rt.alloc(), "GET / HTTP/1.1\r\n", fields)?;
         assert_eq!(rt; room.take_request(text.as_slice()), taken, "{fields}");
+    }
+    let chunked = "GET / HTTP/1.1\r\nTransfer-Encoding: chunked\r\n";
+    for (others, status) in [(99, 411), (100, 431)] {
+        let text = wide_head(rt.alloc(), chunked, others)?;
+        assert_eq!(rt;
+            room.take_request(text.as_slice()),
+            refused(status),
+            "{others}"
+        );
     }
     let text = wide_head(rt.alloc(), "HTTP/1.1 200 OK\r\n", 101)?;
     let read = read_reply(rt.alloc(), text.as_slice());

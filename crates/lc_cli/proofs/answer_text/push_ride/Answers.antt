@@ -1,6 +1,4 @@
 -- The words stand one behind the other.
-use Rattle.std.proofs.Common.{◌∙◌, ap, ◌++◌, decimal}
-use Rattle.lc_cli.specs.AnswerText.{word}
 use Rattle.lc_cli.proofs.TextLemmas.{appended}
 use Rattle.lc_cli.proofs.answer_text.push_ride.Goals as goal
 

@@ -1,6 +1,5 @@
-use Rattle.std.proofs.Common.{◌≡◌, ◌≤◌, ◌∙◌, take, length, refl, ap, ◌+◌, ◌++◌, ◌∷◌, [], sym, subst, arith}
+use Rattle.std.proofs.Common.{◌≡◌, ◌∙◌, take, ap, ◌+◌, ◌++◌, ◌∷◌, [], sym, subst, arith}
 use Rattle.std.proofs.lemmas.List.{take_all, take_more}
-use Rattle.lc_model.specs.Stop.{InStopOrder}
 use Rattle.lc_cli.specs.Doc.{AreChangesAt}
 use Rattle.lc_cli.proofs.DocLemmas.{changes_in_order, one_more_change}
 use Rattle.lc_cli.proofs.doc.changes_at.Goals as goal

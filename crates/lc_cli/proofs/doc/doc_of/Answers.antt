@@ -1,7 +1,5 @@
-use Rattle.std.proofs.Common.{◌≡◌, ◌∙◌, sym, subst, ap}
-use Rattle.lc_model.specs.Change.{change_between}
+use Rattle.std.proofs.Common.{sym, subst}
 use Rattle.lc_model.specs.StopsDoc.{NamesItsStops}
-use Rattle.lc_cli.specs.Doc.{change_at}
 use Rattle.lc_cli.proofs.DocLemmas.{changes_known, found_changes}
 use Rattle.lc_cli.proofs.doc.doc_of.Goals as goal
 

@@ -1,5 +1,5 @@
 -- The five words are the items of the list.
-use Rattle.std.proofs.Common.{◌≡◌, ap, refl}
+use Rattle.std.proofs.Common.{ap, refl}
 use Rattle.lc_cli.specs.Words.{texts_of}
 use Rattle.lc_cli.proofs.WordsLemmas.{five_items}
 use Rattle.lc_cli.proofs.words.plain_words.Goals as goal

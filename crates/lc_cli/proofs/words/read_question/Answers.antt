@@ -1,4 +1,3 @@
-use Rattle.std.proofs.Common.{◌≡◌, Some, None}
 use Rattle.lc_cli.proofs.words.read_question.Goals as goal
 
 pub returns-in_default : goal.returns-in_default

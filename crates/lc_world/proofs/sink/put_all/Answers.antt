@@ -1,5 +1,5 @@
 -- One more write takes the next bytes.
-use Rattle.std.proofs.Common.{◌≡◌, ℕ, ◌+◌, ◌-◌, ◌≤◌, List, drop, take, length, arith, ap, subst, ◌∙◌, length-drop}
+use Rattle.std.proofs.Common.{◌≡◌, ℕ, ◌-◌, List, drop, take, length, arith, ap, ◌∙◌, length-drop}
 use Rattle.std.proofs.lemmas.List.{take_rest}
 use Rattle.lc_world.specs.Sink.{written_after}
 use Rattle.lc_world.proofs.Written.{written_after-more}

@@ -1,5 +1,5 @@
-use Rattle.std.proofs.Common.{◌≡◌, ◌≢◌, ◌<◌, ◌+◌, ℕ, List, take, get_or, length, refl, sym, ap, subst, arith}
-use Rattle.std.specs.List.{All, AllPairs}
+use Rattle.std.proofs.Common.{◌≢◌, refl, subst}
+use Rattle.std.specs.List.{AllPairs}
 use Rattle.std.proofs.lemmas.List.{take_all}
 use Rattle.gtfs_tables.specs.declared.trips.TripRow.{TripRow}
 use Rattle.trip_calls.proofs.TestLemmas.{AllPairs-more}

@@ -1,6 +1,5 @@
-use Rattle.std.proofs.Common.{◌≡◌, ◌≤◌, List, refl, sym, subst, ◌∙◌}
+use Rattle.std.proofs.Common.{◌≡◌, refl, sym, subst, ◌∙◌}
 use Rattle.gtfs_tables.specs.StopTimes.{AreTimely}
-use Rattle.gtfs_tables.specs.declared.stop_times.StopTime.{StopTime}
 use Rattle.trip_calls.proofs.TestLemmas.{AreTimely-ordered}
 use Rattle.trip_calls.proofs.tests.tables_of.Goals as goal
 
