@@ -3,21 +3,17 @@ use Rattle.std.proofs.Common.{◌≡◌, ◌≤◌, List, [], ◌∷◌, Bool, O
 use Rattle.std.specs.List.{All}
 use Rattle.std.proofs.lemmas.List.Elements.{All-head, All-tail}
 use Rattle.lc_model.specs.declared.connection.Connection.{Connection}
-use Rattle.lc_time.specs.Iso.{SaysMoment, iso_text_of}
 use Rattle.connection_uri.specs.Base.{BaseParts}
-use Rattle.connection_uri.specs.Name.{name_of}
 use Rattle.serde_json.specs.Data.{depth, items_depth}
 use Rattle.serde_json.specs.View.{items_of}
 use Rattle.page_json.specs.Members.{formed}
 use Rattle.page_json.specs.PageReading.{connection_in, end_at, joined, unless_early}
-use Rattle.page_json.specs.Says.{SaysName, SaysStop}
 use Rattle.page_json.specs.Sound.{IsSoundConnection}
 use Rattle.page_json.specs.Tree.{connection_tree}
-use Rattle.page_json.specs.Urls.{stop_url_of}
 use Rattle.page_json.specs.declared.connection_reading.End.{End}
 use Rattle.page_json.proofs.JsonLaw.{AreWritable, IsWritable}
-use Rattle.page_json.proofs.MembersLaw.{allowed_read, delay_read, delay_writable, only_said_at, says_moment}
-use Rattle.page_json.proofs.Only.{IsOnly, only_exactly, only_exactly_by, only_then}
+use Rattle.page_json.proofs.MembersLaw.{allowed_read, delay_read, delay_writable, reads_moment, reads_name, reads_stop}
+use Rattle.page_json.proofs.ReadingLaw.{Reads, reads_exactly, reads_exactly_by, reads_then}
 
 -- what the list holds of each connection
 pub record IsGood (c : Connection) : Type 0 where
@@ -30,23 +26,23 @@ arrival_of c = record { delay = c.arr_delay; stop = c.arr_stop; moment = c.arr }
 departure_of : Connection → End
 departure_of c = record { delay = c.dep_delay; stop = c.dep_stop; moment = c.dep }
 
-only_arrival : (base : BaseParts) (c : Connection) → IsSoundConnection c → IsOnly (end_at base (codes "arrivalDelay") (codes "arrivalStop") (codes "arrivalTime") (connection_tree base c)) (arrival_of c)
+reads_arrival : (base : BaseParts) (c : Connection) → IsSoundConnection c → Reads (end_at base (codes "arrivalDelay") (codes "arrivalStop") (codes "arrivalTime") (connection_tree base c)) (arrival_of c)
 unfolding end_at connection_tree arrival_of
-only_arrival base c sound =
+reads_arrival base c sound =
     let tree = connection_tree base c in
-    only_then _ c.arr_delay _ (arrival_of c) (only_exactly_by _ c.arr_delay (ap (formed (codes "arrivalDelay")) (delay_read c.arr_delay sound.arr_delay)))
-    (only_then _ c.arr_stop _ (arrival_of c) (only_said_at (SaysStop base) (codes "arrivalStop") tree (stop_url_of base c.arr_stop) c.arr_stop refl (record { id = sound.arr_stop; written = refl }))
-    (only_then _ c.arr _ (arrival_of c) (only_said_at SaysMoment (codes "arrivalTime") tree (iso_text_of c.arr) c.arr refl (says_moment c.arr sound.arr))
-    (only_exactly (arrival_of c))))
+    reads_then _ c.arr_delay _ (arrival_of c) (reads_exactly_by _ c.arr_delay (ap (formed (codes "arrivalDelay")) (delay_read c.arr_delay sound.arr_delay)))
+    (reads_then _ c.arr_stop _ (arrival_of c) (reads_stop base (codes "arrivalStop") tree c.arr_stop refl sound.arr_stop)
+    (reads_then _ c.arr _ (arrival_of c) (reads_moment (codes "arrivalTime") tree c.arr refl sound.arr)
+    (reads_exactly (arrival_of c))))
 
-only_departure : (base : BaseParts) (c : Connection) → IsSoundConnection c → IsOnly (end_at base (codes "departureDelay") (codes "departureStop") (codes "departureTime") (connection_tree base c)) (departure_of c)
+reads_departure : (base : BaseParts) (c : Connection) → IsSoundConnection c → Reads (end_at base (codes "departureDelay") (codes "departureStop") (codes "departureTime") (connection_tree base c)) (departure_of c)
 unfolding end_at connection_tree departure_of
-only_departure base c sound =
+reads_departure base c sound =
     let tree = connection_tree base c in
-    only_then _ c.dep_delay _ (departure_of c) (only_exactly_by _ c.dep_delay (ap (formed (codes "departureDelay")) (delay_read c.dep_delay sound.dep_delay)))
-    (only_then _ c.dep_stop _ (departure_of c) (only_said_at (SaysStop base) (codes "departureStop") tree (stop_url_of base c.dep_stop) c.dep_stop refl (record { id = sound.dep_stop; written = refl }))
-    (only_then _ c.dep _ (departure_of c) (only_said_at SaysMoment (codes "departureTime") tree (iso_text_of c.dep) c.dep refl (says_moment c.dep sound.dep))
-    (only_exactly (departure_of c))))
+    reads_then _ c.dep_delay _ (departure_of c) (reads_exactly_by _ c.dep_delay (ap (formed (codes "departureDelay")) (delay_read c.dep_delay sound.dep_delay)))
+    (reads_then _ c.dep_stop _ (departure_of c) (reads_stop base (codes "departureStop") tree c.dep_stop refl sound.dep_stop)
+    (reads_then _ c.dep _ (departure_of c) (reads_moment (codes "departureTime") tree c.dep refl sound.dep)
+    (reads_exactly (departure_of c))))
 
 joined_is : (base : BaseParts) (c : Connection) → joined (connection_tree base c) (c.key, c.seq) (arrival_of c) (departure_of c) ≡ c
 unfolding connection_tree arrival_of departure_of
@@ -57,15 +53,15 @@ joined_is base c =
 in_time : (c : Connection) → c.dep ≤ c.arr → unless_early c ≡ Ok c
 in_time c h = rw (le-leb c.dep c.arr h) refl
 
-pub only_connection : (base : BaseParts) (c : Connection) → IsGood c → IsOnly (connection_in base (connection_tree base c)) c
+pub reads_connection : (base : BaseParts) (c : Connection) → IsGood c → Reads (connection_in base (connection_tree base c)) c
 unfolding connection_in connection_tree
-only_connection base c good =
+reads_connection base c good =
     let tree = connection_tree base c in
-    only_then _ _ _ c (only_exactly _)
-    (only_then _ (c.key, c.seq) _ c (only_said_at (SaysName base) (codes "@id") tree (name_of base c.key c.seq) (c.key, c.seq) refl (record { trip = good.sound.trip; fits = good.sound.seq; written = refl }))
-    (only_then _ (arrival_of c) _ c (only_arrival base c good.sound)
-    (only_then _ (departure_of c) _ c (only_departure base c good.sound)
-    (only_exactly_by _ c (ap unless_early (joined_is base c) ∙ in_time c good.forward)))))
+    reads_then _ _ _ c (reads_exactly _)
+    (reads_then _ (c.key, c.seq) _ c (reads_name base (codes "@id") tree c.key c.seq refl good.sound.trip good.sound.seq)
+    (reads_then _ (arrival_of c) _ c (reads_arrival base c good.sound)
+    (reads_then _ (departure_of c) _ c (reads_departure base c good.sound)
+    (reads_exactly_by _ c (ap unless_early (joined_is base c) ∙ in_time c good.forward)))))
 
 connection_writable : (base : BaseParts) (c : Connection) → IsSoundConnection c → IsWritable (connection_tree base c)
 unfolding connection_tree

@@ -4,10 +4,9 @@ pub mod Floats
 pub mod JsonLaw
 pub mod MembersLaw
 pub mod OneResult
-pub mod Only
 pub mod Orders
 pub mod PageLaw
+pub mod ReadingLaw
 pub mod Readings
+pub mod SaysLaw
 pub mod StopsLaw
-pub mod TextsLaw
-pub mod Utf8Law

@@ -12,7 +12,7 @@ use Rattle.serde_json.specs.Read.{read}
 use Rattle.page_json.specs.Disorder.{first_disorder, unless_disorder}
 use Rattle.page_json.specs.Members.{formed, said_at, said_if, said_in, text_of}
 use Rattle.page_json.specs.PageReading.{connection_in, end_at, joined, json_in, page_in, page_of_bytes, unless_early}
-use Rattle.page_json.specs.Reading.{Reading, after, each_in, exactly, what_is_said, ◌>>=◌}
+use Rattle.page_json.specs.Reading.{Reading, Meets, after, each_in, exactly, gives, what_is_said, ◌>>=◌}
 use Rattle.page_json.specs.Says.{SaysLink, SaysName, SaysPage, SaysStop}
 use Rattle.page_json.specs.StopsReading.{change_in, changes_in, doc_in, doc_of_bytes, if_stop, is_change, is_doc, stop_at, stop_in, stops_in, with_parents}
 use Rattle.page_json.specs.declared.fault.PageFault.{PageFault}
@@ -21,6 +21,11 @@ use Rattle.page_json.proofs.StopsLaw.{change_of, doc_of}
 -- two results of the reading are one
 pub record HasOne {X : Type 0} (reading : Reading X) : Type 0 where
   pub same : (a b : Result X PageFault) → reading a → reading b → a ≡ b
+
+-- what a call returned, where its reading gives this
+pub meets_one : {X : Type 0} (reading : Reading X) (x : X) (result : Result X PageFault) → HasOne reading → reading (Ok x) → Meets reading result → Meets (gives x) result
+meets_one reading x (Ok y) one says h = one.same (Ok y) (Ok x) h says
+meets_one reading x (Err fault) one says h = λ other. one.same (Err fault) (Ok x) (h other) says
 
 one_exactly : {X : Type 0} (answer : Result X PageFault) → HasOne (exactly answer)
 one_exactly answer = record { same = λ a b h k. h ∙ sym k }

@@ -15,15 +15,16 @@ use Rattle.serde_json.specs.View.{items_of}
 use Rattle.page_json.specs.Disorder.{first_disorder, unless_disorder}
 use Rattle.page_json.specs.Members.{said_if, said_if_there}
 use Rattle.page_json.specs.PageReading.{connection_in, page_in, page_of_bytes}
-use Rattle.page_json.specs.Says.{SaysLink, SaysPage}
+use Rattle.page_json.specs.Says.{SaysLink}
 use Rattle.page_json.specs.Sound.{IsSoundConnection, IsSoundName, IsSoundPage}
 use Rattle.page_json.specs.Tree.{connection_tree, context_tree, link_at, mapping_tree, page_text_of, page_tree, search_tree, text_at}
 use Rattle.page_json.specs.Valid.{IsOfVersion, IsValidPage}
 use Rattle.page_json.specs.declared.page.Page.{Page}
-use Rattle.page_json.proofs.ConnectionLaw.{IsGood, connections_depth, connections_writable, only_connection}
+use Rattle.page_json.proofs.ConnectionLaw.{IsGood, connections_depth, connections_writable, reads_connection}
 use Rattle.page_json.proofs.JsonLaw.{HasWritable, IsWritable, read_compact, rises}
-use Rattle.page_json.proofs.MembersLaw.{no_disorder, only_json, only_said_at}
-use Rattle.page_json.proofs.Only.{IsOnly, only_each, only_exactly, only_exactly_by, only_said, only_then}
+use Rattle.page_json.proofs.MembersLaw.{no_disorder, reads_json, reads_page_name, says_page}
+use Rattle.page_json.proofs.SaysLaw.{one_link}
+use Rattle.page_json.proofs.ReadingLaw.{Reads, reads_each, reads_exactly, reads_exactly_by, reads_said, reads_then}
 
 url_data : BaseParts → PageName → Data
 url_data base name = string (page_url_of base name)
@@ -41,19 +42,17 @@ previous_there base page (Some next) None e f = rw (e, f) refl
 previous_there base page None (Some previous) e f = rw (e, f) refl
 previous_there base page (Some next) (Some previous) e f = rw (e, f) refl
 
-says_page : (base : BaseParts) (name : PageName) → IsSoundName name → SaysPage base (page_url_of base name) name
-says_page base name sound = record { version_fits = sound.version; departs_fits = sound.departs; written = refl }
-
-only_link_of : (base : BaseParts) (version : ℕ) (key : List ℕ) (link : Option PageName) → IfSome link IsSoundName → IsOfVersion version link → IsOnly (said_if (SaysLink base version) key (option_map (url_data base) link)) link
+reads_link_of : (base : BaseParts) (version : ℕ) (key : List ℕ) (link : Option PageName) → IfSome link IsSoundName → IsOfVersion version link → Reads (said_if (SaysLink base version) key (option_map (url_data base) link)) link
 unfolding url_data
-only_link_of base version key None sound same = only_exactly None
-only_link_of base version key (Some name) sound same =
-    only_then _ name _ (Some name) (only_said (SaysLink base version) key (page_url_of base name) name (record { page = says_page base name sound; same_version = same }))
-    (only_exactly (Some name))
+reads_link_of base version key None sound same = reads_exactly None
+reads_link_of base version key (Some name) sound same =
+    let says : SaysLink base version (page_url_of base name) name = record { page = says_page base name sound; same_version = same } in
+    reads_then _ name _ (Some name) (reads_said (SaysLink base version) key (page_url_of base name) name says (λ other h. one_link base version (page_url_of base name) other name h says))
+    (reads_exactly (Some name))
 
-only_link : (base : BaseParts) (version : ℕ) (key : List ℕ) (tree : Data) (link : Option PageName) → get key tree ≡ option_map (url_data base) link → IfSome link IsSoundName → IsOfVersion version link → IsOnly (said_if_there (SaysLink base version) key tree) link
-only_link base version key tree link e sound same =
-    subst (λ (d : Option Data). IsOnly (said_if (SaysLink base version) key d) link) (sym e) (only_link_of base version key link sound same)
+reads_link : (base : BaseParts) (version : ℕ) (key : List ℕ) (tree : Data) (link : Option PageName) → get key tree ≡ option_map (url_data base) link → IfSome link IsSoundName → IsOfVersion version link → Reads (said_if_there (SaysLink base version) key tree) link
+reads_link base version key tree link e sound same =
+    subst (λ (d : Option Data). Reads (said_if (SaysLink base version) key d) link) (sym e) (reads_link_of base version key link sound same)
 
 good : (list : List Connection) → All IsSoundConnection list → NoneArrivesEarly list → All IsGood list
 good list sound forward = λ k d inside. record { sound = sound k d inside; forward = forward k d inside }
@@ -61,17 +60,17 @@ good list sound forward = λ k d inside. record { sound = sound k d inside; forw
 in_order : (page : Page) → IsValidPage page → unless_disorder (first_disorder departure_cmp page.list) page ≡ Ok page
 in_order page valid = ap (λ (place : Option ℕ). unless_disorder place page) (no_disorder departure_cmp page.list valid.in_order)
 
-only_page : (base : BaseParts) (page : Page) → IsValidPage page → IsSoundPage page → IsOnly (page_in base (page_tree base page)) page
+reads_page : (base : BaseParts) (page : Page) → IsValidPage page → IsSoundPage page → Reads (page_in base (page_tree base page)) page
 unfolding page_in
-only_page base page valid sound =
+reads_page base page valid sound =
     let tree = page_tree base page in
-    only_then _ _ _ page (only_exactly _)
-    (only_then _ page.name _ page (only_said_at (SaysPage base) (codes "@id") tree (page_url_of base page.name) page.name refl (says_page base page.name sound.name))
-    (only_then _ (items_of (map (connection_tree base) page.list)) _ page (only_exactly _)
-    (only_then _ page.list _ page (only_each (connection_in base) (connection_tree base) IsGood (only_connection base) page.list (good page.list sound.list valid.forward))
-    (only_then _ page.next _ page (only_link base page.name.version (codes "hydra:next") tree page.next (next_there base page page.next page.previous refl refl) sound.next valid.next)
-    (only_then _ page.previous _ page (only_link base page.name.version (codes "hydra:previous") tree page.previous (previous_there base page page.next page.previous refl refl) sound.previous valid.previous)
-    (only_exactly_by _ page (in_order page valid)))))))
+    reads_then _ _ _ page (reads_exactly _)
+    (reads_then _ page.name _ page (reads_page_name base (codes "@id") tree page.name refl sound.name)
+    (reads_then _ (items_of (map (connection_tree base) page.list)) _ page (reads_exactly _)
+    (reads_then _ page.list _ page (reads_each (connection_in base) (connection_tree base) IsGood (reads_connection base) page.list (good page.list sound.list valid.forward))
+    (reads_then _ page.next _ page (reads_link base page.name.version (codes "hydra:next") tree page.next (next_there base page page.next page.previous refl refl) sound.next valid.next)
+    (reads_then _ page.previous _ page (reads_link base page.name.version (codes "hydra:previous") tree page.previous (previous_there base page page.next page.previous refl refl) sound.previous valid.previous)
+    (reads_exactly_by _ page (in_order page valid)))))))
 
 link_writable : (base : BaseParts) (key : List ℕ) (link : Option PageName) (rest : Members) → HasWritable rest → HasWritable (link_at base key link rest)
 link_writable base key None rest h = h
@@ -139,10 +138,10 @@ page_depth base page =
     let next = link_depth base (codes "hydra:next") page.next (link_at base (codes "hydra:previous") page.previous (member (codes "hydra:search") search no_members)) 2 previous in
     omega (arith, context_depth, connections_depth base page.list, next)
 
--- the text of a page says that page alone
-pub only_page_text : (base : BaseParts) (page : Page) (bytes : List ℕ) → IsValidPage page → IsSoundPage page → IsUtf8 bytes → bytes ≡ page_text_of base page → IsOnly (page_of_bytes base bytes) page
+-- the text of a page is read as that page
+pub reads_page_text : (base : BaseParts) (page : Page) (bytes : List ℕ) → IsValidPage page → IsSoundPage page → IsUtf8 bytes → bytes ≡ page_text_of base page → Reads (page_of_bytes base bytes) page
 unfolding page_of_bytes page_text_of
-only_page_text base page bytes valid sound utf8 e =
+reads_page_text base page bytes valid sound utf8 e =
     let tree = page_tree base page in
-    only_then _ tree _ page (only_json bytes tree utf8 (ap read e ∙ read_compact tree (page_writable base page sound) (page_depth base page)))
-    (only_page base page valid sound)
+    reads_then _ tree _ page (reads_json bytes tree utf8 (ap read e ∙ read_compact tree (page_writable base page sound) (page_depth base page)))
+    (reads_page base page valid sound)

@@ -1,11 +1,14 @@
 -- A stops document that is written is read as that document.
-use Rattle.std.proofs.Common.{◌≡◌, ℕ, ◌<◌, ◌≤◌, List, [], ◌∷◌, Option, Some, None, Result, Ok, Err, codes, map, ◌^◌, refl, ap, ap₂, subst, ◌∙◌, arith, le-leb, lt-ltb}
+use Rattle.std.proofs.Common.{◌≡◌, ℕ, ◌<◌, ◌≤◌, List, [], ◌∷◌, Bool, true, get_or, Option, Some, None, Ok, codes, map, ◌^◌, refl, ap, ap₂, subst, ◌∙◌, arith, le-leb, lt-ltb}
+use Rattle.std.proofs.Math.Logic.{∥∥₁_elim}
 use Rattle.std.proofs.Props.{props}
+use Rattle.std.proofs.lemmas.List.Folds.{Any-from_list_any, list_any-from_Any}
+use Rattle.std.proofs.lemmas.Slice.Eq.{bytes_eq-Decides}
 use Rattle.std.proofs.lemmas.List.Elements.{All-head, All-tail}
-use Rattle.std.specs.List.{All}
+use Rattle.std.specs.List.{All, Any, list_any}
 use Rattle.std.specs.Option.{IfSome}
 use Rattle.std.specs.Ordering.{on}
-use Rattle.std.specs.Str.{IsUtf8}
+use Rattle.std.specs.Str.{IsUtf8, bytes_eq}
 use Rattle.lc_model.specs.Change.{InChangeOrder, change_cmp}
 use Rattle.lc_model.specs.Stop.{HasStop, InStopOrder}
 use Rattle.lc_model.specs.StopsDoc.{NamesItsStops}
@@ -24,10 +27,9 @@ use Rattle.page_json.specs.Sound.{IsSoundChange, IsSoundDoc, IsSoundStop}
 use Rattle.page_json.specs.StopsReading.{AreParents, as_id, change_in, changes_in, doc_in, doc_of_bytes, id_from, if_stop, is_change, is_doc, seconds_from, stop_at, stop_in, stops_in, with_parents}
 use Rattle.page_json.specs.Tree.{change_tree, stop_tree, stops_text_of, stops_tree}
 use Rattle.page_json.specs.Valid.{IsValidDoc}
-use Rattle.page_json.specs.declared.fault.PageFault.{PageFault}
 use Rattle.page_json.proofs.JsonLaw.{AreWritable, IsWritable, read_compact}
-use Rattle.page_json.proofs.MembersLaw.{no_disorder, only_json}
-use Rattle.page_json.proofs.Only.{IsOnly, only_each, only_exactly, only_exactly_by, only_then}
+use Rattle.page_json.proofs.MembersLaw.{no_disorder, reads_json}
+use Rattle.page_json.proofs.ReadingLaw.{Reads, reads_each, reads_exactly, reads_exactly_by, reads_then}
 
 id_read : (id : List ℕ) → IsIdText id → id_from id ≡ Some id
 id_read [] is = absurd (is.0 refl)
@@ -36,34 +38,28 @@ id_read (first ∷ rest) is = refl
 stop_of : List ℕ → List ℕ → Option (List ℕ) → Stop
 stop_of id name parent = record { id = id; name = name; parent = parent }
 
-only_stop_of : (id name : List ℕ) (parent : Option (List ℕ)) → IsIdText id → IfSome parent IsIdText → IsOnly (stop_in (stop_tree (stop_of id name parent))) (stop_of id name parent)
+reads_stop_of : (id name : List ℕ) (parent : Option (List ℕ)) → IsIdText id → IfSome parent IsIdText → Reads (stop_in (stop_tree (stop_of id name parent))) (stop_of id name parent)
 unfolding stop_in stop_tree stop_of
-only_stop_of id name None is parent =
-    only_then _ _ _ (stop_of id name None) (only_exactly _)
-    (only_then _ id _ (stop_of id name None) (only_exactly_by _ id (ap (formed (codes "id")) (id_read id is)))
-    (only_then _ name _ (stop_of id name None) (only_exactly name)
-    (only_then _ None _ (stop_of id name None) (only_exactly None) (only_exactly (stop_of id name None)))))
-only_stop_of id name (Some up) is parent =
-    only_then _ _ _ (stop_of id name (Some up)) (only_exactly _)
-    (only_then _ id _ (stop_of id name (Some up)) (only_exactly_by _ id (ap (formed (codes "id")) (id_read id is)))
-    (only_then _ name _ (stop_of id name (Some up)) (only_exactly name)
-    (only_then _ (Some up) _ (stop_of id name (Some up)) (only_exactly_by _ (Some up) (rw (id_read up parent) refl)) (only_exactly (stop_of id name (Some up))))))
+reads_stop_of id name None is parent =
+    reads_then _ _ _ (stop_of id name None) (reads_exactly _)
+    (reads_then _ id _ (stop_of id name None) (reads_exactly_by _ id (ap (formed (codes "id")) (id_read id is)))
+    (reads_then _ name _ (stop_of id name None) (reads_exactly name)
+    (reads_then _ None _ (stop_of id name None) (reads_exactly None) (reads_exactly (stop_of id name None)))))
+reads_stop_of id name (Some up) is parent =
+    reads_then _ _ _ (stop_of id name (Some up)) (reads_exactly _)
+    (reads_then _ id _ (stop_of id name (Some up)) (reads_exactly_by _ id (ap (formed (codes "id")) (id_read id is)))
+    (reads_then _ name _ (stop_of id name (Some up)) (reads_exactly name)
+    (reads_then _ (Some up) _ (stop_of id name (Some up)) (reads_exactly_by _ (Some up) (rw (id_read up parent) refl)) (reads_exactly (stop_of id name (Some up))))))
 
-only_stop : (stop : Stop) → IsSoundStop stop → IsOnly (stop_in (stop_tree stop)) stop
+reads_stop : (stop : Stop) → IsSoundStop stop → Reads (stop_in (stop_tree stop)) stop
 unfolding stop_of
-only_stop stop sound = only_stop_of stop.id stop.name stop.parent sound.id sound.parent
+reads_stop stop sound = reads_stop_of stop.id stop.name stop.parent sound.id sound.parent
 
-only_parents : (stops : List Stop) → AreParents stops → IsOnly (with_parents stops) stops
-only_parents stops are = record { is = go } where
-  go : (result : Result (List Stop) PageFault) → with_parents stops result → result ≡ Ok stops
-  go (Ok same) h = ap Ok h.0
-  go (Err fault) h = absurd (h.1 are)
+reads_parents : (stops : List Stop) → AreParents stops → Reads (with_parents stops) stops
+reads_parents stops are = record { is = (refl, are) }
 
-only_known : (stops : List Stop) (key id : List ℕ) → HasStop stops id → IsOnly (if_stop stops key id) id
-only_known stops key id has = record { is = go } where
-  go : (result : Result (List ℕ) PageFault) → if_stop stops key id result → result ≡ Ok id
-  go (Ok same) h = ap Ok h.0
-  go (Err fault) h = absurd (h.1 has)
+reads_known : (stops : List Stop) (key id : List ℕ) → HasStop stops id → Reads (if_stop stops key id) id
+reads_known stops key id has = record { is = (refl, has) }
 
 abbrev change : (from to : List ℕ) (seconds : ℕ) → 1 ≤ seconds → Change
 change from to seconds takes_time = record { from = from; to = to; seconds = seconds; takes_time = takes_time }
@@ -79,11 +75,8 @@ pub change_of : (a b : Change) → a.from ≡ b.from → a.seconds ≡ b.seconds
 change_of a b e f g =
     ap₂ (λ (from to : List ℕ). change from to a.seconds a.takes_time) e g ∙ same_seconds b.from b.to a.seconds b.seconds a.takes_time b.takes_time f
 
-only_change_of : (change : Change) → IsOnly (is_change change.from change.seconds change.to) change
-only_change_of change = record { is = go } where
-  go : (result : Result Change PageFault) → is_change change.from change.seconds change.to result → result ≡ Ok change
-  go (Ok other) h = ap Ok (change_of other change h.0 h.1 h.2)
-  go (Err fault) h = absurd h
+reads_change_of : (change : Change) → Reads (is_change change.from change.seconds change.to) change
+reads_change_of change = record { is = (refl, refl, refl) }
 
 abbrev doc : (stops : List Stop) (changes : List Change) → ∥ NamesItsStops stops changes ∥₁ → StopsDoc
 doc stops changes closed = record { stops = stops; changes = changes; closed = closed }
@@ -100,19 +93,46 @@ doc_of a b e f =
     subst (λ (v : List Stop). (q : ∥ NamesItsStops v b.changes ∥₁) → doc a.stops a.changes a.closed ≡ doc v b.changes q) e
     (λ q. same_changes a.stops a.changes b.changes a.closed q f) b.closed
 
-only_doc_of : (d : StopsDoc) → IsOnly (is_doc d.stops d.changes) d
-only_doc_of d = record { is = go } where
-  go : (result : Result StopsDoc PageFault) → is_doc d.stops d.changes result → result ≡ Ok d
-  go (Ok other) h = ap Ok (doc_of other d h.0 h.1)
-  go (Err fault) h = absurd h
+reads_doc_of : (d : StopsDoc) → Reads (is_doc d.stops d.changes) d
+reads_doc_of d = record { is = (refl, refl) }
+
+is_id : List ℕ → Stop → Bool
+is_id id s = bytes_eq s.id id
+
+found_by_test : (stops : List Stop) (id : List ℕ) → HasStop stops id → list_any (is_id id) stops ≡ true
+unfolding is_id
+found_by_test stops id (k, s, inside, at, same) = list_any-from_Any (is_id id) stops (k, s, inside, at, (bytes_eq-Decides s.id id).1 same)
+
+one_found : (stops : List Stop) (id : List ℕ) → Any (λ s. is_id id s ≡ true) stops → HasStop stops id
+unfolding is_id
+one_found stops id (k, s, inside, at, same) = (k, s, inside, at, (bytes_eq-Decides s.id id).0 same)
+
+has_stop : (stops : List Stop) (id : List ℕ) (P : Type 0) → ∥ P ∥₁ → (P → HasStop stops id) → HasStop stops id
+has_stop stops id P merely gives =
+    let once : IsProp (list_any (is_id id) stops ≡ true) = hlevel props in
+    one_found stops id (Any-from_list_any (is_id id) stops (∥∥₁_elim merely once (λ p. found_by_test stops id (gives p))))
+
+has_parent : (stops : List Stop) (parent : Option (List ℕ)) (P : Type 0) → ∥ P ∥₁ → (P → IfSome parent (HasStop stops)) → IfSome parent (HasStop stops)
+has_parent stops None P merely gives = tt
+has_parent stops (Some id) P merely gives = has_stop stops id P merely gives
+
+-- that a document names its stops is found by looking for them
+pub names_its_stops : (d : StopsDoc) → NamesItsStops d.stops d.changes
+names_its_stops d =
+    let Names = NamesItsStops d.stops d.changes in
+    record {
+      parents = λ k s inside. has_parent d.stops (get_or d.stops k s).parent Names d.closed (λ names. names.parents k s inside);
+      changes_from = λ k c inside. has_stop d.stops (get_or d.changes k c).from Names d.closed (λ names. names.changes_from k c inside);
+      changes_to = λ k c inside. has_stop d.stops (get_or d.changes k c).to Names d.closed (λ names. names.changes_to k c inside);
+    }
 
 seconds_read : (n : ℕ) → 1 ≤ n → n < 2 ^ 32 → seconds_from n ≡ Some n
 seconds_read n low high = rw (le-leb 1 n low, lt-ltb n (2 ^ 32) high) refl
 
-only_end : (stops : List Stop) (key : List ℕ) (tree : Data) (id : List ℕ) → needed as_id key (get key tree) ≡ formed key (id_from id) → IsIdText id → HasStop stops id → IsOnly (stop_at stops key tree) id
+reads_end : (stops : List Stop) (key : List ℕ) (tree : Data) (id : List ℕ) → needed as_id key (get key tree) ≡ formed key (id_from id) → IsIdText id → HasStop stops id → Reads (stop_at stops key tree) id
 unfolding stop_at
-only_end stops key tree id e is has =
-    only_then _ id _ id (only_exactly_by _ id (e ∙ ap (formed key) (id_read id is))) (only_known stops key id has)
+reads_end stops key tree id e is has =
+    reads_then _ id _ id (reads_exactly_by _ id (e ∙ ap (formed key) (id_read id is))) (reads_known stops key id has)
 
 -- what the list of changes holds of each
 record IsGoodChange (stops : List Stop) (c : Change) : Type 0 where
@@ -120,15 +140,15 @@ record IsGoodChange (stops : List Stop) (c : Change) : Type 0 where
   from : HasStop stops c.from
   to : HasStop stops c.to
 
-only_change : (stops : List Stop) (c : Change) → IsGoodChange stops c → IsOnly (change_in stops (change_tree c)) c
+reads_change : (stops : List Stop) (c : Change) → IsGoodChange stops c → Reads (change_in stops (change_tree c)) c
 unfolding change_in change_tree
-only_change stops c good =
+reads_change stops c good =
     let tree = change_tree c in
-    only_then _ _ _ c (only_exactly _)
-    (only_then _ c.from _ c (only_end stops (codes "from") tree c.from refl good.sound.from good.from)
-    (only_then _ c.seconds _ c (only_exactly_by _ c.seconds (ap (formed (codes "seconds")) (seconds_read c.seconds c.takes_time good.sound.seconds)))
-    (only_then _ c.to _ c (only_end stops (codes "to") tree c.to refl good.sound.to good.to)
-    (only_change_of c))))
+    reads_then _ _ _ c (reads_exactly _)
+    (reads_then _ c.from _ c (reads_end stops (codes "from") tree c.from refl good.sound.from good.from)
+    (reads_then _ c.seconds _ c (reads_exactly_by _ c.seconds (ap (formed (codes "seconds")) (seconds_read c.seconds c.takes_time good.sound.seconds)))
+    (reads_then _ c.to _ c (reads_end stops (codes "to") tree c.to refl good.sound.to good.to)
+    (reads_change_of c))))
 
 good_changes : (stops : List Stop) (changes : List Change) → All IsSoundChange changes → NamesItsStops stops changes → All (IsGoodChange stops) changes
 good_changes stops changes sound names =
@@ -140,27 +160,27 @@ stops_ordered stops h = ap (λ (place : Option ℕ). unless_disorder place stops
 changes_ordered : (changes : List Change) → InChangeOrder changes → unless_disorder (first_disorder change_cmp changes) changes ≡ Ok changes
 changes_ordered changes h = ap (λ (place : Option ℕ). unless_disorder place changes) (no_disorder change_cmp changes h)
 
-only_stops : (base : BaseParts) (d : StopsDoc) → IsValidDoc d → IsSoundDoc d → IsOnly (stops_in (stops_tree base d)) d.stops
+reads_stops : (base : BaseParts) (d : StopsDoc) → IsValidDoc d → IsSoundDoc d → Reads (stops_in (stops_tree base d)) d.stops
 unfolding stops_in
-only_stops base d valid sound =
-    only_then _ (items_of (map stop_tree d.stops)) _ d.stops (only_exactly _)
-    (only_then _ d.stops _ d.stops (only_each stop_in stop_tree IsSoundStop only_stop d.stops sound.stops)
-    (only_then _ d.stops _ d.stops (only_parents d.stops valid.closed.parents)
-    (only_exactly_by _ d.stops (stops_ordered d.stops valid.stops))))
+reads_stops base d valid sound =
+    reads_then _ (items_of (map stop_tree d.stops)) _ d.stops (reads_exactly _)
+    (reads_then _ d.stops _ d.stops (reads_each stop_in stop_tree IsSoundStop reads_stop d.stops sound.stops)
+    (reads_then _ d.stops _ d.stops (reads_parents d.stops valid.closed.parents)
+    (reads_exactly_by _ d.stops (stops_ordered d.stops valid.stops))))
 
-only_changes : (base : BaseParts) (d : StopsDoc) → IsValidDoc d → IsSoundDoc d → IsOnly (changes_in d.stops (stops_tree base d)) d.changes
+reads_changes : (base : BaseParts) (d : StopsDoc) → IsValidDoc d → IsSoundDoc d → Reads (changes_in d.stops (stops_tree base d)) d.changes
 unfolding changes_in
-only_changes base d valid sound =
-    only_then _ (items_of (map change_tree d.changes)) _ d.changes (only_exactly _)
-    (only_then _ d.changes _ d.changes (only_each (change_in d.stops) change_tree (IsGoodChange d.stops) (only_change d.stops) d.changes (good_changes d.stops d.changes sound.changes valid.closed))
-    (only_exactly_by _ d.changes (changes_ordered d.changes valid.changes)))
+reads_changes base d valid sound =
+    reads_then _ (items_of (map change_tree d.changes)) _ d.changes (reads_exactly _)
+    (reads_then _ d.changes _ d.changes (reads_each (change_in d.stops) change_tree (IsGoodChange d.stops) (reads_change d.stops) d.changes (good_changes d.stops d.changes sound.changes valid.closed))
+    (reads_exactly_by _ d.changes (changes_ordered d.changes valid.changes)))
 
-only_doc : (base : BaseParts) (d : StopsDoc) → IsValidDoc d → IsSoundDoc d → IsOnly (doc_in (stops_tree base d)) d
+reads_doc : (base : BaseParts) (d : StopsDoc) → IsValidDoc d → IsSoundDoc d → Reads (doc_in (stops_tree base d)) d
 unfolding doc_in
-only_doc base d valid sound =
-    only_then _ _ _ d (only_exactly _)
-    (only_then _ d.stops _ d (only_stops base d valid sound)
-    (only_then _ d.changes _ d (only_changes base d valid sound) (only_doc_of d)))
+reads_doc base d valid sound =
+    reads_then _ _ _ d (reads_exactly _)
+    (reads_then _ d.stops _ d (reads_stops base d valid sound)
+    (reads_then _ d.changes _ d (reads_changes base d valid sound) (reads_doc_of d)))
 
 parent_writable : (id name : List ℕ) (parent : Option (List ℕ)) → IsWritable (stop_tree (stop_of id name parent))
 unfolding stop_tree stop_of
@@ -204,10 +224,10 @@ doc_writable base d sound = ((tt, (changes_writable d.changes sound.changes, (st
 doc_depth : (base : BaseParts) (d : StopsDoc) → depth (stops_tree base d) ≤ 127
 doc_depth base d = omega (arith, changes_depth d.changes, stops_depth d.stops)
 
--- the text of a stops document says that document alone
-pub only_stops_text : (base : BaseParts) (d : StopsDoc) (bytes : List ℕ) → IsValidDoc d → IsSoundDoc d → IsUtf8 bytes → bytes ≡ stops_text_of base d → IsOnly (doc_of_bytes bytes) d
+-- the text of a stops document is read as that document
+pub reads_stops_text : (base : BaseParts) (d : StopsDoc) (bytes : List ℕ) → IsValidDoc d → IsSoundDoc d → IsUtf8 bytes → bytes ≡ stops_text_of base d → Reads (doc_of_bytes bytes) d
 unfolding doc_of_bytes stops_text_of
-only_stops_text base d bytes valid sound utf8 e =
+reads_stops_text base d bytes valid sound utf8 e =
     let tree = stops_tree base d in
-    only_then _ tree _ d (only_json bytes tree utf8 (ap read e ∙ read_compact tree (doc_writable base d sound) (doc_depth base d)))
-    (only_doc base d valid sound)
+    reads_then _ tree _ d (reads_json bytes tree utf8 (ap read e ∙ read_compact tree (doc_writable base d sound) (doc_depth base d)))
+    (reads_doc base d valid sound)

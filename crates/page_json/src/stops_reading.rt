@@ -5,16 +5,11 @@ ghost use Rattle.lc_model.specs.Stop.{HasStop};
 ghost use Rattle.lc_model.specs.Text.{id_cmp};
 ghost use Rattle.lc_model.specs.declared.change.Change.{Change as ToldChange};
 ghost use Rattle.lc_model.specs.declared.stop.Stop.{Stop as ToldStop};
-ghost use Rattle.std.specs.Str.{IsUtf8};
 ghost use Rattle.lc_model.specs.declared.doc.StopsDoc.{StopsDoc as Told};
-ghost use Rattle.connection_uri.specs.Base.{BaseParts};
 ghost use Rattle.serde_json.specs.View.{view};
 ghost use Rattle.page_json.specs.Disorder.{first_disorder, unless_disorder};
 ghost use Rattle.page_json.specs.Reading.{Meets, exactly, gives};
-ghost use Rattle.page_json.specs.Sound.{IsSoundDoc};
 ghost use Rattle.page_json.specs.StopsReading.{AreParents, changes_in, doc_in, doc_of_bytes, stops_in};
-ghost use Rattle.page_json.specs.Tree.{stops_text_of};
-ghost use Rattle.page_json.specs.Valid.{IsValidDoc};
 ghost use Rattle.page_json.specs.declared.fault.PageFault.TheVariants.{BadMember as bad, NoMemory as want_of_memory};
 
 use crate::PageFault;
@@ -33,9 +28,8 @@ use std::alloc::Global;
 pub fn read_stops(alloc: Global, bytes: &[u8]) -> Result<StopsDoc, PageFault>
     ensures said { Meets (doc_of_bytes bytes.now) result }
 
-    // The text of a valid document is read as that document.
-    ensures again { (base : BaseParts) (doc : Told) → IsUtf8 base.text → IsValidDoc doc → IsSoundDoc doc
-        → bytes.now ≡ stops_text_of base doc → Meets (gives doc) result }
+    // Where the bytes say a document, as those of `stops_text` do, that document is read.
+    ensures exact { (doc : Told) → doc_of_bytes bytes.now (Ok doc) → Meets (gives doc) result }
 {
     let value = json_in(alloc, bytes)?;
     doc_in(alloc, &value)

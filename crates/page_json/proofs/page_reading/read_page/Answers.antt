@@ -1,11 +1,8 @@
 -- First the JSON, then the page.
-use Rattle.std.proofs.Common.{Ok, Err, refl, subst, sym}
-use Rattle.std.specs.Str.{IsUtf8}
+use Rattle.std.proofs.Common.{Ok, Err, refl}
 use Rattle.serde_json.specs.View.{view}
 use Rattle.page_json.specs.PageReading.{page_in, page_of_bytes}
-use Rattle.page_json.proofs.Only.{meets_only}
-use Rattle.page_json.proofs.PageLaw.{only_page_text}
-use Rattle.page_json.proofs.TextsLaw.{page_text_utf8}
+use Rattle.page_json.proofs.OneResult.{meets_one, one_page_of_bytes}
 use Rattle.page_json.proofs.Readings.{meets_err, meets_last}
 use Rattle.page_json.proofs.page_reading.read_page.Goals as goal
 
@@ -22,14 +19,10 @@ returns-in_err-value-clause-said c =
     meets_err (page_of_bytes c.args.base.now c.args.bytes.now) c.from_residual.result fault c.from_residual.ensures.1
     (λ other. (Err fault, c.in_err-value.ensures.err other, refl))
 
-pub returns-clause-again : goal.returns-clause-again
-returns-clause-again c = λ page valid sound e.
-    let base = subst IsUtf8 c.text-text.ensures.value c.text-text.utf8 in
-    let utf8 = subst IsUtf8 (sym e) (page_text_utf8 c.args.base.now page base sound) in
-    meets_only (page_of_bytes c.args.base.now c.args.bytes.now) page c.page_in.result (only_page_text c.args.base.now page c.args.bytes.now valid sound utf8 e) (returns-clause-said c)
+pub returns-clause-exact : goal.returns-clause-exact
+returns-clause-exact c = λ page says.
+    meets_one (page_of_bytes c.args.base.now c.args.bytes.now) page c.page_in.result (one_page_of_bytes c.args.base.now c.args.bytes.now) says (returns-clause-said c)
 
-pub returns-in_err-value-clause-again : goal.returns-in_err-value-clause-again
-returns-in_err-value-clause-again c = λ page valid sound e.
-    let base = subst IsUtf8 c.text-text.ensures.value c.text-text.utf8 in
-    let utf8 = subst IsUtf8 (sym e) (page_text_utf8 c.args.base.now page base sound) in
-    meets_only (page_of_bytes c.args.base.now c.args.bytes.now) page c.from_residual.result (only_page_text c.args.base.now page c.args.bytes.now valid sound utf8 e) (returns-in_err-value-clause-said c)
+pub returns-in_err-value-clause-exact : goal.returns-in_err-value-clause-exact
+returns-in_err-value-clause-exact c = λ page says.
+    meets_one (page_of_bytes c.args.base.now c.args.bytes.now) page c.from_residual.result (one_page_of_bytes c.args.base.now c.args.bytes.now) says (returns-in_err-value-clause-said c)

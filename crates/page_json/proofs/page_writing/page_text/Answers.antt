@@ -3,10 +3,15 @@ use Rattle.std.proofs.Common.{◌∙◌, ap}
 use Rattle.serde_json.specs.Written.{compact_text, has_float}
 use Rattle.page_json.specs.Tree.{page_text_of}
 use Rattle.page_json.proofs.Floats.{page_plain}
+use Rattle.page_json.proofs.PageLaw.{reads_page_text}
 use Rattle.page_json.proofs.page_writing.page_text.Goals as goal
 
 pub returns-clause-text : goal.returns-clause-text
 unfolding page_text_of
 returns-clause-text c =
-    c.in_ok-to_vec.ensures.text (ap has_float c.in_ok-value.ensures ∙ page_plain c.args.base.now c.args.page.now)
-    ∙ ap compact_text c.in_ok-value.ensures
+    c.in_ok-to_vec.ensures.text (ap has_float c.in_ok-value.ensures.tree ∙ page_plain c.args.base.now c.args.page.now)
+    ∙ ap compact_text c.in_ok-value.ensures.tree
+
+pub returns-clause-read : goal.returns-clause-read
+returns-clause-read c =
+    (reads_page_text c.args.base.now c.args.page.now c.in_ok-to_vec.field-0.items c.requires c.in_ok-value.ensures.sound c.in_ok-to_vec.ensures.utf8 (returns-clause-text c)).is

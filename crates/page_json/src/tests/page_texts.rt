@@ -1,0 +1,234 @@
+// Texts of outside: each is what Python 3 writes by
+// json.dumps(document, sort_keys=True, separators=(',', ':'), ensure_ascii=False).
+
+// Of the feed Tiny the page of 08:00, cut behind its first connection.
+pub const TINY: &str =
+    "{\"@context\":{\"Connection\":\"lc:Connection\",\"arrivalDelay\":\"lc:arrivalDelay\",\"arrivalStop\":{\"@id\":\"lc:arrivalStop\",\"@type\":\"@id\"},\"arrivalTime\":{\"@id\":\"lc:arrivalTime\",\"@type\":\"xsd:dateTime\"},\"departureDelay\":\"lc:departureDelay\",\"departureStop\":{\"@id\":\"lc:departureStop\",\"@type\":\"@id\"},\"departureTime\":{\"@id\":\"lc:departureTime\",\"@type\":\"xsd:dateTime\"},\"gtfs\":\"http://vocab.gtfs.org/terms#\",\"gtfs:dropOffType\":{\"@type\":\"@id\"},\"gtfs:pickupType\":{\"@type\":\"@id\"},\"gtfs:trip\":{\"@type\":\"@id\"},\"hydra\":\"http://www.w3.org/ns/hydra/core#\",\"hydra:next\":{\"@type\":\"@id\"},\"hydra:previous\":{\"@type\":\"@id\"},\"lc\":\"http://semweb.mmlab.be/ns/linkedconnections#\",\"xsd\":\"http://www.w3.org/2001/XMLSchema#\"},\"@graph\":[{\"@id\":\"http://lc.example/connections/T1/20240501/-/1\",\"@type\":\"Connection\",\"arrivalDelay\":0,\"arrivalStop\":\"http://lc.example/stops/B\",\"arrivalTime\":\"2024-05-01T08:10:00.000Z\",\"departureDelay\":0,\"departureStop\":\"http://lc.example/stops/A\",\"departureTime\":\"2024-05-01T08:00:00.000Z\",\"gtfs:dropOffType\":\"gtfs:Regular\",\"gtfs:pickupType\":\"gtfs:Regular\",\"gtfs:trip\":\"http://lc.example/trips/T1/20240501/-\"}],\"@id\":\"http://lc.example/memento/connections?version=1970-01-01T00:00:00.000Z&departureTime=2024-05-01T08:00:00.000Z\",\"@type\":\"hydra:PartialCollectionView\",\"hydra:next\":\"http://lc.example/memento/connections?version=1970-01-01T00:00:00.000Z&departureTime=2024-05-01T09:00:00.000Z\",\"hydra:search\":{\"@type\":\"hydra:IriTemplate\",\"hydra:mapping\":{\"@type\":\"hydra:IriTemplateMapping\",\"hydra:property\":\"lc:departureTimeQuery\",\"hydra:required\":true,\"hydra:variable\":\"departureTime\"},\"hydra:template\":\"http://lc.example/connections{?departureTime}\"}}";
+
+// Three connections: of the trips `a/b ü` and 300 times x, at stops with quotes, a backslash and control characters.
+pub const THREE: &str =
+    "{\"@context\":{\"Connection\":\"lc:Connection\",\"arrivalDelay\":\"lc:arrivalDelay\",\"arrivalStop\":{\"@id\":\"lc:arrivalStop\",\"@type\":\"@id\"},\"arrivalTime\":{\"@id\":\"lc:arrivalTime\",\"@type\":\"xsd:dateTime\"},\"departureDelay\":\"lc:departureDelay\",\"departureStop\":{\"@id\":\"lc:departureStop\",\"@type\":\"@id\"},\"departureTime\":{\"@id\":\"lc:departureTime\",\"@type\":\"xsd:dateTime\"},\"gtfs\":\"http://vocab.gtfs.org/terms#\",\"gtfs:dropOffType\":{\"@type\":\"@id\"},\"gtfs:pickupType\":{\"@type\":\"@id\"},\"gtfs:trip\":{\"@type\":\"@id\"},\"hydra\":\"http://www.w3.org/ns/hydra/core#\",\"hydra:next\":{\"@type\":\"@id\"},\"hydra:previous\":{\"@type\":\"@id\"},\"lc\":\"http://semweb.mmlab.be/ns/linkedconnections#\",\"xsd\":\"http://www.w3.org/2001/XMLSchema#\"},\"@graph\":[{\"@id\":\"http://lc.example/connections/a%2Fb%20%C3%BC/20240501/073000/5\",\"@type\":\"Connection\",\"arrivalDelay\":9223372036854775807,\"arrivalStop\":\"http://lc.example/stops/%5C%07%0A\",\"arrivalTime\":\"2024-05-01T07:30:00.000Z\",\"departureDelay\":-60,\"departureStop\":\"http://lc.example/stops/Z%C3%BCrich%20%22HB%22\",\"departureTime\":\"2024-05-01T07:30:00.000Z\",\"gtfs:dropOffType\":\"gtfs:Regular\",\"gtfs:pickupType\":\"gtfs:NotAvailable\",\"gtfs:trip\":\"http://lc.example/trips/a%2Fb%20%C3%BC/20240501/073000\"},{\"@id\":\"http://lc.example/connections/a%2Fb%20%C3%BC/20240501/073000/6\",\"@type\":\"Connection\",\"arrivalDelay\":0,\"arrivalStop\":\"http://lc.example/stops/xxxxxxxxxxxxxxxxxxxxxxxxxxxxxxxxxxxxxxxxxxxxxxxxxxxxxxxxxxxxxxxxxxxxxxxxxxxxxxxxxxxxxxxxxxxxxxxxxxxxxxxxxxxxxxxxxxxxxxxxxxxxxxxxxxxxxxxxxxxxxxxxxxxxxxxxxxxxxxxxxxxxxxxxxxxxxxxxxxxxxxxxxxxxxxxxxxxxxxxxxxxxxxxxxxxxxxxxxxxxxxxxxxxxxxxxxxxxxxxxxxxxxxxxxxxxxxxxxxxxxxxxxxxxxxxxxxxxxxxxxxxxxxxxxxxxxxxxxxxx\",\"arrivalTime\":\"2024-05-01T07:45:10.000Z\",\"departureDelay\":-9223372036854775808,\"departureStop\":\"http://lc.example/stops/%5C%07%0A\",\"departureTime\":\"2024-05-01T07:30:00.000Z\",\"gtfs:dropOffType\":\"gtfs:NotAvailable\",\"gtfs:pickupType\":\"gtfs:Regular\",\"gtfs:trip\":\"http://lc.example/trips/a%2Fb%20%C3%BC/20240501/073000\"},{\"@id\":\"http://lc.example/connections/xxxxxxxxxxxxxxxxxxxxxxxxxxxxxxxxxxxxxxxxxxxxxxxxxxxxxxxxxxxxxxxxxxxxxxxxxxxxxxxxxxxxxxxxxxxxxxxxxxxxxxxxxxxxxxxxxxxxxxxxxxxxxxxxxxxxxxxxxxxxxxxxxxxxxxxxxxxxxxxxxxxxxxxxxxxxxxxxxxxxxxxxxxxxxxxxxxxxxxxxxxxxxxxxxxxxxxxxxxxxxxxxxxxxxxxxxxxxxxxxxxxxxxxxxxxxxxxxxxxxxxxxxxxxxxxxxxxxxxxxxxxxxxxxxxxxxxxxxxxx/20231231/-/4294967295\",\"@type\":\"Connection\",\"arrivalDelay\":-1,\"arrivalStop\":\"http://lc.example/stops/A\",\"arrivalTime\":\"2024-05-02T01:10:00.000Z\",\"departureDelay\":1,\"departureStop\":\"http://lc.example/stops/%E4%BA%AC%E9%83%BD\",\"departureTime\":\"2024-05-01T07:31:00.000Z\",\"gtfs:dropOffType\":\"gtfs:Regular\",\"gtfs:pickupType\":\"gtfs:Regular\",\"gtfs:trip\":\"http://lc.example/trips/xxxxxxxxxxxxxxxxxxxxxxxxxxxxxxxxxxxxxxxxxxxxxxxxxxxxxxxxxxxxxxxxxxxxxxxxxxxxxxxxxxxxxxxxxxxxxxxxxxxxxxxxxxxxxxxxxxxxxxxxxxxxxxxxxxxxxxxxxxxxxxxxxxxxxxxxxxxxxxxxxxxxxxxxxxxxxxxxxxxxxxxxxxxxxxxxxxxxxxxxxxxxxxxxxxxxxxxxxxxxxxxxxxxxxxxxxxxxxxxxxxxxxxxxxxxxxxxxxxxxxxxxxxxxxxxxxxxxxxxxxxxxxxxxxxxxxxxxxxxx/20231231/-\"}],\"@id\":\"http://lc.example/memento/connections?version=2024-05-01T07:00:00.000Z&departureTime=2024-05-01T07:30:00.000Z\",\"@type\":\"hydra:PartialCollectionView\",\"hydra:previous\":\"http://lc.example/memento/connections?version=2024-05-01T07:00:00.000Z&departureTime=2024-05-01T07:00:00.000Z\",\"hydra:search\":{\"@type\":\"hydra:IriTemplate\",\"hydra:mapping\":{\"@type\":\"hydra:IriTemplateMapping\",\"hydra:property\":\"lc:departureTimeQuery\",\"hydra:required\":true,\"hydra:variable\":\"departureTime\"},\"hydra:template\":\"http://lc.example/connections{?departureTime}\"}}";
+
+pub const EMPTY: &str =
+    "{\"@context\":{\"Connection\":\"lc:Connection\",\"arrivalDelay\":\"lc:arrivalDelay\",\"arrivalStop\":{\"@id\":\"lc:arrivalStop\",\"@type\":\"@id\"},\"arrivalTime\":{\"@id\":\"lc:arrivalTime\",\"@type\":\"xsd:dateTime\"},\"departureDelay\":\"lc:departureDelay\",\"departureStop\":{\"@id\":\"lc:departureStop\",\"@type\":\"@id\"},\"departureTime\":{\"@id\":\"lc:departureTime\",\"@type\":\"xsd:dateTime\"},\"gtfs\":\"http://vocab.gtfs.org/terms#\",\"gtfs:dropOffType\":{\"@type\":\"@id\"},\"gtfs:pickupType\":{\"@type\":\"@id\"},\"gtfs:trip\":{\"@type\":\"@id\"},\"hydra\":\"http://www.w3.org/ns/hydra/core#\",\"hydra:next\":{\"@type\":\"@id\"},\"hydra:previous\":{\"@type\":\"@id\"},\"lc\":\"http://semweb.mmlab.be/ns/linkedconnections#\",\"xsd\":\"http://www.w3.org/2001/XMLSchema#\"},\"@graph\":[],\"@id\":\"http://lc.example/memento/connections?version=1970-01-01T00:00:00.000Z&departureTime=1970-01-01T00:00:00.000Z\",\"@type\":\"hydra:PartialCollectionView\",\"hydra:search\":{\"@type\":\"hydra:IriTemplate\",\"hydra:mapping\":{\"@type\":\"hydra:IriTemplateMapping\",\"hydra:property\":\"lc:departureTimeQuery\",\"hydra:required\":true,\"hydra:variable\":\"departureTime\"},\"hydra:template\":\"http://lc.example/connections{?departureTime}\"}}";
+
+// Texts and what is read of them: the count of connections, or the first fault.
+pub const PAGES: [(&str, &str); 61] = [
+    ("", "not JSON"),
+    ("{", "not JSON"),
+    ("{}x", "not JSON"),
+    ("[]", "bad member page"),
+    ("null", "bad member page"),
+    ("{}", "no member @id"),
+    ("{\"@id\":1,\"@graph\":[]}", "bad member @id"),
+    (
+        "{\"@id\":\"http://other.example/memento/connections?version=1970-01-01T00:00:00.000Z&departureTime=2024-05-01T08:00:00.000Z\",\"@graph\":[]}",
+        "bad member @id",
+    ),
+    (
+        "{\"@id\":\"http://lc.example/memento/connections?version=1970-01-01T00:00:00Z&departureTime=2024-05-01T08:00:00Z\",\"@graph\":[]}",
+        "bad member @id",
+    ),
+    (
+        "{\"@id\":\"http://lc.example/memento/connections?version=1970-01-01T00:00:00.000Z&departureTime=2024-05-01T08:00:00.000Z\"}",
+        "no member @graph",
+    ),
+    (
+        "{\"@id\":\"http://lc.example/memento/connections?version=1970-01-01T00:00:00.000Z&departureTime=2024-05-01T08:00:00.000Z\",\"@graph\":{}}",
+        "bad member @graph",
+    ),
+    ("{\"@id\":0}", "bad member @id"),
+    ("{\"@graph\":0}", "no member @id"),
+    (
+        "{\"@id\":0,\"@id\":\"http://lc.example/memento/connections?version=1970-01-01T00:00:00.000Z&departureTime=2024-05-01T08:00:00.000Z\",\"@graph\":[]}",
+        "0 connections",
+    ),
+    (
+        "{\"@id\":\"http://lc.example/memento/connections?version=1970-01-01T00:00:00.000Z&departureTime=2024-05-01T08:00:00.000Z\",\"@id\":0,\"@graph\":[]}",
+        "bad member @id",
+    ),
+    (
+        "{\"@id\":\"http://lc.example/memento/connections?version=1970-01-01T00:00:00.000Z&departureTime=2024-05-01T08:00:00.000Z\",\"@graph\":[7]}",
+        "bad member @graph",
+    ),
+    (
+        "{\"@id\":\"http://lc.example/memento/connections?version=1970-01-01T00:00:00.000Z&departureTime=2024-05-01T08:00:00.000Z\",\"@graph\":[{\"@id\":\"http://lc.example/connections/T/20240501/-/1\",\"arrivalStop\":\"http://lc.example/stops/B\",\"arrivalTime\":\"2024-05-01T08:10:00Z\",\"departureStop\":\"http://lc.example/stops/A\",\"departureTime\":\"2024-05-01T08:00:00.999Z\"},[]]}",
+        "bad member @graph",
+    ),
+    (
+        "{\"@id\":\"http://lc.example/memento/connections?version=1970-01-01T00:00:00.000Z&departureTime=2024-05-01T08:00:00.000Z\",\"@graph\":[{\"arrivalStop\":\"http://lc.example/stops/B\",\"arrivalTime\":\"2024-05-01T08:10:00Z\",\"departureStop\":\"http://lc.example/stops/A\",\"departureTime\":\"2024-05-01T08:00:00.999Z\"}]}",
+        "no member @id",
+    ),
+    (
+        "{\"@id\":\"http://lc.example/memento/connections?version=1970-01-01T00:00:00.000Z&departureTime=2024-05-01T08:00:00.000Z\",\"@graph\":[{\"@id\":\"http://lc.example/connections/a%2fb/20240501/-/1\",\"arrivalStop\":\"http://lc.example/stops/B\",\"arrivalTime\":\"2024-05-01T08:10:00Z\",\"departureStop\":\"http://lc.example/stops/A\",\"departureTime\":\"2024-05-01T08:00:00.999Z\"}]}",
+        "bad member @id",
+    ),
+    (
+        "{\"@id\":\"http://lc.example/memento/connections?version=1970-01-01T00:00:00.000Z&departureTime=2024-05-01T08:00:00.000Z\",\"@graph\":[{\"@id\":\"http://lc.example/connections/T/20240230/-/1\",\"arrivalStop\":\"http://lc.example/stops/B\",\"arrivalTime\":\"2024-05-01T08:10:00Z\",\"departureStop\":\"http://lc.example/stops/A\",\"departureTime\":\"2024-05-01T08:00:00.999Z\"}]}",
+        "bad member @id",
+    ),
+    (
+        "{\"@id\":\"http://lc.example/memento/connections?version=1970-01-01T00:00:00.000Z&departureTime=2024-05-01T08:00:00.000Z\",\"@graph\":[{\"@id\":5,\"arrivalStop\":\"http://lc.example/stops/B\",\"arrivalTime\":\"2024-05-01T08:10:00Z\",\"departureStop\":\"http://lc.example/stops/A\",\"departureTime\":\"2024-05-01T08:00:00.999Z\"}]}",
+        "bad member @id",
+    ),
+    (
+        "{\"@id\":\"http://lc.example/memento/connections?version=1970-01-01T00:00:00.000Z&departureTime=2024-05-01T08:00:00.000Z\",\"@graph\":[{\"@id\":\"http://lc.example/connections/T/20240501/-/1\",\"arrivalTime\":\"2024-05-01T08:10:00Z\",\"departureStop\":\"http://lc.example/stops/A\",\"departureTime\":\"2024-05-01T08:00:00.999Z\"}]}",
+        "no member arrivalStop",
+    ),
+    (
+        "{\"@id\":\"http://lc.example/memento/connections?version=1970-01-01T00:00:00.000Z&departureTime=2024-05-01T08:00:00.000Z\",\"@graph\":[{\"@id\":\"http://lc.example/connections/T/20240501/-/1\",\"arrivalStop\":\"http://lc.example/stops/%41\",\"arrivalTime\":\"2024-05-01T08:10:00Z\",\"departureStop\":\"http://lc.example/stops/A\",\"departureTime\":\"2024-05-01T08:00:00.999Z\"}]}",
+        "bad member arrivalStop",
+    ),
+    (
+        "{\"@id\":\"http://lc.example/memento/connections?version=1970-01-01T00:00:00.000Z&departureTime=2024-05-01T08:00:00.000Z\",\"@graph\":[{\"@id\":\"http://lc.example/connections/T/20240501/-/1\",\"arrivalStop\":\"http://lc.example/stops/\",\"arrivalTime\":\"2024-05-01T08:10:00Z\",\"departureStop\":\"http://lc.example/stops/A\",\"departureTime\":\"2024-05-01T08:00:00.999Z\"}]}",
+        "bad member arrivalStop",
+    ),
+    (
+        "{\"@id\":\"http://lc.example/memento/connections?version=1970-01-01T00:00:00.000Z&departureTime=2024-05-01T08:00:00.000Z\",\"@graph\":[{\"@id\":\"http://lc.example/connections/T/20240501/-/1\",\"arrivalStop\":\"http://lc.example/stops/B\",\"arrivalTime\":\"2024-05-01T08:10:00Z\",\"departureTime\":\"2024-05-01T08:00:00.999Z\"}]}",
+        "no member departureStop",
+    ),
+    (
+        "{\"@id\":\"http://lc.example/memento/connections?version=1970-01-01T00:00:00.000Z&departureTime=2024-05-01T08:00:00.000Z\",\"@graph\":[{\"@id\":\"http://lc.example/connections/T/20240501/-/1\",\"arrivalStop\":\"http://lc.example/stops/B\",\"arrivalTime\":\"2024-05-01T08:10:00Z\",\"departureStop\":\"A\",\"departureTime\":\"2024-05-01T08:00:00.999Z\"}]}",
+        "bad member departureStop",
+    ),
+    (
+        "{\"@id\":\"http://lc.example/memento/connections?version=1970-01-01T00:00:00.000Z&departureTime=2024-05-01T08:00:00.000Z\",\"@graph\":[{\"@id\":\"http://lc.example/connections/T/20240501/-/1\",\"arrivalStop\":\"http://lc.example/stops/B\",\"departureStop\":\"http://lc.example/stops/A\",\"departureTime\":\"2024-05-01T08:00:00.999Z\"}]}",
+        "no member arrivalTime",
+    ),
+    (
+        "{\"@id\":\"http://lc.example/memento/connections?version=1970-01-01T00:00:00.000Z&departureTime=2024-05-01T08:00:00.000Z\",\"@graph\":[{\"@id\":\"http://lc.example/connections/T/20240501/-/1\",\"arrivalStop\":\"http://lc.example/stops/B\",\"arrivalTime\":\"2024-05-01T08:10:00+00:00\",\"departureStop\":\"http://lc.example/stops/A\",\"departureTime\":\"2024-05-01T08:00:00.999Z\"}]}",
+        "bad member arrivalTime",
+    ),
+    (
+        "{\"@id\":\"http://lc.example/memento/connections?version=1970-01-01T00:00:00.000Z&departureTime=2024-05-01T08:00:00.000Z\",\"@graph\":[{\"@id\":\"http://lc.example/connections/T/20240501/-/1\",\"arrivalStop\":\"http://lc.example/stops/B\",\"arrivalTime\":\"2024-05-01T07:59:59Z\",\"departureStop\":\"http://lc.example/stops/A\",\"departureTime\":\"2024-05-01T08:00:00.999Z\"}]}",
+        "bad member arrivalTime",
+    ),
+    (
+        "{\"@id\":\"http://lc.example/memento/connections?version=1970-01-01T00:00:00.000Z&departureTime=2024-05-01T08:00:00.000Z\",\"@graph\":[{\"@id\":\"http://lc.example/connections/T/20240501/-/1\",\"arrivalStop\":\"http://lc.example/stops/B\",\"arrivalTime\":\"2024-05-01T08:10:00Z\",\"departureStop\":\"http://lc.example/stops/A\"}]}",
+        "no member departureTime",
+    ),
+    (
+        "{\"@id\":\"http://lc.example/memento/connections?version=1970-01-01T00:00:00.000Z&departureTime=2024-05-01T08:00:00.000Z\",\"@graph\":[{\"@id\":\"http://lc.example/connections/T/20240501/-/1\",\"arrivalStop\":\"http://lc.example/stops/B\",\"arrivalTime\":\"2024-05-01T08:10:00Z\",\"departureStop\":\"http://lc.example/stops/A\",\"departureTime\":\"2024-05-01T24:00:00Z\"}]}",
+        "bad member departureTime",
+    ),
+    (
+        "{\"@id\":\"http://lc.example/memento/connections?version=1970-01-01T00:00:00.000Z&departureTime=2024-05-01T08:00:00.000Z\",\"@graph\":[{\"@id\":\"http://lc.example/connections/T/20240501/-/1\",\"arrivalStop\":\"http://lc.example/stops/B\",\"arrivalTime\":\"2024-05-01T08:10:00Z\",\"departureStop\":\"http://lc.example/stops/A\",\"departureTime\":\"2024-05-01T08:00:00.999Z\",\"arrivalDelay\":60.0}]}",
+        "bad member arrivalDelay",
+    ),
+    (
+        "{\"@id\":\"http://lc.example/memento/connections?version=1970-01-01T00:00:00.000Z&departureTime=2024-05-01T08:00:00.000Z\",\"@graph\":[{\"@id\":\"http://lc.example/connections/T/20240501/-/1\",\"arrivalStop\":\"http://lc.example/stops/B\",\"arrivalTime\":\"2024-05-01T08:10:00Z\",\"departureStop\":\"http://lc.example/stops/A\",\"departureTime\":\"2024-05-01T08:00:00.999Z\",\"arrivalDelay\":6e1}]}",
+        "bad member arrivalDelay",
+    ),
+    (
+        "{\"@id\":\"http://lc.example/memento/connections?version=1970-01-01T00:00:00.000Z&departureTime=2024-05-01T08:00:00.000Z\",\"@graph\":[{\"@id\":\"http://lc.example/connections/T/20240501/-/1\",\"arrivalStop\":\"http://lc.example/stops/B\",\"arrivalTime\":\"2024-05-01T08:10:00Z\",\"departureStop\":\"http://lc.example/stops/A\",\"departureTime\":\"2024-05-01T08:00:00.999Z\",\"arrivalDelay\":-0}]}",
+        "bad member arrivalDelay",
+    ),
+    (
+        "{\"@id\":\"http://lc.example/memento/connections?version=1970-01-01T00:00:00.000Z&departureTime=2024-05-01T08:00:00.000Z\",\"@graph\":[{\"@id\":\"http://lc.example/connections/T/20240501/-/1\",\"arrivalStop\":\"http://lc.example/stops/B\",\"arrivalTime\":\"2024-05-01T08:10:00Z\",\"departureStop\":\"http://lc.example/stops/A\",\"departureTime\":\"2024-05-01T08:00:00.999Z\",\"arrivalDelay\":9223372036854775808}]}",
+        "bad member arrivalDelay",
+    ),
+    (
+        "{\"@id\":\"http://lc.example/memento/connections?version=1970-01-01T00:00:00.000Z&departureTime=2024-05-01T08:00:00.000Z\",\"@graph\":[{\"@id\":\"http://lc.example/connections/T/20240501/-/1\",\"arrivalStop\":\"http://lc.example/stops/B\",\"arrivalTime\":\"2024-05-01T08:10:00Z\",\"departureStop\":\"http://lc.example/stops/A\",\"departureTime\":\"2024-05-01T08:00:00.999Z\",\"arrivalDelay\":18446744073709551616}]}",
+        "bad member arrivalDelay",
+    ),
+    (
+        "{\"@id\":\"http://lc.example/memento/connections?version=1970-01-01T00:00:00.000Z&departureTime=2024-05-01T08:00:00.000Z\",\"@graph\":[{\"@id\":\"http://lc.example/connections/T/20240501/-/1\",\"arrivalStop\":\"http://lc.example/stops/B\",\"arrivalTime\":\"2024-05-01T08:10:00Z\",\"departureStop\":\"http://lc.example/stops/A\",\"departureTime\":\"2024-05-01T08:00:00.999Z\",\"departureDelay\":\"60\"}]}",
+        "bad member departureDelay",
+    ),
+    (
+        "{\"@id\":\"http://lc.example/memento/connections?version=1970-01-01T00:00:00.000Z&departureTime=2024-05-01T08:00:00.000Z\",\"@graph\":[{\"@id\":\"http://lc.example/connections/T/20240501/-/1\",\"arrivalStop\":\"http://lc.example/stops/B\",\"arrivalTime\":\"2024-05-01T08:10:00Z\",\"departureStop\":\"http://lc.example/stops/A\",\"departureTime\":\"2024-05-01T08:00:00.999Z\",\"departureDelay\":null}]}",
+        "bad member departureDelay",
+    ),
+    (
+        "{\"@id\":\"http://lc.example/memento/connections?version=1970-01-01T00:00:00.000Z&departureTime=2024-05-01T08:00:00.000Z\",\"@graph\":[],\"hydra:next\":5}",
+        "bad member hydra:next",
+    ),
+    (
+        "{\"@id\":\"http://lc.example/memento/connections?version=1970-01-01T00:00:00.000Z&departureTime=2024-05-01T08:00:00.000Z\",\"@graph\":[],\"hydra:next\":\"http://lc.example/memento/connections?version=2024-05-01T07:00:00.000Z&departureTime=2024-05-01T09:00:00.000Z\"}",
+        "bad member hydra:next",
+    ),
+    (
+        "{\"@id\":\"http://lc.example/memento/connections?version=1970-01-01T00:00:00.000Z&departureTime=2024-05-01T08:00:00.000Z\",\"@graph\":[],\"hydra:next\":null}",
+        "bad member hydra:next",
+    ),
+    (
+        "{\"@id\":\"http://lc.example/memento/connections?version=1970-01-01T00:00:00.000Z&departureTime=2024-05-01T08:00:00.000Z\",\"@graph\":[],\"hydra:previous\":\"http://lc.example/memento/connections?version=2024-05-01T07:00:00.000Z&departureTime=2024-05-01T09:00:00.000Z\"}",
+        "bad member hydra:previous",
+    ),
+    (
+        "{\"@id\":\"http://lc.example/memento/connections?version=1970-01-01T00:00:00.000Z&departureTime=2024-05-01T08:00:00.000Z\",\"@graph\":[],\"hydra:next\":\"http://lc.example/memento/connections?version=1970-01-01T00:00:00.000Z&departureTime=2024-05-01T09:00:00.000Z\",\"hydra:previous\":\"http://lc.example/memento/connections?version=1970-01-01T00:00:00.000Z&departureTime=2024-05-01T08:00:00.000Z\"}",
+        "0 connections",
+    ),
+    (
+        "{\"@id\":\"http://lc.example/memento/connections?version=1970-01-01T00:00:00.000Z&departureTime=2024-05-01T08:00:00.000Z\",\"@graph\":[{\"@id\":\"http://lc.example/connections/T/20240501/-/1\",\"arrivalStop\":\"http://lc.example/stops/B\",\"arrivalTime\":\"2024-05-01T08:10:00Z\",\"departureStop\":\"http://lc.example/stops/A\",\"departureTime\":\"2024-05-01T08:00:00.999Z\"},{\"@id\":\"http://lc.example/connections/T/20240501/-/1\",\"arrivalStop\":\"http://lc.example/stops/B\",\"arrivalTime\":\"2024-05-01T08:10:00Z\",\"departureStop\":\"http://lc.example/stops/A\",\"departureTime\":\"2024-05-01T08:00:00.999Z\"}]}",
+        "item 1 is not in order",
+    ),
+    (
+        "{\"@id\":\"http://lc.example/memento/connections?version=1970-01-01T00:00:00.000Z&departureTime=2024-05-01T08:00:00.000Z\",\"@graph\":[{\"@id\":\"http://lc.example/connections/T/20240501/-/1\",\"arrivalStop\":\"http://lc.example/stops/B\",\"arrivalTime\":\"2024-05-01T08:10:00Z\",\"departureStop\":\"http://lc.example/stops/A\",\"departureTime\":\"2024-05-01T08:00:00.999Z\"},{\"@id\":\"http://lc.example/connections/T/20240501/-/3\",\"arrivalStop\":\"http://lc.example/stops/B\",\"arrivalTime\":\"2024-05-01T08:10:00Z\",\"departureStop\":\"http://lc.example/stops/A\",\"departureTime\":\"2024-05-01T08:00:00.999Z\"},{\"@id\":\"http://lc.example/connections/T/20240501/-/2\",\"arrivalStop\":\"http://lc.example/stops/B\",\"arrivalTime\":\"2024-05-01T08:10:00Z\",\"departureStop\":\"http://lc.example/stops/A\",\"departureTime\":\"2024-05-01T08:00:00.999Z\"}]}",
+        "item 2 is not in order",
+    ),
+    (
+        "{\"@id\":\"http://lc.example/memento/connections?version=1970-01-01T00:00:00.000Z&departureTime=2024-05-01T08:00:00.000Z\",\"@graph\":[{\"@id\":\"http://lc.example/connections/T/20240501/-/2\",\"arrivalStop\":\"http://lc.example/stops/B\",\"arrivalTime\":\"2024-05-01T08:10:00Z\",\"departureStop\":\"http://lc.example/stops/A\",\"departureTime\":\"2024-05-01T08:00:00.999Z\"},{\"@id\":\"http://lc.example/connections/T/20240501/-/1\",\"arrivalStop\":\"http://lc.example/stops/B\",\"arrivalTime\":\"2024-05-01T08:10:00Z\",\"departureStop\":\"http://lc.example/stops/A\",\"departureTime\":\"2024-05-01T08:00:00.999Z\"},{\"@id\":\"http://lc.example/connections/T/20240501/-/0\",\"arrivalStop\":\"http://lc.example/stops/B\",\"arrivalTime\":\"2024-05-01T08:10:00Z\",\"departureStop\":\"http://lc.example/stops/A\",\"departureTime\":\"2024-05-01T08:00:00.999Z\"}]}",
+        "item 1 is not in order",
+    ),
+    (
+        "{\"@id\":\"http://lc.example/memento/connections?version=1970-01-01T00:00:00.000Z&departureTime=2024-05-01T08:00:00.000Z\",\"@graph\":[{\"@id\":\"http://lc.example/connections/T/20240501/-/1\",\"arrivalStop\":\"http://lc.example/stops/B\",\"arrivalTime\":\"2024-05-01T08:10:00Z\",\"departureStop\":\"http://lc.example/stops/A\",\"departureTime\":\"2024-05-01T08:00:00.999Z\"},{\"@id\":\"http://lc.example/connections/T/20240501/-/2\",\"arrivalStop\":\"http://lc.example/stops/B\",\"arrivalTime\":\"2024-05-01T08:10:00Z\",\"departureStop\":\"http://lc.example/stops/A\",\"departureTime\":\"2024-05-01T08:00:00.999Z\"},{\"@id\":\"http://lc.example/connections/T/20240501/-/10\",\"arrivalStop\":\"http://lc.example/stops/B\",\"arrivalTime\":\"2024-05-01T08:10:00Z\",\"departureStop\":\"http://lc.example/stops/A\",\"departureTime\":\"2024-05-01T08:00:00.999Z\"}]}",
+        "3 connections",
+    ),
+    (
+        "{\"@id\":\"http://lc.example/memento/connections?version=1970-01-01T00:00:00.000Z&departureTime=2024-05-01T08:00:00.000Z\",\"@graph\":[{\"arrivalStop\":\"http://lc.example/stops/B\",\"arrivalTime\":\"2024-05-01T08:10:00Z\",\"departureStop\":\"http://lc.example/stops/A\",\"departureTime\":\"2024-05-01T08:00:00.999Z\",\"arrivalDelay\":\"x\"}]}",
+        "no member @id",
+    ),
+    (
+        "{\"@id\":\"http://lc.example/memento/connections?version=1970-01-01T00:00:00.000Z&departureTime=2024-05-01T08:00:00.000Z\",\"@graph\":[{\"@id\":\"http://lc.example/connections/T/20240501/-/1\",\"arrivalTime\":\"2024-05-01T08:10:00Z\",\"departureStop\":\"http://lc.example/stops/A\",\"departureTime\":\"2024-05-01T08:00:00.999Z\",\"arrivalDelay\":\"x\"}]}",
+        "bad member arrivalDelay",
+    ),
+    (
+        "{\"@id\":\"http://lc.example/memento/connections?version=1970-01-01T00:00:00.000Z&departureTime=2024-05-01T08:00:00.000Z\",\"@graph\":[{\"@id\":\"http://lc.example/connections/T/20240501/-/1\",\"departureStop\":\"http://lc.example/stops/A\",\"departureTime\":\"2024-05-01T08:00:00.999Z\"}]}",
+        "no member arrivalStop",
+    ),
+    (
+        "{\"@id\":\"http://lc.example/memento/connections?version=1970-01-01T00:00:00.000Z&departureTime=2024-05-01T08:00:00.000Z\",\"@graph\":[{\"@id\":\"http://lc.example/connections/T/20240501/-/1\",\"arrivalStop\":\"http://lc.example/stops/B\",\"arrivalTime\":1,\"departureStop\":\"http://lc.example/stops/A\",\"departureTime\":\"2024-05-01T08:00:00.999Z\",\"departureDelay\":\"x\"}]}",
+        "bad member arrivalTime",
+    ),
+    (
+        "{\"@id\":\"http://lc.example/memento/connections?version=1970-01-01T00:00:00.000Z&departureTime=2024-05-01T08:00:00.000Z\",\"@graph\":[{\"@id\":\"http://lc.example/connections/T/20240501/-/1\",\"arrivalStop\":\"http://lc.example/stops/B\",\"arrivalTime\":\"2024-05-01T08:10:00Z\",\"departureTime\":\"2024-05-01T08:00:00.999Z\",\"departureDelay\":\"x\"}]}",
+        "bad member departureDelay",
+    ),
+    (
+        "{\"@id\":\"http://lc.example/memento/connections?version=1970-01-01T00:00:00.000Z&departureTime=2024-05-01T08:00:00.000Z\",\"@graph\":[{\"@id\":\"http://lc.example/connections/T/20240501/-/1\",\"arrivalStop\":\"http://lc.example/stops/B\",\"arrivalTime\":\"2024-05-01T08:10:00Z\"}]}",
+        "no member departureStop",
+    ),
+    (
+        "{\"@id\":\"http://lc.example/memento/connections?version=1970-01-01T00:00:00.000Z&departureTime=2024-05-01T08:00:00.000Z\",\"@graph\":[{\"@id\":\"http://lc.example/connections/T/20240501/-/1\",\"arrivalStop\":\"http://lc.example/stops/B\",\"arrivalTime\":\"2024-05-01T07:59:59Z\",\"departureStop\":\"http://lc.example/stops/A\",\"departureTime\":1}]}",
+        "bad member departureTime",
+    ),
+    (
+        "{\"@id\":\"http://lc.example/memento/connections?version=1970-01-01T00:00:00.000Z&departureTime=2024-05-01T08:00:00.000Z\",\"@graph\":[{\"@id\":\"http://lc.example/connections/T/20240501/-/1\",\"arrivalStop\":\"http://lc.example/stops/B\",\"arrivalTime\":\"2024-05-01T07:59:59Z\",\"departureStop\":1,\"departureTime\":\"2024-05-01T08:00:00.999Z\"}]}",
+        "bad member departureStop",
+    ),
+    (
+        "{\"@id\":\"http://lc.example/memento/connections?version=1970-01-01T00:00:00.000Z&departureTime=2024-05-01T08:00:00.000Z\",\"@graph\":[{\"@id\":\"http://lc.example/connections/T/20240501/-/1\",\"arrivalStop\":\"http://lc.example/stops/B\",\"arrivalTime\":\"2024-05-01T08:10:00Z\",\"departureStop\":\"http://lc.example/stops/A\",\"departureTime\":1},{\"@id\":1,\"arrivalStop\":\"http://lc.example/stops/B\",\"arrivalTime\":\"2024-05-01T08:10:00Z\",\"departureStop\":\"http://lc.example/stops/A\",\"departureTime\":\"2024-05-01T08:00:00.999Z\"}]}",
+        "bad member departureTime",
+    ),
+    (
+        "{\"@id\":\"http://lc.example/memento/connections?version=1970-01-01T00:00:00.000Z&departureTime=2024-05-01T08:00:00.000Z\",\"@graph\":[{\"@id\":1,\"arrivalStop\":\"http://lc.example/stops/B\",\"arrivalTime\":\"2024-05-01T08:10:00Z\",\"departureStop\":\"http://lc.example/stops/A\",\"departureTime\":\"2024-05-01T08:00:00.999Z\"},{\"@id\":\"http://lc.example/connections/T/20240501/-/1\",\"arrivalStop\":\"http://lc.example/stops/B\",\"arrivalTime\":\"2024-05-01T08:10:00Z\",\"departureStop\":\"http://lc.example/stops/A\",\"departureTime\":1}]}",
+        "bad member @id",
+    ),
+    (
+        "{\"@id\":\"http://lc.example/memento/connections?version=1970-01-01T00:00:00.000Z&departureTime=2024-05-01T08:00:00.000Z\",\"@graph\":[7],\"hydra:next\":7}",
+        "bad member @graph",
+    ),
+    (
+        "{\"@id\":\"http://lc.example/memento/connections?version=1970-01-01T00:00:00.000Z&departureTime=2024-05-01T08:00:00.000Z\",\"@graph\":[],\"hydra:next\":7,\"hydra:previous\":7}",
+        "bad member hydra:next",
+    ),
+    (
+        "{\"@id\":\"http://lc.example/memento/connections?version=1970-01-01T00:00:00.000Z&departureTime=2024-05-01T08:00:00.000Z\",\"@graph\":[{\"@id\":\"http://lc.example/connections/T/20240501/-/1\",\"arrivalStop\":\"http://lc.example/stops/B\",\"arrivalTime\":\"2024-05-01T08:10:00Z\",\"departureStop\":\"http://lc.example/stops/A\",\"departureTime\":\"2024-05-01T08:00:00.999Z\"},{\"@id\":\"http://lc.example/connections/T/20240501/-/1\",\"arrivalStop\":\"http://lc.example/stops/B\",\"arrivalTime\":\"2024-05-01T08:10:00Z\",\"departureStop\":\"http://lc.example/stops/A\",\"departureTime\":\"2024-05-01T08:00:00.999Z\"}],\"hydra:previous\":7}",
+        "bad member hydra:previous",
+    ),
+    (
+        "{\"@id\":\"http://lc.example/memento/connections?version=1970-01-01T00:00:00.000Z&departureTime=2024-05-01T08:00:00.000Z\",\"@graph\":[{\"@id\":\"http://lc.example/connections/T/20240501/-/1\",\"arrivalStop\":\"http://lc.example/stops/B\",\"arrivalTime\":\"2024-05-01T08:10:00Z\",\"departureStop\":\"http://lc.example/stops/A\",\"departureTime\":\"2024-05-01T08:00:00.999Z\"},{\"@id\":\"http://lc.example/connections/T/20240501/-/1\",\"arrivalStop\":\"http://lc.example/stops/B\",\"arrivalTime\":\"2024-05-01T08:10:00Z\",\"departureStop\":\"http://lc.example/stops/A\",\"departureTime\":\"2024-05-01T08:00:00.999Z\"},{\"@id\":1,\"arrivalStop\":\"http://lc.example/stops/B\",\"arrivalTime\":\"2024-05-01T08:10:00Z\",\"departureStop\":\"http://lc.example/stops/A\",\"departureTime\":\"2024-05-01T08:00:00.999Z\"}]}",
+        "bad member @id",
+    ),
+];
