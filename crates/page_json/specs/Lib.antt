@@ -5,6 +5,7 @@ pub mod Reading
 pub mod Says
 pub mod Sound
 pub mod StopsReading
+pub mod Texts
 pub mod Tree
 pub mod Urls
 pub mod Valid

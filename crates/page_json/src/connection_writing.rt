@@ -38,46 +38,25 @@ fn connection_value(alloc: Global, base: &Base, connection: &Connection) -> Resu
     sound_connection(connection);
     let name = name(alloc, base, &connection.key, connection.seq)?;
     let trip = trip_url(alloc, base, &connection.key)?;
-    let arrival_stop = stop_url(alloc, base, &connection.arr_stop)?;
-    let departure_stop = stop_url(alloc, base, &connection.dep_stop)?;
-    let arrival = iso_text(connection.arr);
+    let from = stop_url(alloc, base, &connection.dep_stop)?;
+    let to = stop_url(alloc, base, &connection.arr_stop)?;
     let departure = iso_text(connection.dep);
+    let arrival = iso_text(connection.arr);
+    let departure_delay = Value::from(connection.dep_delay);
+    let arrival_delay = Value::from(connection.arr_delay);
+    let board = allowed_text(connection.board);
+    let alight = allowed_text(connection.alight);
     let mut members = Map::new(alloc);
     put_text(&mut members, alloc, "@id", name.as_str())?;
     put_text(&mut members, alloc, "@type", "Connection")?;
-    put(
-        &mut members,
-        alloc,
-        "arrivalDelay",
-        Value::from(connection.arr_delay),
-    )?;
-    put_text(&mut members, alloc, "arrivalStop", arrival_stop.as_str())?;
+    put(&mut members, alloc, "arrivalDelay", arrival_delay)?;
+    put_text(&mut members, alloc, "arrivalStop", to.as_str())?;
     put_text(&mut members, alloc, "arrivalTime", ascii_str(&arrival))?;
-    put(
-        &mut members,
-        alloc,
-        "departureDelay",
-        Value::from(connection.dep_delay),
-    )?;
-    put_text(
-        &mut members,
-        alloc,
-        "departureStop",
-        departure_stop.as_str(),
-    )?;
+    put(&mut members, alloc, "departureDelay", departure_delay)?;
+    put_text(&mut members, alloc, "departureStop", from.as_str())?;
     put_text(&mut members, alloc, "departureTime", ascii_str(&departure))?;
-    put_text(
-        &mut members,
-        alloc,
-        "gtfs:dropOffType",
-        allowed_text(connection.alight),
-    )?;
-    put_text(
-        &mut members,
-        alloc,
-        "gtfs:pickupType",
-        allowed_text(connection.board),
-    )?;
+    put_text(&mut members, alloc, "gtfs:dropOffType", alight)?;
+    put_text(&mut members, alloc, "gtfs:pickupType", board)?;
     put_text(&mut members, alloc, "gtfs:trip", trip.as_str())?;
     Ok(Value::Object(members))
 }

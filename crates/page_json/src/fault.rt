@@ -1,5 +1,6 @@
-ghost use Rattle.std.specs.Prelude.{◌≡◌};
+ghost use Rattle.std.specs.Prelude.{◌≡◌, Some};
 ghost use Rattle.page_json.specs.declared.fault.PageFault.TheVariants.{NoMemory as want_of_memory};
+ghost use Rattle.page_json.specs.Texts.{fault_text};
 
 use lc_model::{NoMemory, Text};
 use std::alloc::{AllocError, AllocFailed};
@@ -22,6 +23,8 @@ pub enum PageFault {
 }
 
 impl fmt::Display for PageFault {
+    ghost output = { λ fault. Some (fault_text fault) };
+
     fn fmt<W: fmt::Write>(&self, f: &mut fmt::Formatter<W>) -> fmt::Result {
         match self {
             PageFault::NotJson => write!(f, "not JSON"),

@@ -5,13 +5,22 @@ use super::*;
 use connection_uri::Base;
 use document_texts::{DOCUMENTS, STOPS};
 use lc_model::PlainData;
-use page_texts::{EMPTY, PAGES, THREE, TINY};
+use page_texts::{EMPTY, PAGES, THREE, TINY, WORDS};
 use std::alloc::Global;
 use std::test::Fail;
 
 fn base_of(alloc: Global) -> Result<Base, Fail> {
     let base = Base::read(alloc, b"http://lc.example/")?.ok_or("a base")?;
     Ok(base)
+}
+
+// The text with what its words stand for.
+fn written_out(alloc: Global, text: &str) -> Result<String, Fail> {
+    let mut whole = String::from_str(alloc, text)?;
+    for &(word, meaning) in &WORDS {
+        whole = whole.as_str().replace(alloc, word, meaning)?;
+    }
+    Ok(whole)
 }
 
 // What is said of the page that the bytes are.
@@ -39,12 +48,12 @@ fn document_said(alloc: Global, bytes: &[u8]) -> Result<String, Fail> {
 fn texts_are_read_and_written_again(rt: HostRuntime) -> Result<(), Fail> {
     let alloc = rt.alloc();
     let base = base_of(alloc)?;
-    for text in [TINY, THREE, EMPTY] {
+    for &text in &[TINY, THREE, EMPTY] {
         let page = read_page(alloc, &base, text.as_bytes())?;
         let again = page_text(alloc, &base, &page.copy(alloc)?)?;
         assert!(rt; again.as_slice() == text.as_bytes());
     }
-    for text in [
+    for &text in &[
         STOPS,
         "{\"@id\":\"http://lc.example/stops\",\"changes\":[],\"stops\":[]}",
     ] {
@@ -59,9 +68,10 @@ fn texts_are_read_and_written_again(rt: HostRuntime) -> Result<(), Fail> {
 fn pages_and_their_first_faults(rt: HostRuntime) -> Result<(), Fail> {
     let alloc = rt.alloc();
     let base = base_of(alloc)?;
-    for (text, said) in PAGES {
+    for &(text, said) in &PAGES {
+        let whole = written_out(alloc, text)?;
         assert!(rt;
-            page_said(alloc, &base, text.as_bytes())?.as_str() == said,
+            page_said(alloc, &base, whole.as_str().as_bytes())?.as_str() == said,
             "{text}"
         );
     }
@@ -72,7 +82,7 @@ fn pages_and_their_first_faults(rt: HostRuntime) -> Result<(), Fail> {
 #[test]
 fn documents_and_their_first_faults(rt: HostRuntime) -> Result<(), Fail> {
     let alloc = rt.alloc();
-    for (text, said) in DOCUMENTS {
+    for &(text, said) in &DOCUMENTS {
         assert!(rt;
             document_said(alloc, text.as_bytes())?.as_str() == said,
             "{text}"
@@ -85,7 +95,7 @@ fn documents_and_their_first_faults(rt: HostRuntime) -> Result<(), Fail> {
 #[test]
 fn levels_of_nesting(rt: HostRuntime) -> Result<(), Fail> {
     let alloc = rt.alloc();
-    for (levels, said) in [(126, "0 stops 0 changes"), (127, "not JSON")] {
+    for &(levels, said) in &[(126, "0 stops 0 changes"), (127, "not JSON")] {
         let mut text = String::from_str(alloc, "{\"changes\":[],\"stops\":[],\"x\":")?;
         for _ in 0..levels {
             text.push_str("[")?;

@@ -12,7 +12,25 @@ pub const THREE: &str =
 pub const EMPTY: &str =
     "{\"@context\":{\"Connection\":\"lc:Connection\",\"arrivalDelay\":\"lc:arrivalDelay\",\"arrivalStop\":{\"@id\":\"lc:arrivalStop\",\"@type\":\"@id\"},\"arrivalTime\":{\"@id\":\"lc:arrivalTime\",\"@type\":\"xsd:dateTime\"},\"departureDelay\":\"lc:departureDelay\",\"departureStop\":{\"@id\":\"lc:departureStop\",\"@type\":\"@id\"},\"departureTime\":{\"@id\":\"lc:departureTime\",\"@type\":\"xsd:dateTime\"},\"gtfs\":\"http://vocab.gtfs.org/terms#\",\"gtfs:dropOffType\":{\"@type\":\"@id\"},\"gtfs:pickupType\":{\"@type\":\"@id\"},\"gtfs:trip\":{\"@type\":\"@id\"},\"hydra\":\"http://www.w3.org/ns/hydra/core#\",\"hydra:next\":{\"@type\":\"@id\"},\"hydra:previous\":{\"@type\":\"@id\"},\"lc\":\"http://semweb.mmlab.be/ns/linkedconnections#\",\"xsd\":\"http://www.w3.org/2001/XMLSchema#\"},\"@graph\":[],\"@id\":\"http://lc.example/memento/connections?version=1970-01-01T00:00:00.000Z&departureTime=1970-01-01T00:00:00.000Z\",\"@type\":\"hydra:PartialCollectionView\",\"hydra:search\":{\"@type\":\"hydra:IriTemplate\",\"hydra:mapping\":{\"@type\":\"hydra:IriTemplateMapping\",\"hydra:property\":\"lc:departureTimeQuery\",\"hydra:required\":true,\"hydra:variable\":\"departureTime\"},\"hydra:template\":\"http://lc.example/connections{?departureTime}\"}}";
 
-// Texts and what is read of them: the count of connections, or the first fault.
+// What is written for long parts of the texts below.
+pub const WORDS: [(&str, &str); 5] = [
+    (
+        "ARRIVAL",
+        "\"arrivalStop\":\"STOPB\",\"arrivalTime\":\"2024-05-01T08:10:00Z\"",
+    ),
+    (
+        "DEPARTURE",
+        "\"departureStop\":\"STOPA\",\"departureTime\":\"2024-05-01T08:00:00.999Z\"",
+    ),
+    ("STOP", "http://lc.example/stops/"),
+    ("RUN", "http://lc.example/connections/T/20240501/-/"),
+    (
+        "PAGE",
+        "http://lc.example/memento/connections?version=1970-01-01T00:00:00.000Z&departureTime=2024-05-01T08:00:00.000Z",
+    ),
+];
+
+// Texts, with these words in them, and what is read of each: the count of connections, or the first fault.
 pub const PAGES: [(&str, &str); 61] = [
     ("", "not JSON"),
     ("{", "not JSON"),
@@ -29,206 +47,197 @@ pub const PAGES: [(&str, &str); 61] = [
         "{\"@id\":\"http://lc.example/memento/connections?version=1970-01-01T00:00:00Z&departureTime=2024-05-01T08:00:00Z\",\"@graph\":[]}",
         "bad member @id",
     ),
-    (
-        "{\"@id\":\"http://lc.example/memento/connections?version=1970-01-01T00:00:00.000Z&departureTime=2024-05-01T08:00:00.000Z\"}",
-        "no member @graph",
-    ),
-    (
-        "{\"@id\":\"http://lc.example/memento/connections?version=1970-01-01T00:00:00.000Z&departureTime=2024-05-01T08:00:00.000Z\",\"@graph\":{}}",
-        "bad member @graph",
-    ),
+    ("{\"@id\":\"PAGE\"}", "no member @graph"),
+    ("{\"@id\":\"PAGE\",\"@graph\":{}}", "bad member @graph"),
     ("{\"@id\":0}", "bad member @id"),
     ("{\"@graph\":0}", "no member @id"),
     (
-        "{\"@id\":0,\"@id\":\"http://lc.example/memento/connections?version=1970-01-01T00:00:00.000Z&departureTime=2024-05-01T08:00:00.000Z\",\"@graph\":[]}",
+        "{\"@id\":0,\"@id\":\"PAGE\",\"@graph\":[]}",
         "0 connections",
     ),
     (
-        "{\"@id\":\"http://lc.example/memento/connections?version=1970-01-01T00:00:00.000Z&departureTime=2024-05-01T08:00:00.000Z\",\"@id\":0,\"@graph\":[]}",
+        "{\"@id\":\"PAGE\",\"@id\":0,\"@graph\":[]}",
         "bad member @id",
     ),
+    ("{\"@id\":\"PAGE\",\"@graph\":[7]}", "bad member @graph"),
     (
-        "{\"@id\":\"http://lc.example/memento/connections?version=1970-01-01T00:00:00.000Z&departureTime=2024-05-01T08:00:00.000Z\",\"@graph\":[7]}",
+        "{\"@id\":\"PAGE\",\"@graph\":[{\"@id\":\"RUN1\",ARRIVAL,DEPARTURE},[]]}",
         "bad member @graph",
     ),
     (
-        "{\"@id\":\"http://lc.example/memento/connections?version=1970-01-01T00:00:00.000Z&departureTime=2024-05-01T08:00:00.000Z\",\"@graph\":[{\"@id\":\"http://lc.example/connections/T/20240501/-/1\",\"arrivalStop\":\"http://lc.example/stops/B\",\"arrivalTime\":\"2024-05-01T08:10:00Z\",\"departureStop\":\"http://lc.example/stops/A\",\"departureTime\":\"2024-05-01T08:00:00.999Z\"},[]]}",
-        "bad member @graph",
-    ),
-    (
-        "{\"@id\":\"http://lc.example/memento/connections?version=1970-01-01T00:00:00.000Z&departureTime=2024-05-01T08:00:00.000Z\",\"@graph\":[{\"arrivalStop\":\"http://lc.example/stops/B\",\"arrivalTime\":\"2024-05-01T08:10:00Z\",\"departureStop\":\"http://lc.example/stops/A\",\"departureTime\":\"2024-05-01T08:00:00.999Z\"}]}",
+        "{\"@id\":\"PAGE\",\"@graph\":[{ARRIVAL,DEPARTURE}]}",
         "no member @id",
     ),
     (
-        "{\"@id\":\"http://lc.example/memento/connections?version=1970-01-01T00:00:00.000Z&departureTime=2024-05-01T08:00:00.000Z\",\"@graph\":[{\"@id\":\"http://lc.example/connections/a%2fb/20240501/-/1\",\"arrivalStop\":\"http://lc.example/stops/B\",\"arrivalTime\":\"2024-05-01T08:10:00Z\",\"departureStop\":\"http://lc.example/stops/A\",\"departureTime\":\"2024-05-01T08:00:00.999Z\"}]}",
+        "{\"@id\":\"PAGE\",\"@graph\":[{\"@id\":\"http://lc.example/connections/a%2fb/20240501/-/1\",ARRIVAL,DEPARTURE}]}",
         "bad member @id",
     ),
     (
-        "{\"@id\":\"http://lc.example/memento/connections?version=1970-01-01T00:00:00.000Z&departureTime=2024-05-01T08:00:00.000Z\",\"@graph\":[{\"@id\":\"http://lc.example/connections/T/20240230/-/1\",\"arrivalStop\":\"http://lc.example/stops/B\",\"arrivalTime\":\"2024-05-01T08:10:00Z\",\"departureStop\":\"http://lc.example/stops/A\",\"departureTime\":\"2024-05-01T08:00:00.999Z\"}]}",
+        "{\"@id\":\"PAGE\",\"@graph\":[{\"@id\":\"http://lc.example/connections/T/20240230/-/1\",ARRIVAL,DEPARTURE}]}",
         "bad member @id",
     ),
     (
-        "{\"@id\":\"http://lc.example/memento/connections?version=1970-01-01T00:00:00.000Z&departureTime=2024-05-01T08:00:00.000Z\",\"@graph\":[{\"@id\":5,\"arrivalStop\":\"http://lc.example/stops/B\",\"arrivalTime\":\"2024-05-01T08:10:00Z\",\"departureStop\":\"http://lc.example/stops/A\",\"departureTime\":\"2024-05-01T08:00:00.999Z\"}]}",
+        "{\"@id\":\"PAGE\",\"@graph\":[{\"@id\":5,ARRIVAL,DEPARTURE}]}",
         "bad member @id",
     ),
     (
-        "{\"@id\":\"http://lc.example/memento/connections?version=1970-01-01T00:00:00.000Z&departureTime=2024-05-01T08:00:00.000Z\",\"@graph\":[{\"@id\":\"http://lc.example/connections/T/20240501/-/1\",\"arrivalTime\":\"2024-05-01T08:10:00Z\",\"departureStop\":\"http://lc.example/stops/A\",\"departureTime\":\"2024-05-01T08:00:00.999Z\"}]}",
+        "{\"@id\":\"PAGE\",\"@graph\":[{\"@id\":\"RUN1\",\"arrivalTime\":\"2024-05-01T08:10:00Z\",DEPARTURE}]}",
         "no member arrivalStop",
     ),
     (
-        "{\"@id\":\"http://lc.example/memento/connections?version=1970-01-01T00:00:00.000Z&departureTime=2024-05-01T08:00:00.000Z\",\"@graph\":[{\"@id\":\"http://lc.example/connections/T/20240501/-/1\",\"arrivalStop\":\"http://lc.example/stops/%41\",\"arrivalTime\":\"2024-05-01T08:10:00Z\",\"departureStop\":\"http://lc.example/stops/A\",\"departureTime\":\"2024-05-01T08:00:00.999Z\"}]}",
+        "{\"@id\":\"PAGE\",\"@graph\":[{\"@id\":\"RUN1\",\"arrivalStop\":\"STOP%41\",\"arrivalTime\":\"2024-05-01T08:10:00Z\",DEPARTURE}]}",
         "bad member arrivalStop",
     ),
     (
-        "{\"@id\":\"http://lc.example/memento/connections?version=1970-01-01T00:00:00.000Z&departureTime=2024-05-01T08:00:00.000Z\",\"@graph\":[{\"@id\":\"http://lc.example/connections/T/20240501/-/1\",\"arrivalStop\":\"http://lc.example/stops/\",\"arrivalTime\":\"2024-05-01T08:10:00Z\",\"departureStop\":\"http://lc.example/stops/A\",\"departureTime\":\"2024-05-01T08:00:00.999Z\"}]}",
+        "{\"@id\":\"PAGE\",\"@graph\":[{\"@id\":\"RUN1\",\"arrivalStop\":\"STOP\",\"arrivalTime\":\"2024-05-01T08:10:00Z\",DEPARTURE}]}",
         "bad member arrivalStop",
     ),
     (
-        "{\"@id\":\"http://lc.example/memento/connections?version=1970-01-01T00:00:00.000Z&departureTime=2024-05-01T08:00:00.000Z\",\"@graph\":[{\"@id\":\"http://lc.example/connections/T/20240501/-/1\",\"arrivalStop\":\"http://lc.example/stops/B\",\"arrivalTime\":\"2024-05-01T08:10:00Z\",\"departureTime\":\"2024-05-01T08:00:00.999Z\"}]}",
+        "{\"@id\":\"PAGE\",\"@graph\":[{\"@id\":\"RUN1\",ARRIVAL,\"departureTime\":\"2024-05-01T08:00:00.999Z\"}]}",
         "no member departureStop",
     ),
     (
-        "{\"@id\":\"http://lc.example/memento/connections?version=1970-01-01T00:00:00.000Z&departureTime=2024-05-01T08:00:00.000Z\",\"@graph\":[{\"@id\":\"http://lc.example/connections/T/20240501/-/1\",\"arrivalStop\":\"http://lc.example/stops/B\",\"arrivalTime\":\"2024-05-01T08:10:00Z\",\"departureStop\":\"A\",\"departureTime\":\"2024-05-01T08:00:00.999Z\"}]}",
+        "{\"@id\":\"PAGE\",\"@graph\":[{\"@id\":\"RUN1\",ARRIVAL,\"departureStop\":\"A\",\"departureTime\":\"2024-05-01T08:00:00.999Z\"}]}",
         "bad member departureStop",
     ),
     (
-        "{\"@id\":\"http://lc.example/memento/connections?version=1970-01-01T00:00:00.000Z&departureTime=2024-05-01T08:00:00.000Z\",\"@graph\":[{\"@id\":\"http://lc.example/connections/T/20240501/-/1\",\"arrivalStop\":\"http://lc.example/stops/B\",\"departureStop\":\"http://lc.example/stops/A\",\"departureTime\":\"2024-05-01T08:00:00.999Z\"}]}",
+        "{\"@id\":\"PAGE\",\"@graph\":[{\"@id\":\"RUN1\",\"arrivalStop\":\"STOPB\",DEPARTURE}]}",
         "no member arrivalTime",
     ),
     (
-        "{\"@id\":\"http://lc.example/memento/connections?version=1970-01-01T00:00:00.000Z&departureTime=2024-05-01T08:00:00.000Z\",\"@graph\":[{\"@id\":\"http://lc.example/connections/T/20240501/-/1\",\"arrivalStop\":\"http://lc.example/stops/B\",\"arrivalTime\":\"2024-05-01T08:10:00+00:00\",\"departureStop\":\"http://lc.example/stops/A\",\"departureTime\":\"2024-05-01T08:00:00.999Z\"}]}",
+        "{\"@id\":\"PAGE\",\"@graph\":[{\"@id\":\"RUN1\",\"arrivalStop\":\"STOPB\",\"arrivalTime\":\"2024-05-01T08:10:00+00:00\",DEPARTURE}]}",
         "bad member arrivalTime",
     ),
     (
-        "{\"@id\":\"http://lc.example/memento/connections?version=1970-01-01T00:00:00.000Z&departureTime=2024-05-01T08:00:00.000Z\",\"@graph\":[{\"@id\":\"http://lc.example/connections/T/20240501/-/1\",\"arrivalStop\":\"http://lc.example/stops/B\",\"arrivalTime\":\"2024-05-01T07:59:59Z\",\"departureStop\":\"http://lc.example/stops/A\",\"departureTime\":\"2024-05-01T08:00:00.999Z\"}]}",
+        "{\"@id\":\"PAGE\",\"@graph\":[{\"@id\":\"RUN1\",\"arrivalStop\":\"STOPB\",\"arrivalTime\":\"2024-05-01T07:59:59Z\",DEPARTURE}]}",
         "bad member arrivalTime",
     ),
     (
-        "{\"@id\":\"http://lc.example/memento/connections?version=1970-01-01T00:00:00.000Z&departureTime=2024-05-01T08:00:00.000Z\",\"@graph\":[{\"@id\":\"http://lc.example/connections/T/20240501/-/1\",\"arrivalStop\":\"http://lc.example/stops/B\",\"arrivalTime\":\"2024-05-01T08:10:00Z\",\"departureStop\":\"http://lc.example/stops/A\"}]}",
+        "{\"@id\":\"PAGE\",\"@graph\":[{\"@id\":\"RUN1\",ARRIVAL,\"departureStop\":\"STOPA\"}]}",
         "no member departureTime",
     ),
     (
-        "{\"@id\":\"http://lc.example/memento/connections?version=1970-01-01T00:00:00.000Z&departureTime=2024-05-01T08:00:00.000Z\",\"@graph\":[{\"@id\":\"http://lc.example/connections/T/20240501/-/1\",\"arrivalStop\":\"http://lc.example/stops/B\",\"arrivalTime\":\"2024-05-01T08:10:00Z\",\"departureStop\":\"http://lc.example/stops/A\",\"departureTime\":\"2024-05-01T24:00:00Z\"}]}",
+        "{\"@id\":\"PAGE\",\"@graph\":[{\"@id\":\"RUN1\",ARRIVAL,\"departureStop\":\"STOPA\",\"departureTime\":\"2024-05-01T24:00:00Z\"}]}",
         "bad member departureTime",
     ),
     (
-        "{\"@id\":\"http://lc.example/memento/connections?version=1970-01-01T00:00:00.000Z&departureTime=2024-05-01T08:00:00.000Z\",\"@graph\":[{\"@id\":\"http://lc.example/connections/T/20240501/-/1\",\"arrivalStop\":\"http://lc.example/stops/B\",\"arrivalTime\":\"2024-05-01T08:10:00Z\",\"departureStop\":\"http://lc.example/stops/A\",\"departureTime\":\"2024-05-01T08:00:00.999Z\",\"arrivalDelay\":60.0}]}",
+        "{\"@id\":\"PAGE\",\"@graph\":[{\"@id\":\"RUN1\",ARRIVAL,DEPARTURE,\"arrivalDelay\":60.0}]}",
         "bad member arrivalDelay",
     ),
     (
-        "{\"@id\":\"http://lc.example/memento/connections?version=1970-01-01T00:00:00.000Z&departureTime=2024-05-01T08:00:00.000Z\",\"@graph\":[{\"@id\":\"http://lc.example/connections/T/20240501/-/1\",\"arrivalStop\":\"http://lc.example/stops/B\",\"arrivalTime\":\"2024-05-01T08:10:00Z\",\"departureStop\":\"http://lc.example/stops/A\",\"departureTime\":\"2024-05-01T08:00:00.999Z\",\"arrivalDelay\":6e1}]}",
+        "{\"@id\":\"PAGE\",\"@graph\":[{\"@id\":\"RUN1\",ARRIVAL,DEPARTURE,\"arrivalDelay\":6e1}]}",
         "bad member arrivalDelay",
     ),
     (
-        "{\"@id\":\"http://lc.example/memento/connections?version=1970-01-01T00:00:00.000Z&departureTime=2024-05-01T08:00:00.000Z\",\"@graph\":[{\"@id\":\"http://lc.example/connections/T/20240501/-/1\",\"arrivalStop\":\"http://lc.example/stops/B\",\"arrivalTime\":\"2024-05-01T08:10:00Z\",\"departureStop\":\"http://lc.example/stops/A\",\"departureTime\":\"2024-05-01T08:00:00.999Z\",\"arrivalDelay\":-0}]}",
+        "{\"@id\":\"PAGE\",\"@graph\":[{\"@id\":\"RUN1\",ARRIVAL,DEPARTURE,\"arrivalDelay\":-0}]}",
         "bad member arrivalDelay",
     ),
     (
-        "{\"@id\":\"http://lc.example/memento/connections?version=1970-01-01T00:00:00.000Z&departureTime=2024-05-01T08:00:00.000Z\",\"@graph\":[{\"@id\":\"http://lc.example/connections/T/20240501/-/1\",\"arrivalStop\":\"http://lc.example/stops/B\",\"arrivalTime\":\"2024-05-01T08:10:00Z\",\"departureStop\":\"http://lc.example/stops/A\",\"departureTime\":\"2024-05-01T08:00:00.999Z\",\"arrivalDelay\":9223372036854775808}]}",
+        "{\"@id\":\"PAGE\",\"@graph\":[{\"@id\":\"RUN1\",ARRIVAL,DEPARTURE,\"arrivalDelay\":9223372036854775808}]}",
         "bad member arrivalDelay",
     ),
     (
-        "{\"@id\":\"http://lc.example/memento/connections?version=1970-01-01T00:00:00.000Z&departureTime=2024-05-01T08:00:00.000Z\",\"@graph\":[{\"@id\":\"http://lc.example/connections/T/20240501/-/1\",\"arrivalStop\":\"http://lc.example/stops/B\",\"arrivalTime\":\"2024-05-01T08:10:00Z\",\"departureStop\":\"http://lc.example/stops/A\",\"departureTime\":\"2024-05-01T08:00:00.999Z\",\"arrivalDelay\":18446744073709551616}]}",
+        "{\"@id\":\"PAGE\",\"@graph\":[{\"@id\":\"RUN1\",ARRIVAL,DEPARTURE,\"arrivalDelay\":18446744073709551616}]}",
         "bad member arrivalDelay",
     ),
     (
-        "{\"@id\":\"http://lc.example/memento/connections?version=1970-01-01T00:00:00.000Z&departureTime=2024-05-01T08:00:00.000Z\",\"@graph\":[{\"@id\":\"http://lc.example/connections/T/20240501/-/1\",\"arrivalStop\":\"http://lc.example/stops/B\",\"arrivalTime\":\"2024-05-01T08:10:00Z\",\"departureStop\":\"http://lc.example/stops/A\",\"departureTime\":\"2024-05-01T08:00:00.999Z\",\"departureDelay\":\"60\"}]}",
+        "{\"@id\":\"PAGE\",\"@graph\":[{\"@id\":\"RUN1\",ARRIVAL,DEPARTURE,\"departureDelay\":\"60\"}]}",
         "bad member departureDelay",
     ),
     (
-        "{\"@id\":\"http://lc.example/memento/connections?version=1970-01-01T00:00:00.000Z&departureTime=2024-05-01T08:00:00.000Z\",\"@graph\":[{\"@id\":\"http://lc.example/connections/T/20240501/-/1\",\"arrivalStop\":\"http://lc.example/stops/B\",\"arrivalTime\":\"2024-05-01T08:10:00Z\",\"departureStop\":\"http://lc.example/stops/A\",\"departureTime\":\"2024-05-01T08:00:00.999Z\",\"departureDelay\":null}]}",
+        "{\"@id\":\"PAGE\",\"@graph\":[{\"@id\":\"RUN1\",ARRIVAL,DEPARTURE,\"departureDelay\":null}]}",
         "bad member departureDelay",
     ),
     (
-        "{\"@id\":\"http://lc.example/memento/connections?version=1970-01-01T00:00:00.000Z&departureTime=2024-05-01T08:00:00.000Z\",\"@graph\":[],\"hydra:next\":5}",
+        "{\"@id\":\"PAGE\",\"@graph\":[],\"hydra:next\":5}",
         "bad member hydra:next",
     ),
     (
-        "{\"@id\":\"http://lc.example/memento/connections?version=1970-01-01T00:00:00.000Z&departureTime=2024-05-01T08:00:00.000Z\",\"@graph\":[],\"hydra:next\":\"http://lc.example/memento/connections?version=2024-05-01T07:00:00.000Z&departureTime=2024-05-01T09:00:00.000Z\"}",
+        "{\"@id\":\"PAGE\",\"@graph\":[],\"hydra:next\":\"http://lc.example/memento/connections?version=2024-05-01T07:00:00.000Z&departureTime=2024-05-01T09:00:00.000Z\"}",
         "bad member hydra:next",
     ),
     (
-        "{\"@id\":\"http://lc.example/memento/connections?version=1970-01-01T00:00:00.000Z&departureTime=2024-05-01T08:00:00.000Z\",\"@graph\":[],\"hydra:next\":null}",
+        "{\"@id\":\"PAGE\",\"@graph\":[],\"hydra:next\":null}",
         "bad member hydra:next",
     ),
     (
-        "{\"@id\":\"http://lc.example/memento/connections?version=1970-01-01T00:00:00.000Z&departureTime=2024-05-01T08:00:00.000Z\",\"@graph\":[],\"hydra:previous\":\"http://lc.example/memento/connections?version=2024-05-01T07:00:00.000Z&departureTime=2024-05-01T09:00:00.000Z\"}",
+        "{\"@id\":\"PAGE\",\"@graph\":[],\"hydra:previous\":\"http://lc.example/memento/connections?version=2024-05-01T07:00:00.000Z&departureTime=2024-05-01T09:00:00.000Z\"}",
         "bad member hydra:previous",
     ),
     (
-        "{\"@id\":\"http://lc.example/memento/connections?version=1970-01-01T00:00:00.000Z&departureTime=2024-05-01T08:00:00.000Z\",\"@graph\":[],\"hydra:next\":\"http://lc.example/memento/connections?version=1970-01-01T00:00:00.000Z&departureTime=2024-05-01T09:00:00.000Z\",\"hydra:previous\":\"http://lc.example/memento/connections?version=1970-01-01T00:00:00.000Z&departureTime=2024-05-01T08:00:00.000Z\"}",
+        "{\"@id\":\"PAGE\",\"@graph\":[],\"hydra:next\":\"http://lc.example/memento/connections?version=1970-01-01T00:00:00.000Z&departureTime=2024-05-01T09:00:00.000Z\",\"hydra:previous\":\"PAGE\"}",
         "0 connections",
     ),
     (
-        "{\"@id\":\"http://lc.example/memento/connections?version=1970-01-01T00:00:00.000Z&departureTime=2024-05-01T08:00:00.000Z\",\"@graph\":[{\"@id\":\"http://lc.example/connections/T/20240501/-/1\",\"arrivalStop\":\"http://lc.example/stops/B\",\"arrivalTime\":\"2024-05-01T08:10:00Z\",\"departureStop\":\"http://lc.example/stops/A\",\"departureTime\":\"2024-05-01T08:00:00.999Z\"},{\"@id\":\"http://lc.example/connections/T/20240501/-/1\",\"arrivalStop\":\"http://lc.example/stops/B\",\"arrivalTime\":\"2024-05-01T08:10:00Z\",\"departureStop\":\"http://lc.example/stops/A\",\"departureTime\":\"2024-05-01T08:00:00.999Z\"}]}",
+        "{\"@id\":\"PAGE\",\"@graph\":[{\"@id\":\"RUN1\",ARRIVAL,DEPARTURE},{\"@id\":\"RUN1\",ARRIVAL,DEPARTURE}]}",
         "item 1 is not in order",
     ),
     (
-        "{\"@id\":\"http://lc.example/memento/connections?version=1970-01-01T00:00:00.000Z&departureTime=2024-05-01T08:00:00.000Z\",\"@graph\":[{\"@id\":\"http://lc.example/connections/T/20240501/-/1\",\"arrivalStop\":\"http://lc.example/stops/B\",\"arrivalTime\":\"2024-05-01T08:10:00Z\",\"departureStop\":\"http://lc.example/stops/A\",\"departureTime\":\"2024-05-01T08:00:00.999Z\"},{\"@id\":\"http://lc.example/connections/T/20240501/-/3\",\"arrivalStop\":\"http://lc.example/stops/B\",\"arrivalTime\":\"2024-05-01T08:10:00Z\",\"departureStop\":\"http://lc.example/stops/A\",\"departureTime\":\"2024-05-01T08:00:00.999Z\"},{\"@id\":\"http://lc.example/connections/T/20240501/-/2\",\"arrivalStop\":\"http://lc.example/stops/B\",\"arrivalTime\":\"2024-05-01T08:10:00Z\",\"departureStop\":\"http://lc.example/stops/A\",\"departureTime\":\"2024-05-01T08:00:00.999Z\"}]}",
+        "{\"@id\":\"PAGE\",\"@graph\":[{\"@id\":\"RUN1\",ARRIVAL,DEPARTURE},{\"@id\":\"RUN3\",ARRIVAL,DEPARTURE},{\"@id\":\"RUN2\",ARRIVAL,DEPARTURE}]}",
         "item 2 is not in order",
     ),
     (
-        "{\"@id\":\"http://lc.example/memento/connections?version=1970-01-01T00:00:00.000Z&departureTime=2024-05-01T08:00:00.000Z\",\"@graph\":[{\"@id\":\"http://lc.example/connections/T/20240501/-/2\",\"arrivalStop\":\"http://lc.example/stops/B\",\"arrivalTime\":\"2024-05-01T08:10:00Z\",\"departureStop\":\"http://lc.example/stops/A\",\"departureTime\":\"2024-05-01T08:00:00.999Z\"},{\"@id\":\"http://lc.example/connections/T/20240501/-/1\",\"arrivalStop\":\"http://lc.example/stops/B\",\"arrivalTime\":\"2024-05-01T08:10:00Z\",\"departureStop\":\"http://lc.example/stops/A\",\"departureTime\":\"2024-05-01T08:00:00.999Z\"},{\"@id\":\"http://lc.example/connections/T/20240501/-/0\",\"arrivalStop\":\"http://lc.example/stops/B\",\"arrivalTime\":\"2024-05-01T08:10:00Z\",\"departureStop\":\"http://lc.example/stops/A\",\"departureTime\":\"2024-05-01T08:00:00.999Z\"}]}",
+        "{\"@id\":\"PAGE\",\"@graph\":[{\"@id\":\"RUN2\",ARRIVAL,DEPARTURE},{\"@id\":\"RUN1\",ARRIVAL,DEPARTURE},{\"@id\":\"RUN0\",ARRIVAL,DEPARTURE}]}",
         "item 1 is not in order",
     ),
     (
-        "{\"@id\":\"http://lc.example/memento/connections?version=1970-01-01T00:00:00.000Z&departureTime=2024-05-01T08:00:00.000Z\",\"@graph\":[{\"@id\":\"http://lc.example/connections/T/20240501/-/1\",\"arrivalStop\":\"http://lc.example/stops/B\",\"arrivalTime\":\"2024-05-01T08:10:00Z\",\"departureStop\":\"http://lc.example/stops/A\",\"departureTime\":\"2024-05-01T08:00:00.999Z\"},{\"@id\":\"http://lc.example/connections/T/20240501/-/2\",\"arrivalStop\":\"http://lc.example/stops/B\",\"arrivalTime\":\"2024-05-01T08:10:00Z\",\"departureStop\":\"http://lc.example/stops/A\",\"departureTime\":\"2024-05-01T08:00:00.999Z\"},{\"@id\":\"http://lc.example/connections/T/20240501/-/10\",\"arrivalStop\":\"http://lc.example/stops/B\",\"arrivalTime\":\"2024-05-01T08:10:00Z\",\"departureStop\":\"http://lc.example/stops/A\",\"departureTime\":\"2024-05-01T08:00:00.999Z\"}]}",
+        "{\"@id\":\"PAGE\",\"@graph\":[{\"@id\":\"RUN1\",ARRIVAL,DEPARTURE},{\"@id\":\"RUN2\",ARRIVAL,DEPARTURE},{\"@id\":\"RUN10\",ARRIVAL,DEPARTURE}]}",
         "3 connections",
     ),
     (
-        "{\"@id\":\"http://lc.example/memento/connections?version=1970-01-01T00:00:00.000Z&departureTime=2024-05-01T08:00:00.000Z\",\"@graph\":[{\"arrivalStop\":\"http://lc.example/stops/B\",\"arrivalTime\":\"2024-05-01T08:10:00Z\",\"departureStop\":\"http://lc.example/stops/A\",\"departureTime\":\"2024-05-01T08:00:00.999Z\",\"arrivalDelay\":\"x\"}]}",
+        "{\"@id\":\"PAGE\",\"@graph\":[{ARRIVAL,DEPARTURE,\"arrivalDelay\":\"x\"}]}",
         "no member @id",
     ),
     (
-        "{\"@id\":\"http://lc.example/memento/connections?version=1970-01-01T00:00:00.000Z&departureTime=2024-05-01T08:00:00.000Z\",\"@graph\":[{\"@id\":\"http://lc.example/connections/T/20240501/-/1\",\"arrivalTime\":\"2024-05-01T08:10:00Z\",\"departureStop\":\"http://lc.example/stops/A\",\"departureTime\":\"2024-05-01T08:00:00.999Z\",\"arrivalDelay\":\"x\"}]}",
+        "{\"@id\":\"PAGE\",\"@graph\":[{\"@id\":\"RUN1\",\"arrivalTime\":\"2024-05-01T08:10:00Z\",DEPARTURE,\"arrivalDelay\":\"x\"}]}",
         "bad member arrivalDelay",
     ),
     (
-        "{\"@id\":\"http://lc.example/memento/connections?version=1970-01-01T00:00:00.000Z&departureTime=2024-05-01T08:00:00.000Z\",\"@graph\":[{\"@id\":\"http://lc.example/connections/T/20240501/-/1\",\"departureStop\":\"http://lc.example/stops/A\",\"departureTime\":\"2024-05-01T08:00:00.999Z\"}]}",
+        "{\"@id\":\"PAGE\",\"@graph\":[{\"@id\":\"RUN1\",DEPARTURE}]}",
         "no member arrivalStop",
     ),
     (
-        "{\"@id\":\"http://lc.example/memento/connections?version=1970-01-01T00:00:00.000Z&departureTime=2024-05-01T08:00:00.000Z\",\"@graph\":[{\"@id\":\"http://lc.example/connections/T/20240501/-/1\",\"arrivalStop\":\"http://lc.example/stops/B\",\"arrivalTime\":1,\"departureStop\":\"http://lc.example/stops/A\",\"departureTime\":\"2024-05-01T08:00:00.999Z\",\"departureDelay\":\"x\"}]}",
+        "{\"@id\":\"PAGE\",\"@graph\":[{\"@id\":\"RUN1\",\"arrivalStop\":\"STOPB\",\"arrivalTime\":1,DEPARTURE,\"departureDelay\":\"x\"}]}",
         "bad member arrivalTime",
     ),
     (
-        "{\"@id\":\"http://lc.example/memento/connections?version=1970-01-01T00:00:00.000Z&departureTime=2024-05-01T08:00:00.000Z\",\"@graph\":[{\"@id\":\"http://lc.example/connections/T/20240501/-/1\",\"arrivalStop\":\"http://lc.example/stops/B\",\"arrivalTime\":\"2024-05-01T08:10:00Z\",\"departureTime\":\"2024-05-01T08:00:00.999Z\",\"departureDelay\":\"x\"}]}",
+        "{\"@id\":\"PAGE\",\"@graph\":[{\"@id\":\"RUN1\",ARRIVAL,\"departureTime\":\"2024-05-01T08:00:00.999Z\",\"departureDelay\":\"x\"}]}",
         "bad member departureDelay",
     ),
     (
-        "{\"@id\":\"http://lc.example/memento/connections?version=1970-01-01T00:00:00.000Z&departureTime=2024-05-01T08:00:00.000Z\",\"@graph\":[{\"@id\":\"http://lc.example/connections/T/20240501/-/1\",\"arrivalStop\":\"http://lc.example/stops/B\",\"arrivalTime\":\"2024-05-01T08:10:00Z\"}]}",
+        "{\"@id\":\"PAGE\",\"@graph\":[{\"@id\":\"RUN1\",ARRIVAL}]}",
         "no member departureStop",
     ),
     (
-        "{\"@id\":\"http://lc.example/memento/connections?version=1970-01-01T00:00:00.000Z&departureTime=2024-05-01T08:00:00.000Z\",\"@graph\":[{\"@id\":\"http://lc.example/connections/T/20240501/-/1\",\"arrivalStop\":\"http://lc.example/stops/B\",\"arrivalTime\":\"2024-05-01T07:59:59Z\",\"departureStop\":\"http://lc.example/stops/A\",\"departureTime\":1}]}",
+        "{\"@id\":\"PAGE\",\"@graph\":[{\"@id\":\"RUN1\",\"arrivalStop\":\"STOPB\",\"arrivalTime\":\"2024-05-01T07:59:59Z\",\"departureStop\":\"STOPA\",\"departureTime\":1}]}",
         "bad member departureTime",
     ),
     (
-        "{\"@id\":\"http://lc.example/memento/connections?version=1970-01-01T00:00:00.000Z&departureTime=2024-05-01T08:00:00.000Z\",\"@graph\":[{\"@id\":\"http://lc.example/connections/T/20240501/-/1\",\"arrivalStop\":\"http://lc.example/stops/B\",\"arrivalTime\":\"2024-05-01T07:59:59Z\",\"departureStop\":1,\"departureTime\":\"2024-05-01T08:00:00.999Z\"}]}",
+        "{\"@id\":\"PAGE\",\"@graph\":[{\"@id\":\"RUN1\",\"arrivalStop\":\"STOPB\",\"arrivalTime\":\"2024-05-01T07:59:59Z\",\"departureStop\":1,\"departureTime\":\"2024-05-01T08:00:00.999Z\"}]}",
         "bad member departureStop",
     ),
     (
-        "{\"@id\":\"http://lc.example/memento/connections?version=1970-01-01T00:00:00.000Z&departureTime=2024-05-01T08:00:00.000Z\",\"@graph\":[{\"@id\":\"http://lc.example/connections/T/20240501/-/1\",\"arrivalStop\":\"http://lc.example/stops/B\",\"arrivalTime\":\"2024-05-01T08:10:00Z\",\"departureStop\":\"http://lc.example/stops/A\",\"departureTime\":1},{\"@id\":1,\"arrivalStop\":\"http://lc.example/stops/B\",\"arrivalTime\":\"2024-05-01T08:10:00Z\",\"departureStop\":\"http://lc.example/stops/A\",\"departureTime\":\"2024-05-01T08:00:00.999Z\"}]}",
+        "{\"@id\":\"PAGE\",\"@graph\":[{\"@id\":\"RUN1\",ARRIVAL,\"departureStop\":\"STOPA\",\"departureTime\":1},{\"@id\":1,ARRIVAL,DEPARTURE}]}",
         "bad member departureTime",
     ),
     (
-        "{\"@id\":\"http://lc.example/memento/connections?version=1970-01-01T00:00:00.000Z&departureTime=2024-05-01T08:00:00.000Z\",\"@graph\":[{\"@id\":1,\"arrivalStop\":\"http://lc.example/stops/B\",\"arrivalTime\":\"2024-05-01T08:10:00Z\",\"departureStop\":\"http://lc.example/stops/A\",\"departureTime\":\"2024-05-01T08:00:00.999Z\"},{\"@id\":\"http://lc.example/connections/T/20240501/-/1\",\"arrivalStop\":\"http://lc.example/stops/B\",\"arrivalTime\":\"2024-05-01T08:10:00Z\",\"departureStop\":\"http://lc.example/stops/A\",\"departureTime\":1}]}",
+        "{\"@id\":\"PAGE\",\"@graph\":[{\"@id\":1,ARRIVAL,DEPARTURE},{\"@id\":\"RUN1\",ARRIVAL,\"departureStop\":\"STOPA\",\"departureTime\":1}]}",
         "bad member @id",
     ),
     (
-        "{\"@id\":\"http://lc.example/memento/connections?version=1970-01-01T00:00:00.000Z&departureTime=2024-05-01T08:00:00.000Z\",\"@graph\":[7],\"hydra:next\":7}",
+        "{\"@id\":\"PAGE\",\"@graph\":[7],\"hydra:next\":7}",
         "bad member @graph",
     ),
     (
-        "{\"@id\":\"http://lc.example/memento/connections?version=1970-01-01T00:00:00.000Z&departureTime=2024-05-01T08:00:00.000Z\",\"@graph\":[],\"hydra:next\":7,\"hydra:previous\":7}",
+        "{\"@id\":\"PAGE\",\"@graph\":[],\"hydra:next\":7,\"hydra:previous\":7}",
         "bad member hydra:next",
     ),
     (
-        "{\"@id\":\"http://lc.example/memento/connections?version=1970-01-01T00:00:00.000Z&departureTime=2024-05-01T08:00:00.000Z\",\"@graph\":[{\"@id\":\"http://lc.example/connections/T/20240501/-/1\",\"arrivalStop\":\"http://lc.example/stops/B\",\"arrivalTime\":\"2024-05-01T08:10:00Z\",\"departureStop\":\"http://lc.example/stops/A\",\"departureTime\":\"2024-05-01T08:00:00.999Z\"},{\"@id\":\"http://lc.example/connections/T/20240501/-/1\",\"arrivalStop\":\"http://lc.example/stops/B\",\"arrivalTime\":\"2024-05-01T08:10:00Z\",\"departureStop\":\"http://lc.example/stops/A\",\"departureTime\":\"2024-05-01T08:00:00.999Z\"}],\"hydra:previous\":7}",
+        "{\"@id\":\"PAGE\",\"@graph\":[{\"@id\":\"RUN1\",ARRIVAL,DEPARTURE},{\"@id\":\"RUN1\",ARRIVAL,DEPARTURE}],\"hydra:previous\":7}",
         "bad member hydra:previous",
     ),
     (
-        "{\"@id\":\"http://lc.example/memento/connections?version=1970-01-01T00:00:00.000Z&departureTime=2024-05-01T08:00:00.000Z\",\"@graph\":[{\"@id\":\"http://lc.example/connections/T/20240501/-/1\",\"arrivalStop\":\"http://lc.example/stops/B\",\"arrivalTime\":\"2024-05-01T08:10:00Z\",\"departureStop\":\"http://lc.example/stops/A\",\"departureTime\":\"2024-05-01T08:00:00.999Z\"},{\"@id\":\"http://lc.example/connections/T/20240501/-/1\",\"arrivalStop\":\"http://lc.example/stops/B\",\"arrivalTime\":\"2024-05-01T08:10:00Z\",\"departureStop\":\"http://lc.example/stops/A\",\"departureTime\":\"2024-05-01T08:00:00.999Z\"},{\"@id\":1,\"arrivalStop\":\"http://lc.example/stops/B\",\"arrivalTime\":\"2024-05-01T08:10:00Z\",\"departureStop\":\"http://lc.example/stops/A\",\"departureTime\":\"2024-05-01T08:00:00.999Z\"}]}",
+        "{\"@id\":\"PAGE\",\"@graph\":[{\"@id\":\"RUN1\",ARRIVAL,DEPARTURE},{\"@id\":\"RUN1\",ARRIVAL,DEPARTURE},{\"@id\":1,ARRIVAL,DEPARTURE}]}",
         "bad member @id",
     ),
 ];
