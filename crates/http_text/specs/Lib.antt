@@ -9,3 +9,4 @@ pub mod Request
 pub mod RequestText
 pub mod Taken
 pub mod Target
+pub mod Texts

@@ -1,5 +1,6 @@
-ghost use Rattle.std.specs.Prelude.{◌≡◌};
+ghost use Rattle.std.specs.Prelude.{◌≡◌, Some};
 ghost use Rattle.http_text.specs.declared.reply_fault.ReplyFault.TheVariants.{NoMemory as OutOfMemory};
+ghost use Rattle.http_text.specs.Texts.{fault_text};
 
 use lc_model::NoMemory;
 use std::error::Error;
@@ -23,6 +24,8 @@ pub enum ReplyFault {
 }
 
 impl fmt::Display for ReplyFault {
+    ghost output = { λ fault. Some (fault_text fault) };
+
     fn fmt<W: fmt::Write>(&self, f: &mut fmt::Formatter<W>) -> fmt::Result {
         match self {
             ReplyFault::Head => write!(f, "no head of a reply"),

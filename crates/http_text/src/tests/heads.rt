@@ -5,17 +5,7 @@ use crate::Taken;
 use lc_model::NoMemory;
 use std::alloc::Global;
 
-pub const NOT_YET: Taken = Taken::NotYet;
-
-pub fn refused(status: u16) -> Taken {
-    Taken::Refused { status }
-}
-
-pub fn whole(length: usize) -> Taken {
-    Taken::Whole { length }
-}
-
-pub fn whole_length(taken: Taken) -> Option<usize>
+pub(super) fn whole_length(taken: Taken) -> Option<usize>
     ensures { IfSome result (λ length. taken ≡ WholeRequest length) }
 {
     match taken {
@@ -25,7 +15,7 @@ pub fn whole_length(taken: Taken) -> Option<usize>
 }
 
 /// A head with a field of so many bytes.
-pub fn long_head(alloc: Global, value: usize, end: &str) -> Result<Vec<u8>, NoMemory> {
+pub(super) fn long_head(alloc: Global, value: usize, end: &str) -> Result<Vec<u8>, NoMemory> {
     let mut text = Vec::from_slice(alloc, b"GET / HTTP/1.1\r\nHost: x\r\nA: ")?;
     for _ in 0..value {
         text.push(b'a')?;
@@ -35,7 +25,7 @@ pub fn long_head(alloc: Global, value: usize, end: &str) -> Result<Vec<u8>, NoMe
 }
 
 /// A head with so many fields.
-pub fn wide_head(alloc: Global, line: &str, fields: usize) -> Result<Vec<u8>, NoMemory> {
+pub(super) fn wide_head(alloc: Global, line: &str, fields: usize) -> Result<Vec<u8>, NoMemory> {
     let mut text = Vec::from_slice(alloc, line.as_bytes())?;
     text.extend_from_slice(b"Host: x\r\n")?;
     for _ in 1..fields {
