@@ -331,7 +331,7 @@ fn answers_questions_over_a_small_feed(rt: HostRuntime) -> Result<(), Fail> {
         connections(&rt, alloc, &LATER)?,
     ]?;
     let none: &[RideRow] = &[];
-    for (leave, horizon, wanted) in [
+    for &(leave, horizon, wanted) in &[
         (28_800, 86_400, BY_T3.as_slice()),
         (28_801, 86_400, none),
         (28_800, 1_860, BY_T3.as_slice()),
@@ -371,7 +371,7 @@ fn changes_between_stops_and_ends_at_children(rt: HostRuntime) -> Result<(), Fai
         ("T6", 2, "Y", 32_400, "Z", 32_700),
     ];
     let lists = vec![in alloc; connections(&rt, alloc, &rows)?]?;
-    for (from, to, leave, wanted) in [
+    for &(from, to, leave, wanted) in &[
         (
             "A",
             "P",
@@ -405,7 +405,7 @@ fn changes_between_stops_and_ends_at_children(rt: HostRuntime) -> Result<(), Fai
 fn refuses_stops_that_are_not_there(rt: HostRuntime) -> Result<(), Fail> {
     let alloc = rt.alloc();
     let doc = document(&rt, alloc, &STOPS, &CHANGES)?;
-    for (from, to, fault) in [
+    for &(from, to, fault) in &[
         ("Q", "D", BeginFault::UnknownFrom),
         ("Q", "R", BeginFault::UnknownFrom),
         ("A", "R", BeginFault::UnknownTo),

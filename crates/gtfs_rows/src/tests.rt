@@ -46,7 +46,7 @@ fn table_with(alloc: Global, text: &[u8], columns: &str) -> Result<Rows, RowFaul
 
 #[test]
 fn reads_the_tables_of_a_small_feed(rt: HostRuntime) -> Result<(), Fail> {
-    for (text, columns, len, row, name, field) in [
+    for &(text, columns, len, row, name, field) in &[
         (STOPS, "stop_id", 6, 6, "stop_name", "F"),
         (TRIPS, "trip_id,service_id", 5, 1, "trip_id", "T1"),
         (TRIPS, "route_id", 5, 5, "service_id", "w"),
@@ -85,7 +85,7 @@ fn reads_the_tables_of_a_small_feed(rt: HostRuntime) -> Result<(), Fail> {
 
 #[test]
 fn reads_fields_and_line_ends(rt: HostRuntime) -> Result<(), Fail> {
-    for (text, len, row, name, field) in [
+    for &(text, len, row, name, field) in &[
         // LF, CR and CRLF end a record, also the last one, which may do without.
         ("a,b\n1,2\n3,4\n", 2, 2, "a", Some("3")),
         ("a,b\r1,2\r3,4\r", 2, 2, "b", Some("4")),
@@ -132,7 +132,7 @@ fn fault_of(alloc: Global, bytes: &[u8], columns: &str) -> Result<String, Fail> 
 
 #[test]
 fn tells_the_first_fault(rt: HostRuntime) -> Result<(), Fail> {
-    for (bytes, columns, fault) in [
+    for &(bytes, columns, fault) in &[
         (b"a\n1\n".as_slice(), "a", "none"),
         (b"a".as_slice(), "a", "none"),
         (b"a\n\xFF\n".as_slice(), "a", "not UTF-8"),
@@ -163,7 +163,7 @@ fn reads_a_file_longer_than_a_buffer(rt: HostRuntime) -> Result<(), Fail> {
     let rows = table(rt.alloc(), text.as_bytes(), &["stop_id"])?;
     assert_eq!(rt; rows.len(), 3_000);
     assert!(rt; !rows.is_empty());
-    for (row, stop) in [(1, "stop, 1"), (1_500, "stop, 1500"), (3_000, "stop, 3000")] {
+    for &(row, stop) in &[(1, "stop, 1"), (1_500, "stop, 1500"), (3_000, "stop, 3000")] {
         has_field(&rt, &rows, row, "stop_id", Some(stop));
     }
     let Some(column) = rows.column("trip_id") else {

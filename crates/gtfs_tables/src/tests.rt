@@ -78,7 +78,7 @@ fn file(alloc: Global, name: &str, text: &str) -> Result<File, Fail> {
 // The files of the feed, of which this one is changed or absent.
 fn files_but(alloc: Global, name: &str, text: Option<&str>) -> Result<Vec<File>, Fail> {
     let mut files = Vec::new(alloc);
-    for (other, bytes) in FEED {
+    for &(other, bytes) in &FEED {
         if other != name {
             files.push(file(alloc, other, bytes)?)?;
         }
@@ -115,7 +115,7 @@ fn a_plain_feed(rt: HostRuntime) -> Result<(), Fail> {
 
 #[test]
 fn each_first_file_that_is_not_plain(rt: HostRuntime) -> Result<(), Fail> {
-    for (name, text, wanted) in BROKEN {
+    for &(name, text, wanted) in &BROKEN {
         let mut folder = SureFolder::new(files_but(rt.alloc(), name, text)?)?;
         match read_feed(rt.alloc(), &mut folder, "feed") {
             Ok(_) => assert!(rt; false),

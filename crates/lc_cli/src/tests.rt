@@ -77,7 +77,7 @@ fn ask<F: Folder>(alloc: Global, folder: &mut F, words: &str) -> Result<(u8, Vec
 #[test]
 fn questions_of_tiny(rt: HostRuntime) -> Result<(), Fail> {
     let alloc = rt.alloc();
-    for (words, status, output) in [
+    for &(words, status, output) in &[
         ("ask tiny A D 2024-05-01T08:00:00Z", 0, FIRST),
         (
             "ask tiny A D 2024-05-01T08:00:01Z",
@@ -146,7 +146,7 @@ T9,08:20:00,08:20:00,B,1
 T2,08:40:00,08:40:00,D,2
 ";
     let a_to_d = "ask tiny A D 2024-05-01T08:00:00Z";
-    for (stops, trips, times, dates, extra, words, status, output) in [
+    for &(stops, trips, times, dates, extra, words, status, output) in &[
         (
             "stop_id,stop_name\n",
             no_trips,

@@ -19,7 +19,7 @@ fn stop(rt: &impl std::process::Abort, alloc: Global, text: &str) -> Result<Stop
 // The first and the last moment, and the first second past them: 9999-12-30T00:00:00Z, by `date -u -d @253402128000`.
 #[test]
 fn moments_end(rt: HostRuntime) {
-    for (seconds, is_moment) in [
+    for &(seconds, is_moment) in &[
         (0, true),
         (253_402_127_999, true),
         (253_402_128_000, false),

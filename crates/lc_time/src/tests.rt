@@ -9,7 +9,7 @@ use std::test::Fail;
 
 #[test]
 fn writes_and_reads_moments(rt: HostRuntime) -> Result<(), Fail> {
-    for (seconds, text) in [
+    for &(seconds, text) in &[
         (0, "1970-01-01T00:00:00.000Z"),
         (951_827_696, "2000-02-29T12:34:56.000Z"),
         (1_714_550_400, "2024-05-01T08:00:00.000Z"),
@@ -26,7 +26,7 @@ fn writes_and_reads_moments(rt: HostRuntime) -> Result<(), Fail> {
 
 #[test]
 fn reads_moments_of_its_grammar_alone(rt: HostRuntime) {
-    for (text, seconds) in [
+    for &(text, seconds) in &[
         ("2024-05-01T08:00:00Z", Some(1_714_550_400)),
         ("2024-05-01T08:00:00.999Z", Some(1_714_550_400)),
         ("2024-05-01T08:00:00z", None),
@@ -56,7 +56,7 @@ fn reads_moments_of_its_grammar_alone(rt: HostRuntime) {
 
 #[test]
 fn reads_dates_of_http(rt: HostRuntime) -> Result<(), Fail> {
-    for (text, seconds) in [
+    for &(text, seconds) in &[
         ("Sun, 06 Nov 1994 08:49:37 GMT", Some(784_111_777)),
         ("Sunday, 06-Nov-94 08:49:37 GMT", Some(784_111_777)),
         ("Sun Nov  6 08:49:37 1994", Some(784_111_777)),
@@ -84,7 +84,7 @@ fn reads_dates_of_http(rt: HostRuntime) -> Result<(), Fail> {
 
 #[test]
 fn reads_times_and_starts(rt: HostRuntime) {
-    for (text, seconds) in [
+    for &(text, seconds) in &[
         ("25:10:00", Some(90_600)),
         ("7:05:00", Some(25_500)),
         ("07:05:00", Some(25_500)),
@@ -104,7 +104,7 @@ fn reads_times_and_starts(rt: HostRuntime) {
         assert_eq!(rt; read_gtfs_time(text.as_bytes()), seconds, "{text}");
     }
     assert_eq!(rt; start_text(27_000).as_slice(), b"073000".as_slice());
-    for (text, start) in [
+    for &(text, start) in &[
         ("073000", Some(27_000)),
         ("995959", Some(359_999)),
         ("076000", None),
@@ -117,13 +117,13 @@ fn reads_times_and_starts(rt: HostRuntime) {
 
 #[test]
 fn reads_dates(rt: HostRuntime) -> Result<(), Fail> {
-    for text in [
+    for &text in &[
         "00010101", "19700110", "20000229", "20240229", "99960229", "99991231",
     ] {
         let date = read_date(text.as_bytes()).ok_or("a date")?;
         assert_eq!(rt; date_text(date).as_slice(), text.as_bytes());
     }
-    for text in [
+    for &text in &[
         "00000101", "19700229", "21000229", "20240230", "20240431", "20241301", "2024050",
         "2024-5-1", "",
     ] {

@@ -115,7 +115,7 @@ fn doors(rt: HostRuntime) -> Result<(), Fail> {
     let mut piece = [0; 4];
     assert_eq!(rt; door.read(&mut piece), Ok(0));
     assert_eq!(rt; door.next(), Ok(Next::Connection));
-    for (count, text) in [
+    for &(count, text) in &[
         (4, b"GET "),
         (2, b"/ T "),
         (4, b"HTTP"),

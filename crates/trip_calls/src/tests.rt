@@ -260,7 +260,7 @@ fn six_connections_of_five_trips(rt: HostRuntime) -> Result<(), Fail> {
 
 #[test]
 fn runs_in_windows(rt: HostRuntime) -> Result<(), Fail> {
-    for (added, first, count, wanted) in [
+    for &(added, first, count, wanted) in &[
         (true, DAY, 1, 5),
         (true, DAY - 3, 10, 5),
         (true, DAY - 1, 1, 0),
