@@ -1,3 +1,4 @@
+pub mod ChangeSearch
 pub mod Orders
 pub mod Search
 pub mod Totals

@@ -31,12 +31,15 @@ impl Changes {
         Ok(Changes { items: list })
     }
 
-    /// The seconds of the change from one stop to another, if there is one. Linear in the changes.
+    /// The seconds of the change from one stop to another, if there is one. Takes the logarithm of the changes.
     pub fn between(&self, from: &Id, to: &Id) -> Option<u32>
         ensures { result ≡ change_between self.now from.now to.now }
     {
-        let found = self.items.iter().find(|c| c.from == *from && c.to == *to);
-        found.map(|c| c.seconds)
+        let changes = self.as_slice();
+        match changes.binary_search_by(|c| c.from.cmp(from).then(c.to.cmp(to))) {
+            Ok(place) => Some(changes[place].seconds),
+            Err(_) => None,
+        }
     }
 
     pub fn as_slice(&self) -> &[Change]
