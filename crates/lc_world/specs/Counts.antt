@@ -1,5 +1,5 @@
 -- Counts of faults. A count is a number of 64 bits that stays at its last value once it has reached it.
-use Rattle.std.specs.Prelude.{ℕ, ◌+◌, ◌-◌, ◌^◌, ◌≤◌, min}
+use Rattle.std.specs.Prelude.{◌≡◌, ℕ, ◌+◌, ◌-◌, ◌^◌, ◌≤◌, min}
 
 -- The count rose: it is greater than before, or it stands at its last value, where any number may have been added.
 abbrev pub Rose : ℕ → ℕ → Type 0
@@ -13,3 +13,8 @@ pub record HasCause (before now : ℕ) (outcome : Type 0) : Type 0 where
 -- one more, up to the last value
 abbrev pub one_more : ℕ → ℕ
 one_more count = min (count + 1) (2 ^ 64 - 1)
+
+-- the count rose by one where the outcome came that it counts, and stayed where it did not
+pub record Counts (before now : ℕ) (outcome : Type 0) : Type 0 where
+  pub counted : outcome → now ≡ one_more before
+  pub stayed : ¬ outcome → now ≡ before

@@ -6,5 +6,7 @@ pub mod ListLink
 pub mod MemFolder
 pub mod MemSink
 pub mod Pieces
+pub mod Place
 pub mod Sink
+pub mod SureDoor
 pub mod SureFolder

@@ -1,5 +1,6 @@
-ghost use Rattle.std.specs.Prelude.{◌≡◌, [], IfOk, OnErr, OnOk, IsErrOf};
-ghost use Rattle.lc_world.specs.Counts.{HasCause};
+ghost use Rattle.std.specs.Prelude.{◌≡◌, [], None, IfOk, OnErr, OnOk, IsErrOf, IsSome, IsTrue, slice_get};
+ghost use Rattle.lc_world.specs.Counts.{HasCause, one_more};
+ghost use Rattle.lc_world.specs.ListLink.{Gives};
 ghost use Rattle.lc_world.specs.declared.link.LinkFail.TheVariants.{Failed};
 
 use crate::{Link, LinkFail};
@@ -36,9 +37,10 @@ impl ListLink {
 
     /// Puts the next reply in the place of what `reply` holds, and says whether there was one.
     fn give_next(&mut self, reply: &mut Vec<u8>) -> Result<bool, LinkFail>
-        ensures empty { OnErr result (reply.new.items ≡ []) }
-        ensures memory { OnErr result (result ≡ Err LinkFail.NoMemory) }
-        ensures faults { self.new.faults ≡ self.old.faults }
+        ensures gives { IfOk result (λ given. IsTrue given → Gives self.old self.new reply.new.items) }
+        ensures ended { IfOk result (λ given. ¬ (IsTrue given) → (slice_get self.old.replies self.old.given ≡ None)
+            × (self.new ≡ self.old) × (reply.new.items ≡ reply.old.items)) }
+        ensures no_memory { OnErr result ((result ≡ Err LinkFail.NoMemory) × (self.new ≡ self.old) × (reply.new.items ≡ [])) }
     {
         let Some(next) = self.replies.get(self.given) else {
             return Ok(false);
@@ -61,7 +63,14 @@ impl Link for ListLink {
         _: &str,
         _: &[u8],
         reply: &mut Vec<u8>,
-    ) -> Result<(), LinkFail> {
+    ) -> Result<(), LinkFail>
+        ensures gives { OnOk result (Gives self.old self.new reply.new.items) }
+        ensures ended { IsErrOf result Failed → (slice_get self.old.replies self.old.given ≡ None)
+            × (self.new ≡ record self.old { faults = one_more self.old.faults }) }
+        ensures no_memory { IsErrOf result LinkFail.NoMemory → self.new ≡ self.old }
+        ensures empty { OnErr result (reply.new.items ≡ []) }
+        ensures faults { HasCause self.old.faults self.new.faults (IsErrOf result Failed) }
+    {
         if self.give_next(reply)? {
             return Ok(());
         }
@@ -71,7 +80,13 @@ impl Link for ListLink {
     }
 
     /// Where no reply is left the answer stays as it is.
-    fn pass(&mut self, _: Global, _: &str, _: &[u8], reply: &mut Vec<u8>) -> Result<(), LinkFail> {
+    fn pass(&mut self, _: Global, _: &str, _: &[u8], reply: &mut Vec<u8>) -> Result<(), LinkFail>
+        ensures gives { OnOk result (IsSome (slice_get self.old.replies self.old.given) → Gives self.old self.new reply.new.items) }
+        ensures ended { OnOk result (slice_get self.old.replies self.old.given ≡ None → (self.new ≡ self.old) × (reply.new.items ≡ reply.old.items)) }
+        ensures no_memory { OnErr result ((result ≡ Err LinkFail.NoMemory) × (self.new ≡ self.old) × (reply.new.items ≡ [])) }
+        ensures empty { OnErr result (reply.new.items ≡ []) }
+        ensures faults { HasCause self.old.faults self.new.faults (IsErrOf result Failed) }
+    {
         self.give_next(reply)?;
         Ok(())
     }

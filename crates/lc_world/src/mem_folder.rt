@@ -1,7 +1,7 @@
 ghost use Rattle.std.specs.Prelude.{◌≡◌, ◌↔◌, Some, None, Ok, Err, IfOk, IfSome, OnOk, MatchResult, IsErrOf, Contains, find, nat_eq};
 ghost use Rattle.std.specs.Option.{option_copied};
 ghost use lib.Pointwise.{pointwise};
-ghost use Rattle.lc_world.specs.Counts.{HasCause, one_more};
+ghost use Rattle.lc_world.specs.Counts.{Counts, HasCause, one_more};
 ghost use Rattle.lc_world.specs.Folder.{bytes_named};
 ghost use Rattle.lc_world.specs.MemFolder.{MemFolderState};
 ghost use Rattle.lc_world.specs.declared.folder.FolderFail.TheVariants.{Failed, Absent};
@@ -93,6 +93,8 @@ impl Folder for MemFolder {
           absences = self.new.absences;
         } }
         ensures listed { IsErrOf result Failed ↔ Contains self.old.fails (one_more self.old.reads) }
+        ensures each_fault { Counts self.old.faults self.new.faults (IsErrOf result Failed) }
+        ensures each_absence { Counts self.old.absences self.new.absences (IsErrOf result Absent) }
     {
         self.reads = self.reads.saturating_add(1);
         if self.fails.contains(&self.reads) {

@@ -1,5 +1,5 @@
 ghost use Rattle.std.specs.Prelude.{◌≡◌, ◌<◌, ◌≤◌, ◌↔◌, ◌++◌, [], Some, length, take, IfOk, MatchResult, IsErrOf, Contains};
-ghost use Rattle.lc_world.specs.Counts.{HasCause, one_more};
+ghost use Rattle.lc_world.specs.Counts.{Counts, HasCause, one_more};
 ghost use Rattle.lc_world.specs.MemSink.{MemSinkState};
 ghost use Rattle.lc_world.specs.declared.sink.SinkFail.TheVariants.{Failed};
 
@@ -66,6 +66,7 @@ impl Sink for MemSink {
           faults = self.new.faults;
         } }
         ensures listed { IsErrOf result Failed ↔ Contains self.old.fails (one_more self.old.writes) }
+        ensures each_fault { Counts self.old.faults self.new.faults (IsErrOf result Failed) }
     {
         self.writes = self.writes.saturating_add(1);
         if self.fails.contains(&self.writes) {

@@ -1,5 +1,5 @@
 ghost use Rattle.std.specs.Prelude.{◌≡◌, Some, None, IfOk, IsErrOf};
-ghost use Rattle.lc_world.specs.Counts.{HasCause};
+ghost use Rattle.lc_world.specs.Counts.{Counts, HasCause};
 ghost use Rattle.lc_world.specs.Folder.{bytes_named};
 ghost use Rattle.lc_world.specs.declared.folder.FolderFail.TheVariants.{Failed, Absent};
 
@@ -42,6 +42,7 @@ impl Folder for SureFolder {
         ensures never { IsErrOf result Failed → ⊥ }
         ensures faults { HasCause 0 0 (IsErrOf result Failed) }
         ensures absences { HasCause self.old.absences self.new.absences (IsErrOf result Absent) }
+        ensures each_absence { Counts self.old.absences self.new.absences (IsErrOf result Absent) }
     {
         let bytes = bytes_of(alloc, &self.files, name);
         if matches!(bytes, Err(FolderFail::Absent)) {
