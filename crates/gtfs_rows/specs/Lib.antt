@@ -3,3 +3,4 @@ pub mod Reading
 pub mod Sheet
 pub mod Spaces
 pub mod Store
+pub mod Texts

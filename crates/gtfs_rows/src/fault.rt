@@ -1,4 +1,5 @@
-ghost use Rattle.std.specs.Prelude.{◌≡◌};
+ghost use Rattle.std.specs.Prelude.{◌≡◌, Some};
+ghost use Rattle.gtfs_rows.specs.Texts.{fault_text};
 ghost use Rattle.gtfs_rows.specs.declared.fault.RowFault.TheVariants.{NoMemory as want_of_memory};
 
 use lc_model::{NoMemory, Text};
@@ -22,6 +23,8 @@ pub enum RowFault {
 }
 
 impl fmt::Display for RowFault {
+    ghost output = { λ fault. Some (fault_text fault) };
+
     fn fmt<W: fmt::Write>(&self, f: &mut fmt::Formatter<W>) -> fmt::Result {
         match self {
             RowFault::NotUtf8 => write!(f, "not UTF-8"),
