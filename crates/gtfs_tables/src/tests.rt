@@ -20,52 +20,65 @@ const FEED: [(&str, &str); 4] = [
     ("feed/calendar_dates.txt", DATES),
 ];
 
-// A file of the feed that is changed, or absent, and the file that is then said not to be plain.
-const BROKEN: [(&str, Option<&str>, &str); 16] = [
-    ("feed/stops.txt", None, "stops.txt"),
-    ("feed/stops.txt", Some("stop_name\nA\n"), "stops.txt"),
+// A file of the feed that is changed, or absent, the file that is then said not to be plain, and the number of the read
+// that comes next. It would fail, and is not made.
+const BROKEN: [(&str, Option<&str>, &str, u64); 16] = [
+    ("feed/stops.txt", None, "stops.txt", 2),
+    ("feed/stops.txt", Some("stop_name\nA\n"), "stops.txt", 2),
     (
         "feed/stops.txt",
         Some("stop_id\nA\nB\nC\nD\nE\nF\nA\n"),
         "stops.txt",
+        2,
     ),
     (
         "feed/stops.txt",
         Some("stop_id,parent_station\nA,\nB,A\n"),
         "stops.txt",
+        2,
     ),
     (
         "feed/stops.txt",
         Some("\u{feff}stop_id\nA\nB\nC\nD\nE\nF\n"),
         "stops.txt",
+        2,
     ),
-    ("feed/trips.txt", None, "trips.txt"),
+    ("feed/trips.txt", None, "trips.txt", 3),
     (
         "feed/trips.txt",
         Some("trip_id,service_id\nT1,w\nT1,v\n"),
         "trips.txt",
+        3,
     ),
     (
         "feed/trips.txt",
         Some("trip_id,service_id\nT1,\n"),
         "trips.txt",
+        3,
     ),
-    ("feed/stop_times.txt", None, "stop_times.txt"),
-    ("feed/stops.txt", Some("stop_id\nA\n"), "stop_times.txt"),
-    ("feed/calendar.txt", Some("service_id\n"), "calendar.txt"),
-    ("feed/calendar_dates.txt", None, "calendar.txt"),
+    ("feed/stop_times.txt", None, "stop_times.txt", 4),
+    ("feed/stops.txt", Some("stop_id\nA\n"), "stop_times.txt", 4),
+    ("feed/calendar.txt", Some("service_id\n"), "calendar.txt", 5),
+    ("feed/calendar_dates.txt", None, "calendar.txt", 6),
     (
         "feed/calendar_dates.txt",
         Some("service_id,date,exception_type\nw,20240230,1\n"),
         "calendar_dates.txt",
+        6,
     ),
     (
         "feed/calendar_dates.txt",
         Some("service_id,date,exception_type\nw,20240501,1\nw,20240501,2\n"),
         "calendar_dates.txt",
+        6,
     ),
-    ("feed/frequencies.txt", Some("trip_id\n"), "frequencies.txt"),
-    ("feed/transfers.txt", Some(""), "transfers.txt"),
+    (
+        "feed/frequencies.txt",
+        Some("trip_id\n"),
+        "frequencies.txt",
+        7,
+    ),
+    ("feed/transfers.txt", Some(""), "transfers.txt", 8),
 ];
 
 fn file(alloc: Global, name: &str, text: &str) -> Result<File, Fail> {
@@ -115,8 +128,11 @@ fn a_plain_feed(rt: HostRuntime) -> Result<(), Fail> {
 
 #[test]
 fn each_first_file_that_is_not_plain(rt: HostRuntime) -> Result<(), Fail> {
-    for &(name, text, wanted) in &BROKEN {
-        let mut folder = SureFolder::new(files_but(rt.alloc(), name, text)?)?;
+    for &(name, text, wanted, read) in &BROKEN {
+        let mut folder = MemFolder::new(
+            files_but(rt.alloc(), name, text)?,
+            vec![in rt.alloc(); read]?,
+        )?;
         match read_feed(rt.alloc(), &mut folder, "feed") {
             Ok(_) => assert!(rt; false),
             Err(fault) => assert!(rt; is_broken(&fault, wanted)),
@@ -135,6 +151,29 @@ fn each_read_that_fails(rt: HostRuntime) -> Result<(), Fail> {
         match read_feed(rt.alloc(), &mut folder, "feed") {
             Err(FeedFault::Folder { before, after }) => assert_eq!(rt; (before, after), (0, 1)),
             _ => assert!(rt; false),
+        }
+    }
+    Ok(())
+}
+
+// A file of so many stops, which are six or more.
+fn stops(alloc: Global, count: u32) -> Result<String, Fail> {
+    let mut text = String::from_str(alloc, "stop_id\nA\nB\nC\nD\nE\nF\n")?;
+    for stop in 6..count {
+        text.push_str(format!(in alloc; "{stop}\n")?.as_str())?;
+    }
+    Ok(text)
+}
+
+#[test]
+fn at_most_ten_thousand_rows(rt: HostRuntime) -> Result<(), Fail> {
+    for &(count, is_plain) in &[(9_999, true), (10_000, true), (10_001, false)] {
+        let text = stops(rt.alloc(), count)?;
+        let files = files_but(rt.alloc(), "feed/stops.txt", Some(text.as_str()))?;
+        let mut folder = SureFolder::new(files)?;
+        match read_feed(rt.alloc(), &mut folder, "feed") {
+            Ok(tables) => assert!(rt; is_plain && tables.stops.as_slice().len() == count as usize),
+            Err(fault) => assert!(rt; !is_plain && is_broken(&fault, "stops.txt")),
         }
     }
     Ok(())
