@@ -1,4 +1,4 @@
-//! What the types of values say of them. Each call reads the parts of a value and does nothing else.
+//! What the types of values say of them. A call reads the parts of what it borrows, and does nothing else.
 
 ghost use Rattle.std.specs.Prelude.{IfSome};
 ghost use Rattle.page_json.specs.Sound.{IsDelay, IsSoundChange, IsSoundConnection, IsSoundName, IsSoundStop};
@@ -24,18 +24,11 @@ fn sound_delay(delay: i64)
 
 pub fn sound_name(name: PageName)
     ensures { IsSoundName name }
-{
-    let _version = name.version.seconds();
-    let _departs = name.departs.seconds();
-}
+{}
 
 pub fn sound_link(link: Option<PageName>)
     ensures { IfSome link IsSoundName }
-{
-    if let Some(name) = link {
-        sound_name(name);
-    }
-}
+{}
 
 pub fn sound_stop(stop: &Stop)
     ensures { IsSoundStop stop.now }
