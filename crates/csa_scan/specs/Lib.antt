@@ -11,3 +11,4 @@ pub mod RidesTo
 pub mod Stands
 pub mod StandsFor
 pub mod Takes
+pub mod Texts

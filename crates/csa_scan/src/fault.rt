@@ -1,5 +1,6 @@
 ghost use Rattle.csa_scan.specs.declared.fault.BeginFault.TheVariants.{NoMemory as MemoryFault};
-ghost use Rattle.std.specs.Prelude.{◌≡◌};
+ghost use Rattle.csa_scan.specs.Texts.{fault_text};
+ghost use Rattle.std.specs.Prelude.{◌≡◌, Some};
 
 use lc_model::NoMemory;
 use std::error::Error;
@@ -17,6 +18,8 @@ pub enum BeginFault {
 }
 
 impl fmt::Display for BeginFault {
+    ghost output = { λ fault. Some (fault_text fault) };
+
     fn fmt<W: fmt::Write>(&self, f: &mut fmt::Formatter<W>) -> fmt::Result {
         match self {
             BeginFault::UnknownFrom => write!(f, "unknown from"),
