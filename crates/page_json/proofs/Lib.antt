@@ -1,6 +1,5 @@
 pub mod ConnectionLaw
 pub mod Each
-pub mod Floats
 pub mod JsonLaw
 pub mod MembersLaw
 pub mod OneResult
@@ -10,3 +9,4 @@ pub mod ReadingLaw
 pub mod Readings
 pub mod SaysLaw
 pub mod StopsLaw
+pub mod TokensLaw

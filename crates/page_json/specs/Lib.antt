@@ -6,6 +6,7 @@ pub mod Says
 pub mod Sound
 pub mod StopsReading
 pub mod Texts
+pub mod Tokens
 pub mod Tree
 pub mod Urls
 pub mod Valid

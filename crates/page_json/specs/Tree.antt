@@ -10,7 +10,7 @@ use Rattle.lc_time.specs.Iso.{iso_text_of}
 use Rattle.connection_uri.specs.Base.{BaseParts}
 use Rattle.connection_uri.specs.Name.{name_of}
 use Rattle.connection_uri.specs.Page.{page_url_of}
-use Rattle.serde_json.specs.Data.{Data, number, string, array, object, boolean, unsigned, Items, Members, no_members, member, put}
+use Rattle.serde_json.specs.Data.{Data, number, string, array, object, boolean, unsigned, Items, Members, no_members, member}
 use Rattle.serde_json.specs.Find.{of_integer}
 use Rattle.serde_json.specs.View.{items_of}
 use Rattle.serde_json.specs.Written.{compact_text}
@@ -99,11 +99,6 @@ search_tree base =
 abbrev pub link_at : BaseParts → List ℕ → Option PageName → Members → Members
 link_at base key None rest = rest
 link_at base key (Some name) rest = text_at key (page_url_of base name) rest
-
--- the members with a link to a page, if there is one
-abbrev pub with_link : BaseParts → List ℕ → Option PageName → Members → Members
-with_link base key None members = members
-with_link base key (Some name) members = put key (string (page_url_of base name)) members
 
 -- a page with its connections and its links
 abbrev pub page_tree : BaseParts → Page → Data

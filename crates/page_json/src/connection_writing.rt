@@ -1,64 +1,153 @@
-ghost use Rattle.std.specs.Prelude.{◌≡◌, All, IfOk, OnOk};
-ghost use Rattle.serde_json.specs.Data.{array};
-ghost use Rattle.serde_json.specs.View.{view};
+ghost use Rattle.std.specs.Prelude.{◌≡◌, All, codes, OnOk};
+ghost use Rattle.connection_uri.specs.Name.{name_of};
+ghost use Rattle.lc_time.specs.Iso.{iso_text_of};
+ghost use Rattle.serde_json.specs.Data.{array, member, no_members, number};
+ghost use Rattle.serde_json.specs.Find.{of_integer};
 ghost use Rattle.page_json.specs.Sound.{IsSoundConnection};
-ghost use Rattle.page_json.specs.Tree.{allowed_text, connection_tree, items_from};
+ghost use Rattle.page_json.specs.Tokens.{Appends, member_tokens, tokens_of};
+ghost use Rattle.page_json.specs.Tree.{allowed_text, connection_tree, items_from, text_at};
+ghost use Rattle.page_json.specs.Urls.{stop_url_of, trip_url_of};
 
-use crate::members::put_text;
+use crate::member_writing::{write_number, write_text};
 use crate::sound::sound_connection;
 use crate::urls::{stop_url, trip_url};
 use connection_uri::{Base, name};
-use lc_model::{Connection, NoMemory};
+use json::Writer;
+use lc_model::{Connection, Id, Moment, NoMemory, RunKey};
 use lc_time::iso_text;
 use percent_encoding::ascii_str;
-use serde_json::{Map, Value, put};
 use std::alloc::Global;
 
-/// The JSON of connections, in order.
-pub fn connection_values(
+/// Writes the list of connections, in order.
+pub fn write_connections(
+    out: &mut Writer,
     alloc: Global,
     base: &Base,
     connections: &[Connection],
-) -> Result<Value, NoMemory>
-    ensures tree { IfOk result (λ v. view v ≡ array (items_from (connection_tree base.now) connections.now)) }
+) -> Result<(), NoMemory>
+    ensures tokens { OnOk result
+        (Appends out.old out.new (tokens_of (array (items_from (connection_tree base.now) connections.now)))) }
     ensures sound { OnOk result (All IsSoundConnection connections.now) }
 {
-    let mut values = Vec::with_capacity(alloc, connections.len())?;
+    out.begin_array()?;
     for connection in connections {
-        values.push(connection_value(alloc, base, connection)?)?;
+        write_connection(out, alloc, base, connection)?;
     }
-    Ok(Value::Array(values))
+    out.end_array()?;
+    Ok(())
 }
 
-#[tactic(auto, unfolding(crate::specs::Tree::connection_tree))]
-fn connection_value(alloc: Global, base: &Base, connection: &Connection) -> Result<Value, NoMemory>
-    ensures tree { IfOk result (λ v. view v ≡ connection_tree base.now connection.now) }
+fn write_connection(
+    out: &mut Writer,
+    alloc: Global,
+    base: &Base,
+    connection: &Connection,
+) -> Result<(), NoMemory>
+    ensures tokens { OnOk result (Appends out.old out.new (tokens_of (connection_tree base.now connection.now))) }
     ensures sound { OnOk result (IsSoundConnection connection.now) }
 {
     sound_connection(connection);
+    out.begin_object()?;
+    write_name(out, alloc, base, connection)?;
+    write_text(out, "@type", "Connection")?;
+    write_arrival(out, alloc, base, connection)?;
+    write_departure(out, alloc, base, connection)?;
+    write_allowed(out, "gtfs:dropOffType", connection.alight)?;
+    write_allowed(out, "gtfs:pickupType", connection.board)?;
+    write_trip(out, alloc, base, &connection.key)?;
+    out.end_object()?;
+    Ok(())
+}
+
+fn write_name(
+    out: &mut Writer,
+    alloc: Global,
+    base: &Base,
+    connection: &Connection,
+) -> Result<(), NoMemory>
+    ensures { let c = connection.now in OnOk result (Appends out.old out.new
+        (member_tokens (text_at (codes "@id") (name_of base.now c.key c.seq) no_members))) }
+{
     let name = name(alloc, base, &connection.key, connection.seq)?;
-    let trip = trip_url(alloc, base, &connection.key)?;
-    let from = stop_url(alloc, base, &connection.dep_stop)?;
-    let to = stop_url(alloc, base, &connection.arr_stop)?;
-    let departure = iso_text(connection.dep);
-    let arrival = iso_text(connection.arr);
-    let departure_delay = Value::from(connection.dep_delay);
-    let arrival_delay = Value::from(connection.arr_delay);
-    let board = allowed_text(connection.board);
-    let alight = allowed_text(connection.alight);
-    let mut members = Map::new(alloc);
-    put_text(&mut members, alloc, "@id", name.as_str())?;
-    put_text(&mut members, alloc, "@type", "Connection")?;
-    put(&mut members, alloc, "arrivalDelay", arrival_delay)?;
-    put_text(&mut members, alloc, "arrivalStop", to.as_str())?;
-    put_text(&mut members, alloc, "arrivalTime", ascii_str(&arrival))?;
-    put(&mut members, alloc, "departureDelay", departure_delay)?;
-    put_text(&mut members, alloc, "departureStop", from.as_str())?;
-    put_text(&mut members, alloc, "departureTime", ascii_str(&departure))?;
-    put_text(&mut members, alloc, "gtfs:dropOffType", alight)?;
-    put_text(&mut members, alloc, "gtfs:pickupType", board)?;
-    put_text(&mut members, alloc, "gtfs:trip", trip.as_str())?;
-    Ok(Value::Object(members))
+    write_text(out, "@id", name.as_str())?;
+    Ok(())
+}
+
+fn write_trip(out: &mut Writer, alloc: Global, base: &Base, key: &RunKey) -> Result<(), NoMemory>
+    ensures { OnOk result (Appends out.old out.new
+        (member_tokens (text_at (codes "gtfs:trip") (trip_url_of base.now key.now) no_members))) }
+{
+    let url = trip_url(alloc, base, key)?;
+    write_text(out, "gtfs:trip", url.as_str())?;
+    Ok(())
+}
+
+fn write_arrival(
+    out: &mut Writer,
+    alloc: Global,
+    base: &Base,
+    connection: &Connection,
+) -> Result<(), NoMemory>
+    ensures { let c = connection.now in OnOk result (Appends out.old out.new (member_tokens
+        (member (codes "arrivalDelay") (number (of_integer c.arr_delay))
+        (text_at (codes "arrivalStop") (stop_url_of base.now c.arr_stop)
+        (text_at (codes "arrivalTime") (iso_text_of c.arr) no_members))))) }
+{
+    write_number(out, "arrivalDelay", connection.arr_delay)?;
+    write_stop_url(out, alloc, base, "arrivalStop", &connection.arr_stop)?;
+    write_moment(out, "arrivalTime", connection.arr)?;
+    Ok(())
+}
+
+fn write_departure(
+    out: &mut Writer,
+    alloc: Global,
+    base: &Base,
+    connection: &Connection,
+) -> Result<(), NoMemory>
+    ensures { let c = connection.now in OnOk result (Appends out.old out.new (member_tokens
+        (member (codes "departureDelay") (number (of_integer c.dep_delay))
+        (text_at (codes "departureStop") (stop_url_of base.now c.dep_stop)
+        (text_at (codes "departureTime") (iso_text_of c.dep) no_members))))) }
+{
+    write_number(out, "departureDelay", connection.dep_delay)?;
+    write_stop_url(out, alloc, base, "departureStop", &connection.dep_stop)?;
+    write_moment(out, "departureTime", connection.dep)?;
+    Ok(())
+}
+
+/// Writes the URL of a stop.
+fn write_stop_url(
+    out: &mut Writer,
+    alloc: Global,
+    base: &Base,
+    key: &str,
+    stop: &Id,
+) -> Result<(), NoMemory>
+    ensures { OnOk result
+        (Appends out.old out.new (member_tokens (text_at key.now (stop_url_of base.now stop.now) no_members))) }
+{
+    let url = stop_url(alloc, base, stop)?;
+    write_text(out, key, url.as_str())?;
+    Ok(())
+}
+
+fn write_moment(out: &mut Writer, key: &str, moment: Moment) -> Result<(), NoMemory>
+    ensures { OnOk result
+        (Appends out.old out.new (member_tokens (text_at key.now (iso_text_of moment) no_members))) }
+{
+    let text = iso_text(moment);
+    write_text(out, key, ascii_str(&text))?;
+    Ok(())
+}
+
+/// Writes whether one may board or alight, as the GTFS vocabulary says it.
+fn write_allowed(out: &mut Writer, key: &str, allowed: bool) -> Result<(), NoMemory>
+    ensures { OnOk result
+        (Appends out.old out.new (member_tokens (text_at key.now (allowed_text allowed) no_members))) }
+{
+    write_text(out, key, allowed_text(allowed))?;
+    Ok(())
 }
 
 /// How the GTFS vocabulary says whether one may board or alight.

@@ -1,5 +1,5 @@
 //! The pages of connections and the stops document as JSON, each with its exact text, read back, and with the first fault
-//! of every other text. It stands on `lc_model`, on `lc_time`, on `connection_uri` and on `serde_json`.
+//! of every other text. It stands on `lc_model`, on `lc_time`, on `connection_uri`, on `json` and on `serde_json`.
 #![tactic(auto)]
 
 mod change_reading;
@@ -10,6 +10,7 @@ mod fault;
 mod json_reading;
 mod known;
 mod laws;
+mod member_writing;
 mod members;
 mod page;
 mod page_reading;

@@ -1,28 +1,16 @@
 ghost use Rattle.std.specs.Prelude.{◌≡◌, ◌≢◌, None, Some, Ok, Err, OnOk, IfOk, IfErr};
-ghost use Rattle.serde_json.specs.Data.{Members as MembersTree, put, string};
+ghost use Rattle.serde_json.specs.Data.{Members};
 ghost use Rattle.serde_json.specs.Find.{as_array, as_str};
-ghost use Rattle.serde_json.specs.View.{items_view, members_view, view};
+ghost use Rattle.serde_json.specs.View.{items_view, view};
 ghost use Rattle.page_json.specs.Members.{delay_of, formed, list_of, object_under, text_of};
 ghost use Rattle.page_json.specs.PageReading.{allows};
 ghost use Rattle.page_json.specs.Reading.{Meets, exactly};
 ghost use Rattle.page_json.specs.declared.fault.PageFault.TheVariants.{BadMember as bad, NoMember as missing, NoMemory as want_of_memory};
 
 use crate::PageFault;
-use lc_model::{NoMemory, Text};
-use serde_json::{Map, Value, put};
+use lc_model::Text;
+use serde_json::Value;
 use std::alloc::Global;
-
-/// The members of an object, in the order of their keys.
-pub type Members = Map<String, Value>;
-
-/// Puts a member whose value is a text.
-pub fn put_text(members: &mut Members, alloc: Global, key: &str, text: &str) -> Result<(), NoMemory>
-    ensures { OnOk result (members_view members.new.entries
-        ≡ put key.now (string text.now) (members_view members.old.entries)) }
-{
-    put(members, alloc, key, Value::try_from_str(alloc, text)?)?;
-    Ok(())
-}
 
 /// That a member is missing.
 pub fn no_member(alloc: Global, name: &str) -> PageFault
@@ -61,7 +49,7 @@ pub fn or_bad<T: Drop>(alloc: Global, read: Option<T>, key: &str) -> Result<T, P
 
 /// That the value is an object.
 pub fn object_under(alloc: Global, value: &Value, name: &str) -> Result<(), PageFault>
-    ensures ok { OnOk result ((members : MembersTree) × (object_under name.now (view value.now) ≡ Ok members)) }
+    ensures ok { OnOk result ((members : Members) × (object_under name.now (view value.now) ≡ Ok members)) }
     ensures err { IfErr result (λ fault. fault ≢ want_of_memory → object_under name.now (view value.now) ≡ Err fault) }
 {
     match value.as_object() {

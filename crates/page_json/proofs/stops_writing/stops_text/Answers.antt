@@ -1,17 +1,21 @@
--- The tree has no float.
-use Rattle.std.proofs.Common.{◌∙◌, ap}
-use Rattle.serde_json.specs.Written.{compact_text, has_float}
-use Rattle.page_json.specs.Tree.{stops_text_of}
-use Rattle.page_json.proofs.Floats.{stops_plain}
+-- What was written is the text of the document's tree.
+use Rattle.std.proofs.Common.{sym, subst, ◌∙◌}
+use Rattle.std.specs.Str.{IsUtf8}
+use Rattle.page_json.specs.Tokens.{tokens_of}
+use Rattle.page_json.specs.Tree.{stops_text_of, stops_tree}
 use Rattle.page_json.proofs.StopsLaw.{reads_stops_text}
+use Rattle.page_json.proofs.TokensLaw.{behind_nothing, text_is}
 use Rattle.page_json.proofs.stops_writing.stops_text.Goals as goal
 
 pub returns-clause-text : goal.returns-clause-text
 unfolding stops_text_of
 returns-clause-text c =
-    c.in_ok-to_vec.ensures.text (ap has_float c.in_ok-value.ensures.tree ∙ stops_plain c.args.base.now c.args.doc.now)
-    ∙ ap compact_text c.in_ok-value.ensures.tree
+    c.into_inner.ensures.items ∙ text_is _ _ (stops_tree c.args.base.now c.args.doc.now) (c.new-out.ensures.before ∙ c.new.ensures.items) c.new-out.ensures.tokens c.in_ok-write_doc.ensures.tokens
+
+pub returns-clause-utf8 : goal.returns-clause-utf8
+returns-clause-utf8 c =
+    subst IsUtf8 (sym (c.into_inner.ensures.items ∙ behind_nothing _ _ (tokens_of (stops_tree c.args.base.now c.args.doc.now)) (c.new-out.ensures.before ∙ c.new.ensures.items) c.in_ok-write_doc.ensures.tokens)) c.into_inner.ensures.utf8
 
 pub returns-clause-read : goal.returns-clause-read
 returns-clause-read c =
-    (reads_stops_text c.args.base.now c.args.doc.now c.in_ok-to_vec.field-0.items c.in_ok-value.ensures.valid c.in_ok-value.ensures.sound c.in_ok-to_vec.ensures.utf8 (returns-clause-text c)).is
+    (reads_stops_text c.args.base.now c.args.doc.now c.into_inner.result.items c.in_ok-write_doc.ensures.valid c.in_ok-write_doc.ensures.sound (returns-clause-utf8 c) (returns-clause-text c)).is

@@ -1,0 +1,11 @@
+-- The members follow each other.
+use Rattle.page_json.specs.Tree.{connection_tree}
+use Rattle.page_json.proofs.TokensLaw.{one, ◌>>◌}
+use Rattle.page_json.proofs.connection_writing.write_connection.Goals as goal
+
+pub returns-clause-tokens : goal.returns-clause-tokens
+unfolding connection_tree
+returns-clause-tokens c =
+    one c.in_ok-begin_object.ensures >> c.in_ok-write_name.ensures >> c.in_ok-write_text.ensures >> c.in_ok-write_arrival.ensures
+    >> c.in_ok-write_departure.ensures >> c.in_ok-write_allowed.ensures >> c.in_ok-write_allowed-2.ensures >> c.in_ok-write_trip.ensures
+    >> one c.in_ok-end_object.ensures

@@ -1,0 +1,8 @@
+-- The text is the run's URL.
+use Rattle.std.proofs.Common.{◌∙◌}
+use Rattle.page_json.proofs.TokensLaw.{says}
+use Rattle.page_json.proofs.connection_writing.write_trip.Goals as goal
+
+pub returns : goal.returns
+returns c =
+    says _ (c.as_str.ensures.value ∙ c.in_ok-url.ensures) c.in_ok-write_text.ensures

@@ -1,0 +1,22 @@
+-- The members follow each other. The lists of a document stand in order, and it names its stops.
+use Rattle.std.proofs.Common.{◌≡◌, ◌++◌, codes, rules, subst}
+use Rattle.lc_model.specs.Change.{InChangeOrder}
+use Rattle.lc_model.specs.Stop.{InStopOrder}
+use Rattle.page_json.proofs.StopsLaw.{names_its_stops}
+use Rattle.page_json.proofs.TokensLaw.{one, ◌>>◌}
+use Rattle.page_json.proofs.stops_writing.write_doc.Goals as goal
+
+pub returns-clause-tokens : goal.returns-clause-tokens
+returns-clause-tokens c =
+    let whole =
+    one c.in_ok-begin_object.ensures >> c.in_ok-write_text.ensures >> one c.in_ok-key.ensures >> c.in_ok-write_changes.ensures.tokens
+    >> one c.in_ok-key-2.ensures >> c.in_ok-write_stops.ensures.tokens >> one c.in_ok-end_object.ensures in
+    let url : c.as_str.result.now ≡ c.args.base.now.text ++ codes "stops" = search rules in
+    rw (← url, ← c.as_slice.ensures.value, ← c.as_slice-2.ensures.value) whole
+
+pub returns-clause-valid : goal.returns-clause-valid
+returns-clause-valid c = record {
+  stops = subst InStopOrder c.as_slice-2.ensures.value c.as_slice-2.ensures.in_order;
+  changes = subst InChangeOrder c.as_slice.ensures.value c.as_slice.ensures.in_order;
+  closed = names_its_stops c.args.doc.now;
+}
