@@ -1,4 +1,6 @@
-ghost use Rattle.std.specs.Prelude.{◌≡◌, ◌≤◌, IfOk, None, length};
+ghost use Rattle.std.specs.Prelude.{◌≡◌, ◌≤◌, ◌↔◌, IfOk, None, length};
+ghost use Rattle.std.specs.declared.io.ErrorKind.TheVariants.{NotFound, OutOfMemory};
+ghost use Rattle.lc_world.specs.declared.folder.FolderFail.TheVariants.{Absent, NoMemory as WantOfMemory};
 
 use lc_world::{Folder, FolderFail, Sink, SinkFail};
 use std::alloc::Global;
@@ -64,7 +66,10 @@ impl<R: Files + AllocGlobal> Folder for DirFolder<'_, R> {
 }
 
 /// Why a file could not be read.
-fn fail_of(kind: ErrorKind) -> FolderFail {
+fn fail_of(kind: ErrorKind) -> FolderFail
+    ensures absent { (result ≡ Absent) ↔ (kind ≡ NotFound) }
+    ensures no_memory { (result ≡ WantOfMemory) ↔ (kind ≡ OutOfMemory) }
+{
     match kind {
         ErrorKind::NotFound => FolderFail::Absent,
         ErrorKind::OutOfMemory => FolderFail::NoMemory,
