@@ -5,9 +5,8 @@
 #   bench/ask.sh
 #
 # LC is the program, ROUNDS the number of rounds, RUNS how often a round runs the program on each feed.
-set -eu
+. "$(dirname "$0")/begin.sh"
 
-bench=$(cd "$(dirname "$0")" && pwd)
 LC=${LC:-$bench/../crates/lc_cli/out/lc_cli}
 ROUNDS=${ROUNDS:-11}
 RUNS=${RUNS:-20}
@@ -15,16 +14,12 @@ set -- 1250 2500 5000 10000
 
 [ -x "$LC" ] || { echo "ask.sh: no program at $LC" >&2; exit 1; }
 
-feeds=$(mktemp -d)
-trap 'rm -rf "$feeds"' EXIT
-trap 'exit 1' HUP INT TERM
-
 # The feed of 0 rows has header lines only: what it takes is the start-up.
 for rows in 0 "$@"; do
-    python3 "$bench/make_feed.py" "$rows" "$feeds/$rows"
+    python3 "$bench/make_feed.py" "$rows" "$work/$rows"
 done
 
-python3 - "$LC" "$feeds" "$ROUNDS" "$RUNS" "$@" <<'PYTHON'
+python3 - "$LC" "$work" "$ROUNDS" "$RUNS" "$@" <<'PYTHON'
 import os
 import sys
 

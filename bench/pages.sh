@@ -5,17 +5,10 @@
 #   bench/pages.sh
 #
 # PAGES is the program that reads and writes a page, built by build.sh where it is not set. ROUNDS is the number of rounds.
-set -eu
+. "$(dirname "$0")/begin.sh"
 
-bench=$(cd "$(dirname "$0")" && pwd)
-PAGES=${PAGES:-}
 ROUNDS=${ROUNDS:-5}
-
-work=$(mktemp -d)
-trap 'rm -rf "$work"' EXIT
-trap 'exit 1' HUP INT TERM
-
-[ -n "$PAGES" ] || PAGES=$("$bench/build.sh" "$work" "$bench/pages_main.txt" connection_uri page_json anyhow)
+PAGES=${PAGES:-$("$bench/build.sh" "$work" "$bench/pages_main.txt" connection_uri page_json anyhow)}
 
 python3 - "$PAGES" "$work" "$ROUNDS" 1250 2500 5000 10000 <<'PYTHON'
 import json

@@ -6,17 +6,10 @@
 #
 # READER is the program that times one call, built by build.sh where it is not set. ROUNDS is how often each message is
 # read.
-set -eu
+. "$(dirname "$0")/begin.sh"
 
-bench=$(cd "$(dirname "$0")" && pwd)
-READER=${READER:-}
 ROUNDS=${ROUNDS:-21}
-
-work=$(mktemp -d)
-trap 'rm -rf "$work"' EXIT
-trap 'exit 1' HUP INT TERM
-
-[ -n "$READER" ] || READER=$("$bench/build.sh" "$work" "$bench/read_message_main.txt" trip_updates anyhow)
+READER=${READER:-$("$bench/build.sh" "$work" "$bench/read_message_main.txt" trip_updates anyhow)}
 
 # Twice the bytes have twice the trip updates: 83 or 84 bytes for each.
 python3 - "$READER" "$bench/make_message.py" "$work" "$ROUNDS" <<'PYTHON'
