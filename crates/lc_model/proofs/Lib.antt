@@ -1,4 +1,6 @@
 pub mod ChangeSearch
+pub mod OneValue
 pub mod Orders
 pub mod Search
+pub mod Strict
 pub mod Totals

@@ -3,6 +3,7 @@ pub mod Call
 pub mod Change
 pub mod Connection
 pub mod Journey
+pub mod Laws
 pub mod Leg
 pub mod Order
 pub mod Question

@@ -1,4 +1,5 @@
 ghost use Rattle.std.specs.Prelude.{◌≤◌};
+ghost use Rattle.lc_model.specs.declared.query.TheConstants.{FIRST_LEAVE, LAST_LEAVE};
 
 use crate::{Id, Moment, NoMemory, PlainData};
 use std::alloc::Global;
@@ -20,8 +21,8 @@ pub struct Query {
     pub known: Option<Moment>,
     /// In seconds.
     pub horizon: u32,
-    pub ghost not_before: { 864_000 ≤ leave },
-    pub ghost not_after: { leave ≤ 253_400_831_999 },
+    pub ghost not_before: { FIRST_LEAVE ≤ leave },
+    pub ghost not_after: { leave ≤ LAST_LEAVE },
 }
 
 impl PlainData for Query {
