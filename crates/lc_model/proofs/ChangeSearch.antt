@@ -13,8 +13,8 @@ use Rattle.std.specs.declared.cmp.Ordering.TheVariants.{Less, Equal, Greater}
 use Rattle.lc_model.specs.Change.{InChangeOrder, change_between, change_cmp, is_same_id}
 use Rattle.lc_model.specs.Text.{id_cmp}
 use Rattle.lc_model.specs.declared.change.Change.{Change}
-use Rattle.lc_model.proofs.Search.{id_tie, same_id, sorted_from_strict}
-use Rattle.lc_model.proofs.Totals.{change_cmp_total}
+use Rattle.lc_model.proofs.Search.{both_tie, id_tie, same_id, sorted_from_strict}
+use Rattle.lc_model.specs.Totals.{change_cmp_total}
 
 find_here : {X : Type 0} (p : X → Bool) (xs : List X) (i : ℕ) (x : X) → i < length xs → get_or xs i x ≡ x → p x ≡ true
     → ((k : ℕ) → k < i → p (get_or xs k x) ≡ false) → find p xs ≡ Some x
@@ -29,11 +29,6 @@ find_none p [] fails = refl
 find_none p (y ∷ ys) fails =
     let here : p y ≡ false = fails 0 y (omega arith) in
     rw here (find_none p ys (λ k d inside. fails (suc k) d (omega arith)))
-
-both_tie : (a b : Ordering) → ordering_then a b ≡ Equal → (a ≡ Equal) × (b ≡ Equal)
-both_tie Less b e = absurd (let f : Less ≡ Equal = e in cc)
-both_tie Equal b e = (refl, e)
-both_tie Greater b e = absurd (let f : Greater ≡ Equal = e in cc)
 
 tie_both : (a b : Ordering) → a ≡ Equal → b ≡ Equal → ordering_then a b ≡ Equal
 tie_both a b d e = rw (d, e)

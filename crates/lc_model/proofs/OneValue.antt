@@ -1,5 +1,9 @@
 -- The values of which clauses say that they exist are one each.
-use Rattle.std.proofs.Common.{◌≡◌, ℕ, ◌≤◌, Option, Some, None, refl, ap, arith}
+use Rattle.std.proofs.Common.{List, ◌≡◌, ℕ, ◌≤◌, Option, Some, None, refl, ap, arith, subst}
+use Rattle.std.proofs.Props.{props}
+use Rattle.lc_model.specs.StopsDoc.{NamesItsStops}
+use Rattle.lc_model.specs.declared.change.Change.{Change}
+use Rattle.lc_model.specs.declared.stop.Stop.{Stop}
 use Rattle.lc_model.specs.Connection.{departure_cmp, connections_of}
 use Rattle.lc_model.specs.Journey.{IsAnswer, IsLeastArrival, arrives_at}
 use Rattle.lc_model.specs.Laws.{OneArrival, OneLeastArrival, OneListOfConnections, arrival_of}
@@ -10,12 +14,12 @@ use Rattle.lc_model.specs.declared.answer.Answer.TheVariants.{Journey, NoJourney
 use Rattle.lc_model.specs.declared.doc.StopsDoc.{StopsDoc}
 use Rattle.lc_model.specs.declared.query.Query.{Query}
 use Rattle.lc_model.specs.declared.ride.Ride.{Ride}
-use Rattle.lc_model.proofs.Strict.{strict_permutations_are_one}
-use Rattle.lc_model.proofs.Totals.{departure_cmp_total}
+use Rattle.lc_model.proofs.Orders.{strict_orders_are_one}
+use Rattle.lc_model.specs.Totals.{departure_cmp_total}
 
 pub one_list_of_connections : OneListOfConnections
 one_list_of_connections runs a b first second =
-    strict_permutations_are_one departure_cmp departure_cmp_total (connections_of runs) a b first.all second.all first.in_order second.in_order
+    strict_orders_are_one departure_cmp departure_cmp_total (connections_of runs) a b first.all second.all first.in_order second.in_order
 
 -- no two numbers are below each other
 one_number : (m n : ℕ) → m ≤ n → n ≤ m → m ≡ n
@@ -45,3 +49,19 @@ one_arrival runs query doc = answers_arrive_at_one (IsRideAt runs) query doc
 
 pub one_least_arrival : OneLeastArrival
 one_least_arrival query doc list = least_arrivals_are_one (IsLegOf (in_time query list)) query doc
+
+abbrev document : (stops : List Stop) (changes : List Change) → ∥ NamesItsStops stops changes ∥₁ → StopsDoc
+document stops changes closed = record { stops = stops; changes = changes; closed = closed }
+
+closed_prop : (stops : List Stop) (changes : List Change) → IsProp ∥ NamesItsStops stops changes ∥₁
+closed_prop stops changes = hlevel props
+
+same_changes : (stops : List Stop) (c d : List Change) (p : ∥ NamesItsStops stops c ∥₁) (q : ∥ NamesItsStops stops d ∥₁) → c ≡ d → document stops c p ≡ document stops d q
+same_changes stops c d p q e =
+    subst (λ (v : List Change). (q : ∥ NamesItsStops stops v ∥₁) → document stops c p ≡ document stops v q) e (λ q. ap (document stops c) (closed_prop stops c p q)) q
+
+-- documents of the same stops and changes are one
+pub documents_are_one : (a b : StopsDoc) → a.stops ≡ b.stops → a.changes ≡ b.changes → a ≡ b
+documents_are_one a b e f =
+    subst (λ (v : List Stop). (q : ∥ NamesItsStops v b.changes ∥₁) → document a.stops a.changes a.closed ≡ document v b.changes q) e
+    (λ q. same_changes a.stops a.changes b.changes a.closed q f) b.closed

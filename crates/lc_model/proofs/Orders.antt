@@ -1,16 +1,16 @@
 -- Lists in strict order: what a sort makes of a list without ties.
-use Rattle.std.proofs.Common.{◌≡◌, ◌≢◌, ℕ, ◌+◌, ◌<◌, ◌⊎◌, inl, inr, List, length, get_or, Bool, true, false, ap, ◌∙◌, sym, refl, arith}
+use Rattle.std.proofs.Common.{◌≡◌, ◌≢◌, ℕ, ◌+◌, ◌<◌, ◌⊎◌, inl, inr, List, length, get_or, Bool, true, false, zero, suc, [], ◌∷◌, ap, ◌∙◌, sym, refl, subst, arith}
 use Rattle.std.specs.Cmp.{IsTotalOrder, IsStrictWeakOrder}
 use Rattle.std.specs.Fn.{Called, ComparesAs}
-use Rattle.std.specs.List.{AllPairs, swap}
+use Rattle.std.specs.List.{AllPairs, Contains, swap}
 use Rattle.std.specs.List.Sorted.{IsPermutation, IsSorted, IsSortedBy}
 use Rattle.std.specs.Ordering.{is_lt, ordering_reverse}
 use Rattle.std.specs.declared.cmp.Ordering.{Ordering}
 use Rattle.std.specs.declared.cmp.Ordering.TheVariants.{Less, Equal, Greater}
 use Rattle.std.proofs.lemmas.Bool.{cases_order, cases_eq}
-use Rattle.std.proofs.lemmas.Cmp.{tied_back}
+use Rattle.std.proofs.lemmas.Cmp.{tied_back, tied_itself}
 use Rattle.std.proofs.lemmas.List.Edits.{swapped_from_swap, length-swap}
-use Rattle.std.proofs.lemmas.List.Sorted.{IsPermutation-keeps, ranks_by, sorted_far, answers_always}
+use Rattle.std.proofs.lemmas.List.Sorted.{Contains-permutation, IsPermutation-keeps, IsPermutation-sym, ranks_by, sorted_far, answers_always}
 use denote.Param.Members.{Mut}
 use denote.Ref.{Bor}
 use Rattle.lc_model.specs.Order.{AreApart, IsStrict}
@@ -116,3 +116,57 @@ module _ {X : Type 0} (R : X → X → Ordering) (total : IsTotalOrder R) where
   pub IsSorted-from_closure : {F : Type 0} {g : Mut F (Bor X × (Bor X × Unit {0})) Ordering} {f : F} (xs : List X) → ((lt : X → X → Bool) → IsStrictWeakOrder lt → ComparesAs g lt f → IsSortedBy lt xs) → ((f : F) (a : Bor X × (Bor X × Unit {0})) (r : Ordering) (f' : F) → Called g f a r f' → r ≡ R a.0.now a.1.0.now) → IsSorted R xs
   IsSorted-from_closure {g = g} {f = f} xs up h =
       up (λ x y. is_lt (R x y)) (ranks_by total (λ x. x)) (answers_always g (λ a r. is_lt r ≡ is_lt (R a.0.now a.1.0.now)) f (λ f a r f' k. ap is_lt (h f a r f' k)))
+
+  head_or_behind : (x : X) (xs : List X) (z : X) → Contains (x ∷ xs) z → (x ≡ z) ⊎ Contains xs z
+  head_or_behind x xs z (zero, inside, at) = inl at
+  head_or_behind x xs z (suc k, inside, at) = inr (k, omega arith, at)
+
+  nothing_in : (z : X) → Contains [] z → ⊥
+  nothing_in z (k, inside, at) = omega arith
+
+  behind : (x : X) (xs : List X) (z : X) → Contains xs z → Contains (x ∷ xs) z
+  behind x xs z (k, inside, at) = (suc k, omega arith, at)
+
+  less_than_behind : (x : X) (xs : List X) (z : X) → IsStrict R (x ∷ xs) → Contains xs z → R x z ≡ Less
+  less_than_behind x xs z strict (k, inside, at) = subst (λ w. R x w ≡ Less) at (strict 0 (suc k) z (omega arith) (omega arith))
+
+  pub strict_behind : (x : X) (xs : List X) → IsStrict R (x ∷ xs) → IsStrict R xs
+  strict_behind x xs strict i j d before inside = strict (suc i) (suc j) d (omega arith) (omega arith)
+
+  heads_are_one : (x : X) (xs : List X) (y : X) (ys : List X) → IsStrict R (x ∷ xs) → IsStrict R (y ∷ ys) → (x ≡ y) ⊎ Contains xs y → (y ≡ x) ⊎ Contains ys x → x ≡ y
+  heads_are_one x xs y ys xs_strict ys_strict (inl same) either = same
+  heads_are_one x xs y ys xs_strict ys_strict (inr there) (inl same) = sym same
+  heads_are_one x xs y ys xs_strict ys_strict (inr there) (inr here) =
+      let less : R x y ≡ Less = less_than_behind x xs y xs_strict there in
+      let back : R y x ≡ Less = less_than_behind y ys x ys_strict here in
+      let reverse : R x y ≡ ordering_reverse (R y x) = total.antisymm x y in
+      absurd (let f : Less ≡ Greater = sym less ∙ reverse ∙ ap ordering_reverse back in cc)
+
+  -- what stands behind the one head stands behind the other, which is the same
+  behind_the_other : (x : X) (xs : List X) (y : X) (ys : List X) → IsStrict R (x ∷ xs) → x ≡ y → (z : X) → Contains xs z → (y ≡ z) ⊎ Contains ys z → Contains ys z
+  behind_the_other x xs y ys strict same z there (inr other) = other
+  behind_the_other x xs y ys strict same z there (inl head) =
+      let less : R x z ≡ Less = less_than_behind x xs z strict there in
+      let ties : R x z ≡ Equal = subst (λ w. R x w ≡ Equal) (same ∙ head) (tied_itself total x) in
+      absurd (let f : Less ≡ Equal = sym less ∙ ties in cc)
+
+  -- two lists in strict order with the same items are one list
+  pub strict_lists_are_one : (xs ys : List X) → IsStrict R xs → IsStrict R ys → ((x : X) → Contains xs x → Contains ys x) → ((x : X) → Contains ys x → Contains xs x) → xs ≡ ys
+  strict_lists_are_one [] [] xs_strict ys_strict there back = refl
+  strict_lists_are_one [] (y ∷ ys) xs_strict ys_strict there back = absurd (nothing_in y (back y (0, omega arith, refl)))
+  strict_lists_are_one (x ∷ xs) [] xs_strict ys_strict there back = absurd (nothing_in x (there x (0, omega arith, refl)))
+  strict_lists_are_one (x ∷ xs) (y ∷ ys) xs_strict ys_strict there back =
+      let same : x ≡ y =
+      heads_are_one x xs y ys xs_strict ys_strict (head_or_behind x xs y (back y (0, omega arith, refl))) (head_or_behind y ys x (there x (0, omega arith, refl))) in
+      let rest : xs ≡ ys =
+      strict_lists_are_one xs ys (strict_behind x xs xs_strict) (strict_behind y ys ys_strict)
+      (λ z h. behind_the_other x xs y ys xs_strict same z h (head_or_behind y ys z (there z (behind x xs z h))))
+      (λ z h. behind_the_other y ys x xs ys_strict (sym same) z h (head_or_behind x xs z (back z (behind y ys z h)))) in
+      rw (same, rest) refl
+
+  -- the strict order of a list's items is one
+  pub strict_orders_are_one : (zs xs ys : List X) → IsPermutation zs xs → IsPermutation zs ys → IsStrict R xs → IsStrict R ys → xs ≡ ys
+  strict_orders_are_one zs xs ys to_xs to_ys xs_strict ys_strict =
+      strict_lists_are_one xs ys xs_strict ys_strict
+      (λ x h. Contains-permutation zs ys x to_ys (Contains-permutation xs zs x (IsPermutation-sym zs xs to_xs) h))
+      (λ x h. Contains-permutation zs xs x to_xs (Contains-permutation ys zs x (IsPermutation-sym zs ys to_ys) h))

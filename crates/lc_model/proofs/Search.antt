@@ -10,12 +10,19 @@ use Rattle.std.proofs.lemmas.List.Sorted.{Contains-permutation, IsPermutation-ma
 use Rattle.std.specs.Cmp.{IsTotalOrder}
 use Rattle.std.specs.List.{All, AllWithin, Contains, HoldsAt}
 use Rattle.std.specs.List.Sorted.{IsBinarySearchResult, IsPermutation, IsSearchInRange, IsSorted}
-use Rattle.std.specs.Ordering.{is_lt, on, ordering_reverse}
+use Rattle.std.specs.Ordering.{is_lt, on, ordering_reverse, ordering_then}
 use Rattle.std.specs.declared.cmp.Ordering.{Ordering}
 use Rattle.std.specs.declared.cmp.Ordering.TheVariants.{Less, Equal, Greater}
 use Rattle.lc_model.specs.Order.{IsStrict}
 use Rattle.lc_model.specs.Text.{id_cmp}
 
+-- what ties by two orders, the one after the other, ties by both
+pub both_tie : (o p : Ordering) → ordering_then o p ≡ Equal → (o ≡ Equal) × (p ≡ Equal)
+both_tie Less p e = absurd (let f : Less ≡ Equal = e in cc)
+both_tie Equal p e = (refl, e)
+both_tie Greater p e = absurd (let f : Greater ≡ Equal = e in cc)
+
+-- ids that tie are the same
 pub id_tie : (x y : List ℕ) → id_cmp x y ≡ Equal → x ≡ y
 id_tie x y e = exact_bytes x y e
 

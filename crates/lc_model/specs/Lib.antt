@@ -2,6 +2,7 @@ pub mod Calendar
 pub mod Call
 pub mod Change
 pub mod Connection
+pub mod Disorder
 pub mod Journey
 pub mod Laws
 pub mod Leg
@@ -13,3 +14,4 @@ pub mod RunKey
 pub mod Stop
 pub mod StopsDoc
 pub mod Text
+pub mod Totals

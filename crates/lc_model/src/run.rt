@@ -1,7 +1,12 @@
-ghost use Rattle.std.specs.Prelude.{◌≡◌};
+ghost use Rattle.std.specs.Prelude.{◌≡◌, ◌↔◌, IfOk};
+ghost use Rattle.std.specs.Ordering.{on};
+ghost use Rattle.std.specs.Result.{IsOk, result_err};
+ghost use Rattle.lc_model.specs.Disorder.{first_disorder};
 ghost use Rattle.lc_model.specs.Run.{InKeyOrder};
+ghost use Rattle.lc_model.specs.RunKey.{key_cmp};
+ghost use Rattle.lc_model.specs.declared.run.Run.{Run as ToldRun};
 
-use crate::{Calls, NoMemory, PlainData, RunKey, copy_each};
+use crate::{Calls, NoMemory, PlainData, RunKey, copy_each, first_disorder};
 use std::alloc::Global;
 use std::marker::Model;
 
@@ -45,6 +50,19 @@ impl Runs {
         ensures { result ≡ list.items }
     {
         Runs { items: list }
+    }
+
+    /// These in a list, if they stand strictly in order; else the first place, counted from 0, whose item does not come
+    /// after the one before it. Linear in the list.
+    pub fn try_from_list(list: Vec<Run>) -> Result<Runs, usize>
+        ensures same { IfOk result (λ same. same ≡ list.items) }
+        ensures in_order { IsOk result ↔ InKeyOrder list.items }
+        ensures disorder { result_err result ≡ first_disorder (on (λ (run : ToldRun). run.key) key_cmp) list.items }
+    {
+        match first_disorder(list.as_slice()) {
+            Some(place) => Err(place),
+            None => Ok(Runs { items: list }),
+        }
     }
 
     pub fn as_slice(&self) -> &[Run]

@@ -1,7 +1,12 @@
-ghost use Rattle.std.specs.Prelude.{◌≡◌, ◌↔◌, IsTrue};
+ghost use Rattle.std.specs.Prelude.{◌≡◌, ◌↔◌, IfOk, IsTrue};
+ghost use Rattle.std.specs.Ordering.{on};
+ghost use Rattle.std.specs.Result.{IsOk, result_err};
+ghost use Rattle.lc_model.specs.Disorder.{first_disorder};
 ghost use Rattle.lc_model.specs.Stop.{HasStop, InStopOrder};
+ghost use Rattle.lc_model.specs.Text.{id_cmp};
+ghost use Rattle.lc_model.specs.declared.stop.Stop.{Stop as ToldStop};
 
-use crate::{Id, NoMemory, PlainData, Text, copy_each};
+use crate::{Id, NoMemory, PlainData, Text, copy_each, first_disorder};
 use std::alloc::Global;
 use std::marker::Model;
 
@@ -47,6 +52,19 @@ impl Stops {
         ensures { result ≡ list.items }
     {
         Stops { items: list }
+    }
+
+    /// These in a list, if they stand strictly in order; else the first place, counted from 0, whose item does not come
+    /// after the one before it. Linear in the list.
+    pub fn try_from_list(list: Vec<Stop>) -> Result<Stops, usize>
+        ensures same { IfOk result (λ same. same ≡ list.items) }
+        ensures in_order { IsOk result ↔ InStopOrder list.items }
+        ensures disorder { result_err result ≡ first_disorder (on (λ (stop : ToldStop). stop.id) id_cmp) list.items }
+    {
+        match first_disorder(list.as_slice()) {
+            Some(place) => Err(place),
+            None => Ok(Stops { items: list }),
+        }
     }
 
     pub fn as_slice(&self) -> &[Stop]

@@ -1,7 +1,6 @@
--- The orders of keys, connections, stops and changes are total.
-use Rattle.std.proofs.lemmas.Cmp.{nat_cmp_total, nat_list_cmp_total, on_total, then_total}
-use Rattle.std.specs.Cmp.{IsTotalOrder}
-use Rattle.std.specs.Cmp.Lexicographic.{options_total}
+-- The orders of keys, connections, stops, changes and runs are total, as `Ranked` asks of an order.
+use Rattle.std.specs.Cmp.{IsTotalOrder, nat_cmp_total, on_total, then_total}
+use Rattle.std.specs.Cmp.Lexicographic.{nat_list_cmp_total, options_total}
 use Rattle.std.specs.Ordering.{on}
 use Rattle.lc_model.specs.Change.{change_cmp}
 use Rattle.lc_model.specs.Connection.{departure_cmp}
@@ -11,6 +10,7 @@ use Rattle.lc_model.specs.declared.change.Change.{Change}
 use Rattle.lc_model.specs.declared.connection.Connection.{Connection}
 use Rattle.lc_model.specs.declared.date.ServiceDate.{ServiceDate}
 use Rattle.lc_model.specs.declared.key.RunKey.{RunKey}
+use Rattle.lc_model.specs.declared.run.Run.{Run}
 use Rattle.lc_model.specs.declared.stop.Stop.{Stop}
 
 date_cmp_total : IsTotalOrder date_cmp
@@ -33,3 +33,6 @@ stop_cmp_total = on_total (λ (s : Stop). s.id) nat_list_cmp_total
 
 pub change_cmp_total : IsTotalOrder change_cmp
 change_cmp_total = then_total (on_total (λ (c : Change). c.from) nat_list_cmp_total) (on_total (λ (c : Change). c.to) nat_list_cmp_total)
+
+pub run_cmp_total : IsTotalOrder (on (λ (r : Run). r.key) key_cmp)
+run_cmp_total = on_total (λ (r : Run). r.key) key_cmp_total
