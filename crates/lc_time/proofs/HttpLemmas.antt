@@ -79,7 +79,7 @@ http_date moment bound =
       right_day = ap weekday (sym (days_at number small));
     }
 
-http_date-secs : (moment : ℕ) (bound : moment < 253_402_128_000) → unix_secs (http_date moment bound) ≡ moment
+pub http_date-secs : (moment : ℕ) (bound : moment < 253_402_128_000) → unix_secs (http_date moment bound) ≡ moment
 unfolding http_date days
 http_date-secs moment bound =
     let number = moment / 86_400 in

@@ -3,4 +3,5 @@ pub mod CalendarLemmas
 pub mod DateLemmas
 pub mod HttpLemmas
 pub mod IsoLemmas
+pub mod OneText
 pub mod OptionLemmas

@@ -4,3 +4,4 @@ pub mod Date
 pub mod Digits
 pub mod Http
 pub mod Iso
+pub mod Laws

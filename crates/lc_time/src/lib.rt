@@ -8,6 +8,7 @@ mod date;
 mod digits;
 mod http;
 mod iso;
+mod laws;
 #[cfg(test)]
 mod tests;
 
@@ -16,3 +17,4 @@ pub use clock::{CLOCK_END, read_gtfs_time, read_start, start_text};
 pub use date::{date_text, read_date};
 pub use http::{http_date, read_http_date};
 pub use iso::{iso_text, read_iso};
+pub use laws::one_value_a_text;

@@ -1,0 +1,11 @@
+use Rattle.lc_time.proofs.OneText as law
+use Rattle.lc_time.proofs.laws.one_value_a_text.Goals as goal
+
+pub returns : goal.returns
+returns c = record {
+  date = law.one_date;
+  start = law.one_start;
+  time = law.one_time;
+  moment = law.one_moment;
+  http = law.one_http_moment;
+}

@@ -1,0 +1,27 @@
+-- A text says one value.
+use Rattle.std.specs.Prelude.{◌≡◌, ℕ, ◌<◌, List}
+use Rattle.lc_model.specs.declared.date.ServiceDate.{ServiceDate}
+use Rattle.lc_time.specs.Clock.{SaysGtfsTime, start_text_of}
+use Rattle.lc_time.specs.Date.{date_text_of}
+use Rattle.lc_time.specs.Http.{SaysHttpDate}
+use Rattle.lc_time.specs.Iso.{SaysMoment}
+
+-- two dates of one text are one
+abbrev pub OneDate : Type 0
+OneDate = (a b : ServiceDate) → date_text_of a.year a.month a.day ≡ date_text_of b.year b.month b.day → a ≡ b
+
+-- two starts of one text are one
+abbrev pub OneStart : Type 0
+OneStart = (a b : ℕ) → a < 360_000 → b < 360_000 → start_text_of a ≡ start_text_of b → a ≡ b
+
+-- a text says one time of a service day
+abbrev pub OneTime : Type 0
+OneTime = (text : List ℕ) (a b : ℕ) → SaysGtfsTime text a → SaysGtfsTime text b → a ≡ b
+
+-- a text of ISO 8601 says one moment
+abbrev pub OneMoment : Type 0
+OneMoment = (text : List ℕ) (a b : ℕ) → SaysMoment text a → SaysMoment text b → a ≡ b
+
+-- and so does a date of HTTP
+abbrev pub OneHttpMoment : Type 0
+OneHttpMoment = (text : List ℕ) (a b : ℕ) → SaysHttpDate text a → SaysHttpDate text b → a ≡ b
