@@ -1,12 +1,6 @@
-pub mod Counts
 pub mod Door
-pub mod Folder
 pub mod Link
 pub mod ListLink
-pub mod MemFolder
-pub mod MemSink
 pub mod Pieces
 pub mod Place
-pub mod Sink
 pub mod SureDoor
-pub mod SureFolder

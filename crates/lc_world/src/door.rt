@@ -1,5 +1,5 @@
 ghost use Rattle.std.specs.Prelude.{◌≡◌, ◌≤◌, length, IfOk, IsErrOf};
-ghost use Rattle.lc_world.specs.Counts.{HasCause};
+ghost use Rattle.lc_io.specs.Counts.{HasCause};
 ghost use Rattle.lc_world.specs.Door.{DoorSeen};
 ghost use Rattle.lc_world.specs.declared.door.DoorFail.TheVariants.{Failed};
 

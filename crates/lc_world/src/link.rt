@@ -1,5 +1,5 @@
 ghost use Rattle.std.specs.Prelude.{◌≡◌, [], OnErr, IsErrOf};
-ghost use Rattle.lc_world.specs.Counts.{HasCause};
+ghost use Rattle.lc_io.specs.Counts.{HasCause};
 ghost use Rattle.lc_world.specs.Link.{LinkSeen};
 ghost use Rattle.lc_world.specs.declared.link.LinkFail.TheVariants.{Failed};
 

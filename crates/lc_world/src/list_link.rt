@@ -1,5 +1,5 @@
 ghost use Rattle.std.specs.Prelude.{◌≡◌, [], None, IfOk, OnErr, OnOk, IsErrOf, IsSome, IsTrue, slice_get};
-ghost use Rattle.lc_world.specs.Counts.{HasCause, one_more};
+ghost use Rattle.lc_io.specs.Counts.{HasCause, one_more};
 ghost use Rattle.lc_world.specs.ListLink.{Gives};
 ghost use Rattle.lc_world.specs.declared.link.LinkFail.TheVariants.{Failed};
 

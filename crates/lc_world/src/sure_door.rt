@@ -1,5 +1,5 @@
 ghost use Rattle.std.specs.Prelude.{◌≡◌, ◌<◌, ◌≤◌, ◌+◌, ◌^◌, [], ◌∷◌, ◌++◌, None, length, min, take, drop, IfOk, IfSome, IsOk, OnOk, OnErr, MatchOption, IsErrOf};
-ghost use Rattle.lc_world.specs.Counts.{HasCause};
+ghost use Rattle.lc_io.specs.Counts.{HasCause};
 ghost use Rattle.lc_world.specs.Place.{pieces_at};
 ghost use Rattle.lc_world.specs.SureDoor.{Comes, Reads, sends};
 ghost use Rattle.lc_world.specs.declared.door.DoorFail.TheVariants.{Failed};

@@ -1,9 +1,13 @@
 -- Counts of faults. A count is a number of 64 bits that stays at its last value once it has reached it.
 use Rattle.std.specs.Prelude.{◌≡◌, ℕ, ◌+◌, ◌-◌, ◌^◌, ◌≤◌, min}
 
--- The count rose: it is greater than before, or it stands at its last value, where any number may have been added.
+-- The count rose at least so many times, or it stands at its last value, where any number may have been added.
+abbrev pub RoseBy : ℕ → ℕ → ℕ → Type 0
+RoseBy times before now = min (before + times) (2 ^ 64 - 1) ≤ now
+
+-- the count rose
 abbrev pub Rose : ℕ → ℕ → Type 0
-Rose before now = min (before + 1) (2 ^ 64 - 1) ≤ now
+Rose before now = RoseBy 1 before now
 
 -- The count has not fallen, and the outcome that it counts comes only where it rose.
 pub record HasCause (before now : ℕ) (outcome : Type 0) : Type 0 where

@@ -1,8 +1,9 @@
 -- Folders in memory of which no read fails.
 use Rattle.std.specs.Prelude.{ℕ, List}
-use Rattle.lc_world.specs.declared.file.File.{File}
+use Rattle.lc_io.specs.declared.file.File.{File}
 
--- the files, and how often a name was absent
+-- the files, how often a name was absent, and the names asked for
 pub record SureFolderState : Type 0 where
   pub files : List File
   pub absences : ℕ
+  pub asked : List (List ℕ)

@@ -1,7 +1,7 @@
 ghost use Rattle.std.specs.Prelude.{◌≡◌, Some, None, IfOk, IfSome, IsErrOf};
-ghost use Rattle.lc_world.specs.Counts.{HasCause};
-ghost use Rattle.lc_world.specs.Folder.{FolderSeen, bytes_named};
-ghost use Rattle.lc_world.specs.declared.folder.FolderFail.TheVariants.{Failed, Absent};
+ghost use Rattle.lc_io.specs.Counts.{HasCause};
+ghost use Rattle.lc_io.specs.Folder.{FolderSeen, TellsAsked, bytes_named};
+ghost use Rattle.lc_io.specs.declared.folder.FolderFail.TheVariants.{Failed, Absent};
 
 use std::alloc::Global;
 
@@ -26,7 +26,8 @@ pub trait Folder {
         ensures absent { IsErrOf result Absent → IfSome (seen self.old).files (λ files. bytes_named files name.now ≡ None) }
         ensures unchanged { (seen self.new).files ≡ (seen self.old).files }
         ensures faults { HasCause (seen self.old).faults (seen self.new).faults (IsErrOf result Failed) }
-        ensures absences { HasCause (seen self.old).absences (seen self.new).absences (IsErrOf result Absent) };
+        ensures absences { HasCause (seen self.old).absences (seen self.new).absences (IsErrOf result Absent) }
+        ensures asked { TellsAsked (seen self.old).asked (seen self.new).asked name.now result };
 
     /// How often a read has failed.
     fn faults(&self) -> u64

@@ -1,7 +1,7 @@
 ghost use Rattle.std.specs.Prelude.{◌≡◌, ◌<◌, ◌≤◌, ◌↔◌, ◌++◌, [], Some, length, take, IfOk, MatchResult, IsErrOf, Contains};
-ghost use Rattle.lc_world.specs.Counts.{Counts, HasCause, one_more};
-ghost use Rattle.lc_world.specs.MemSink.{MemSinkState};
-ghost use Rattle.lc_world.specs.declared.sink.SinkFail.TheVariants.{Failed};
+ghost use Rattle.lc_io.specs.Counts.{Counts, HasCause, one_more};
+ghost use Rattle.lc_io.specs.MemSink.{MemSinkState};
+ghost use Rattle.lc_io.specs.declared.sink.SinkFail.TheVariants.{Failed};
 
 use crate::{Sink, SinkFail};
 use lc_model::NoMemory;
@@ -18,7 +18,7 @@ pub struct MemSink {
 }
 
 impl Model for MemSink {
-    ghost use Rattle.lc_world.specs.MemSink.{MemSinkState};
+    ghost use Rattle.lc_io.specs.MemSink.{MemSinkState};
 
     ghost Value = { MemSinkState };
 

@@ -1,6 +1,6 @@
 ghost use Rattle.std.specs.Prelude.{◌≡◌, ◌<◌, ◌≤◌, ◌++◌, [], Some, length, take, IfOk, MatchResult, IsErrOf};
-ghost use Rattle.lc_world.specs.Counts.{HasCause};
-ghost use Rattle.lc_world.specs.declared.sink.SinkFail.TheVariants.{Failed};
+ghost use Rattle.lc_io.specs.Counts.{HasCause};
+ghost use Rattle.lc_io.specs.declared.sink.SinkFail.TheVariants.{Failed};
 
 use crate::{Sink, SinkFail};
 use lc_model::NoMemory;

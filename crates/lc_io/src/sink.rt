@@ -1,7 +1,7 @@
 ghost use Rattle.std.specs.Prelude.{◌≡◌, ◌<◌, ◌≤◌, ℕ, length, IfOk, OnOk, OnErr, MatchResult, IsErrOf};
-ghost use Rattle.lc_world.specs.Counts.{HasCause};
-ghost use Rattle.lc_world.specs.Sink.{SinkSeen, written_after};
-ghost use Rattle.lc_world.specs.declared.sink.SinkFail.TheVariants.{Failed};
+ghost use Rattle.lc_io.specs.Counts.{HasCause};
+ghost use Rattle.lc_io.specs.Sink.{SinkSeen, written_after};
+ghost use Rattle.lc_io.specs.declared.sink.SinkFail.TheVariants.{Failed};
 
 /// Why a sink took nothing.
 #[derive(Clone, Copy, Debug, PartialEq, Eq)]

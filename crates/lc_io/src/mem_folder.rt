@@ -1,13 +1,13 @@
-ghost use Rattle.std.specs.Prelude.{◌≡◌, ◌↔◌, Some, None, Ok, Err, IfOk, IfSome, OnOk, MatchResult, IsErrOf, Contains, find, nat_eq};
+ghost use Rattle.std.specs.Prelude.{◌≡◌, ◌↔◌, ◌++◌, ◌∷◌, [], Some, None, Ok, Err, IfOk, IfSome, OnOk, OnErr, MatchResult, IsErrOf, Contains, find, nat_eq};
 ghost use Rattle.std.specs.Option.{option_copied};
 ghost use lib.Pointwise.{pointwise};
-ghost use Rattle.lc_world.specs.Counts.{Counts, HasCause, one_more};
-ghost use Rattle.lc_world.specs.Folder.{bytes_named};
-ghost use Rattle.lc_world.specs.MemFolder.{MemFolderState};
-ghost use Rattle.lc_world.specs.declared.folder.FolderFail.TheVariants.{Failed, Absent};
+ghost use Rattle.lc_io.specs.Counts.{Counts, HasCause, one_more};
+ghost use Rattle.lc_io.specs.Folder.{TellsAsked, bytes_named};
+ghost use Rattle.lc_io.specs.MemFolder.{MemFolderState};
+ghost use Rattle.lc_io.specs.declared.folder.FolderFail.TheVariants.{Failed, Absent};
 
 use crate::{File, Folder, FolderFail};
-use lc_model::NoMemory;
+use lc_model::{NoMemory, Text};
 use std::alloc::Global;
 use std::marker::Model;
 
@@ -33,6 +33,15 @@ pub(crate) fn bytes_of(alloc: Global, files: &[File], name: &str) -> Result<Vec<
     }
 }
 
+/// Adds the name to those asked for. Without memory for it they stay as they were.
+pub(crate) fn add_asked(alloc: Global, asked: &mut Vec<Text>, name: &str) -> Result<(), NoMemory>
+    ensures ok { OnOk result (asked.new.items ≡ asked.old.items ++ name.now ∷ []) }
+    ensures err { OnErr result (asked.new.items ≡ asked.old.items) }
+{
+    asked.push(Text::from_string(String::from_str(alloc, name)?))?;
+    Ok(())
+}
+
 /// A folder in memory, some of whose reads fail.
 #[derive(Debug, Drop)]
 pub struct MemFolder {
@@ -41,10 +50,11 @@ pub struct MemFolder {
     reads: u64,
     faults: u64,
     absences: u64,
+    asked: Vec<Text>,
 }
 
 impl Model for MemFolder {
-    ghost use Rattle.lc_world.specs.MemFolder.{MemFolderState};
+    ghost use Rattle.lc_io.specs.MemFolder.{MemFolderState};
 
     ghost Value = { MemFolderState };
 
@@ -54,18 +64,20 @@ impl Model for MemFolder {
       reads = f.reads;
       faults = f.faults;
       absences = f.absences;
+      asked = f.asked.items;
     } };
 }
 
 impl MemFolder {
     /// A folder of these files, in which the reads of these numbers, from 1, fail.
-    pub fn new(files: Vec<File>, fails: Vec<u64>) -> Result<MemFolder, NoMemory>
+    pub fn new(alloc: Global, files: Vec<File>, fails: Vec<u64>) -> Result<MemFolder, NoMemory>
         ensures { IfOk result (λ folder. folder ≡ record {
           files = files.items;
           fails = fails.items;
           reads = 0;
           faults = 0;
           absences = 0;
+          asked = [];
         }) }
     {
         Ok(MemFolder {
@@ -74,12 +86,20 @@ impl MemFolder {
             reads: 0,
             faults: 0,
             absences: 0,
+            asked: Vec::new(alloc),
         })
+    }
+
+    /// The names asked for, in their order.
+    pub fn asked(&self) -> &[Text]
+        ensures { result.now ≡ self.now.asked }
+    {
+        self.asked.as_slice()
     }
 }
 
 impl Folder for MemFolder {
-    ghost seen = { λ f. record { files = Some f.files; faults = f.faults; absences = f.absences } };
+    ghost seen = { λ f. record { files = Some f.files; faults = f.faults; absences = f.absences; asked = Some f.asked } };
 
     fn read(&mut self, alloc: Global, name: &str) -> Result<Vec<u8>, FolderFail>
         ensures bytes { IfOk result (λ bytes. bytes_named self.old.files name.now ≡ Some bytes.items) }
@@ -87,16 +107,23 @@ impl Folder for MemFolder {
         ensures unchanged { self.new.files ≡ self.old.files }
         ensures faults { HasCause self.old.faults self.new.faults (IsErrOf result Failed) }
         ensures absences { HasCause self.old.absences self.new.absences (IsErrOf result Absent) }
+        ensures asked { TellsAsked (Some self.old.asked) (Some self.new.asked) name.now result }
+        // A read is counted even where there is no memory for its name; a listed one fails once its name is kept.
         ensures reads { self.new ≡ record self.old {
           reads = one_more self.old.reads;
           faults = self.new.faults;
           absences = self.new.absences;
+          asked = self.new.asked;
         } }
-        ensures listed { IsErrOf result Failed ↔ Contains self.old.fails (one_more self.old.reads) }
+        ensures listed { IsErrOf result Failed ↔
+            (Contains self.old.fails (one_more self.old.reads) × (self.new.asked ≡ self.old.asked ++ name.now ∷ [])) }
         ensures each_fault { Counts self.old.faults self.new.faults (IsErrOf result Failed) }
         ensures each_absence { Counts self.old.absences self.new.absences (IsErrOf result Absent) }
     {
         self.reads = self.reads.saturating_add(1);
+        if add_asked(alloc, &mut self.asked, name).is_err() {
+            return Err(FolderFail::NoMemory);
+        }
         if self.fails.contains(&self.reads) {
             self.faults = self.faults.saturating_add(1);
             return Err(FolderFail::Failed);

@@ -1,7 +1,7 @@
 -- What is done so far is written, and the count has not fallen.
 use Rattle.std.proofs.Common.{◌≡◌, ◌-◌, ◌≤◌, length}
-use Rattle.lc_world.specs.Sink.{written_after}
-use Rattle.lc_world.proofs.sink.put_all.Given as goal
+use Rattle.lc_io.specs.Sink.{written_after}
+use Rattle.lc_io.proofs.sink.put_all.Given as goal
 
 abbrev pub invariant-loop-done : goal.invariant-loop-done
 invariant-loop-done g l =
