@@ -1,4 +1,5 @@
 pub mod Fault
+pub mod Laws
 pub mod Reading
 pub mod Sheet
 pub mod Spaces

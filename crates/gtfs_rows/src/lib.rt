@@ -3,6 +3,7 @@
 #![tactic(auto)]
 
 mod fault;
+mod laws;
 mod reading;
 mod records;
 mod rows;
@@ -10,6 +11,7 @@ mod spaces;
 mod tabulate;
 
 pub use fault::RowFault;
+pub use laws::one_table;
 pub use rows::Rows;
 pub use tabulate::table;
 
