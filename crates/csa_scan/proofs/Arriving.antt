@@ -3,7 +3,7 @@ use Rattle.std.proofs.Common.{◌≡◌, ℕ, ◌+◌, ◌≤◌, List, [], ◌�
 use Rattle.std.specs.List.{slice_get}
 use Rattle.std.proofs.lemmas.Option.{slice_get_within}
 use Rattle.std.proofs.lemmas.List.{length_push}
-use Rattle.lc_model.specs.Change.{InChangeOrder, change_between}
+use Rattle.lc_model.specs.Change.{InChangeOrder, change_between, changes_from}
 use Rattle.lc_model.specs.Question.{IsTo}
 use Rattle.lc_model.specs.declared.change.Change.{Change}
 use Rattle.lc_model.specs.declared.connection.Connection.{Connection}
@@ -14,13 +14,14 @@ use Rattle.lc_model.specs.declared.ride.Ride.{Ride}
 use Rattle.lc_model.specs.declared.stop.Stop.{Stop}
 use Rattle.csa_scan.specs.Kept.{Kept}
 use Rattle.csa_scan.specs.Reach.{id_at, LeadsTo, MayBoard, IsLegEnd, IsBoardingOf, IsReachedBy}
-use Rattle.csa_scan.specs.Relaxed.{AreChangesFrom, IsRelaxed}
+use Rattle.csa_scan.specs.Relaxed.{IsRelaxed}
 use Rattle.csa_scan.specs.Stands.{IsReady, IsBestGoal, Follows, IsComplete}
 use Rattle.csa_scan.specs.Takes.{PicksBest, Arrives}
 use Rattle.csa_scan.specs.declared.trace.Arrival.{Arrival}
 use Rattle.csa_scan.specs.declared.trace.Boarding.{Boarding}
 use Rattle.csa_scan.specs.declared.trace.Goal.{Goal}
 use Rattle.csa_scan.specs.declared.trace.Ready.{Ready}
+use Rattle.csa_scan.proofs.ChangesFrom.{AreChangesFrom, are_changes_from}
 use Rattle.csa_scan.proofs.Changes.{change_found, change_is}
 use Rattle.csa_scan.proofs.Growth.{leg_cases, may_board_before, leg_end-grown, boarding-grown, reached-grown}
 use Rattle.csa_scan.proofs.ListPlaces.{slice_get-append, slice_get-last, push_cases, set_cases}
@@ -145,7 +146,7 @@ follows-arrived query doc in_order runs old new list f a end early s =
     let P : Kept → Type 0 = λ k. Follows query doc runs k list in
     let made : Kept = record { boardings = old.boardings; ready = new.ready; reached = set old.reached a.stop (Some a.arr); arrivals = old.arrivals ++ a ∷ []; best = new.best } in
     subst P (sym (same_kept new made s.boardings refl s.reached s.arrivals refl))
-    (follows_lists query doc in_order runs old list f a end early s.ready.changes s.ready.are_changes new.ready s.ready.relaxed new.best s.best)
+    (follows_lists query doc in_order runs old list f a end early (changes_from doc.changes (id_at doc.stops a.stop)) (are_changes_from doc.changes (id_at doc.stops a.stop)) new.ready s.ready.relaxed new.best s.best)
 
 -- each leg of the longer list is reached, where the arrival is that of the new connection
 pub complete-arrived : (query : Query) (doc : StopsDoc) (arrivals : List Arrival) (list : List Connection) → IsComplete query doc arrivals list →

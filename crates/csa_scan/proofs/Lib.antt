@@ -1,5 +1,6 @@
 pub mod Arriving
 pub mod Changes
+pub mod ChangesFrom
 pub mod Growth
 pub mod Least
 pub mod ListPlaces

@@ -1,17 +1,12 @@
 -- What an arrival makes ready, by the changes from its stop.
 use Rattle.std.specs.Prelude.{◌≡◌, ℕ, ◌+◌, ◌<◌, ◌≤◌, ◌⊎◌, List, Option, Some, length}
 use Rattle.std.specs.List.{slice_get}
-use Rattle.lc_model.specs.Change.{InChangeOrder}
+use Rattle.lc_model.specs.Change.{InChangeOrder, changes_from}
 use Rattle.lc_model.specs.declared.change.Change.{Change}
 use Rattle.lc_model.specs.declared.doc.StopsDoc.{StopsDoc}
 use Rattle.lc_model.specs.declared.stop.Stop.{Stop}
 use Rattle.csa_scan.specs.Reach.{id_at}
 use Rattle.csa_scan.specs.declared.trace.Ready.{Ready}
-
--- the list has exactly the changes from this stop
-pub record AreChangesFrom (changes : List Change) (from : List ℕ) (list : List Change) : Type 0 where
-  pub sound : (k : ℕ) (c : Change) → slice_get list k ≡ Some c → ((place : ℕ) × (slice_get changes place ≡ Some c)) × (c.from ≡ from)
-  pub complete : (place : ℕ) (c : Change) → slice_get changes place ≡ Some c → c.from ≡ from → (k : ℕ) × (slice_get list k ≡ Some c)
 
 -- after the arrival, each stop with one of the changes is ready when the change is made, or earlier, and no other stop
 -- became ready
@@ -35,6 +30,4 @@ pub record Improves (stops : List Stop) (to : List ℕ) (at after : ℕ) (old ne
 -- after the arrival at the stop, the stops that it changes to are ready
 pub record Relaxes (doc : StopsDoc) (stop arr after : ℕ) (old new : List (Option Ready)) : Type 0 where
   pub in_order : InChangeOrder doc.changes
-  pub changes : List Change
-  pub are_changes : AreChangesFrom doc.changes (id_at doc.stops stop) changes
-  pub relaxed : IsRelaxed doc.stops changes after arr old new
+  pub relaxed : IsRelaxed doc.stops (changes_from doc.changes (id_at doc.stops stop)) after arr old new

@@ -1,12 +1,10 @@
 ghost use Rattle.std.specs.Prelude.{◌≡◌, ◌<◌, ◌↔◌, IsTrue, MatchOption, Some, length};
-ghost use Rattle.lc_model.specs.Change.{InChangeOrder};
 ghost use Rattle.lc_model.specs.Question.{IsEnd};
 ghost use Rattle.lc_model.specs.Stop.{InStopOrder};
 ghost use Rattle.csa_scan.specs.PlaceOf.{IsPlaceOf, LacksId};
 ghost use Rattle.csa_scan.specs.Reach.{id_at};
-ghost use Rattle.csa_scan.specs.Relaxed.{AreChangesFrom};
 
-use lc_model::{Change, Id, Stop};
+use lc_model::{Id, Stop};
 
 /// The place of the stop of this id. Takes the logarithm of the stops.
 pub fn place_of(stops: &[Stop], id: &Id) -> Option<usize>
@@ -14,17 +12,6 @@ pub fn place_of(stops: &[Stop], id: &Id) -> Option<usize>
     ensures { MatchOption result (LacksId stops.now id.now) (IsPlaceOf stops.now id.now) }
 {
     stops.binary_search_by(|stop| stop.id.cmp(id)).ok()
-}
-
-/// The changes from the stop. Takes the logarithm of the changes.
-pub fn changes_from<'a>(changes: &'a [Change], from: &Id) -> &'a [Change]
-    requires { InChangeOrder changes.now }
-    ensures { AreChangesFrom changes.now from.now result.now }
-{
-    let start = changes.partition_point(|change| change.from.cmp(from).is_lt());
-    let behind = &changes[start..];
-    let count = behind.partition_point(|change| change.from.cmp(from).is_le());
-    &behind[..count]
 }
 
 /// Whether the stop has this parent.

@@ -3,7 +3,7 @@ ghost use Rattle.lc_model.specs.Stop.{InStopOrder};
 ghost use Rattle.csa_scan.specs.Relaxed.{Improves, Relaxes};
 ghost use Rattle.csa_scan.specs.declared.trace.Ready.{Ready};
 
-use crate::places::{changes_from, place_of};
+use crate::places::place_of;
 use crate::trace::Ready;
 use lc_model::{Change, Id, Moment, Stop, StopsDoc};
 
@@ -46,7 +46,9 @@ pub fn relax(doc: &StopsDoc, ready: &mut [Option<Ready>], stop: usize, arr: Mome
     ensures { Relaxes doc.now stop arr after ready.old ready.new }
 {
     let stops = doc.stops.as_slice();
-    for change in changes_from(doc.changes.as_slice(), &stops[stop].id) {
+    // Changes stand in order, as what takes an arrival asks.
+    let _in_order = doc.changes.as_slice();
+    for change in doc.changes.from(&stops[stop].id) {
         improve(stops, ready, &change.to, changed_at(arr, change), after);
     }
 }
