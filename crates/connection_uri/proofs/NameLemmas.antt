@@ -1,5 +1,5 @@
 -- The parts of a name are cut at its slashes, and each says what it was written from.
-use Rattle.std.proofs.Common.{◌≡◌, ◌≢◌, ℕ, zero, suc, ◌+◌, ◌/◌, ◌%◌, ◌<◌, inl, inr, true, false, List, [], ◌∷◌, ◌++◌, length, take, drop, get_or, codes, decimal, Option, Some, None, All, refl, sym, ap, ap₂, subst, ◌∙◌, arith, append_assoc, ◌-◌, add-one, length-drop}
+use Rattle.std.proofs.Common.{◌≡◌, ◌≢◌, ℕ, zero, suc, ◌+◌, ◌/◌, ◌<◌, inl, inr, true, false, List, [], ◌∷◌, ◌++◌, length, take, drop, get_or, codes, decimal, Option, Some, None, All, refl, sym, ap, ap₂, subst, ◌∙◌, arith, append_assoc, ◌-◌, add-one, length-drop}
 use Rattle.std.proofs.lemmas.List.{take_all}
 use Rattle.std.proofs.Props.{props}
 use Rattle.std.specs.Option.{ForSome, MatchOption, IsSomeAnd, IfSome}
@@ -12,8 +12,7 @@ use Rattle.lc_model.specs.declared.date.ServiceDate.{ServiceDate}
 use Rattle.lc_model.specs.declared.key.RunKey.{RunKey}
 use Rattle.lc_time.specs.Clock.{start_text_of}
 use Rattle.lc_time.specs.Date.{date_text_of}
-use Rattle.lc_time.specs.Digits.{two_digits}
-use Rattle.lc_time.proofs.DateLemmas.{same_date, fits}
+use Rattle.lc_time.proofs.OneText.{one_date, one_start}
 use Rattle.percent_encoding.specs.AsciiSet.{should_percent_encode}
 use Rattle.percent_encoding.specs.Percent.{percent_decode}
 use Rattle.percent_encoding.proofs.PercentLemmas.{All-percent_encode, IsEscapeByte}
@@ -150,35 +149,11 @@ start_no_slash (Some s) =
 
 -- ---- each part says one value
 
-two_same : (m n : ℕ) (x y : List ℕ) → m < 100 → n < 100 → two_digits m ++ x ≡ two_digits n ++ y → (m ≡ n) × (x ≡ y)
-two_same m n x y small small' e =
-    let tens : 48 + m / 10 ≡ 48 + n / 10 = ap (λ (t : List ℕ). get_or t 0 0) e in
-    let ones : 48 + m % 10 ≡ 48 + n % 10 = ap (λ (t : List ℕ). get_or t 1 0) e in
-    (omega arith, ap (drop 2) e)
-
-same_date_text : (a b : ServiceDate) → date_text_of a.year a.month a.day ≡ date_text_of b.year b.month b.day → a ≡ b
-same_date_text a b e =
-    let fa = fits a in
-    let fb = fits b in
-    let century = two_same (a.year / 100) (b.year / 100) _ _ (omega (arith, fa.year_fits)) (omega (arith, fb.year_fits)) e in
-    let years = two_same (a.year % 100) (b.year % 100) _ _ (omega arith) (omega arith) century.1 in
-    let month = two_same a.month b.month _ _ fa.month_fits fb.month_fits years.1 in
-    let day = two_same a.day b.day [] [] fa.day_fits fb.day_fits month.1 in
-    let year : a.year ≡ b.year = omega (arith, century.0, years.0) in
-    same_date a b year month.0 day.0
-
-same_start_text : (a b : ℕ) → a < 360_000 → b < 360_000 → start_text_of a ≡ start_text_of b → a ≡ b
-same_start_text a b small small' e =
-    let hours = two_same (a / 3600) (b / 3600) _ _ (omega arith) (omega arith) e in
-    let minutes = two_same (a / 60 % 60) (b / 60 % 60) _ _ (omega arith) (omega arith) hours.1 in
-    let seconds = two_same (a % 60) (b % 60) [] [] (omega arith) (omega arith) minutes.1 in
-    omega (arith, hours.0, minutes.0, seconds.0)
-
 same_start : (a b : Option ℕ) → ForSome a (λ s. s < 360_000) → ForSome b (λ s. s < 360_000) → start_part_of a ≡ start_part_of b → a ≡ b
 same_start None None h k e = refl
 same_start None (Some s) h k e = let first : 45 ≡ 48 + s / 3600 / 10 = ap (λ (t : List ℕ). get_or t 0 0) e in absurd (omega arith)
 same_start (Some s) None h k e = let first : 48 + s / 3600 / 10 ≡ 45 = ap (λ (t : List ℕ). get_or t 0 0) e in absurd (omega arith)
-same_start (Some a) (Some b) h k e = ap Some (same_start_text a b (h a refl) (k b refl) e)
+same_start (Some a) (Some b) h k e = ap Some (one_start a b (h a refl) (k b refl) e)
 
 -- ---- runs
 
@@ -233,6 +208,6 @@ names_differ base a b m n ia ib small small' e =
     let trip = cut _ _ _ _ (encoded_no_slash a.trip (text_bytes a.trip ia.1)) (encoded_no_slash b.trip (text_bytes b.trip ib.1)) parts in
     let date = cut _ _ _ _ (date_no_slash a.date.year a.date.month a.date.day) (date_no_slash b.date.year b.date.month b.date.day) trip.1 in
     let start = cut _ _ _ _ (start_no_slash a.start) (start_no_slash b.start) date.1 in (
-      same_key a b (same_trip a.trip b.trip ia ib trip.0) (same_date_text a.date b.date date.0) (same_start a.start b.start a.start_in_range b.start_in_range start.0),
+      same_key a b (same_trip a.trip b.trip ia ib trip.0) (one_date a.date b.date date.0) (same_start a.start b.start a.start_in_range b.start_in_range start.0),
       decimal_injective m n (omega arith) (omega arith) start.1,
     )

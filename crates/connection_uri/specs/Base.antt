@@ -4,7 +4,7 @@ use Rattle.std.specs.List.{list_all}
 use Rattle.std.specs.Str.{IsUtf8}
 use Rattle.url.specs.Host.{host_text}
 use Rattle.url.specs.Parser.{parse_url}
-use Rattle.url.specs.Parts.{Parts, host_or_empty, serialize}
+use Rattle.url.specs.Parts.{Parts, host_or_empty, serialize, IsValid}
 use Rattle.connection_uri.specs.Encoding.{is_unreserved}
 
 -- what a base is to its users: its whole text, the host with the port if there is one, and the path
@@ -55,14 +55,28 @@ pub record ReadsAsBase (text : List ℕ) (url : Parts) : Type 0 where
   pub parsed : parse_url None text ≡ Ok url
   pub plain : IsPlain url
 
--- a base's text is its scheme, its authority and its path; the authority is visible
-pub record IsBase (base : BaseParts) : Type 0 where
+-- the URL is valid and plain, and the base's text, authority and path are read from it
+pub record StandsBehind (base : BaseParts) (url : Parts) : Type 0 where
+  pub valid : IsValid url
+  pub plain : IsPlain url
+  pub is : base ≡ base_of url
+
+-- a base has a URL behind it
+unfoldable pub IsBase : BaseParts → Type 0
+IsBase base = (url : Parts) × StandsBehind base url
+
+-- a base's text is its scheme, its authority and its path; the authority is visible, and the path begins with a slash
+pub record IsWrittenBase (base : BaseParts) : Type 0 where
   pub text_is : base.text ≡ codes "http://" ++ base.authority ++ base.path
   pub authority : list_all is_visible base.authority ≡ true
+  pub begins : slice_get base.path 0 ≡ Some 47
   pub path : IsPlainPath base.path
   pub text_len : length base.text ≤ 4096
 
--- what a base holds: a URL that is plain
-pub record HoldsBase (url : Parts) : Type 0 where
-  pub bare : IsBareHttp url
-  pub base : IsBase (base_of url)
+-- every base is written so
+abbrev pub BasesAreWritten : Type 0
+BasesAreWritten = (base : BaseParts) → IsBase base → IsWrittenBase base
+
+-- a base is known by its text
+abbrev pub OneBase : Type 0
+OneBase = (a b : BaseParts) → IsBase a → IsBase b → a.text ≡ b.text → a ≡ b

@@ -1,4 +1,4 @@
--- The URLs of pages.
+-- The URLs of pages, and the targets of requests under a base.
 use Rattle.std.specs.Prelude.{ℕ, List, ◌++◌, codes}
 use Rattle.lc_model.specs.declared.page.PageName.{PageName}
 use Rattle.lc_time.specs.Iso.{iso_text_of}
@@ -14,3 +14,21 @@ page_url_of base name =
 abbrev pub page_parts_of : BaseParts → List ℕ → List ℕ → List ℕ
 page_parts_of base version departs =
     base.text ++ (codes "memento/connections?version=" ++ (version ++ (codes "&departureTime=" ++ departs)))
+
+-- the URL of the time gate: {base}connections?departureTime=T
+abbrev pub gate_url_of : BaseParts → ℕ → List ℕ
+gate_url_of base departs = base.text ++ codes "connections?departureTime=" ++ iso_text_of departs
+
+-- the target of the time gate, its URL from the path on
+abbrev pub gate_target_of : BaseParts → ℕ → List ℕ
+gate_target_of base departs = base.path ++ codes "connections?departureTime=" ++ iso_text_of departs
+
+-- the target of the stops document
+abbrev pub stops_target_of : BaseParts → List ℕ
+stops_target_of base = base.path ++ codes "stops"
+
+-- the target of a page, its URL from the path on
+abbrev pub page_target_of : BaseParts → PageName → List ℕ
+page_target_of base name =
+    base.path ++ codes "memento/connections?version=" ++ iso_text_of name.version ++ codes "&departureTime="
+    ++ iso_text_of name.departs

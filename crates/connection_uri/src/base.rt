@@ -2,7 +2,7 @@ ghost use Rattle.std.specs.Prelude.{◌≡◌, ◌↔◌, [], IsTrue, codes, Non
 ghost use Rattle.std.specs.List.{list_all};
 ghost use Rattle.std.specs.Option.{option_copied};
 ghost use Rattle.url.specs.Parts.{Parts, IsValid};
-ghost use Rattle.connection_uri.specs.Base.{is_path_byte, base_of, IsPlainPath, IsBareHttp, IsPlain, IsBase, ReadsAsBase};
+ghost use Rattle.connection_uri.specs.Base.{is_path_byte, base_of, IsPlainPath, IsBareHttp, IsPlain, IsBase, ReadsAsBase, BasesAreWritten, OneBase};
 
 use crate::encoding::is_unreserved;
 use lc_model::NoMemory;
@@ -20,13 +20,13 @@ pub struct Base {
 }
 
 impl Model for Base {
-    ghost use Rattle.connection_uri.specs.Base.{BaseParts, base_of, HoldsBase};
+    ghost use Rattle.connection_uri.specs.Base.{BaseParts, base_of, IsPlain};
 
     ghost Value = { BaseParts };
 
     ghost view = { λ b. base_of b.url };
 
-    ghost invariant = { λ b. HoldsBase b.url };
+    ghost invariant = { λ b. IsPlain b.url };
 }
 
 impl Base {
@@ -60,6 +60,8 @@ impl Base {
         ensures value { result.now ≡ self.now.authority }
         ensures plain { IsBase self.now }
     {
+        // The text says that this is a base.
+        let _text = self.text();
         self.url.authority()
     }
 
@@ -79,6 +81,22 @@ impl Base {
         })
     }
 }
+
+/// Every base's text is `http://`, its authority, which is visible ASCII, and its path, which begins and ends with a slash.
+pub fn bases_are_written()
+    ensures { BasesAreWritten }
+{}
+
+/// Bases with the same text are the same.
+pub fn one_base()
+    ensures { OneBase }
+{}
+
+/// `http://hx/` is the text of a base whose authority is `hx`, and of none whose authority is `h`.
+pub fn base_is_cut_once()
+    ensures whole { IsBase (record { text = codes "http://hx/"; authority = codes "hx"; path = codes "/" }) }
+    ensures elsewhere { IsBase (record { text = codes "http://hx/"; authority = codes "h"; path = codes "x/" }) → ⊥ }
+{}
 
 /// Whether the URL is a plain base.
 fn is_plain(url: &Url) -> bool

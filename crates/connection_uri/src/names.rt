@@ -1,4 +1,4 @@
-ghost use Rattle.std.specs.Prelude.{◌≡◌, ◌++◌, ◌<◌, ◌^◌, ℕ, List, codes, decimal, Some, IfOk, IfSome, OnOk, IsSomeAnd};
+ghost use Rattle.std.specs.Prelude.{◌≡◌, ◌++◌, ◌<◌, ◌^◌, ℕ, List, codes, decimal, Some, IfOk, IfSome, OnOk, OnErr, IsSomeAnd};
 ghost use Rattle.std.specs.String.{string_bytes};
 ghost use Rattle.lc_model.specs.Text.{IsIdText};
 ghost use Rattle.lc_model.specs.declared.key.RunKey.{RunKey as Key};
@@ -69,19 +69,32 @@ fn read_parts(alloc: Global, parts: NameParts<'_>) -> Result<Option<(RunKey, u32
     Ok(Some((RunKey { trip, date, start }, sequence)))
 }
 
-/// Appends trip/date/start of the run, as the names of connections and of runs have them.
+/// Appends trip/date/start of the run, as the names of connections and of runs have them. After want of memory the text
+/// is as it was.
 pub fn append_run(text: &mut String, key: &RunKey) -> Result<(), NoMemory>
-    ensures { OnOk result (string_bytes text.new ≡ string_bytes text.old ++ run_part_of key.now) }
+    ensures ok { OnOk result (string_bytes text.new ≡ string_bytes text.old ++ run_part_of key.now) }
+    ensures err { OnErr result (string_bytes text.new ≡ string_bytes text.old) }
 {
-    append_encoded(text, key.trip.bytes())?;
-    text.push_str("/")?;
-    text.push_str(ascii_str(&date_text(key.date)))?;
-    text.push_str("/")?;
-    match key.start {
-        Some(start) => text.push_str(ascii_str(&start_text(start)))?,
-        None => text.push_str("-")?,
-    }
+    // Written apart first, since each of its parts may want memory.
+    let part = run_part(*text.allocator(), key)?;
+    text.push_str(part.as_str())?;
     Ok(())
+}
+
+/// trip/date/start of the run.
+fn run_part(alloc: Global, key: &RunKey) -> Result<String, NoMemory>
+    ensures { IfOk result (λ part. string_bytes part ≡ run_part_of key.now) }
+{
+    let mut part = String::new(alloc);
+    append_encoded(&mut part, key.trip.bytes())?;
+    part.push_str("/")?;
+    part.push_str(ascii_str(&date_text(key.date)))?;
+    part.push_str("/")?;
+    match key.start {
+        Some(start) => part.push_str(ascii_str(&start_text(start)))?,
+        None => part.push_str("-")?,
+    }
+    Ok(part)
 }
 
 /// Different runs or sequences have different names under a base.

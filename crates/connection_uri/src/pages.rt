@@ -2,6 +2,7 @@ ghost use Rattle.std.specs.Prelude.{◌≡◌, ◌++◌, ◌<◌, ℕ, List, len
 ghost use Rattle.std.specs.String.{string_bytes};
 ghost use Rattle.lc_model.specs.declared.page.PageName.{PageName as Named};
 ghost use Rattle.lc_time.specs.Iso.{iso_text_of};
+ghost use Rattle.connection_uri.specs.Join.{PageUrlsJoin, PageTargetsJoin};
 ghost use Rattle.connection_uri.specs.Page.{page_url_of, page_parts_of};
 
 use crate::Base;
@@ -76,3 +77,13 @@ fn read_iso_text(text: &[u8]) -> Option<Moment>
         None
     }
 }
+
+/// The URL of a page, joined to the time gate's, is that URL.
+pub fn page_urls_join()
+    ensures { PageUrlsJoin }
+{}
+
+/// So is the URL from its path on, where the base's path does not begin with two slashes.
+pub fn page_targets_join()
+    ensures { PageTargetsJoin }
+{}
