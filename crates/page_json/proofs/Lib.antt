@@ -3,10 +3,10 @@ pub mod Each
 pub mod JsonLaw
 pub mod MembersLaw
 pub mod OneResult
-pub mod Orders
 pub mod PageLaw
 pub mod ReadingLaw
 pub mod Readings
 pub mod SaysLaw
+pub mod SomeResult
 pub mod StopsLaw
 pub mod TokensLaw

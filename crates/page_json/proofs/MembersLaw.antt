@@ -1,10 +1,6 @@
 -- Members that are written are read as what they were written for.
-use Rattle.std.proofs.Common.{◌≡◌, ℕ, suc, ◌<◌, ◌^◌, ℤ, pos, negsuc, List, [], ◌∷◌, Bool, true, false, not, Some, None, Ok, codes, refl, ap, arith, lt-ltb}
-use Rattle.std.specs.Ordering.{is_lt}
+use Rattle.std.proofs.Common.{◌≡◌, ℕ, ◌<◌, ◌^◌, ℤ, pos, negsuc, List, Bool, true, false, not, Some, Ok, codes, refl, arith, lt-ltb}
 use Rattle.std.specs.Str.{IsUtf8, bytes_eq}
-use Rattle.std.specs.declared.cmp.Ordering.{Ordering}
-use Rattle.std.specs.declared.cmp.Ordering.TheVariants.{Less}
-use Rattle.lc_model.specs.Order.{IsStrict}
 use Rattle.lc_model.specs.Text.{IsIdText}
 use Rattle.lc_model.specs.declared.key.RunKey.{RunKey}
 use Rattle.lc_model.specs.declared.page.PageName.{PageName}
@@ -16,7 +12,6 @@ use Rattle.connection_uri.specs.Page.{page_url_of}
 use Rattle.serde_json.specs.Data.{Data, number}
 use Rattle.serde_json.specs.Find.{as_i64, of_integer}
 use Rattle.serde_json.specs.Read.{read}
-use Rattle.page_json.specs.Disorder.{disorder_after, first_disorder}
 use Rattle.page_json.specs.Members.{said_at, text_of}
 use Rattle.page_json.specs.PageReading.{json_in}
 use Rattle.page_json.specs.Reading.{what_is_said}
@@ -70,22 +65,6 @@ delay_writable (negsuc n) h = h
 pub allowed_read : (allowed : Bool) → not (bytes_eq (allowed_text allowed) (codes "gtfs:NotAvailable")) ≡ allowed
 allowed_read true = refl
 allowed_read false = refl
-
-is_less : (o : Ordering) → o ≡ Less → is_lt o ≡ true
-is_less o e = ap is_lt e
-
-strict_rest : {X : Type 0} (cmp : X → X → Ordering) (x : X) (xs : List X) → IsStrict cmp (x ∷ xs) → IsStrict cmp xs
-strict_rest cmp x xs h = λ i j d before inside. h (suc i) (suc j) d (omega arith) (omega arith)
-
-none_after : {X : Type 0} (cmp : X → X → Ordering) (first : X) (place : ℕ) (rest : List X) → IsStrict cmp (first ∷ rest) → disorder_after cmp first place rest ≡ None
-none_after cmp first place [] h = refl
-none_after cmp first place (x ∷ rest) h =
-    rw (is_less (cmp first x) (h 0 1 first (omega arith) (omega arith))) (none_after cmp x (suc place) rest (strict_rest cmp first (x ∷ rest) h))
-
--- a list in strict order has no disorder
-pub no_disorder : {X : Type 0} (cmp : X → X → Ordering) (list : List X) → IsStrict cmp list → first_disorder cmp list ≡ None
-no_disorder cmp [] h = refl
-no_disorder cmp (first ∷ rest) h = none_after cmp first 1 rest h
 
 -- bytes that are JSON are read as that JSON
 pub reads_json : (bytes : List ℕ) (tree : Data) → IsUtf8 bytes → read bytes ≡ Some tree → Reads (json_in bytes) tree

@@ -9,14 +9,16 @@ use Rattle.connection_uri.specs.Base.{BaseParts}
 use Rattle.serde_json.specs.Data.{Data, Items, no_items, item}
 use Rattle.serde_json.specs.Find.{as_str, get}
 use Rattle.serde_json.specs.Read.{read}
-use Rattle.page_json.specs.Disorder.{first_disorder, unless_disorder}
+use Rattle.lc_model.specs.Disorder.{first_disorder}
+use Rattle.page_json.specs.Disorder.{unless_disorder}
 use Rattle.page_json.specs.Members.{formed, said_at, said_if, said_in, text_of}
 use Rattle.page_json.specs.PageReading.{connection_in, end_at, joined, json_in, page_in, page_of_bytes, unless_early}
 use Rattle.page_json.specs.Reading.{Reading, Meets, after, each_in, exactly, gives, what_is_said, ◌>>=◌}
 use Rattle.page_json.specs.Says.{SaysLink, SaysName, SaysPage, SaysStop}
 use Rattle.page_json.specs.StopsReading.{change_in, changes_in, doc_in, doc_of_bytes, if_stop, is_change, is_doc, stop_at, stop_in, stops_in, with_parents}
 use Rattle.page_json.specs.declared.fault.PageFault.{PageFault}
-use Rattle.page_json.proofs.StopsLaw.{change_of, doc_of}
+use Rattle.lc_model.proofs.OneValue.{documents_are_one}
+use Rattle.page_json.proofs.StopsLaw.{change_of}
 
 -- two results of the reading are one
 pub record HasOne {X : Type 0} (reading : Reading X) : Type 0 where
@@ -149,7 +151,7 @@ one_changes stops tree = one_then _ _ (one_exactly _) (λ items. one_then _ _ (o
 one_is_doc : (stops : List Stop) (changes : List Change) → HasOne (is_doc stops changes)
 one_is_doc stops changes = record { same = go } where
   go : (a b : Result StopsDoc PageFault) → is_doc stops changes a → is_doc stops changes b → a ≡ b
-  go (Ok x) (Ok y) h k = ap Ok (doc_of x y (h.0 ∙ sym k.0) (h.1 ∙ sym k.1))
+  go (Ok x) (Ok y) h k = ap Ok (documents_are_one x y (h.0 ∙ sym k.0) (h.1 ∙ sym k.1))
   go (Ok x) (Err g) h k = absurd k
   go (Err f) b h k = absurd h
 

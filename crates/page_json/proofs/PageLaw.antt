@@ -12,7 +12,8 @@ use Rattle.serde_json.specs.Data.{Data, Members, depth, member, members_depth, n
 use Rattle.serde_json.specs.Find.{get}
 use Rattle.serde_json.specs.Read.{read}
 use Rattle.serde_json.specs.View.{items_of}
-use Rattle.page_json.specs.Disorder.{first_disorder, unless_disorder}
+use Rattle.lc_model.specs.Disorder.{first_disorder}
+use Rattle.page_json.specs.Disorder.{unless_disorder}
 use Rattle.page_json.specs.Members.{said_if, said_if_there}
 use Rattle.page_json.specs.PageReading.{connection_in, page_in, page_of_bytes}
 use Rattle.page_json.specs.Says.{SaysLink}
@@ -22,7 +23,9 @@ use Rattle.page_json.specs.Valid.{IsOfVersion, IsValidPage}
 use Rattle.page_json.specs.declared.page.Page.{Page}
 use Rattle.page_json.proofs.ConnectionLaw.{IsGood, connections_depth, connections_writable, reads_connection}
 use Rattle.page_json.proofs.JsonLaw.{HasWritable, IsWritable, read_compact, rises}
-use Rattle.page_json.proofs.MembersLaw.{no_disorder, reads_json, reads_page_name, says_page}
+use Rattle.lc_model.specs.Totals.{departure_cmp_total}
+use Rattle.lc_model.proofs.Disorders.{no_disorder}
+use Rattle.page_json.proofs.MembersLaw.{reads_json, reads_page_name, says_page}
 use Rattle.page_json.proofs.SaysLaw.{one_link}
 use Rattle.page_json.proofs.ReadingLaw.{Reads, reads_each, reads_exactly, reads_exactly_by, reads_said, reads_then}
 
@@ -58,7 +61,7 @@ good : (list : List Connection) → All IsSoundConnection list → NoneArrivesEa
 good list sound forward = λ k d inside. record { sound = sound k d inside; forward = forward k d inside }
 
 in_order : (page : Page) → IsValidPage page → unless_disorder (first_disorder departure_cmp page.list) page ≡ Ok page
-in_order page valid = ap (λ (place : Option ℕ). unless_disorder place page) (no_disorder departure_cmp page.list valid.in_order)
+in_order page valid = ap (λ (place : Option ℕ). unless_disorder place page) (no_disorder departure_cmp departure_cmp_total page.list valid.in_order)
 
 reads_page : (base : BaseParts) (page : Page) → IsValidPage page → IsSoundPage page → Reads (page_in base (page_tree base page)) page
 unfolding page_in

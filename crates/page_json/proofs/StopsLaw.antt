@@ -21,14 +21,17 @@ use Rattle.serde_json.specs.Data.{Data, depth, items_depth}
 use Rattle.serde_json.specs.Find.{get}
 use Rattle.serde_json.specs.Read.{read}
 use Rattle.serde_json.specs.View.{items_of}
-use Rattle.page_json.specs.Disorder.{first_disorder, unless_disorder}
+use Rattle.lc_model.specs.Disorder.{first_disorder}
+use Rattle.page_json.specs.Disorder.{unless_disorder}
 use Rattle.page_json.specs.Members.{formed, needed}
 use Rattle.page_json.specs.Sound.{IsSoundChange, IsSoundDoc, IsSoundStop}
 use Rattle.page_json.specs.StopsReading.{AreParents, as_id, change_in, changes_in, doc_in, doc_of_bytes, id_from, if_stop, is_change, is_doc, seconds_from, stop_at, stop_in, stops_in, with_parents}
 use Rattle.page_json.specs.Tree.{change_tree, stop_tree, stops_text_of, stops_tree}
 use Rattle.page_json.specs.Valid.{IsValidDoc}
 use Rattle.page_json.proofs.JsonLaw.{AreWritable, IsWritable, read_compact}
-use Rattle.page_json.proofs.MembersLaw.{no_disorder, reads_json}
+use Rattle.lc_model.specs.Totals.{change_cmp_total, stop_cmp_total}
+use Rattle.lc_model.proofs.Disorders.{no_disorder}
+use Rattle.page_json.proofs.MembersLaw.{reads_json}
 use Rattle.page_json.proofs.ReadingLaw.{Reads, reads_each, reads_exactly, reads_exactly_by, reads_then}
 
 id_read : (id : List ℕ) → IsIdText id → id_from id ≡ Some id
@@ -77,21 +80,6 @@ change_of a b e f g =
 
 reads_change_of : (change : Change) → Reads (is_change change.from change.seconds change.to) change
 reads_change_of change = record { is = (refl, refl, refl) }
-
-abbrev doc : (stops : List Stop) (changes : List Change) → ∥ NamesItsStops stops changes ∥₁ → StopsDoc
-doc stops changes closed = record { stops = stops; changes = changes; closed = closed }
-
-closed_prop : (stops : List Stop) (changes : List Change) → IsProp ∥ NamesItsStops stops changes ∥₁
-closed_prop stops changes = hlevel props
-
-same_changes : (stops : List Stop) (c d : List Change) (p : ∥ NamesItsStops stops c ∥₁) (q : ∥ NamesItsStops stops d ∥₁) → c ≡ d → doc stops c p ≡ doc stops d q
-same_changes stops c d p q e =
-    subst (λ (v : List Change). (q : ∥ NamesItsStops stops v ∥₁) → doc stops c p ≡ doc stops v q) e (λ q. ap (doc stops c) (closed_prop stops c p q)) q
-
-pub doc_of : (a b : StopsDoc) → a.stops ≡ b.stops → a.changes ≡ b.changes → a ≡ b
-doc_of a b e f =
-    subst (λ (v : List Stop). (q : ∥ NamesItsStops v b.changes ∥₁) → doc a.stops a.changes a.closed ≡ doc v b.changes q) e
-    (λ q. same_changes a.stops a.changes b.changes a.closed q f) b.closed
 
 reads_doc_of : (d : StopsDoc) → Reads (is_doc d.stops d.changes) d
 reads_doc_of d = record { is = (refl, refl) }
@@ -155,10 +143,10 @@ good_changes stops changes sound names =
     λ k d inside. record { sound = sound k d inside; from = names.changes_from k d inside; to = names.changes_to k d inside }
 
 stops_ordered : (stops : List Stop) → InStopOrder stops → unless_disorder (first_disorder (on (λ (s : Stop). s.id) id_cmp) stops) stops ≡ Ok stops
-stops_ordered stops h = ap (λ (place : Option ℕ). unless_disorder place stops) (no_disorder (on (λ (s : Stop). s.id) id_cmp) stops h)
+stops_ordered stops h = ap (λ (place : Option ℕ). unless_disorder place stops) (no_disorder (on (λ (s : Stop). s.id) id_cmp) stop_cmp_total stops h)
 
 changes_ordered : (changes : List Change) → InChangeOrder changes → unless_disorder (first_disorder change_cmp changes) changes ≡ Ok changes
-changes_ordered changes h = ap (λ (place : Option ℕ). unless_disorder place changes) (no_disorder change_cmp changes h)
+changes_ordered changes h = ap (λ (place : Option ℕ). unless_disorder place changes) (no_disorder change_cmp change_cmp_total changes h)
 
 reads_stops : (base : BaseParts) (d : StopsDoc) → IsValidDoc d → IsSoundDoc d → Reads (stops_in (stops_tree base d)) d.stops
 unfolding stops_in

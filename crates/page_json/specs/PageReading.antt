@@ -9,7 +9,8 @@ use Rattle.connection_uri.specs.Base.{BaseParts}
 use Rattle.serde_json.specs.Data.{Data}
 use Rattle.serde_json.specs.Find.{as_str, get}
 use Rattle.serde_json.specs.Read.{read}
-use Rattle.page_json.specs.Disorder.{first_disorder, unless_disorder}
+use Rattle.lc_model.specs.Disorder.{first_disorder}
+use Rattle.page_json.specs.Disorder.{unless_disorder}
 use Rattle.page_json.specs.Members.{delay_of, list_of, object_under, said_at, said_if_there}
 use Rattle.page_json.specs.Reading.{Reading, each_in, exactly, gives, ◌>>=◌}
 use Rattle.page_json.specs.Says.{SaysLink, SaysName, SaysPage, SaysStop}

@@ -8,6 +8,10 @@ use Rattle.page_json.specs.declared.fault.PageFault.TheVariants.{BadMember, NoMe
 abbrev pub Reading : Type 0 → Type 1
 Reading X = Result X PageFault → Type 0
 
+-- the reading has a result: not every one is ruled out
+abbrev pub HasResult : {X : Type 0} → Reading X → Type 0
+HasResult {X} reading = ¬ ((result : Result X PageFault) → ¬ (reading result))
+
 -- the reading gives this
 abbrev pub gives : {X : Type 0} → X → Reading X
 gives x result = result ≡ Ok x

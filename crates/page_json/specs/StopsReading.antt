@@ -11,7 +11,8 @@ use Rattle.lc_model.specs.declared.doc.StopsDoc.{StopsDoc}
 use Rattle.lc_model.specs.declared.stop.Stop.{Stop}
 use Rattle.serde_json.specs.Data.{Data}
 use Rattle.serde_json.specs.Find.{as_number, as_str, as_u64, get}
-use Rattle.page_json.specs.Disorder.{first_disorder, unless_disorder}
+use Rattle.lc_model.specs.Disorder.{first_disorder}
+use Rattle.page_json.specs.Disorder.{unless_disorder}
 use Rattle.page_json.specs.Members.{formed, list_of, needed, object_under}
 use Rattle.page_json.specs.PageReading.{json_in}
 use Rattle.page_json.specs.Reading.{Reading, each_in, exactly, gives, ◌>>=◌}

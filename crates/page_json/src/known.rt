@@ -5,7 +5,7 @@ ghost use Rattle.lc_model.specs.Stop.{HasStop};
 ghost use Rattle.lc_model.specs.Text.{id_cmp};
 ghost use Rattle.page_json.specs.StopsReading.{AreParents};
 
-use lc_model::{NoMemory, Stop};
+use lc_model::{NoMemory, Stop, sorted_keys};
 use std::alloc::Global;
 
 /// Whether each parent is one of the stops, in whatever order they stand. Sorts their ids, and looks each parent up by
@@ -13,21 +13,8 @@ use std::alloc::Global;
 pub fn have_parents(alloc: Global, stops: &[Stop]) -> Result<bool, NoMemory>
     ensures { IfOk result (λ all. IsTrue all ↔ AreParents stops.now) }
 {
-    let ids = sorted_ids(alloc, stops)?;
+    let ids = sorted_keys(alloc, stops)?;
     Ok(stops.iter().all(|stop| has_parent(ids.as_slice(), stop)))
-}
-
-// The ids of the stops, sorted.
-fn sorted_ids(alloc: Global, stops: &[Stop]) -> Result<Vec<&[u8]>, NoMemory>
-    ensures sorted { IfOk result (λ ids. IsSorted (on (λ id. id.now) id_cmp) ids.items) }
-    ensures stops { IfOk result (λ ids. (id : List ℕ) → Any (λ x. x.now ≡ id) ids.items ↔ HasStop stops.now id) }
-{
-    let mut ids = Vec::with_capacity(alloc, stops.len())?;
-    'stops: for stop in stops {
-        ids.push(stop.id.bytes())?;
-    }
-    ids.sort()?;
-    Ok(ids)
 }
 
 fn has_parent(ids: &[&[u8]], stop: &Stop) -> bool

@@ -2,6 +2,7 @@ ghost use Rattle.std.specs.Prelude.{◌≡◌, ℕ, List, Result};
 ghost use Rattle.connection_uri.specs.Base.{BaseParts};
 ghost use Rattle.lc_model.specs.declared.doc.StopsDoc.{StopsDoc};
 ghost use Rattle.page_json.specs.PageReading.{page_of_bytes};
+ghost use Rattle.page_json.specs.Reading.{HasResult};
 ghost use Rattle.page_json.specs.StopsReading.{doc_of_bytes};
 ghost use Rattle.page_json.specs.declared.fault.PageFault.{PageFault};
 ghost use Rattle.page_json.specs.declared.page.Page.{Page};
@@ -12,4 +13,10 @@ pub fn one_reading()
         → page_of_bytes base bytes a → page_of_bytes base bytes b → a ≡ b }
     ensures stops { (bytes : List ℕ) (a b : Result StopsDoc PageFault)
         → doc_of_bytes bytes a → doc_of_bytes bytes b → a ≡ b }
+{}
+
+/// No bytes are without a reading: a page or its first fault, and a stops document or its first fault.
+pub fn some_reading()
+    ensures page { (base : BaseParts) (bytes : List ℕ) → HasResult (page_of_bytes base bytes) }
+    ensures stops { (bytes : List ℕ) → HasResult (doc_of_bytes bytes) }
 {}

@@ -5,7 +5,6 @@
 mod change_reading;
 mod connection_reading;
 mod connection_writing;
-mod disorder;
 mod fault;
 mod json_reading;
 mod known;
@@ -24,7 +23,7 @@ mod tests;
 mod urls;
 
 pub use fault::PageFault;
-pub use laws::one_reading;
+pub use laws::{one_reading, some_reading};
 pub use page::Page;
 pub use page_reading::read_page;
 pub use page_writing::page_text;

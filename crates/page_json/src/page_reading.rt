@@ -2,7 +2,8 @@ ghost use Rattle.std.specs.Prelude.{◌≡◌, ◌<◌, ℕ, List, codes, Some, 
 ghost use Rattle.lc_model.specs.Connection.{InDepartureOrder, NoneArrivesEarly, departure_cmp};
 ghost use Rattle.lc_model.specs.declared.page.PageName.{PageName as Named};
 ghost use Rattle.serde_json.specs.View.{view};
-ghost use Rattle.page_json.specs.Disorder.{first_disorder, unless_disorder};
+ghost use Rattle.lc_model.specs.Disorder.{first_disorder};
+ghost use Rattle.page_json.specs.Disorder.{unless_disorder};
 ghost use Rattle.page_json.specs.Members.{said_at, said_if_there, said_in};
 ghost use Rattle.page_json.specs.PageReading.{page_in, page_of_bytes};
 ghost use Rattle.page_json.specs.Reading.{Meets, exactly, gives};
@@ -11,12 +12,11 @@ ghost use Rattle.page_json.specs.Valid.{IsOfVersion, IsValidPage};
 ghost use Rattle.page_json.specs.declared.page.Page.{Page as Told};
 
 use crate::connection_reading::connections_in;
-use crate::disorder::first_disorder;
 use crate::json_reading::json_in;
 use crate::members::{needed_list, needed_text, object_under, or_bad, text_under};
 use crate::{Page, PageFault};
 use connection_uri::{Base, read_page_url};
-use lc_model::{Moment, PageName};
+use lc_model::{Moment, PageName, first_disorder};
 use serde_json::Value;
 use std::alloc::Global;
 

@@ -7,14 +7,14 @@ ghost use Rattle.lc_model.specs.declared.change.Change.{Change as ToldChange};
 ghost use Rattle.lc_model.specs.declared.stop.Stop.{Stop as ToldStop};
 ghost use Rattle.lc_model.specs.declared.doc.StopsDoc.{StopsDoc as Told};
 ghost use Rattle.serde_json.specs.View.{view};
-ghost use Rattle.page_json.specs.Disorder.{first_disorder, unless_disorder};
+ghost use Rattle.lc_model.specs.Disorder.{first_disorder};
+ghost use Rattle.page_json.specs.Disorder.{unless_disorder};
 ghost use Rattle.page_json.specs.Reading.{Meets, exactly, gives};
 ghost use Rattle.page_json.specs.StopsReading.{AreParents, changes_in, doc_in, doc_of_bytes, stops_in};
 ghost use Rattle.page_json.specs.declared.fault.PageFault.TheVariants.{BadMember as bad, NoMemory as want_of_memory};
 
 use crate::PageFault;
 use crate::change_reading::each_change;
-use crate::disorder::first_disorder;
 use crate::json_reading::json_in;
 use crate::known::have_parents;
 use crate::members::{bad_member, needed_list, object_under};
@@ -74,9 +74,9 @@ fn ordered_stops(stops: Vec<Stop>) -> Result<Stops, PageFault>
         (unless_disorder (first_disorder (on (λ (s : ToldStop). s.id) id_cmp) stops.items) stops.items)) result }
     ensures same { IfOk result (λ same. same ≡ stops.items) }
 {
-    match first_disorder(stops.as_slice()) {
-        Some(place) => Err(PageFault::NotOrdered { place }),
-        None => Ok(Stops::from_list(stops)),
+    match Stops::try_from_list(stops) {
+        Ok(stops) => Ok(stops),
+        Err(place) => Err(PageFault::NotOrdered { place }),
     }
 }
 
@@ -96,8 +96,8 @@ fn ordered_changes(changes: Vec<Change>) -> Result<Changes, PageFault>
     ensures said { Meets (exactly (unless_disorder (first_disorder change_cmp changes.items) changes.items)) result }
     ensures same { IfOk result (λ same. same ≡ changes.items) }
 {
-    match first_disorder(changes.as_slice()) {
-        Some(place) => Err(PageFault::NotOrdered { place }),
-        None => Ok(Changes::from_list(changes)?),
+    match Changes::try_from_list(changes) {
+        Ok(changes) => Ok(changes),
+        Err(place) => Err(PageFault::NotOrdered { place }),
     }
 }

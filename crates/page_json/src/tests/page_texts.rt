@@ -31,7 +31,7 @@ pub const WORDS: [(&str, &str); 5] = [
 ];
 
 // Texts, with these words in them, and what is read of each: the count of connections, or the first fault.
-pub const PAGES: [(&str, &str); 61] = [
+pub const PAGES: [(&str, &str); 62] = [
     ("", "not JSON"),
     ("{", "not JSON"),
     ("{}x", "not JSON"),
@@ -239,5 +239,9 @@ pub const PAGES: [(&str, &str); 61] = [
     (
         "{\"@id\":\"PAGE\",\"@graph\":[{\"@id\":\"RUN1\",ARRIVAL,DEPARTURE},{\"@id\":\"RUN1\",ARRIVAL,DEPARTURE},{\"@id\":1,ARRIVAL,DEPARTURE}]}",
         "bad member @id",
+    ),
+    (
+        "{\"@id\":\"http:\\/\\/lc.example\\/memento\\/connections?version=1970-01-01T00:00:00.000Z&departureTime=2024-05-01T08:00:00.000Z\",\"@graph\":[]}",
+        "0 connections",
     ),
 ];

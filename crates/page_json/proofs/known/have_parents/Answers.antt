@@ -21,6 +21,6 @@ returns c =
     let tells : TellsAll HasParent c.args.stops.now c.all.result = all_tells HasParent c.args.stops.now c.all.result
     (cases_from_all _ _ c.all.result HasParent (λ x. HasParent x → ⊥) c.all.ensures.ran (YieldsList-from_slice c.args.stops.now cc)
     (λ x q k. (search rules, search rules)) (λ x q k. search rules)) in (
-      (λ yes. All-weaker HasParent Known (λ s. if_some_weaker Has (HasStop c.args.stops.now) (λ id. (c.in_ok-ids.ensures.stops id).0) s.parent) c.args.stops.now (tells.0 yes)),
-      (λ all. tells.1 (All-weaker Known HasParent (λ s. if_some_weaker (HasStop c.args.stops.now) Has (λ id. (c.in_ok-ids.ensures.stops id).1) s.parent) c.args.stops.now all)),
+      (λ yes. All-weaker HasParent Known (λ s. if_some_weaker Has (HasStop c.args.stops.now) (λ id. (c.in_ok-ids.ensures.same id).0) s.parent) c.args.stops.now (tells.0 yes)),
+      (λ all. tells.1 (All-weaker Known HasParent (λ s. if_some_weaker (HasStop c.args.stops.now) Has (λ id. (c.in_ok-ids.ensures.same id).1) s.parent) c.args.stops.now all)),
     )

@@ -2,7 +2,8 @@
 use Rattle.std.proofs.Common.{Ok, Err, refl, sym}
 use Rattle.lc_model.specs.Connection.{departure_cmp}
 use Rattle.serde_json.specs.View.{items_view, view}
-use Rattle.page_json.specs.Disorder.{first_disorder, unless_disorder}
+use Rattle.lc_model.specs.Disorder.{first_disorder}
+use Rattle.page_json.specs.Disorder.{unless_disorder}
 use Rattle.page_json.specs.PageReading.{page_in}
 use Rattle.page_json.specs.Reading.{exactly}
 use Rattle.page_json.specs.declared.page.Page.{Page}

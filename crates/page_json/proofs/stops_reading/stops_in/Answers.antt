@@ -1,7 +1,8 @@
 -- One step after the other.
 use Rattle.std.proofs.Common.{Ok, Err, refl, subst, sym}
 use Rattle.serde_json.specs.View.{items_view, view}
-use Rattle.page_json.specs.Disorder.{first_disorder, unless_disorder}
+use Rattle.lc_model.specs.Disorder.{first_disorder}
+use Rattle.page_json.specs.Disorder.{unless_disorder}
 use Rattle.page_json.specs.Reading.{exactly}
 use Rattle.page_json.specs.StopsReading.{AreParents}
 use Rattle.std.specs.Ordering.{on}
