@@ -14,7 +14,7 @@ use Rattle.http_text.specs.Line.{moment_line}
 use Rattle.http_text.specs.Members.{members}
 use Rattle.http_text.specs.Reply.{first_of, IsMomentOf}
 use Rattle.http_text.specs.Request.{field_said, refusal_of_head, body_len, request_of, IsWholeRequest}
-use Rattle.http_text.specs.RequestText.{request_text_of, CanAsk, field_text, SaysGet}
+use Rattle.http_text.specs.RequestText.{request_text_of, CanAsk, field_text, dates_of, known_values, SaysGet}
 use Rattle.http_text.specs.Target.{is_origin_form}
 use Rattle.http_text.proofs.DateLemmas.{date_bytes, date_trimmed}
 use Rattle.http_text.proofs.EntryLemmas.{Entry, fields_from, line_at, lines_from, printed, IsEntry, valid}
@@ -126,6 +126,10 @@ unfolding trim_ows members
 ends authority target None = refl
 ends authority target (Some m) = refl
 
+dated : (authority target : List ℕ) (k : Option ℕ) → known_values (request_of (head authority target k)) ≡ dates_of k
+dated authority target None = refl
+dated authority target (Some m) = ap (λ (v : List ℕ). v ∷ []) (date_trimmed m)
+
 knows : (authority target : List ℕ) (k : Option ℕ) → IfSome k (λ m. m < 253_402_128_000) → IsMomentOf (first_of (values_of (codes "accept-datetime") (map field_text (map field_said (texts_of (fields_from (entries authority k))))))) k
 knows authority target None bound = refl
 knows authority target (Some m) bound = subst (λ (v : List ℕ). SaysHttpDate v m) (sym (date_trimmed m)) (says_date m bound)
@@ -151,7 +155,8 @@ asks authority target text k e bytes can utf8 bound =
         method_is = refl;
         path_is = refl;
         query_is = refl;
-        known_is = knows authority target k bound;
+        known_is = dated authority target k;
+        known_read = knows authority target k bound;
         body_from_is = sym len;
         close_is = ends authority target k;
       },

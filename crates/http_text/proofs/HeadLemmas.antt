@@ -77,7 +77,7 @@ one_reply_head bytes h k a b = (response_unique (front_of bytes) h k a.0 b.0 a.1
 
 -- where a head stands there is hope
 pub hope : (bytes : List ℕ) (h : RequestHead) → HasHead bytes h → IsHopeless bytes → ⊥
-hope bytes h a never = never [] h (a.0 ++ []) (ReadsRequest-append (front_of bytes) h a.0 [] a.1)
+hope bytes h a never = never.0 [] h (a.0 ++ []) (ReadsRequest-append (front_of bytes) h a.0 [] a.1)
 
 pub reply_hope : (bytes : List ℕ) (h : ResponseHead) → HasReplyHead bytes h → NeverHasResponse (front_of bytes) → ⊥
 reply_hope bytes h a never = never [] h (a.0 ++ []) (ReadsResponse-append (front_of bytes) h a.0 [] a.1)

@@ -1,10 +1,15 @@
 pub mod MemberLemmas
 pub mod PlaceLemmas
 pub mod HeadLemmas
+pub mod OpenLemmas
 pub mod TakenLemmas
+pub mod StayLemmas
+pub mod StartLemmas
 pub mod ReplyLemmas
 pub mod ByteLemmas
 pub mod DateLemmas
 pub mod EntryLemmas
 pub mod AskLemmas
 pub mod AnswerLemmas
+pub mod TargetLemmas
+pub mod QueryLemmas

@@ -1,34 +1,35 @@
 -- Which answers are right for the bytes that have come.
-use Rattle.std.proofs.Common.{◌≡◌, ◌≢◌, ℕ, ◌+◌, ◌-◌, ◌≤◌, ◌⊎◌, inl, inr, Bool, true, false, cond, ltb, leb, List, [], ◌++◌, length, take, drop, Option, Some, None, refl, sym, ap, ap₂, subst, ◌∙◌, arith, append_assoc, length-append}
+use Rattle.std.proofs.Common.{◌≡◌, ◌≢◌, ℕ, ◌+◌, ◌-◌, ◌≤◌, inl, inr, Bool, true, false, cond, ltb, leb, List, [], ◌++◌, length, take, drop, Option, Some, None, refl, sym, ap, ap₂, subst, ◌∙◌, arith, append_assoc, length-append}
 use Rattle.std.proofs.lemmas.Bool.{leb-true, le-leb}
 use Rattle.std.proofs.lemmas.List.{take-append-drop, length-take-le}
 use Rattle.std.proofs.Math.Seq.{take-append-add}
 use Rattle.httparse.specs.declared.Error.{Error}
 use Rattle.httparse.specs.declared.Error.TheVariants.{TooManyHeaders}
-use Rattle.httparse.specs.Grammar.{RequestHead, print_request, ReadsRequest, NeverHasRequest}
+use Rattle.httparse.specs.Grammar.{RequestHead, print_request, ReadsRequest, HasNoRequest, NeverHasRequest}
 use Rattle.httparse.specs.Spans.{RequestExceeds}
+use Rattle.httparse.proofs.GrammarLemmas.{ReadsRequest-append}
 use Rattle.http_text.specs.declared.taken.Taken.{Taken}
 use Rattle.http_text.specs.declared.taken.Taken.TheVariants.{Whole, NotYet, Refused}
 use Rattle.http_text.specs.Request.{refusal_of_head, body_len, front_of, IsWhole, IsWholeWith}
-use Rattle.http_text.specs.Taken.{Takes, HasHead, IsOpen, IsHopeless, IsEither, taken_of, needed, open_taken}
+use Rattle.http_text.specs.Taken.{Takes, HasHead, IsOpen, IsHopeless, taken_of, needed, open_taken}
 use Rattle.http_text.proofs.HeadLemmas.{one_head, hope, front_len, no_request_exceeds}
 
--- an open head that no bytes complete ends inside its target
-open_hopeless : (bytes : List ℕ) → IsOpen bytes → IsHopeless bytes → IsEither bytes
-open_hopeless bytes (none, inl (more, h, reads)) never = absurd (never more h [] reads)
-open_hopeless bytes (none, inr ends) never = (ends, never)
+-- an open head has hope
+open_hope : (bytes : List ℕ) → IsOpen bytes → IsHopeless bytes → ⊥
+open_hope bytes (none, inl (more, h, reads)) never = never.0 more h [] reads
+open_hope bytes (none, inr ends) never = never.1 ends
 
-pub one_answer : (bytes : List ℕ) (a b : Taken) → Takes bytes a → Takes bytes b → (a ≡ b) ⊎ IsEither bytes
+pub one_answer : (bytes : List ℕ) (a b : Taken) → Takes bytes a → Takes bytes b → a ≡ b
 one_answer bytes a b (inl (h, has, is)) (inl (k, has', is')) =
-    inl (is ∙ ap (λ (x : RequestHead). taken_of (refusal_of_head x) (needed x) (length bytes)) (one_head bytes h k has has') ∙ sym is')
+    is ∙ ap (λ (x : RequestHead). taken_of (refusal_of_head x) (needed x) (length bytes)) (one_head bytes h k has has') ∙ sym is'
 one_answer bytes a b (inl (h, has, is)) (inr (inl (none, is'))) = absurd (none.0 h has.0 has.1)
 one_answer bytes a b (inl (h, has, is)) (inr (inr (never, is'))) = absurd (hope bytes h has never)
 one_answer bytes a b (inr (inl (none, is))) (inl (k, has', is')) = absurd (none.0 k has'.0 has'.1)
-one_answer bytes a b (inr (inl (none, is))) (inr (inl (none', is'))) = inl (is ∙ sym is')
-one_answer bytes a b (inr (inl (none, is))) (inr (inr (never, is'))) = inr (open_hopeless bytes none never)
+one_answer bytes a b (inr (inl (none, is))) (inr (inl (none', is'))) = is ∙ sym is'
+one_answer bytes a b (inr (inl (none, is))) (inr (inr (never, is'))) = absurd (open_hope bytes none never)
 one_answer bytes a b (inr (inr (never, is))) (inl (k, has', is')) = absurd (hope bytes k has' never)
-one_answer bytes a b (inr (inr (never, is))) (inr (inl (none', is'))) = inr (open_hopeless bytes none' never)
-one_answer bytes a b (inr (inr (never, is))) (inr (inr (never', is'))) = inl (is ∙ sym is')
+one_answer bytes a b (inr (inr (never, is))) (inr (inl (none', is'))) = absurd (open_hope bytes none' never)
+one_answer bytes a b (inr (inr (never, is))) (inr (inr (never', is'))) = is ∙ sym is'
 
 -- ---- whole requests
 
@@ -116,14 +117,14 @@ is_taken bytes n le (h, body, is) =
     inl (h, whole_head bytes n h body is, ap Whole len ∙ sym (accepted (refusal_of_head h) (needed h) (length bytes) is.accepted enough))
 
 pub every_whole : (bytes : List ℕ) (taken : Taken) (n : ℕ) → Takes bytes taken → n ≤ length bytes → IsWhole (take n bytes) → taken ≡ Whole n
-every_whole bytes taken n is le whole =
-    elim (one_answer bytes taken (Whole n) is (is_taken bytes n le whole)) [
-      | inl same ↦ same
-      | inr either ↦ absurd (hope bytes whole.0 (whole_head bytes n whole.0 whole.1 whole.2) either.1)
-    ]
+every_whole bytes taken n is le whole = one_answer bytes taken (Whole n) is (is_taken bytes n le whole)
 
 -- ---- what the parser refuses
 
-pub refused_is : (bytes front : List ℕ) (e : Error) → front ≡ front_of bytes → (e ≢ TooManyHeaders → NeverHasRequest front) → (e ≡ TooManyHeaders → RequestExceeds 5_500 front) → IsHopeless bytes
+pub refused_is : (bytes front : List ℕ) (e : Error) → front ≡ front_of bytes → (e ≢ TooManyHeaders → NeverHasRequest front) → (e ≡ TooManyHeaders → RequestExceeds 5_500 front) → NeverHasRequest (front_of bytes)
 refused_is bytes front e is invalid many =
     subst NeverHasRequest is (invalid (λ same. no_request_exceeds bytes (subst (RequestExceeds 5_500) is (many same))))
+
+-- no bytes make a head of it
+pub no_head : (front : List ℕ) → NeverHasRequest front → HasNoRequest front
+no_head front never h rest reads = never [] h (rest ++ []) (ReadsRequest-append front h rest [] reads)

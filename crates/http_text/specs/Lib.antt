@@ -3,10 +3,13 @@ pub mod Length
 pub mod Line
 pub mod Members
 pub mod Named
+pub mod OpenTarget
 pub mod Reply
 pub mod ReplyText
 pub mod Request
 pub mod RequestText
+pub mod Start
 pub mod Taken
 pub mod Target
+pub mod Targets
 pub mod Texts

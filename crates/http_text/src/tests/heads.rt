@@ -24,6 +24,15 @@ pub(super) fn long_head(alloc: Global, value: usize, end: &str) -> Result<Vec<u8
     Ok(text)
 }
 
+/// So many bytes that end inside a target that is no UTF-8.
+pub(super) fn long_target(alloc: Global, length: usize) -> Result<Vec<u8>, NoMemory> {
+    let mut text = Vec::from_slice(alloc, b"GET /")?;
+    for _ in 5..length {
+        text.push(0xff)?;
+    }
+    Ok(text)
+}
+
 /// A head with so many fields.
 pub(super) fn wide_head(alloc: Global, line: &str, fields: usize) -> Result<Vec<u8>, NoMemory> {
     let mut text = Vec::from_slice(alloc, line.as_bytes())?;

@@ -1,4 +1,4 @@
-use super::heads::{long_head, wide_head};
+use super::heads::{long_head, long_target, wide_head};
 use super::recorded::{CURL, CURL_1_0, CURL_HEAD, CURL_POST, CURL_PROXY, NGINX, WGET, WRK};
 use crate::{HeadRoom, ReplyFault, Taken, read_reply, take_request};
 use std::test::Fail;
@@ -129,6 +129,60 @@ fn takes_requests(rt: HostRuntime) -> Result<(), Fail> {
     }
     let taken = take_request(rt.alloc(), WRK.as_bytes())?;
     assert_eq!(rt; taken, Taken::Whole { length: WRK.len() });
+    Ok(())
+}
+
+/// Bytes of a target that are no UTF-8: within a target, behind it, and where no target is.
+const NO_TEXT: [(&[u8], Taken); 8] = [
+    (b"GET /\xff", Taken::NotYet),
+    (b"\r\n\nGET \xff", Taken::NotYet),
+    (b"GET /\xc3", Taken::NotYet),
+    (b"GET /\xff ", Taken::Refused { status: 400 }),
+    (
+        b"GET /\xff HTTP/1.1\r\nHost: x\r\n\r\n",
+        Taken::Refused { status: 400 },
+    ),
+    (b"GET /\xff\x7f", Taken::Refused { status: 400 }),
+    (b"GET\xff /", Taken::Refused { status: 400 }),
+    (b"\r GET /\xff", Taken::Refused { status: 400 }),
+];
+
+/// How many bytes end inside such a target, and what they are.
+const LONG_TARGETS: [(usize, Taken); 3] = [
+    (16_383, Taken::NotYet),
+    (16_384, Taken::Refused { status: 431 }),
+    (16_385, Taken::Refused { status: 431 }),
+];
+
+#[test]
+fn waits_within_a_target(rt: HostRuntime) -> Result<(), Fail> {
+    let mut room = HeadRoom::new(rt.alloc())?;
+    for &(bytes, wanted) in &NO_TEXT {
+        assert_eq!(rt; room.take_request(bytes), wanted, "{bytes:?}");
+    }
+    for &(length, wanted) in &LONG_TARGETS {
+        let text = long_target(rt.alloc(), length)?;
+        assert_eq!(rt; room.take_request(text.as_slice()), wanted, "{length}");
+    }
+    Ok(())
+}
+
+/// Bytes that have come, and how many in all another answer than "not yet" needs.
+const WAITS: [(&str, usize); 5] = [
+    ("", 1),
+    ("GET / HTTP/1.1\r\nHost: x\r\n", 26),
+    ("GET / HTTP/1.1\r\nHost: x\r\nContent-Length: 2\r\n\r\n", 48),
+    ("GET / HTTP/1.1\r\nHost: x\r\n\r\n", 0),
+    ("GET * HTTP/1.1\r\nHost: x\r\n\r\n", 0),
+];
+
+#[test]
+fn says_what_it_waits_for(rt: HostRuntime) -> Result<(), Fail> {
+    let mut room = HeadRoom::new(rt.alloc())?;
+    for &(text, wanted) in &WAITS {
+        let _taken = room.take_request(text.as_bytes());
+        assert_eq!(rt; room.waits_for(), wanted, "{text}");
+    }
     Ok(())
 }
 
