@@ -1,14 +1,14 @@
 -- The order of services and dates, whose ties are one service and one date.
-use Rattle.std.proofs.Common.{◌≡◌, ◌≢◌, ◌↔◌, ℕ, Bool, IfOk, IsTrue, List, Result, Ok, Err, ap, ap₂, refl}
+use Rattle.std.proofs.Common.{◌≡◌, ◌≢◌, ◌↔◌, ℕ, Bool, IfOk, IsTrue, List, Result, Ok, Err, ap, ap₂}
 use Rattle.std.proofs.lemmas.Cmp.{nat_cmp_total, nat_list_cmp_total, on_total, then_total}
 use Rattle.std.proofs.lemmas.Map.Lookups.{CmpEqualImpliesEq, exact_bytes, exact_pairs, exact_unsigned}
 use Rattle.std.specs.Cmp.{IsTotalOrder}
 use Rattle.std.specs.List.{AllPairs}
 use Rattle.std.specs.Ordering.{nat_cmp, on, ordering_then, then_cmp}
 use Rattle.std.specs.declared.cmp.Ordering.{Ordering}
-use Rattle.std.specs.declared.cmp.Ordering.TheVariants.{Less, Equal, Greater}
 use Rattle.lc_model.specs.Text.{id_cmp}
 use Rattle.lc_model.specs.declared.date.ServiceDate.{ServiceDate}
+use Rattle.lc_model.proofs.Search.{both_tie}
 use Rattle.lc_time.proofs.DateLemmas.{same_date}
 use Rattle.gtfs_tables.specs.CalendarDates.{key_of}
 use Rattle.gtfs_tables.specs.declared.dates.DateRow.{DateRow}
@@ -21,15 +21,10 @@ date_cmp = then_cmp (on (λ d. d.year) nat_cmp) (then_cmp (on (λ d. d.month) na
 abbrev pub key_cmp : List ℕ × ServiceDate → List ℕ × ServiceDate → Ordering
 key_cmp x y = ordering_then (id_cmp x.0 y.0) (date_cmp x.1 y.1)
 
-both_equal : (a b : Ordering) → ordering_then a b ≡ Equal → (a ≡ Equal) × (b ≡ Equal)
-both_equal Less b h = cc
-both_equal Equal b h = (refl, h)
-both_equal Greater b h = cc
-
 date_exact : CmpEqualImpliesEq date_cmp
 date_exact x y ties =
-    let year = both_equal (nat_cmp x.year y.year) (ordering_then (nat_cmp x.month y.month) (nat_cmp x.day y.day)) ties in
-    let month = both_equal (nat_cmp x.month y.month) (nat_cmp x.day y.day) year.1 in
+    let year = both_tie (nat_cmp x.year y.year) (ordering_then (nat_cmp x.month y.month) (nat_cmp x.day y.day)) ties in
+    let month = both_tie (nat_cmp x.month y.month) (nat_cmp x.day y.day) year.1 in
     same_date x y (exact_unsigned _ _ year.0) (exact_unsigned _ _ month.0) (exact_unsigned _ _ month.1)
 
 date_total : IsTotalOrder date_cmp

@@ -14,18 +14,13 @@ use Rattle.lc_model.specs.Text.{id_cmp}
 use Rattle.gtfs_tables.specs.StopTimeOrder.{InTripOrder, stop_time_cmp}
 use Rattle.gtfs_tables.specs.StopTimes.{AreTimely}
 use Rattle.gtfs_tables.specs.declared.stop_times.StopTime.{StopTime}
-use Rattle.lc_model.proofs.Search.{id_tie, same_id}
+use Rattle.lc_model.proofs.Search.{both_tie, id_tie, same_id}
 use Rattle.lc_model.proofs.Orders.{apart_permuted, strict_from_neighbours, strict_from_sorted}
 
 pub stop_time_total : IsTotalOrder stop_time_cmp
 stop_time_total = then_total (on_total (λ (t : StopTime). t.trip) nat_list_cmp_total) (on_total (λ (t : StopTime). t.seq) nat_cmp_total)
 
 -- an order by two parts, taken apart
-first_tie : (o p : Ordering) → ordering_then o p ≡ Equal → (o ≡ Equal) × (p ≡ Equal)
-first_tie Less p e = absurd (let f : Less ≡ Equal = e in cc)
-first_tie Equal p e = (refl, e)
-first_tie Greater p e = absurd (let f : Greater ≡ Equal = e in cc)
-
 second_less : (o p : Ordering) → o ≡ Equal → ordering_then o p ≡ Less → p ≡ Less
 second_less Less p e h = absurd (let f : Less ≡ Equal = e in cc)
 second_less Equal p e h = h
@@ -45,8 +40,8 @@ number_less x y e = ranked x y Less (sym e)
 same_number : (x y : ℕ) → x ≡ y → nat_cmp x y ≡ Equal
 same_number x y e = subst (λ z. nat_cmp x z ≡ Equal) e (tied_itself nat_cmp_total x)
 
-both_tie : (o p : Ordering) → o ≡ Equal → p ≡ Equal → ordering_then o p ≡ Equal
-both_tie o p e f = rw e f
+tie_both : (o p : Ordering) → o ≡ Equal → p ≡ Equal → ordering_then o p ≡ Equal
+tie_both o p e f = rw e f
 
 -- of one trip the earlier time has the lower sequence
 seq_less : (x y : StopTime) → x.trip ≡ y.trip → stop_time_cmp x y ≡ Less → x.seq < y.seq
@@ -87,14 +82,14 @@ strict_from_once said xs moved sorted once =
     (λ i j d before inside ties.
     let x = get_or said i d in
     let y = get_or said j d in
-    let tie = first_tie (id_cmp x.trip y.trip) (nat_cmp x.seq y.seq) ties in
+    let tie = both_tie (id_cmp x.trip y.trip) (nat_cmp x.seq y.seq) ties in
     once i j d before inside (id_tie x.trip y.trip tie.0) (number_tie x.seq y.seq tie.1)))
 
 pub once_from_strict : (said xs : List StopTime) → IsPermutation xs said → InTripOrder xs → AreOnce said
 once_from_strict said xs moved strict i j d before inside trip seq =
     let x = get_or said i d in
     let y = get_or said j d in
-    let tie : stop_time_cmp x y ≡ Equal = both_tie (id_cmp x.trip y.trip) (nat_cmp x.seq y.seq) (same_id x.trip y.trip trip) (same_number x.seq y.seq seq) in
+    let tie : stop_time_cmp x y ≡ Equal = tie_both (id_cmp x.trip y.trip) (nat_cmp x.seq y.seq) (same_id x.trip y.trip trip) (same_number x.seq y.seq seq) in
     apart_permuted stop_time_cmp stop_time_total xs said moved
     (λ k m e below there ties. let less : stop_time_cmp (get_or xs k e) (get_or xs m e) ≡ Less = strict k m e below there in
     let f : Less ≡ Equal = sym less ∙ ties in cc)

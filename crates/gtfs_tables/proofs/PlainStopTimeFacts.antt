@@ -1,5 +1,5 @@
 -- A plain stop_times.txt in its parts.
-use Rattle.std.proofs.Common.{◌≡◌, ℕ, List, Option, Some, None, Result, Ok, Err, subst}
+use Rattle.std.proofs.Common.{◌≡◌, ℕ, zero, suc, List, [], ◌∷◌, Option, Some, None, Result, Ok, Err, subst, arith}
 use Rattle.std.specs.Prelude.{IfOk, MatchOption}
 use Rattle.std.specs.List.Sorted.{IsPermutation}
 use Rattle.std.specs.Option.{option_map}
@@ -8,7 +8,7 @@ use Rattle.lc_model.specs.declared.stop.Stop.{Stop}
 use Rattle.gtfs_tables.specs.Only.{IsOnly}
 use Rattle.gtfs_tables.specs.Plain.{IsPlainTable}
 use Rattle.gtfs_tables.specs.Said.{SaidBy}
-use Rattle.gtfs_tables.specs.StopTimes.{ArePlainStopTimes, SaysStopTime, stop_times_columns}
+use Rattle.gtfs_tables.specs.StopTimes.{AreInRange, ArePlainStopTimes, SaysStopTime, stop_times_columns}
 use Rattle.gtfs_tables.specs.StopTimesParts.{AreInSequence, AreKnown, AreSaid}
 use Rattle.gtfs_tables.specs.declared.stop_times.StopTime.{StopTime}
 use Rattle.gtfs_tables.specs.declared.trips.TripRow.{TripRow}
@@ -30,6 +30,17 @@ pub said_result : {V E : Type 0} (bytes : List ℕ) (sheet : Sheet) → IsPlainT
     → IfOk r (λ times. IsOnly (AreSaid bytes) (option_map items times))
 said_result bytes sheet table same items (Ok times) h = only_said bytes sheet table same (option_map items times) h
 said_result bytes sheet table same items (Err e) h = h
+
+-- times that rows say are times of fewer than 100 hours
+in_range : (sheet : Sheet) (rows : List (List (List ℕ))) (times : List StopTime) → SaidBy (SaysStopTime sheet) rows times → AreInRange times
+in_range sheet [] [] said place d below = absurd (omega arith)
+in_range sheet [] (time ∷ times) said place d below = absurd said
+in_range sheet (row ∷ rows) [] said place d below = absurd said
+in_range sheet (row ∷ rows) (time ∷ times) said zero d below = (said.0.arr.in_range, said.0.dep.in_range)
+in_range sheet (row ∷ rows) (time ∷ times) said (suc place) d below = in_range sheet rows times said.1 place d (omega arith)
+
+pub said_in_range : (bytes : List ℕ) (times : List StopTime) → AreSaid bytes times → AreInRange times
+said_in_range bytes times said = in_range said.sheet said.sheet.rows times said.rows
 
 module _ (stops : List Stop) (trips : List TripRow) (bytes : List ℕ) where
   plain_said : (times : List StopTime) → ArePlainStopTimes stops trips bytes times → AreSaid bytes times

@@ -20,7 +20,7 @@ no_departure sheet row text is none item says =
     let e : None ≡ Some item.dep = none item.dep at in
     cc
 
-same_time : (a b : StopTime) → a.trip ≡ b.trip → a.stop ≡ b.stop → a.seq ≡ b.seq → a.arr ≡ b.arr → a.dep ≡ b.dep → a.board ≡ b.board → a.alight ≡ b.alight → a ≡ b
+pub same_time : (a b : StopTime) → a.trip ≡ b.trip → a.stop ≡ b.stop → a.seq ≡ b.seq → a.arr ≡ b.arr → a.dep ≡ b.dep → a.board ≡ b.board → a.alight ≡ b.alight → a ≡ b
 same_time a b trip stop seq arr dep board alight =
     λ i. record { trip = trip i; stop = stop i; seq = seq i; arr = arr i; dep = dep i; board = board i; alight = alight i }
 

@@ -28,9 +28,13 @@ pub record SaysDate (sheet : Sheet) (row : List (List ℕ)) (date_row : DateRow)
 abbrev pub key_of : DateRow → List ℕ × ServiceDate
 key_of row = (row.service, row.date)
 
+-- no two rows are of one service and date
+abbrev pub HaveOneRowADate : List DateRow → Type 0
+HaveOneRowADate dates = AllPairs (λ (x y : DateRow). x.service ≡ y.service → x.date ≢ y.date) dates
+
 -- the bytes are a plain file, and these are its rows in order, no two of which are of one service and date
 pub record ArePlainDates (bytes : List ℕ) (dates : List DateRow) : Type 0 where
   pub sheet : Sheet
   pub table : IsPlainTable bytes calendar_dates_columns sheet
   pub rows : SaidBy (SaysDate sheet) sheet.rows dates
-  pub distinct : AllPairs (λ (x y : DateRow). x.service ≡ y.service → x.date ≢ y.date) dates
+  pub distinct : HaveOneRowADate dates

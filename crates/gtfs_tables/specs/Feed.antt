@@ -1,86 +1,80 @@
--- Plain feeds. The points that a plain feed meets stand in the order in which its files are read; where one does not
--- hold, the feed is refused, and the file of the first such point is named.
-use Rattle.std.specs.Prelude.{◌≡◌, ℕ, List, ◌⊎◌, Option, IsNone, IsSome, IsSomeAnd, codes}
+-- Plain feeds: what each file of one has to be, the tables of one, and the first file of another that is not so.
+use Rattle.std.specs.Prelude.{◌≡◌, ℕ, List, take, Option, Some, IsNone, IsSomeAnd, is_none, if◌then◌else◌}
+use Rattle.std.specs.List.{All, slice_get}
 use Rattle.std.specs.List.Sorted.{IsPermutation}
+use Rattle.lc_model.specs.Stop.{InStopOrder}
 use Rattle.lc_model.specs.declared.stop.Stop.{Stop}
 use Rattle.gtfs_tables.specs.CalendarDates.{ArePlainDates}
-use Rattle.gtfs_tables.specs.Files.{FeedFiles}
+use Rattle.gtfs_tables.specs.Files.{Found, feed_files}
+use Rattle.gtfs_tables.specs.StopTimeOrder.{InTripOrder}
 use Rattle.gtfs_tables.specs.StopTimes.{ArePlainStopTimes}
 use Rattle.gtfs_tables.specs.Stops.{ArePlainStops}
 use Rattle.gtfs_tables.specs.Trips.{ArePlainTrips}
 use Rattle.gtfs_tables.specs.declared.dates.DateRow.{DateRow}
+use Rattle.gtfs_tables.specs.declared.feed.feed_file.FeedFile.{FeedFile}
+use Rattle.gtfs_tables.specs.declared.feed.feed_file.FeedFile.TheVariants as file
 use Rattle.gtfs_tables.specs.declared.stop_times.StopTime.{StopTime}
 use Rattle.gtfs_tables.specs.declared.tables.Tables.{Tables}
 use Rattle.gtfs_tables.specs.declared.trips.TripRow.{TripRow}
 
 -- the file is there, and its bytes are so
 abbrev pub Holds : Option (List ℕ) → (List ℕ → Type 0) → Type 0
-Holds file IsSo = IsSomeAnd file IsSo
+Holds found IsSo = IsSomeAnd found IsSo
 
--- these are the stops of the feed, in the order of the file
-abbrev pub StopsAre : FeedFiles → List Stop → Type 0
-StopsAre files stops = Holds files.stops (λ bytes. ArePlainStops bytes stops)
+-- these are the stops that stops.txt says, in the order of its rows
+abbrev pub StopsAre : Found → List Stop → Type 0
+StopsAre found stops = Holds (found file.Stops) (λ bytes. ArePlainStops bytes stops)
 
--- these are its trips
-abbrev pub TripsAre : FeedFiles → List TripRow → Type 0
-TripsAre files trips = Holds files.trips (λ bytes. ArePlainTrips bytes trips)
+-- these are the trips that trips.txt says, in the order of its rows
+abbrev pub TripsAre : Found → List TripRow → Type 0
+TripsAre found trips = Holds (found file.Trips) (λ bytes. ArePlainTrips bytes trips)
 
--- these are its stop times
-abbrev pub StopTimesAre : FeedFiles → List StopTime → Type 0
-StopTimesAre files times =
-    (stops : List Stop) × (trips : List TripRow) × StopsAre files stops × TripsAre files trips
-    × Holds files.stop_times (λ bytes. ArePlainStopTimes stops trips bytes times)
+-- these are the stop times that stop_times.txt says of these stops and trips, in the order of its rows
+abbrev pub StopTimesAre : Found → List StopTime → Type 0
+StopTimesAre found times =
+    (stops : List Stop) × (trips : List TripRow) × StopsAre found stops × TripsAre found trips
+    × Holds (found file.StopTimes) (λ bytes. ArePlainStopTimes stops trips bytes times)
 
--- these are the dates of its services
-abbrev pub DatesAre : FeedFiles → List DateRow → Type 0
-DatesAre files dates = Holds files.calendar_dates (λ bytes. ArePlainDates bytes dates)
+-- these are the dates that calendar_dates.txt says, in the order of its rows
+abbrev pub DatesAre : Found → List DateRow → Type 0
+DatesAre found dates = Holds (found file.CalendarDates) (λ bytes. ArePlainDates bytes dates)
 
--- the services are given by their dates alone
-abbrev pub HasDatesAlone : FeedFiles → Type 0
-HasDatesAlone files = IsNone files.calendar × IsSome files.calendar_dates
+-- What a plain feed has at each file: four that say their rows, and three that are absent.
+abbrev pub IsPlainAt : Found → FeedFile → Type 0
+IsPlainAt found file.Stops = (stops : List Stop) × StopsAre found stops
+IsPlainAt found file.Trips = (trips : List TripRow) × TripsAre found trips
+IsPlainAt found file.StopTimes = (times : List StopTime) × StopTimesAre found times
+IsPlainAt found file.Calendar = IsNone (found file.Calendar)
+IsPlainAt found file.CalendarDates = (dates : List DateRow) × DatesAre found dates
+IsPlainAt found file.Frequencies = IsNone (found file.Frequencies)
+IsPlainAt found file.Transfers = IsNone (found file.Transfers)
 
--- of the files that a plain feed does not have the first that is there
-abbrev pub ExtraNotPlain : FeedFiles → List ℕ → Type 0
-ExtraNotPlain files file =
-    ((file ≡ codes "frequencies.txt") × (IsNone files.frequencies → ⊥))
-    ⊎ (IsNone files.frequencies
-    × ((file ≡ codes "transfers.txt") × (IsNone files.transfers → ⊥)))
+-- this file, at this place of the order of reading, is the first that is not as in a plain feed
+pub record IsFirstNotPlain (found : Found) (place : ℕ) (at : FeedFile) : Type 0 where
+  pub stands : slice_get feed_files place ≡ Some at
+  pub before : All (IsPlainAt found) (take place feed_files)
+  pub not_plain : IsPlainAt found at → ⊥
 
--- of the files of the services and those after them the first whose point does not hold
-abbrev pub ServiceNotPlain : FeedFiles → List ℕ → Type 0
-ServiceNotPlain files file =
-    ((file ≡ codes "calendar.txt") × (HasDatesAlone files → ⊥))
-    ⊎ (HasDatesAlone files
-    × (((file ≡ codes "calendar_dates.txt") × ((dates : List DateRow) → DatesAre files dates → ⊥))
-    ⊎ (((dates : List DateRow) × DatesAre files dates)
-    × ExtraNotPlain files file)))
+-- The file that is named where the reading ends at one: that file, but for a feed that has neither of the files that give
+-- the dates of services, which is said to lack calendar.txt.
+abbrev pub named_at : Found → FeedFile → FeedFile
+named_at found file.Stops = file.Stops
+named_at found file.Trips = file.Trips
+named_at found file.StopTimes = file.StopTimes
+named_at found file.Calendar = file.Calendar
+named_at found file.CalendarDates = if is_none (found file.CalendarDates) then file.Calendar else file.CalendarDates
+named_at found file.Frequencies = file.Frequencies
+named_at found file.Transfers = file.Transfers
 
--- the first file whose point does not hold
-abbrev pub FirstNotPlain : FeedFiles → List ℕ → Type 0
-FirstNotPlain files file =
-    ((file ≡ codes "stops.txt") × ((stops : List Stop) → StopsAre files stops → ⊥))
-    ⊎ (((stops : List Stop) × StopsAre files stops)
-    × (((file ≡ codes "trips.txt") × ((trips : List TripRow) → TripsAre files trips → ⊥))
-    ⊎ (((trips : List TripRow) × TripsAre files trips)
-    × (((file ≡ codes "stop_times.txt") × ((times : List StopTime) → StopTimesAre files times → ⊥))
-    ⊎ (((times : List StopTime) × StopTimesAre files times)
-    × ServiceNotPlain files file)))))
-
--- The file was looked for and is absent. A feed without calendar.txt is said to lack it where calendar_dates.txt is
--- absent too.
-abbrev pub IsMissed : FeedFiles → List ℕ → Type 0
-IsMissed files file =
-    ((file ≡ codes "stops.txt") × IsNone files.stops)
-    ⊎ (((file ≡ codes "trips.txt") × IsNone files.trips)
-    ⊎ (((file ≡ codes "stop_times.txt") × IsNone files.stop_times)
-    ⊎ ((file ≡ codes "calendar.txt") × IsNone files.calendar × IsNone files.calendar_dates)))
-
--- The feed is plain, and these are its tables.
-pub record ArePlainTables (files : FeedFiles) (tables : Tables) : Type 0 where
-  pub stops : (said : List Stop) × StopsAre files said × IsPermutation said tables.stops
-  pub trips : TripsAre files tables.trips
-  pub stop_times : (said : List StopTime) × StopTimesAre files said × IsPermutation said tables.stop_times
-  pub dates_alone : HasDatesAlone files
-  pub dates : DatesAre files tables.dates
-  pub no_frequencies : IsNone files.frequencies
-  pub no_transfers : IsNone files.transfers
+-- The feed is plain, and these are its tables: the stops by their ids, the stop times by trip and sequence, the trips and
+-- the dates as the files have them.
+pub record ArePlainTables (found : Found) (tables : Tables) : Type 0 where
+  pub stops : (said : List Stop) × StopsAre found said × IsPermutation said tables.stops
+  pub stops_in_order : InStopOrder tables.stops
+  pub trips : TripsAre found tables.trips
+  pub stop_times : (said : List StopTime) × StopTimesAre found said × IsPermutation said tables.stop_times
+  pub times_in_order : InTripOrder tables.stop_times
+  pub no_calendar : IsNone (found file.Calendar)
+  pub dates : DatesAre found tables.dates
+  pub no_frequencies : IsNone (found file.Frequencies)
+  pub no_transfers : IsNone (found file.Transfers)

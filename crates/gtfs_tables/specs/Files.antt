@@ -1,19 +1,13 @@
--- The files of a feed (GTFS Schedule Reference, "Dataset files"), as far as they are there.
-use Rattle.std.specs.Prelude.{ℕ, List, ◌++◌, ◌≡◌, IfSome, Option, codes}
-use Rattle.lc_world.specs.Folder.{bytes_named}
-use Rattle.lc_world.specs.declared.file.File.{File}
-use Rattle.gtfs_tables.specs.declared.step.FeedFile.{FeedFile}
-use Rattle.gtfs_tables.specs.declared.step.FeedFile.TheVariants as file
+-- The files of a feed (GTFS Schedule Reference, "Dataset files"), and what is found of them in a folder.
+use Rattle.std.specs.Prelude.{ℕ, List, [], ◌∷◌, ◌++◌, map, take, Option, codes}
+use Rattle.lc_io.specs.Folder.{bytes_named}
+use Rattle.lc_io.specs.declared.file.File.{File}
+use Rattle.gtfs_tables.specs.declared.feed.feed_file.FeedFile.{FeedFile}
+use Rattle.gtfs_tables.specs.declared.feed.feed_file.FeedFile.TheVariants as file
 
--- the bytes of each file, in the order in which the files are read
-pub record FeedFiles : Type 0 where
-  pub stops : Option (List ℕ)
-  pub trips : Option (List ℕ)
-  pub stop_times : Option (List ℕ)
-  pub calendar : Option (List ℕ)
-  pub calendar_dates : Option (List ℕ)
-  pub frequencies : Option (List ℕ)
-  pub transfers : Option (List ℕ)
+-- the files, in the order in which they are read
+abbrev pub feed_files : List FeedFile
+feed_files = file.Stops ∷ file.Trips ∷ file.StopTimes ∷ file.Calendar ∷ file.CalendarDates ∷ file.Frequencies ∷ file.Transfers ∷ []
 
 -- the name of a file
 abbrev pub name_of : FeedFile → List ℕ
@@ -26,21 +20,17 @@ name_of file.Frequencies = codes "frequencies.txt"
 name_of file.Transfers = codes "transfers.txt"
 
 -- the name under which a folder has a file of the feed
-abbrev pub path_of : List ℕ → List ℕ → List ℕ
-path_of feed file = feed ++ codes "/" ++ file
+abbrev pub path_of : List ℕ → FeedFile → List ℕ
+path_of feed at = feed ++ codes "/" ++ name_of at
 
--- the files of the feed in a folder of these files
-abbrev pub files_of : List File → List ℕ → FeedFiles
-files_of files feed = record {
-  stops = bytes_named files (path_of feed (codes "stops.txt"));
-  trips = bytes_named files (path_of feed (codes "trips.txt"));
-  stop_times = bytes_named files (path_of feed (codes "stop_times.txt"));
-  calendar = bytes_named files (path_of feed (codes "calendar.txt"));
-  calendar_dates = bytes_named files (path_of feed (codes "calendar_dates.txt"));
-  frequencies = bytes_named files (path_of feed (codes "frequencies.txt"));
-  transfers = bytes_named files (path_of feed (codes "transfers.txt"));
-}
+-- what was found of each file: its bytes, or none where it is absent
+abbrev pub Found : Type 0
+Found = FeedFile → Option (List ℕ)
 
--- the files are those of the feed in the folder, as far as it tells its files
-abbrev pub AreSeen : Option (List File) → List ℕ → FeedFiles → Type 0
-AreSeen told feed files = IfSome told (λ list. files ≡ files_of list feed)
+-- what a folder of these files has of the feed
+abbrev pub files_of : List File → List ℕ → Found
+files_of files feed at = bytes_named files (path_of feed at)
+
+-- the names of the first files of the feed, so many, in the order in which they are read
+abbrev pub first_paths : List ℕ → ℕ → List (List ℕ)
+first_paths feed count = map (path_of feed) (take count feed_files)

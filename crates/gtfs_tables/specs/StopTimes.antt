@@ -40,6 +40,10 @@ pub record AreTimely (times : List StopTime) : Type 0 where
   pub along_a_trip : (x y : StopTime) → Contains times x → Contains times y → x.trip ≡ y.trip → x.seq < y.seq
       → x.dep ≤ y.arr
 
+-- the times are those of a service day of fewer than 100 hours
+abbrev pub AreInRange : List StopTime → Type 0
+AreInRange times = All (λ (x : StopTime). (x.arr < 360_000) × (x.dep < 360_000)) times
+
 -- the bytes are a plain file, and these are its times in the order of the file: their stops and trips are those of the
 -- feed, no trip has one sequence twice, and no vehicle goes back in time
 pub record ArePlainStopTimes (stops : List Stop) (trips : List TripRow) (bytes : List ℕ) (times : List StopTime) : Type 0 where

@@ -1,8 +1,10 @@
 -- stops.txt of a plain feed (GTFS Schedule Reference, stops.txt).
 use Rattle.std.specs.Prelude.{◌≡◌, ◌≢◌, ℕ, List, [], ◌∷◌, None, map, codes}
 use Rattle.std.specs.List.{All, AllPairs}
+use Rattle.std.specs.Option.{IfSome}
 use Rattle.std.specs.Str.{IsUtf8}
 use Rattle.gtfs_rows.specs.Sheet.{Sheet}
+use Rattle.lc_model.specs.Stop.{HasStop}
 use Rattle.lc_model.specs.Text.{IsIdText}
 use Rattle.lc_model.specs.declared.stop.Stop.{Stop}
 use Rattle.gtfs_tables.specs.Plain.{IsPlainTable, text_at}
@@ -24,6 +26,10 @@ stop_of sheet row = record {
   name = text_at sheet row (codes "stop_name");
   parent = None;
 }
+
+-- each parent is one of the stops
+abbrev pub HaveKnownParents : List Stop → Type 0
+HaveKnownParents stops = All (λ (s : Stop). IfSome s.parent (HasStop stops)) stops
 
 -- the bytes are a plain file, and these are its stops in the order of the file, no two of which have one id
 pub record ArePlainStops (bytes : List ℕ) (stops : List Stop) : Type 0 where

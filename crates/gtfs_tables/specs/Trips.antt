@@ -22,13 +22,17 @@ trip_of sheet row = record {
   service = text_at sheet row (codes "service_id");
 }
 
+-- no two trips have one id
+abbrev pub HaveOneRowATrip : List TripRow → Type 0
+HaveOneRowATrip trips = AllPairs (λ (x y : TripRow). x.trip ≢ y.trip) trips
+
 -- the bytes are a plain file, and these are its trips in the order of the file, no two of which have one id
 pub record ArePlainTrips (bytes : List ℕ) (trips : List TripRow) : Type 0 where
   pub sheet : Sheet
   pub table : IsPlainTable bytes trips_columns sheet
   pub rows : All (IsTripRow sheet) sheet.rows
   pub are : trips ≡ map (trip_of sheet) sheet.rows
-  pub distinct : AllPairs (λ (x y : TripRow). x.trip ≢ y.trip) trips
+  pub distinct : HaveOneRowATrip trips
 
 -- the list has a trip of this id
 abbrev pub HasTrip : List TripRow → List ℕ → Type 0

@@ -1,4 +1,5 @@
 ghost use Rattle.std.specs.Prelude.{◌≡◌};
+ghost use Rattle.gtfs_tables.specs.CalendarDates.{HaveOneRowADate};
 
 use lc_model::{Id, ServiceDate};
 use std::marker::Model;
@@ -11,7 +12,7 @@ pub struct DateRow {
     pub added: bool,
 }
 
-/// The dates of the services of a feed, in the order of the file.
+/// The dates of the services of a feed, in the order of the file. No two rows are of one service and date.
 #[derive(Debug, Drop)]
 pub struct DateRows {
     items: Vec<DateRow>,
@@ -19,22 +20,27 @@ pub struct DateRows {
 
 impl Model for DateRows {
     ghost use Rattle.std.specs.Prelude.{List};
+    ghost use Rattle.gtfs_tables.specs.CalendarDates.{HaveOneRowADate};
     ghost use Rattle.gtfs_tables.specs.declared.dates.DateRow.{DateRow};
 
     ghost Value = { List DateRow };
 
     ghost view = { λ d. d.items.items };
+
+    ghost invariant = { λ d. HaveOneRowADate d.items.items };
 }
 
 impl DateRows {
     pub fn from_list(list: Vec<DateRow>) -> DateRows
+        requires { HaveOneRowADate list.items }
         ensures { result ≡ list.items }
     {
         DateRows { items: list }
     }
 
     pub fn as_slice(&self) -> &[DateRow]
-        ensures { result.now ≡ self.now }
+        ensures value { result.now ≡ self.now }
+        ensures one_row_a_date { HaveOneRowADate result.now }
     {
         self.items.as_slice()
     }

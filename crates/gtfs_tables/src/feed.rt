@@ -1,25 +1,21 @@
-ghost use Rattle.std.specs.Prelude.{◌≡◌, Err, Ok, IfErr, IfOk};
-ghost use Rattle.gtfs_tables.specs.Faults.{IsBroken, IsFaultOf, IsFolderFault};
-ghost use Rattle.gtfs_tables.specs.Feed.{ArePlainTables};
-ghost use Rattle.gtfs_tables.specs.Files.{AreSeen, FeedFiles};
-ghost use Rattle.gtfs_tables.specs.Steps.{Keeps};
+ghost use Rattle.gtfs_tables.specs.Reading.{EndsSo, Keeps};
+ghost use Rattle.gtfs_tables.specs.Steps.{IsFaultOf, IsWalk};
+
+mod end;
+mod fault;
+mod feed_file;
+mod judge;
+mod look;
+mod steps;
 
 use crate::Tables;
-use crate::rest::plain_tables;
-use crate::step::End;
+use crate::feed::end::End;
+use crate::feed::steps::{absent, plain_dates, plain_stop_times, plain_stops, plain_trips};
+pub use fault::FeedFault;
+pub use feed_file::FeedFile;
+use lc_io::Folder;
 use lc_model::Text;
-use lc_world::Folder;
 use std::alloc::Global;
-
-/// Why a feed gave no tables.
-#[derive(Debug, Drop)]
-pub enum FeedFault {
-    /// The feed is not plain: rule 16, row 0 and the first file that is not plain.
-    Broken { rule: u8, file: Text, row: u64 },
-    /// The folder failed to read a file. Its count of faults was `before` as the call began, and is `after`.
-    Folder { before: u64, after: u64 },
-    NoMemory,
-}
 
 // The rule that every feed breaks that is not plain.
 const NOT_PLAIN: u8 = 16;
@@ -31,36 +27,41 @@ const NOT_PLAIN: u8 = 16;
 /// reading. calendar.txt, frequencies.txt and transfers.txt have to be absent. Where calendar_dates.txt is absent too,
 /// calendar.txt is named. Of n rows: n log n.
 pub fn read_feed<F: Folder>(alloc: Global, folder: &mut F, feed: &str) -> Result<Tables, FeedFault>
-    ensures ok { IfOk result (λ tables. (files : FeedFiles) × AreSeen (F.seen folder.old).files feed.now files × ArePlainTables files tables) }
-    ensures broken { IfErr result (IsBroken (F.seen folder.old) (F.seen folder.new) feed.now) }
-    ensures folder_fault { IfErr result (IsFolderFault (F.seen folder.old) (F.seen folder.new)) }
+    ensures ends { EndsSo (F.seen folder.old) (F.seen folder.new) feed.now result }
 
     // The folder has the same files, and its counts have not fallen.
     ensures counts { Keeps (F.seen folder.old) (F.seen folder.new) }
 {
     let before = folder.faults();
-    let tables = plain_tables(alloc, folder, feed);
+    let read = plain_tables(alloc, folder, feed);
     let after = folder.faults();
-    outcome(alloc, tables, before, after)
-}
-
-fn outcome(
-    alloc: Global,
-    read: Result<Tables, End>,
-    before: u64,
-    after: u64,
-) -> Result<Tables, FeedFault>
-    ensures good { IfOk result (λ tables. read ≡ Ok tables) }
-    ensures bad { IfErr result (IsFaultOf read before after) }
-{
     match read {
         Ok(tables) => Ok(tables),
         Err(end) => Err(fault_of(alloc, end, before, after)),
     }
 }
 
+// The tables of the feed, one file after the other.
+fn plain_tables<F: Folder>(alloc: Global, folder: &mut F, feed: &str) -> Result<Tables, End>
+    ensures { IsWalk (F.seen folder.old) (F.seen folder.new) feed.now result }
+{
+    let stops = plain_stops(alloc, folder, feed)?;
+    let trips = plain_trips(alloc, folder, feed)?;
+    let stop_times = plain_stop_times(alloc, folder, feed, &stops, &trips)?;
+    absent(alloc, folder, feed, FeedFile::Calendar)?;
+    let dates = plain_dates(alloc, folder, feed)?;
+    absent(alloc, folder, feed, FeedFile::Frequencies)?;
+    absent(alloc, folder, feed, FeedFile::Transfers)?;
+    Ok(Tables {
+        stops,
+        trips,
+        stop_times,
+        dates,
+    })
+}
+
 fn fault_of(alloc: Global, end: End, before: u64, after: u64) -> FeedFault
-    ensures { IsFaultOf (Err end) before after result }
+    ensures { IsFaultOf end before after result }
 {
     match end {
         End::NotPlain(file) => match String::from_str(alloc, file.name()) {

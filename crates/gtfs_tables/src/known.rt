@@ -1,13 +1,10 @@
-ghost use Rattle.std.specs.Prelude.{◌≡◌, ℕ, ◌↔◌, All, Any, Contains, IfOk, IsTrue, List};
-ghost use Rattle.std.specs.List.Sorted.{IsSorted};
-ghost use Rattle.std.specs.Ordering.{on};
+ghost use Rattle.std.specs.Prelude.{◌↔◌, All, IfOk, IsTrue};
 ghost use Rattle.lc_model.specs.Stop.{HasStop};
-ghost use Rattle.lc_model.specs.Text.{id_cmp};
 ghost use Rattle.gtfs_tables.specs.Trips.{HasTrip};
 ghost use Rattle.gtfs_tables.specs.declared.stop_times.StopTime.{StopTime};
 
 use crate::{StopTime, TripRows};
-use lc_model::{NoMemory, Stops};
+use lc_model::{NoMemory, Stops, sorted_keys};
 use std::alloc::Global;
 
 /// Whether each stop time is at one of these stops. Looks each up by binary search.
@@ -25,20 +22,6 @@ pub(crate) fn have_trips(
 ) -> Result<bool, NoMemory>
     ensures { IfOk result (λ all. IsTrue all ↔ All (λ (x : StopTime). HasTrip trips.now x.trip) times.now) }
 {
-    let ids = sorted_trips(alloc, trips)?;
+    let ids = sorted_keys(alloc, trips.as_slice())?;
     Ok(times.iter().all(|time| time.trip.is_among(ids.as_slice())))
-}
-
-// The ids of the trips, sorted.
-fn sorted_trips(alloc: Global, trips: &TripRows) -> Result<Vec<&[u8]>, NoMemory>
-    ensures sorted { IfOk result (λ ids. IsSorted (on (λ id. id.now) id_cmp) ids.items) }
-    ensures trips { IfOk result (λ ids. (id : List ℕ) → Any (λ x. x.now ≡ id) ids.items ↔ HasTrip trips.now id) }
-{
-    let rows = trips.as_slice();
-    let mut ids = Vec::with_capacity(alloc, rows.len())?;
-    'rows: for row in rows {
-        ids.push(row.trip.bytes())?;
-    }
-    ids.sort()?;
-    Ok(ids)
 }

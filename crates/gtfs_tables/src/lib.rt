@@ -1,24 +1,22 @@
 //! The tables of a GTFS feed, read from a folder: stops, trips, stop times and the dates of services. Only plain feeds
 //! are read; of every other feed the first file that is not plain is named. It stands on `gtfs_rows`, `lc_time` and
-//! `lc_world`.
+//! `lc_io`.
 #![tactic(auto)]
 
 mod apart;
 mod columns;
 mod dates;
 mod feed;
+mod keyed;
 mod known;
-mod look;
+mod laws;
 mod number;
 mod plain;
-mod plain_files;
 mod read_dates;
 mod read_stop_times;
 mod read_stops;
 mod read_trips;
-mod rest;
 mod said_stop_times;
-mod step;
 mod stop_time_order;
 mod stop_time_row;
 mod stop_times;
@@ -28,7 +26,8 @@ mod tests;
 mod trips;
 
 pub use dates::{DateRow, DateRows};
-pub use feed::{FeedFault, read_feed};
+pub use feed::{FeedFault, FeedFile, read_feed};
+pub use laws::one_feed;
 pub use stop_times::{StopTime, StopTimes};
 pub use tables::Tables;
 pub use trips::{TripRow, TripRows};

@@ -1,7 +1,7 @@
 ghost use Rattle.std.specs.Prelude.{◌≡◌, ◌↔◌, List, IfOk, IsTrue, MatchOption};
 ghost use Rattle.std.specs.List.Sorted.{IsPermutation, IsSorted};
 ghost use Rattle.gtfs_tables.specs.StopTimeOrder.{InTripOrder, stop_time_cmp};
-ghost use Rattle.gtfs_tables.specs.StopTimes.{ArePlainStopTimes, AreTimely};
+ghost use Rattle.gtfs_tables.specs.StopTimes.{ArePlainStopTimes, AreInRange, AreTimely};
 ghost use Rattle.gtfs_tables.specs.StopTimesParts.{AreInSequence, AreKnown};
 ghost use Rattle.gtfs_tables.specs.declared.stop_times.StopTime.{StopTime};
 
@@ -52,6 +52,7 @@ fn are_known(
 
 // The stop times by trip and sequence. None exactly where a trip has one sequence twice or a vehicle goes back in time.
 fn in_sequence(said: Vec<StopTime>) -> Result<Option<StopTimes>, NoMemory>
+    requires { AreInRange said.items }
     ensures { IfOk result (λ times. MatchOption times (AreInSequence said.items → ⊥) (λ times. AreInSequence said.items × IsPermutation said.items times)) }
 {
     let times = by_trip(said)?;

@@ -12,7 +12,7 @@ use crate::apart::are_apart;
 use crate::columns::{column, text};
 use crate::plain::plain_table;
 use gtfs_rows::Rows;
-use lc_model::{Id, NoMemory, Stop, Stops, Text};
+use lc_model::{Id, NoMemory, Stop, Stops, Text, keys_of};
 use std::alloc::Global;
 use std::str;
 
@@ -138,17 +138,7 @@ fn distinct_stops(alloc: Global, mut stops: Vec<Stop>) -> Result<Option<Stops>, 
 fn ids_are_apart(alloc: Global, stops: &[Stop]) -> Result<bool, NoMemory>
     ensures { IfOk result (λ apart. IsTrue apart ↔ AllPairs (λ (x y : Stop). x.id ≢ y.id) stops.now) }
 {
-    are_apart(ids_of(alloc, stops)?)
-}
-
-fn ids_of<'a>(alloc: Global, stops: &'a [Stop]) -> Result<Vec<&'a [u8]>, NoMemory>
-    ensures { IfOk result (λ ids. map (λ id. id.now) ids.items ≡ map (λ s. s.id) stops.now) }
-{
-    let mut ids = Vec::with_capacity(alloc, stops.len())?;
-    'stops: for stop in stops {
-        ids.push(stop.id.bytes())?;
-    }
-    Ok(ids)
+    are_apart(keys_of(alloc, stops)?)
 }
 
 fn sort_by_id(stops: &mut Vec<Stop>) -> Result<(), NoMemory>

@@ -10,7 +10,7 @@ use crate::columns::{column, text};
 use crate::plain::plain_table;
 use crate::{TripRow, TripRows};
 use gtfs_rows::Rows;
-use lc_model::{Id, NoMemory};
+use lc_model::{Id, NoMemory, keys_of};
 use std::alloc::Global;
 
 /// The trips of a plain trips.txt, in the order of the file. None exactly where the bytes are no such file. Of n rows:
@@ -119,15 +119,5 @@ fn distinct_trips(alloc: Global, trips: Vec<TripRow>) -> Result<Option<TripRows>
 fn ids_are_apart(alloc: Global, trips: &[TripRow]) -> Result<bool, NoMemory>
     ensures { IfOk result (λ apart. IsTrue apart ↔ AllPairs (λ (x y : Trip). x.trip ≢ y.trip) trips.now) }
 {
-    are_apart(ids_of(alloc, trips)?)
-}
-
-fn ids_of<'a>(alloc: Global, trips: &'a [TripRow]) -> Result<Vec<&'a [u8]>, NoMemory>
-    ensures { IfOk result (λ ids. map (λ id. id.now) ids.items ≡ map (λ t. t.trip) trips.now) }
-{
-    let mut ids = Vec::with_capacity(alloc, trips.len())?;
-    'trips: for trip in trips {
-        ids.push(trip.trip.bytes())?;
-    }
-    Ok(ids)
+    are_apart(keys_of(alloc, trips)?)
 }

@@ -1,5 +1,6 @@
 ghost use Rattle.std.specs.Prelude.{◌≡◌};
 ghost use Rattle.gtfs_tables.specs.StopTimeOrder.{InTripOrder};
+ghost use Rattle.gtfs_tables.specs.StopTimes.{AreInRange, AreTimely};
 
 use lc_model::Id;
 use std::marker::Model;
@@ -17,7 +18,8 @@ pub struct StopTime {
     pub alight: bool,
 }
 
-/// The stop times of a feed, strictly ordered by trip and sequence.
+/// The stop times of a feed, strictly ordered by trip and sequence. No vehicle goes back in time, and no time reaches 100
+/// hours.
 #[derive(Debug, Drop)]
 pub struct StopTimes {
     items: Vec<StopTime>,
@@ -27,17 +29,20 @@ impl Model for StopTimes {
     ghost use Rattle.std.specs.Prelude.{List};
     ghost use Rattle.gtfs_tables.specs.declared.stop_times.StopTime.{StopTime};
     ghost use Rattle.gtfs_tables.specs.StopTimeOrder.{InTripOrder};
+    ghost use Rattle.gtfs_tables.specs.StopTimes.{AreInRange, AreTimely};
 
     ghost Value = { List StopTime };
 
     ghost view = { λ t. t.items.items };
 
-    ghost invariant = { λ t. InTripOrder t.items.items };
+    ghost invariant = { λ t. InTripOrder t.items.items × AreTimely t.items.items × AreInRange t.items.items };
 }
 
 impl StopTimes {
     pub fn from_list(list: Vec<StopTime>) -> StopTimes
-        requires { InTripOrder list.items }
+        requires in_order { InTripOrder list.items }
+        requires timely { AreTimely list.items }
+        requires in_range { AreInRange list.items }
         ensures { result ≡ list.items }
     {
         StopTimes { items: list }
@@ -46,6 +51,8 @@ impl StopTimes {
     pub fn as_slice(&self) -> &[StopTime]
         ensures value { result.now ≡ self.now }
         ensures in_order { InTripOrder result.now }
+        ensures timely { AreTimely result.now }
+        ensures in_range { AreInRange result.now }
     {
         self.items.as_slice()
     }

@@ -1,3 +1,5 @@
+ghost use Rattle.gtfs_tables.specs.Stops.{HaveKnownParents};
+
 use crate::{DateRows, StopTimes, TripRows};
 use lc_model::Stops;
 
@@ -8,4 +10,5 @@ pub struct Tables {
     pub trips: TripRows,
     pub stop_times: StopTimes,
     pub dates: DateRows,
+    pub ghost parents_known: { ∥ HaveKnownParents stops ∥₁ },
 }

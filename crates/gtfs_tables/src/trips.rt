@@ -1,4 +1,5 @@
 ghost use Rattle.std.specs.Prelude.{◌≡◌};
+ghost use Rattle.gtfs_tables.specs.Trips.{HaveOneRowATrip};
 
 use lc_model::Id;
 use std::marker::Model;
@@ -10,7 +11,7 @@ pub struct TripRow {
     pub service: Id,
 }
 
-/// The trips of a feed, in the order of the file.
+/// The trips of a feed, in the order of the file. No two have one id.
 #[derive(Debug, Drop)]
 pub struct TripRows {
     items: Vec<TripRow>,
@@ -18,22 +19,27 @@ pub struct TripRows {
 
 impl Model for TripRows {
     ghost use Rattle.std.specs.Prelude.{List};
+    ghost use Rattle.gtfs_tables.specs.Trips.{HaveOneRowATrip};
     ghost use Rattle.gtfs_tables.specs.declared.trips.TripRow.{TripRow};
 
     ghost Value = { List TripRow };
 
     ghost view = { λ t. t.items.items };
+
+    ghost invariant = { λ t. HaveOneRowATrip t.items.items };
 }
 
 impl TripRows {
     pub fn from_list(list: Vec<TripRow>) -> TripRows
+        requires { HaveOneRowATrip list.items }
         ensures { result ≡ list.items }
     {
         TripRows { items: list }
     }
 
     pub fn as_slice(&self) -> &[TripRow]
-        ensures { result.now ≡ self.now }
+        ensures value { result.now ≡ self.now }
+        ensures one_row_a_trip { HaveOneRowATrip result.now }
     {
         self.items.as_slice()
     }

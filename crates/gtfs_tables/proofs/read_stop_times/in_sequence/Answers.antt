@@ -1,5 +1,6 @@
 -- A sort only moves the stop times.
-use Rattle.std.proofs.Common.{◌≡◌, false, true, List, refl, subst, sym}
+use Rattle.std.proofs.Common.{◌≡◌, ◌<◌, false, true, List, refl, subst, sym}
+use Rattle.std.proofs.lemmas.List.Sorted.{All-permutation}
 use Rattle.std.specs.List.Sorted.{IsPermutation}
 use Rattle.gtfs_tables.specs.StopTimeOrder.{InTripOrder}
 use Rattle.gtfs_tables.specs.StopTimes.{AreTimely}
@@ -9,6 +10,10 @@ use Rattle.gtfs_tables.proofs.read_stop_times.in_sequence.Goals as goal
 
 abbrev AreSorted : List StopTime → Type 0
 AreSorted times = InTripOrder times × AreTimely times
+
+pub from_list-requires-clause-in_range : goal.from_list-requires-clause-in_range
+from_list-requires-clause-in_range c =
+    All-permutation (λ (x : StopTime). (x.arr < 360_000) × (x.dep < 360_000)) c.args.said.items c.in_ok-times.times.items c.in_ok-times.ensures.moved c.requires
 
 pub returns-then-are_in_sequence : goal.returns-then-are_in_sequence
 returns-then-are_in_sequence c =

@@ -1,11 +1,16 @@
 -- What is said is the only list that can be plain.
 use Rattle.std.proofs.Common.{◌≡◌, false, true, subst, sym}
 use Rattle.gtfs_tables.specs.StopTimesParts.{AreKnown}
-use Rattle.gtfs_tables.proofs.PlainStopTimeFacts.{not_known, nothing_said, plain_result}
+use Rattle.gtfs_tables.proofs.PlainStopTimeFacts.{not_known, nothing_said, plain_result, said_in_range}
 use Rattle.gtfs_tables.proofs.read_stop_times.read_stop_times.Goals as goal
 
 pub returns-in_default : goal.returns-in_default
 returns-in_default c = nothing_said c.args.stops.now c.args.trips.now c.args.bytes.now (rw c.in_default.is at c.in_ok-said.ensures)
+
+pub in_sequence-requires : goal.in_sequence-requires
+in_sequence-requires c =
+    let only = rw c.in-Some.is at c.in_ok-said.ensures in
+    said_in_range c.args.bytes.now c.in-Some.said.items only.0
 
 pub returns-then-branch : goal.returns-then-branch
 returns-then-branch c =

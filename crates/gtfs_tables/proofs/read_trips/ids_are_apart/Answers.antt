@@ -8,4 +8,4 @@ use Rattle.gtfs_tables.proofs.read_trips.ids_are_apart.Goals as goal
 
 pub returns : goal.returns
 returns c =
-    apart_iff_distinct id_cmp nat_list_cmp_total exact_bytes (λ (id : Bor (List ℕ)). id.now) (λ (t : TripRow). t.trip) c.in_ok-ids_of.field-0.items c.args.trips.now c.are_apart.result c.in_ok-ids_of.ensures c.are_apart.ensures
+    apart_iff_distinct id_cmp nat_list_cmp_total exact_bytes (λ (id : Bor (List ℕ)). id.now) (λ (t : TripRow). t.trip) c.in_ok-keys_of.field-0.items c.args.trips.now c.are_apart.result c.in_ok-keys_of.ensures c.are_apart.ensures
