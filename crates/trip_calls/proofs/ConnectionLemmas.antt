@@ -21,8 +21,8 @@ use Rattle.lc_model.specs.declared.run.Run.{Run}
 use Rattle.trip_calls.specs.Runs.{RunsForward}
 use Rattle.trip_calls.proofs.Lists.{All-from_contains, AllPairs-flat_map, AllPairs-head, AllPairs-nil, AllPairs-tail, StandsIn-flat_map}
 use Rattle.lc_model.proofs.Orders.{IsStrict-from_sorted}
-use Rattle.lc_model.proofs.Totals.{departure_cmp_total}
-use Rattle.trip_calls.proofs.TimeLemmas.{same_heads}
+use Rattle.lc_model.specs.Totals.{departure_cmp_total}
+use Rattle.lc_model.proofs.Search.{both_tie}
 
 -- after the last call but one there is no connection
 pub no_more : (key : RunKey) (calls : List Call) (n : ℕ) → length calls ≤ n + 1 → connections_of_calls key (drop n calls) ≡ []
@@ -72,8 +72,8 @@ Untied x y = departure_cmp x y ≢ Equal
 -- connections that tie have keys and sequences that tie
 pub tied_parts : (x y : Connection) → departure_cmp x y ≡ Equal → (key_cmp x.key y.key ≡ Equal) × (nat_cmp x.seq y.seq ≡ Equal)
 tied_parts x y e =
-    let first = same_heads (nat_cmp x.dep y.dep) _ e in
-    same_heads (key_cmp x.key y.key) (nat_cmp x.seq y.seq) first.1
+    let first = both_tie (nat_cmp x.dep y.dep) _ e in
+    both_tie (key_cmp x.key y.key) (nat_cmp x.seq y.seq) first.1
 
 untied_by_seq : (x y : Connection) → x.seq < y.seq → Untied x y
 untied_by_seq x y lt e = let same = ranked x.seq y.seq Equal (sym (tied_parts x y e).1) in omega (arith, same)

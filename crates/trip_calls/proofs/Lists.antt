@@ -121,11 +121,3 @@ AllPairs-map R f (x ∷ xs) h =
 pub AllPairs-weaker : {X : Type 0} (R S : X → X → Type 0) (xs : List X) → ((x y : X) → Contains xs x → Contains xs y → R x y → S x y) → AllPairs R xs → AllPairs S xs
 AllPairs-weaker R S xs weaker h = λ i j d lt lj.
     weaker (get_or xs i d) (get_or xs j d) (All-contains_itself xs i d (omega arith)) (All-contains_itself xs j d lj) (h i j d lt lj)
-
-pub filter_none : {X : Type 0} (p : X → Bool) (xs : List X) → All (λ x. p x ≡ false) xs → filter p xs ≡ []
-filter_none p [] h = refl
-filter_none p (x ∷ xs) h = rw (h 0 x (omega arith)) (filter_none p xs (λ k d lt. h (suc k) d (omega arith)))
-
-pub filter_all : {X : Type 0} (p : X → Bool) (xs : List X) → All (λ x. p x ≡ true) xs → filter p xs ≡ xs
-filter_all p [] h = refl
-filter_all p (x ∷ xs) h = rw (h 0 x (omega arith)) (ap (λ v. x ∷ v) (filter_all p xs (λ k d lt. h (suc k) d (omega arith))))

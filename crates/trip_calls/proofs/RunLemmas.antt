@@ -1,5 +1,5 @@
 -- The runs of trips are exactly the runs of the feed in the window.
-use Rattle.std.proofs.Common.{◌≡◌, ◌≢◌, ℕ, ◌+◌, ◌*◌, ◌<◌, ◌≤◌, Option, None, List, map, sym, ap, ◌∙◌, subst, refl, arith}
+use Rattle.std.proofs.Common.{◌↔◌, ◌≡◌, ◌≢◌, ℕ, ◌+◌, ◌*◌, ◌<◌, ◌≤◌, Option, None, List, map, sym, ap, ◌∙◌, subst, refl, arith}
 use Rattle.std.proofs.Props.{props}
 use Rattle.std.specs.List.{All, AllPairs, Contains}
 use Rattle.std.specs.List.Sorted.{IsPermutation, IsSorted}
@@ -18,6 +18,7 @@ use Rattle.lc_model.specs.declared.date.ServiceDate.{ServiceDate}
 use Rattle.lc_model.specs.declared.key.RunKey.{RunKey}
 use Rattle.lc_model.specs.declared.run.Run.{Run}
 use Rattle.lc_time.proofs.DateLemmas.{same_date}
+use Rattle.gtfs_tables.specs.Trips.{HaveOneRowATrip}
 use Rattle.gtfs_tables.specs.StopTimeOrder.{InTripOrder}
 use Rattle.gtfs_tables.specs.StopTimes.{AreTimely}
 use Rattle.gtfs_tables.specs.declared.dates.DateRow.{DateRow}
@@ -25,15 +26,16 @@ use Rattle.gtfs_tables.specs.declared.stop_times.StopTime.{StopTime}
 use Rattle.gtfs_tables.specs.declared.tables.Tables.{Tables}
 use Rattle.gtfs_tables.specs.declared.trips.TripRow.{TripRow}
 use Rattle.lc_model.specs.Call.{GoesForward}
-use Rattle.trip_calls.specs.Runs.{call_at, times_of, AreRunsOf, IsRunOf, RunsForward}
+use Rattle.trip_calls.specs.Runs.{call_at, times_of, IsRunOf, RunsForward}
 use Rattle.trip_calls.specs.ServiceDays.{AreServiceDays, days_of}
 use Rattle.trip_calls.specs.TripRuns.{HasMoments, key_on, run_on, runs_of_trip, runs_of_trips}
 use Rattle.trip_calls.specs.declared.service_days.ServiceDay.{ServiceDay}
 use Rattle.trip_calls.specs.declared.window.Window.{Window}
 use Rattle.trip_calls.proofs.Lists.{All-from_contains, AllPairs-flat_map, AllPairs-map, AllPairs-weaker, ComesFrom-map, Contains-filter, Contains-flat_map, Contains-map, IsKept-filter, StandsIn-flat_map}
 use Rattle.lc_model.proofs.Orders.{IsStrict-from_sorted}
-use Rattle.lc_model.proofs.Totals.{key_cmp_total}
-use Rattle.trip_calls.proofs.TimeLemmas.{RiseInSequence-times_of, id_cmp-same, same_heads, same_text}
+use Rattle.lc_model.proofs.Search.{both_tie}
+use Rattle.lc_model.specs.Totals.{key_cmp_total}
+use Rattle.trip_calls.proofs.TimeLemmas.{RiseInSequence-times_of, id_cmp-same, same_text}
 
 abbrev IsInDay : Option ℕ → Type 0
 IsInDay start = ForSome start (λ seconds. seconds < 360_000)
@@ -65,15 +67,15 @@ run_is r times trip day e f g h =
 -- dates that tie are the same
 same_dates : (a b : ServiceDate) → date_cmp a b ≡ Equal → a ≡ b
 same_dates a b e =
-    let first = same_heads (nat_cmp a.year b.year) _ e in
-    let then' = same_heads (nat_cmp a.month b.month) (nat_cmp a.day b.day) first.1 in
+    let first = both_tie (nat_cmp a.year b.year) _ e in
+    let then' = both_tie (nat_cmp a.month b.month) (nat_cmp a.day b.day) first.1 in
     same_date a b (ranked a.year b.year Equal (sym first.0)) (ranked a.month b.month Equal (sym then'.0)) (ranked a.day b.day Equal (sym then'.1))
 
 -- keys that tie have one trip and one date
 pub same_keys : (a b : RunKey) → key_cmp a b ≡ Equal → (a.trip ≡ b.trip) × (a.date ≡ b.date)
 same_keys a b e =
-    let first = same_heads _ _ e in
-    let then' = same_heads (date_cmp a.date b.date) (option_cmp nat_cmp a.start b.start) first.1 in
+    let first = both_tie _ _ e in
+    let then' = both_tie (date_cmp a.date b.date) (option_cmp nat_cmp a.start b.start) first.1 in
     (same_text a.trip b.trip first.0, same_dates a.date b.date then'.0)
 
 module _ (tables : Tables) (window : Window) (days : List ServiceDay) (are : AreServiceDays tables.dates window days) where
@@ -133,7 +135,7 @@ module _ (tables : Tables) (window : Window) (days : List ServiceDay) (are : Are
       (AllPairs-filter (λ (x y : ServiceDay). x.service ≡ y.service → x.date ≢ y.date) (λ (d : ServiceDay). is_same_id d.service trip.service) days are.once))
 
   -- no two runs of trips have one key
-  pub untied_runs : AllPairs (λ (x y : TripRow). x.trip ≢ y.trip) tables.trips → AllPairs Untied (runs_of_trips times days tables.trips)
+  untied_runs : HaveOneRowATrip tables.trips → AllPairs Untied (runs_of_trips times days tables.trips)
   untied_runs apart =
       AllPairs-flat_map Untied (λ (x y : TripRow). x.trip ≢ y.trip) (runs_of_trip times days) tables.trips (λ trip k. untied_in_trip trip)
       (λ x z y w ne ky kw e.
@@ -165,8 +167,8 @@ module _ (tables : Tables) (window : Window) (days : List ServiceDay) (are : Are
       subst (λ (v : Run). GoesForward v.calls) on.is (forward in'.of.trip on.day.day up timely))
 
   -- in any order
-  pub AreRunsOf-sorted : (made sorted : List Run) → made ≡ runs_of_trips times days tables.trips → IsPermutation made sorted → AreRunsOf tables window sorted
-  AreRunsOf-sorted made sorted e moved = λ r. (
+  pub runs_moved : (made sorted : List Run) → made ≡ runs_of_trips times days tables.trips → IsPermutation made sorted → (run : Run) → Contains sorted run ↔ IsRunOf tables window run
+  runs_moved made sorted e moved = λ r. (
     λ h. IsRunOf-stands r (subst (λ (v : List Run). Contains v r) e (Contains-permutation sorted made r (IsPermutation-sym made sorted moved) h)),
     λ is. Contains-permutation made sorted r moved (subst (λ (v : List Run). Contains v r) (sym e) (stands_IsRunOf r is)),
   )
@@ -175,7 +177,7 @@ module _ (tables : Tables) (window : Window) (days : List ServiceDay) (are : Are
   RunsForward-sorted made sorted e moved up timely =
       All-permutation (λ (r : Run). GoesForward r.calls) made sorted moved (subst RunsForward (sym e) (RunsForward-timely up timely))
 
-  pub InKeyOrder-sorted : (made sorted : List Run) → made ≡ runs_of_trips times days tables.trips → IsPermutation made sorted → IsSorted (on (λ (r : Run). r.key) key_cmp) sorted → AllPairs (λ (x y : TripRow). x.trip ≢ y.trip) tables.trips → InKeyOrder sorted
+  pub InKeyOrder-sorted : (made sorted : List Run) → made ≡ runs_of_trips times days tables.trips → IsPermutation made sorted → IsSorted (on (λ (r : Run). r.key) key_cmp) sorted → HaveOneRowATrip tables.trips → InKeyOrder sorted
   InKeyOrder-sorted made sorted e moved up apart =
       IsStrict-from_sorted (on (λ (r : Run). r.key) key_cmp) (on_total (λ (r : Run). r.key) key_cmp_total) made sorted moved up (subst (AllPairs Untied) (sym e) (untied_runs apart))
 

@@ -9,7 +9,8 @@ use Rattle.std.proofs.lemmas.List.Sorted.{Contains-permutation, IsPermutation-sy
 use Rattle.lc_model.specs.declared.date.ServiceDate.{ServiceDate}
 use Rattle.gtfs_tables.specs.declared.dates.DateRow.{DateRow}
 use Rattle.trip_calls.specs.Runs.{IsDay, RunsOn}
-use Rattle.trip_calls.specs.ServiceDays.{AddsOn, AddsDay, AreServiceDays, HaveOneRowADate}
+use Rattle.gtfs_tables.specs.CalendarDates.{HaveOneRowADate}
+use Rattle.trip_calls.specs.ServiceDays.{AddsOn, AddsDay, AreServiceDays}
 use Rattle.trip_calls.specs.declared.service_days.ServiceDay.{ServiceDay}
 use Rattle.trip_calls.specs.declared.window.Window.{Window}
 use Rattle.trip_calls.proofs.Lists.{Contains-nil, AllPairs-nil}

@@ -1,31 +1,19 @@
 -- The times of a trip among the times of a feed.
-use Rattle.std.proofs.Common.{◌≡◌, ℕ, ◌+◌, ◌<◌, List, [], ◌∷◌, get_or, true, false, sym, ap, ◌∙◌, refl, arith}
+use Rattle.std.proofs.Common.{◌≡◌, ℕ, ◌<◌, List, [], ◌∷◌, true, sym, ap, ◌∙◌, refl}
 use Rattle.std.specs.Cmp.Lexicographic.{texts_ties}
-use Rattle.std.specs.List.Sorted.{IsSorted}
-use Rattle.std.specs.Ordering.{is_lt, is_eq, nat_cmp, ordering_reverse, ordering_then, on}
+use Rattle.std.specs.Ordering.{is_eq, nat_cmp, ordering_then}
 use Rattle.std.specs.declared.cmp.Ordering.{Ordering}
 use Rattle.std.specs.declared.cmp.Ordering.TheVariants.{Less, Equal, Greater}
 use Rattle.std.proofs.lemmas.Cmp.{nat_list_cmp_total, tied_back, ranked}
 use Rattle.std.proofs.lemmas.List.Kept.{AllPairs-filter}
 use Rattle.lc_model.specs.Change.{is_same_id}
 use Rattle.lc_model.specs.Text.{id_cmp}
+use Rattle.lc_model.proofs.Search.{both_tie}
 use Rattle.gtfs_tables.specs.StopTimeOrder.{stop_time_cmp, InTripOrder}
 use Rattle.gtfs_tables.specs.declared.stop_times.StopTime.{StopTime}
 use Rattle.trip_calls.specs.Runs.{times_of}
 use Rattle.trip_calls.specs.TripRuns.{RiseInSequence}
 use Rattle.trip_calls.proofs.Lists.{AllPairs-weaker, IsKept-filter}
-
-not_back : (o p : Ordering) → ordering_then o p ≡ Less → is_lt (ordering_reverse o) ≡ false
-not_back Less p e = refl
-not_back Equal p e = refl
-not_back Greater p e = cc
-
--- times in the order of trips and sequences are sorted by their trips
-pub IsSorted-by_trip : (times : List StopTime) → InTripOrder times → IsSorted (on (λ (t : StopTime). t.trip) id_cmp) times
-IsSorted-by_trip times up = λ k d from lt.
-    let x = get_or times k d in
-    let y = get_or times (k + 1) d in
-    ap is_lt (nat_list_cmp_total.antisymm y.trip x.trip) ∙ not_back (id_cmp x.trip y.trip) (nat_cmp x.seq y.seq) (up k (k + 1) d (omega arith) lt)
 
 equal_from : (o : Ordering) → is_eq o ≡ true → o ≡ Equal
 equal_from Less e = cc
@@ -48,16 +36,11 @@ RiseInSequence-times_of times trip up =
     ranked x.seq y.seq Less (sym less ∙ ap (λ o. ordering_then o (nat_cmp x.seq y.seq)) one_trip))
     (AllPairs-filter (λ (x y : StopTime). stop_time_cmp x y ≡ Less) (λ (t : StopTime). is_same_id t.trip trip) times up)
 
-pub same_heads : (o p : Ordering) → ordering_then o p ≡ Equal → (o ≡ Equal) × (p ≡ Equal)
-same_heads Less p e = cc
-same_heads Equal p e = (refl, e)
-same_heads Greater p e = cc
-
 -- texts that tie are the same
 pub same_text : (x y : List ℕ) → id_cmp x y ≡ Equal → x ≡ y
 same_text [] [] e = refl
 same_text [] (b ∷ y) e = cc
 same_text (a ∷ x) [] e = cc
 same_text (a ∷ x) (b ∷ y) e =
-    let parts = same_heads (nat_cmp a b) (id_cmp x y) e in
+    let parts = both_tie (nat_cmp a b) (id_cmp x y) e in
     ap (λ v. v ∷ x) (ranked a b Equal (sym parts.0)) ∙ ap (λ v. b ∷ v) (same_text x y parts.1)

@@ -3,6 +3,7 @@ use Rattle.std.specs.Prelude.{◌≡◌, ℕ, ◌+◌, ◌*◌, ◌<◌, ◌≤�
 use Rattle.std.specs.List.{All, Contains}
 use Rattle.lc_model.specs.Call.{GoesForward}
 use Rattle.lc_model.specs.Change.{is_same_id}
+use Rattle.lc_model.specs.Run.{InKeyOrder}
 use Rattle.lc_model.specs.declared.call.Call.{Call}
 use Rattle.lc_model.specs.declared.date.ServiceDate.{ServiceDate}
 use Rattle.lc_model.specs.declared.run.Run.{Run}
@@ -59,14 +60,16 @@ pub record IsRunOf (tables : Tables) (window : Window) (run : Run) : Type 0 wher
   pub no_start : run.key.start ≡ None
   pub calls : run.calls ≡ map (call_at day) (times_of tables.stop_times trip.trip)
 
--- the times are those of a service day of fewer than 100 hours
-abbrev pub AreInRange : List StopTime → Type 0
-AreInRange times = All (λ (t : StopTime). (t.arr < 360_000) × (t.dep < 360_000)) times
-
 -- no run goes back in time
 abbrev pub RunsForward : List Run → Type 0
 RunsForward runs = All (λ (r : Run). GoesForward r.calls) runs
 
--- the list has exactly the runs of the feed in the window
-abbrev pub AreRunsOf : Tables → Window → List Run → Type 0
-AreRunsOf tables window runs = (run : Run) → Contains runs run ↔ IsRunOf tables window run
+-- the list has exactly the runs of the feed in the window, strictly by their keys
+pub record AreRunsOf (tables : Tables) (window : Window) (runs : List Run) : Type 0 where
+  pub all : (run : Run) → Contains runs run ↔ IsRunOf tables window run
+  pub in_order : InKeyOrder runs
+
+-- a feed has one list of runs in a window
+abbrev pub OneListOfRuns : Type 0
+OneListOfRuns =
+    (tables : Tables) (window : Window) (a b : List Run) → AreRunsOf tables window a → AreRunsOf tables window b → a ≡ b

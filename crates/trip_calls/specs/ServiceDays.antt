@@ -17,10 +17,6 @@ pub record AddsOn (row : DateRow) (window : Window) (day : ℕ) : Type 0 where
   pub not_before : window.first ≤ day
   pub not_after : day < window.first + window.count
 
--- no two rows are of one service and date
-abbrev pub HaveOneRowADate : List DateRow → Type 0
-HaveOneRowADate dates = AllPairs (λ (x y : DateRow). x.service ≡ y.service → x.date ≢ y.date) dates
-
 -- these are the days of the window on which services run, each once
 pub record AreServiceDays (dates : List DateRow) (window : Window) (days : List ServiceDay) : Type 0 where
   pub all : (d : ServiceDay) → Contains days d ↔ RunsOn dates window d.service d.date d.day

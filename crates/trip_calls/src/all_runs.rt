@@ -1,10 +1,9 @@
-ghost use Rattle.std.specs.Prelude.{◌≡◌, ◌≢◌, ◌+◌, ◌*◌, ◌≤◌, All, AllPairs, IfOk, IsSorted};
+ghost use Rattle.std.specs.Prelude.{◌≡◌, ◌+◌, ◌*◌, ◌≤◌, All, IfOk, IsSorted};
 ghost use Rattle.gtfs_tables.specs.StopTimeOrder.{InTripOrder};
-ghost use Rattle.gtfs_tables.specs.StopTimes.{AreTimely};
-ghost use Rattle.gtfs_tables.specs.declared.trips.TripRow.{TripRow};
+ghost use Rattle.gtfs_tables.specs.StopTimes.{AreInRange};
 ghost use Rattle.lc_model.specs.RunKey.{key_cmp};
-ghost use Rattle.trip_calls.specs.Runs.{AreInRange, AreRunsOf, RunsForward};
-ghost use Rattle.trip_calls.specs.ServiceDays.{HaveOneRowADate, service_cmp};
+ghost use Rattle.trip_calls.specs.Runs.{AreRunsOf, OneListOfRuns, RunsForward};
+ghost use Rattle.trip_calls.specs.ServiceDays.{service_cmp};
 ghost use Rattle.trip_calls.specs.TripRuns.{HasMoments, runs_of_trips};
 ghost use Rattle.trip_calls.specs.declared.service_days.ServiceDay.{ServiceDay};
 
@@ -49,11 +48,7 @@ fn by_key(a: &Run, b: &Run) -> Ordering
 ///
 /// It takes the time of a sort of the runs, and of four binary searches for each trip.
 pub fn runs(alloc: Global, tables: &Tables, window: Window) -> Result<Runs, NoMemory>
-    requires timely { AreTimely tables.now.stop_times }
-    requires times_in_range { AreInRange tables.now.stop_times }
-    requires one_row_a_date { HaveOneRowADate tables.now.dates }
-    requires one_row_a_trip { AllPairs (λ (x y : TripRow). x.trip ≢ y.trip) tables.now.trips }
-    requires window_in_range { HasMoments (window.first + window.count) }
+    requires { HasMoments (window.first + window.count) }
     ensures are { IfOk result (AreRunsOf tables.now window) }
     ensures forward { IfOk result RunsForward }
 {
@@ -64,3 +59,8 @@ pub fn runs(alloc: Global, tables: &Tables, window: Window) -> Result<Runs, NoMe
     runs.sort_unstable_by(|a, b| by_key(a, b));
     Ok(Runs::from_list(runs))
 }
+
+/// The runs of a feed in a window are one list.
+pub fn one_list_of_runs()
+    ensures { OneListOfRuns }
+{}

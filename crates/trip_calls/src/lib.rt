@@ -7,7 +7,7 @@ mod service_days;
 mod trip_runs;
 mod window;
 
-pub use all_runs::runs;
+pub use all_runs::{one_list_of_runs, runs};
 pub use run_connections::connections;
 pub use window::Window;
 

@@ -1,9 +1,10 @@
 ghost use Rattle.std.specs.Prelude.{◌≡◌, ℕ, ◌+◌, ◌≤◌, ◌↔◌, ◌⊎◌, [], ◌∷◌, ◌++◌, Some, IfOk, OnOk, IsTrue, ◌<◌, IsPermutation, IsSorted};
-ghost use Rattle.trip_calls.specs.ServiceDays.{AddsOn, AddsDay, AreServiceDays, HaveOneRowADate, service_cmp, days_of};
+ghost use Rattle.gtfs_tables.specs.CalendarDates.{HaveOneRowADate};
+ghost use Rattle.trip_calls.specs.ServiceDays.{AddsOn, AddsDay, AreServiceDays, service_cmp, days_of};
 
 use crate::Window;
 use gtfs_tables::DateRow;
-use lc_model::{Id, NoMemory, PlainData, ServiceDate};
+use lc_model::{Id, Keyed, NoMemory, PlainData, ServiceDate, items_of};
 use lc_time::days_at;
 use std::alloc::Global;
 use std::cmp::Ordering;
@@ -14,6 +15,15 @@ pub struct ServiceDay {
     pub service: Id,
     pub date: ServiceDate,
     pub day: u32,
+}
+
+/// By the service.
+impl Keyed for ServiceDay {
+    ghost key = { λ day. day.service };
+
+    fn key(&self) -> &Id {
+        &self.service
+    }
 }
 
 fn is_within(window: Window, day: u32) -> bool
@@ -84,7 +94,5 @@ pub fn days_of<'a>(days: &'a [ServiceDay], service: &Id) -> &'a [ServiceDay]
     requires { IsSorted service_cmp days.now }
     ensures { result.now ≡ days_of days.now service.now }
 {
-    let first = days.partition_point(|d| d.service < *service);
-    let end = days.partition_point(|d| d.service <= *service);
-    &days[first..end]
+    items_of(days, service)
 }

@@ -1,12 +1,13 @@
 ghost use Rattle.std.specs.Prelude.{◌≡◌, ◌+◌, ◌*◌, ◌<◌, ◌≤◌, ◌++◌, All, IfOk, OnOk, map};
 ghost use Rattle.gtfs_tables.specs.StopTimeOrder.{InTripOrder};
-ghost use Rattle.trip_calls.specs.Runs.{AreInRange, call_at, times_of};
+ghost use Rattle.gtfs_tables.specs.StopTimes.{AreInRange};
+ghost use Rattle.trip_calls.specs.Runs.{call_at, times_of};
 ghost use Rattle.trip_calls.specs.TripRuns.{HasMoments, RiseInSequence, run_on};
 ghost use Rattle.trip_calls.specs.declared.service_days.ServiceDay.{ServiceDay};
 
 use crate::service_days::ServiceDay;
 use gtfs_tables::{StopTime, TripRow};
-use lc_model::{Call, Calls, Id, Moment, NoMemory, PlainData, Run, RunKey};
+use lc_model::{Call, Calls, Id, Moment, NoMemory, PlainData, Run, RunKey, items_of};
 use std::alloc::Global;
 
 /// The moment that comes so many seconds after the midnight with which a day begins.
@@ -94,7 +95,5 @@ pub fn times_of<'a>(times: &'a [StopTime], trip: &Id) -> &'a [StopTime]
     requires { InTripOrder times.now }
     ensures { result.now ≡ times_of times.now trip.now }
 {
-    let first = times.partition_point(|t| t.trip < *trip);
-    let end = times.partition_point(|t| t.trip <= *trip);
-    &times[first..end]
+    items_of(times, trip)
 }

@@ -3,7 +3,7 @@ use Rattle.std.specs.List.{All}
 use Rattle.std.proofs.lemmas.List.Elements.{All-filter}
 use Rattle.lc_model.specs.Change.{is_same_id}
 use Rattle.gtfs_tables.specs.declared.stop_times.StopTime.{StopTime}
-use Rattle.trip_calls.specs.Runs.{AreInRange}
+use Rattle.gtfs_tables.specs.StopTimes.{AreInRange}
 use Rattle.trip_calls.specs.TripRuns.{HasMoments, RiseInSequence}
 use Rattle.trip_calls.specs.declared.service_days.ServiceDay.{ServiceDay}
 use Rattle.trip_calls.proofs.TimeLemmas.{RiseInSequence-times_of}
