@@ -1,7 +1,9 @@
+mod AskLemmas
 mod DocLemmas
-mod OutcomeLemmas
-mod PlainFacts
+mod OneRun
 mod PlanLemmas
-mod RunLemmas
+mod RefusalLemmas
 mod TextLemmas
+mod TinyLemmas
+mod TopLemmas
 mod WordsLemmas

@@ -1,45 +1,23 @@
--- What the command `ask` does with a plain feed: the client asks, and prints a best journey, that there is none, or why
--- the question is refused.
-use Rattle.std.specs.Prelude.{◌≡◌, ◌≢◌, ℕ, ◌-◌, ◌/◌, List, ◌++◌, Option, Some, None, codes}
-use Rattle.lc_model.specs.Journey.{IsAnswer}
-use Rattle.lc_model.specs.Ride.{IsRideAt}
-use Rattle.lc_model.specs.Stop.{HasStop}
+-- What the command `ask` comes to before anything is written: a block to print of the client, with a best journey, that there
+-- is none, or why its question is refused; or a refusal of the command. Each has its cause.
+use Rattle.std.specs.Prelude.{◌≡◌, ◌⊎◌, ℕ, List, ◌++◌, Option, Some, None, Result, Ok, Err, codes}
+use Rattle.lc_io.specs.Folder.{FolderSeen}
 use Rattle.lc_model.specs.declared.answer.Answer.{Answer}
-use Rattle.lc_model.specs.declared.doc.StopsDoc.{StopsDoc}
 use Rattle.lc_model.specs.declared.query.Query.{Query}
-use Rattle.lc_model.specs.declared.run.Run.{Run}
-use Rattle.lc_model.specs.declared.stop.Stop.{Stop}
+use Rattle.gtfs_tables.specs.Reading.{EndsSo}
+use Rattle.gtfs_tables.specs.declared.feed.fault.FeedFault.{FeedFault}
+use Rattle.gtfs_tables.specs.declared.feed.fault.FeedFault.TheVariants as fault
 use Rattle.gtfs_tables.specs.declared.tables.Tables.{Tables}
-use Rattle.trip_calls.specs.Runs.{AreRunsOf}
-use Rattle.trip_calls.specs.declared.window.Window.{Window}
 use Rattle.lc_cli.specs.AnswerText.{answer_text_of}
-use Rattle.lc_cli.specs.Doc.{IsDocOf}
+use Rattle.lc_cli.specs.Plan.{AnswersQuestion}
+use Rattle.lc_cli.specs.Question.{Deserves, IsAskable}
+use Rattle.lc_cli.specs.Words.{SaysAsk}
+use Rattle.lc_cli.specs.declared.block.Block.{Block}
+use Rattle.lc_cli.specs.declared.refusal.Refusal.{Refusal}
+use Rattle.lc_cli.specs.declared.refusal.Refusal.TheVariants.{Usage, Feed}
 use Rattle.lc_cli.specs.declared.status.QueryFault.{QueryFault}
 use Rattle.lc_cli.specs.declared.status.QueryFault.TheVariants.{SameStop, UnknownFrom, UnknownTo}
-
--- the days of a question: the one before it leaves in UTC, that day and the next
-abbrev pub window_of : Query → Window
-window_of query = record { first = query.leave / 86_400 - 1; count = 3 }
-
--- the question deserves to be refused
-abbrev pub Deserves : List Stop → Query → QueryFault → Type 0
-Deserves stops query SameStop = query.from ≡ query.to
-Deserves stops query UnknownFrom = (query.from ≢ query.to) × (HasStop stops query.from → ⊥)
-Deserves stops query UnknownTo = (query.from ≢ query.to) × HasStop stops query.from × (HasStop stops query.to → ⊥)
-
--- the question is between two stops of the feed
-pub record IsAskable (stops : List Stop) (query : Query) : Type 0 where
-  pub not_same : query.from ≢ query.to
-  pub from_known : HasStop stops query.from
-  pub to_known : HasStop stops query.to
-
--- The answer is a best journey by the feed's timetable, or that there is no journey.
-pub record AnswersQuestion (tables : Tables) (query : Query) (answer : Answer) : Type 0 where
-  pub runs : List Run
-  pub are_runs : AreRunsOf tables (window_of query) runs
-  pub doc : StopsDoc
-  pub is_doc : IsDocOf tables.stops doc
-  pub best : IsAnswer (IsRideAt runs) query doc answer
+use Rattle.lc_cli.specs.declared.words.Ask.{Ask}
 
 -- the line of a refused question
 abbrev pub refused_line_of : QueryFault → List ℕ
@@ -54,3 +32,31 @@ IsBlockText tables query None text =
     × ((answer : Answer) × AnswersQuestion tables query answer × (text ≡ codes "client 1\n" ++ answer_text_of answer))
 IsBlockText tables query (Some fault) text =
     Deserves tables.stops query fault × (text ≡ codes "client 1\n" ++ refused_line_of fault)
+
+-- The feed is plain, and the block is what is printed of the client that asks.
+pub record IsAskBlock (ask : Ask) (old new : FolderSeen) (block : Block) : Type 0 where
+  pub tables : Tables
+  pub read : EndsSo old new ask.feed (Ok tables)
+  pub text : IsBlockText tables ask.query block.fault block.text.items
+
+-- Reading the feed ended with this refusal; memory may run out at any end of it.
+abbrev pub IsAskRefusal : Ask → FolderSeen → FolderSeen → Refusal → Type 0
+IsAskRefusal ask old new Usage = ⊥
+IsAskRefusal ask old new (Feed (fault.Broken rule file row)) = EndsSo old new ask.feed (Err (fault.Broken rule file row))
+IsAskRefusal ask old new (Feed (fault.Folder before after)) = EndsSo old new ask.feed (Err (fault.Folder before after))
+IsAskRefusal ask old new (Feed fault.NoMemory) = (read : Result Tables FeedFault) × EndsSo old new ask.feed read
+
+-- the words ask a question, and the block is what is printed of its client
+abbrev pub IsRightBlock : List (List ℕ) → FolderSeen → FolderSeen → Block → Type 0
+IsRightBlock words old new block = (ask : Ask) × SaysAsk words ask × IsAskBlock ask old new block
+
+-- The words ask no question, and the folder was asked for nothing; or they ask one, and it is refused so. Memory may run
+-- out before anything is asked.
+abbrev pub IsRightRefusal : List (List ℕ) → FolderSeen → FolderSeen → Refusal → Type 0
+IsRightRefusal words old new Usage = ((ask : Ask) → SaysAsk words ask → ⊥) × (new ≡ old)
+IsRightRefusal words old new (Feed (fault.Broken rule file row)) =
+    (ask : Ask) × SaysAsk words ask × IsAskRefusal ask old new (Feed (fault.Broken rule file row))
+IsRightRefusal words old new (Feed (fault.Folder before after)) =
+    (ask : Ask) × SaysAsk words ask × IsAskRefusal ask old new (Feed (fault.Folder before after))
+IsRightRefusal words old new (Feed fault.NoMemory) =
+    (new ≡ old) ⊎ ((ask : Ask) × SaysAsk words ask × IsAskRefusal ask old new (Feed fault.NoMemory))

@@ -1,7 +1,7 @@
 -- How a run ends that has a block to print.
 use Rattle.std.specs.Prelude.{◌≡◌, Option, Some, None}
-use Rattle.lc_world.specs.Counts.{Rose}
-use Rattle.lc_world.specs.Sink.{SinkSeen}
+use Rattle.lc_io.specs.Counts.{Rose}
+use Rattle.lc_io.specs.Sink.{SinkSeen}
 use Rattle.lc_cli.specs.Writing.{Wrote, WroteFront}
 use Rattle.lc_cli.specs.declared.block.Block.{Block}
 use Rattle.lc_cli.specs.declared.status.QueryFault.{QueryFault}

@@ -2,10 +2,12 @@ pub mod AnswerText
 pub mod Ask
 pub mod Block
 pub mod Doc
-pub mod Expands
-pub mod Outcome
+pub mod Laws
+pub mod Plan
+pub mod Question
 pub mod Refusal
-pub mod Run
 pub mod Status
+pub mod Tiny
+pub mod Top
 pub mod Words
 pub mod Writing

@@ -1,5 +1,8 @@
--- The line and the status of a command that is refused.
-use Rattle.std.specs.Prelude.{ℕ, List, ◌++◌, codes, decimal}
+-- The line and the status of a command that is refused, and how the run ends that says it.
+use Rattle.std.specs.Prelude.{◌≡◌, ◌⊎◌, ℕ, List, ◌++◌, codes, decimal}
+use Rattle.lc_io.specs.Sink.{SinkSeen}
+use Rattle.gtfs_tables.specs.declared.feed.fault.FeedFault.TheVariants as fault
+use Rattle.lc_cli.specs.Writing.{Said, WroteFront}
 use Rattle.lc_cli.specs.declared.refusal.Refusal.{Refusal}
 use Rattle.lc_cli.specs.declared.refusal.Refusal.TheVariants as refused
 use Rattle.lc_cli.specs.declared.status.Status.{Status}
@@ -13,13 +16,26 @@ feed_line_of rule file row =
 -- the line that says the refusal
 abbrev pub error_line_of : Refusal → List ℕ
 error_line_of refused.Usage = codes "error usage\n"
-error_line_of (refused.FeedBroken rule file row) = feed_line_of rule file row
-error_line_of (refused.FolderFault before after) = codes "error folder\n"
-error_line_of refused.NoMemory = codes "error no memory\n"
+error_line_of (refused.Feed (fault.Broken rule file row)) = feed_line_of rule file row
+error_line_of (refused.Feed (fault.Folder before after)) = codes "error folder\n"
+error_line_of (refused.Feed fault.NoMemory) = codes "error no memory\n"
 
 -- the status with which it ends
 abbrev pub status_of : Refusal → Status
 status_of refused.Usage = Usage
-status_of (refused.FeedBroken rule file row) = FeedBroken rule file row
-status_of (refused.FolderFault before after) = FolderFault before after
-status_of refused.NoMemory = NoMemory
+status_of (refused.Feed (fault.Broken rule file row)) = FeedBroken rule file row
+status_of (refused.Feed (fault.Folder before after)) = FolderFault before after
+status_of (refused.Feed fault.NoMemory) = NoMemory
+
+-- The line is said, and the status is that of the refusal; or memory ran out: in the sink, behind a front of the line, or
+-- before there was a line, and then a front of the line that says so is written.
+abbrev pub IsRefusalEnd : Refusal → SinkSeen → SinkSeen → Status → Type 0
+IsRefusalEnd refusal before after status =
+    ((status ≡ status_of refusal) × Said before after (error_line_of refusal))
+    ⊎ ((status ≡ NoMemory)
+    × (WroteFront before after (error_line_of refusal) ⊎ WroteFront before after (error_line_of (refused.Feed fault.NoMemory))))
+
+-- a line is said, and the status stays; or the sink ran out of memory behind a front of it
+abbrev pub IsLineEnd : List ℕ → Status → SinkSeen → SinkSeen → Status → Type 0
+IsLineEnd line status before after now =
+    ((now ≡ status) × Said before after line) ⊎ ((now ≡ NoMemory) × WroteFront before after line)

@@ -1,6 +1,7 @@
 -- What a run leaves in the sink.
-use Rattle.std.specs.Prelude.{◌≡◌, ℕ, ◌≤◌, List, length}
-use Rattle.lc_world.specs.Sink.{SinkSeen, written_after}
+use Rattle.std.specs.Prelude.{◌≡◌, ◌⊎◌, ℕ, ◌≤◌, List, length}
+use Rattle.lc_io.specs.Counts.{Rose}
+use Rattle.lc_io.specs.Sink.{SinkSeen, written_after}
 
 -- the whole text was written
 abbrev pub Wrote : SinkSeen → SinkSeen → List ℕ → Type 0
@@ -9,3 +10,7 @@ Wrote before after text = after.written ≡ written_after before.written text (l
 -- a front of the text was written
 abbrev pub WroteFront : SinkSeen → SinkSeen → List ℕ → Type 0
 WroteFront before after text = (n : ℕ) × (n ≤ length text) × (after.written ≡ written_after before.written text n)
+
+-- the text was written whole; or the sink counted a fault, and a front of it was written
+abbrev pub Said : SinkSeen → SinkSeen → List ℕ → Type 0
+Said before after text = Wrote before after text ⊎ (Rose before.faults after.faults × WroteFront before after text)

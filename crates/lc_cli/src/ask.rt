@@ -1,9 +1,8 @@
 ghost use Rattle.std.specs.Prelude.{◌≡◌, ◌++◌, codes, None, Some, IfErr, IfOk};
-ghost use Rattle.gtfs_tables.specs.Faults.{IsBroken, IsFolderFault};
+ghost use Rattle.gtfs_tables.specs.Reading.{Keeps};
 ghost use Rattle.lc_cli.specs.AnswerText.{answer_text_of};
 ghost use Rattle.lc_cli.specs.Ask.{IsBlockText, refused_line_of};
-ghost use Rattle.lc_cli.specs.Expands.{CanExpand};
-ghost use Rattle.lc_cli.specs.Outcome.{IsAskBlock, IsAskRefusal, IsFeedRefusal, IsRightBlock, IsRightRefusal};
+ghost use Rattle.lc_cli.specs.Ask.{IsAskBlock, IsAskRefusal, IsRightBlock, IsRightRefusal};
 ghost use Rattle.lc_cli.specs.Words.{texts_of};
 
 use crate::answer_text::answer_text;
@@ -13,7 +12,7 @@ use crate::question::fault_of;
 use crate::refusal::Refusal;
 use crate::status::QueryFault;
 use crate::words::{Ask, read_words};
-use gtfs_tables::{FeedFault, Tables, read_feed};
+use gtfs_tables::{Tables, read_feed};
 use lc_model::{Answer, NoMemory, Query};
 use lc_world::Folder;
 use std::alloc::Global;
@@ -24,46 +23,36 @@ pub(crate) fn outcome<F: Folder>(
     words: &[String],
     folder: &mut F,
 ) -> Result<Block, Refusal>
-    ensures block { IfOk result (IsRightBlock (texts_of words.now) (F.seen folder.old)) }
+    ensures block { IfOk result (IsRightBlock (texts_of words.now) (F.seen folder.old) (F.seen folder.new)) }
     ensures refused { IfErr result (IsRightRefusal (texts_of words.now) (F.seen folder.old) (F.seen folder.new)) }
+    ensures kept { Keeps (F.seen folder.old) (F.seen folder.new) }
 {
     match read_words(alloc, words) {
         Ok(Some(ask)) => ask_block(alloc, folder, &ask),
         Ok(None) => Err(Refusal::Usage),
-        Err(NoMemory) => Err(Refusal::NoMemory),
+        Err(NoMemory) => Err(Refusal::from(NoMemory)),
     }
 }
 
 /// Reads the feed, plans, and says what is printed of the client.
 fn ask_block<F: Folder>(alloc: Global, folder: &mut F, ask: &Ask) -> Result<Block, Refusal>
     requires { ask.now.query.horizon ≡ 86_400 }
-    ensures block { IfOk result (IsAskBlock ask.now (F.seen folder.old)) }
+    ensures block { IfOk result (IsAskBlock ask.now (F.seen folder.old) (F.seen folder.new)) }
     ensures refused { IfErr result (IsAskRefusal ask.now (F.seen folder.old) (F.seen folder.new)) }
+    ensures kept { Keeps (F.seen folder.old) (F.seen folder.new) }
 {
     match read_feed(alloc, folder, ask.feed.as_str()) {
         Ok(tables) => match client_block(alloc, &tables, &ask.query) {
             Ok(block) => Ok(block),
-            Err(NoMemory) => Err(Refusal::NoMemory),
+            Err(NoMemory) => Err(Refusal::from(NoMemory)),
         },
-        Err(fault) => Err(refusal_of(fault)),
-    }
-}
-
-/// What a feed that cannot be read is refused for.
-fn refusal_of(fault: FeedFault) -> Refusal
-    ensures { IsFeedRefusal fault result }
-{
-    match fault {
-        FeedFault::Broken { rule, file, row } => Refusal::FeedBroken { rule, file, row },
-        FeedFault::Folder { before, after } => Refusal::FolderFault { before, after },
-        FeedFault::NoMemory => Refusal::NoMemory,
+        Err(fault) => Err(Refusal::from(fault)),
     }
 }
 
 /// What is printed of the client that asks the question.
 fn client_block(alloc: Global, tables: &Tables, query: &Query) -> Result<Block, NoMemory>
-    requires horizon { query.now.horizon ≡ 86_400 }
-    requires can_expand { CanExpand tables.now }
+    requires { query.now.horizon ≡ 86_400 }
     ensures { IfOk result (λ block. IsBlockText tables.now query.now block.fault block.text.items) }
 {
     match fault_of(&tables.stops, query) {

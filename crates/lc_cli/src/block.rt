@@ -1,4 +1,4 @@
-ghost use Rattle.std.specs.Prelude.{◌≡◌};
+ghost use Rattle.std.specs.Prelude.{◌≡◌, ◌≤◌};
 ghost use Rattle.lc_cli.specs.Block.{IsBlockEnd, client_status_of};
 
 use crate::status::{QueryFault, Status};
@@ -13,7 +13,8 @@ pub struct Block {
 
 /// Writes the block whole, and ends with the status of its client.
 pub(crate) fn write_block<S: Sink>(block: &Block, out: &mut S) -> Status
-    ensures { IsBlockEnd block.now (S.seen out.old) (S.seen out.new) result }
+    ensures end { IsBlockEnd block.now (S.seen out.old) (S.seen out.new) result }
+    ensures kept { (S.seen out.old).faults ≤ (S.seen out.new).faults }
 {
     let before = out.faults();
     match put_all(out, block.text.as_slice()) {

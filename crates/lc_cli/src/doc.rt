@@ -1,9 +1,6 @@
-ghost use Rattle.std.specs.Prelude.{IfOk};
-ghost use Rattle.std.specs.Option.{IfSome};
-ghost use Rattle.std.specs.List.{All};
-ghost use Rattle.lc_model.specs.Stop.{HasStop};
-ghost use Rattle.lc_model.specs.declared.stop.Stop.{Stop as StopValue};
-ghost use Rattle.lc_cli.specs.Doc.{IsDocOf, AreChangesAt, IsChangeAt};
+ghost use Rattle.std.specs.Prelude.{◌≡◌, IfOk, map};
+ghost use Rattle.gtfs_tables.specs.Stops.{HaveKnownParents};
+ghost use Rattle.lc_cli.specs.Doc.{IsDocOf, change_at as change_of};
 
 use lc_model::{Change, Changes, NoMemory, PlainData, Stop, Stops, StopsDoc};
 use std::alloc::Global;
@@ -13,7 +10,7 @@ const CHANGE: u32 = 120;
 
 /// The document of a plain feed's stops.
 pub(crate) fn doc_of(alloc: Global, stops: &Stops) -> Result<StopsDoc, NoMemory>
-    requires { All (λ (s : StopValue). IfSome s.parent (HasStop stops.now)) stops.now }
+    requires { ∥ HaveKnownParents stops.now ∥₁ }
     ensures { IfOk result (IsDocOf stops.now) }
 {
     let changes = changes_at(alloc, stops)?;
@@ -25,7 +22,7 @@ pub(crate) fn doc_of(alloc: Global, stops: &Stops) -> Result<StopsDoc, NoMemory>
 
 /// A change at each stop.
 fn changes_at(alloc: Global, stops: &Stops) -> Result<Changes, NoMemory>
-    ensures { IfOk result (λ changes. AreChangesAt stops.now changes) }
+    ensures { IfOk result (λ changes. changes ≡ map change_of stops.now) }
 {
     let mut changes = Vec::with_capacity(alloc, stops.as_slice().len())?;
     for stop in stops.as_slice() {
@@ -37,7 +34,7 @@ fn changes_at(alloc: Global, stops: &Stops) -> Result<Changes, NoMemory>
 
 /// The change at a stop.
 fn change_at(alloc: Global, stop: &Stop) -> Result<Change, NoMemory>
-    ensures { IfOk result (IsChangeAt stop.now) }
+    ensures { IfOk result (λ change. change ≡ change_of stop.now) }
 {
     Ok(Change {
         from: stop.id.copy(alloc)?,

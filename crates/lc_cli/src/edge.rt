@@ -1,12 +1,35 @@
-ghost use Rattle.std.specs.Prelude.{◌≡◌, ◌≤◌, ◌↔◌, IfOk, None, length};
+ghost use Rattle.std.specs.Prelude.{◌≡◌, ◌≢◌, ◌≤◌, ◌↔◌, IfOk, None, length};
+ghost use Rattle.gtfs_tables.specs.declared.feed.fault.FeedFault.TheVariants.{NoMemory as no_memory};
 ghost use Rattle.std.specs.declared.io.ErrorKind.TheVariants.{NotFound, OutOfMemory};
-ghost use Rattle.lc_world.specs.declared.folder.FolderFail.TheVariants.{Absent, NoMemory as WantOfMemory};
+ghost use Rattle.lc_cli.specs.declared.refusal.Refusal.TheVariants.{Feed, Usage};
+ghost use Rattle.lc_io.specs.declared.folder.FolderFail.TheVariants.{Absent, NoMemory as WantOfMemory};
 
+use crate::refusal::Refusal;
+use lc_model::NoMemory;
 use lc_world::{Folder, FolderFail, Sink, SinkFail};
 use std::alloc::Global;
-use std::fs;
 use std::io::{self, ErrorKind, Write};
 use std::rt::Files;
+use std::{env, fs};
+
+/// The words behind the program's name, or why they cannot be read.
+pub fn words_of(rt: &HostRuntime) -> Result<Vec<String>, Refusal> {
+    match env::args(rt) {
+        Ok(words) => Ok(words.skip(1).collect(rt.alloc()).map_err(NoMemory::from)?),
+        Err(e) => Err(refusal_of(e.kind())),
+    }
+}
+
+/// What words are refused for that cannot be read: no command has one that is not UTF-8.
+fn refusal_of(kind: ErrorKind) -> Refusal
+    ensures no_memory { (result ≡ Feed no_memory) ↔ (kind ≡ OutOfMemory) }
+    ensures usage { (result ≡ Usage) ↔ (kind ≢ OutOfMemory) }
+{
+    match kind {
+        ErrorKind::OutOfMemory => Refusal::from(NoMemory),
+        _ => Refusal::Usage,
+    }
+}
 
 /// The largest file that is read, in bytes.
 const MOST_BYTES: usize = 1 << 30;
@@ -34,7 +57,7 @@ impl<'a, R: Files + AllocGlobal> DirFolder<'a, R> {
 }
 
 impl<R: Files + AllocGlobal> Folder for DirFolder<'_, R> {
-    ghost seen = { λ f. record { files = None; faults = f.faults; absences = f.absences } };
+    ghost seen = { λ f. record { files = None; faults = f.faults; absences = f.absences; asked = None } };
 
     /// A file above 1 GiB is a fault.
     fn read(&mut self, _: Global, name: &str) -> Result<Vec<u8>, FolderFail> {

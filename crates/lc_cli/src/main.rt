@@ -6,6 +6,7 @@ mod ask;
 mod block;
 mod doc;
 mod edge;
+mod laws;
 mod plan;
 mod question;
 mod refusal;
@@ -14,32 +15,35 @@ mod status;
 mod tests;
 mod top;
 mod words;
+mod worked;
 
-use edge::{DirFolder, StdSink};
+use edge::{DirFolder, StdSink, words_of};
+use lc_model::NoMemory;
 use lc_world::{ListLink, SureDoor};
-use status::code;
+use refusal::{Refusal, refuse};
+use status::{Status, code};
 use std::process::ExitCode;
-use std::{env, io};
 use top::run;
 
-fn main(rt: HostRuntime) -> io::Result<ExitCode> {
-    let alloc = rt.alloc();
-    let words: Vec<String> = env::args(&rt)?.skip(1).collect(alloc)?;
-    let mut folder = DirFolder::new(&rt);
+fn main(rt: HostRuntime) -> ExitCode {
     let mut out = StdSink::new(&rt);
+    ExitCode::from(code(&command(&rt, &mut out)))
+}
+
+/// Carries out the command that the words of the command line are, and gives the status with which it ended.
+fn command(rt: &HostRuntime, out: &mut StdSink<HostRuntime>) -> Status {
+    let alloc = rt.alloc();
+    let words = match words_of(rt) {
+        Ok(words) => words,
+        Err(refusal) => return refuse(alloc, refusal, out),
+    };
     let (Ok(link), Ok(mut door)) = (
         ListLink::new(Vec::new(alloc)),
         SureDoor::new(alloc, Vec::new(alloc)),
     ) else {
-        return Ok(ExitCode::FAILURE);
+        return refuse(alloc, Refusal::from(NoMemory), out);
     };
-    let (status, _) = run(
-        alloc,
-        words.as_slice(),
-        &mut folder,
-        link,
-        &mut door,
-        &mut out,
-    );
-    Ok(ExitCode::from(code(&status)))
+    let mut folder = DirFolder::new(rt);
+    let (status, _) = run(alloc, &words, &mut folder, link, &mut door, out);
+    status
 }

@@ -4,8 +4,8 @@ ghost use Rattle.lc_model.specs.Journey.{IsAnswer};
 ghost use Rattle.lc_model.specs.Leg.{IsLegOf, in_time};
 ghost use Rattle.lc_model.specs.Stop.{HasStop};
 ghost use Rattle.csa_scan.specs.StandsFor.{StandsFor};
-ghost use Rattle.lc_cli.specs.Ask.{AnswersQuestion, IsAskable, window_of};
-ghost use Rattle.lc_cli.specs.Expands.{CanExpand};
+ghost use Rattle.lc_cli.specs.Plan.{AnswersQuestion, window_of};
+ghost use Rattle.lc_cli.specs.Question.{IsAskable};
 ghost use Rattle.std.specs.Prelude.{[]};
 
 use crate::doc::doc_of;
@@ -23,7 +23,6 @@ const DAY: u64 = 86_400;
 pub(crate) fn plan(alloc: Global, tables: &Tables, query: &Query) -> Result<Answer, NoMemory>
     requires askable { IsAskable tables.now.stops query.now }
     requires horizon { query.now.horizon ≡ 86_400 }
-    requires can_expand { CanExpand tables.now }
     ensures { IfOk result (AnswersQuestion tables.now query.now) }
 {
     let doc = doc_of(alloc, &tables.stops)?;

@@ -1,5 +1,5 @@
 ghost use Rattle.std.specs.Prelude.{MatchOption};
-ghost use Rattle.lc_cli.specs.Ask.{Deserves, IsAskable};
+ghost use Rattle.lc_cli.specs.Question.{Deserves, IsAskable};
 
 use crate::status::QueryFault;
 use lc_model::{Query, Stops};

@@ -1,65 +1,78 @@
-ghost use Rattle.std.specs.Prelude.{◌≡◌, ◌++◌, codes, decimal, IfOk, OnOk};
-ghost use Rattle.lc_world.specs.Sink.{SinkSeen};
-ghost use Rattle.lc_cli.specs.Refusal.{error_line_of, feed_line_of, status_of};
-ghost use Rattle.lc_cli.specs.Writing.{WroteFront};
+ghost use Rattle.std.specs.Prelude.{◌≡◌, ◌≤◌, ◌++◌, codes, decimal, IfOk, OnOk};
+ghost use Rattle.lc_cli.specs.Refusal.{IsLineEnd, IsRefusalEnd, error_line_of, feed_line_of, status_of};
 
 use crate::status::Status;
-use lc_model::{NoMemory, Text};
-use lc_world::{Sink, put_all};
+use gtfs_tables::FeedFault;
+use lc_model::NoMemory;
+use lc_world::{Sink, SinkFail, put_all};
 use std::alloc::Global;
 
 /// Why a command was not carried out, for a cause that is no client's.
 #[derive(Debug, Drop)]
 pub enum Refusal {
+    /// The words are none that a command has.
     Usage,
-    FeedBroken { rule: u8, file: Text, row: u64 },
-    FolderFault { before: u64, after: u64 },
-    NoMemory,
+    /// The feed gave no tables.
+    Feed(FeedFault),
+}
+
+impl From<FeedFault> for Refusal {
+    ghost use Rattle.std.specs.Prelude.{◌≡◌};
+    ghost use Rattle.lc_cli.specs.declared.refusal.Refusal.TheVariants.{Feed};
+
+    ghost from_gives = { λ fault refusal. refusal ≡ Feed fault };
+
+    fn from(fault: FeedFault) -> Refusal {
+        Refusal::Feed(fault)
+    }
 }
 
 impl From<NoMemory> for Refusal {
     ghost use Rattle.std.specs.Prelude.{◌≡◌};
-    ghost use Rattle.lc_cli.specs.declared.refusal.Refusal.TheVariants.{NoMemory as OutOfMemory};
+    ghost use Rattle.gtfs_tables.specs.declared.feed.fault.FeedFault.TheVariants.{NoMemory as no_memory};
+    ghost use Rattle.lc_cli.specs.declared.refusal.Refusal.TheVariants.{Feed};
 
-    ghost from_gives = { λ _ refusal. refusal ≡ OutOfMemory };
+    ghost from_gives = { λ _ refusal. refusal ≡ Feed no_memory };
 
     fn from(_: NoMemory) -> Refusal {
-        Refusal::NoMemory
+        Refusal::Feed(FeedFault::NoMemory)
     }
 }
 
-/// Says the refusal in one line, and ends with its status. If the line cannot be written, the status stays.
+const USAGE: &[u8] = b"error usage\n";
+
+const FOLDER: &[u8] = b"error folder\n";
+
+const NO_MEMORY: &[u8] = b"error no memory\n";
+
+/// Says the refusal in one line, and ends with its status. If the sink fails, the status stays.
 pub(crate) fn refuse<S: Sink>(alloc: Global, refusal: Refusal, out: &mut S) -> Status
-    ensures status { result ≡ status_of refusal }
-    ensures line { WroteFront (S.seen out.old) (S.seen out.new) (error_line_of refusal) }
-{
-    if let Ok(line) = error_line(alloc, &refusal) {
-        let _ = put_all(out, &line);
-    }
-    end(refusal)
-}
-
-/// The status with which a refused command ends.
-fn end(refusal: Refusal) -> Status
-    ensures { result ≡ status_of refusal }
+    ensures end { IsRefusalEnd refusal (S.seen out.old) (S.seen out.new) result }
+    ensures kept { (S.seen out.old).faults ≤ (S.seen out.new).faults }
 {
     match refusal {
-        Refusal::Usage => Status::Usage,
-        Refusal::FeedBroken { rule, file, row } => Status::FeedBroken { rule, file, row },
-        Refusal::FolderFault { before, after } => Status::FolderFault { before, after },
-        Refusal::NoMemory => Status::NoMemory,
+        Refusal::Usage => say(USAGE, Status::Usage, out),
+        Refusal::Feed(FeedFault::Folder { before, after }) => {
+            say(FOLDER, Status::FolderFault { before, after }, out)
+        }
+        Refusal::Feed(FeedFault::NoMemory) => say(NO_MEMORY, Status::NoMemory, out),
+        Refusal::Feed(FeedFault::Broken { rule, file, row }) => {
+            match feed_line(alloc, rule, file.as_str(), row) {
+                Ok(line) => say(line.as_slice(), Status::FeedBroken { rule, file, row }, out),
+                Err(NoMemory) => say(NO_MEMORY, Status::NoMemory, out),
+            }
+        }
     }
 }
 
-/// The line that says the refusal.
-fn error_line(alloc: Global, refusal: &Refusal) -> Result<Vec<u8>, NoMemory>
-    ensures { IfOk result (λ line. line.items ≡ error_line_of refusal.now) }
+/// Writes the line, and ends with the status, or for want of memory where the sink has none.
+fn say<S: Sink>(line: &[u8], status: Status, out: &mut S) -> Status
+    ensures end { IsLineEnd line.now status (S.seen out.old) (S.seen out.new) result }
+    ensures kept { (S.seen out.old).faults ≤ (S.seen out.new).faults }
 {
-    match refusal {
-        Refusal::Usage => Ok(Vec::from_slice(alloc, b"error usage\n")?),
-        Refusal::FeedBroken { rule, file, row } => feed_line(alloc, *rule, file.as_str(), *row),
-        Refusal::FolderFault { .. } => Ok(Vec::from_slice(alloc, b"error folder\n")?),
-        Refusal::NoMemory => Ok(Vec::from_slice(alloc, b"error no memory\n")?),
+    match put_all(out, line) {
+        Ok(()) | Err(SinkFail::Failed) => status,
+        Err(SinkFail::NoMemory) => Status::NoMemory,
     }
 }
 

@@ -1,58 +1,19 @@
 use crate::edge::{DirFolder, StdSink};
 use crate::status::{Status, code};
 use crate::top::run;
-use lc_model::{Bytes, Text};
 use lc_world::{
-    File, Folder, FolderFail, ListLink, MemFolder, MemSink, Sink, SureDoor, SureFolder, SureSink,
-    put_all,
+    Folder, FolderFail, ListLink, MemFolder, MemSink, Sink, SureDoor, SureFolder, SureSink, put_all,
 };
 use std::alloc::Global;
 use std::test::Fail;
 use std::{env, fs};
-
-const STOPS: &str = "stop_id,stop_name\nA,A\nB,B\nC,C\nD,D\nE,E\nF,F\n";
-
-const TRIPS: &str = "route_id,service_id,trip_id\nr,w,T1\nr,w,T2\nr,w,T3\nr,w,T4\nr,w,T5\n";
-
-const DATES: &str = "service_id,date,exception_type\nw,20240501,1\n";
-
-const TIMES: &str = "trip_id,arrival_time,departure_time,stop_id,stop_sequence
-T1,08:00:00,08:00:00,A,1
-T1,08:10:00,08:11:00,B,2
-T1,08:30:00,08:30:00,C,3
-T2,08:20:00,08:20:00,B,1
-T2,08:40:00,08:40:00,D,2
-T3,08:12:00,08:12:00,B,1
-T3,08:31:00,08:31:00,D,2
-T4,09:00:00,09:00:00,E,1
-T4,09:10:00,09:10:00,F,2
-T5,10:00:00,10:00:00,E,1
-T5,10:10:00,10:10:00,F,2
-";
+use tiny_feed::{CALENDAR_DATES, STOP_TIMES, STOPS, TINY, TRIPS, files_of};
 
 const FIRST: &str = "client 1
 journey 2 arrives 2024-05-01T08:31:00.000Z
 ride T1 20240501 - 1 1 A 2024-05-01T08:00:00.000Z B 2024-05-01T08:10:00.000Z
 ride T3 20240501 - 1 1 B 2024-05-01T08:12:00.000Z D 2024-05-01T08:31:00.000Z
 ";
-
-const TINY: [(&str, &str); 4] = [
-    ("tiny/stops.txt", STOPS),
-    ("tiny/trips.txt", TRIPS),
-    ("tiny/stop_times.txt", TIMES),
-    ("tiny/calendar_dates.txt", DATES),
-];
-
-fn files_of(alloc: Global, files: &[(&str, &str)]) -> Result<Vec<File>, Fail> {
-    let mut list = Vec::new(alloc);
-    for (name, text) in files {
-        list.push(File {
-            name: Text::from_string(String::from_str(alloc, *name)?),
-            bytes: Bytes::from_list(Vec::from_slice(alloc, text.as_bytes())?),
-        })?;
-    }
-    Ok(list)
-}
 
 fn words_of(alloc: Global, words: &str) -> Result<Vec<String>, Fail> {
     let mut list = Vec::new(alloc);
@@ -117,7 +78,7 @@ fn questions_of_tiny(rt: HostRuntime) -> Result<(), Fail> {
             "error feed F16 stops.txt row 0\n",
         ),
     ] {
-        let mut folder = SureFolder::new(files_of(alloc, TINY.as_slice())?)?;
+        let mut folder = SureFolder::new(alloc, files_of(alloc, TINY.as_slice())?)?;
         let (code, text) = ask(alloc, &mut folder, words)?;
         assert_eq!(rt; code, status, "{words}");
         assert_eq!(rt; text.as_slice(), output.as_bytes(), "{words}");
@@ -171,7 +132,7 @@ T2,08:40:00,08:40:00,D,2
             "stop_id\nX\nY\nZ\n",
             "service_id,trip_id\nw,T6\n",
             over_y,
-            DATES,
+            CALENDAR_DATES,
             "x",
             "ask tiny X Z 2024-05-01T09:00:00Z",
             0,
@@ -184,7 +145,7 @@ ride T6 20240501 - 1 2 X 2024-05-01T09:00:00.000Z Z 2024-05-01T09:05:00.000Z
             STOPS,
             TRIPS,
             unknown_trip,
-            DATES,
+            CALENDAR_DATES,
             "x",
             a_to_d,
             3,
@@ -193,8 +154,8 @@ ride T6 20240501 - 1 2 X 2024-05-01T09:00:00.000Z Z 2024-05-01T09:05:00.000Z
         (
             STOPS,
             TRIPS,
-            TIMES,
-            DATES,
+            STOP_TIMES,
+            CALENDAR_DATES,
             "tiny/transfers.txt",
             a_to_d,
             3,
@@ -203,8 +164,8 @@ ride T6 20240501 - 1 2 X 2024-05-01T09:00:00.000Z Z 2024-05-01T09:05:00.000Z
         (
             STOPS,
             TRIPS,
-            TIMES,
-            DATES,
+            STOP_TIMES,
+            CALENDAR_DATES,
             "tiny/calendar.txt",
             a_to_d,
             3,
@@ -218,12 +179,12 @@ ride T6 20240501 - 1 2 X 2024-05-01T09:00:00.000Z Z 2024-05-01T09:05:00.000Z
             ("tiny/calendar_dates.txt", dates),
             (extra, ""),
         ];
-        let mut folder = SureFolder::new(files_of(alloc, files.as_slice())?)?;
+        let mut folder = SureFolder::new(alloc, files_of(alloc, files.as_slice())?)?;
         let (code, text) = ask(alloc, &mut folder, words)?;
         assert_eq!(rt; code, status, "{output}");
         assert_eq!(rt; text.as_slice(), output.as_bytes(), "{output}");
     }
-    let mut folder = SureFolder::new(files_of(alloc, &TINY[..3])?)?;
+    let mut folder = SureFolder::new(alloc, files_of(alloc, &TINY[..3])?)?;
     let (code, text) = ask(alloc, &mut folder, a_to_d)?;
     assert_eq!(rt; code, 3);
     assert_eq!(rt;
@@ -265,12 +226,12 @@ fn standard_output(rt: HostRuntime) {
 #[test]
 fn faults(rt: HostRuntime) -> Result<(), Fail> {
     let alloc = rt.alloc();
-    let mut folder = MemFolder::new(files_of(alloc, TINY.as_slice())?, vec![in alloc; 2]?)?;
+    let mut folder = MemFolder::new(alloc, files_of(alloc, TINY.as_slice())?, vec![in alloc; 2]?)?;
     let (status, text) = ask(alloc, &mut folder, "ask tiny A D 2024-05-01T08:00:00Z")?;
     assert_eq!(rt; status, 5);
     assert_eq!(rt; text.as_slice(), b"error folder\n".as_slice());
 
-    let mut folder = SureFolder::new(files_of(alloc, TINY.as_slice())?)?;
+    let mut folder = SureFolder::new(alloc, files_of(alloc, TINY.as_slice())?)?;
     let words = words_of(alloc, "ask tiny A D 2024-05-01T08:00:00Z")?;
     let link = ListLink::new(Vec::new(alloc))?;
     let mut door = SureDoor::new(alloc, Vec::new(alloc))?;

@@ -1,5 +1,6 @@
-ghost use Rattle.std.specs.Prelude.{◌≡◌, ◌⊎◌};
-ghost use Rattle.lc_cli.specs.Run.{IsAnswered, IsClear, IsRight};
+ghost use Rattle.std.specs.Prelude.{◌≡◌, ◌≤◌, ◌⊎◌};
+ghost use Rattle.gtfs_tables.specs.Reading.{Keeps};
+ghost use Rattle.lc_cli.specs.Top.{IsAnswered, IsClear, IsRight};
 ghost use Rattle.lc_cli.specs.Words.{SaysAsk, texts_of};
 ghost use Rattle.lc_cli.specs.declared.words.Ask.{Ask};
 
@@ -44,6 +45,9 @@ pub fn run<F: Folder, L: Link, D: Door, S: Sink>(
       sink_after = S.seen out.new;
     }) → IsAnswered result.0 }
 
+    // The folder has the same files, and no count has fallen.
+    ensures folder { Keeps (F.seen folder.old) (F.seen folder.new) }
+    ensures sink { (S.seen out.old).faults ≤ (S.seen out.new).faults }
     ensures link { result.1 ≡ link }
     ensures door { door.new ≡ door.old }
 {

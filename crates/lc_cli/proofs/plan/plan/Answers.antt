@@ -13,3 +13,6 @@ returns c = record {
   is_doc = c.in_ok-doc.ensures;
   best = same_answer (IsLegOf (in_time c.args.query.now c.in_ok-list.list)) (IsRideAt c.in_ok-runs.runs) c.args.query.now c.in_ok-doc.doc c.in_ok-answer.answer c.chains_are_journeys.ensures c.in_ok-answer.ensures;
 }
+
+pub doc_of-requires : goal.doc_of-requires
+doc_of-requires c = c.args.tables.now.parents_known

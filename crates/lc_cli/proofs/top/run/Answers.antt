@@ -1,8 +1,8 @@
 use Rattle.std.proofs.Common.{refl}
-use Rattle.lc_cli.specs.Run.{IsRight, Past}
+use Rattle.lc_cli.specs.Top.{IsRight, Past}
 use Rattle.lc_cli.specs.Words.{texts_of}
-use Rattle.lc_cli.proofs.OutcomeLemmas.{right_block, right_refusal}
-use Rattle.lc_cli.proofs.RunLemmas.{complete, usage_only}
+use Rattle.lc_cli.proofs.AskLemmas.{right_block, right_refusal}
+use Rattle.lc_cli.proofs.TopLemmas.{complete, usage_only}
 use Rattle.lc_cli.proofs.top.run.Goals as goal
 
 pub returns-in-Ok : goal.returns-in-Ok
@@ -14,11 +14,13 @@ returns-in-Ok g c =
       sink_before = g.S.Sink.seen c.args.out.now;
       sink_after = g.S.Sink.seen c.write_block.new.out;
     } in
-    let right : IsRight p c.write_block.result = right_block p c.in-Ok.block c.write_block.result c.in-Ok.ensures.block c.write_block.ensures in
+    let right : IsRight p c.write_block.result = right_block p c.in-Ok.block c.write_block.result c.in-Ok.ensures.block c.write_block.ensures.end in
     record {
       status = right;
       usage_only = usage_only p c.write_block.result right;
       complete = complete p c.write_block.result right;
+      folder = c.outcome.ensures.kept;
+      sink = c.write_block.ensures.kept;
       link = refl;
       door = refl;
     }
@@ -32,11 +34,13 @@ returns-in-Err g c =
       sink_before = g.S.Sink.seen c.args.out.now;
       sink_after = g.S.Sink.seen c.refuse.new.out;
     } in
-    let right : IsRight p c.refuse.result = right_refusal p c.in-Err.refusal c.refuse.result c.in-Err.ensures.refused c.refuse.ensures.line c.refuse.ensures.status in
+    let right : IsRight p c.refuse.result = right_refusal p c.in-Err.refusal c.refuse.result c.in-Err.ensures.refused c.refuse.ensures.end in
     record {
       status = right;
       usage_only = usage_only p c.refuse.result right;
       complete = complete p c.refuse.result right;
+      folder = c.outcome.ensures.kept;
+      sink = c.refuse.ensures.kept;
       link = refl;
       door = refl;
     }

@@ -1,17 +1,19 @@
 -- What a run comes to: its status, with the cause, and what it leaves in the sink.
-use Rattle.std.specs.Prelude.{◌≡◌, ℕ, List, Some, None, codes}
-use Rattle.lc_world.specs.Counts.{Rose}
-use Rattle.lc_world.specs.Folder.{FolderSeen}
-use Rattle.lc_world.specs.Sink.{SinkSeen}
-use Rattle.lc_world.specs.declared.file.File.{File}
+use Rattle.std.specs.Prelude.{◌≡◌, ◌⊎◌, ℕ, List, Some, None, codes}
+use Rattle.lc_io.specs.Counts.{Rose}
+use Rattle.lc_io.specs.Folder.{FolderSeen}
+use Rattle.lc_io.specs.Sink.{SinkSeen}
+use Rattle.lc_io.specs.declared.file.File.{File}
 use Rattle.gtfs_tables.specs.Feed.{ArePlainTables}
 use Rattle.gtfs_tables.specs.Files.{files_of}
+use Rattle.gtfs_tables.specs.declared.feed.fault.FeedFault.TheVariants as fault
 use Rattle.gtfs_tables.specs.declared.tables.Tables.{Tables}
-use Rattle.lc_cli.specs.Outcome.{IsRightBlock, IsRightRefusal}
-use Rattle.lc_cli.specs.Refusal.{feed_line_of}
+use Rattle.lc_cli.specs.Ask.{IsRightBlock, IsRightRefusal}
+use Rattle.lc_cli.specs.Refusal.{error_line_of, feed_line_of}
 use Rattle.lc_cli.specs.Words.{SaysAsk}
-use Rattle.lc_cli.specs.Writing.{Wrote, WroteFront}
+use Rattle.lc_cli.specs.Writing.{Said, Wrote, WroteFront}
 use Rattle.lc_cli.specs.declared.block.Block.{Block}
+use Rattle.lc_cli.specs.declared.refusal.Refusal.{Refusal}
 use Rattle.lc_cli.specs.declared.refusal.Refusal.TheVariants as refused
 use Rattle.lc_cli.specs.declared.status.Status.{Status}
 use Rattle.lc_cli.specs.declared.status.Status.TheVariants.{Done, Usage, FeedBroken, FolderFault, SinkFault, QueryRefused, NoMemory}
@@ -30,30 +32,34 @@ pub record Past : Type 0 where
 -- Done: the block of the client, with a best journey by the feed's timetable or that there is none, is written whole.
 -- QueryRefused: the same, with the line that says why the question is refused.
 -- SinkFault: the sink's count of faults rose, and a front of that block is written.
--- Usage, FeedBroken, FolderFault: as the words, the feed's files and the folder's count have it, with their error line, of
--- which a front is written.
--- NoMemory: memory ran out.
+-- Usage, FeedBroken, FolderFault: as the words, the feed's files and the folder's count have it, with their error line,
+-- which is written whole, or of which a front is where the sink's count rose.
+-- NoMemory: memory ran out; a front of the right block is written, or of the line of a right refusal.
 abbrev pub IsRight : Past → Status → Type 0
 IsRight p Done =
-    (block : Block) × IsRightBlock p.words p.folder_before block × (block.fault ≡ None)
+    (block : Block) × IsRightBlock p.words p.folder_before p.folder_after block × (block.fault ≡ None)
     × Wrote p.sink_before p.sink_after block.text.items
 IsRight p (QueryRefused client fault) =
     (client ≡ 1)
-    × ((block : Block) × IsRightBlock p.words p.folder_before block × (block.fault ≡ Some fault)
+    × ((block : Block) × IsRightBlock p.words p.folder_before p.folder_after block × (block.fault ≡ Some fault)
     × Wrote p.sink_before p.sink_after block.text.items)
 IsRight p (SinkFault before after) =
     (before ≡ p.sink_before.faults) × (after ≡ p.sink_after.faults) × Rose before after
-    × ((block : Block) × IsRightBlock p.words p.folder_before block
+    × ((block : Block) × IsRightBlock p.words p.folder_before p.folder_after block
     × WroteFront p.sink_before p.sink_after block.text.items)
 IsRight p Usage =
-    IsRightRefusal p.words p.folder_before p.folder_after refused.Usage × WroteFront p.sink_before p.sink_after (codes "error usage\n")
+    IsRightRefusal p.words p.folder_before p.folder_after refused.Usage × Said p.sink_before p.sink_after (codes "error usage\n")
 IsRight p (FeedBroken rule file row) =
-    IsRightRefusal p.words p.folder_before p.folder_after (refused.FeedBroken rule file row)
-    × WroteFront p.sink_before p.sink_after (feed_line_of rule file row)
+    IsRightRefusal p.words p.folder_before p.folder_after (refused.Feed (fault.Broken rule file row))
+    × Said p.sink_before p.sink_after (feed_line_of rule file row)
 IsRight p (FolderFault before after) =
-    IsRightRefusal p.words p.folder_before p.folder_after (refused.FolderFault before after)
-    × WroteFront p.sink_before p.sink_after (codes "error folder\n")
-IsRight p NoMemory = (text : List ℕ) × WroteFront p.sink_before p.sink_after text
+    IsRightRefusal p.words p.folder_before p.folder_after (refused.Feed (fault.Folder before after))
+    × Said p.sink_before p.sink_after (codes "error folder\n")
+IsRight p NoMemory =
+    ((block : Block) × IsRightBlock p.words p.folder_before p.folder_after block
+    × WroteFront p.sink_before p.sink_after block.text.items)
+    ⊎ ((refusal : Refusal) × IsRightRefusal p.words p.folder_before p.folder_after refusal
+    × WroteFront p.sink_before p.sink_after (error_line_of refusal))
 
 -- the run ended with the block of its client, or for want of memory
 abbrev pub IsAnswered : Status → Type 0

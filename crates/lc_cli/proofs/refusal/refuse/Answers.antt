@@ -1,0 +1,28 @@
+use Rattle.std.proofs.Common.{◌≡◌, ◌∙◌, ap, sym}
+use Rattle.gtfs_tables.specs.declared.feed.fault.FeedFault.TheVariants as fault
+use Rattle.lc_cli.specs.Refusal.{error_line_of, feed_line_of, status_of}
+use Rattle.lc_cli.specs.declared.refusal.Refusal.TheVariants.{Feed}
+use Rattle.lc_cli.specs.declared.status.Status.TheVariants.{Usage, FeedBroken, FolderFault}
+use Rattle.lc_cli.proofs.RefusalLemmas.{ends_with_its_line}
+use Rattle.lc_cli.proofs.refusal.refuse.Goals as goal
+
+pub returns-in-Usage-clause-end : goal.returns-in-Usage-clause-end
+returns-in-Usage-clause-end g c =
+    ends_with_its_line c.args.refusal _ Usage c.say.result (g.S.Sink.seen c.args.out.now) (g.S.Sink.seen c.say.new.out)
+    (sym (ap error_line_of c.in-Usage.is)) (sym (ap status_of c.in-Usage.is)) c.say.ensures.end
+
+pub returns-in-Feed-Folder-clause-end : goal.returns-in-Feed-Folder-clause-end
+returns-in-Feed-Folder-clause-end g c =
+    let is : c.args.refusal ≡ Feed (fault.Folder c.in-Feed-Folder.before c.in-Feed-Folder.after) = c.in-Feed-Folder.is ∙ ap Feed c.in-Feed-Folder.field-0-is in
+    ends_with_its_line c.args.refusal _ (FolderFault c.in-Feed-Folder.before c.in-Feed-Folder.after) c.say-in-Feed-Folder.result (g.S.Sink.seen c.args.out.now)
+    (g.S.Sink.seen c.say-in-Feed-Folder.new.out) (sym (ap error_line_of is)) (sym (ap status_of is)) c.say-in-Feed-Folder.ensures.end
+
+pub returns-in-Ok-clause-end : goal.returns-in-Ok-clause-end
+returns-in-Ok-clause-end g c =
+    let rule = c.in-Feed-Broken.rule in
+    let file = c.in-Feed-Broken.file in
+    let row = c.in-Feed-Broken.row in
+    let is : c.args.refusal ≡ Feed (fault.Broken rule file row) = c.in-Feed-Broken.is ∙ ap Feed c.in-Feed-Broken.field-0-is in
+    let line : c.as_slice.result.now ≡ feed_line_of rule file row = c.as_slice.ensures.value ∙ c.in-Ok.ensures ∙ ap (λ f. feed_line_of rule f row) c.as_str.ensures.value in
+    ends_with_its_line c.args.refusal c.as_slice.result.now (FeedBroken rule file row) c.say-in-Ok.result (g.S.Sink.seen c.args.out.now)
+    (g.S.Sink.seen c.say-in-Ok.new.out) (line ∙ sym (ap error_line_of is)) (sym (ap status_of is)) c.say-in-Ok.ensures.end
