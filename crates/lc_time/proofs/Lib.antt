@@ -5,3 +5,4 @@ pub mod HttpLemmas
 pub mod IsoLemmas
 pub mod OneText
 pub mod OptionLemmas
+pub mod SaidLemmas

@@ -1,8 +1,8 @@
 -- A text says one value.
-use Rattle.std.specs.Prelude.{◌≡◌, ℕ, ◌<◌, List}
+use Rattle.std.specs.Prelude.{◌≡◌, ℕ, ◌<◌, ◌↔◌, List, Some}
 use Rattle.lc_model.specs.declared.date.ServiceDate.{ServiceDate}
-use Rattle.lc_time.specs.Clock.{SaysGtfsTime, start_text_of}
-use Rattle.lc_time.specs.Date.{date_text_of}
+use Rattle.lc_time.specs.Clock.{SaysGtfsTime, gtfs_time_said, start_text_of}
+use Rattle.lc_time.specs.Date.{date_said, date_text_of}
 use Rattle.lc_time.specs.Http.{SaysHttpDate}
 use Rattle.lc_time.specs.Iso.{SaysMoment}
 
@@ -25,3 +25,11 @@ OneMoment = (text : List ℕ) (a b : ℕ) → SaysMoment text a → SaysMoment t
 -- and so does a date of HTTP
 abbrev pub OneHttpMoment : Type 0
 OneHttpMoment = (text : List ℕ) (a b : ℕ) → SaysHttpDate text a → SaysHttpDate text b → a ≡ b
+
+-- the date that a text says is the one whose text it is
+abbrev pub DateSaid : Type 0
+DateSaid = (text : List ℕ) (date : ServiceDate) → (date_said text ≡ Some date) ↔ (text ≡ date_text_of date.year date.month date.day)
+
+-- and so it is with a time of GTFS
+abbrev pub TimeSaid : Type 0
+TimeSaid = (text : List ℕ) (seconds : ℕ) → (gtfs_time_said text ≡ Some seconds) ↔ SaysGtfsTime text seconds

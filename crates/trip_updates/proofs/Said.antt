@@ -1,18 +1,18 @@
 -- What a text says is what was read of it.
-use Rattle.std.proofs.Common.{Bool, cond, ◌+◌, false, ◌≡◌, ℕ, ◌≤◌, length, arith, List, [], ◌∷◌, ◌++◌, Option, Some, None, refl, sym, ap, ◌∙◌, inl, inr, ◌⊎◌}
+use Rattle.std.proofs.Common.{Bool, cond, ◌+◌, false, ◌≡◌, ℕ, ◌≤◌, length, arith, List, [], ◌∷◌, ◌++◌, Option, Some, None, refl, sym, ap, ◌∙◌, ◌↔◌}
 use Rattle.std.specs.Prelude.{IfSome, map, option_map, option_to_list, count_by, if◌then◌else◌, ◌==◌}
 use Rattle.std.specs.List.{filter_map, cons_option}
 use Rattle.std.proofs.lemmas.List.Sums.{fold-append}
 use Rattle.std.proofs.lemmas.List.Elements.{filter_map-append}
 use Rattle.std.proofs.lemmas.Bool.{eqb-false}
 use Rattle.std.proofs.lemmas.List.{map_push}
-use Rattle.trip_updates.specs.Dates.{found}
 use Rattle.trip_updates.specs.Meaning.{if_said}
 
-pub said_is : {A : Type 0} (P : A → Type 0) (o : ((x : A) × P x) ⊎ ((x : A) → P x → ⊥)) (r : Option A) → IfSome r P → ((x : A) → P x → r ≡ Some x) → r ≡ found o
-said_is P (inl x) r said exact = exact x.0 x.1
-said_is P (inr none) None said exact = refl
-said_is P (inr none) (Some y) said exact = absurd (none y said)
+-- what is read of a text is what it says, where both are what is written there
+pub said_is : {A : Type 0} (P : A → Type 0) (says r : Option A) → ((x : A) → (says ≡ Some x) ↔ P x) → IfSome r P → ((x : A) → P x → r ≡ Some x) → r ≡ says
+said_is P says (Some x) law said exact = sym ((law x).1 said)
+said_is P None None law said exact = refl
+said_is P (Some y) None law said exact = exact y ((law y).0 refl)
 
 -- one item more, of one tree more
 pub one_more : {T X : Type 0} (f : T → X) (after before : List X) (x : X) (trees : List T) (tree : T) → after ≡ before ++ x ∷ [] → before ≡ map f trees → x ≡ f tree → after ≡ map f (trees ++ tree ∷ [])

@@ -1,8 +1,6 @@
 pub mod Wire
 pub mod Tree
 pub mod Table
-pub mod Choices
-pub mod Dates
 pub mod Meaning
 pub mod Message
 pub mod Faults

@@ -13,22 +13,25 @@ use Rattle.lc_model.specs.declared.news.Relation.TheVariants as relations
 use Rattle.lc_model.specs.declared.update.Update.{Update}
 use Rattle.trip_updates.specs.Tree.{Tree, last_varint, last_text, last_message, messages}
 use Rattle.trip_updates.specs.Table.{low_32}
-use Rattle.trip_updates.specs.Dates.{date_said, start_said}
+use Rattle.lc_time.specs.Clock.{gtfs_time_said}
+use Rattle.lc_time.specs.Date.{date_said}
 
--- the delay is the low 32 bits as a signed number, the time the 64 bits as one
+-- StopTimeEvent: `delay` is the low 32 bits as a signed number, `time` the 64 bits as one
 abbrev pub event_of : Tree → Event
 event_of tree = record {
   delay = option_map (λ n. cast_signed w32 (low_32 n)) (last_varint 1 tree);
   time = option_map (λ n. cast_signed w64 n) (last_varint 2 tree);
 }
 
--- an event without delay and time counts as absent
+-- a StopTimeEvent without `delay` and `time` counts as absent
 abbrev pub if_any : Event → Option Event
 if_any event = if is_none event.delay && is_none event.time then None else Some event
 
+-- StopTimeUpdate.schedule_relationship: SKIPPED is 1, NO_DATA is 2, and all else counts as SCHEDULED
 abbrev pub relation_of : ℕ → Relation
 relation_of n = if n == 1 then relations.Skipped else (if n == 2 then relations.NoData else relations.Scheduled)
 
+-- StopTimeUpdate: `stop_sequence`, `stop_id`, `schedule_relationship`, `arrival` and `departure`
 abbrev pub stop_news_of : Tree → StopNews
 stop_news_of tree = record {
   seq = option_map low_32 (last_varint 1 tree);
@@ -44,7 +47,7 @@ if_said reads None = Some None
 if_said reads (Some []) = Some None
 if_said reads (Some (b ∷ text)) = option_map (λ x. Some x) (reads (b ∷ text))
 
--- whether a relationship cancels the trip: SCHEDULED does not, CANCELED does, and no other is read
+-- TripDescriptor.schedule_relationship: SCHEDULED is 0, CANCELED is 3 and cancels the trip, and no other is read
 abbrev pub kind_of : ℕ → Option Bool
 kind_of n = if n == 0 then Some false else (if n == 3 then Some true else None)
 
@@ -55,11 +58,12 @@ trip_news_of descriptor stops =
     option_and_then (λ cancelled.
     option_and_then (λ date.
     option_map (λ start. record { trip = trip; date = date; start = start; cancelled = cancelled; stops = stops })
-    (if_said start_said (last_text 2 descriptor)))
+    (if_said gtfs_time_said (last_text 2 descriptor)))
     (if_said date_said (last_text 3 descriptor)))
     (kind_of (low_32 (unwrap_or (last_varint 4 descriptor) 0))))
     (last_text 1 descriptor)
 
+-- TripUpdate: its `trip` and the news of its `stop_time_update`, or none where it is passed over
 abbrev pub news_of : Tree → Option TripNews
 news_of update = option_and_then (λ descriptor. trip_news_of descriptor (map stop_news_of (messages 2 update))) (last_message 1 update)
 
@@ -68,24 +72,27 @@ abbrev pub passed_or : Option TripNews → TripSaid
 passed_or None = saids.Passed
 passed_or (Some news) = saids.News news
 
--- what an entity says of a trip, if it has a trip update
+-- FeedEntity: what its `trip_update` says, if it has one
 abbrev pub entity_of : Tree → Entity
 entity_of tree = record { said = option_map (λ update. passed_or (news_of update)) (last_message 3 tree) }
 
+-- the news of a trip update that is not passed over
 abbrev pub news_said : Option TripSaid → Option TripNews
 news_said None = None
 news_said (Some saids.Passed) = None
 news_said (Some (saids.News news)) = Some news
 
+-- whether there is a trip update that is passed over
 abbrev pub is_passed : Option TripSaid → Bool
 is_passed None = false
 is_passed (Some saids.Passed) = true
 is_passed (Some (saids.News news)) = false
 
--- A message in which nothing is lacking has a header, and this a timestamp.
+-- FeedHeader.timestamp, which stands wherever nothing is lacking
 abbrev pub moment_of : Tree → ℕ
 moment_of header = unwrap_or (last_varint 3 header) 0
 
+-- the moment, the news of all entities in their order, and how many trip updates are passed over
 abbrev pub update_with : ℕ → List Entity → Update
 update_with moment entities = record {
   moment = moment;
@@ -93,5 +100,6 @@ update_with moment entities = record {
   passed = count_by (λ entity. is_passed entity.said) entities;
 }
 
+-- FeedMessage: the moment of its `header` and what its `entity`s say
 abbrev pub update_of : Tree → Update
 update_of tree = update_with (unwrap_or (option_map moment_of (last_message 1 tree)) 0) (map entity_of (messages 2 tree))

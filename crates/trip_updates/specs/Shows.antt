@@ -26,6 +26,7 @@ Answers shows (Ok x) (Err fault) = ⊥
 Answers shows (Err e) (Ok tree) = e ≡ faults.NoMemory
 Answers shows (Err e) (Err fault) = (e ≡ faults.NoMemory) ⊎ (e ≡ fault)
 
+-- StopTimeEvent: its `delay` and `time`
 abbrev pub ShowsEvent : Event → Tree → Type 0
 ShowsEvent event tree = event ≡ event_of tree
 
@@ -36,6 +37,7 @@ SpanEnds len next (values.Eight n) = Unit {0}
 SpanEnds len next (values.Span from to) = (from ≤ to) × (to ≡ next) × (next ≤ len)
 SpanEnds len next (values.Four n) = Unit {0}
 
+-- FeedHeader, not yet whole: `gtfs_realtime_version`, `incrementality` and `timestamp`
 abbrev pub ShowsHeader : HeaderFields → Tree → Type 0
 ShowsHeader header tree = header ≡ record {
   has_version = is_some (last_text 1 tree);
@@ -43,15 +45,18 @@ ShowsHeader header tree = header ≡ record {
   timestamp = last_varint 3 tree;
 }
 
+-- FeedHeader: the moment of its `timestamp`
 abbrev pub ShowsMoment : ℕ → Tree → Type 0
 ShowsMoment moment tree = moment ≡ moment_of tree
 
+-- TripDescriptor: `trip_id`, `start_time`, `start_date` and `schedule_relationship`
 pub record ShowsDescriptor (descriptor : Descriptor) (tree : Tree) : Type 0 where
   pub trip : option_copied descriptor.trip ≡ last_text 1 tree
   pub start_time : option_copied descriptor.start_time ≡ last_text 2 tree
   pub start_date : option_copied descriptor.start_date ≡ last_text 3 tree
   pub relationship : descriptor.relationship ≡ low_32 (unwrap_or (last_varint 4 tree) 0)
 
+-- StopTimeUpdate: `stop_sequence`, `stop_id`, `schedule_relationship`, `arrival` and `departure`
 pub record ShowsStop (stop : StopFields) (tree : Tree) : Type 0 where
   pub seq : stop.seq ≡ option_map low_32 (last_varint 1 tree)
   pub named : option_copied stop.stop ≡ last_text 4 tree
@@ -66,23 +71,29 @@ BothShow shows None (Some tree) = ⊥
 BothShow shows (Some x) None = ⊥
 BothShow shows (Some x) (Some tree) = shows x tree
 
+-- TripUpdate, not yet whole: `trip` and the `stop_time_update`s
 pub record ShowsTrip (trip : TripFields) (tree : Tree) : Type 0 where
   pub descriptor : BothShow ShowsDescriptor trip.descriptor (last_message 1 tree)
   pub stops : trip.stops.items ≡ map stop_news_of (messages 2 tree)
 
+-- TripUpdate: its news, or that it is passed over
 abbrev pub ShowsSaid : TripSaid → Tree → Type 0
 ShowsSaid said tree = said ≡ passed_or (news_of tree)
 
+-- FeedEntity, not yet whole: whether `id` stands, and what `trip_update` says
 pub record ShowsEntityFields (entity : EntityFields) (tree : Tree) : Type 0 where
   pub id : entity.has_id ≡ is_some (last_text 1 tree)
   pub said : entity.said ≡ option_map (λ update. passed_or (news_of update)) (last_message 3 tree)
 
+-- FeedEntity: what its `trip_update` says
 abbrev pub ShowsEntity : Entity → Tree → Type 0
 ShowsEntity entity tree = entity ≡ entity_of tree
 
+-- FeedMessage, not yet whole: the moment of `header` and what the `entity`s say
 pub record ShowsFeed (feed : FeedFields) (tree : Tree) : Type 0 where
   pub moment : feed.moment ≡ option_map moment_of (last_message 1 tree)
   pub entities : feed.entities.items ≡ map entity_of (messages 2 tree)
 
+-- FeedMessage: the update that it is
 abbrev pub ShowsUpdate : Update → Tree → Type 0
 ShowsUpdate update tree = update ≡ update_of tree

@@ -6,7 +6,7 @@ use Rattle.trip_updates.specs.declared.fault.RtFault.{RtFault}
 use Rattle.trip_updates.specs.declared.fault.RtFault.TheVariants as faults
 use Rattle.trip_updates.specs.Tree.{Tree, last_varint, last_text, last_message}
 
--- FeedMessage, FeedHeader, FeedEntity, TripUpdate, TripDescriptor, StopTimeUpdate, StopTimeEvent
+-- the messages FeedMessage, FeedHeader, FeedEntity, TripUpdate, TripDescriptor, StopTimeUpdate, StopTimeEvent
 pub data Message : Type 0 where
   feed_message : Message
   feed_header : Message
@@ -25,6 +25,7 @@ pub data Kind : Type 0 where
   one : (part : Part) (message : Message) → Kind
   many : (message : Message) → Kind
 
+-- what the field with this number is read as in this message
 abbrev pub kind : Message → ℕ → Kind
 kind feed_message number =
     -- header, entity
@@ -52,11 +53,11 @@ kind stop_time_event number =
 abbrev pub low_32 : ℕ → ℕ
 low_32 n = n % 2 ^ 32
 
--- DIFFERENTIAL
+-- FeedHeader.incrementality: DIFFERENTIAL is 1, and refused
 abbrev pub is_differential : Tree → Option RtFault
 is_differential tree = if low_32 (unwrap_or (last_varint 2 tree) 0) == 1 then Some faults.Differential else None
 
--- a timestamp that is a moment, from 1970 on and before 9999-12-30
+-- FeedHeader.timestamp, if it is a moment, from 1970 on and before 9999-12-30; the rest comes after it
 abbrev pub has_moment : Option ℕ → Option RtFault → Option RtFault
 has_moment None rest = Some faults.NoMoment
 has_moment (Some n) rest = if nat_lt n 253_402_128_000 then rest else Some faults.NoMoment

@@ -6,6 +6,7 @@ use Rattle.trip_updates.specs.declared.fault.Part.TheVariants as parts
 use Rattle.trip_updates.specs.declared.fault.RtFault.{RtFault}
 use Rattle.trip_updates.specs.declared.fault.RtFault.TheVariants as faults
 
+-- the name of a part of a message
 abbrev pub part_text : Part → List ℕ
 part_text parts.Header = codes "Header"
 part_text parts.Version = codes "Version"
@@ -15,6 +16,7 @@ part_text parts.TripUpdate = codes "TripUpdate"
 part_text parts.Arrival = codes "Arrival"
 part_text parts.Departure = codes "Departure"
 
+-- a fault in words, with its place or its part
 abbrev pub fault_text : RtFault → List ℕ
 fault_text (faults.Cut place) = codes "the bytes end within the field at " ++ decimal place
 fault_text (faults.LongVarint place) = codes "more than ten bytes in a varint of the field at " ++ decimal place

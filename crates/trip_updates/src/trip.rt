@@ -6,7 +6,8 @@ ghost use Rattle.trip_updates.specs.Faults.{Reader, step, complete, read};
 ghost use Rattle.trip_updates.specs.Shows.{Answers, SpanEnds, ShowsTrip, ShowsDescriptor, ShowsSaid};
 ghost use Rattle.std.specs.Option.{option_copied};
 ghost use Rattle.trip_updates.specs.Meaning.{if_said, kind_of as kind_said, passed_or, trip_news_of};
-ghost use Rattle.trip_updates.specs.Dates.{date_said, start_said};
+ghost use Rattle.lc_time.specs.Clock.{gtfs_time_said};
+ghost use Rattle.lc_time.specs.Date.{date_said};
 
 use crate::descriptor::{Descriptor, read_descriptor};
 use crate::fault::{Part, RtFault};
@@ -63,7 +64,7 @@ fn date_of(text: Option<&[u8]>) -> Option<Option<ServiceDate>>
 
 // The start that a text says, or that it says nothing where it is empty.
 fn start_in(text: &[u8]) -> Option<Option<u32>>
-    ensures { result ≡ if_said start_said (Some text.now) }
+    ensures { result ≡ if_said gtfs_time_said (Some text.now) }
 {
     if text.is_empty() {
         return Some(None);
@@ -73,7 +74,7 @@ fn start_in(text: &[u8]) -> Option<Option<u32>>
 }
 
 fn start_of(text: Option<&[u8]>) -> Option<Option<u32>>
-    ensures { result ≡ if_said start_said (option_copied text.entry) }
+    ensures { result ≡ if_said gtfs_time_said (option_copied text.entry) }
 {
     match text {
         None => Some(None),
