@@ -4,3 +4,4 @@ pub mod OneValue
 pub mod Orders
 pub mod Ranges
 pub mod Search
+pub mod Walks

@@ -29,9 +29,9 @@ module _ (IsRide : Ride → Type 0) (query : Query) (doc : StopsDoc) where
   -- answers have one arrival
   pub answers_arrive_at_one : (a b : Answer) → IsAnswer IsRide query doc a → IsAnswer IsRide query doc b → arrival_of a ≡ arrival_of b
   answers_arrive_at_one (Journey a) (Journey b) first second =
-      ap Some (one_number (arrives_at a.rides) (arrives_at b.rides) (first.is_earliest b.rides second.is_journey) (second.is_earliest a.rides first.is_journey))
-  answers_arrive_at_one (Journey a) NoJourney first none = absurd (none a.rides first.is_journey)
-  answers_arrive_at_one NoJourney (Journey b) none second = absurd (none b.rides second.is_journey)
+      ap Some (one_number (arrives_at a) (arrives_at b) (first.is_earliest b second.is_journey) (second.is_earliest a first.is_journey))
+  answers_arrive_at_one (Journey a) NoJourney first none = absurd (none a first.is_journey)
+  answers_arrive_at_one NoJourney (Journey b) none second = absurd (none b second.is_journey)
   answers_arrive_at_one NoJourney NoJourney first second = refl
 
   -- least arrivals are one

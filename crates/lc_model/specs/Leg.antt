@@ -5,6 +5,7 @@ use Rattle.lc_model.specs.Journey.{IsJourney, IsLeastArrival}
 use Rattle.lc_model.specs.Question.{latest_of}
 use Rattle.lc_model.specs.declared.connection.Connection.{Connection}
 use Rattle.lc_model.specs.declared.doc.StopsDoc.{StopsDoc}
+use Rattle.lc_model.specs.declared.journey.Journey.{Journey}
 use Rattle.lc_model.specs.declared.query.Query.{Query}
 use Rattle.lc_model.specs.declared.ride.Ride.{Ride}
 
@@ -36,7 +37,7 @@ abbrev pub in_time : Query → List Connection → List Connection
 in_time query list = filter (λ (c : Connection). nat_le c.arr (latest_of query)) list
 
 -- a journey of the question made of legs of the list
-abbrev pub IsChain : Query → StopsDoc → List Connection → List Ride → Type 0
+abbrev pub IsChain : Query → StopsDoc → List Connection → Journey → Type 0
 IsChain query doc list = IsJourney (IsLegOf (in_time query list)) query doc
 
 -- the least arrival of a chain of the list, or none where there is no chain

@@ -15,3 +15,4 @@ pub mod Stop
 pub mod StopsDoc
 pub mod Text
 pub mod Totals
+pub mod Walk

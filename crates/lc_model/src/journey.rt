@@ -1,19 +1,24 @@
 ghost use Rattle.std.specs.Prelude.{◌≢◌, []};
 
-use crate::{NoMemory, PlainData, Rides};
+use crate::{NoMemory, PlainData, Rides, Walk};
 use std::alloc::Global;
 
-/// A journey: at least one ride, one after the other.
+/// A journey: at least one ride, one after the other, with a walk before them or after them where the first does not
+/// board, or the last does not alight, at an end of the question.
 #[derive(Debug, Drop)]
 pub struct Journey {
+    pub before: Option<Walk>,
     pub rides: Rides,
+    pub after: Option<Walk>,
     pub ghost not_empty: { rides ≢ [] },
 }
 
 impl PlainData for Journey {
     fn copy(&self, alloc: Global) -> Result<Journey, NoMemory> {
         Ok(Journey {
+            before: self.before.copy(alloc)?,
             rides: self.rides.copy(alloc)?,
+            after: self.after.copy(alloc)?,
         })
     }
 }

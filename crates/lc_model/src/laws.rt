@@ -1,5 +1,5 @@
 ghost use Rattle.std.specs.Prelude.{◌≡◌, ◌+◌, ◌*◌};
-ghost use Rattle.lc_model.specs.Laws.{OneArrival, OneLeastArrival, OneListOfConnections};
+ghost use Rattle.lc_model.specs.Laws.{OneArrival, OneLeastArrival, OneListOfConnections, OneWalkAfter, OneWalkBefore};
 
 use crate::{FIRST_LEAVE, LAST_LEAVE, MOMENTS_END};
 
@@ -12,6 +12,13 @@ pub fn one_list_of_connections()
 pub fn one_arrival()
     ensures answers { OneArrival }
     ensures chains { OneLeastArrival }
+{}
+
+/// A journey has one walk to the stop where its first ride boards, and one from the stop where its last ride alights, or
+/// it needs none.
+pub fn one_walk()
+    ensures before { OneWalkBefore }
+    ensures after { OneWalkAfter }
 {}
 
 /// A question may leave from ten days behind the first moment on, and up to fifteen days before the last.

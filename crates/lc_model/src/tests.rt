@@ -75,49 +75,39 @@ fn changes(rt: HostRuntime) -> Result<(), Fail> {
     Ok(())
 }
 
-// An update with the news of one late trip, and its copy.
+// A journey of one ride with a walk on each side, and its copy.
 #[test]
-fn updates(rt: HostRuntime) -> Result<(), Fail> {
+fn journeys(rt: HostRuntime) -> Result<(), Fail> {
     let alloc = rt.alloc();
-    let late = Event {
-        delay: Some(60),
-        time: None,
-    };
-    let stops = vec![in alloc;
-        StopNews {
-            seq: Some(2),
-            stop: Some(Bytes::from_list(b"B".as_slice().to_vec(alloc)?)),
-            relation: Relation::Scheduled,
-            arr: Some(late),
-            dep: None
+    let ride = Ride {
+        key: RunKey {
+            trip: id(&rt, alloc, "T4")?,
+            date: ServiceDate {
+                year: 2024,
+                month: 5,
+                day: 1,
+            },
+            start: None,
         },
-    ]?;
-    let news = vec![in alloc;
-        TripNews {
-            trip: Bytes::from_list(b"T1".as_slice().to_vec(alloc)?),
-            date: None,
-            start: Some(28_800),
-            cancelled: false,
-            stops: StopNewsList::from_list(stops)
-        },
-    ]?;
-    let update = Update {
-        moment: Moment::new(1_714_546_800).expect(&rt, "a moment"),
-        news: NewsList::from_list(news),
-        passed: 3,
+        first_seq: 1,
+        last_seq: 1,
+        board: id(&rt, alloc, "E")?,
+        dep: Moment::new(1_714_554_000).expect(&rt, "a moment"),
+        alight: id(&rt, alloc, "F")?,
+        arr: Moment::new(1_714_554_600).expect(&rt, "a moment"),
     };
-    let copy = update.copy(alloc)?;
-    assert_eq!(rt; copy.moment.seconds(), 1_714_546_800);
-    assert_eq!(rt; copy.passed, 3);
-    assert_eq!(rt; copy.news.as_slice().len(), 1);
-    let trip = &copy.news.as_slice()[0];
-    assert_eq!(rt; trip.trip.as_slice(), b"T1".as_slice());
-    assert_eq!(rt; trip.start, Some(28_800));
-    assert_eq!(rt; trip.stops.as_slice().len(), 1);
-    let stop = &trip.stops.as_slice()[0];
-    assert_eq!(rt; stop.seq, Some(2));
-    assert!(rt;
-        stop.relation == Relation::Scheduled && stop.arr == Some(late) && stop.dep.is_none()
-    );
+    let journey = Journey {
+        before: Some(Walk {
+            from: id(&rt, alloc, "B")?,
+            to: id(&rt, alloc, "E")?,
+            seconds: 300,
+        }),
+        rides: Rides::from_list(vec![in alloc; ride]?),
+        after: None,
+    };
+    let copy = journey.copy(alloc)?;
+    assert!(rt; copy.before == journey.before && copy.after == journey.after);
+    assert_eq!(rt; copy.rides.as_slice().len(), 1);
+    assert!(rt; copy.rides.as_slice()[0] == journey.rides.as_slice()[0]);
     Ok(())
 }
