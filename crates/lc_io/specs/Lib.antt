@@ -4,3 +4,4 @@ pub mod MemFolder
 pub mod MemSink
 pub mod Sink
 pub mod SureFolder
+pub mod SureSink

@@ -19,4 +19,5 @@ loop-done-preserved g c =
           ∙ (ap (λ piece. written_after (written_after before bytes m) piece n) rest
           ∙ written_after-more before bytes m n));
       not_fallen = omega (arith, c.loop-done.invariant.not_fallen, c.in_ok-done.ensures.faults.not_fallen);
+      wants = omega (arith, c.loop-done.invariant.wants, c.in_ok-done.ensures.wants.not_fallen);
     }
