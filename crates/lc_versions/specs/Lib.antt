@@ -1,0 +1,11 @@
+pub mod Added
+pub mod Cuts
+pub mod History
+pub mod Live
+pub mod Named
+pub mod Naming
+pub mod News
+pub mod Packed
+pub mod Pages
+pub mod Timetable
+pub mod Worked

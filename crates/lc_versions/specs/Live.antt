@@ -1,0 +1,92 @@
+-- The live calls of a run: its calls as the news change them.
+use Rattle.std.specs.Prelude.{ℕ, suc, ◌-◌, min, max, ℤ, pos, negsuc, ◌+ℤ◌, ◌-ℤ◌, List, [], ◌∷◌, if◌then◌else◌, Option, Some, None}
+use Rattle.lc_model.specs.declared.call.Call.{Call}
+use Rattle.lc_model.specs.declared.moment.TheConstants.{MOMENTS_END}
+use Rattle.lc_versions.specs.Naming.{Naming, is_canceled, namings, news_at_place}
+use Rattle.lc_versions.specs.News.{StopSaid, TripSaid}
+use Rattle.lc_versions.specs.declared.event.Event.{Event}
+use Rattle.lc_versions.specs.declared.event.Relation.{Relation}
+use Rattle.lc_versions.specs.declared.event.Relation.TheVariants as relations
+
+-- a moment as it is told, in seconds since 1970, perhaps out of range, and how late that is
+pub record Told : Type 0 where
+  pub time : ℤ
+  pub delay : ℤ
+
+-- What an event says of a scheduled moment, behind a delay: its time; or else its delay; or else the delay so far goes on.
+abbrev pub told_by : ℕ → ℤ → Option ℤ → Option ℤ → Told
+told_by scheduled late delay (Some time) = record { time = time; delay = time -ℤ pos scheduled }
+told_by scheduled late (Some delay) None = record { time = pos scheduled +ℤ delay; delay = delay }
+told_by scheduled late None None = record { time = pos scheduled +ℤ late; delay = late }
+
+-- the same of an event that may be absent
+abbrev pub told : ℕ → ℤ → Option Event → Told
+told scheduled late None = told_by scheduled late None None
+told scheduled late (Some event) = told_by scheduled late event.delay event.time
+
+-- a call as it is told: how it is made at two moments, and the moments that are told of it
+pub record ToldCall : Type 0 where
+  pub at : ℕ → ℕ → Call
+  pub arr : ℤ
+  pub dep : ℤ
+
+-- a call of the timetable at these moments, and how late that is
+abbrev pub call_at : Call → ℕ → ℕ → Call
+call_at call arr dep = record {
+  stop = call.stop;
+  seq = call.seq;
+  arr = arr;
+  dep = dep;
+  board = call.board;
+  alight = call.alight;
+  arr_delay = pos arr -ℤ pos call.arr;
+  dep_delay = pos dep -ℤ pos call.dep;
+}
+
+-- a call whose arrival and departure are told, before those behind the delay that these leave
+abbrev pub told_both : Call → (ℤ → List ToldCall) → Told → Told → List ToldCall
+told_both call behind arrival departure = record { at = call_at call; arr = arrival.time; dep = departure.time } ∷ behind departure.delay
+
+-- a call by its events: the departure is told behind the delay that the arrival leaves
+abbrev pub told_events : Call → (ℤ → List ToldCall) → Option Event → Told → List ToldCall
+told_events call behind dep arrival = told_both call behind arrival (told call.dep arrival.delay dep)
+
+-- A call by the news of its stop, behind a delay: NO_DATA leaves the schedule and ends the delay, and a call that is SKIPPED
+-- is left out.
+abbrev pub told_related : Call → (ℤ → List ToldCall) → ℤ → StopSaid → Relation → List ToldCall
+told_related call behind late news relations.NoData = record { at = call_at call; arr = pos call.arr; dep = pos call.dep } ∷ behind (pos 0)
+told_related call behind late news relations.Skipped = behind late
+told_related call behind late news relations.Scheduled = told_events call behind news.dep (told call.arr late news.arr)
+
+-- a call with news of its stop or without: then the delay goes on
+abbrev pub told_with : Call → (ℤ → List ToldCall) → ℤ → Option StopSaid → List ToldCall
+told_with call behind late None = record { at = call_at call; arr = pos call.arr +ℤ late; dep = pos call.dep +ℤ late } ∷ behind late
+told_with call behind late (Some news) = told_related call behind late news news.relation
+
+-- what is told of the calls from this place on, behind a delay
+abbrev pub told_calls : List Naming → ℕ → ℤ → List Call → List ToldCall
+told_calls all place late [] = []
+told_calls all place late (call ∷ rest) = told_with call (λ delay. told_calls all (suc place) delay rest) late (news_at_place all place)
+
+-- the nearest moment in range
+abbrev pub in_range : ℤ → ℕ
+in_range (pos second) = min second (MOMENTS_END - 1)
+in_range (negsuc second) = 0
+
+-- a call that arrives then, before those behind its departure
+abbrev pub raised_to : ToldCall → (ℕ → List Call) → ℕ → List Call
+raised_to told behind arr = told.at arr (max arr (in_range told.dep)) ∷ behind (max arr (in_range told.dep))
+
+-- the calls in range, each moment raised to the one before it: arrival, departure, arrival, departure
+abbrev pub raised : ℕ → List ToldCall → List Call
+raised before [] = []
+raised before (told ∷ rest) = raised_to told (λ departure. raised departure rest) (max before (in_range told.arr))
+
+-- the calls with these news of stops
+abbrev pub calls_with : List Call → List StopSaid → List Call
+calls_with calls stops = raised 0 (told_calls (namings calls 0 stops) 0 (pos 0) calls)
+
+-- The live calls of a run with the news that name it, or without: none where these cancel it.
+abbrev pub live_calls_of : List Call → Option TripSaid → List Call
+live_calls_of calls None = calls_with calls []
+live_calls_of calls (Some news) = if is_canceled news.kind then [] else calls_with calls news.stops

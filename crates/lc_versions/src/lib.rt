@@ -1,0 +1,19 @@
+//! Versions of a timetable: what realtime messages say of trips and stops, and the definitions of what was known when. It
+//! stands on `lc_model`.
+#![tactic(auto)]
+
+mod entity;
+mod event;
+mod stop_news;
+#[cfg(test)]
+mod tests;
+mod trip_news;
+mod update;
+mod worked;
+
+pub use entity::{EntityList, EntityNews};
+pub use event::{Event, Relation, TripKind};
+pub use stop_news::{StopNews, StopNewsList};
+pub use trip_news::{NewsList, TripNews};
+pub use update::Update;
+pub use worked::worked_versions;
