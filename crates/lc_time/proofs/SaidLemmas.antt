@@ -8,9 +8,9 @@ use Rattle.std.proofs.lemmas.Bool.{true≢false, leb-true, ltb-true, eqb-true, e
 use Rattle.std.proofs.lemmas.Str.{digit_value_digit}
 use Rattle.lc_model.specs.Calendar.{days_in_month}
 use Rattle.lc_model.specs.declared.date.ServiceDate.{ServiceDate}
-use Rattle.lc_time.specs.Clock.{clock_text_of, SaysGtfsTime, number_of, are_clock_digits, clock_said, gtfs_time_said}
+use Rattle.lc_time.specs.Clock.{clock_text_of, SaysGtfsTime, are_clock_digits, clock_said, gtfs_time_said}
 use Rattle.lc_time.specs.Date.{date_text_of, where_passed, civil_date, is_eight_digits, date_said}
-use Rattle.lc_time.specs.Digits.{two_digits, four_digits}
+use Rattle.lc_time.specs.Digits.{two_digits, four_digits, number_of}
 use Rattle.lc_time.specs.Laws.{DateSaid, TimeSaid}
 use Rattle.lc_time.proofs.DateLemmas.{fits, same_date}
 
@@ -126,7 +126,7 @@ civil_numbers y m d date e =
     let h = passed (nat_le d (days_in_month y m)) _ date g.1 in
     some_numbers _ date h.1
 
-civil_of : (date : ServiceDate) → civil_date date.year date.month date.day ≡ Some date
+pub civil_of : (date : ServiceDate) → civil_date date.year date.month date.day ≡ Some date
 civil_of date =
     let c = date.civil in
     gone (nat_le 1 date.year) _ (Some date) (le-leb _ _ c.year_from) (λ year_from.

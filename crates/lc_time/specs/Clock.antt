@@ -2,8 +2,7 @@
 use Rattle.std.specs.Prelude.{◌≡◌, ℕ, ◌+◌, ◌*◌, ◌/◌, ◌%◌, ◌<◌, nat_lt, ◌==◌, ◌⊎◌, Bool, ◌&&◌, if◌then◌else◌, List, [], ◌∷◌, ◌++◌, length, codes, Option, Some, None}
 use Rattle.std.specs.List.{list_all}
 use Rattle.std.specs.Char.{is_ascii_digit}
-use Rattle.std.specs.Str.Parse.{digits_value}
-use Rattle.lc_time.specs.Digits.{two_digits}
+use Rattle.lc_time.specs.Digits.{two_digits, number_of}
 
 -- HH:MM:SS, of fewer than 100 hours
 abbrev pub clock_text_of : ℕ → List ℕ
@@ -20,10 +19,6 @@ pub record SaysGtfsTime (text : List ℕ) (seconds : ℕ) : Type 0 where
 -- HHMMSS, a start of fewer than 100 hours
 abbrev pub start_text_of : ℕ → List ℕ
 start_text_of start = two_digits (start / 3600) ++ two_digits (start / 60 % 60) ++ two_digits (start % 60)
-
--- the number that two bytes write
-abbrev pub number_of : ℕ → ℕ → ℕ
-number_of tens ones = digits_value 10 (tens ∷ ones ∷ [])
 
 -- two digits of hours, and two of minutes and of seconds up to 59
 abbrev pub are_clock_digits : (h h' m m' s s' : ℕ) → Bool

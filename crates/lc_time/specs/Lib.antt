@@ -5,3 +5,4 @@ pub mod Digits
 pub mod Http
 pub mod Iso
 pub mod Laws
+pub mod Zone

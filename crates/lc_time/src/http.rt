@@ -1,5 +1,6 @@
 ghost use Rattle.std.specs.Prelude.{◌≡◌, ℕ, reverse, Some, IfSome};
-ghost use Rattle.lc_time.specs.Http.{http_date_of, without_front_blanks, SaysHttpDate};
+ghost use Rattle.lc_time.specs.Http as spec;
+ghost use Rattle.lc_time.specs.Http.{http_date_of, SaysHttpDate};
 
 use httpdate::HttpDate;
 use lc_model::Moment;
@@ -20,15 +21,22 @@ pub fn read_http_date(text: &[u8]) -> Option<Moment>
     ensures said { IfSome result (SaysHttpDate text.now) }
     ensures exact { (moment : ℕ) → SaysHttpDate text.now moment → result ≡ Some moment }
 {
-    match HttpDate::parse_ascii(trim_end(trim_front(text))) {
+    match HttpDate::parse_ascii(without_blanks(text)) {
         Ok(date) => Moment::new(date.unix_secs()),
         Err(_) => None,
     }
 }
 
-/// The text without the spaces and tabs at its front.
-fn trim_front(mut text: &[u8]) -> &[u8]
-    ensures { result.now ≡ without_front_blanks text.now }
+/// The text without the spaces and tabs at its ends, which are the optional white space of RFC 9110, section 5.6.3.
+/// Linear in the text.
+pub fn without_blanks(text: &[u8]) -> &[u8]
+    ensures { result.now ≡ spec.without_blanks text.now }
+{
+    without_end_blanks(without_front_blanks(text))
+}
+
+fn without_front_blanks(mut text: &[u8]) -> &[u8]
+    ensures { result.now ≡ spec.without_front_blanks text.now }
 {
     while let [b' ' | b'\t', rest @ ..] = text {
         text = rest;
@@ -36,9 +44,8 @@ fn trim_front(mut text: &[u8]) -> &[u8]
     text
 }
 
-/// The text without the spaces and tabs at its end.
-fn trim_end(mut text: &[u8]) -> &[u8]
-    ensures { result.now ≡ reverse (without_front_blanks (reverse text.now)) }
+fn without_end_blanks(mut text: &[u8]) -> &[u8]
+    ensures { result.now ≡ reverse (spec.without_front_blanks (reverse text.now)) }
 {
     while let [rest @ .., b' ' | b'\t'] = text {
         text = rest;

@@ -1,5 +1,6 @@
-//! Moments, service dates and times of day as texts, each with one spelling that is read back exactly. It stands on
-//! `lc_model`, on the calendar of `jiff` and on `httpdate`.
+//! Moments, service dates, times of day and decimal numbers as texts: each reader takes exactly its grammar, and reads
+//! back what is written; and what the clock of a zone shows. It stands on `lc_model`, on the calendar and the zones of
+//! `jiff` and on `httpdate`.
 #![tactic(auto)]
 
 mod calendar;
@@ -11,10 +12,13 @@ mod iso;
 mod laws;
 #[cfg(test)]
 mod tests;
+mod zone;
 
 pub use calendar::days_at;
 pub use clock::{CLOCK_END, read_gtfs_time, read_start, start_text};
 pub use date::{date_text, read_date};
-pub use http::{http_date, read_http_date};
+pub use digits::{read_decimal, read_u32};
+pub use http::{http_date, read_http_date, without_blanks};
 pub use iso::{iso_text, read_iso};
 pub use laws::one_value_a_text;
+pub use zone::Zone;

@@ -1,8 +1,8 @@
 //! Values from outside: RFC 9110, section 5.6.7, the GTFS Schedule Reference, and the seconds and dates that the program
 //! `date` of GNU prints.
 use crate::{
-    date_text, http_date, iso_text, read_date, read_gtfs_time, read_http_date, read_iso,
-    read_start, start_text,
+    date_text, http_date, iso_text, read_date, read_decimal, read_gtfs_time, read_http_date,
+    read_iso, read_start, read_u32, start_text, without_blanks,
 };
 use lc_model::Moment;
 use std::test::Fail;
@@ -132,4 +132,37 @@ fn reads_dates(rt: HostRuntime) -> Result<(), Fail> {
     let date = read_date(b"20240501").ok_or("a date")?;
     assert_eq!(rt; (date.year, date.month, date.day), (2024, 5, 1));
     Ok(())
+}
+
+#[test]
+fn reads_numbers(rt: HostRuntime) {
+    for &(text, number) in &[
+        ("62", Some(62)),
+        ("0", Some(0)),
+        ("0000000062", Some(62)),
+        ("4294967295", Some(4_294_967_295)),
+        ("4294967296", Some(4_294_967_296)),
+        ("9999999999", Some(9_999_999_999)),
+        ("00000000062", None),
+        ("", None),
+        ("+62", None),
+        ("-62", None),
+        (" 62", None),
+        ("6:2", None),
+        ("6/2", None),
+        ("0x3E", None),
+    ] {
+        assert_eq!(rt; read_decimal(text.as_bytes()), number, "{text}");
+    }
+    assert_eq!(rt; read_u32(b"0062"), Some(62));
+    assert_eq!(rt; read_u32(b"4294967295"), Some(u32::MAX));
+    assert_eq!(rt; read_u32(b"4294967296"), None);
+    assert_eq!(rt; read_u32(b"6 2"), None);
+}
+
+#[test]
+fn drops_blanks(rt: HostRuntime) {
+    assert_eq!(rt; without_blanks(b" \t close, a\t "), b"close, a".as_slice());
+    assert_eq!(rt; without_blanks(b"\n close"), b"\n close".as_slice());
+    assert_eq!(rt; without_blanks(b"\t "), b"".as_slice());
 }
