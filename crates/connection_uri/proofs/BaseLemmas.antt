@@ -3,10 +3,13 @@ use Rattle.std.proofs.Common.{◌≡◌, ℕ, ◌^◌, ◌<◌, ◌⊎◌, inl, 
 use Rattle.std.specs.Prelude.{◌==◌, IfSome, slice_get}
 use Rattle.std.specs.List.{list_all}
 use Rattle.std.specs.Int.{IsInRange}
+use Rattle.std.specs.Str.{IsUtf8}
+use Rattle.std.proofs.lemmas.Str.{IsUtf8-from_ascii}
+use Rattle.std.proofs.lemmas.Str.Ascii.{IsAscii-from_all}
 use Rattle.std.proofs.lemmas.Bool.Decides.{nat_tests}
-use Rattle.std.proofs.lemmas.List.Elements.{All-nil, All-cons, All-weaker}
+use Rattle.std.proofs.lemmas.List.Elements.{All-nil, All-cons, All-append, All-weaker}
 use Rattle.std.proofs.lemmas.List.Folds.{list_all-append}
-use Rattle.std.proofs.lemmas.List.Sums.{list_all-from_AllPass}
+use Rattle.std.proofs.lemmas.List.Sums.{AllPass-from_list_all, list_all-from_AllPass}
 use Rattle.percent_encoding.specs.Percent.{IsKept}
 use Rattle.percent_encoding.specs.declared.ascii_set.TheConstants.{CONTROLS}
 use Rattle.percent_encoding.proofs.AsciiSetLemmas.{kept_from_outside}
@@ -30,7 +33,7 @@ use Rattle.url.proofs.OnLiterals.{url_on_literals}
 use Rattle.url.proofs.PathLemmas.{root_only, rooted}
 use Rattle.url.proofs.Theorems.{parse_url-serialize_special}
 use Rattle.url.specs.Scheme.{is_special, scheme_type, default_port}
-use Rattle.connection_uri.specs.Base.{BaseParts, is_visible, base_of, port_text, IsBareHttp, IsPlain, StandsBehind, IsBase, IsWrittenBase, BasesAreWritten, OneBase}
+use Rattle.connection_uri.specs.Base.{BaseParts, is_visible, is_path_byte, ReadsAsBase, BasesAreRead, base_of, port_text, IsBareHttp, IsPlain, StandsBehind, IsBase, IsWrittenBase, BasesAreWritten, OneBase}
 
 pub port_is : (o : Option ℕ) (rest : List ℕ) → (if is_some o then codes ":" else []) ++ (unwrap_or (option_map decimal o) [] ++ rest) ≡ port_text o ++ rest
 port_is None rest = refl
@@ -130,6 +133,32 @@ written base (url, is) = written_behind base url is
 
 pub url_said : (url : Parts) → IsValid url → IsBareHttp url → parse_url None (serialize url) ≡ Ok url
 url_said url valid bare = parse_url-serialize_special url None valid (http_kind url bare)
+
+visible_small : (b : ℕ) → is_visible b ≡ true → b < 128
+visible_small b h = grind (arith, nat_tests)
+
+path_small : (b : ℕ) → is_path_byte b ≡ true → b < 128
+path_small b h = grind (arith, nat_tests)
+
+ascii : (base : BaseParts) → IsWrittenBase base → IsUtf8 base.text
+ascii base is =
+    let P : ℕ → Type 0 = λ b. b < 128 in
+    let authority = All-weaker (λ b. is_visible b ≡ true) P visible_small base.authority (AllPass-from_list_all is_visible base.authority is.authority) in
+    let path = All-weaker (λ b. is_path_byte b ≡ true) P path_small base.path (AllPass-from_list_all is_path_byte base.path is.path.plain) in
+    let scheme = All-weaker (λ b. is_visible b ≡ true) P visible_small (codes "http://") (AllPass-from_list_all is_visible (codes "http://") refl) in
+    let text : List ℕ = codes "http://" ++ base.authority ++ base.path in
+    subst IsUtf8 (sym is.text_is) (IsUtf8-from_ascii text (IsAscii-from_all text (All-append P (codes "http://" ++ base.authority) base.path (All-append P (codes "http://") base.authority scheme authority) path)))
+
+read_behind : (base : BaseParts) (url : Parts) → StandsBehind base url → ReadsAsBase base.text url
+read_behind base url is = record {
+  utf8 = ascii base (written_behind base url is);
+  parsed = ap (λ (b : BaseParts). parse_url None b.text) is.is ∙ url_said url is.valid is.plain.bare;
+  plain = is.plain;
+}
+
+pub bases_are_read : BasesAreRead
+unfolding IsBase
+bases_are_read base (url, is) = (url, read_behind base url is, is.is)
 
 one_behind : (a b : BaseParts) (url url' : Parts) → StandsBehind a url → StandsBehind b url' → a.text ≡ b.text → a ≡ b
 one_behind a b url url' is is' same =

@@ -186,6 +186,10 @@ pub gate_said : (url : Parts) (departs : ℕ) → IsValid url → IsPlain url �
 gate_said url departs valid plain bound =
     ap (parse_url None) (sym (gate_text_is url departs valid plain)) ∙ parse_url-serialize_special (gate_of url departs) None (gate_valid url departs valid plain bound) (http_kind url plain.bare)
 
+pub page_said : (url : Parts) (name : PageName) → IsValid url → IsPlain url → name.version < 253_402_128_000 → name.departs < 253_402_128_000 → parse_url None (page_url_of (base_of url) name) ≡ Ok (page_of url name)
+page_said url name valid plain first second =
+    ap (parse_url None) (sym (page_text_is url name valid plain)) ∙ parse_url-serialize_special (page_of url name) None (page_valid url name valid plain first second) (http_kind url plain.bare)
+
 page_joined : (url : Parts) (departs : ℕ) (name : PageName) → IsValid url → IsPlain url → name.version < 253_402_128_000 → name.departs < 253_402_128_000 → parse_url (Some (gate_of url departs)) (page_url_of (base_of url) name) ≡ Ok (page_of url name)
 page_joined url departs name valid plain first second =
     ap (parse_url (Some (gate_of url departs))) (sym (page_text_is url name valid plain)) ∙ parse_url-serialize_special (page_of url name) (Some (gate_of url departs)) (page_valid url name valid plain first second) (http_kind url plain.bare)
@@ -198,6 +202,7 @@ joins_behind base url departs name is bound first second =
       url = page_of url name;
       base_said = gate_said url departs is.valid is.plain bound;
       joined = page_joined url departs name is.valid is.plain first second;
+      url_said = page_said url name is.valid is.plain first second;
       url_is = page_text_is url name is.valid is.plain;
     })
 

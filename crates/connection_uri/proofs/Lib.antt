@@ -6,3 +6,4 @@ pub mod MomentLemmas
 pub mod NameLemmas
 pub mod PageLemmas
 pub mod RelativeLemmas
+pub mod TwoSlashes

@@ -26,18 +26,18 @@ use Rattle.connection_uri.specs.Join.{Joins, PageTargetsJoin}
 use Rattle.connection_uri.specs.Page.{page_url_of, gate_url_of, page_target_of}
 use Rattle.connection_uri.proofs.BaseLemmas.{has_host, http_kind, path_list, begins}
 use Rattle.connection_uri.proofs.MomentLemmas.{IsMomentByte, moment_bytes}
-use Rattle.connection_uri.proofs.JoinLemmas.{page_query, gate_of, page_of, page_list, page_valid, page_text_is, gate_said}
+use Rattle.connection_uri.proofs.JoinLemmas.{page_query, gate_of, page_of, page_list, page_valid, page_said, page_text_is, gate_said}
 
 -- ---- nothing is trimmed, stripped or cut off as a fragment
 
 -- past `#`, of ASCII
-abbrev is_ink : ℕ → Bool
+abbrev pub is_ink : ℕ → Bool
 is_ink b = ltb 35 b && ltb b 127
 
-abbrev IsInk : ℕ → Type 0
+abbrev pub IsInk : ℕ → Type 0
 IsInk b = is_ink b ≡ true
 
-ink : (xs : List ℕ) → list_all is_ink xs ≡ true → All IsInk xs
+pub ink : (xs : List ℕ) → list_all is_ink xs ≡ true → All IsInk xs
 ink xs e = AllPass-from_list_all is_ink xs e
 
 no_hash : (b : ℕ) → IsInk b → IsNot 35 b
@@ -90,7 +90,7 @@ parts gate b rest query kind h k list =
     ∙ ap (λ r. and_then r (λ u. Ok (with_tail (before_tail u (Some query) None) (Some query) None))) (body gate b rest kind h k list)
     ∙ ap (λ (u : Parts). Ok (with_tail u (Some query) None)) (before_special (with_path (head_only gate) (47 ∷ b ∷ rest)) (Some query) None (ap is_special kind))
 
-whole : (gate : Parts) (rest query : List ℕ) → has_authority gate ≡ true → All IsInk ((47 ∷ rest) ++ 63 ∷ query) → All (IsNot 63) (47 ∷ rest) → parse_url (Some gate) ((47 ∷ rest) ++ 63 ∷ query) ≡ parse_parts gate.scheme (Some gate) (47 ∷ rest) (Some query) None
+pub whole : (gate : Parts) (rest query : List ℕ) → has_authority gate ≡ true → All IsInk ((47 ∷ rest) ++ 63 ∷ query) → All (IsNot 63) (47 ∷ rest) → parse_url (Some gate) ((47 ∷ rest) ++ 63 ∷ query) ≡ parse_parts gate.scheme (Some gate) (47 ∷ rest) (Some query) None
 unfolding parse_url
 whole gate rest query authority all none =
     let input : List ℕ = (47 ∷ rest) ++ 63 ∷ query in
@@ -103,10 +103,10 @@ whole gate rest query authority all none =
 
 -- ---- a page
 
-path_ink : (b : ℕ) → is_path_byte b ≡ true → IsInk b
+pub path_ink : (b : ℕ) → is_path_byte b ≡ true → IsInk b
 path_ink b h = grind (arith, nat_tests)
 
-path_no_mark : (b : ℕ) → is_path_byte b ≡ true → IsNot 63 b
+pub path_no_mark : (b : ℕ) → is_path_byte b ≡ true → IsNot 63 b
 path_no_mark b h e = grind arith
 
 moment_ink : (b : ℕ) → IsMomentByte b → IsInk b
@@ -115,7 +115,7 @@ moment_ink b h = grind (arith, nat_tests)
 iso : (m : ℕ) → m < 253_402_128_000 → All IsInk (iso_text_of m)
 iso m bound = All-weaker IsMomentByte IsInk moment_ink (iso_text_of m) (moment_bytes m bound)
 
-query_ink : (name : PageName) → name.version < 253_402_128_000 → name.departs < 253_402_128_000 → All IsInk (page_query name)
+pub query_ink : (name : PageName) → name.version < 253_402_128_000 → name.departs < 253_402_128_000 → All IsInk (page_query name)
 query_ink name first second =
     let version = iso_text_of name.version in
     let departs = iso_text_of name.departs in
@@ -150,7 +150,7 @@ read gate path query once kind authority list all none =
     (λ list' all' none'. whole gate (once.second ∷ once.rest) query authority all' none' ∙ parts gate once.second once.rest query kind once.no_slash once.no_backslash list')
     list all none
 
-target_is : (path v t : List ℕ) → path ++ codes "memento/connections?version=" ++ v ++ codes "&departureTime=" ++ t ≡ (path ++ codes "memento/connections") ++ 63 ∷ (codes "version=" ++ (v ++ (codes "&departureTime=" ++ t)))
+pub target_is : (path v t : List ℕ) → path ++ codes "memento/connections?version=" ++ v ++ codes "&departureTime=" ++ t ≡ (path ++ codes "memento/connections") ++ 63 ∷ (codes "version=" ++ (v ++ (codes "&departureTime=" ++ t)))
 target_is path v t = simp append_assoc
 
 tail_is : (url : Parts) (name : PageName) → IsPlain url → IsValid (page_of url name) → with_tail (page_of url name) (Some (page_query name)) None ≡ page_of url name
@@ -176,6 +176,7 @@ joins_behind base url departs name is once bound first second =
       url = page_of url name;
       base_said = gate_said url departs is.valid is.plain bound;
       joined = target_joined url departs name is.valid is.plain once' first second;
+      url_said = page_said url name is.valid is.plain first second;
       url_is = page_text_is url name is.valid is.plain;
     })
     once

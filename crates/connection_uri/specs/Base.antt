@@ -2,6 +2,7 @@
 use Rattle.std.specs.Prelude.{◌≡◌, ℕ, ◌-◌, ◌≤◌, Bool, true, ◌&&◌, ◌||◌, nat_lt, ◌==◌, List, [], ◌++◌, length, slice_get, codes, decimal, Option, Some, None, Ok}
 use Rattle.std.specs.List.{list_all}
 use Rattle.std.specs.Str.{IsUtf8}
+use Rattle.url.specs.Ascii.{percent_sign, slash}
 use Rattle.url.specs.Host.{host_text}
 use Rattle.url.specs.Parser.{parse_url}
 use Rattle.url.specs.Parts.{Parts, host_or_empty, serialize, IsValid}
@@ -15,7 +16,7 @@ pub record BaseParts : Type 0 where
 
 -- a byte that the path of a base may have: unreserved, `%` or `/`
 abbrev pub is_path_byte : ℕ → Bool
-is_path_byte byte = is_unreserved byte || (byte == 37) || (byte == 47)
+is_path_byte byte = is_unreserved byte || (byte == percent_sign) || (byte == slash)
 
 -- a byte that an authority may have: visible ASCII
 abbrev pub is_visible : ℕ → Bool
@@ -23,7 +24,7 @@ is_visible byte = nat_lt 32 byte && nat_lt byte 127
 
 -- the path ends with a slash, and has plain bytes alone
 pub record IsPlainPath (path : List ℕ) : Type 0 where
-  pub ends : slice_get path (length path - 1) ≡ Some 47
+  pub ends : slice_get path (length path - 1) ≡ Some slash
   pub plain : list_all is_path_byte path ≡ true
 
 -- a URL of http with an authority without user name and password, and with a path, and nothing else
@@ -69,7 +70,7 @@ IsBase base = (url : Parts) × StandsBehind base url
 pub record IsWrittenBase (base : BaseParts) : Type 0 where
   pub text_is : base.text ≡ codes "http://" ++ base.authority ++ base.path
   pub authority : list_all is_visible base.authority ≡ true
-  pub begins : slice_get base.path 0 ≡ Some 47
+  pub begins : slice_get base.path 0 ≡ Some slash
   pub path : IsPlainPath base.path
   pub text_len : length base.text ≤ 4096
 
@@ -80,3 +81,7 @@ BasesAreWritten = (base : BaseParts) → IsBase base → IsWrittenBase base
 -- a base is known by its text
 abbrev pub OneBase : Type 0
 OneBase = (a b : BaseParts) → IsBase a → IsBase b → a.text ≡ b.text → a ≡ b
+
+-- a base is what its own text reads as
+abbrev pub BasesAreRead : Type 0
+BasesAreRead = (base : BaseParts) → IsBase base → (url : Parts) × ReadsAsBase base.text url × (base ≡ base_of url)

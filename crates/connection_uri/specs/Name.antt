@@ -1,5 +1,6 @@
 -- The names of connections.
 use Rattle.std.specs.Prelude.{◌≡◌, ◌≢◌, ℕ, ◌<◌, ◌^◌, List, [], ◌∷◌, ◌++◌, codes, decimal, Option, Some, None}
+use Rattle.url.specs.Ascii.{slash}
 use Rattle.lc_model.specs.Text.{IsIdText}
 use Rattle.lc_model.specs.declared.key.RunKey.{RunKey}
 use Rattle.lc_time.specs.Clock.{start_text_of}
@@ -31,4 +32,4 @@ NamesDiffer =
 -- no byte of the text is a slash
 abbrev pub HasNoSlash : List ℕ → Type 0
 HasNoSlash [] = Unit {0}
-HasNoSlash (byte ∷ rest) = (byte ≢ 47) × HasNoSlash rest
+HasNoSlash (byte ∷ rest) = (byte ≢ slash) × HasNoSlash rest

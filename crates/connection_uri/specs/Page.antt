@@ -1,5 +1,5 @@
 -- The URLs of pages, and the targets of requests under a base.
-use Rattle.std.specs.Prelude.{ℕ, List, ◌++◌, codes}
+use Rattle.std.specs.Prelude.{◌≡◌, ℕ, ◌<◌, List, ◌++◌, codes}
 use Rattle.lc_model.specs.declared.page.PageName.{PageName}
 use Rattle.lc_time.specs.Iso.{iso_text_of}
 use Rattle.connection_uri.specs.Base.{BaseParts}
@@ -9,6 +9,11 @@ abbrev pub page_url_of : BaseParts → PageName → List ℕ
 page_url_of base name =
     base.text ++ codes "memento/connections?version=" ++ iso_text_of name.version ++ codes "&departureTime="
     ++ iso_text_of name.departs
+
+-- different pages have different URLs
+abbrev pub PageUrlsDiffer : Type 0
+PageUrlsDiffer =
+    (base : BaseParts) (a b : PageName) → a.version < 253_402_128_000 → a.departs < 253_402_128_000 → b.version < 253_402_128_000 → b.departs < 253_402_128_000 → page_url_of base a ≡ page_url_of base b → a ≡ b
 
 -- the same of any two texts for the moments, grouped from the right
 abbrev pub page_parts_of : BaseParts → List ℕ → List ℕ → List ℕ

@@ -1,5 +1,6 @@
 -- The parts of a name behind its base.
 use Rattle.std.specs.Prelude.{◌≡◌, ℕ, List, ◌∷◌, ◌++◌, decimal}
+use Rattle.url.specs.Ascii.{slash}
 use Rattle.lc_model.specs.declared.key.RunKey.{RunKey}
 use Rattle.lc_time.specs.Date.{date_text_of}
 use Rattle.connection_uri.specs.declared.parts.NameParts.{NameParts}
@@ -8,7 +9,7 @@ use Rattle.connection_uri.specs.Name.{start_part_of}
 
 -- the parts with a slash between each two
 abbrev pub joined : NameParts → List ℕ
-joined p = p.trip.now ++ 47 ∷ (p.date.now ++ 47 ∷ (p.start.now ++ 47 ∷ p.sequence.now))
+joined p = p.trip.now ++ slash ∷ (p.date.now ++ slash ∷ (p.start.now ++ slash ∷ p.sequence.now))
 
 -- the parts are those of the name of this run and sequence
 pub record ArePartsOf (key : RunKey) (sequence : ℕ) (p : NameParts) : Type 0 where

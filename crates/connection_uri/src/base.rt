@@ -2,7 +2,7 @@ ghost use Rattle.std.specs.Prelude.{◌≡◌, ◌↔◌, [], IsTrue, codes, Non
 ghost use Rattle.std.specs.List.{list_all};
 ghost use Rattle.std.specs.Option.{option_copied};
 ghost use Rattle.url.specs.Parts.{Parts, IsValid};
-ghost use Rattle.connection_uri.specs.Base.{is_path_byte, base_of, IsPlainPath, IsBareHttp, IsPlain, IsBase, ReadsAsBase, BasesAreWritten, OneBase};
+ghost use Rattle.connection_uri.specs.Base.{is_path_byte, base_of, IsPlainPath, IsBareHttp, IsPlain, IsBase, ReadsAsBase, BasesAreWritten, BasesAreRead, OneBase};
 
 use crate::encoding::is_unreserved;
 use lc_model::NoMemory;
@@ -85,6 +85,11 @@ impl Base {
 /// Every base's text is `http://`, its authority, which is visible ASCII, and its path, which begins and ends with a slash.
 pub fn bases_are_written()
     ensures { BasesAreWritten }
+{}
+
+/// Every base is what its own text reads as.
+pub fn bases_are_read()
+    ensures { BasesAreRead }
 {}
 
 /// Bases with the same text are the same.

@@ -2,8 +2,8 @@ ghost use Rattle.std.specs.Prelude.{◌≡◌, ◌++◌, ◌<◌, ℕ, List, len
 ghost use Rattle.std.specs.String.{string_bytes};
 ghost use Rattle.lc_model.specs.declared.page.PageName.{PageName as Named};
 ghost use Rattle.lc_time.specs.Iso.{iso_text_of};
-ghost use Rattle.connection_uri.specs.Join.{PageUrlsJoin, PageTargetsJoin};
-ghost use Rattle.connection_uri.specs.Page.{page_url_of, page_parts_of};
+ghost use Rattle.connection_uri.specs.Join.{PageUrlsJoin, PageTargetsJoin, PageTargetsJoinNowhere};
+ghost use Rattle.connection_uri.specs.Page.{page_url_of, page_parts_of, PageUrlsDiffer};
 
 use crate::Base;
 use crate::parts::{behind_base, split_at_mark};
@@ -78,12 +78,19 @@ fn read_iso_text(text: &[u8]) -> Option<Moment>
     }
 }
 
+/// Different pages have different URLs under a base.
+pub fn page_urls_differ()
+    ensures { PageUrlsDiffer }
+{}
+
 /// The URL of a page, joined to the time gate's, is that URL.
 pub fn page_urls_join()
     ensures { PageUrlsJoin }
 {}
 
-/// So is the URL from its path on, where the base's path does not begin with two slashes.
+/// So is the URL from its path on, exactly where the base's path does not begin with two slashes: behind two an
+/// authority is read, so that no base is left out which could be in.
 pub fn page_targets_join()
-    ensures { PageTargetsJoin }
+    ensures once { PageTargetsJoin }
+    ensures twice { PageTargetsJoinNowhere }
 {}

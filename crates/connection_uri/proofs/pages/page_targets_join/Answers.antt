@@ -1,5 +1,9 @@
-use Rattle.connection_uri.proofs.RelativeLemmas as lemmas
+use Rattle.connection_uri.proofs.RelativeLemmas.{page_targets_join}
+use Rattle.connection_uri.proofs.TwoSlashes.{page_targets_join_nowhere}
 use Rattle.connection_uri.proofs.pages.page_targets_join.Goals as goal
 
-pub returns : goal.returns
-returns c = lemmas.page_targets_join
+pub returns-clause-once : goal.returns-clause-once
+returns-clause-once c = page_targets_join
+
+pub returns-clause-twice : goal.returns-clause-twice
+returns-clause-twice c = page_targets_join_nowhere
