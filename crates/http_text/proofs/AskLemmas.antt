@@ -11,7 +11,7 @@ use Rattle.lc_time.proofs.HttpLemmas.{says_date}
 use Rattle.http_text.specs.declared.request.Request.{Request}
 use Rattle.http_text.specs.Fields.{texts_of, values_of, closes}
 use Rattle.http_text.specs.Line.{moment_line}
-use Rattle.http_text.specs.Members.{members}
+use Rattle.http_text.specs.Elements.{elements}
 use Rattle.http_text.specs.Reply.{first_of, IsMomentOf}
 use Rattle.http_text.specs.Request.{field_said, refusal_of_head, body_len, request_of, IsWholeRequest}
 use Rattle.http_text.specs.RequestText.{request_text_of, CanAsk, field_text, dates_of, known_values, SaysGet}
@@ -122,7 +122,7 @@ bodiless authority target (Some m) = refl
 -- ---- what it says
 
 ends : (authority target : List ℕ) (k : Option ℕ) → closes 1 (texts_of (fields_from (entries authority k))) ≡ true
-unfolding trim_ows members
+unfolding trim_ows elements
 ends authority target None = refl
 ends authority target (Some m) = refl
 

@@ -10,7 +10,7 @@ use Rattle.std.proofs.lemmas.List.Sums.{AllPass-from_list_all, list_all-from_All
 use Rattle.std.proofs.lemmas.Fmt.{decimal_by_steps, decimal_is_IsNumeral, length-decimal-le, decimal_nonempty}
 use Rattle.httparse.specs.Grammar.{AllPass, is_uri_byte, is_value_byte, is_ows, skip_ows, trim_ows}
 use Rattle.connection_uri.specs.Base.{is_visible}
-use Rattle.http_text.specs.Length.{is_length}
+use Rattle.lc_time.specs.Digits.{is_decimal}
 
 -- ---- dropping blanks
 
@@ -87,7 +87,7 @@ pub decimal_visible : (n : ℕ) → n < 2 ^ 64 → AllPass is_uri_byte (decimal 
 decimal_visible n h = AllPass-from_list_all is_uri_byte (decimal n) (digits_visible (decimal n) (decimal_digits n h))
 
 -- a number below 10,000,000,000 is a length
-pub decimal_length : (n : ℕ) → n < 10 ^ 10 → (is_length (decimal n) ≡ true) × (digits_value 10 (decimal n) ≡ n)
+pub decimal_length : (n : ℕ) → n < 10 ^ 10 → (is_decimal (decimal n) ≡ true) × (digits_value 10 (decimal n) ≡ n)
 decimal_length n h =
     let small : n < 2 ^ 64 = omega arith in
     let some = lt-ltb _ _ (decimal_nonempty n small) in

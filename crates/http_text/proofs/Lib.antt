@@ -1,4 +1,4 @@
-pub mod MemberLemmas
+pub mod ElementLemmas
 pub mod PlaceLemmas
 pub mod HeadLemmas
 pub mod OpenLemmas
@@ -6,6 +6,7 @@ pub mod TakenLemmas
 pub mod StayLemmas
 pub mod StartLemmas
 pub mod ReplyLemmas
+pub mod MessageLemmas
 pub mod ByteLemmas
 pub mod DateLemmas
 pub mod EntryLemmas

@@ -1,5 +1,5 @@
 -- What is taken of what stands at the front of the bytes, and how many bytes another answer needs.
-use Rattle.std.proofs.Common.{◌≡◌, ◌≢◌, ℕ, suc, ◌<◌, ◌⊎◌, inl, inr, Bool, cond, List, [], ◌∷◌, ◌++◌, length, Option, Some, None, refl, sym, ap, subst, ◌∙◌, arith, append-nil, length-append}
+use Rattle.std.proofs.Common.{◌≡◌, ◌≢◌, ℕ, suc, ◌+◌, ◌<◌, ◌⊎◌, inl, inr, Bool, cond, List, [], ◌∷◌, ◌++◌, length, Option, Some, None, refl, sym, ap, subst, ◌∙◌, arith, add-one, append-nil, length-append}
 use Rattle.std.proofs.lemmas.Bool.{cases_lt, lt-ltb, le-ltb, le-leb, lt-leb}
 use Rattle.httparse.specs.Grammar.{RequestHead, NeverHasRequest, EndsInTarget}
 use Rattle.http_text.specs.declared.start.Start.{Start}
@@ -7,7 +7,7 @@ use Rattle.http_text.specs.declared.start.Start.TheVariants as starts
 use Rattle.http_text.specs.declared.taken.Taken.TheVariants.{Whole, NotYet, Refused}
 use Rattle.http_text.specs.Request.{refusal_of_head, front_of}
 use Rattle.http_text.specs.Start.{IsStart, judged, start_taken, start_waits}
-use Rattle.http_text.specs.Taken.{Takes, HasHead, WaitsFor, taken_of, needed, with_body, open_taken}
+use Rattle.http_text.specs.Taken.{Takes, HasHead, IsOpen, WaitsFor, taken_of, needed, with_body, open_taken}
 use Rattle.http_text.proofs.HeadLemmas.{one_head, hope}
 use Rattle.http_text.proofs.StayLemmas.{head_stays}
 use Rattle.http_text.proofs.TakenLemmas.{no_head}
@@ -89,6 +89,17 @@ needs_start bytes start (inl (k, has, is)) e h here =
     ap (λ (s : Start). start_waits s (length bytes)) is ∙ waits.0 ∙ ap needed (one_head bytes k h has here)
 needs_start bytes start (inr (inl (none, is))) e h here = absurd (none.0 h here.0 here.1)
 needs_start bytes start (inr (inr (never, is))) e h here = absurd (hope bytes h here never)
+
+-- an open head waits for one more byte
+pub opens_start : (bytes : List ℕ) (start : Start) → IsStart bytes start → start_taken start (length bytes) ≡ NotYet → IsOpen bytes → start_waits start (length bytes) ≡ length bytes + 1
+opens_start bytes start (inl (h, has, is)) e none = absurd (none.0 h has.0 has.1)
+opens_start bytes start (inr (inl (none, is))) e here =
+    ap (λ (s : Start). start_waits s (length bytes)) is
+    ∙ open_waits (length bytes) (ap (λ (s : Start). start_taken s (length bytes)) (sym is) ∙ e) ∙ sym (add-one (length bytes))
+opens_start bytes start (inr (inr (never, is))) e here = absurd (refused_not (ap (λ (s : Start). start_taken s (length bytes)) (sym is) ∙ e))
+  where
+    refused_not : Refused 400 ≡ NotYet → ⊥
+    refused_not e = cc
 
 -- after any other answer nothing is waited for
 pub rests_start : (start : Start) (got : ℕ) → start_taken start got ≢ NotYet → start_waits start got ≡ 0

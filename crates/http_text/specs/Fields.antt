@@ -5,7 +5,7 @@ use Rattle.std.specs.Str.{str_eq_ignore_ascii_case}
 use Rattle.httparse.specs.Grammar.{Field}
 use Rattle.httparse.specs.Spans.{name_and_value}
 use Rattle.lc_time.specs.Http.{without_blanks}
-use Rattle.http_text.specs.Members.{members}
+use Rattle.http_text.specs.Elements.{elements}
 use Rattle.http_text.specs.declared.connection.Quoting.TheVariants.{Outside}
 
 -- a field as its name and its value, without the blanks around the value
@@ -24,14 +24,14 @@ is_named name field = str_eq_ignore_ascii_case field.0 name
 abbrev pub values_of : List ℕ → List FieldText → List (List ℕ)
 values_of name fields = map (λ (f : FieldText). f.1) (filter (is_named name) fields)
 
--- the member of a list is the word `close`
+-- the element of a list is the word `close`
 abbrev pub is_close : List ℕ → Bool
-is_close member = str_eq_ignore_ascii_case (without_blanks member) (codes "close")
+is_close element = str_eq_ignore_ascii_case (without_blanks element) (codes "close")
 
--- a member of the list is the word `close`
+-- an element of the list is the word `close`
 abbrev pub has_close : List ℕ → Bool
-has_close value = list_any is_close (members Outside value)
+has_close value = list_any is_close (elements Outside value)
 
--- the connection ends after the message: HTTP/1.0, or `close` as a member of a Connection field
+-- the connection ends after the message: HTTP/1.0, or `close` as an element of a Connection field
 abbrev pub closes : ℕ → List FieldText → Bool
 closes minor fields = (minor == 0) || list_any has_close (values_of (codes "connection") fields)

@@ -1,19 +1,14 @@
 -- The length of a body as the fields of a head say it (RFC 9110, section 8.6).
-use Rattle.std.specs.Prelude.{ℕ, Bool, true, false, ◌&&◌, nat_lt, nat_le, List, [], ◌∷◌, length, codes, if◌then◌else◌}
-use Rattle.std.specs.List.{list_all}
-use Rattle.std.specs.Char.{is_ascii_digit}
+use Rattle.std.specs.Prelude.{ℕ, Bool, true, false, List, [], ◌∷◌, codes, if◌then◌else◌}
 use Rattle.std.specs.Str.Parse.{digits_value}
+use Rattle.lc_time.specs.Digits.{is_decimal}
 use Rattle.http_text.specs.declared.length.Length.{Length}
 use Rattle.http_text.specs.declared.length.Length.TheVariants.{Missing, Said, Wrong}
 use Rattle.http_text.specs.Fields.{FieldText, values_of}
 
--- one to ten digits
-abbrev pub is_length : List ℕ → Bool
-is_length value = nat_lt 0 (length value) && nat_le (length value) 10 && list_all is_ascii_digit value
-
--- the number that the value writes
+-- the number that the value writes, in one to ten digits
 abbrev pub length_at : List ℕ → Length
-length_at value = if is_length value then Said (digits_value 10 value) else Wrong
+length_at value = if is_decimal value then Said (digits_value 10 value) else Wrong
 
 -- what the values of the Content-Length fields say: one length, and no second one, even an equal one
 abbrev pub length_in : List (List ℕ) → Length

@@ -1,7 +1,8 @@
+pub mod Bytes
+pub mod Elements
 pub mod Fields
 pub mod Length
 pub mod Line
-pub mod Members
 pub mod Named
 pub mod OpenTarget
 pub mod Reply

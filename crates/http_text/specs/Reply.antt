@@ -1,5 +1,5 @@
 -- Replies as a client reads them (RFC 9112, sections 4 and 6; RFC 7089, section 2.1).
-use Rattle.std.specs.Prelude.{◌≡◌, ℕ, ◌+◌, ◌-◌, ◌⊎◌, nat_lt, List, [], ◌∷◌, length, codes, Option, Some, None, MatchOption, IsUtf8, if◌then◌else◌}
+use Rattle.std.specs.Prelude.{◌≡◌, ℕ, ◌+◌, ◌-◌, ◌⊎◌, nat_lt, List, [], ◌∷◌, length, codes, Option, Some, None, MatchOption, Result, Ok, Err, IsUtf8, if◌then◌else◌}
 use Rattle.httparse.specs.Grammar.{ResponseHead, print_response, ReadsResponse, status_code, HasNoResponse, MayBecomeResponse, NeverHasResponse}
 use Rattle.lc_time.specs.Http.{SaysHttpDate}
 use Rattle.http_text.specs.declared.reply.Reply.{Reply}
@@ -70,3 +70,8 @@ abbrev pub HasFault : List ℕ → ReplyFault → Type 0
 HasFault bytes fault =
     HasHeadFault bytes fault
     ⊎ ((h : ResponseHead) × HasReplyHead bytes h × (fault_of (texts_of h.fields) (behind bytes h) ≡ Some fault))
+
+-- what the bytes are to a client: a reply, or their first fault
+abbrev pub IsRead : List ℕ → Result Reply ReplyFault → Type 0
+IsRead bytes (Ok reply) = IsReply bytes reply
+IsRead bytes (Err fault) = HasFault bytes fault

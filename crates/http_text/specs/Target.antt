@@ -4,12 +4,13 @@ use Rattle.std.specs.List.{before_first, after_first}
 use Rattle.std.specs.Str.{str_eq_ignore_ascii_case}
 use Rattle.std.specs.Str.Lossy.{utf8_lossy}
 use Rattle.form_urlencoded.specs.Form.{decode, raw_pairs}
+use Rattle.http_text.specs.Bytes.{slash, question_mark}
 use Rattle.http_text.specs.declared.member.Member.{Member}
 
 -- the target begins with a slash
 abbrev pub is_origin_form : List ℕ → Bool
 is_origin_form [] = false
-is_origin_form (byte ∷ rest) = byte == 47
+is_origin_form (byte ∷ rest) = byte == slash
 
 -- the target begins with http://, without regard to case
 abbrev pub is_absolute_form : List ℕ → Bool
@@ -17,7 +18,7 @@ is_absolute_form target = str_eq_ignore_ascii_case (take 7 target) (codes "http:
 
 -- what the target is from its path on: an authority ends at the first slash or question mark
 abbrev pub ends_authority : ℕ → Bool
-ends_authority byte = (byte == 47) || (byte == 63)
+ends_authority byte = (byte == slash) || (byte == question_mark)
 
 -- the bytes from the first one on that passes the test
 abbrev pub from_first : (ℕ → Bool) → List ℕ → List ℕ
@@ -34,11 +35,11 @@ or_slash (byte ∷ path) = byte ∷ path
 
 -- the path, up to the first question mark and not decoded
 abbrev pub path_of : List ℕ → List ℕ
-path_of target = or_slash (before_first (λ b. b == 63) (behind_authority target))
+path_of target = or_slash (before_first (λ b. b == question_mark) (behind_authority target))
 
 -- what follows the first question mark
 abbrev pub query_of : List ℕ → List ℕ
-query_of target = after_first (λ b. b == 63) (behind_authority target)
+query_of target = after_first (λ b. b == question_mark) (behind_authority target)
 
 -- A text of a query, decoded: `+` is a space, escapes are decoded, and what is no UTF-8 becomes U+FFFD.
 abbrev pub decoded_text : List ℕ → List ℕ

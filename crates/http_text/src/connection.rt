@@ -1,13 +1,13 @@
-ghost use Rattle.std.specs.Prelude.{◌≡◌, ◌<◌, [], ◌∷◌, length, reverse, All, IfSome, MatchOption};
-ghost use Rattle.lc_time.specs.Http.{without_front_blanks};
+ghost use Rattle.std.specs.Prelude.{◌≡◌, ◌<◌, [], ◌∷◌, length, All, IfSome, MatchOption};
 ghost use Rattle.http_text.specs.declared.connection.Quoting.TheVariants.{Outside as Start};
-ghost use Rattle.http_text.specs.Members.{members, is_part, quoting_after};
+ghost use Rattle.http_text.specs.Elements.{elements, is_part, quoting_after};
 ghost use Rattle.httparse.specs.Spans.{IsHeaderWithin};
 ghost use Rattle.http_text.specs.Fields.{is_close, has_close, closes};
 ghost use Rattle.http_text.specs.Named.{texts_at};
 
 use crate::named::{is_named, is_same};
 use httparse::spans::HeaderSpan;
+use lc_time::without_blanks;
 
 /// Whether the connection ends after the message (RFC 9112, section 9.6). Takes time linear in the bytes of the fields.
 pub fn closes(bytes: &[u8], fields: &[HeaderSpan], minor: u8) -> bool
@@ -23,13 +23,13 @@ pub fn closes(bytes: &[u8], fields: &[HeaderSpan], minor: u8) -> bool
     close
 }
 
-/// Whether a member of the list is the word `close`.
+/// Whether an element of the list is the word `close`.
 fn has_close(value: &[u8]) -> bool
     ensures { result ≡ has_close value.now }
 {
     let mut rest = value;
-    while let Some((member, others)) = split_at_comma(rest) {
-        if is_close(member) {
+    while let Some((element, others)) = split_at_comma(rest) {
+        if is_close(element) {
             return true;
         }
         rest = others;
@@ -45,11 +45,11 @@ enum Quoting {
     Escaped,
 }
 
-/// The first member of a list, and the others, if there are others.
+/// The first element of a list, and the others, if there are others.
 fn split_at_comma(list: &[u8]) -> Option<(&[u8], &[u8])>
     ensures shorter { IfSome result (λ parts. length parts.1.now < length list.now) }
-    ensures parts { MatchOption result (members Start list.now ≡ list.now ∷ [])
-        (λ parts. members Start list.now ≡ parts.0.now ∷ members Start parts.1.now) }
+    ensures parts { MatchOption result (elements Start list.now ≡ list.now ∷ [])
+        (λ parts. elements Start list.now ≡ parts.0.now ∷ elements Start parts.1.now) }
 {
     let mut quoting = Quoting::Outside;
     for (at, byte) in list.iter().enumerate() {
@@ -61,7 +61,7 @@ fn split_at_comma(list: &[u8]) -> Option<(&[u8], &[u8])>
     None
 }
 
-/// Whether the byte parts the members: a comma outside of quoted strings.
+/// Whether the byte parts the elements: a comma outside of quoted strings.
 fn is_part(quoting: Quoting, byte: u8) -> bool
     ensures { result ≡ is_part quoting byte }
 {
@@ -84,28 +84,8 @@ fn quoting_after(quoting: Quoting, byte: u8) -> Quoting
     }
 }
 
-fn is_close(member: &[u8]) -> bool
-    ensures { result ≡ is_close member.now }
+fn is_close(element: &[u8]) -> bool
+    ensures { result ≡ is_close element.now }
 {
-    is_same(trim_end(trim_front(member)), b"close")
-}
-
-/// The text without the spaces and tabs at its front.
-fn trim_front(mut text: &[u8]) -> &[u8]
-    ensures { result.now ≡ without_front_blanks text.now }
-{
-    while let [b' ' | b'\t', rest @ ..] = text {
-        text = rest;
-    }
-    text
-}
-
-/// The text without the spaces and tabs at its end.
-fn trim_end(mut text: &[u8]) -> &[u8]
-    ensures { result.now ≡ reverse (without_front_blanks (reverse text.now)) }
-{
-    while let [rest @ .., b' ' | b'\t'] = text {
-        text = rest;
-    }
-    text
+    is_same(without_blanks(element), b"close")
 }

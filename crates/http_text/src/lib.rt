@@ -31,7 +31,7 @@ mod tests;
 pub use answering::reply_text;
 pub use asking::request_text;
 pub use field::{Field, Fields};
-pub use laws::{targets_are_good, targets_are_read};
+pub use laws::{one_message, some_reply, targets_are_good, targets_are_read};
 pub use member::{Member, Members};
 pub use reading::read_request;
 pub use reply::Reply;

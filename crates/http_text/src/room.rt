@@ -1,4 +1,4 @@
-ghost use Rattle.std.specs.Prelude.{◌≡◌, ◌≢◌, ◌≤◌, ◌⊎◌, ℕ, Ok, Err, length, take, IfOk, IfErr, vec_len};
+ghost use Rattle.std.specs.Prelude.{◌≡◌, ◌≢◌, ◌+◌, ◌≤◌, ◌⊎◌, ℕ, Ok, Err, length, take, IfOk, IfErr, vec_len};
 ghost use Rattle.httparse.specs.Grammar.{RequestHead};
 ghost use Rattle.http_text.specs.declared.reply.Reply.{Reply as Said};
 ghost use Rattle.http_text.specs.declared.reply_fault.ReplyFault.{ReplyFault as Fault};
@@ -7,7 +7,7 @@ ghost use Rattle.http_text.specs.declared.taken.Taken.{Taken as Answer};
 ghost use Rattle.http_text.specs.declared.taken.Taken.TheVariants.{Whole as WholeRequest, NotYet as Later};
 ghost use Rattle.http_text.specs.Reply.{IsReply, HasFault};
 ghost use Rattle.http_text.specs.Request.{IsWhole};
-ghost use Rattle.http_text.specs.Taken.{Takes, HasHead, WaitsFor, needed};
+ghost use Rattle.http_text.specs.Taken.{Takes, HasHead, IsOpen, WaitsFor, needed};
 
 use crate::reply_reading::reply_in;
 use crate::start::start_in;
@@ -52,8 +52,10 @@ impl HeadRoom {
         ensures only { (other : Answer) → Takes bytes.now other → result ≡ other }
         ensures whole { (n : ℕ) → result ≡ WholeRequest n → (n ≤ length bytes.now) × IsWhole (take n bytes.now) }
         ensures every_whole { (n : ℕ) → n ≤ length bytes.now → IsWhole (take n bytes.now) → result ≡ WholeRequest n }
-        // The room keeps how many bytes in all another answer needs; of a complete head those of its request.
+        // The room keeps how many bytes in all another answer needs: of a complete head those of its request, and of
+        // an open one, of which no more is known, one more than there are.
         ensures waits { result ≡ Later → WaitsFor bytes.now self.new.waits_for }
+        ensures waits_for_head { result ≡ Later → IsOpen bytes.now → self.new.waits_for ≡ length bytes.now + 1 }
         ensures waits_for_body { result ≡ Later → (h : RequestHead) → HasHead bytes.now h
             → self.new.waits_for ≡ needed h }
         ensures waits_no_more { result ≢ Later → self.new.waits_for ≡ 0 }

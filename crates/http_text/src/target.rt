@@ -1,5 +1,6 @@
 ghost use Rattle.std.specs.Prelude.{◌≡◌, ◌||◌, ◌==◌};
 ghost use Rattle.std.specs.List.{before_first, after_first};
+ghost use Rattle.http_text.specs.Bytes.{question_mark};
 ghost use Rattle.http_text.specs.Target.{is_origin_form, is_absolute_form, ends_authority, from_first, behind_authority, path_of, query_of};
 
 use crate::front::{first, first_place};
@@ -70,8 +71,8 @@ fn from_authority_end(mut bytes: &[u8]) -> &[u8]
 
 /// What stands before the first question mark, and what follows it.
 fn split_at_mark(bytes: &[u8]) -> (&[u8], &[u8])
-    ensures before { result.0.now ≡ before_first (λ b. b == 63) bytes.now }
-    ensures after { result.1.now ≡ after_first (λ b. b == 63) bytes.now }
+    ensures before { result.0.now ≡ before_first (λ b. b == question_mark) bytes.now }
+    ensures after { result.1.now ≡ after_first (λ b. b == question_mark) bytes.now }
 {
     match first_place(bytes, b'?') {
         Some(at) => (&bytes[..at], &bytes[at + 1..]),

@@ -1,6 +1,6 @@
 use Rattle.std.proofs.Common.{sym, subst, ◌∙◌}
 use Rattle.http_text.specs.Taken.{Takes, WaitsFor}
-use Rattle.http_text.proofs.StartLemmas.{takes_start, waits_start, needs_start}
+use Rattle.http_text.proofs.StartLemmas.{takes_start, waits_start, needs_start, opens_start}
 use Rattle.http_text.proofs.TakenLemmas.{one_answer, whole_is, every_whole}
 use Rattle.http_text.proofs.room.HeadRoom.take_request.Goals as goal
 
@@ -25,3 +25,8 @@ pub returns-clause-waits_for_body : goal.returns-clause-waits_for_body
 returns-clause-waits_for_body c = λ later h has.
     c.waits_for-self.ensures
     ∙ needs_start c.args.bytes.now c.start_in-start.result c.start_in-start.ensures (sym c.taken.ensures ∙ later) h has
+
+pub returns-clause-waits_for_head : goal.returns-clause-waits_for_head
+returns-clause-waits_for_head c = λ later none.
+    c.waits_for-self.ensures
+    ∙ opens_start c.args.bytes.now c.start_in-start.result c.start_in-start.ensures (sym c.taken.ensures ∙ later) none
