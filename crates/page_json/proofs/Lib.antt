@@ -1,4 +1,5 @@
 pub mod ConnectionLaw
+pub mod Decisions
 pub mod Each
 pub mod JsonLaw
 pub mod MembersLaw
@@ -6,7 +7,9 @@ pub mod OneResult
 pub mod PageLaw
 pub mod ReadingLaw
 pub mod Readings
+pub mod SaysDecided
 pub mod SaysLaw
 pub mod SomeResult
 pub mod StopsLaw
 pub mod TokensLaw
+pub mod ValidResult

@@ -6,6 +6,7 @@ use Rattle.lc_model.specs.declared.key.RunKey.{RunKey}
 use Rattle.lc_model.specs.declared.page.PageName.{PageName}
 use Rattle.lc_time.specs.Iso.{SaysMoment, iso_text_of}
 use Rattle.lc_time.proofs.IsoLemmas.{says_text}
+use Rattle.lc_time.proofs.OneText.{one_moment}
 use Rattle.connection_uri.specs.Base.{BaseParts}
 use Rattle.connection_uri.specs.Name.{name_of}
 use Rattle.connection_uri.specs.Page.{page_url_of}
@@ -21,7 +22,7 @@ use Rattle.page_json.specs.Tree.{allowed_text}
 use Rattle.page_json.specs.Urls.{stop_url_of}
 use Rattle.page_json.proofs.JsonLaw.{IsWritable}
 use Rattle.page_json.proofs.ReadingLaw.{Reads, reads_after, reads_said}
-use Rattle.page_json.proofs.SaysLaw.{one_moment, one_name, one_page, one_stop}
+use Rattle.page_json.proofs.SaysLaw.{one_name, one_page, one_stop}
 
 -- the text of a member that is there says this alone
 reads_said_at : {X : Type 0} (Says : List ℕ → X → Type 0) (key : List ℕ) (tree : Data) (text : List ℕ) (x : X) → text_of key tree ≡ Ok text → Says text x → ((y : X) → Says text y → y ≡ x) → Reads (said_at Says key tree) x

@@ -8,9 +8,9 @@ use Rattle.page_json.specs.declared.fault.PageFault.TheVariants.{BadMember, NoMe
 abbrev pub Reading : Type 0 → Type 1
 Reading X = Result X PageFault → Type 0
 
--- the reading has a result: not every one is ruled out
+-- a result that the reading has
 abbrev pub HasResult : {X : Type 0} → Reading X → Type 0
-HasResult {X} reading = ¬ ((result : Result X PageFault) → ¬ (reading result))
+HasResult {X} reading = (result : Result X PageFault) × reading result
 
 -- the reading gives this
 abbrev pub gives : {X : Type 0} → X → Reading X

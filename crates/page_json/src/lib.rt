@@ -23,7 +23,7 @@ mod tests;
 mod urls;
 
 pub use fault::PageFault;
-pub use laws::{one_reading, some_reading};
+pub use laws::{one_reading, readings_are_valid, some_reading};
 pub use page::Page;
 pub use page_reading::read_page;
 pub use page_writing::page_text;

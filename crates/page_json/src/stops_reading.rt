@@ -11,6 +11,7 @@ ghost use Rattle.lc_model.specs.Disorder.{first_disorder};
 ghost use Rattle.page_json.specs.Disorder.{unless_disorder};
 ghost use Rattle.page_json.specs.Reading.{Meets, exactly, gives};
 ghost use Rattle.page_json.specs.StopsReading.{AreParents, changes_in, doc_in, doc_of_bytes, stops_in};
+ghost use Rattle.page_json.specs.Valid.{IsValidDoc};
 ghost use Rattle.page_json.specs.declared.fault.PageFault.TheVariants.{BadMember as bad, NoMemory as want_of_memory};
 
 use crate::PageFault;
@@ -27,6 +28,7 @@ use std::alloc::Global;
 /// It takes the time of a sort of the stops, and of two binary searches for each change.
 pub fn read_stops(alloc: Global, bytes: &[u8]) -> Result<StopsDoc, PageFault>
     ensures said { Meets (doc_of_bytes bytes.now) result }
+    ensures valid { IfOk result IsValidDoc }
 
     // Where the bytes say a document, as those of `stops_text` do, that document is read.
     ensures exact { (doc : Told) → doc_of_bytes bytes.now (Ok doc) → Meets (gives doc) result }

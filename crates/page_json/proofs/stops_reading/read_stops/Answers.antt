@@ -4,6 +4,7 @@ use Rattle.serde_json.specs.View.{view}
 use Rattle.page_json.specs.StopsReading.{doc_in, doc_of_bytes}
 use Rattle.page_json.proofs.OneResult.{meets_one, one_doc_of_bytes}
 use Rattle.page_json.proofs.Readings.{meets_err, meets_last}
+use Rattle.page_json.proofs.ValidResult.{valid_where_met}
 use Rattle.page_json.proofs.stops_reading.read_stops.Goals as goal
 
 pub returns-clause-said : goal.returns-clause-said
@@ -26,3 +27,9 @@ returns-clause-exact c = λ doc says.
 pub returns-in_err-value-clause-exact : goal.returns-in_err-value-clause-exact
 returns-in_err-value-clause-exact c = λ doc says.
     meets_one (doc_of_bytes c.args.bytes.now) doc c.from_residual.result (one_doc_of_bytes c.args.bytes.now) says (returns-in_err-value-clause-said c)
+
+pub returns-clause-valid : goal.returns-clause-valid
+returns-clause-valid c = valid_where_met c.args.bytes.now c.doc_in.result (returns-clause-said c)
+
+pub returns-in_err-value-clause-valid : goal.returns-in_err-value-clause-valid
+returns-in_err-value-clause-valid c = valid_where_met c.args.bytes.now c.from_residual.result (returns-in_err-value-clause-said c)
