@@ -1,0 +1,12 @@
+//! Which version of a timetable is meant by what is known (RFC 7089), and the URLs that name versions and ask for them. It
+//! stands on `connection_uri`, `lc_time` and the definitions of `lc_versions`.
+#![tactic(auto)]
+
+mod gate;
+mod negotiation;
+#[cfg(test)]
+mod tests;
+
+pub use connection_uri::{page_url, read_page_url};
+pub use gate::gate_target;
+pub use negotiation::{negotiate, version_among};
