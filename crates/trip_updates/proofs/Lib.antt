@@ -3,3 +3,4 @@ pub mod Trees
 pub mod Walking
 pub mod Embedded
 pub mod Said
+pub mod Whole

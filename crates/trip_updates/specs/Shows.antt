@@ -6,18 +6,19 @@ use Rattle.rt_protobuf.specs.declared.field.Value.TheVariants as values
 use Rattle.trip_updates.specs.declared.descriptor.Descriptor.{Descriptor}
 use Rattle.trip_updates.specs.declared.entity.Entity.{Entity}
 use Rattle.trip_updates.specs.declared.entity.EntityFields.{EntityFields}
+use Rattle.trip_updates.specs.declared.header.Head.{Head}
 use Rattle.trip_updates.specs.declared.header.HeaderFields.{HeaderFields}
 use Rattle.trip_updates.specs.declared.message.FeedFields.{FeedFields}
 use Rattle.trip_updates.specs.declared.stop.StopFields.{StopFields}
 use Rattle.trip_updates.specs.declared.trip.TripFields.{TripFields}
 use Rattle.trip_updates.specs.declared.trip.TripSaid.{TripSaid}
-use Rattle.lc_model.specs.declared.update.Update.{Update}
+use Rattle.lc_versions.specs.declared.update.Update.{Update}
 use Rattle.trip_updates.specs.declared.fault.RtFault.{RtFault}
 use Rattle.trip_updates.specs.declared.fault.RtFault.TheVariants as faults
-use Rattle.lc_model.specs.declared.news.Event.{Event}
+use Rattle.lc_versions.specs.declared.event.Event.{Event}
 use Rattle.trip_updates.specs.Tree.{Tree, last_varint, last_text, last_message, messages}
 use Rattle.trip_updates.specs.Table.{low_32}
-use Rattle.trip_updates.specs.Meaning.{event_of, relation_of, stop_news_of, news_of, passed_or, entity_of, moment_of, update_of}
+use Rattle.trip_updates.specs.Meaning.{event_of, relation_of, stop_news_of, news_of, passed_or, said_of, entity_of, is_deleted, head_of, update_of}
 
 -- What a function gave is what reading gives, unless memory ran out.
 abbrev pub Answers : {X : Type 0} → (X → Tree → Type 0) → Result X RtFault → Result Tree RtFault → Type 0
@@ -45,9 +46,9 @@ ShowsHeader header tree = header ≡ record {
   timestamp = last_varint 3 tree;
 }
 
--- FeedHeader: the moment of its `timestamp`
-abbrev pub ShowsMoment : ℕ → Tree → Type 0
-ShowsMoment moment tree = moment ≡ moment_of tree
+-- FeedHeader: its moment, and whether the message is full
+abbrev pub ShowsHead : Head → Tree → Type 0
+ShowsHead head tree = head ≡ head_of tree
 
 -- TripDescriptor: `trip_id`, `start_time`, `start_date` and `schedule_relationship`
 pub record ShowsDescriptor (descriptor : Descriptor) (tree : Tree) : Type 0 where
@@ -80,18 +81,19 @@ pub record ShowsTrip (trip : TripFields) (tree : Tree) : Type 0 where
 abbrev pub ShowsSaid : TripSaid → Tree → Type 0
 ShowsSaid said tree = said ≡ passed_or (news_of tree)
 
--- FeedEntity, not yet whole: whether `id` stands, and what `trip_update` says
+-- FeedEntity, not yet whole: its `id`, whether it is deleted, and what `trip_update` says
 pub record ShowsEntityFields (entity : EntityFields) (tree : Tree) : Type 0 where
-  pub id : entity.has_id ≡ is_some (last_text 1 tree)
-  pub said : entity.said ≡ option_map (λ update. passed_or (news_of update)) (last_message 3 tree)
+  pub id : option_copied entity.id ≡ last_text 1 tree
+  pub deleted : entity.deleted ≡ is_deleted (last_varint 2 tree)
+  pub said : entity.said ≡ said_of tree
 
--- FeedEntity: what its `trip_update` says
+-- FeedEntity: what it says
 abbrev pub ShowsEntity : Entity → Tree → Type 0
 ShowsEntity entity tree = entity ≡ entity_of tree
 
--- FeedMessage, not yet whole: the moment of `header` and what the `entity`s say
+-- FeedMessage, not yet whole: its `header` and what the `entity`s say
 pub record ShowsFeed (feed : FeedFields) (tree : Tree) : Type 0 where
-  pub moment : feed.moment ≡ option_map moment_of (last_message 1 tree)
+  pub head : feed.head ≡ option_map head_of (last_message 1 tree)
   pub entities : feed.entities.items ≡ map entity_of (messages 2 tree)
 
 -- FeedMessage: the update that it is

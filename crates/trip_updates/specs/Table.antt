@@ -34,8 +34,8 @@ kind feed_header number =
     -- gtfs_realtime_version, incrementality, timestamp
     if number == 1 then a_text else (if number == 2 then a_varint else (if number == 3 then a_varint else skipped))
 kind feed_entity number =
-    -- id, trip_update
-    if number == 1 then a_text else (if number == 3 then one parts.TripUpdate trip_update else skipped)
+    -- id, is_deleted, trip_update
+    if number == 1 then a_text else (if number == 2 then a_varint else (if number == 3 then one parts.TripUpdate trip_update else skipped))
 kind trip_update number =
     -- trip, stop_time_update
     if number == 1 then one parts.Trip trip_descriptor else (if number == 2 then many stop_time_update else skipped)
@@ -53,19 +53,15 @@ kind stop_time_event number =
 abbrev pub low_32 : ℕ → ℕ
 low_32 n = n % 2 ^ 32
 
--- FeedHeader.incrementality: DIFFERENTIAL is 1, and refused
-abbrev pub is_differential : Tree → Option RtFault
-is_differential tree = if low_32 (unwrap_or (last_varint 2 tree) 0) == 1 then Some faults.Differential else None
-
--- FeedHeader.timestamp, if it is a moment, from 1970 on and before 9999-12-30; the rest comes after it
-abbrev pub has_moment : Option ℕ → Option RtFault → Option RtFault
-has_moment None rest = Some faults.NoMoment
-has_moment (Some n) rest = if nat_lt n 253_402_128_000 then rest else Some faults.NoMoment
+-- FeedHeader.timestamp has to be a moment, from 1970 on and before 9999-12-30
+abbrev pub lacks_moment : Option ℕ → Option RtFault
+lacks_moment None = Some faults.NoMoment
+lacks_moment (Some n) = if nat_lt n 253_402_128_000 then None else Some faults.NoMoment
 
 -- what a message lacks at its end, the first thing of several
 abbrev pub lacks : Message → Tree → Option RtFault
 lacks feed_message tree = if is_some (last_message 1 tree) then None else Some (faults.Missing parts.Header)
-lacks feed_header tree = if is_some (last_text 1 tree) then has_moment (last_varint 3 tree) (is_differential tree) else Some (faults.Missing parts.Version)
+lacks feed_header tree = if is_some (last_text 1 tree) then lacks_moment (last_varint 3 tree) else Some (faults.Missing parts.Version)
 lacks feed_entity tree = if is_some (last_text 1 tree) then None else Some (faults.Missing parts.Id)
 lacks trip_update tree = if is_some (last_message 1 tree) then None else Some (faults.Missing parts.Trip)
 lacks trip_descriptor tree = None

@@ -3,6 +3,7 @@ ghost use Rattle.trip_updates.specs.declared.fault.RtFault.TheVariants.{NoMemory
 ghost use Rattle.trip_updates.specs.Texts.{part_text, fault_text};
 ghost use Rattle.trip_updates.specs.Wire.{wire};
 
+use lc_model::NoMemory;
 use rt_protobuf::WireFault;
 use std::alloc::{AllocError, AllocFailed};
 use std::error::Error;
@@ -25,13 +26,13 @@ impl fmt::Display for Part {
 
     fn fmt<W: fmt::Write>(&self, f: &mut fmt::Formatter<W>) -> fmt::Result {
         match self {
-            Part::Header => f.write_str("Header"),
-            Part::Version => f.write_str("Version"),
-            Part::Id => f.write_str("Id"),
-            Part::Trip => f.write_str("Trip"),
-            Part::TripUpdate => f.write_str("TripUpdate"),
-            Part::Arrival => f.write_str("Arrival"),
-            Part::Departure => f.write_str("Departure"),
+            Part::Header => f.write_str("header"),
+            Part::Version => f.write_str("version"),
+            Part::Id => f.write_str("id"),
+            Part::Trip => f.write_str("trip"),
+            Part::TripUpdate => f.write_str("trip_update"),
+            Part::Arrival => f.write_str("arrival"),
+            Part::Departure => f.write_str("departure"),
         }
     }
 }
@@ -52,8 +53,6 @@ pub enum RtFault {
     Missing { field: Part },
     /// The timestamp of the header is absent, or no moment.
     NoMoment,
-    /// The message holds changes only, and not the whole state.
-    Differential,
     /// A part stands a second time in one message.
     Repeated { field: Part },
     /// There was not enough memory.
@@ -65,16 +64,13 @@ impl fmt::Display for RtFault {
 
     fn fmt<W: fmt::Write>(&self, f: &mut fmt::Formatter<W>) -> fmt::Result {
         match self {
-            RtFault::Cut { place } => write!(f, "the bytes end within the field at {place}"),
-            RtFault::LongVarint { place } => {
-                write!(f, "more than ten bytes in a varint of the field at {place}")
-            }
-            RtFault::Group { place } => write!(f, "a group stands at {place}"),
-            RtFault::BadField { place } => write!(f, "no field begins at {place}"),
-            RtFault::Missing { field } => write!(f, "{field} is missing"),
-            RtFault::NoMoment => write!(f, "the timestamp is no moment"),
-            RtFault::Differential => write!(f, "the message is differential"),
-            RtFault::Repeated { field } => write!(f, "{field} stands twice"),
+            RtFault::Cut { place } => write!(f, "cut {place}"),
+            RtFault::LongVarint { place } => write!(f, "varint {place}"),
+            RtFault::Group { place } => write!(f, "group {place}"),
+            RtFault::BadField { place } => write!(f, "field {place}"),
+            RtFault::Missing { field } => write!(f, "missing {field}"),
+            RtFault::NoMoment => write!(f, "no moment"),
+            RtFault::Repeated { field } => write!(f, "repeated {field}"),
             RtFault::NoMemory => write!(f, "no memory"),
         }
     }
@@ -107,6 +103,14 @@ impl<T: Drop> From<AllocFailed<T>> for RtFault {
     ghost from_gives = { λ _ result. result ≡ NoMemoryFault };
 
     fn from(_: AllocFailed<T>) -> RtFault {
+        RtFault::NoMemory
+    }
+}
+
+impl From<NoMemory> for RtFault {
+    ghost from_gives = { λ _ result. result ≡ NoMemoryFault };
+
+    fn from(_: NoMemory) -> RtFault {
         RtFault::NoMemory
     }
 }

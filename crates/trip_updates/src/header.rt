@@ -3,12 +3,19 @@ ghost use Rattle.rt_protobuf.specs.Message.{field_of};
 ghost use Rattle.trip_updates.specs.Tree.{Tree};
 ghost use Rattle.trip_updates.specs.Table.{feed_header, lacks};
 ghost use Rattle.trip_updates.specs.Faults.{Reader, step, complete, read};
-ghost use Rattle.trip_updates.specs.Shows.{Answers, SpanEnds, ShowsHeader, ShowsMoment};
+ghost use Rattle.trip_updates.specs.Shows.{Answers, SpanEnds, ShowsHead, ShowsHeader};
 
 use crate::event::low_32;
 use crate::fault::{Part, RtFault};
 use lc_model::Moment;
 use rt_protobuf::{Field, Value, next_field};
+
+/// What a FeedHeader says: the moment of the message, and whether it is full.
+#[derive(Clone, Copy)]
+pub(crate) struct Head {
+    pub(crate) moment: Moment,
+    pub(crate) full: bool,
+}
 
 /// What the fields of a FeedHeader say so far.
 #[derive(Clone, Copy)]
@@ -40,10 +47,10 @@ fn with_field(header: HeaderFields, field: Field) -> HeaderFields
     }
 }
 
-// The moment of a header in which nothing is lacking.
-fn whole(header: HeaderFields) -> Result<Moment, RtFault>
+// A header in which nothing is lacking.
+fn whole(header: HeaderFields) -> Result<Head, RtFault>
     ensures { (tree : Tree) → ShowsHeader header tree →
-        Answers ShowsMoment result (complete (lacks feed_header tree) tree) }
+        Answers ShowsHead result (complete (lacks feed_header tree) tree) }
 {
     if !header.has_version {
         return Err(RtFault::Missing {
@@ -56,17 +63,17 @@ fn whole(header: HeaderFields) -> Result<Moment, RtFault>
     let Some(moment) = Moment::new(timestamp) else {
         return Err(RtFault::NoMoment);
     };
-    if header.incrementality == 1 {
-        return Err(RtFault::Differential);
-    }
-    Ok(moment)
+    Ok(Head {
+        moment,
+        full: header.incrementality != 1,
+    })
 }
 
-/// The moment of the FeedHeader between two places.
-pub(crate) fn read_header(bytes: &[u8], from: usize, to: usize) -> Result<Moment, RtFault>
+/// The FeedHeader between two places.
+pub(crate) fn read_header(bytes: &[u8], from: usize, to: usize) -> Result<Head, RtFault>
     requires order { from ≤ to }
     requires within { to ≤ length bytes.now }
-    ensures { Answers ShowsMoment result (read 3 feed_header from (slice_range bytes.now from to)) }
+    ensures { Answers ShowsHead result (read 3 feed_header from (slice_range bytes.now from to)) }
 {
     let mut header = HeaderFields {
         has_version: false,

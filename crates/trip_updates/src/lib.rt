@@ -1,5 +1,5 @@
 //! Trip updates of GTFS Realtime: which bytes are a message, of which update, and the first fault of all others. It
-//! stands on `rt_protobuf` for the fields and on `lc_time` for dates and times of day.
+//! stands on `rt_protobuf` for the fields, on `lc_time` for dates and times of day, and on `lc_versions` for what is said.
 #![tactic(auto)]
 
 mod descriptor;
@@ -14,7 +14,9 @@ mod trip;
 
 pub use fault::{Part, RtFault};
 pub use law::one_meaning;
-pub use lc_model::{Event, NewsList, Relation, StopNews, StopNewsList, TripNews, Update};
+pub use lc_versions::{
+    EntityList, EntityNews, Event, Relation, StopNews, StopNewsList, TripKind, TripNews, Update,
+};
 pub use message::read_message;
 
 #[cfg(test)]

@@ -1,27 +1,26 @@
-ghost use Rattle.std.specs.Prelude.{◌≡◌, ℕ, ◌≤◌, List, length, Ok, slice_range, IfOk, IfErr, Option, Some, None, Err, ◌⊎◌, OnOk, ◌++◌, ◌+◌, option_to_list, if◌then◌else◌};
+ghost use Rattle.std.specs.Prelude.{◌≡◌, ℕ, ◌≤◌, List, length, Ok, slice_range, IfOk, IfErr, Option, Some, None, Err, ◌⊎◌, ◌+◌, if◌then◌else◌};
 ghost use Rattle.rt_protobuf.specs.Message.{field_of};
 ghost use Rattle.trip_updates.specs.Tree.{Tree};
 ghost use Rattle.trip_updates.specs.Table.{feed_message, lacks};
 ghost use Rattle.trip_updates.specs.Faults.{Reader, step, complete, read};
 ghost use Rattle.trip_updates.specs.Shows.{Answers, SpanEnds, ShowsFeed, ShowsUpdate};
-ghost use Rattle.trip_updates.specs.Meaning.{update_with, news_said, is_passed};
+ghost use Rattle.trip_updates.specs.Meaning.{update_with, told as told_of, counts};
 ghost use Rattle.trip_updates.specs.Message.{IsMessage};
 ghost use Rattle.trip_updates.specs.Faults.{fault_of};
-ghost use Rattle.lc_model.specs.declared.update.Update.{Update as Said};
+ghost use Rattle.lc_versions.specs.declared.update.Update.{Update as Said};
 ghost use Rattle.trip_updates.specs.declared.fault.RtFault.TheVariants.{NoMemory};
 
 use crate::entity::{Entity, read_entity};
 use crate::fault::{Part, RtFault};
-use crate::header::read_header;
-use crate::trip::TripSaid;
-use lc_model::{Moment, NewsList, TripNews, Update};
+use crate::header::{Head, read_header};
+use lc_versions::{EntityList, EntityNews, Update};
 use rt_protobuf::{Field, Value, next_field};
 use std::alloc::Global;
 
 /// What the fields of a FeedMessage say so far.
 #[derive(Drop)]
 pub(crate) struct FeedFields {
-    pub(crate) moment: Option<Moment>,
+    pub(crate) head: Option<Head>,
     pub(crate) entities: Vec<Entity>,
 }
 
@@ -38,12 +37,12 @@ fn with_field(
 {
     match (field.number, field.value) {
         (1, Value::Span { from, to }) => {
-            if feed.moment.is_some() {
+            if feed.head.is_some() {
                 return Err(RtFault::Repeated {
                     field: Part::Header,
                 });
             }
-            feed.moment = Some(read_header(bytes, from, to)?);
+            feed.head = Some(read_header(bytes, from, to)?);
             Ok(feed)
         }
         (2, Value::Span { from, to }) => {
@@ -55,39 +54,53 @@ fn with_field(
     }
 }
 
-// Adds what one entity more says: news, or one more that is passed over.
-fn add(news: &mut Vec<TripNews>, passed: u32, entity: Entity) -> Result<u32, RtFault>
-    ensures news { OnOk result (news.new.items ≡ news.old.items ++ option_to_list (news_said entity.said)) }
-    ensures passed { IfOk result (λ count. count ≡ passed + (if is_passed entity.said then 1 else 0)) }
+// What an entity says in a message that is full or not.
+fn told(full: bool, entity: Entity) -> EntityNews
+    ensures { result ≡ told_of full entity }
+{
+    if !full && entity.deleted {
+        entity.news.without_news()
+    } else {
+        entity.news
+    }
+}
+
+// Whether the entity's trip update is passed over and counts.
+fn is_counted(full: bool, entity: &Entity) -> bool
+    ensures { result ≡ counts full entity.now }
+{
+    (full || !entity.deleted) && entity.passed
+}
+
+// The count with one more that is passed over, if it is.
+fn count(passed: u32, one_more: bool) -> Result<u32, RtFault>
+    ensures passed { IfOk result (λ count. count ≡ passed + (if one_more then 1 else 0)) }
     ensures err { IfErr result (λ fault. fault ≡ NoMemory) }
 {
-    let Entity { said } = entity;
-    match said {
-        None => Ok(passed),
-        Some(TripSaid::News(trip)) => {
-            news.push(trip)?;
-            Ok(passed)
-        }
-        Some(TripSaid::Passed) => match passed.checked_add(1) {
-            Some(passed) => Ok(passed),
-            None => Err(RtFault::NoMemory),
-        },
+    if !one_more {
+        return Ok(passed);
+    }
+    match passed.checked_add(1) {
+        Some(passed) => Ok(passed),
+        None => Err(RtFault::NoMemory),
     }
 }
 
 // The update that entities say. Want of memory also where more than 2^32 - 1 of them are passed over.
-fn update(alloc: Global, moment: Moment, entities: Vec<Entity>) -> Result<Update, RtFault>
-    ensures ok { IfOk result (λ update. update ≡ update_with moment entities.items) }
+fn update(alloc: Global, head: Head, entities: Vec<Entity>) -> Result<Update, RtFault>
+    ensures ok { IfOk result (λ update. update ≡ update_with head entities.items) }
     ensures err { IfErr result (λ fault. fault ≡ NoMemory) }
 {
-    let mut news = Vec::new(alloc);
+    let mut said = Vec::with_capacity(alloc, entities.len())?;
     let mut passed: u32 = 0;
     for entity in entities {
-        passed = add(&mut news, passed, entity)?;
+        passed = count(passed, is_counted(head.full, &entity))?;
+        said.push(told(head.full, entity))?;
     }
     Ok(Update {
-        moment,
-        news: NewsList::from_list(news),
+        moment: head.moment,
+        full: head.full,
+        entities: EntityList::from_list(said),
         passed,
     })
 }
@@ -97,9 +110,9 @@ fn whole(alloc: Global, feed: FeedFields) -> Result<Update, RtFault>
     ensures { (tree : Tree) → ShowsFeed feed tree →
         Answers ShowsUpdate result (complete (lacks feed_message tree) tree) }
 {
-    let FeedFields { moment, entities } = feed;
-    match moment {
-        Some(moment) => update(alloc, moment, entities),
+    let FeedFields { head, entities } = feed;
+    match head {
+        Some(head) => update(alloc, head, entities),
         None => Err(RtFault::Missing {
             field: Part::Header,
         }),
@@ -113,7 +126,7 @@ fn read_feed(alloc: Global, bytes: &[u8], from: usize, to: usize) -> Result<Upda
     ensures { Answers ShowsUpdate result (read 4 feed_message from (slice_range bytes.now from to)) }
 {
     let mut feed = FeedFields {
-        moment: None,
+        head: None,
         entities: Vec::new(alloc),
     };
     let mut at = from;

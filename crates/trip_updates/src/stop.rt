@@ -8,9 +8,10 @@ ghost use Rattle.trip_updates.specs.Meaning.{if_any as any_of, relation_of as re
 
 use crate::event::{low_32, read_event};
 use crate::fault::{Part, RtFault};
-use lc_model::{Bytes, Event, Relation, StopNews};
+use lc_model::{Bytes, NoMemory};
+use lc_versions::{Event, Relation, StopNews};
 use rt_protobuf::{Field, Value, next_field};
-use std::alloc::{AllocError, Global};
+use std::alloc::Global;
 
 /// What the fields of a StopTimeUpdate say so far.
 #[derive(Clone, Copy)]
@@ -115,18 +116,19 @@ pub(crate) fn read_stop(bytes: &[u8], from: usize, to: usize) -> Result<StopFiel
 }
 
 /// The news of a stop that the fields say.
-pub(crate) fn stop_news(alloc: Global, stop: StopFields<'_>) -> Result<StopNews, AllocError>
+pub(crate) fn stop_news(alloc: Global, stop: StopFields<'_>) -> Result<StopNews, NoMemory>
     ensures { IfOk result (λ news. (tree : Tree) → ShowsStop stop.entry tree → news ≡ stop_news_of tree) }
 {
     let name = match stop.stop {
         Some(name) => Some(Bytes::from_list(Vec::from_slice(alloc, name)?)),
         None => None,
     };
-    Ok(StopNews {
-        seq: stop.seq,
-        stop: name,
-        relation: stop.relation,
-        arr: if_any(stop.arrival),
-        dep: if_any(stop.departure),
-    })
+    StopNews::new(
+        alloc,
+        stop.seq,
+        name,
+        stop.relation,
+        if_any(stop.arrival),
+        if_any(stop.departure),
+    )
 }

@@ -52,18 +52,19 @@ const LONGER: &[u8] =
 const WIDE: &[u8] =
     b"\x0a\x12\x0a\x032.0\x10\x80\x80\x80\x80\x10\x18\xff\xbc\xc6\xff\xaf\x07\x12\x31\x0a\x01b\x1a\x2c\x0a\x09\x0a\x01T\x20\x83\x80\x80\x80\x10\x12\x1f\x08\x82\x80\x80\x80\x10\x12\x11\x08\xa6\xff\xff\xff\x0f\x10\xff\xff\xff\xff\xff\xff\xff\xff\xff\x01\x28\x81\x80\x80\x80\x10\x12\x10\x0a\x01c\x1a\x0b\x0a\x09\x0a\x01T\x20\x81\x80\x80\x80\x10";
 
-// The moment of an update, how many news it has and how many were passed over.
+// The moment of an update, how many of its entities have news and how many trip updates were passed over.
 fn counts(update: &Update) -> (u64, usize, u32) {
-    (
-        update.moment.seconds(),
-        update.news.as_slice().len(),
-        update.passed,
-    )
+    let entities = update.entities.as_slice().iter();
+    let news = entities.filter(|entity| entity.news().is_some()).count();
+    (update.moment.seconds(), news, update.passed)
 }
 
 // The news of trip T1 on 2024-05-01 and nothing else: sixty seconds late at its arrival of sequence 2.
 fn is_late(update: &Update) -> bool {
-    let [trip] = update.news.as_slice() else {
+    let [entity] = update.entities.as_slice() else {
+        return false;
+    };
+    let Some(trip) = entity.news() else {
         return false;
     };
     let [stop] = trip.stops.as_slice() else {
@@ -75,11 +76,14 @@ fn is_late(update: &Update) -> bool {
         time: None,
     };
     counts(update) == (1_714_546_800, 1, 0)
+        && update.full
+        && entity.id() == b"1".as_slice()
         && trip.trip.as_slice() == b"T1".as_slice()
         && date == Some((2024, 5, 1))
-        && (trip.start, trip.cancelled) == (None, false)
-        && (stop.seq, stop.stop.is_none(), stop.relation) == (Some(2), true, Relation::Scheduled)
-        && (stop.arr, stop.dep) == (Some(late), None)
+        && (trip.start, trip.kind) == (None, TripKind::Scheduled)
+        && (stop.seq(), stop.stop().is_none(), stop.relation())
+            == (Some(2), true, Relation::Scheduled)
+        && (stop.arr(), stop.dep()) == (Some(late), None)
 }
 
 #[test]
@@ -104,56 +108,105 @@ fn one_late_arrival(rt: HostRuntime) -> Result<(), Fail> {
 fn news_of_every_kind(rt: HostRuntime) -> Result<(), Fail> {
     let update = read_message(rt.alloc(), CANCELLED)?;
     assert_eq!(rt; counts(&update), (5, 1, 0));
-    for trip in update.news.as_slice() {
-        assert_eq!(rt;
-            (trip.date.is_none(), trip.start, trip.cancelled),
-            (true, Some(90_600), true)
-        );
-        let stops = trip.stops.as_slice();
-        assert_eq!(rt; stops.len(), 2);
-        assert_eq!(rt;
-            (stops[0].seq, stops[0].relation),
-            (None, Relation::Skipped)
-        );
-        let name = stops[0].stop.as_ref().ok_or("a stop")?;
-        assert_eq!(rt; name.as_slice(), b"S".as_slice());
-        assert_eq!(rt;
-            stops[0].arr,
-            Some(Event {
-                delay: Some(-90),
-                time: None
-            })
-        );
-        assert_eq!(rt;
-            stops[0].dep,
-            Some(Event {
-                delay: None,
-                time: Some(5_000_000_000)
-            })
-        );
-        assert_eq!(rt;
-            (stops[1].seq, stops[1].relation),
-            (Some(u32::MAX), Relation::NoData)
-        );
-        assert_eq!(rt; (stops[1].arr, stops[1].dep), (None, None));
-    }
+    let entities = update.entities.as_slice();
+    assert_eq!(rt; entities.len(), 2);
+    assert!(rt; entities[0].id() == b"a".as_slice() && entities[0].news().is_none());
+    let trip = entities[1].news().ok_or("news")?;
+    assert_eq!(rt;
+        (trip.date.is_none(), trip.start, trip.kind),
+        (true, Some(90_600), TripKind::Canceled)
+    );
+    let stops = trip.stops.as_slice();
+    assert_eq!(rt; stops.len(), 2);
+    assert_eq!(rt;
+        (stops[0].seq(), stops[0].relation()),
+        (None, Relation::Skipped)
+    );
+    assert_eq!(rt; stops[0].stop(), Some(b"S".as_slice()));
+    assert_eq!(rt;
+        stops[0].arr(),
+        Some(Event {
+            delay: Some(-90),
+            time: None
+        })
+    );
+    assert_eq!(rt;
+        stops[0].dep(),
+        Some(Event {
+            delay: None,
+            time: Some(5_000_000_000)
+        })
+    );
+    assert_eq!(rt;
+        (stops[1].seq(), stops[1].relation()),
+        (Some(u32::MAX), Relation::NoData)
+    );
+    assert_eq!(rt; (stops[1].arr(), stops[1].dep()), (None, None));
+    // Of PASSED the second trip is an added one, and the last has an empty id.
     let passed = read_message(rt.alloc(), PASSED)?;
-    assert_eq!(rt; counts(&passed), (5, 1, 4));
+    assert_eq!(rt;
+        (counts(&passed), passed.entities.as_slice().len()),
+        ((5, 2, 3), 5)
+    );
     let wide = read_message(rt.alloc(), WIDE)?;
-    assert_eq!(rt; counts(&wide), (253_402_127_999, 1, 1));
-    for trip in wide.news.as_slice() {
-        assert!(rt; trip.cancelled);
-        for stop in trip.stops.as_slice() {
-            assert_eq!(rt; (stop.seq, stop.relation), (Some(2), Relation::Skipped));
-            assert_eq!(rt;
-                stop.arr,
-                Some(Event {
-                    delay: Some(-90),
-                    time: Some(-1)
-                })
-            );
-        }
+    assert_eq!(rt; counts(&wide), (253_402_127_999, 2, 0));
+    let entities = wide.entities.as_slice();
+    assert_eq!(rt; entities.len(), 2);
+    let trip = entities[0].news().ok_or("news")?;
+    assert_eq!(rt; trip.kind, TripKind::Canceled);
+    let stop = trip.stops.as_slice().first().ok_or("a stop")?;
+    assert_eq!(rt; (stop.seq(), stop.relation()), (Some(2), Relation::Skipped));
+    assert_eq!(rt;
+        stop.arr(),
+        Some(Event {
+            delay: Some(-90),
+            time: Some(-1)
+        })
+    );
+    let added = entities[1].news().ok_or("news")?;
+    assert_eq!(rt; added.kind, TripKind::Added);
+    Ok(())
+}
+
+// header { gtfs_realtime_version: "2.0" incrementality: 1 timestamp: 1714547400 } entity { id: "1" is_deleted: true }, the same
+// as a full message with a passed trip update in its entity, and that as a differential one.
+#[test]
+fn differential_messages(rt: HostRuntime) -> Result<(), Fail> {
+    let rows: [(&[u8], bool, u32); 3] = [
+        (
+            b"\x0a\x0d\x0a\x032.0\x10\x01\x18\xc8\xd5\xc7\xb1\x06\x12\x05\x0a\x011\x10\x01",
+            false,
+            0,
+        ),
+        (
+            b"\x0a\x0d\x0a\x032.0\x10\x00\x18\xc8\xd5\xc7\xb1\x06\x12\x09\x0a\x011\x10\x01\x1a\x02\x0a\x00",
+            true,
+            1,
+        ),
+        (
+            b"\x0a\x0d\x0a\x032.0\x10\x01\x18\xc8\xd5\xc7\xb1\x06\x12\x09\x0a\x011\x10\x01\x1a\x02\x0a\x00",
+            false,
+            0,
+        ),
+    ];
+    for (bytes, full, passed) in rows {
+        let update = read_message(rt.alloc(), bytes)?;
+        assert_eq!(rt;
+            (counts(&update), update.full),
+            ((1_714_547_400, 0, passed), full)
+        );
+        let entities = update.entities.as_slice();
+        assert!(rt; entities.len() == 1 && entities[0].id() == b"1".as_slice());
     }
+    // A differential message without entities.
+    let empty = read_message(
+        rt.alloc(),
+        b"\x0a\x0d\x0a\x032.0\x10\x01\x18\xf0\xd0\xc7\xb1\x06",
+    )?;
+    assert_eq!(rt;
+        (counts(&empty), empty.full),
+        ((1_714_546_800, 0, 0), false)
+    );
     Ok(())
 }
 
@@ -238,7 +291,7 @@ fn faults(rt: HostRuntime) -> Result<(), Fail> {
         message.extend_from_slice(bytes)?;
         assert_eq!(rt; fault(&rt, message.as_slice()), Some(want), "{bytes:?}");
     }
-    let alone: [(&[u8], RtFault); 16] = [
+    let alone: [(&[u8], RtFault); 14] = [
         (
             b"",
             RtFault::Missing {
@@ -266,15 +319,6 @@ fn faults(rt: HostRuntime) -> Result<(), Fail> {
         (
             b"\x0a\x0c\x0a\x032.0\x18\x80\xbd\xc6\xff\xaf\x07",
             RtFault::NoMoment,
-        ),
-        (
-            b"\x0a\x0d\x0a\x032.0\x10\x01\x18\xf0\xd0\xc7\xb1\x06",
-            RtFault::Differential,
-        ),
-        // incrementality: 4294967297
-        (
-            b"\x0a\x0d\x0a\x032.0\x10\x81\x80\x80\x80\x10\x18\x05",
-            RtFault::Differential,
         ),
         // DIFFERENTIAL without a timestamp, and without a version
         (b"\x0a\x07\x0a\x032.0\x10\x01", RtFault::NoMoment),
@@ -327,24 +371,17 @@ fn many_entities(rt: HostRuntime) -> Result<(), Fail> {
 #[test]
 fn texts_of_faults(rt: HostRuntime) -> Result<(), Fail> {
     let rows = [
-        (
-            RtFault::Cut { place: 15 },
-            "the bytes end within the field at 15",
-        ),
-        (
-            RtFault::LongVarint { place: 0 },
-            "more than ten bytes in a varint of the field at 0",
-        ),
-        (RtFault::Group { place: 2 }, "a group stands at 2"),
-        (RtFault::BadField { place: 7 }, "no field begins at 7"),
-        (RtFault::Missing { field: Part::Id }, "Id is missing"),
-        (RtFault::NoMoment, "the timestamp is no moment"),
-        (RtFault::Differential, "the message is differential"),
+        (RtFault::Cut { place: 15 }, "cut 15"),
+        (RtFault::LongVarint { place: 0 }, "varint 0"),
+        (RtFault::Group { place: 2 }, "group 2"),
+        (RtFault::BadField { place: 7 }, "field 7"),
+        (RtFault::Missing { field: Part::Id }, "missing id"),
+        (RtFault::NoMoment, "no moment"),
         (
             RtFault::Repeated {
                 field: Part::TripUpdate,
             },
-            "TripUpdate stands twice",
+            "repeated trip_update",
         ),
         (RtFault::NoMemory, "no memory"),
     ];

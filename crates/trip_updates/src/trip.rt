@@ -12,8 +12,9 @@ ghost use Rattle.lc_time.specs.Date.{date_said};
 use crate::descriptor::{Descriptor, read_descriptor};
 use crate::fault::{Part, RtFault};
 use crate::stop::{read_stop, stop_news};
-use lc_model::{Bytes, ServiceDate, StopNews, StopNewsList, TripNews};
+use lc_model::{Bytes, ServiceDate};
 use lc_time::{read_date, read_gtfs_time};
+use lc_versions::{StopNews, StopNewsList, TripKind, TripNews};
 use rt_protobuf::{Field, Value, next_field};
 use std::alloc::{AllocError, Global};
 
@@ -32,12 +33,13 @@ pub(crate) struct TripFields<'a> {
     pub(crate) stops: Vec<StopNews>,
 }
 
-fn kind_of(relationship: u32) -> Option<bool>
+fn kind_of(relationship: u32) -> Option<TripKind>
     ensures { result ≡ kind_said relationship }
 {
     match relationship {
-        0 => Some(false),
-        3 => Some(true),
+        0 => Some(TripKind::Scheduled),
+        1 => Some(TripKind::Added),
+        3 => Some(TripKind::Canceled),
         _ => None,
     }
 }
@@ -94,7 +96,7 @@ fn said(
     let Some(trip) = descriptor.trip else {
         return Ok(TripSaid::Passed);
     };
-    let Some(cancelled) = kind_of(descriptor.relationship) else {
+    let Some(kind) = kind_of(descriptor.relationship) else {
         return Ok(TripSaid::Passed);
     };
     let Some(date) = date_of(descriptor.start_date) else {
@@ -107,7 +109,7 @@ fn said(
         trip: Bytes::from_list(Vec::from_slice(alloc, trip)?),
         date,
         start,
-        cancelled,
+        kind,
         stops: StopNewsList::from_list(stops),
     }))
 }

@@ -8,7 +8,7 @@ use Rattle.trip_updates.proofs.entity.read_entity.Goals as goal
 
 pub loop-entity-init : goal.loop-entity-init
 loop-entity-init c =
-    starts ShowsEntityFields (read 2) feed_entity c.args.bytes.now c.args.from c.args.to _ _ c.requires.order (record { id = refl; said = refl }) (read_deep 2 _ _ _)
+    starts ShowsEntityFields (read 2) feed_entity c.args.bytes.now c.args.from c.args.to _ _ c.requires.order (record { id = refl; deleted = refl; said = refl }) (read_deep 2 _ _ _)
 
 pub returns-in_err-field : goal.returns-in_err-field
 returns-in_err-field c =

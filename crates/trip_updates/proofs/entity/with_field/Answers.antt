@@ -23,4 +23,4 @@ returns-in_ok-read_trip-in-3-Span c = λ before shown.
     let first = none_yet (λ update. passed_or (news_of update)) (last_message 3 before) c.args.entity.said shown.said (sym c.is_some.ensures ∙ c.if-is_some.false) in
     in_span ShowsEntityFields (Ok (record c.args.entity { said = Some c.in_ok-read_trip-in-3-Span.field-0 })) (read 2) feed_entity before c.args.bytes.now c.args.field 3 _ _ c.in-3-Span.is-0 c.in-3-Span.is-1
     (one_ok ShowsSaid ShowsEntityFields (read 2) parts.TripUpdate trip_update before c.args.field.next 3 _ _ c.args.bytes.now c.in_ok-read_trip-in-3-Span.field-0 (Ok (record c.args.entity { said = Some c.in_ok-read_trip-in-3-Span.field-0 })) first s.0 s.1 s.2 c.in_ok-read_trip-in-3-Span.ensures
-    (λ tree shows. record { id = shown.id; said = ap (λ x. Some x) shows }))
+    (λ tree shows. record { id = shown.id; deleted = shown.deleted; said = ap (λ x. Some x) shows }))

@@ -8,7 +8,7 @@ use Rattle.trip_updates.proofs.message.read_feed.Goals as goal
 
 pub loop-feed-init : goal.loop-feed-init
 loop-feed-init c =
-    starts ShowsFeed (read 3) feed_message c.args.bytes.now c.args.from c.args.to _ _ c.requires.order (record { moment = refl; entities = c.new.ensures.items }) (read_deep 3 _ _ _)
+    starts ShowsFeed (read 3) feed_message c.args.bytes.now c.args.from c.args.to _ _ c.requires.order (record { head = refl; entities = c.new.ensures.items }) (read_deep 3 _ _ _)
 
 pub returns-in_err-field : goal.returns-in_err-field
 returns-in_err-field c =
