@@ -2,7 +2,6 @@ pub mod FaultLaws
 mod PlaceFacts
 mod ReadFacts
 pub mod SheetLaws
-mod SpaceFacts
 mod StoreFacts
 mod TableFacts
 mod Utf8Facts

@@ -1,6 +1,6 @@
 ghost use Rattle.std.specs.Prelude.{◌≡◌, Some};
 ghost use Rattle.gtfs_rows.specs.Texts.{fault_text};
-ghost use Rattle.gtfs_rows.specs.declared.fault.RowFault.TheVariants.{NoMemory as want_of_memory};
+ghost use Rattle.gtfs_rows.specs.declared.fault.RowFault.TheVariants.{NoMemory as OutOfMemory};
 
 use lc_model::{NoMemory, Text};
 use std::alloc::AllocError;
@@ -39,7 +39,7 @@ impl fmt::Display for RowFault {
 impl Error for RowFault {}
 
 impl From<NoMemory> for RowFault {
-    ghost from_gives = { λ _ fault. fault ≡ want_of_memory };
+    ghost from_gives = { λ _ fault. fault ≡ OutOfMemory };
 
     fn from(_: NoMemory) -> RowFault {
         RowFault::NoMemory
@@ -47,7 +47,7 @@ impl From<NoMemory> for RowFault {
 }
 
 impl From<AllocError> for RowFault {
-    ghost from_gives = { λ _ fault. fault ≡ want_of_memory };
+    ghost from_gives = { λ _ fault. fault ≡ OutOfMemory };
 
     fn from(_: AllocError) -> RowFault {
         RowFault::NoMemory

@@ -1,6 +1,9 @@
-use Rattle.std.proofs.Common.{◌≡◌, ◌-◌, length, take}
+use Rattle.std.proofs.Common.{◌≡◌, length}
 use Rattle.gtfs_rows.specs.Spaces.{without_last_spaces}
 use Rattle.gtfs_rows.proofs.spaces.without_last_spaces.Given as goal
 
-abbrev pub invariant-bytes : goal.invariant-bytes
-invariant-bytes l = without_last_spaces (take (length l.text - l.spaces) l.text) ≡ without_last_spaces l.text
+abbrev pub invariant-loop-text : goal.invariant-loop-text
+invariant-loop-text l = without_last_spaces l.text ≡ without_last_spaces l.fn.text
+
+abbrev pub decreases-loop-text : goal.decreases-loop-text
+decreases-loop-text l = length l.text
