@@ -1,0 +1,52 @@
+ghost use Rattle.std.specs.Prelude.{◌≡◌};
+ghost use Rattle.gtfs_files.specs.StopTimeOrder.{InTripOrder};
+
+use lc_model::Id;
+use std::marker::Model;
+
+/// A row of stop_times.txt: when a trip arrives at a stop and departs, in seconds of the service day, where the row says
+/// so, and whether one may board and alight.
+#[derive(Debug, Drop)]
+pub struct StopTime {
+    pub trip: Id,
+    pub stop: Id,
+    pub seq: u32,
+    pub arr: Option<u32>,
+    pub dep: Option<u32>,
+    pub board: bool,
+    pub alight: bool,
+}
+
+/// The stop times of a feed, strictly ordered by trip and sequence.
+#[derive(Debug, Drop)]
+pub struct StopTimes {
+    items: Vec<StopTime>,
+}
+
+impl Model for StopTimes {
+    ghost use Rattle.std.specs.Prelude.{List};
+    ghost use Rattle.gtfs_files.specs.declared.stop_times.StopTime.{StopTime};
+    ghost use Rattle.gtfs_files.specs.StopTimeOrder.{InTripOrder};
+
+    ghost Value = { List StopTime };
+
+    ghost view = { λ t. t.items.items };
+
+    ghost invariant = { λ t. InTripOrder t.items.items };
+}
+
+impl StopTimes {
+    pub fn from_list(list: Vec<StopTime>) -> StopTimes
+        requires { InTripOrder list.items }
+        ensures { result ≡ list.items }
+    {
+        StopTimes { items: list }
+    }
+
+    pub fn as_slice(&self) -> &[StopTime]
+        ensures value { result.now ≡ self.now }
+        ensures in_order { InTripOrder result.now }
+    {
+        self.items.as_slice()
+    }
+}
