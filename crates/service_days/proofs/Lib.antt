@@ -1,0 +1,12 @@
+pub mod AnchorLemmas
+pub mod ClockLemmas
+pub mod DayLemmas
+pub mod GainLemmas
+pub mod ListedLemmas
+pub mod ListingLemmas
+pub mod OneZone
+pub mod OrderLemmas
+pub mod RuleLemmas
+pub mod UtcLemmas
+pub mod WindowLemmas
+pub mod WordLemmas

@@ -1,0 +1,9 @@
+use Rattle.std.proofs.Common.{take}
+use Rattle.std.specs.List.{Any}
+use Rattle.gtfs_files.specs.declared.calendar_dates.DateRow.{DateRow}
+use Rattle.service_days.specs.Listing.{Gains, IsAddedBy}
+use Rattle.service_days.specs.declared.service_day.ServiceDay.{ServiceDay}
+use Rattle.service_days.proofs.listing.push_all_added.Given as goal
+
+abbrev pub invariant-loop-row : goal.invariant-loop-row
+invariant-loop-row l = Gains (λ (d : ServiceDay). Any (λ (row : DateRow). IsAddedBy l.removed l.first l.count row d) (take l.row-index l.dates)) l.initial.days.items l.days.items

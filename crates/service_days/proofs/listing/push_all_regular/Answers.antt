@@ -1,0 +1,15 @@
+use Rattle.gtfs_files.specs.declared.calendar.Weekly.{Weekly}
+use Rattle.service_days.specs.Listing.{IsRegularBy}
+use Rattle.service_days.proofs.GainLemmas.{Gains-all, Gains-more, Gains-none}
+use Rattle.service_days.proofs.listing.push_all_regular.Goals as goal
+
+pub loop-row-init : goal.loop-row-init
+loop-row-init c = Gains-none (λ (row : Weekly). IsRegularBy c.args.removed.now c.args.window.now row) c.args.weekly.now _
+
+pub loop-row-preserved : goal.loop-row-preserved
+loop-row-preserved c =
+    Gains-more (λ (row : Weekly). IsRegularBy c.args.removed.now c.args.window.now row) c.args.weekly.now c.loop-row.row-index c.row-item.result _ _ _ c.loop-row-test.true c.row-item.is c.loop-row.invariant c.in_ok-push_regular.ensures
+
+pub returns : goal.returns
+returns c =
+    Gains-all (λ (row : Weekly). IsRegularBy c.args.removed.now c.args.window.now row) c.args.weekly.now c.loop-row.row-index _ _ c.loop-row-test.false c.loop-row.invariant

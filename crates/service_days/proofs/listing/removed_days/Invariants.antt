@@ -1,0 +1,10 @@
+use Rattle.std.proofs.Common.{take}
+use Rattle.std.specs.List.{Any}
+use Rattle.gtfs_files.specs.declared.calendar_dates.DateRow.{DateRow}
+use Rattle.std.proofs.Common.{[]}
+use Rattle.service_days.specs.Listing.{Gains, IsRemovedBy}
+use Rattle.service_days.specs.declared.service_day.ServiceDay.{ServiceDay}
+use Rattle.service_days.proofs.listing.removed_days.Given as goal
+
+abbrev pub invariant-loop-row : goal.invariant-loop-row
+invariant-loop-row l = Gains (λ (d : ServiceDay). Any (λ (row : DateRow). IsRemovedBy row d) (take l.row-index l.dates)) [] l.days.items

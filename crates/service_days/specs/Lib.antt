@@ -1,0 +1,4 @@
+pub mod Days
+pub mod Laws
+pub mod Listing
+pub mod ZoneWord

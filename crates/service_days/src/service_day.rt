@@ -1,0 +1,64 @@
+ghost use Rattle.std.specs.Prelude.{◌≡◌, List, filter};
+ghost use Rattle.lc_model.specs.Change.{is_same_id};
+ghost use Rattle.service_days.specs.Days.{InDayOrder};
+ghost use Rattle.service_days.specs.declared.service_day.ServiceDay.{ServiceDay as Told};
+
+use lc_model::{Id, Keyed, ServiceDate, items_of};
+use std::marker::Model;
+
+/// A date on which a service runs.
+#[derive(Debug, PartialEq, Eq, PartialOrd, Ord, Drop)]
+pub struct ServiceDay {
+    pub service: Id,
+    pub date: ServiceDate,
+}
+
+/// By the service.
+impl Keyed for ServiceDay {
+    ghost key = { λ day. day.service };
+
+    fn key(&self) -> &Id {
+        &self.service
+    }
+}
+
+/// The dates of services, strictly ordered by service and date.
+#[derive(Debug, Drop)]
+pub struct Days {
+    items: Vec<ServiceDay>,
+}
+
+impl Model for Days {
+    ghost use Rattle.std.specs.Prelude.{List};
+    ghost use Rattle.service_days.specs.Days.{InDayOrder};
+    ghost use Rattle.service_days.specs.declared.service_day.ServiceDay.{ServiceDay};
+
+    ghost Value = { List ServiceDay };
+
+    ghost view = { λ d. d.items.items };
+
+    ghost invariant = { λ d. InDayOrder d.items.items };
+}
+
+impl Days {
+    pub fn from_list(list: Vec<ServiceDay>) -> Days
+        requires { InDayOrder list.items }
+        ensures { result ≡ list.items }
+    {
+        Days { items: list }
+    }
+
+    pub fn as_slice(&self) -> &[ServiceDay]
+        ensures value { result.now ≡ self.now }
+        ensures in_order { InDayOrder result.now }
+    {
+        self.items.as_slice()
+    }
+
+    /// The dates of one service, found by two binary searches.
+    pub fn of(&self, service: &Id) -> &[ServiceDay]
+        ensures { result.now ≡ filter (λ (d : Told). is_same_id d.service service.now) self.now }
+    {
+        items_of(self.as_slice(), service)
+    }
+}
