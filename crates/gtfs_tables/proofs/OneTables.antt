@@ -22,7 +22,7 @@ use Rattle.gtfs_tables.specs.declared.stop_times.StopTime.{StopTime}
 use Rattle.gtfs_tables.specs.declared.tables.Tables.{Tables}
 use Rattle.gtfs_tables.specs.declared.trips.TripRow.{TripRow}
 use Rattle.gtfs_tables.proofs.OrderFacts.{stop_time_total}
-use Rattle.gtfs_tables.proofs.StopTimeFacts.{same_time}
+use Rattle.gtfs_tables.proofs.StopTimeFacts.{same_time, one_number}
 
 -- rows that say one item each say one list
 said_are_one : {Row Item : Type 0} (Says : Row → Item → Type 0) → ((row : Row) (a b : Item) → Says row a → Says row b → a ≡ b)
@@ -70,7 +70,7 @@ dates_are_one (Some bytes) a b p q =
 
 one_stop_time : (sheet : Sheet) (row : List (List ℕ)) (a b : StopTime) → SaysStopTime sheet row a → SaysStopTime sheet row b → a ≡ b
 one_stop_time sheet row a b p q =
-    same_time a b (p.trip ∙ sym q.trip) (p.stop ∙ sym q.stop) (p.seq.value ∙ sym q.seq.value) (one_time _ a.arr b.arr p.arr q.arr) (one_time _ a.dep b.dep p.dep q.dep)
+    same_time a b (p.trip ∙ sym q.trip) (p.stop ∙ sym q.stop) (one_number _ b.seq a.seq q.seq p.seq) (one_time _ a.arr b.arr p.arr q.arr) (one_time _ a.dep b.dep p.dep q.dep)
     (p.board ∙ sym q.board) (p.alight ∙ sym q.alight)
 
 times_are_one : (stops others : List Stop) (trips other_trips : List TripRow) (found : Option (List ℕ)) (a b : List StopTime)

@@ -27,6 +27,10 @@ same_time a b trip stop seq arr dep board alight =
 one_second : (x y : ℕ) → Some x ≡ Some y → y ≡ x
 one_second x y e = cc
 
+-- a text says one number
+pub one_number : (said : Option ℕ) (x y : ℕ) → said ≡ Some x → said ≡ Some y → y ≡ x
+one_number said x y e f = one_second x y (sym e ∙ f)
+
 -- what a row says is one time, where its two clock texts say one
 pub only_time : (sheet : Sheet) (row : List (List ℕ)) (time : StopTime) (arr dep : List ℕ) → SaysStopTime sheet row time
     → arr ≡ text_at sheet row (codes "arrival_time") → TimeIs arr (Some time.arr)
@@ -35,7 +39,7 @@ pub only_time : (sheet : Sheet) (row : List (List ℕ)) (time : StopTime) (arr d
 only_time sheet row time arr dep says arr_is one_arr dep_is one_dep = (
   says,
   λ other its.
-      same_time other time (its.trip ∙ sym says.trip) (its.stop ∙ sym says.stop) (its.seq.value ∙ sym says.seq.value)
+      same_time other time (its.trip ∙ sym says.trip) (its.stop ∙ sym says.stop) (one_number _ time.seq other.seq says.seq its.seq)
       (one_second time.arr other.arr (one_arr other.arr (subst (λ t. SaysGtfsTime t other.arr) (sym arr_is) its.arr)))
       (one_second time.dep other.dep (one_dep other.dep (subst (λ t. SaysGtfsTime t other.dep) (sym dep_is) its.dep)))
       (its.board ∙ sym says.board) (its.alight ∙ sym says.alight),

@@ -1,5 +1,5 @@
 -- stop_times.txt of a plain feed (GTFS Schedule Reference, stop_times.txt).
-use Rattle.std.specs.Prelude.{◌≡◌, ◌≢◌, ℕ, ◌<◌, ◌≤◌, Bool, not, List, [], ◌∷◌, codes}
+use Rattle.std.specs.Prelude.{◌≡◌, ◌≢◌, ℕ, ◌<◌, ◌≤◌, Bool, not, List, [], ◌∷◌, codes, Some}
 use Rattle.std.specs.List.{All, AllPairs, Contains}
 use Rattle.std.specs.Str.{bytes_eq}
 use Rattle.gtfs_rows.specs.Sheet.{Sheet}
@@ -7,8 +7,9 @@ use Rattle.lc_model.specs.Stop.{HasStop}
 use Rattle.lc_model.specs.Text.{IsIdText}
 use Rattle.lc_model.specs.declared.stop.Stop.{Stop}
 use Rattle.lc_time.specs.Clock.{SaysGtfsTime}
+use Rattle.lc_time.specs.Digits.{u32_said}
 use Rattle.gtfs_tables.specs.Plain.{IsPlainTable, text_at}
-use Rattle.gtfs_tables.specs.Said.{SaidBy, SaysNumber}
+use Rattle.gtfs_tables.specs.Said.{SaidBy}
 use Rattle.gtfs_tables.specs.Trips.{HasTrip}
 use Rattle.gtfs_tables.specs.declared.stop_times.StopTime.{StopTime}
 use Rattle.gtfs_tables.specs.declared.trips.TripRow.{TripRow}
@@ -28,7 +29,7 @@ pub record SaysStopTime (sheet : Sheet) (row : List (List ℕ)) (time : StopTime
   pub trip : time.trip ≡ text_at sheet row (codes "trip_id")
   pub stop_named : IsIdText (text_at sheet row (codes "stop_id"))
   pub stop : time.stop ≡ text_at sheet row (codes "stop_id")
-  pub seq : SaysNumber (text_at sheet row (codes "stop_sequence")) time.seq
+  pub seq : u32_said (text_at sheet row (codes "stop_sequence")) ≡ Some time.seq
   pub arr : SaysGtfsTime (text_at sheet row (codes "arrival_time")) time.arr
   pub dep : SaysGtfsTime (text_at sheet row (codes "departure_time")) time.dep
   pub board : time.board ≡ allows (text_at sheet row (codes "pickup_type"))

@@ -10,7 +10,6 @@ mod feed;
 mod keyed;
 mod known;
 mod laws;
-mod number;
 mod plain;
 mod read_dates;
 mod read_stop_times;

@@ -6,10 +6,9 @@ ghost use Rattle.gtfs_tables.specs.StopTimes.{SaysStopTime, allows as is_allowed
 
 use crate::StopTime;
 use crate::columns::{column, text};
-use crate::number::read_number;
 use gtfs_rows::Rows;
 use lc_model::{Id, NoMemory};
-use lc_time::read_gtfs_time;
+use lc_time::{read_gtfs_time, read_u32};
 use std::alloc::Global;
 
 /// Where the columns of stop_times.txt stand, from 0.
@@ -56,7 +55,7 @@ pub(crate) fn read_row(
     let Some(stop) = Id::new(alloc, text(rows, place, columns.stop))? else {
         return Ok(None);
     };
-    let Some(seq) = read_number(text(rows, place, columns.seq)) else {
+    let Some(seq) = read_u32(text(rows, place, columns.seq)) else {
         return Ok(None);
     };
     let Some(arr) = read_gtfs_time(text(rows, place, columns.arr)) else {

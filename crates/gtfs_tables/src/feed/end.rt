@@ -1,5 +1,5 @@
 ghost use Rattle.std.specs.Prelude.{◌≡◌};
-ghost use Rattle.gtfs_tables.specs.declared.feed.end.End.TheVariants.{NoMemory as no_memory};
+ghost use Rattle.gtfs_tables.specs.declared.feed.end.End.TheVariants.{NoMemory as OutOfMemory};
 
 use crate::feed::feed_file::FeedFile;
 use lc_model::NoMemory;
@@ -15,7 +15,7 @@ pub(crate) enum End {
 }
 
 impl From<NoMemory> for End {
-    ghost from_gives = { λ _ end. end ≡ no_memory };
+    ghost from_gives = { λ _ end. end ≡ OutOfMemory };
 
     fn from(_: NoMemory) -> End {
         End::NoMemory

@@ -1,9 +1,9 @@
 -- A row without a departure says nothing, and a whole one says one time.
-use Rattle.std.proofs.Common.{◌∙◌, ap, subst}
+use Rattle.std.proofs.Common.{◌∙◌, ap, subst, sym}
 use Rattle.lc_model.specs.Text.{IsIdText}
 use Rattle.lc_time.specs.Clock.{SaysGtfsTime}
+use Rattle.lc_time.specs.Digits.{u32_said}
 use Rattle.gtfs_tables.specs.Columns.{row_at, text_in}
-use Rattle.gtfs_tables.specs.Said.{SaysNumber}
 use Rattle.gtfs_tables.proofs.StopTimeFacts.{no_departure, only_time}
 use Rattle.gtfs_tables.proofs.stop_time_row.read_row.Goals as goal
 
@@ -29,7 +29,7 @@ returns c =
       trip = rw (← trip_is) trip.1;
       stop_named = subst IsIdText stop_is stop.0;
       stop = rw (← stop_is) stop.1;
-      seq = subst (λ t. SaysNumber t c.in-Some-read_number.seq) seq_is c.in-Some-read_number.ensures.said;
+      seq = ap u32_said (sym seq_is) ∙ sym c.in-Some-read_u32.ensures;
       arr = subst (λ t. SaysGtfsTime t c.in-Some-read_gtfs_time.arr) arr_is c.in-Some-read_gtfs_time.ensures.said;
       dep = subst (λ t. SaysGtfsTime t c.in-Some-read_gtfs_time-2.dep) dep_is c.in-Some-read_gtfs_time-2.ensures.said;
       board = cc;
