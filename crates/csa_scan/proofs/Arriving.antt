@@ -1,10 +1,10 @@
 -- One arrival more: what the progress keeps still follows the list.
-use Rattle.std.proofs.Common.{◌≡◌, ℕ, ◌+◌, ◌≤◌, List, [], ◌∷◌, ◌++◌, Option, Some, true, length, set, refl, sym, ◌∙◌, ap, subst, inl, inr, arith}
+use Rattle.std.proofs.Common.{◌≡◌, ℕ, ◌+◌, ◌≤◌, List, [], ◌∷◌, ◌++◌, ◌<◌, Option, Some, None, true, length, set, refl, sym, ◌∙◌, ap, subst, inl, inr, arith}
 use Rattle.std.specs.List.{slice_get}
+use Rattle.std.specs.Option.{MatchOption}
 use Rattle.std.proofs.lemmas.Option.{slice_get_within}
 use Rattle.std.proofs.lemmas.List.{length_push}
 use Rattle.lc_model.specs.Change.{InChangeOrder, change_between, changes_from}
-use Rattle.lc_model.specs.Question.{IsTo}
 use Rattle.lc_model.specs.declared.change.Change.{Change}
 use Rattle.lc_model.specs.declared.connection.Connection.{Connection}
 use Rattle.lc_model.specs.declared.doc.StopsDoc.{StopsDoc}
@@ -15,15 +15,19 @@ use Rattle.lc_model.specs.declared.stop.Stop.{Stop}
 use Rattle.csa_scan.specs.Kept.{Kept}
 use Rattle.csa_scan.specs.Reach.{id_at, LeadsTo, MayBoard, IsLegEnd, IsBoardingOf, IsReachedBy}
 use Rattle.csa_scan.specs.Relaxed.{IsRelaxed}
-use Rattle.csa_scan.specs.Stands.{IsReady, IsBestGoal, Follows, IsComplete}
-use Rattle.csa_scan.specs.Takes.{PicksBest, Arrives}
+use Rattle.csa_scan.specs.Near.{AreNear}
+use Rattle.csa_scan.specs.Stands.{IsReady, IsBestGoal, Follows, IsComplete, LeadsToEnd}
+use Rattle.csa_scan.specs.Takes.{Arrives, IsGoal, IsNoGoal, PicksBest, PicksGoal}
+use Rattle.csa_scan.specs.declared.side.Side.TheVariants.{After}
 use Rattle.csa_scan.specs.declared.trace.Arrival.{Arrival}
 use Rattle.csa_scan.specs.declared.trace.Boarding.{Boarding}
 use Rattle.csa_scan.specs.declared.trace.Goal.{Goal}
+use Rattle.csa_scan.specs.declared.trace.Near.{Near}
 use Rattle.csa_scan.specs.declared.trace.Ready.{Ready}
 use Rattle.csa_scan.proofs.ChangesFrom.{AreChangesFrom, are_changes_from}
 use Rattle.csa_scan.proofs.Changes.{change_found, change_is}
 use Rattle.csa_scan.proofs.Growth.{leg_cases, may_board_before, leg_end-grown, boarding-grown, reached-grown}
+use Rattle.csa_scan.proofs.NearWalks.{end_found, end_walk}
 use Rattle.csa_scan.proofs.ListPlaces.{slice_get-append, slice_get-last, push_cases, set_cases}
 
 -- a stop that became ready by a change is ready after the arrival
@@ -63,35 +67,88 @@ ready-grown doc in_order arrivals old new h a changes are rel = record {
   ];
 }
 
+-- an arrival that leads to an end is a goal by then, or sooner
+goal_by : (query : Query) (doc : StopsDoc) (ends : List (Option Near)) → AreNear After doc.stops doc.changes query.to ends → (place : ℕ) (a : Arrival) → a.stop < length doc.stops →
+    (at : ℕ) → LeadsToEnd query doc a at → (goal : Option Goal) → MatchOption goal (IsNoGoal query ends a.stop a.arr) (IsGoal query ends a.stop a.arr place) →
+    (g : Goal) × (goal ≡ Some g) × (g.arr ≤ at)
+goal_by query doc ends near place a l at h None none =
+    let n = end_found query doc ends near a.stop l (id_at doc.stops a.stop) refl h.walk h.is_walk in
+    let late = none n.0 n.1 in let same = n.2 in let then = h.is_then in let by = h.in_time in
+    absurd (omega arith)
+goal_by query doc ends near place a l at h (Some g) is =
+    let n = end_found query doc ends near a.stop l (id_at doc.stops a.stop) refl h.walk h.is_walk in
+    let found = n.1 in let there = is.is_near in
+    let one : is.near ≡ n.0 = cc in
+    let seconds = ap (λ (x : Near). x.seconds) one in
+    let same = n.2 in let then = h.is_then in let arr = is.is_then in
+    (g, refl, omega arith)
+
+-- a goal leads to an end
+goal_leads : (query : Query) (doc : StopsDoc) (ends : List (Option Near)) → AreNear After doc.stops doc.changes query.to ends → (place : ℕ) (a : Arrival) (g : Goal) → IsGoal query ends a.stop a.arr place g →
+    LeadsToEnd query doc a g.arr
+goal_leads query doc ends near place a g h =
+    let w = end_walk query doc ends near a.stop h.near h.is_near in
+    let same = w.2 in let arr = h.is_then in
+    record { walk = w.0; is_walk = w.1; is_then = omega arith; in_time = h.in_time }
+
+-- the goal of the arrival, as one of the options
+goal_is : (query : Query) (ends : List (Option Near)) (place : ℕ) (a : Arrival) (goal : Option Goal) → MatchOption goal (IsNoGoal query ends a.stop a.arr) (IsGoal query ends a.stop a.arr place) →
+    (g : Goal) → goal ≡ Some g → IsGoal query ends a.stop a.arr place g
+goal_is query ends place a goal h g e =
+    let M : Option Goal → Type 0 = λ o. MatchOption o (IsNoGoal query ends a.stop a.arr) (IsGoal query ends a.stop a.arr place) in
+    subst M e h
+
+-- the new goal of the arrival is the best
+best_is_new : (query : Query) (doc : StopsDoc) (arrivals : List Arrival) (a : Arrival) (old : Option Goal) → IsBestGoal query doc arrivals old →
+    (goal : Goal) → goal.place ≡ length arrivals → LeadsToEnd query doc a goal.arr → ((at : ℕ) → LeadsToEnd query doc a at → goal.arr ≤ at) → ((g : Goal) → old ≡ Some g → goal.arr ≤ g.arr) →
+    IsBestGoal query doc (arrivals ++ a ∷ []) (Some goal)
+best_is_new query doc arrivals a old h goal at_end leads least better = record {
+  sound = λ g e.
+      let f : goal ≡ g = cc in
+      let P : ℕ → Type 0 = λ k. slice_get (arrivals ++ a ∷ []) k ≡ Some a in
+      let Q : Goal → Type 0 = λ k. (x : Arrival) × (slice_get (arrivals ++ a ∷ []) k.place ≡ Some x) × LeadsToEnd query doc x k.arr in
+      subst Q f (a, subst P (sym at_end) (slice_get-last arrivals a), leads);
+  complete = λ place x e at to. elim (push_cases arrivals a place x e) [
+    | inl was ↦ let g = h.complete place x was at to in let l = better g.0 g.1 in let m = g.2 in (goal, refl, omega arith)
+    | inr now ↦ let L : Arrival → Type 0 = λ y. LeadsToEnd query doc y at in (goal, refl, least at (subst L now.1 to))
+  ];
+}
+
+-- the best goal stays
+best_stays : (query : Query) (doc : StopsDoc) (arrivals : List Arrival) (a : Arrival) (old : Option Goal) → IsBestGoal query doc arrivals old →
+    ((at : ℕ) → LeadsToEnd query doc a at → (g : Goal) × (old ≡ Some g) × (g.arr ≤ at)) → IsBestGoal query doc (arrivals ++ a ∷ []) old
+best_stays query doc arrivals a old h no_better = record {
+  sound = λ g e. let s = h.sound g e in (s.0, slice_get-append arrivals (a ∷ []) g.place s.0 s.1, s.2);
+  complete = λ place x e at to. elim (push_cases arrivals a place x e) [
+    | inl was ↦ h.complete place x was at to
+    | inr now ↦ let L : Arrival → Type 0 = λ y. LeadsToEnd query doc y at in no_better at (subst L now.1 to)
+  ];
+}
+
 -- the best goal after one arrival more
-pub best-grown : (query : Query) (doc : StopsDoc) (arrivals : List Arrival) (a : Arrival) (old new : Option Goal) → IsBestGoal query doc arrivals old →
-    PicksBest query doc (length arrivals) a old new → IsBestGoal query doc (arrivals ++ a ∷ []) new
-best-grown query doc arrivals a old new h (inl stays) =
+best_picked : (query : Query) (doc : StopsDoc) (ends : List (Option Near)) → AreNear After doc.stops doc.changes query.to ends → (arrivals : List Arrival) (a : Arrival) → a.stop < length doc.stops →
+    (old new goal : Option Goal) → IsBestGoal query doc arrivals old → MatchOption goal (IsNoGoal query ends a.stop a.arr) (IsGoal query ends a.stop a.arr (length arrivals)) → PicksGoal old goal new →
+    IsBestGoal query doc (arrivals ++ a ∷ []) new
+best_picked query doc ends near arrivals a l old new goal h is (inl stays) =
     let P : Option Goal → Type 0 = λ o. IsBestGoal query doc (arrivals ++ a ∷ []) o in
-    subst P (sym stays.0) (record {
-      sound = λ g e. let s = h.sound g e in (s.0, slice_get-append arrivals (a ∷ []) g.place s.0 s.1, s.2, s.3);
-      complete = λ place x e to. elim (push_cases arrivals a place x e) [
-        | inl was ↦ h.complete place x was to
-        | inr now ↦
-            let Q : Arrival → Type 0 = λ y. IsTo doc.stops query (id_at doc.stops y.stop) in
-            let s = stays.1 (subst Q now.1 to) in
-            let t = s.2 in let v = ap (λ (y : Arrival). y.arr) now.1 in
-            (s.0, s.1, omega arith)
-      ];
-    })
-best-grown query doc arrivals a old new h (inr picks) =
-    let goal : Goal = record { arr = a.arr; place = length arrivals } in
+    subst P (sym stays.0) (best_stays query doc arrivals a old h (λ at to.
+    let g = goal_by query doc ends near (length arrivals) a l at to goal is in
+    let s = stays.1 g.0 g.1 in
+    let by = g.2 in let no_later = s.2 in
+    (s.0, s.1, omega arith)))
+best_picked query doc ends near arrivals a l old new goal h is (inr picks) =
     let P : Option Goal → Type 0 = λ o. IsBestGoal query doc (arrivals ++ a ∷ []) o in
-    subst P (sym picks.0) (record {
-      sound = λ g e.
-          let f : goal ≡ g = cc in
-          let Q : Goal → Type 0 = λ k. (x : Arrival) × (slice_get (arrivals ++ a ∷ []) k.place ≡ Some x) × IsTo doc.stops query (id_at doc.stops x.stop) × (x.arr ≡ k.arr) in
-          subst Q f (a, slice_get-last arrivals a, picks.1, refl);
-      complete = λ place x e to. elim (push_cases arrivals a place x e) [
-        | inl was ↦ let g = h.complete place x was to in let l = picks.2 g.0 g.1 in let m = g.2 in (goal, refl, omega arith)
-        | inr now ↦ let v = ap (λ (y : Arrival). y.arr) now.1 in (goal, refl, omega arith)
-      ];
-    })
+    let g = goal_is query ends (length arrivals) a goal is picks.0 picks.1 in
+    subst P (sym picks.2) (best_is_new query doc arrivals a old h picks.0 g.is_place (goal_leads query doc ends near (length arrivals) a picks.0 g) (λ at to.
+    let k = goal_by query doc ends near (length arrivals) a l at to goal is in
+    let e = k.1 in let f = picks.1 in
+    let same : k.0 ≡ picks.0 = cc in
+    let by = k.2 in let arr = ap (λ (x : Goal). x.arr) same in
+    omega arith) picks.3)
+
+pub best-grown : (query : Query) (doc : StopsDoc) (ends : List (Option Near)) → AreNear After doc.stops doc.changes query.to ends → (arrivals : List Arrival) (a : Arrival) → a.stop < length doc.stops →
+    (old new : Option Goal) → IsBestGoal query doc arrivals old → PicksBest query ends (length arrivals) a old new → IsBestGoal query doc (arrivals ++ a ∷ []) new
+best-grown query doc ends near arrivals a l old new h picks = best_picked query doc ends near arrivals a l old new picks.goal h picks.is_goal picks.picks
 
 -- what was reached after one arrival more
 reached_after : (stops : List Stop) (arrivals : List Arrival) (a : Arrival) (reached : List (Option ℕ)) →
@@ -109,13 +166,13 @@ reached_after stops arrivals a reached h stop by e = elim (set_cases reached a.s
 ]
 
 -- the progress after an arrival that is the end of a leg, where no connection of the list departs after it
-follows_lists : (query : Query) (doc : StopsDoc) → InChangeOrder doc.changes → (runs : List RunKey) (kept : Kept) (list : List Connection) → Follows query doc runs kept list →
-    (a : Arrival) → IsLegEnd query doc runs kept.arrivals list a → ((place : ℕ) (x : Connection) → slice_get list place ≡ Some x → x.dep ≤ a.arr) →
+follows_lists : (query : Query) (doc : StopsDoc) (ends : List (Option Near)) → AreNear After doc.stops doc.changes query.to ends → InChangeOrder doc.changes → (runs : List RunKey) (kept : Kept) (list : List Connection) → Follows query doc runs kept list →
+    (a : Arrival) → a.stop < length doc.stops → IsLegEnd query doc runs kept.arrivals list a → ((place : ℕ) (x : Connection) → slice_get list place ≡ Some x → x.dep ≤ a.arr) →
     (changes : List Change) → AreChangesFrom doc.changes (id_at doc.stops a.stop) changes →
     (ready : List (Option Ready)) → IsRelaxed doc.stops changes (length kept.arrivals) a.arr kept.ready ready →
-    (best : Option Goal) → PicksBest query doc (length kept.arrivals) a kept.best best →
+    (best : Option Goal) → PicksBest query ends (length kept.arrivals) a kept.best best →
     Follows query doc runs (record { boardings = kept.boardings; ready = ready; reached = set kept.reached a.stop (Some a.arr); arrivals = kept.arrivals ++ a ∷ []; best = best }) list
-follows_lists query doc in_order runs kept list f a end early changes are ready rel best picks = record {
+follows_lists query doc ends far in_order runs kept list f a inside end early changes are ready rel best picks = record {
   arrival_sound = λ place x e. elim (push_cases kept.arrivals a place x e) [
     | inl was ↦ leg_end-grown query doc runs kept.arrivals list a x (f.arrival_sound place x was)
     | inr now ↦
@@ -127,7 +184,7 @@ follows_lists query doc in_order runs kept list f a end early changes are ready 
       f.boarding_complete place x e allowed after (may_board_before query doc kept.arrivals a after x.dep_stop x.dep (early place x e) m);
   ready = ready-grown doc in_order kept.arrivals kept.ready ready f.ready a changes are rel;
   reached = reached_after doc.stops kept.arrivals a kept.reached f.reached;
-  best = best-grown query doc kept.arrivals a kept.best best f.best picks;
+  best = best-grown query doc ends far kept.arrivals a inside kept.best best f.best picks;
 }
 
 -- what is kept is known by its parts
@@ -139,14 +196,14 @@ same_kept x y b r s a g =
     ∙ ap (λ (l : List Arrival). let k : Kept = record { boardings = y.boardings; ready = y.ready; reached = y.reached; arrivals = l; best = x.best } in k) a
     ∙ ap (λ (l : Option Goal). let k : Kept = record { boardings = y.boardings; ready = y.ready; reached = y.reached; arrivals = y.arrivals; best = l } in k) g
 
-pub follows-arrived : (query : Query) (doc : StopsDoc) → InChangeOrder doc.changes → (runs : List RunKey) (old new : Kept) (list : List Connection) → Follows query doc runs old list →
-    (a : Arrival) → IsLegEnd query doc runs old.arrivals list a → ((place : ℕ) (x : Connection) → slice_get list place ≡ Some x → x.dep ≤ a.arr) →
-    Arrives query doc a old new → Follows query doc runs new list
-follows-arrived query doc in_order runs old new list f a end early s =
+pub follows-arrived : (query : Query) (doc : StopsDoc) (ends : List (Option Near)) → AreNear After doc.stops doc.changes query.to ends → InChangeOrder doc.changes → (runs : List RunKey) (old new : Kept) (list : List Connection) → Follows query doc runs old list →
+    (a : Arrival) → a.stop < length doc.stops → IsLegEnd query doc runs old.arrivals list a → ((place : ℕ) (x : Connection) → slice_get list place ≡ Some x → x.dep ≤ a.arr) →
+    Arrives query doc ends a old new → Follows query doc runs new list
+follows-arrived query doc ends far in_order runs old new list f a inside end early s =
     let P : Kept → Type 0 = λ k. Follows query doc runs k list in
     let made : Kept = record { boardings = old.boardings; ready = new.ready; reached = set old.reached a.stop (Some a.arr); arrivals = old.arrivals ++ a ∷ []; best = new.best } in
     subst P (sym (same_kept new made s.boardings refl s.reached s.arrivals refl))
-    (follows_lists query doc in_order runs old list f a end early (changes_from doc.changes (id_at doc.stops a.stop)) (are_changes_from doc.changes (id_at doc.stops a.stop)) new.ready s.ready.relaxed new.best s.best)
+    (follows_lists query doc ends far in_order runs old list f a inside end early (changes_from doc.changes (id_at doc.stops a.stop)) (are_changes_from doc.changes (id_at doc.stops a.stop)) new.ready s.ready.relaxed new.best s.best)
 
 -- each leg of the longer list is reached, where the arrival is that of the new connection
 pub complete-arrived : (query : Query) (doc : StopsDoc) (arrivals : List Arrival) (list : List Connection) → IsComplete query doc arrivals list →

@@ -1,16 +1,14 @@
 -- A scan that took nothing, and what its answers are.
-use Rattle.std.proofs.Common.{◌≡◌, ℕ, ◌<◌, List, [], Option, Some, None, true, length, replicate, refl, sym, ap, subst, arith}
+use Rattle.std.proofs.Common.{◌≡◌, ℕ, ◌<◌, List, [], Option, Some, None, true, length, replicate, sym, ap, subst, arith}
 use Rattle.std.specs.List.{All}
 use Rattle.std.specs.Option.{MatchOption, is_some}
 use Rattle.std.proofs.lemmas.List.{append-nil}
 use Rattle.std.proofs.lemmas.Option.{slice_get_within, get_or_from_slice_get}
-use Rattle.lc_model.specs.Journey.{IsLeastArrival}
 use Rattle.lc_model.specs.Stop.{HasStop}
 use Rattle.lc_model.specs.declared.connection.Connection.{Connection}
 use Rattle.lc_model.specs.declared.doc.StopsDoc.{StopsDoc}
 use Rattle.lc_model.specs.declared.key.RunKey.{RunKey}
 use Rattle.lc_model.specs.declared.query.Query.{Query}
-use Rattle.lc_model.specs.declared.ride.Ride.{Ride}
 use Rattle.lc_model.specs.declared.stop.Stop.{Stop}
 use Rattle.csa_scan.specs.Kept.{AddsRuns, Kept}
 use Rattle.csa_scan.specs.Numbers.{AreNumbersOf}
@@ -29,7 +27,7 @@ stands_nothing query doc runs n = record {
     boarding_complete = λ place x e allowed after m. absurd (cc);
     ready = record { sound = λ stop r e. absurd (none_there n stop r e); complete = λ place a e stop seconds l f. absurd (cc) };
     reached = λ stop by e. absurd (none_there n stop by e);
-    best = record { sound = λ g e. absurd (cc); complete = λ place a e to. absurd (cc) };
+    best = record { sound = λ g e. absurd (cc); complete = λ place a e at to. absurd (cc) };
   };
   complete = λ ride leg after m known. let e = leg.is_boards in absurd (cc);
 }
@@ -51,15 +49,6 @@ numbers_known runs list numbers n h e = λ k d l.
     let w = slice_get_within runs r.0 c.0.key r.2 in
     let g = get_or_from_slice_get numbers k r.0 d r.1 in
     omega arith
-
--- the least arrival is one
-pub least_unique : (IsRide : Ride → Type 0) (query : Query) (doc : StopsDoc) (x y : Option ℕ) → IsLeastArrival IsRide query doc x → IsLeastArrival IsRide query doc y → x ≡ y
-least_unique IsRide query doc None None h k = refl
-least_unique IsRide query doc None (Some b) h k = absurd (h k.0.0 k.0.1)
-least_unique IsRide query doc (Some a) None h k = absurd (k h.0.0 h.0.1)
-least_unique IsRide query doc (Some a) (Some b) h k =
-    let p = h.1 k.0.0 k.0.1 in let q = k.1 h.0.0 h.0.1 in let r = h.0.2 in let s = k.0.2 in
-    let e : a ≡ b = omega arith in ap Some e
 
 -- what holds of one question and document holds of the same
 pub carried : (P : Query → StopsDoc → Type 0) (q query : Query) (d doc : StopsDoc) → q ≡ query → d ≡ doc → P q d → P query doc

@@ -5,7 +5,10 @@ pub mod Growth
 pub mod Least
 pub mod ListPlaces
 pub mod Steps
-pub mod Walk
+pub mod WayBack
+pub mod Nearness
+pub mod NearSteps
+pub mod NearWalks
 pub mod Keys
 pub mod NumbersGrow
 pub mod Sought

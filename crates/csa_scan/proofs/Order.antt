@@ -5,7 +5,6 @@ use Rattle.std.specs.List.{slice_get}
 use Rattle.std.specs.Ordering.{nat_cmp, ordering_then}
 use Rattle.std.specs.declared.cmp.Ordering.{Ordering}
 use Rattle.std.specs.declared.cmp.Ordering.TheVariants.{Less, Equal, Greater}
-use Rattle.std.proofs.lemmas.Bool.Decides.{nat_tests}
 use Rattle.std.proofs.lemmas.Cmp.{ranked}
 use Rattle.std.proofs.lemmas.List.{take_more, take_all, append_assoc, append-nil}
 use Rattle.std.proofs.lemmas.Option.{slice_get_within, slice_get-get_or, get_or_from_slice_get}
@@ -46,10 +45,6 @@ behind_all list c rest h place x e =
     let P : Connection → Type 0 = λ y. departure_cmp y (get_or whole (length list) x) ≡ Less in
     let Q : Connection → Type 0 = λ y. departure_cmp x y ≡ Less in
     departs_by x c (subst Q (get_or_from_slice_get whole (length list) c x at_c) (subst P (get_or_from_slice_get whole place x x at_x) (h place (length list) x l m)))
-
--- what arrives in time does
-pub in_time_arr : (query : Query) (list : List Connection) (place : ℕ) (x : Connection) → slice_get (in_time query list) place ≡ Some x → x.arr ≤ latest_of query
-in_time_arr query list place x e = let r = slice_get-filter (λ (c : Connection). nat_le c.arr (latest_of query)) list place x e in let t = r.1 in grind (arith, nat_tests)
 
 -- a list in order, cut before one of its connections
 cut : (taken list : List Connection) (i : ℕ) (c : Connection) → slice_get list i ≡ Some c → (rest : List Connection) × (taken ++ list ≡ (taken ++ take i list) ++ c ∷ rest)

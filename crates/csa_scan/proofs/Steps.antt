@@ -3,13 +3,15 @@ use Rattle.std.proofs.Common.{◌≡◌, ℕ, ◌<◌, ◌≤◌, List, [], ◌�
 use Rattle.std.specs.List.{slice_get}
 use Rattle.std.proofs.lemmas.Option.{slice_get_within}
 use Rattle.lc_model.specs.Change.{change_between}
-use Rattle.lc_model.specs.Question.{IsFrom}
 use Rattle.lc_model.specs.Stop.{HasStop}
 use Rattle.lc_model.specs.declared.connection.Connection.{Connection}
 use Rattle.lc_model.specs.declared.doc.StopsDoc.{StopsDoc}
 use Rattle.lc_model.specs.declared.key.RunKey.{RunKey}
 use Rattle.lc_model.specs.declared.query.Query.{Query}
 use Rattle.lc_model.specs.declared.ride.Ride.{Ride}
+use Rattle.csa_scan.specs.Near.{AreNear}
+use Rattle.csa_scan.specs.declared.side.Side.TheVariants.{Before}
+use Rattle.csa_scan.specs.declared.trace.Near.{Near}
 use Rattle.csa_scan.specs.Boards.{IsThere, CannotBoard, StaysOff, GetsOn}
 use Rattle.csa_scan.specs.Kept.{Kept}
 use Rattle.csa_scan.specs.Next.{IsNext}
@@ -18,9 +20,10 @@ use Rattle.csa_scan.specs.Stands.{IsAsked, IsReady, Follows, IsComplete, Stands}
 use Rattle.csa_scan.specs.declared.trace.Arrival.{Arrival}
 use Rattle.csa_scan.specs.declared.trace.Boarding.{Boarding}
 use Rattle.csa_scan.specs.declared.trace.Ready.{Ready}
-use Rattle.csa_scan.proofs.Changes.{HasStop-from_end, place_from_HasStop, place_to_change}
+use Rattle.csa_scan.proofs.Changes.{place_to_change}
 use Rattle.csa_scan.proofs.Growth.{EndsWith, leg_cases, leg_end-taken, boarding-taken}
 use Rattle.csa_scan.proofs.ListPlaces.{slice_get-last, push_cases, slice_get-set_same, slice_get-set_other, set_cases, same_place}
+use Rattle.csa_scan.proofs.NearWalks.{place_of_start, start_found, start_walk}
 
 -- what leads to a stop by one moment leads there by a later one
 sooner : (doc : StopsDoc) (a : Arrival) (stop by at : ℕ) (id : List ℕ) → id_at doc.stops stop ≡ id → LeadsTo doc a (id_at doc.stops stop) by → by ≤ at → LeadsTo doc a id at
@@ -29,22 +32,26 @@ sooner doc a stop by at id e h l =
     record { seconds = h.seconds; is_change = subst P e h.is_change; in_time = let t = h.in_time in omega arith }
 
 -- who is at a stop may board there
-pub may_board_there : (query : Query) (doc : StopsDoc) (arrivals : List Arrival) (ready : List (Option Ready)) → IsReady doc arrivals ready →
-    (stop at : ℕ) (after : Option ℕ) (id : List ℕ) → id_at doc.stops stop ≡ id → IsThere query doc ready stop at after → MayBoard query doc arrivals after id at
-may_board_there query doc arrivals ready h stop at None id e t = let P : List ℕ → Type 0 = λ x. IsFrom doc.stops query x in (subst P e t.0, t.1)
-may_board_there query doc arrivals ready h stop at (Some place) id e t =
+pub may_board_there : (query : Query) (doc : StopsDoc) (starts : List (Option Near)) → AreNear Before doc.stops doc.changes query.from starts → (arrivals : List Arrival) (ready : List (Option Ready)) → IsReady doc arrivals ready →
+    (stop at : ℕ) (after : Option ℕ) (id : List ℕ) → id_at doc.stops stop ≡ id → IsThere query starts ready stop at after → MayBoard query doc arrivals after id at
+may_board_there query doc starts near arrivals ready h stop at None id e t =
+    let w = start_walk query doc starts near stop id e t.0 t.1 in
+    let l = t.2 in let same = w.2 in
+    (w.0, w.1, omega arith)
+may_board_there query doc starts near arrivals ready h stop at (Some place) id e t =
     let s = h.sound stop t.0 t.1 in
     let P : ℕ → Type 0 = λ k. slice_get arrivals k ≡ Some s.0 in
     (s.0, subst P t.2 s.1, sooner doc s.0 stop t.0.at at id e s.2 t.3)
 
 -- where one cannot board, no arrival leads there
-pub may_not_board : (query : Query) (doc : StopsDoc) → IsAsked query doc → (arrivals : List Arrival) (ready : List (Option Ready)) → IsReady doc arrivals ready →
-    (c : Connection) → CannotBoard query doc ready c → (after : Option ℕ) → MayBoard query doc arrivals after c.dep_stop c.dep → ⊥
-may_not_board query doc asked arrivals ready h c cannot None m =
-    let p = place_from_HasStop doc.stops c.dep_stop (HasStop-from_end doc.stops query.from c.dep_stop asked.from_known m.0) in
-    let P : List ℕ → Type 0 = λ x. IsFrom doc.stops query x in
-    (cannot p.0 p.1 p.2).not_from (subst P (sym p.2) m.0) m.1
-may_not_board query doc asked arrivals ready h c cannot (Some place) m =
+pub may_not_board : (query : Query) (doc : StopsDoc) → IsAsked query doc → (starts : List (Option Near)) → AreNear Before doc.stops doc.changes query.from starts → (arrivals : List Arrival) (ready : List (Option Ready)) → IsReady doc arrivals ready →
+    (c : Connection) → CannotBoard query doc starts ready c → (after : Option ℕ) → MayBoard query doc arrivals after c.dep_stop c.dep → ⊥
+may_not_board query doc asked starts near arrivals ready h c cannot None m =
+    let p = place_of_start query doc asked c.dep_stop m.0 m.1 in
+    let n = start_found query doc starts near p.0 p.1 c.dep_stop p.2 m.0 m.1 in
+    let l = m.2 in let same = n.2 in
+    (cannot p.0 p.1 p.2).not_from n.0 n.1 (omega arith)
+may_not_board query doc asked starts near arrivals ready h c cannot (Some place) m =
     let l = m.2 in
     let p = place_to_change doc (id_at doc.stops m.0.stop) c.dep_stop l.seconds l.is_change in
     let P : List ℕ → Type 0 = λ x. change_between doc.changes (id_at doc.stops m.0.stop) x ≡ Some l.seconds in
@@ -62,12 +69,12 @@ boarded-set runs boardings run b l key h = elim (same_place h.run run) [
 ]
 
 -- the new boarding is one of the longer list
-pub gets_on : (query : Query) (doc : StopsDoc) (runs : List RunKey) (kept : Kept) (list : List Connection) → Follows query doc runs kept list →
-    (run : ℕ) (c : Connection) → IsNext runs list run c → (b : Boarding) → GetsOn query doc kept run c b →
+pub gets_on : (query : Query) (doc : StopsDoc) (starts : List (Option Near)) → AreNear Before doc.stops doc.changes query.from starts → (runs : List RunKey) (kept : Kept) (list : List Connection) → Follows query doc runs kept list →
+    (run : ℕ) (c : Connection) → IsNext runs list run c → (b : Boarding) → GetsOn query doc starts kept run c b →
     (run < length kept.boardings) × IsBoardingOf query doc kept.arrivals (list ++ c ∷ []) c.key b
-gets_on query doc runs kept list f run c next b (inl old) =
+gets_on query doc starts near runs kept list f run c next b (inl old) =
     (slice_get_within kept.boardings run (Some b) old, boarding-taken query doc kept.arrivals list c.key b c (f.boarding_sound run b c.key old next.is_run))
-gets_on query doc runs kept list f run c next b (inr new) = (
+gets_on query doc starts near runs kept list f run c next b (inr new) = (
   slice_get_within kept.boardings run None new.0,
   record {
     place = length list;
@@ -78,7 +85,7 @@ gets_on query doc runs kept list f run c next b (inr new) = (
     seq = new.2.seq;
     stop = new.2.stop;
     dep = new.2.dep;
-    may_board = may_board_there query doc kept.arrivals kept.ready f.ready b.stop c.dep b.after c.dep_stop new.2.stop new.2.is_there;
+    may_board = may_board_there query doc starts near kept.arrivals kept.ready f.ready b.stop c.dep b.after c.dep_stop new.2.stop new.2.is_there;
   },
 )
 
@@ -101,11 +108,11 @@ sound_after query doc runs kept list f run c next b on i x key e is_run = elim (
 ]
 
 -- a connection of a boarded run: the boarding is written down
-pub follows-boarded : (query : Query) (doc : StopsDoc) (runs : List RunKey) (kept : Kept) (list : List Connection) → Follows query doc runs kept list →
-    (run : ℕ) (c : Connection) → IsNext runs list run c → (b : Boarding) → GetsOn query doc kept run c b →
+pub follows-boarded : (query : Query) (doc : StopsDoc) (starts : List (Option Near)) → AreNear Before doc.stops doc.changes query.from starts → (runs : List RunKey) (kept : Kept) (list : List Connection) → Follows query doc runs kept list →
+    (run : ℕ) (c : Connection) → IsNext runs list run c → (b : Boarding) → GetsOn query doc starts kept run c b →
     Follows query doc runs (record kept { boardings = set kept.boardings run (Some b) }) (list ++ c ∷ [])
-follows-boarded query doc runs kept list f run c next b g =
-    let on = gets_on query doc runs kept list f run c next b g in
+follows-boarded query doc starts near runs kept list f run c next b g =
+    let on = gets_on query doc starts near runs kept list f run c next b g in
     record {
       arrival_sound = λ place a e. leg_end-taken query doc runs kept.arrivals list c a (f.arrival_sound place a e);
       boarding_sound = λ i x key e is_run. sound_after query doc runs kept list f run c next b on.1 i x key e is_run;
@@ -120,18 +127,18 @@ follows-boarded query doc runs kept list f run c next b g =
     }
 
 -- a connection that cannot be boarded is not
-never : (query : Query) (doc : StopsDoc) → IsAsked query doc → (runs : List RunKey) (kept : Kept) (list : List Connection) → Stands query doc runs kept list →
-    (run : ℕ) (c : Connection) → IsNext runs list run c → StaysOff query doc kept run c →
+never : (query : Query) (doc : StopsDoc) → IsAsked query doc → (starts : List (Option Near)) → AreNear Before doc.stops doc.changes query.from starts → (runs : List RunKey) (kept : Kept) (list : List Connection) → Stands query doc runs kept list →
+    (run : ℕ) (c : Connection) → IsNext runs list run c → StaysOff query doc starts kept run c →
     (x : Connection) → x ≡ c → x.board ≡ true → (after : Option ℕ) → MayBoard query doc kept.arrivals after x.dep_stop x.dep → ⊥
-never query doc asked runs kept list s run c next off x e allowed after m =
+never query doc asked starts near runs kept list s run c next off x e allowed after m =
     let P : Connection → Type 0 = λ y. MayBoard query doc kept.arrivals after y.dep_stop y.dep in
-    may_not_board query doc asked kept.arrivals kept.ready s.follows.ready c (off.cannot (sym (ap (λ (y : Connection). y.board) e) ∙ allowed)) after (subst P e m)
+    may_not_board query doc asked starts near kept.arrivals kept.ready s.follows.ready c (off.cannot (sym (ap (λ (y : Connection). y.board) e) ∙ allowed)) after (subst P e m)
 
 -- no leg of a run that stays unboarded ends with the new connection
-no_end : (query : Query) (doc : StopsDoc) → IsAsked query doc → (runs : List RunKey) (kept : Kept) (list : List Connection) → Stands query doc runs kept list →
-    (run : ℕ) (c : Connection) → IsNext runs list run c → StaysOff query doc kept run c →
+no_end : (query : Query) (doc : StopsDoc) → IsAsked query doc → (starts : List (Option Near)) → AreNear Before doc.stops doc.changes query.from starts → (runs : List RunKey) (kept : Kept) (list : List Connection) → Stands query doc runs kept list →
+    (run : ℕ) (c : Connection) → IsNext runs list run c → StaysOff query doc starts kept run c →
     (ride : Ride) → EndsWith list c ride → (after : Option ℕ) → MayBoard query doc kept.arrivals after ride.board ride.dep → ⊥
-no_end query doc asked runs kept list s run c next off ride ends after m =
+no_end query doc asked starts near runs kept list s run c next off ride ends after m =
     let P : List ℕ → Type 0 = λ id. MayBoard query doc kept.arrivals after id ride.dep in
     let Q : ℕ → Type 0 = λ at. MayBoard query doc kept.arrivals after ends.boards.dep_stop at in
     let may = subst Q ends.dep (subst P ends.board m) in
@@ -144,19 +151,19 @@ no_end query doc asked runs kept list s run c next off ride ends after m =
           let on = subst S same b.is_boarding in
           let not_on = off.not_boarded in
           absurd (cc)
-      | inr new ↦ never query doc asked runs kept list s run c next off ends.boards new.1 ends.may_board after may
+      | inr new ↦ never query doc asked starts near runs kept list s run c next off ends.boards new.1 ends.may_board after may
     ]
 
 -- a connection of a run that stays unboarded
-pub stands-passed : (query : Query) (doc : StopsDoc) → IsAsked query doc → (runs : List RunKey) (kept : Kept) (list : List Connection) → Stands query doc runs kept list →
-    (run : ℕ) (c : Connection) → IsNext runs list run c → StaysOff query doc kept run c → Stands query doc runs kept (list ++ c ∷ [])
-stands-passed query doc asked runs kept list s run c next off = record {
+pub stands-passed : (query : Query) (doc : StopsDoc) → IsAsked query doc → (starts : List (Option Near)) → AreNear Before doc.stops doc.changes query.from starts → (runs : List RunKey) (kept : Kept) (list : List Connection) → Stands query doc runs kept list →
+    (run : ℕ) (c : Connection) → IsNext runs list run c → StaysOff query doc starts kept run c → Stands query doc runs kept (list ++ c ∷ [])
+stands-passed query doc asked starts near runs kept list s run c next off = record {
   follows = let f = s.follows in record {
     arrival_sound = λ place a e. leg_end-taken query doc runs kept.arrivals list c a (f.arrival_sound place a e);
     boarding_sound = λ i x key e is_run. boarding-taken query doc kept.arrivals list key x c (f.boarding_sound i x key e is_run);
     boarding_complete = λ place x e allowed after m. elim (push_cases list c place x e) [
       | inl old ↦ f.boarding_complete place x old allowed after m
-      | inr new ↦ absurd (never query doc asked runs kept list s run c next off x new.1 allowed after m)
+      | inr new ↦ absurd (never query doc asked starts near runs kept list s run c next off x new.1 allowed after m)
     ];
     ready = f.ready;
     reached = f.reached;
@@ -164,7 +171,7 @@ stands-passed query doc asked runs kept list s run c next off = record {
   };
   complete = λ ride leg after m known. elim (leg_cases list c ride leg) [
     | inl old ↦ s.complete ride old after m known
-    | inr ends ↦ absurd (no_end query doc asked runs kept list s run c next off ride ends after m)
+    | inr ends ↦ absurd (no_end query doc asked starts near runs kept list s run c next off ride ends after m)
   ];
 }
 

@@ -2,6 +2,7 @@ pub mod Boards
 pub mod Done
 pub mod Kept
 pub mod Linked
+pub mod Near
 pub mod Next
 pub mod Numbers
 pub mod PlaceOf
@@ -12,3 +13,4 @@ pub mod Stands
 pub mod StandsFor
 pub mod Takes
 pub mod Texts
+pub mod Walks

@@ -1,16 +1,17 @@
--- How a question's stops are reached: from its begin, or by a change after an arrival.
+-- How a question's stops are reached: from its begin, with a walk or without one, or by a change after an arrival.
 use Rattle.std.specs.Prelude.{◌≡◌, ℕ, ◌+◌, ◌≤◌, List, [], Option, Some, None, true}
 use Rattle.std.specs.List.{slice_get}
 use Rattle.std.specs.Option.{option_map_or}
 use Rattle.lc_model.specs.Change.{change_between}
 use Rattle.lc_model.specs.Leg.{IsLegOf}
-use Rattle.lc_model.specs.Question.{IsFrom}
+use Rattle.lc_model.specs.Walk.{IsWalkBefore, seconds_of}
 use Rattle.lc_model.specs.declared.connection.Connection.{Connection}
 use Rattle.lc_model.specs.declared.doc.StopsDoc.{StopsDoc}
 use Rattle.lc_model.specs.declared.key.RunKey.{RunKey}
 use Rattle.lc_model.specs.declared.query.Query.{Query}
 use Rattle.lc_model.specs.declared.ride.Ride.{Ride}
 use Rattle.lc_model.specs.declared.stop.Stop.{Stop}
+use Rattle.lc_model.specs.declared.walk.Walk.{Walk}
 use Rattle.csa_scan.specs.declared.trace.Arrival.{Arrival}
 use Rattle.csa_scan.specs.declared.trace.Boarding.{Boarding}
 
@@ -24,9 +25,9 @@ pub record LeadsTo (doc : StopsDoc) (arrival : Arrival) (stop : List ℕ) (by : 
   pub is_change : change_between doc.changes (id_at doc.stops arrival.stop) stop ≡ Some seconds
   pub in_time : arrival.arr + seconds ≤ by
 
--- one may board at the stop then: at the begin of the question, or after one of the arrivals
+-- one may board at the stop then: after the walk before the first ride, if it needs one, or after one of the arrivals
 abbrev pub MayBoard : Query → StopsDoc → List Arrival → Option ℕ → List ℕ → ℕ → Type 0
-MayBoard query doc arrivals None stop at = IsFrom doc.stops query stop × (query.leave ≤ at)
+MayBoard query doc arrivals None stop at = (walk : Option Walk) × IsWalkBefore query doc stop walk × (query.leave + seconds_of walk ≤ at)
 MayBoard query doc arrivals (Some place) stop at =
     (arrival : Arrival) × (slice_get arrivals place ≡ Some arrival) × LeadsTo doc arrival stop at
 

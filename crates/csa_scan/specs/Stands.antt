@@ -3,13 +3,15 @@ use Rattle.std.specs.Prelude.{◌≡◌, ℕ, ◌+◌, ◌<◌, ◌≤◌, List,
 use Rattle.std.specs.List.{slice_get}
 use Rattle.lc_model.specs.Change.{change_between}
 use Rattle.lc_model.specs.Leg.{IsLegOf}
-use Rattle.lc_model.specs.Question.{IsTo}
+use Rattle.lc_model.specs.Question.{latest_of}
 use Rattle.lc_model.specs.Stop.{HasStop}
+use Rattle.lc_model.specs.Walk.{IsWalkAfter, seconds_of}
 use Rattle.lc_model.specs.declared.connection.Connection.{Connection}
 use Rattle.lc_model.specs.declared.doc.StopsDoc.{StopsDoc}
 use Rattle.lc_model.specs.declared.key.RunKey.{RunKey}
 use Rattle.lc_model.specs.declared.query.Query.{Query}
 use Rattle.lc_model.specs.declared.ride.Ride.{Ride}
+use Rattle.lc_model.specs.declared.walk.Walk.{Walk}
 use Rattle.csa_scan.specs.Kept.{Kept}
 use Rattle.csa_scan.specs.Reach.{id_at, LeadsTo, MayBoard, IsLegEnd, IsBoardingOf, IsBoarded, IsReachedBy}
 use Rattle.csa_scan.specs.declared.trace.Arrival.{Arrival}
@@ -30,12 +32,19 @@ pub record IsReady (doc : StopsDoc) (arrivals : List Arrival) (ready : List (Opt
       (stop seconds : ℕ) → stop < length doc.stops → change_between doc.changes (id_at doc.stops arrival.stop) (id_at doc.stops stop) ≡ Some seconds →
       (r : Ready) × (slice_get ready stop ≡ Some (Some r)) × (r.at ≤ arrival.arr + seconds)
 
--- the best goal is an arrival at an end of the question, and none is earlier; without one no arrival is at an end
+-- the arrival leads to an end of the question within its horizon, then, by the walk after it, if it needs one
+pub record LeadsToEnd (query : Query) (doc : StopsDoc) (arrival : Arrival) (at : ℕ) : Type 0 where
+  pub walk : Option Walk
+  pub is_walk : IsWalkAfter query doc (id_at doc.stops arrival.stop) walk
+  pub is_then : arrival.arr + seconds_of walk ≡ at
+  pub in_time : at ≤ latest_of query
+
+-- the best goal is an arrival that leads to an end of the question, and none is earlier; without one no arrival leads to one
 pub record IsBestGoal (query : Query) (doc : StopsDoc) (arrivals : List Arrival) (best : Option Goal) : Type 0 where
   pub sound : (g : Goal) → best ≡ Some g →
-      (arrival : Arrival) × (slice_get arrivals g.place ≡ Some arrival) × IsTo doc.stops query (id_at doc.stops arrival.stop) × (arrival.arr ≡ g.arr)
+      (arrival : Arrival) × (slice_get arrivals g.place ≡ Some arrival) × LeadsToEnd query doc arrival g.arr
   pub complete : (place : ℕ) (arrival : Arrival) → slice_get arrivals place ≡ Some arrival →
-      IsTo doc.stops query (id_at doc.stops arrival.stop) → (g : Goal) × (best ≡ Some g) × (g.arr ≤ arrival.arr)
+      (at : ℕ) → LeadsToEnd query doc arrival at → (g : Goal) × (best ≡ Some g) × (g.arr ≤ at)
 
 -- the arrivals and the boardings are those of the list: each is one, and each run that may be boarded is boarded
 pub record Follows (query : Query) (doc : StopsDoc) (runs : List RunKey) (kept : Kept) (list : List Connection) : Type 0 where

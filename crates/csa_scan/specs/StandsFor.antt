@@ -7,9 +7,9 @@ use Rattle.lc_model.specs.declared.connection.Connection.{Connection}
 use Rattle.lc_model.specs.declared.doc.StopsDoc.{StopsDoc}
 use Rattle.lc_model.specs.declared.journey.Journey.{Journey}
 use Rattle.lc_model.specs.declared.query.Query.{Query}
-use Rattle.lc_model.specs.declared.ride.Ride.{Ride}
 use Rattle.csa_scan.specs.Kept.{kept_of}
 use Rattle.csa_scan.specs.Stands.{IsAsked, Stands}
+use Rattle.csa_scan.specs.Walks.{AreWalks}
 use Rattle.csa_scan.specs.declared.scan.Scan.{Scan}
 
 -- the scan was begun for the question over the document, and took the connections of the list, in its order
@@ -17,6 +17,7 @@ pub record StandsFor (scan : Scan) (query : Query) (doc : StopsDoc) (list : List
   pub same_query : scan.query ≡ query
   pub same_doc : scan.doc ≡ doc
   pub asked : IsAsked query doc
+  pub walks : AreWalks query doc scan.walks
   pub stands : Stands query doc scan.runs (kept_of scan.progress) (in_time query list)
 
 -- whatever list the scan stood for, it stands for that list with the new one behind it, where this is in departure order
@@ -30,5 +31,5 @@ StaysAsItWas old new = (query : Query) (doc : StopsDoc) (taken : List Connection
 
 -- the journey is a chain of the list, and none arrives earlier; or there is no chain
 abbrev pub IsBestChain : Query → StopsDoc → List Connection → Option Journey → Type 0
-IsBestChain query doc list None = (journey : List Ride) → IsChain query doc list journey → ⊥
-IsBestChain query doc list (Some journey) = IsBest (IsLegOf (in_time query list)) query doc journey.rides
+IsBestChain query doc list None = (journey : Journey) → IsChain query doc list journey → ⊥
+IsBestChain query doc list (Some journey) = IsBest (IsLegOf (in_time query list)) query doc journey

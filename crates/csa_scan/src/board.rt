@@ -1,14 +1,15 @@
-ghost use Rattle.std.specs.Prelude.{◌≡◌, ◌<◌, ◌≤◌, ◌⊎◌, ◌↔◌, ℕ, IsTrue, MatchOption, None, Some, true, length};
+ghost use Rattle.std.specs.Prelude.{◌≡◌, ◌+◌, ◌<◌, ◌≤◌, ◌⊎◌, ◌↔◌, ℕ, IsTrue, MatchOption, None, Some, true, length};
 ghost use Rattle.std.specs.List.{slice_get};
 ghost use Rattle.lc_model.specs.Question.{latest_of};
 ghost use Rattle.lc_model.specs.Stop.{InStopOrder};
 ghost use Rattle.csa_scan.specs.Boards.{CannotBoard, IsFirstBoarding, IsNotThere, IsThere};
 ghost use Rattle.csa_scan.specs.Done.{IsDone};
-ghost use Rattle.csa_scan.specs.Takes.{IsArrivalOf, IsReachedAlready, PicksGoal};
+ghost use Rattle.csa_scan.specs.Takes.{IsArrivalOf, IsGoal, IsNoGoal, IsReachedAlready, PicksGoal};
+ghost use Rattle.csa_scan.specs.declared.trace.Near.{Near};
 ghost use Rattle.csa_scan.specs.declared.trace.Ready.{Ready};
 
-use crate::places::{is_end, place_of};
-use crate::trace::{Arrival, Boarding, Goal, Ready};
+use crate::places::place_of;
+use crate::trace::{Arrival, Boarding, Goal, Near, Ready};
 use lc_model::{Connection, Moment, Query, StopsDoc};
 
 /// Whether the connection arrives after the question's horizon.
@@ -29,20 +30,30 @@ fn ready_by(ready: Option<Ready>, at: u64) -> Option<usize>
     }
 }
 
-/// How one is at the stop at the moment: after an arrival, or none where the question begins there. It is none itself
-/// where one is not there.
+/// Whether one is there by the moment from where the question begins.
+fn starts_by(query: &Query, start: Option<Near>, at: Moment) -> bool
+    ensures { IsTrue result ↔ ((n : Near) × (start ≡ Some n) × (query.now.leave + n.seconds ≤ at)) }
+{
+    match start {
+        Some(near) => query.leave.seconds() + u64::from(near.seconds) <= at.seconds(),
+        None => false,
+    }
+}
+
+/// How one is at the stop at the moment: after an arrival, or none where one comes from where the question begins. It is
+/// none itself where one is not there.
 fn way_to(
     query: &Query,
-    doc: &StopsDoc,
+    starts: &[Option<Near>],
     ready: &[Option<Ready>],
     stop: usize,
     at: Moment,
 ) -> Option<Option<usize>>
-    requires one_each { length ready.now ≡ length doc.now.stops }
-    requires within { stop < length doc.now.stops }
-    ensures { MatchOption result (IsNotThere query.now doc.now ready.now stop at) (IsThere query.now doc.now ready.now stop at) }
+    requires each_start { stop < length starts.now }
+    requires each_ready { stop < length ready.now }
+    ensures { MatchOption result (IsNotThere query.now starts.now ready.now stop at) (IsThere query.now starts.now ready.now stop at) }
 {
-    if query.leave <= at && is_end(doc.stops.as_slice(), stop, &query.from) {
+    if starts_by(query, starts[stop], at) {
         return Some(None);
     }
     let after = ready_by(ready[stop], at.seconds())?;
@@ -53,14 +64,17 @@ fn way_to(
 fn first_boarding(
     query: &Query,
     doc: &StopsDoc,
+    starts: &[Option<Near>],
     ready: &[Option<Ready>],
     connection: &Connection,
 ) -> Option<Boarding>
-    requires { length ready.now ≡ length doc.now.stops }
-    ensures { MatchOption result (CannotBoard query.now doc.now ready.now connection.now) (IsFirstBoarding query.now doc.now ready.now connection.now) }
+    requires each_start { length starts.now ≡ length doc.now.stops }
+    requires each_ready { length ready.now ≡ length doc.now.stops }
+    ensures { MatchOption result (CannotBoard query.now doc.now starts.now ready.now connection.now)
+        (IsFirstBoarding query.now doc.now starts.now ready.now connection.now) }
 {
     let stop = place_of(doc.stops.as_slice(), &connection.dep_stop)?;
-    let after = way_to(query, doc, ready, stop, connection.dep)?;
+    let after = way_to(query, starts, ready, stop, connection.dep)?;
     Some(Boarding {
         seq: connection.seq,
         stop,
@@ -73,18 +87,20 @@ fn first_boarding(
 pub fn boarding(
     query: &Query,
     doc: &StopsDoc,
+    starts: &[Option<Near>],
     ready: &[Option<Ready>],
     before: Option<Boarding>,
     connection: &Connection,
 ) -> Option<Boarding>
-    requires { length ready.now ≡ length doc.now.stops }
+    requires each_start { length starts.now ≡ length doc.now.stops }
+    requires each_ready { length ready.now ≡ length doc.now.stops }
     ensures { MatchOption result
-        ((before ≡ None) × (connection.now.board ≡ true → CannotBoard query.now doc.now ready.now connection.now))
-        (λ b. (before ≡ Some b) ⊎ ((before ≡ None) × (connection.now.board ≡ true) × IsFirstBoarding query.now doc.now ready.now connection.now b)) }
+        ((before ≡ None) × (connection.now.board ≡ true → CannotBoard query.now doc.now starts.now ready.now connection.now))
+        (λ b. (before ≡ Some b) ⊎ ((before ≡ None) × (connection.now.board ≡ true) × IsFirstBoarding query.now doc.now starts.now ready.now connection.now b)) }
 {
     match before {
         Some(boarding) => Some(boarding),
-        None if connection.board => first_boarding(query, doc, ready, connection),
+        None if connection.board => first_boarding(query, doc, starts, ready, connection),
         None => None,
     }
 }
@@ -127,13 +143,36 @@ pub fn new_arrival(
     })
 }
 
-/// The earlier of the best goal and the new one, if this is one.
-pub fn better(best: Option<Goal>, is_goal: bool, goal: Goal) -> Option<Goal>
-    ensures { PicksGoal best is_goal goal result }
+/// The goal of the arrival at the place, if the end nearest to its stop is reached within the horizon.
+pub fn goal_of(
+    query: &Query,
+    ends: &[Option<Near>],
+    stop: usize,
+    arr: Moment,
+    place: usize,
+) -> Option<Goal>
+    requires within { stop < length ends.now }
+    requires up_to_a_week { query.now.horizon ≤ 604_800 }
+    ensures { MatchOption result (IsNoGoal query.now ends.now stop arr) (IsGoal query.now ends.now stop arr place) }
 {
+    let near = ends[stop]?;
+    let at = arr.seconds() + u64::from(near.seconds);
+    if query.leave.seconds() + u64::from(query.horizon) < at {
+        return None;
+    }
+    let arr = Moment::new(at)?;
+    Some(Goal { arr, place })
+}
+
+/// The earlier of the best goal and the new one, if there is one.
+pub fn better(best: Option<Goal>, goal: Option<Goal>) -> Option<Goal>
+    ensures { PicksGoal best goal result }
+{
+    let Some(goal) = goal else {
+        return best;
+    };
     match best {
-        Some(best) if !is_goal || best.arr <= goal.arr => Some(best),
-        None if !is_goal => None,
+        Some(best) if best.arr <= goal.arr => Some(best),
         _ => Some(goal),
     }
 }

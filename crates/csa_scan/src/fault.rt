@@ -1,4 +1,4 @@
-ghost use Rattle.csa_scan.specs.declared.fault.BeginFault.TheVariants.{NoMemory as MemoryFault};
+ghost use Rattle.csa_scan.specs.declared.fault.BeginFault.TheVariants.{NoMemory as OutOfMemory};
 ghost use Rattle.csa_scan.specs.Texts.{fault_text};
 ghost use Rattle.std.specs.Prelude.{◌≡◌, Some};
 
@@ -32,7 +32,7 @@ impl fmt::Display for BeginFault {
 impl Error for BeginFault {}
 
 impl From<NoMemory> for BeginFault {
-    ghost from_gives = { λ _ fault. fault ≡ MemoryFault };
+    ghost from_gives = { λ _ fault. fault ≡ OutOfMemory };
 
     fn from(_: NoMemory) -> Self {
         BeginFault::NoMemory

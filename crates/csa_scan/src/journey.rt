@@ -1,4 +1,4 @@
-ghost use Rattle.std.specs.Prelude.{◌≡◌, ◌<◌, ◌≤◌, ℕ, IfOk, length};
+ghost use Rattle.std.specs.Prelude.{◌≡◌, ◌≢◌, ◌<◌, ◌≤◌, ℕ, [], IfOk, length};
 ghost use Rattle.std.specs.List.{slice_get};
 ghost use Rattle.csa_scan.specs.Linked.{IsArrivalIn};
 ghost use Rattle.csa_scan.specs.Reach.{IsShown};
@@ -41,7 +41,8 @@ pub fn rides_to(
 ) -> Result<Vec<Ride>, NoMemory>
     requires points_back { PointsBack (length stops.now) (length runs.now) arrivals.now }
     requires within { place < length arrivals.now }
-    ensures { IfOk result (λ rides. AreRidesTo stops.now runs.now arrivals.now place rides.items) }
+    ensures rides { IfOk result (λ rides. AreRidesTo stops.now runs.now arrivals.now place rides.items) }
+    ensures not_empty { IfOk result (λ rides. rides.items ≢ []) }
 {
     let mut rides = Vec::new(alloc);
     let mut after = Some(place);

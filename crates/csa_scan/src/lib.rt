@@ -6,12 +6,15 @@
 mod board;
 mod fault;
 mod journey;
+mod near;
 mod places;
 mod progress;
 mod ready;
 mod run_numbers;
 mod scan;
+mod side;
 mod trace;
+mod walks;
 
 pub use fault::BeginFault;
 pub use scan::Scan;

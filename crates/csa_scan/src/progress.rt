@@ -1,9 +1,9 @@
 ghost use Rattle.csa_scan.specs.Linked.{IsLinked};
 
-use crate::board::{better, boarding, is_late, new_arrival};
-use crate::places::is_end;
+use crate::board::{better, boarding, goal_of, is_late, new_arrival};
 use crate::ready::relax;
-use crate::trace::{Arrival, Boarding, Goal, Ready};
+use crate::trace::{Arrival, Boarding, Goal, Near, Ready};
+use crate::walks::Walks;
 use lc_model::{Connection, Moment, NoMemory, Query, StopsDoc};
 use std::alloc::Global;
 
@@ -18,7 +18,7 @@ pub struct Progress {
     pub reached: Vec<Option<Moment>>,
     /// The arrivals in their order. Each was boarded after an earlier one.
     pub arrivals: Vec<Arrival>,
-    /// The least arrival at an end of the question.
+    /// The least arrival at an end of the question, with the walk after it.
     pub best: Option<Goal>,
     pub ghost linked: { IsLinked boardings.items ready.items reached.items arrivals.items best },
 }
@@ -36,6 +36,7 @@ impl Progress {
     ghost use Rattle.csa_scan.specs.Numbers.{AreDistinct, AreNumbersOf};
     ghost use Rattle.csa_scan.specs.Stands.{IsAsked, Stands};
     ghost use Rattle.csa_scan.specs.Takes.{Arrives};
+    ghost use Rattle.csa_scan.specs.Walks.{AreWalks};
 
     /// Nothing is found out yet about so many stops.
     pub fn new(alloc: Global, stops: usize) -> Result<Progress, NoMemory>
@@ -57,11 +58,13 @@ impl Progress {
     }
 
     /// Keeps the arrival, with what it makes ready. There is room for it.
-    fn arrive(&mut self, query: &Query, doc: &StopsDoc, arrival: Arrival)
+    fn arrive(&mut self, query: &Query, doc: &StopsDoc, ends: &[Option<Near>], arrival: Arrival)
         requires one_each { length self.old.ready.items ≡ length doc.now.stops }
+        requires each_end { length ends.now ≡ length doc.now.stops }
+        requires up_to_a_week { query.now.horizon ≤ 604_800 }
         requires within { IsArrivalIn (length self.old.ready.items) (length self.old.boardings.items) (length self.old.arrivals.items) arrival }
         requires room { vec_len self.old.arrivals < vec_capacity self.old.arrivals }
-        ensures arrives { Arrives query.now doc.now arrival (kept_of self.old) (kept_of self.new) }
+        ensures arrives { Arrives query.now doc.now ends.now arrival (kept_of self.old) (kept_of self.new) }
         ensures room { vec_capacity self.old.arrivals ≤ vec_capacity self.new.arrivals }
     {
         let place = self.arrivals.len();
@@ -69,17 +72,26 @@ impl Progress {
         let stop = arrival.stop;
         relax(doc, &mut self.ready, stop, arr, place);
         self.reached[stop] = Some(arr);
-        let is_there = is_end(doc.stops.as_slice(), stop, &query.to);
-        self.best = better(self.best, is_there, Goal { arr, place });
+        let goal = goal_of(query, ends, stop, arr, place);
+        self.best = better(self.best, goal);
         self.arrivals.push(arrival).unwrap();
     }
 
     /// Takes the connection, the next one behind those that were taken. Its run has this number.
-    pub fn take_one(&mut self, query: &Query, doc: &StopsDoc, connection: &Connection, run: usize)
+    pub fn take_one(
+        &mut self,
+        query: &Query,
+        doc: &StopsDoc,
+        walks: &Walks,
+        connection: &Connection,
+        run: usize,
+    )
         requires one_each { length self.old.ready.items ≡ length doc.now.stops }
+        requires each_walk { length walks.now.starts.items ≡ length doc.now.stops }
+        requires up_to_a_week { query.now.horizon ≤ 604_800 }
         requires known { run < length self.old.boardings.items }
         requires room { vec_len self.old.arrivals < vec_capacity self.old.arrivals }
-        ensures stands { (runs : List RunKey) (list : List Connection) → IsAsked query.now doc.now → IsNext runs (in_time query.now list) run connection.now
+        ensures stands { (runs : List RunKey) (list : List Connection) → IsAsked query.now doc.now → AreWalks query.now doc.now walks.now → IsNext runs (in_time query.now list) run connection.now
             → Stands query.now doc.now runs (kept_of self.old) (in_time query.now list)
             → Stands query.now doc.now runs (kept_of self.new) (in_time query.now (list ++ connection.now ∷ [])) }
         ensures same_stops { length self.new.ready.items ≡ length self.old.ready.items }
@@ -91,7 +103,9 @@ impl Progress {
             return;
         }
         let before = self.boardings[run];
-        let Some(boarding) = boarding(query, doc, self.ready.as_slice(), before, connection) else {
+        let starts = walks.starts.as_slice();
+        let ready = self.ready.as_slice();
+        let Some(boarding) = boarding(query, doc, starts, ready, before, connection) else {
             return;
         };
         let arrival = new_arrival(doc, self.reached.as_slice(), connection, run, &boarding);
@@ -99,7 +113,7 @@ impl Progress {
         let Some(arrival) = arrival else {
             return;
         };
-        self.arrive(query, doc, arrival);
+        self.arrive(query, doc, walks.ends.as_slice(), arrival);
     }
 
     /// Makes room for so many runs, none of the new ones boarded, and so many arrivals more.
@@ -119,14 +133,17 @@ impl Progress {
         &mut self,
         query: &Query,
         doc: &StopsDoc,
+        walks: &Walks,
         list: &[Connection],
         numbers: &[usize],
     )
         requires one_each { length self.old.ready.items ≡ length doc.now.stops }
+        requires each_walk { length walks.now.starts.items ≡ length doc.now.stops }
+        requires up_to_a_week { query.now.horizon ≤ 604_800 }
         requires same_length { length numbers.now ≡ length list.now }
         requires known { All (λ n. n < length self.old.boardings.items) numbers.now }
         requires room { vec_len self.old.arrivals + length list.now ≤ vec_capacity self.old.arrivals }
-        ensures stands { (runs : List RunKey) (taken : List Connection) → IsAsked query.now doc.now → AreDistinct runs → AreNumbersOf runs list.now numbers.now
+        ensures stands { (runs : List RunKey) (taken : List Connection) → IsAsked query.now doc.now → AreWalks query.now doc.now walks.now → AreDistinct runs → AreNumbersOf runs list.now numbers.now
             → InDepartureOrder (taken ++ list.now) → NoneArrivesEarly list.now
             → Stands query.now doc.now runs (kept_of self.old) (in_time query.now taken)
             → Stands query.now doc.now runs (kept_of self.new) (in_time query.now (taken ++ list.now)) }
@@ -134,7 +151,7 @@ impl Progress {
         ensures same_runs { length self.new.boardings.items ≡ length self.old.boardings.items }
     {
         for (i, connection) in list.iter().enumerate() {
-            self.take_one(query, doc, connection, numbers[i]);
+            self.take_one(query, doc, walks, connection, numbers[i]);
         }
     }
 }

@@ -6,9 +6,8 @@ use crate::journey::rides_to;
 use crate::places::place_of;
 use crate::progress::Progress;
 use crate::run_numbers::{RunNumbers, number_each};
-use lc_model::{
-    Connection, Connections, Journey, Moment, NoMemory, PlainData, Query, Rides, StopsDoc,
-};
+use crate::walks::Walks;
+use lc_model::{Connection, Connections, Journey, Moment, NoMemory, PlainData, Query, StopsDoc};
 use std::alloc::Global;
 
 /// A scan for one question. It takes connections in departure order, list by list, and tells at any time the best
@@ -17,9 +16,12 @@ use std::alloc::Global;
 pub struct Scan {
     query: Query,
     doc: StopsDoc,
+    walks: Walks,
     runs: RunNumbers,
     progress: Progress,
+    ghost up_to_a_week: { query.horizon ≤ 604800 },
     ghost one_each: { length progress.ready.items ≡ length doc.stops },
+    ghost each_walk: { length walks.starts.items ≡ length doc.stops },
     ghost numbered: { length progress.boardings.items ≤ length runs },
 }
 
@@ -35,7 +37,7 @@ impl Scan {
     ghost use Rattle.csa_scan.specs.Numbers.{AreDistinct, AreNumbersOf};
     ghost use Rattle.csa_scan.specs.StandsFor.{GoesOnBy, IsBestChain, StandsFor, StaysAsItWas};
 
-    /// Begins a scan for the question. Linear in the document.
+    /// Begins a scan for the question. Linear in the document, times the logarithm of its stops.
     pub fn begin(alloc: Global, query: &Query, doc: &StopsDoc) -> Result<Scan, BeginFault>
         requires from_one { 1 ≤ query.now.horizon }
         requires up_to_a_week { query.now.horizon ≤ 604_800 }
@@ -52,10 +54,13 @@ impl Scan {
             return Err(BeginFault::UnknownTo);
         }
         let progress = Progress::new(alloc, stops.len())?;
+        let walks = Walks::new(alloc, query, doc)?;
+        let runs = RunNumbers::new(alloc);
         Ok(Scan {
             query: query.copy(alloc)?,
             doc: doc.copy(alloc)?,
-            runs: RunNumbers::new(alloc),
+            walks,
+            runs,
             progress,
         })
     }
@@ -68,8 +73,13 @@ impl Scan {
     {
         let list = list.as_slice();
         let numbers = self.prepare(alloc, list)?;
-        self.progress
-            .take_each(&self.query, &self.doc, list, numbers.as_slice());
+        self.progress.take_each(
+            &self.query,
+            &self.doc,
+            &self.walks,
+            list,
+            numbers.as_slice(),
+        );
         Ok(())
     }
 
@@ -117,8 +127,7 @@ impl Scan {
             self.progress.arrivals.as_slice(),
             goal.place,
         )?;
-        Ok(Some(Journey {
-            rides: Rides::from_list(rides),
-        }))
+        let journey = self.walks.journey(alloc, stops, rides)?;
+        Ok(Some(journey))
     }
 }

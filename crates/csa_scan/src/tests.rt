@@ -4,11 +4,14 @@ ghost use Rattle.lc_model.specs.Change.{InChangeOrder};
 ghost use Rattle.lc_model.specs.Connection.{NoneArrivesEarly};
 ghost use Rattle.lc_model.specs.Stop.{HasStop, InStopOrder};
 
+mod answers;
+mod walks;
+
+use crate::Scan;
 use crate::places::place_of;
-use crate::{BeginFault, Scan};
 use lc_model::{
-    Change, Changes, Connection, Connections, Id, Moment, NoMemory, Query, Ride, RunKey,
-    ServiceDate, Stop, Stops, StopsDoc, Text,
+    Change, Changes, Connection, Connections, Id, Journey, Moment, NoMemory, Query, Ride, RunKey,
+    ServiceDate, Stop, Stops, StopsDoc, Text, Walk,
 };
 use std::alloc::Global;
 use std::process::Abort;
@@ -263,26 +266,70 @@ fn scan_of(
     Ok(scan)
 }
 
-/// Takes all lists, one after the other, and compares the answers with the rides that are wanted, or with none.
+/// A walk as its first stop, its last stop and its seconds.
+type WalkRow = (&'static str, &'static str, u32);
+
+fn is_walk(walk: Option<&Walk>, row: Option<WalkRow>) -> bool {
+    match (walk, row) {
+        (Some(walk), Some((from, to, seconds))) => {
+            walk.from.as_str() == from && walk.to.as_str() == to && walk.seconds == seconds
+        }
+        (None, None) => true,
+        _ => false,
+    }
+}
+
+/// A journey as its walk before, its rides and its walk after. Without rides there is none.
+#[derive(Clone, Copy)]
+struct JourneyRows {
+    before: Option<WalkRow>,
+    rides: &'static [RideRow],
+    after: Option<WalkRow>,
+}
+
+/// A journey without walks.
+fn by_rides(rides: &'static [RideRow]) -> JourneyRows {
+    JourneyRows {
+        before: None,
+        rides,
+        after: None,
+    }
+}
+
+fn is_journey(rt: &impl Abort, journey: &Journey, wanted: &JourneyRows) -> bool {
+    are_rides(rt, journey.rides.as_slice(), wanted.rides)
+        && is_walk(journey.before.as_ref(), wanted.before)
+        && is_walk(journey.after.as_ref(), wanted.after)
+}
+
+/// The moment at which the journey arrives, if there is one.
+fn arrival(rt: &impl Abort, wanted: &JourneyRows) -> Option<Moment> {
+    let last = wanted.rides.last()?;
+    let walked = wanted.after.map_or(0, |walk| u64::from(walk.2));
+    let at = MIDNIGHT + u64::from(last.6) + walked;
+    Some(Moment::new(at).expect(rt, "a moment"))
+}
+
+/// Takes all lists, one after the other, and compares the answers with the journey that is wanted, or with none.
 fn check(
     rt: &impl Abort,
     alloc: Global,
     doc: &StopsDoc,
     query: &Query,
     lists: &[Connections],
-    wanted: &[RideRow],
+    wanted: &JourneyRows,
 ) -> Result<(), Fail> {
     assert!(rt; query.horizon >= 1 && query.horizon <= 604_800);
     let scan = scan_of(alloc, doc, query, lists)?;
-    let arrival = wanted.last().map(|row| moment(rt, row.6));
+    let arrival = arrival(rt, wanted);
     assert_eq!(rt; scan.best(), arrival);
     let latest = query.leave.seconds() + u64::from(query.horizon);
     let over = arrival.map_or(latest, |arrival| arrival.seconds());
     assert!(rt; scan.done(Moment::new(over).expect(rt, "a moment")));
     assert!(rt; !scan.done(Moment::new(over.saturating_sub(1)).expect(rt, "a moment")));
     match scan.journey(alloc)? {
-        Some(journey) => assert!(rt; are_rides(rt, journey.rides.as_slice(), wanted)),
-        None => assert!(rt; wanted.is_empty()),
+        Some(journey) => assert!(rt; is_journey(rt, &journey, wanted)),
+        None => assert!(rt; wanted.rides.is_empty()),
     }
     Ok(())
 }
@@ -316,103 +363,3 @@ const LATER: [(&str, u32, &str, u32, &str, u32); 2] = [
     ("T4", 1, "E", 32_400, "F", 33_000),
     ("T5", 1, "E", 36_000, "F", 36_600),
 ];
-
-const BY_T3: [RideRow; 2] = [
-    ("T1", 1, 1, "A", 28_800, "B", 29_400),
-    ("T3", 1, 1, "B", 29_520, "D", 30_660),
-];
-
-#[test]
-fn answers_questions_over_a_small_feed(rt: HostRuntime) -> Result<(), Fail> {
-    let alloc = rt.alloc();
-    let doc = document(&rt, alloc, &STOPS, &CHANGES)?;
-    let lists = vec![in alloc;
-        connections(&rt, alloc, &MORNING)?,
-        connections(&rt, alloc, &LATER)?,
-    ]?;
-    let none: &[RideRow] = &[];
-    for &(leave, horizon, wanted) in &[
-        (28_800, 86_400, BY_T3.as_slice()),
-        (28_801, 86_400, none),
-        (28_800, 1_860, BY_T3.as_slice()),
-        (28_800, 1_859, none),
-    ] {
-        let query = question(&rt, alloc, "A", "D", leave, horizon)?;
-        check(&rt, alloc, &doc, &query, lists.as_slice(), wanted)?;
-    }
-    Ok(())
-}
-
-#[test]
-fn changes_between_stops_and_ends_at_children(rt: HostRuntime) -> Result<(), Fail> {
-    let alloc = rt.alloc();
-    let stops = [
-        ("A", ""),
-        ("B", "P"),
-        ("E", ""),
-        ("F", ""),
-        ("P", ""),
-        ("X", ""),
-        ("Y", ""),
-        ("Z", ""),
-    ];
-    let changes = [
-        ("A", "A", 120),
-        ("B", "B", 120),
-        ("B", "E", 300),
-        ("E", "E", 120),
-        ("Y", "Y", 120),
-    ];
-    let doc = document(&rt, alloc, &stops, &changes)?;
-    let rows = [
-        ("T1", 1, "A", 28_800, "B", 29_400),
-        ("T4", 1, "E", 32_400, "F", 33_000),
-        ("T6", 1, "X", 32_400, "Y", 32_400),
-        ("T6", 2, "Y", 32_400, "Z", 32_700),
-    ];
-    let lists = vec![in alloc; connections(&rt, alloc, &rows)?]?;
-    for &(from, to, leave, wanted) in &[
-        (
-            "A",
-            "P",
-            28_800,
-            [("T1", 1, 1, "A", 28_800, "B", 29_400)].as_slice(),
-        ),
-        (
-            "X",
-            "Z",
-            32_400,
-            [("T6", 1, 2, "X", 32_400, "Z", 32_700)].as_slice(),
-        ),
-        (
-            "A",
-            "F",
-            28_800,
-            [
-                ("T1", 1, 1, "A", 28_800, "B", 29_400),
-                ("T4", 1, 1, "E", 32_400, "F", 33_000),
-            ]
-            .as_slice(),
-        ),
-    ] {
-        let query = question(&rt, alloc, from, to, leave, 86_400)?;
-        check(&rt, alloc, &doc, &query, lists.as_slice(), wanted)?;
-    }
-    Ok(())
-}
-
-#[test]
-fn refuses_stops_that_are_not_there(rt: HostRuntime) -> Result<(), Fail> {
-    let alloc = rt.alloc();
-    let doc = document(&rt, alloc, &STOPS, &CHANGES)?;
-    for &(from, to, fault) in &[
-        ("Q", "D", BeginFault::UnknownFrom),
-        ("Q", "R", BeginFault::UnknownFrom),
-        ("A", "R", BeginFault::UnknownTo),
-    ] {
-        let query = question(&rt, alloc, from, to, 28_800, 60)?;
-        assert!(rt; query.horizon >= 1 && query.horizon <= 604_800);
-        assert_eq!(rt; Scan::begin(alloc, &query, &doc).err(), Some(fault));
-    }
-    Ok(())
-}

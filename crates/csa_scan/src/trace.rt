@@ -27,7 +27,15 @@ pub struct Ready {
     pub after: usize,
 }
 
-/// An arrival at an end of the question.
+/// The end of the question that is nearest to a stop, as a place in the stops document, and the seconds of the walk: 0
+/// where the stop is this end itself.
+#[derive(Clone, Copy, Debug)]
+pub struct Near {
+    pub place: usize,
+    pub seconds: u32,
+}
+
+/// An arrival at an end of the question, by a walk after the arrival at the place or without one.
 #[derive(Clone, Copy, Debug)]
 pub struct Goal {
     pub arr: Moment,

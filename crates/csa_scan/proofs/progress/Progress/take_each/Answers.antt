@@ -16,15 +16,15 @@ loop-i-preserved c =
       same_stops = omega (arith, c.take_one.ensures.same_stops);
       same_runs = omega (arith, c.take_one.ensures.same_runs);
       room = omega (arith, c.take_one.ensures.room, c.take_one.ensures.grows);
-      stands = λ runs taken asked distinct are in_order early s.
+      stands = λ runs taken asked near distinct are in_order early s.
           let next = next_at query runs taken list numbers distinct are in_order early c.loop-i.i one (omega arith) c.index-list-i.is run
           (slice_get-get_or numbers c.loop-i.i 0 (omega arith)) in
           more_taken query c.args.doc.now runs (kept_of c.take_one.new.self) taken list c.loop-i.i one (omega arith) c.index-list-i.is
-          (c.take_one.ensures.stands runs (taken ++ take c.loop-i.i list) asked next (old.stands runs taken asked distinct are in_order early s));
+          (c.take_one.ensures.stands runs (taken ++ take c.loop-i.i list) asked near next (old.stands runs taken asked near distinct are in_order early s));
     }
 
 pub returns-clause-stands : goal.returns-clause-stands
 returns-clause-stands c =
-    λ runs taken asked distinct are in_order early s.
+    λ runs taken asked near distinct are in_order early s.
     all_taken c.args.query.now c.args.doc.now runs (kept_of c.loop-i.self) taken c.args.list.now c.loop-i.i c.loop-i-test.false
-    (c.loop-i.invariant.stands runs taken asked distinct are in_order early s)
+    (c.loop-i.invariant.stands runs taken asked near distinct are in_order early s)

@@ -1,4 +1,4 @@
-use Rattle.std.proofs.Common.{◌≡◌, ◌⊎◌, ℕ, List, Option, None, Some, true, length, sym, subst, arith}
+use Rattle.std.proofs.Common.{◌≡◌, ◌⊎◌, ℕ, List, Option, None, Some, true, length, set, sym, subst, arith}
 use Rattle.std.specs.List.{slice_get}
 use Rattle.std.proofs.lemmas.List.{length-set}
 use Rattle.std.proofs.lemmas.Option.{slice_get_read}
@@ -6,8 +6,9 @@ use Rattle.lc_model.specs.Question.{latest_of}
 use Rattle.csa_scan.specs.Boards.{CannotBoard, IsFirstBoarding}
 use Rattle.csa_scan.specs.Kept.{kept_of}
 use Rattle.csa_scan.specs.Linked.{IsBoardingIn}
-use Rattle.csa_scan.specs.Takes.{IsReachedAlready}
+use Rattle.csa_scan.specs.Takes.{Arrives, IsReachedAlready}
 use Rattle.csa_scan.specs.declared.trace.Boarding.{Boarding}
+use Rattle.csa_scan.specs.declared.trace.Near.{Near}
 use Rattle.csa_scan.specs.declared.trace.Ready.{Ready}
 use Rattle.csa_scan.proofs.Linking.{boarding_in, linked-boarded}
 use Rattle.csa_scan.proofs.Taking.{in_time_by, take_off, take_on, take_arrived}
@@ -19,24 +20,28 @@ returns-in_default-clause-stands c =
     let query = c.args.query.now in
     let doc = c.args.doc.now in
     let one = c.args.connection.now in
+    let starts = c.args.walks.now.starts.items in
     let before = c.index-before.result.now in
     let early = in_time_by c.is_late.result one.arr (latest_of query) c.if-is_late.false c.is_late.ensures.1 in
     let at : slice_get p.boardings.items c.args.run ≡ Some before = slice_get_read p.boardings.items (length p.boardings.items) c.args.run before (omega arith) c.requires.known c.index-before.ensures in
-    let R : List (Option Ready) → Type 0 = λ ready. (before ≡ None) × (one.board ≡ true → CannotBoard query doc ready one) in
-    let off = subst R c.as_slice.ensures.value c.in_default.ensures in
-    λ runs list asked next s. take_off query doc runs (kept_of p) list c.args.run one early before at off asked next s
+    let S : List (Option Near) → Type 0 = λ starts. (before ≡ None) × (one.board ≡ true → CannotBoard query doc starts c.as_slice-ready.result.now one) in
+    let R : List (Option Ready) → Type 0 = λ ready. (before ≡ None) × (one.board ≡ true → CannotBoard query doc starts ready one) in
+    let off = subst R c.as_slice-ready.ensures.value (subst S c.as_slice-starts.ensures.value c.in_default.ensures) in
+    λ runs list asked near next s. take_off query doc starts near.starts runs (kept_of p) list c.args.run one early before at off asked next s
 
 pub invariant_of-self : goal.invariant_of-self
 invariant_of-self c =
     let p = c.args.self.now in
     let one = c.args.connection.now in
+    let starts = c.args.walks.now.starts.items in
     let before = c.index-before.result.now in
     let at : slice_get p.boardings.items c.args.run ≡ Some before = slice_get_read p.boardings.items (length p.boardings.items) c.args.run before (omega arith) c.requires.known c.index-before.ensures in
-    let R : List (Option Ready) → Type 0 = λ ready. (before ≡ Some c.in-Some.boarding) ⊎ ((before ≡ None) × (one.board ≡ true) × IsFirstBoarding c.args.query.now c.args.doc.now ready one c.in-Some.boarding) in
-    let on = subst R c.as_slice.ensures.value c.in-Some.ensures in
+    let S : List (Option Near) → Type 0 = λ starts. (before ≡ Some c.in-Some.boarding) ⊎ ((before ≡ None) × (one.board ≡ true) × IsFirstBoarding c.args.query.now c.args.doc.now starts c.as_slice-ready.result.now one c.in-Some.boarding) in
+    let R : List (Option Ready) → Type 0 = λ ready. (before ≡ Some c.in-Some.boarding) ⊎ ((before ≡ None) × (one.board ≡ true) × IsFirstBoarding c.args.query.now c.args.doc.now starts ready one c.in-Some.boarding) in
+    let on = subst R c.as_slice-ready.ensures.value (subst S c.as_slice-starts.ensures.value c.in-Some.ensures) in
     record {
       linked = linked-boarded p.boardings.items p.ready.items p.reached.items p.arrivals.items p.best p.linked c.args.run c.in-Some.boarding
-          (boarding_in c.args.query.now c.args.doc.now p.boardings.items p.ready.items p.reached.items p.arrivals.items p.best p.linked c.requires.one_each c.args.run before at one c.in-Some.boarding on);
+          (boarding_in c.args.query.now c.args.doc.now starts p.boardings.items p.ready.items p.reached.items p.arrivals.items p.best p.linked c.requires.one_each c.args.run before at one c.in-Some.boarding on);
     }
 
 pub returns-in_default-arrival-clause-stands : goal.returns-in_default-arrival-clause-stands
@@ -45,26 +50,30 @@ returns-in_default-arrival-clause-stands c =
     let query = c.args.query.now in
     let doc = c.args.doc.now in
     let one = c.args.connection.now in
+    let starts = c.args.walks.now.starts.items in
     let before = c.index-before.result.now in
     let early = in_time_by c.is_late.result one.arr (latest_of query) c.if-is_late.false c.is_late.ensures.1 in
     let at : slice_get p.boardings.items c.args.run ≡ Some before = slice_get_read p.boardings.items (length p.boardings.items) c.args.run before (omega arith) c.requires.known c.index-before.ensures in
-    let R : List (Option Ready) → Type 0 = λ ready. (before ≡ Some c.in-Some.boarding) ⊎ ((before ≡ None) × (one.board ≡ true) × IsFirstBoarding query doc ready one c.in-Some.boarding) in
-    let on = subst R c.as_slice.ensures.value c.in-Some.ensures in
-    let S : List (Option ℕ) → Type 0 = λ reached. one.alight ≡ true → IsReachedAlready doc reached one in
-    let already = subst S c.as_slice-2.ensures.value c.in_default-arrival.ensures in
-    λ runs list asked next s. take_on query doc runs (kept_of p) list c.args.run one early before at c.in-Some.boarding on already next s
+    let S : List (Option Near) → Type 0 = λ starts. (before ≡ Some c.in-Some.boarding) ⊎ ((before ≡ None) × (one.board ≡ true) × IsFirstBoarding query doc starts c.as_slice-ready.result.now one c.in-Some.boarding) in
+    let R : List (Option Ready) → Type 0 = λ ready. (before ≡ Some c.in-Some.boarding) ⊎ ((before ≡ None) × (one.board ≡ true) × IsFirstBoarding query doc starts ready one c.in-Some.boarding) in
+    let on = subst R c.as_slice-ready.ensures.value (subst S c.as_slice-starts.ensures.value c.in-Some.ensures) in
+    let T : List (Option ℕ) → Type 0 = λ reached. one.alight ≡ true → IsReachedAlready doc reached one in
+    let already = subst T c.as_slice.ensures.value c.in_default-arrival.ensures in
+    λ runs list asked near next s. take_on query doc starts near.starts runs (kept_of p) list c.args.run one early before at c.in-Some.boarding on already next s
 
 pub arrive-requires-clause-within : goal.arrive-requires-clause-within
 arrive-requires-clause-within c =
     let p = c.args.self.now in
     let one = c.args.connection.now in
+    let starts = c.args.walks.now.starts.items in
     let before = c.index-before.result.now in
     let a = c.in-Some-arrival.arrival in
     let is = c.in-Some-arrival.ensures in
     let at : slice_get p.boardings.items c.args.run ≡ Some before = slice_get_read p.boardings.items (length p.boardings.items) c.args.run before (omega arith) c.requires.known c.index-before.ensures in
-    let R : List (Option Ready) → Type 0 = λ ready. (before ≡ Some c.in-Some.boarding) ⊎ ((before ≡ None) × (one.board ≡ true) × IsFirstBoarding c.args.query.now c.args.doc.now ready one c.in-Some.boarding) in
-    let on = subst R c.as_slice.ensures.value c.in-Some.ensures in
-    let within = boarding_in c.args.query.now c.args.doc.now p.boardings.items p.ready.items p.reached.items p.arrivals.items p.best p.linked c.requires.one_each c.args.run before at one c.in-Some.boarding on in
+    let S : List (Option Near) → Type 0 = λ starts. (before ≡ Some c.in-Some.boarding) ⊎ ((before ≡ None) × (one.board ≡ true) × IsFirstBoarding c.args.query.now c.args.doc.now starts c.as_slice-ready.result.now one c.in-Some.boarding) in
+    let R : List (Option Ready) → Type 0 = λ ready. (before ≡ Some c.in-Some.boarding) ⊎ ((before ≡ None) × (one.board ≡ true) × IsFirstBoarding c.args.query.now c.args.doc.now starts ready one c.in-Some.boarding) in
+    let on = subst R c.as_slice-ready.ensures.value (subst S c.as_slice-starts.ensures.value c.in-Some.ensures) in
+    let within = boarding_in c.args.query.now c.args.doc.now starts p.boardings.items p.ready.items p.reached.items p.arrivals.items p.best p.linked c.requires.one_each c.args.run before at one c.in-Some.boarding on in
     let B : Boarding → Type 0 = λ b. IsBoardingIn (length p.ready.items) (length p.arrivals.items) b in
     record {
       stop = let w = is.within in let o = c.requires.one_each in omega arith;
@@ -78,11 +87,15 @@ returns-clause-stands c =
     let query = c.args.query.now in
     let doc = c.args.doc.now in
     let one = c.args.connection.now in
+    let starts = c.args.walks.now.starts.items in
     let before = c.index-before.result.now in
     let early = in_time_by c.is_late.result one.arr (latest_of query) c.if-is_late.false c.is_late.ensures.1 in
     let at : slice_get p.boardings.items c.args.run ≡ Some before = slice_get_read p.boardings.items (length p.boardings.items) c.args.run before (omega arith) c.requires.known c.index-before.ensures in
-    let R : List (Option Ready) → Type 0 = λ ready. (before ≡ Some c.in-Some.boarding) ⊎ ((before ≡ None) × (one.board ≡ true) × IsFirstBoarding query doc ready one c.in-Some.boarding) in
-    let on = subst R c.as_slice.ensures.value c.in-Some.ensures in
-    λ runs list asked next s.
-    take_arrived query doc runs (kept_of p) (kept_of c.arrive.new.self) list c.args.run one early before at c.in-Some.boarding on c.in-Some-arrival.arrival c.in-Some-arrival.ensures
-    c.arrive.ensures.arrives next s
+    let S : List (Option Near) → Type 0 = λ starts. (before ≡ Some c.in-Some.boarding) ⊎ ((before ≡ None) × (one.board ≡ true) × IsFirstBoarding query doc starts c.as_slice-ready.result.now one c.in-Some.boarding) in
+    let R : List (Option Ready) → Type 0 = λ ready. (before ≡ Some c.in-Some.boarding) ⊎ ((before ≡ None) × (one.board ≡ true) × IsFirstBoarding query doc starts ready one c.in-Some.boarding) in
+    let on = subst R c.as_slice-ready.ensures.value (subst S c.as_slice-starts.ensures.value c.in-Some.ensures) in
+    let ends = c.args.walks.now.ends.items in
+    let E : List (Option Near) → Type 0 = λ l. Arrives query doc l c.in-Some-arrival.arrival (record (kept_of p) { boardings = set p.boardings.items c.args.run (Some c.in-Some.boarding) }) (kept_of c.arrive.new.self) in
+    λ runs list asked near next s.
+    take_arrived query doc starts near.starts ends near.ends runs (kept_of p) (kept_of c.arrive.new.self) list c.args.run one early before at c.in-Some.boarding on c.in-Some-arrival.arrival c.in-Some-arrival.ensures
+    (subst E c.as_slice-2.ensures.value c.arrive.ensures.arrives) next s

@@ -23,11 +23,12 @@ pub returns-clause-ok : goal.returns-clause-ok
 returns-clause-ok c =
     let query = c.args.query.now in
     let doc = c.args.doc.now in
-    let P : Kept → Type 0 = λ k. Stands query doc c.new-2.result k [] in
+    let P : Kept → Type 0 = λ k. Stands query doc c.new-runs.result k [] in
     let both = returns-clause-known c in
     record {
       same_query = c.in_ok-copy.ensures;
       same_doc = c.in_ok-copy-2.ensures;
       asked = record { from_known = both.0; to_known = both.1 };
-      stands = subst P (sym c.in_ok-progress.ensures) (stands_nothing query doc c.new-2.result _);
+      walks = c.in_ok-walks.ensures;
+      stands = subst P (sym c.in_ok-progress.ensures) (stands_nothing query doc c.new-runs.result _);
     }

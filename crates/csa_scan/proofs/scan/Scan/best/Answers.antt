@@ -4,7 +4,6 @@ use Rattle.lc_model.specs.Leg.{IsListBest, in_time}
 use Rattle.csa_scan.specs.Kept.{kept_of}
 use Rattle.csa_scan.specs.declared.trace.Goal.{Goal}
 use Rattle.csa_scan.proofs.Least.{least_arrival}
-use Rattle.csa_scan.proofs.Order.{in_time_arr}
 use Rattle.csa_scan.proofs.scan.Scan.best.Goals as goal
 
 pub returns : goal.returns
@@ -14,5 +13,5 @@ returns c =
     let is : c.map.result ≡ option_map (λ (g : Goal). g.arr) progress.best = search rules in
     λ query doc taken s.
     let P : Option ℕ → Type 0 = λ o. IsListBest query doc taken o in
-    subst P (sym is) (least_arrival query doc s.asked scan.runs (kept_of progress) (in_time query taken) s.stands (in_time_arr query taken)
+    subst P (sym is) (least_arrival query doc s.asked scan.runs (kept_of progress) (in_time query taken) s.stands
     (λ place a e k f. (progress.linked.is_arrival place a e).boarding.after k f) progress.best refl)

@@ -12,6 +12,7 @@ returns-in_err-numbers-clause-same c =
       same_query = s.same_query;
       same_doc = s.same_doc;
       asked = s.asked;
+      walks = s.walks;
       stands = stands-added query doc scan.runs c.number_each.new.runs kept kept (in_time query taken) c.number_each.ensures.grows scan.numbered (adds_nothing kept) s.stands;
     }
 
@@ -22,6 +23,7 @@ returns-in_err-make_room-clause-same c =
       same_query = s.same_query;
       same_doc = s.same_doc;
       asked = s.asked;
+      walks = s.walks;
       stands = stands-added query doc scan.runs c.number_each.new.runs (kept_of scan.progress) (kept_of c.make_room.new.self) (in_time query taken)
           c.number_each.ensures.grows scan.numbered c.make_room.ensures.same s.stands;
     }
@@ -33,6 +35,7 @@ returns-clause-same c =
       same_query = s.same_query;
       same_doc = s.same_doc;
       asked = s.asked;
+      walks = s.walks;
       stands = stands-added query doc scan.runs c.number_each.new.runs (kept_of scan.progress) (kept_of c.make_room.new.self) (in_time query taken)
           c.number_each.ensures.grows scan.numbered c.make_room.ensures.same s.stands;
     }

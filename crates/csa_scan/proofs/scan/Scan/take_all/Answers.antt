@@ -6,6 +6,7 @@ use Rattle.lc_model.specs.declared.connection.Connection.{Connection}
 use Rattle.csa_scan.specs.Kept.{kept_of}
 use Rattle.csa_scan.specs.Numbers.{AreNumbersOf}
 use Rattle.csa_scan.specs.Stands.{IsAsked, Stands}
+use Rattle.csa_scan.specs.Walks.{AreWalks}
 use Rattle.csa_scan.proofs.Begun.{carried, numbers_known}
 use Rattle.csa_scan.proofs.scan.Scan.take_all.Goals as goal
 
@@ -28,11 +29,13 @@ returns-clause-ok c =
     let O : List Connection → Type 0 = λ l. InDepartureOrder (taken ++ l) in
     let asked = carried IsAsked query mid.query doc mid.doc (sym s.same_query) (sym s.same_doc) s.asked in
     let stood = carried (λ q d. Stands q d mid.runs (kept_of mid.progress) (in_time q taken)) query mid.query doc mid.doc (sym s.same_query) (sym s.same_doc) s.stands in
-    let now = c.take_each.ensures.stands mid.runs taken asked c.in_ok-numbers.ensures.distinct are (subst O (sym same) in_order) c.as_slice-list.ensures.forward stood in
+    let near = carried (λ q d. AreWalks q d mid.walks) query mid.query doc mid.doc (sym s.same_query) (sym s.same_doc) s.walks in
+    let now = c.take_each.ensures.stands mid.runs taken asked near c.in_ok-numbers.ensures.distinct are (subst O (sym same) in_order) c.as_slice-list.ensures.forward stood in
     let L : List Connection → Type 0 = λ l. Stands query doc mid.runs (kept_of c.take_each.new.self) (in_time query (taken ++ l)) in
     record {
       same_query = s.same_query;
       same_doc = s.same_doc;
       asked = s.asked;
+      walks = s.walks;
       stands = subst L same (carried (λ q d. Stands q d mid.runs (kept_of c.take_each.new.self) (in_time q (taken ++ list))) mid.query query mid.doc doc s.same_query s.same_doc now);
     }
