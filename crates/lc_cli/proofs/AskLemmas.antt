@@ -1,8 +1,6 @@
 -- From what asking a feed comes to, to what the words and the run come to.
-use Rattle.std.proofs.Common.{inl, inr, ℕ, List, Result, Ok, Err, IfErr, IfOk, subst, sym, length, arith}
-use Rattle.std.specs.Prelude.{codes}
+use Rattle.std.proofs.Common.{inl, inr, ℕ, List, Result, Ok, Err, IfErr, IfOk, subst, sym}
 use Rattle.lc_io.specs.Folder.{FolderSeen}
-use Rattle.lc_io.specs.Sink.{SinkSeen}
 use Rattle.gtfs_tables.specs.Reading.{EndsSo}
 use Rattle.gtfs_tables.specs.declared.feed.fault.FeedFault.{FeedFault}
 use Rattle.gtfs_tables.specs.declared.feed.fault.FeedFault.TheVariants as fault
@@ -11,7 +9,6 @@ use Rattle.lc_cli.specs.Ask.{IsAskBlock, IsAskRefusal, IsRightBlock, IsRightRefu
 use Rattle.lc_cli.specs.Refusal.{IsRefusalEnd}
 use Rattle.lc_cli.specs.Top.{IsRight, Past}
 use Rattle.lc_cli.specs.Words.{SaysAsk}
-use Rattle.lc_cli.specs.Writing.{Said, WroteFront}
 use Rattle.lc_cli.specs.declared.block.Block.{Block}
 use Rattle.lc_cli.specs.declared.refusal.Refusal.{Refusal}
 use Rattle.lc_cli.specs.declared.refusal.Refusal.TheVariants as refused
@@ -45,7 +42,7 @@ pub right_block : (p : Past) (block : Block) (status : Status) → IsRightBlock 
 right_block p block Done right end = (block, right, end.0, end.1)
 right_block p block (QueryRefused client fault) right end = (end.0, (block, right, end.1, end.2))
 right_block p block (SinkFault before after) right end = (end.0, end.1, end.2, (block, right, end.3))
-right_block p block NoMemory right end = inl (block, right, end)
+right_block p block NoMemory right end = inl (block, right, end.0, end.1)
 right_block p block Usage right end = absurd end
 right_block p block (FeedBroken rule file row) right end = absurd end
 right_block p block (FolderFault before after) right end = absurd end
@@ -57,18 +54,14 @@ ran_out words old new (refused.Feed (fault.Broken rule file row)) right = inr (r
 ran_out words old new (refused.Feed (fault.Folder before after)) right = inr (right.0, right.1, (Err (fault.Folder before after), right.2))
 ran_out words old new (refused.Feed fault.NoMemory) right = right
 
--- what is said begins with a front
-front_of : (before after : SinkSeen) (text : List ℕ) → Said before after text → WroteFront before after text
-front_of before after text (inl whole) = (length text, omega arith, whole)
-front_of before after text (inr (rose, front)) = front
-
--- a run that is refused has the status of the refusal, or ends for want of memory
+-- a run that is refused has the status of the refusal, or there was no memory to make its line
 pub right_refusal : (p : Past) (refusal : Refusal) (status : Status) → IsRightRefusal p.words p.folder_before p.folder_after refusal → IsRefusalEnd refusal p.sink_before p.sink_after status → IsRight p status
 right_refusal p refused.Usage status right (inl (is, said)) = subst (IsRight p) (sym is) (right, said)
 right_refusal p (refused.Feed (fault.Broken rule file row)) status right (inl (is, said)) = subst (IsRight p) (sym is) (right, said)
 right_refusal p (refused.Feed (fault.Folder before after)) status right (inl (is, said)) = subst (IsRight p) (sym is) (right, said)
-right_refusal p (refused.Feed fault.NoMemory) status right (inl (is, said)) =
-    subst (IsRight p) (sym is) (inr (refused.Feed fault.NoMemory, right, front_of p.sink_before p.sink_after (codes "error no memory\n") said))
-right_refusal p refusal status right (inr (is, inl front)) = subst (IsRight p) (sym is) (inr (refusal, right, front))
-right_refusal p refusal status right (inr (is, inr front)) =
-    subst (IsRight p) (sym is) (inr (refused.Feed fault.NoMemory, ran_out p.words p.folder_before p.folder_after refusal right, front))
+right_refusal p (refused.Feed fault.NoMemory) status right (inl (is, said)) = subst (IsRight p) (sym is) (inr (right, said))
+right_refusal p (refused.Feed (fault.Broken rule file row)) status right (inr (made, is, said)) =
+    subst (IsRight p) (sym is) (inr (ran_out p.words p.folder_before p.folder_after (refused.Feed (fault.Broken rule file row)) right, said))
+right_refusal p refused.Usage status right (inr (made, is, said)) = absurd made
+right_refusal p (refused.Feed (fault.Folder before after)) status right (inr (made, is, said)) = absurd made
+right_refusal p (refused.Feed fault.NoMemory) status right (inr (made, is, said)) = absurd made

@@ -1,16 +1,42 @@
--- An answer by the legs of a list is one by the rides of its runs.
-use Rattle.std.proofs.Common.{◌↔◌, List}
-use Rattle.lc_model.specs.Journey.{IsAnswer, IsJourney}
+-- An answer by the legs of a list is one by the rides of its runs, and what answers a question arrives at a moment.
+use Rattle.std.proofs.Common.{◌≡◌, ◌↔◌, ℕ, ◌+◌, ◌<◌, ◌≤◌, ◌++◌, None, Result, Ok, Err, IfOk, arith, codes, subst, sym}
+use Rattle.lc_model.specs.Journey.{IsAnswer, IsJourney, arrives_at}
 use Rattle.lc_model.specs.declared.answer.Answer.{Answer}
-use Rattle.lc_model.specs.declared.answer.Answer.TheVariants.{Journey, NoJourney}
+use Rattle.lc_model.specs.declared.answer.Answer.TheVariants as answers
 use Rattle.lc_model.specs.declared.doc.StopsDoc.{StopsDoc}
+use Rattle.lc_model.specs.declared.journey.Journey.{Journey}
+use Rattle.lc_model.specs.declared.moment.TheConstants.{MOMENTS_END}
 use Rattle.lc_model.specs.declared.query.Query.{Query}
+use Rattle.lc_model.specs.declared.query.TheConstants.{LAST_LEAVE}
 use Rattle.lc_model.specs.declared.ride.Ride.{Ride}
+use Rattle.gtfs_tables.specs.declared.tables.Tables.{Tables}
+use Rattle.lc_cli.specs.AnswerText.{ArrivesAtAMoment, answer_text_of}
+use Rattle.lc_cli.specs.Ask.{IsBlockText}
+use Rattle.lc_cli.specs.Plan.{AnswersQuestion}
+use Rattle.lc_cli.specs.Question.{IsAskable}
+use Rattle.lc_cli.specs.declared.block.Block.{Block}
 
 -- where the journeys over two kinds of ride are the same, so are the answers
-pub same_answer : (A B : Ride → Type 0) (query : Query) (doc : StopsDoc) (answer : Answer) → ((journey : List Ride) → IsJourney A query doc journey ↔ IsJourney B query doc journey) → IsAnswer A query doc answer → IsAnswer B query doc answer
-same_answer A B query doc (Journey journey) same is = record {
-  is_journey = (same journey.rides).0 is.is_journey;
+pub same_answer : (A B : Ride → Type 0) (query : Query) (doc : StopsDoc) (answer : Answer) → ((journey : Journey) → IsJourney A query doc journey ↔ IsJourney B query doc journey) → IsAnswer A query doc answer → IsAnswer B query doc answer
+same_answer A B query doc (answers.Journey journey) same is = record {
+  is_journey = (same journey).0 is.is_journey;
   is_earliest = λ other goes. is.is_earliest other ((same other).1 goes);
 }
-same_answer A B query doc NoJourney same is = λ journey goes. is journey ((same journey).1 goes)
+same_answer A B query doc answers.NoJourney same is = λ journey goes. is journey ((same journey).1 goes)
+
+-- within a day of any moment of leaving there are only moments
+within_a_day : (arrival leave horizon : ℕ) → horizon ≡ 86_400 → leave ≤ LAST_LEAVE → arrival ≤ leave + horizon → arrival < MOMENTS_END
+within_a_day arrival leave horizon day not_after in_time = omega arith
+
+-- what answers a question arrives within its horizon, and so at a moment
+pub arrives_at_a_moment : (tables : Tables) (query : Query) (answer : Answer) → query.horizon ≡ 86_400 → AnswersQuestion tables query answer → ArrivesAtAMoment answer
+arrives_at_a_moment tables query (answers.Journey journey) day is =
+    within_a_day (arrives_at journey) query.leave query.horizon day query.not_after is.best.is_journey.in_time
+arrives_at_a_moment tables query answers.NoJourney day is = tt
+
+-- the text of what answers a question is what is printed of its client
+pub prints_answer : {E : Type 0} (tables : Tables) (query : Query) (answer : Answer) (result : Result Block E) → IsAskable tables.stops query → AnswersQuestion tables query answer
+    → IfOk result (λ block. block.fault ≡ None) → IfOk result (λ block. block.text.items ≡ codes "client 1\n" ++ answer_text_of answer) → IfOk result (λ block. IsBlockText tables query block.fault block.text.items)
+prints_answer tables query answer (Ok block) askable is fault text =
+    subst (λ fault. IsBlockText tables query fault block.text.items) (sym fault) (askable, (answer, is, text))
+prints_answer tables query answer (Err fault) askable is none text = tt

@@ -1,23 +1,31 @@
 -- The runs of the feed Tiny, and that the worked journey over them is a best one.
-use Rattle.std.proofs.Common.{◌≡◌, ℕ, suc, ◌<◌, ◌≤◌, inl, inr, List, [], ◌∷◌, get_or, Some, None, Bool, true, false, cond, nat_lt, map, sym, ap, ◌∙◌, subst, refl, arith, lit<, lit≤, codes}
-use Rattle.std.proofs.lemmas.Bool.{ltb-true}
+use Rattle.std.proofs.Common.{◌≡◌, ℕ, suc, ◌+◌, ◌-◌, ◌<◌, ◌≤◌, inl, inr, List, [], ◌∷◌, get_or, Option, Some, None, Bool, true, false, ◌&&◌, cond, nat_lt, map, sym, ap, ◌∙◌, subst, refl, arith, lit<, lit≤, codes}
+use Rattle.std.specs.Prelude.{find, option_map}
+use Rattle.std.proofs.lemmas.Bool.{and_parts, ltb-true}
+use Rattle.std.proofs.lemmas.Slice.Eq.{bytes_eq-Decides}
 use Rattle.std.specs.List.{list_all}
 use Rattle.std.proofs.lemmas.List.Elements.{All-map}
 use Rattle.std.proofs.lemmas.List.Sums.{AllPass-from_list_all}
 use Rattle.std.proofs.lemmas.Option.{slice_get_within, get_or_from_slice_get}
 use Rattle.httpdate.specs.Calendar.{days_of_years, days_of_months}
-use Rattle.lc_model.specs.Change.{is_same_id}
-use Rattle.lc_model.specs.Journey.{GoesOn, IsAnswer, IsJourney, arrives_at}
-use Rattle.lc_model.specs.Question.{IsTo}
+use Rattle.lc_model.specs.Change.{change_between, is_same_id}
+use Rattle.lc_model.specs.Journey.{AreRides, GoesOn, IsAnswer, IsJourney, alight_of, arrival_of_rides, arrives_at, board_of, departure_of}
+use Rattle.lc_model.specs.Question.{IsFrom, IsTo, latest_of}
 use Rattle.lc_model.specs.Ride.{IsRideAt, IsRideOn}
 use Rattle.lc_model.specs.Totals.{run_cmp_total}
 use Rattle.lc_model.specs.RunKey.{key_cmp}
+use Rattle.lc_model.specs.Walk.{IsWalkAfter, IsWalkBefore, seconds_of}
+use Rattle.lc_model.specs.declared.answer.Answer.TheVariants as answers
 use Rattle.lc_model.specs.declared.call.Call.{Call}
+use Rattle.lc_model.specs.declared.change.Change.{Change}
 use Rattle.lc_model.specs.declared.doc.StopsDoc.{StopsDoc}
+use Rattle.lc_model.specs.declared.journey.Journey.{Journey}
 use Rattle.lc_model.specs.declared.key.RunKey.{RunKey}
+use Rattle.lc_model.specs.declared.query.Query.{Query}
 use Rattle.lc_model.specs.declared.ride.Ride.{Ride}
 use Rattle.lc_model.specs.declared.run.Run.{Run}
 use Rattle.lc_model.specs.declared.stop.Stop.{Stop}
+use Rattle.lc_model.specs.declared.walk.Walk.{Walk}
 use Rattle.lc_model.proofs.Disorders.{strict_without_disorder}
 use Rattle.std.specs.Ordering.{on}
 use Rattle.lc_time.specs.Calendar.{Day, day_at}
@@ -32,7 +40,8 @@ use Rattle.trip_calls.proofs.RunLemmas.{IsRunOf-stands, stands_IsRunOf}
 use Rattle.trip_calls.proofs.ServiceDayLemmas.{AreServiceDays-none, AreServiceDays-more}
 use Rattle.lc_cli.specs.Plan.{AnswersQuestion, window_of}
 use Rattle.lc_cli.specs.Doc.{change_at}
-use Rattle.lc_cli.specs.Tiny.{IsJourneyBy, clock, first_of_may, from_a_to_d, moment, parents, stops_at, stop_ids, stop_named, tiny, to_b, to_d_at, to_d_later, worked}
+use Rattle.lc_cli.specs.Laws.{OneAnswer}
+use Rattle.lc_cli.specs.Tiny.{AreJourneyBy, AreRefused, AreTaken, IsMadeOf, MakeJourneys, clock, first_of_may, from_a_to_d, in_place, moment, nine_minutes_late, parents, stops_at, stop_ids, stop_named, tiny, to_b, to_d_at, to_d_later, worked}
 use Rattle.lc_cli.proofs.DocLemmas.{changes_known}
 
 -- a day of this year, month and day
@@ -114,14 +123,37 @@ ends_at_d stop (inr (place, child, inside, stands, (is, parent))) =
     let none : child.parent ≡ None = subst (λ (s : Stop). s.parent ≡ None) stands (All-map (λ (s : Stop). s.parent ≡ None) stop_named stop_ids (λ k d lt. refl) place child inside) in
     absurd (cc)
 
-goes_on_late : (ride : Ride) (rest : List Ride) → IsRideAt runs ride → GoesOn (IsRideAt runs) from_a_to_d doc ride rest → moment 8 31 ≤ arrives_at (ride ∷ rest)
-goes_on_late ride [] is goes = rides_late ride is (ends_at_d ride.alight goes.0)
-goes_on_late ride (next ∷ rest) is goes = goes_on_late next rest goes.0 goes.2
+goes_on_late : (ride : Ride) (rest : List Ride) → IsRideAt runs ride → GoesOn (IsRideAt runs) doc ride rest → alight_of (ride ∷ rest) ≡ codes "D" → moment 8 31 ≤ arrival_of_rides (ride ∷ rest)
+goes_on_late ride [] is goes at_d = rides_late ride is at_d
+goes_on_late ride (next ∷ rest) is goes at_d = goes_on_late next rest goes.0 goes.2 at_d
+
+are_late : (rides : List Ride) → AreRides (IsRideAt runs) doc rides → alight_of rides ≡ codes "D" → moment 8 31 ≤ arrival_of_rides rides
+are_late [] are at_d = absurd are
+are_late (first ∷ rest) are at_d = goes_on_late first rest are.0 are.1 at_d
+
+-- a change of the document is at one stop
+stays_found : (sought : Bool) (stop : Stop) (rest : Option Change) (from to : List ℕ) (seconds : ℕ) → (sought ≡ true → from ≡ to) → (option_map (λ (c : Change). c.seconds) rest ≡ Some seconds → from ≡ to)
+    → option_map (λ (c : Change). c.seconds) (cond sought (Some (change_at stop)) rest) ≡ Some seconds → from ≡ to
+stays_found true stop rest from to seconds here there is = here refl
+stays_found false stop rest from to seconds here there is = there is
+
+stays : (stops : List Stop) (from to : List ℕ) (seconds : ℕ) → change_between (map change_at stops) from to ≡ Some seconds → from ≡ to
+stays [] from to seconds is = cc
+stays (stop ∷ stops) from to seconds is =
+    stays_found (is_same_id stop.id from && is_same_id stop.id to) stop (find (λ (c : Change). is_same_id c.from from && is_same_id c.to to) (map change_at stops)) from to seconds
+    (λ sought. let both = and_parts (is_same_id stop.id from) (is_same_id stop.id to) sought in sym ((bytes_eq-Decides stop.id from).0 both.0) ∙ (bytes_eq-Decides stop.id to).0 both.1)
+    (stays stops from to seconds) is
+
+-- with a walk after them or none, rides that end at D arrive no earlier
+ends_late : (rides : List Ride) (after : Option Walk) → AreRides (IsRideAt runs) doc rides → IsWalkAfter from_a_to_d doc (alight_of rides) after → moment 8 31 ≤ arrival_of_rides rides + seconds_of after
+ends_late rides None are ends = let late : moment 8 31 ≤ arrival_of_rides rides = are_late rides are (ends_at_d (alight_of rides) ends) in omega (arith, late)
+ends_late rides (Some walk) are (apart, from, nearest) =
+    let same : alight_of rides ≡ walk.to = stays tiny.stops (alight_of rides) walk.to walk.seconds nearest.takes_so_long in
+    absurd (apart (subst (IsTo doc.stops from_a_to_d) (sym same) nearest.is_an_end))
 
 -- no journey arrives earlier
-journeys_late : (journey : List Ride) → IsJourney (IsRideAt runs) from_a_to_d doc journey → moment 8 31 ≤ arrives_at journey
-journeys_late [] is = absurd is
-journeys_late (first ∷ rest) is = goes_on_late first rest is.0 is.3
+journeys_late : (journey : Journey) → IsJourney (IsRideAt runs) from_a_to_d doc journey → moment 8 31 ≤ arrives_at journey
+journeys_late journey is = ends_late journey.rides journey.after is.are_rides is.ends
 
 -- the call of a row of the timetable on the day
 abbrev call : List ℕ → List ℕ → ℕ → ℕ → Call
@@ -159,25 +191,73 @@ rides_to_d_later : IsRideAt runs to_d_later
 rides_to_d_later =
     (1, run_of 1, lit< tt, refl, from_first (key_on (codes "T2") first_of_may) (call (codes "T2") (codes "B") 1 (clock 8 20)) (call (codes "T2") (codes "D") 2 (clock 8 40)) [] refl refl)
 
-best : IsAnswer (IsRideAt runs) from_a_to_d doc worked
-best = record {
-  is_journey = (rides_to_b, inl refl, lit≤ tt, (rides_to_d, lit≤ tt, (inl refl, lit≤ tt)));
-  is_earliest = journeys_late;
+-- a journey with no walks is one where its rides are, from an end of the question to an end and in time
+walks_nowhere : (IsRide : Ride → Type 0) (query : Query) (doc : StopsDoc) (rides : List Ride) (journey : Journey) → IsMadeOf None rides None journey → AreRides IsRide doc rides
+    → IsFrom doc.stops query (board_of rides) → query.leave ≤ departure_of rides → IsTo doc.stops query (alight_of rides) → arrival_of_rides rides ≤ latest_of query → IsJourney IsRide query doc journey
+walks_nowhere IsRide query doc rides journey made are from leaves to arrives = record {
+  are_rides = subst (AreRides IsRide doc) (sym made.rides_are) are;
+  begins = subst (λ rides. IsWalkBefore query doc (board_of rides) journey.before) (sym made.rides_are) (subst (IsWalkBefore query doc (board_of rides)) (sym made.before_is) from);
+  not_early = subst (λ rides. query.leave ≤ departure_of rides - seconds_of journey.before) (sym made.rides_are) (subst (λ walk. query.leave ≤ departure_of rides - seconds_of walk) (sym made.before_is) (omega (arith, leaves)));
+  ends = subst (λ rides. IsWalkAfter query doc (alight_of rides) journey.after) (sym made.rides_are) (subst (IsWalkAfter query doc (alight_of rides)) (sym made.after_is) to);
+  in_time = subst (λ rides. arrival_of_rides rides + seconds_of journey.after ≤ latest_of query) (sym made.rides_are) (subst (λ walk. arrival_of_rides rides + seconds_of walk ≤ latest_of query) (sym made.after_is) (omega (arith, arrives)));
 }
 
-pub worked_answers : AnswersQuestion tiny from_a_to_d worked
-worked_answers = record { runs = runs; are_runs = are_runs; doc = doc; is_doc = record { stops_are = refl; changes_are = refl }; best = best }
+-- a journey with no walk after it arrives when its rides do
+arrives_with_rides : (before : Option Walk) (rides : List Ride) (journey : Journey) → IsMadeOf before rides None journey → arrives_at journey ≡ arrival_of_rides rides
+arrives_with_rides before rides journey made =
+    let here : arrival_of_rides rides + 0 ≡ arrival_of_rides rides = omega arith in
+    ap (λ rides. arrival_of_rides rides + seconds_of journey.after) made.rides_are ∙ ap (λ walk. arrival_of_rides rides + seconds_of walk) made.after_is ∙ here
+
+best : (journey : Journey) → IsMadeOf None worked None journey → IsAnswer (IsRideAt runs) from_a_to_d doc (answers.Journey journey)
+best journey made = record {
+  is_journey = walks_nowhere (IsRideAt runs) from_a_to_d doc worked journey made (rides_to_b, (rides_to_d, lit≤ tt, tt)) (inl refl) (lit≤ tt) (inl refl) (lit≤ tt);
+  is_earliest = λ other goes. subst (λ (v : ℕ). v ≤ arrives_at other) (sym (arrives_with_rides None worked journey made)) (journeys_late other goes);
+}
+
+pub worked_answers : AreTaken None worked
+worked_answers journey made = record { runs = runs; are_runs = are_runs; doc = doc; is_doc = record { stops_are = refl; changes_are = refl }; best = best journey made }
 
 -- the journey by T2 is one too
-pub later_is_journey : IsJourneyBy tiny from_a_to_d (to_b ∷ to_d_later ∷ [])
+pub later_is_journey : AreJourneyBy tiny from_a_to_d nine_minutes_late
 later_is_journey = record {
   runs = runs;
   are_runs = are_runs;
   doc = doc;
   is_doc = record { stops_are = refl; changes_are = refl };
-  is_journey = (rides_to_b, inl refl, lit≤ tt, (rides_to_d_later, lit≤ tt, (inl refl, lit≤ tt)));
+  are_journey = λ journey made. walks_nowhere (IsRideAt runs) from_a_to_d doc nine_minutes_late journey made (rides_to_b, (rides_to_d_later, lit≤ tt, tt)) (inl refl) (lit≤ tt) (inl refl) (lit≤ tt);
 }
 
+-- rides make a journey
+pub rides_make : (first : Ride) (rest : List Ride) → MakeJourneys (first ∷ rest)
+rides_make first rest before after =
+    (record { before = before; rides = first ∷ rest; after = after; not_empty = λ none. cc }, record { before_is = refl; rides_are = refl; after_is = refl })
+
+-- no rides make none
+pub none_make_none : MakeJourneys [] → ⊥
+none_make_none make = let none = make None None in none.0.not_empty none.1.rides_are
+
+-- the worked rides as a journey, and that it answers the question
+abbrev pub the_worked : Journey
+the_worked = (rides_make to_b (to_d_at (moment 8 31) ∷ []) None None).0
+
+pub the_worked_answers : AnswersQuestion tiny from_a_to_d (answers.Journey the_worked)
+the_worked_answers = worked_answers the_worked (rides_make to_b (to_d_at (moment 8 31) ∷ []) None None).1
+
+-- rides that arrive at another moment than those of an answer are no answer
+pub refused_arrival : OneAnswer → (rides : List Ride) → (arrival_of_rides rides ≡ moment 8 31 → ⊥) → AreRefused None rides
+refused_arrival one_answer rides other journey made answered =
+    let one = one_answer tiny from_a_to_d (answers.Journey the_worked) (answers.Journey journey) the_worked_answers answered in
+    let same : arrives_at the_worked ≡ arrives_at journey = cc in
+    other (sym (arrives_with_rides None rides journey made) ∙ sym same ∙ arrives_with_rides None worked the_worked (rides_make to_b (to_d_at (moment 8 31) ∷ []) None None).1)
+
+-- where a journey may begin there is no walk, be it from the same stop
+pub refused_walk : (seconds : ℕ) → AreRefused (Some (in_place seconds)) worked
+refused_walk seconds journey made answered =
+    let begins : IsWalkBefore from_a_to_d answered.doc (board_of worked) (Some (in_place seconds)) =
+    subst (λ rides. IsWalkBefore from_a_to_d answered.doc (board_of rides) (Some (in_place seconds))) made.rides_are
+    (subst (IsWalkBefore from_a_to_d answered.doc (board_of journey.rides)) made.before_is answered.best.is_journey.begins) in
+    begins.0 (inl refl)
+
 -- no two arrivals are one
-pub apart : (m n : ℕ) → m < n → Some m ≡ Some n → ⊥
-apart m n lt e = let same : m ≡ n = cc in omega arith
+pub apart : (m n : ℕ) → m < n → m ≡ n → ⊥
+apart m n lt same = omega arith

@@ -13,15 +13,15 @@ abbrev pub client_status_of : Option QueryFault → Status
 client_status_of None = Done
 client_status_of (Some fault) = QueryRefused 1 fault
 
--- The block is written whole, and the status is its client's; or the sink failed or memory ran out, and a front of it is
--- written.
+-- The block is written whole, and the status is its client's; or the sink failed or ran out of memory, which it
+-- counted, and a front of it is written.
 abbrev pub IsBlockEnd : Block → SinkSeen → SinkSeen → Status → Type 0
 IsBlockEnd block before after Done = (block.fault ≡ None) × Wrote before after block.text.items
 IsBlockEnd block before after (QueryRefused client fault) =
     (client ≡ 1) × (block.fault ≡ Some fault) × Wrote before after block.text.items
 IsBlockEnd block before after (SinkFault counted now) =
     (counted ≡ before.faults) × (now ≡ after.faults) × Rose counted now × WroteFront before after block.text.items
-IsBlockEnd block before after NoMemory = WroteFront before after block.text.items
+IsBlockEnd block before after NoMemory = Rose before.wants after.wants × WroteFront before after block.text.items
 IsBlockEnd block before after Usage = ⊥
 IsBlockEnd block before after (FeedBroken rule file row) = ⊥
 IsBlockEnd block before after (FolderFault counted now) = ⊥

@@ -2,7 +2,7 @@
 use Rattle.std.specs.Prelude.{◌≡◌, ◌⊎◌, ℕ, List, ◌++◌, codes, decimal}
 use Rattle.lc_io.specs.Sink.{SinkSeen}
 use Rattle.gtfs_tables.specs.declared.feed.fault.FeedFault.TheVariants as fault
-use Rattle.lc_cli.specs.Writing.{Said, WroteFront}
+use Rattle.lc_cli.specs.Writing.{Said}
 use Rattle.lc_cli.specs.declared.refusal.Refusal.{Refusal}
 use Rattle.lc_cli.specs.declared.refusal.Refusal.TheVariants as refused
 use Rattle.lc_cli.specs.declared.status.Status.{Status}
@@ -27,15 +27,16 @@ status_of (refused.Feed (fault.Broken rule file row)) = FeedBroken rule file row
 status_of (refused.Feed (fault.Folder before after)) = FolderFault before after
 status_of (refused.Feed fault.NoMemory) = NoMemory
 
--- The line is said, and the status is that of the refusal; or memory ran out: in the sink, behind a front of the line, or
--- before there was a line, and then a front of the line that says so is written.
+-- the line of the refusal names what it is about, and is made when it is said, which takes memory
+abbrev pub HasMadeLine : Refusal → Type 0
+HasMadeLine refused.Usage = ⊥
+HasMadeLine (refused.Feed (fault.Broken rule file row)) = Unit {0}
+HasMadeLine (refused.Feed (fault.Folder before after)) = ⊥
+HasMadeLine (refused.Feed fault.NoMemory) = ⊥
+
+-- The line is said, and the status is that of the refusal; or there was no memory to make the line, and the one that says so is
+-- said in its place.
 abbrev pub IsRefusalEnd : Refusal → SinkSeen → SinkSeen → Status → Type 0
 IsRefusalEnd refusal before after status =
     ((status ≡ status_of refusal) × Said before after (error_line_of refusal))
-    ⊎ ((status ≡ NoMemory)
-    × (WroteFront before after (error_line_of refusal) ⊎ WroteFront before after (error_line_of (refused.Feed fault.NoMemory))))
-
--- a line is said, and the status stays; or the sink ran out of memory behind a front of it
-abbrev pub IsLineEnd : List ℕ → Status → SinkSeen → SinkSeen → Status → Type 0
-IsLineEnd line status before after now =
-    ((now ≡ status) × Said before after line) ⊎ ((now ≡ NoMemory) × WroteFront before after line)
+    ⊎ (HasMadeLine refusal × (status ≡ NoMemory) × Said before after (error_line_of (refused.Feed fault.NoMemory)))

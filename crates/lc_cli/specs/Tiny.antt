@@ -1,28 +1,28 @@
 -- The feed Tiny as tables: five trips over six stops, all on 2024-05-01. And a question of it, a best journey worked out by
 -- hand from its timetable, and answers that are wrong.
-use Rattle.std.specs.Prelude.{ℕ, ◌+◌, ◌*◌, true, List, [], ◌∷◌, None, map, length, codes}
-use Rattle.std.proofs.Common.{ap, lit≤}
-use Rattle.std.proofs.Math.Nat.{suc-ne-zero}
+use Rattle.std.specs.Prelude.{◌≡◌, ℕ, ◌+◌, ◌*◌, true, List, [], ◌∷◌, Option, None, map, codes}
+use Rattle.std.proofs.Common.{lit≤}
 use Rattle.std.proofs.lemmas.List.Elements.{All-map}
 use Rattle.std.specs.Option.{IfSome}
 use Rattle.lc_model.specs.Journey.{IsJourney}
 use Rattle.lc_model.specs.Ride.{IsRideAt}
 use Rattle.lc_model.specs.Stop.{HasStop}
-use Rattle.lc_model.specs.declared.answer.Answer.{Answer}
-use Rattle.lc_model.specs.declared.answer.Answer.TheVariants.{Journey}
+use Rattle.lc_model.specs.declared.answer.Answer.TheVariants as answers
 use Rattle.lc_model.specs.declared.date.ServiceDate.{ServiceDate}
 use Rattle.lc_model.specs.declared.doc.StopsDoc.{StopsDoc}
+use Rattle.lc_model.specs.declared.journey.Journey.{Journey}
 use Rattle.lc_model.specs.declared.query.Query.{Query}
 use Rattle.lc_model.specs.declared.ride.Ride.{Ride}
 use Rattle.lc_model.specs.declared.run.Run.{Run}
 use Rattle.lc_model.specs.declared.stop.Stop.{Stop}
+use Rattle.lc_model.specs.declared.walk.Walk.{Walk}
 use Rattle.gtfs_tables.specs.Stops.{HaveKnownParents}
 use Rattle.gtfs_tables.specs.declared.stop_times.StopTime.{StopTime}
 use Rattle.gtfs_tables.specs.declared.tables.Tables.{Tables}
 use Rattle.gtfs_tables.specs.declared.trips.TripRow.{TripRow}
 use Rattle.trip_calls.specs.Runs.{AreRunsOf}
 use Rattle.trip_calls.specs.TripRuns.{key_on}
-use Rattle.lc_cli.specs.Plan.{window_of}
+use Rattle.lc_cli.specs.Plan.{AnswersQuestion, window_of}
 use Rattle.lc_cli.specs.Doc.{IsDocOf}
 
 -- the seconds of a day at a time of the clock
@@ -124,30 +124,50 @@ to_d_at arr = ride_of (codes "T3") (codes "B") (moment 8 12) (codes "D") arr
 abbrev pub to_d_later : Ride
 to_d_later = ride_of (codes "T2") (codes "B") (moment 8 20) (codes "D") (moment 8 40)
 
--- the journey of two rides
-abbrev pub two_rides : Ride → Ride → Answer
-two_rides first second = Journey (record { rides = first ∷ second ∷ []; not_empty = λ e. suc-ne-zero 1 (ap length e) })
-
 -- by T1 to B at 08:10, and after the change of 120 seconds by T3 to D at 08:31
-abbrev pub worked : Answer
-worked = two_rides to_b (to_d_at (moment 8 31))
+abbrev pub worked : List Ride
+worked = to_b ∷ to_d_at (moment 8 31) ∷ []
 
 -- the same, said to arrive one second later
-abbrev pub a_second_late : Answer
-a_second_late = two_rides to_b (to_d_at (moment 8 31 + 1))
+abbrev pub a_second_late : List Ride
+a_second_late = to_b ∷ to_d_at (moment 8 31 + 1) ∷ []
 
 -- the same rides the other way round
-abbrev pub swapped : Answer
-swapped = two_rides (to_d_at (moment 8 31)) to_b
+abbrev pub swapped : List Ride
+swapped = to_d_at (moment 8 31) ∷ to_b ∷ []
 
 -- by T1 and then by T2, which arrives at 08:40
-abbrev pub nine_minutes_late : Answer
-nine_minutes_late = two_rides to_b to_d_later
+abbrev pub nine_minutes_late : List Ride
+nine_minutes_late = to_b ∷ to_d_later ∷ []
 
--- the rides are a journey by the feed's timetable, be it a best one or not
-pub record IsJourneyBy (tables : Tables) (query : Query) (rides : List Ride) : Type 0 where
+-- a walk from A to A that takes so long
+abbrev pub in_place : ℕ → Walk
+in_place seconds = record { from = codes "A"; to = codes "A"; seconds = seconds }
+
+-- the journey has this walk before its rides, these rides, and this walk after them
+pub record IsMadeOf (before : Option Walk) (rides : List Ride) (after : Option Walk) (journey : Journey) : Type 0 where
+  pub before_is : journey.before ≡ before
+  pub rides_are : journey.rides ≡ rides
+  pub after_is : journey.after ≡ after
+
+-- with every walk or none before and after them, the rides are those of a journey
+abbrev pub MakeJourneys : List Ride → Type 0
+MakeJourneys rides = (before after : Option Walk) → (journey : Journey) × IsMadeOf before rides after journey
+
+-- with this walk before them and none after, the rides answer the question
+abbrev pub AreTaken : Option Walk → List Ride → Type 0
+AreTaken before rides =
+    (journey : Journey) → IsMadeOf before rides None journey → AnswersQuestion tiny from_a_to_d (answers.Journey journey)
+
+-- with this walk before them and none after, the rides answer it not
+abbrev pub AreRefused : Option Walk → List Ride → Type 0
+AreRefused before rides =
+    (journey : Journey) → IsMadeOf before rides None journey → AnswersQuestion tiny from_a_to_d (answers.Journey journey) → ⊥
+
+-- with no walks, the rides are a journey by the feed's timetable, be it a best one or not
+pub record AreJourneyBy (tables : Tables) (query : Query) (rides : List Ride) : Type 0 where
   pub runs : List Run
   pub are_runs : AreRunsOf tables (window_of query) runs
   pub doc : StopsDoc
   pub is_doc : IsDocOf tables.stops doc
-  pub is_journey : IsJourney (IsRideAt runs) query doc rides
+  pub are_journey : (journey : Journey) → IsMadeOf None rides None journey → IsJourney (IsRideAt runs) query doc journey

@@ -9,11 +9,10 @@ use Rattle.gtfs_tables.specs.Files.{files_of}
 use Rattle.gtfs_tables.specs.declared.feed.fault.FeedFault.TheVariants as fault
 use Rattle.gtfs_tables.specs.declared.tables.Tables.{Tables}
 use Rattle.lc_cli.specs.Ask.{IsRightBlock, IsRightRefusal}
-use Rattle.lc_cli.specs.Refusal.{error_line_of, feed_line_of}
+use Rattle.lc_cli.specs.Refusal.{feed_line_of}
 use Rattle.lc_cli.specs.Words.{SaysAsk}
 use Rattle.lc_cli.specs.Writing.{Said, Wrote, WroteFront}
 use Rattle.lc_cli.specs.declared.block.Block.{Block}
-use Rattle.lc_cli.specs.declared.refusal.Refusal.{Refusal}
 use Rattle.lc_cli.specs.declared.refusal.Refusal.TheVariants as refused
 use Rattle.lc_cli.specs.declared.status.Status.{Status}
 use Rattle.lc_cli.specs.declared.status.Status.TheVariants.{Done, Usage, FeedBroken, FolderFault, SinkFault, QueryRefused, NoMemory}
@@ -33,8 +32,9 @@ pub record Past : Type 0 where
 -- QueryRefused: the same, with the line that says why the question is refused.
 -- SinkFault: the sink's count of faults rose, and a front of that block is written.
 -- Usage, FeedBroken, FolderFault: as the words, the feed's files and the folder's count have it, with their error line,
--- which is written whole, or of which a front is where the sink's count rose.
--- NoMemory: memory ran out; a front of the right block is written, or of the line of a right refusal.
+-- which is written whole, or of which a front is where the sink counted a fault or a want of memory.
+-- NoMemory: memory ran out; in the sink, which counted it, behind a front of the right block; or before there was anything to
+-- write, and then the line that says so is said, and nothing else.
 abbrev pub IsRight : Past → Status → Type 0
 IsRight p Done =
     (block : Block) × IsRightBlock p.words p.folder_before p.folder_after block × (block.fault ≡ None)
@@ -56,10 +56,10 @@ IsRight p (FolderFault before after) =
     IsRightRefusal p.words p.folder_before p.folder_after (refused.Feed (fault.Folder before after))
     × Said p.sink_before p.sink_after (codes "error folder\n")
 IsRight p NoMemory =
-    ((block : Block) × IsRightBlock p.words p.folder_before p.folder_after block
+    ((block : Block) × IsRightBlock p.words p.folder_before p.folder_after block × Rose p.sink_before.wants p.sink_after.wants
     × WroteFront p.sink_before p.sink_after block.text.items)
-    ⊎ ((refusal : Refusal) × IsRightRefusal p.words p.folder_before p.folder_after refusal
-    × WroteFront p.sink_before p.sink_after (error_line_of refusal))
+    ⊎ (IsRightRefusal p.words p.folder_before p.folder_after (refused.Feed fault.NoMemory)
+    × Said p.sink_before p.sink_after (codes "error no memory\n"))
 
 -- the run ended with the block of its client, or for want of memory
 abbrev pub IsAnswered : Status → Type 0

@@ -11,6 +11,10 @@ Wrote before after text = after.written ≡ written_after before.written text (l
 abbrev pub WroteFront : SinkSeen → SinkSeen → List ℕ → Type 0
 WroteFront before after text = (n : ℕ) × (n ≤ length text) × (after.written ≡ written_after before.written text n)
 
--- the text was written whole; or the sink counted a fault, and a front of it was written
+-- the sink counted a fault, or a want of memory
+abbrev pub FellShort : SinkSeen → SinkSeen → Type 0
+FellShort before after = Rose before.faults after.faults ⊎ Rose before.wants after.wants
+
+-- the text was written whole; or the sink fell short, which it counted, and a front of it was written
 abbrev pub Said : SinkSeen → SinkSeen → List ℕ → Type 0
-Said before after text = Wrote before after text ⊎ (Rose before.faults after.faults × WroteFront before after text)
+Said before after text = Wrote before after text ⊎ (FellShort before after × WroteFront before after text)

@@ -1,6 +1,6 @@
 ghost use Rattle.std.specs.Prelude.{◌≡◌, ◌++◌, codes, None, Some, IfErr, IfOk};
 ghost use Rattle.gtfs_tables.specs.Reading.{Keeps};
-ghost use Rattle.lc_cli.specs.AnswerText.{answer_text_of};
+ghost use Rattle.lc_cli.specs.AnswerText.{ArrivesAtAMoment, answer_text_of};
 ghost use Rattle.lc_cli.specs.Ask.{IsBlockText, refused_line_of};
 ghost use Rattle.lc_cli.specs.Ask.{IsAskBlock, IsAskRefusal, IsRightBlock, IsRightRefusal};
 ghost use Rattle.lc_cli.specs.Words.{texts_of};
@@ -87,6 +87,7 @@ fn refused_line(fault: QueryFault) -> &'static [u8]
 }
 
 fn answered_block(alloc: Global, answer: &Answer) -> Result<Block, NoMemory>
+    requires { ArrivesAtAMoment answer.now }
     ensures fault { IfOk result (λ block. block.fault ≡ None) }
     ensures text { IfOk result (λ block. block.text.items ≡ codes "client 1\n" ++ answer_text_of answer.now) }
 {

@@ -1,4 +1,4 @@
-ghost use Rattle.std.specs.Prelude.{◌≡◌, ◌≢◌, ◌≤◌, ◌↔◌, IfOk, None, length};
+ghost use Rattle.std.specs.Prelude.{◌≡◌, ◌≢◌, ◌≤◌, ◌↔◌, ◌⊎◌, IfErr, IfOk, None, length};
 ghost use Rattle.gtfs_tables.specs.declared.feed.fault.FeedFault.TheVariants.{NoMemory as no_memory};
 ghost use Rattle.std.specs.declared.io.ErrorKind.TheVariants.{NotFound, OutOfMemory};
 ghost use Rattle.lc_cli.specs.declared.refusal.Refusal.TheVariants.{Feed, Usage};
@@ -13,7 +13,9 @@ use std::rt::Files;
 use std::{env, fs};
 
 /// The words behind the program's name, or why they cannot be read.
-pub fn words_of(rt: &HostRuntime) -> Result<Vec<String>, Refusal> {
+pub fn words_of(rt: &HostRuntime) -> Result<Vec<String>, Refusal>
+    ensures { IfErr result (λ refusal. (refusal ≡ Usage) ⊎ (refusal ≡ Feed no_memory)) }
+{
     match env::args(rt) {
         Ok(words) => Ok(words.skip(1).collect(rt.alloc()).map_err(NoMemory::from)?),
         Err(e) => Err(refusal_of(e.kind())),
@@ -117,7 +119,7 @@ impl<'a, R: Print> StdSink<'a, R> {
 }
 
 impl<R: Print> Sink for StdSink<'_, R> {
-    ghost seen = { λ s. record { written = None; faults = s.faults } };
+    ghost seen = { λ s. record { written = None; faults = s.faults; wants = 0 } };
 
     fn write(&mut self, piece: &[u8]) -> Result<usize, SinkFail> {
         match flushed(self.rt, piece) {

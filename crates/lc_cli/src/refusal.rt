@@ -1,5 +1,6 @@
 ghost use Rattle.std.specs.Prelude.{◌≡◌, ◌≤◌, ◌++◌, codes, decimal, IfOk, OnOk};
-ghost use Rattle.lc_cli.specs.Refusal.{IsLineEnd, IsRefusalEnd, error_line_of, feed_line_of, status_of};
+ghost use Rattle.lc_cli.specs.Refusal.{IsRefusalEnd, error_line_of, feed_line_of, status_of};
+ghost use Rattle.lc_cli.specs.Writing.{Said};
 
 use crate::status::Status;
 use gtfs_tables::FeedFault;
@@ -45,34 +46,47 @@ const FOLDER: &[u8] = b"error folder\n";
 
 const NO_MEMORY: &[u8] = b"error no memory\n";
 
-/// Says the refusal in one line, and ends with its status. If the sink fails, the status stays.
+/// Says the refusal in one line, which is tried once, and ends with its status, whatever becomes of the line; or for want of memory
+/// where there is none to make the line.
 pub(crate) fn refuse<S: Sink>(alloc: Global, refusal: Refusal, out: &mut S) -> Status
     ensures end { IsRefusalEnd refusal (S.seen out.old) (S.seen out.new) result }
     ensures kept { (S.seen out.old).faults ≤ (S.seen out.new).faults }
 {
     match refusal {
-        Refusal::Usage => say(USAGE, Status::Usage, out),
-        Refusal::Feed(FeedFault::Folder { before, after }) => {
-            say(FOLDER, Status::FolderFault { before, after }, out)
+        Refusal::Usage => {
+            say(USAGE, out);
+            Status::Usage
         }
-        Refusal::Feed(FeedFault::NoMemory) => say(NO_MEMORY, Status::NoMemory, out),
+        Refusal::Feed(FeedFault::Folder { before, after }) => {
+            say(FOLDER, out);
+            Status::FolderFault { before, after }
+        }
+        Refusal::Feed(FeedFault::NoMemory) => {
+            say(NO_MEMORY, out);
+            Status::NoMemory
+        }
         Refusal::Feed(FeedFault::Broken { rule, file, row }) => {
             match feed_line(alloc, rule, file.as_str(), row) {
-                Ok(line) => say(line.as_slice(), Status::FeedBroken { rule, file, row }, out),
-                Err(NoMemory) => say(NO_MEMORY, Status::NoMemory, out),
+                Ok(line) => {
+                    say(line.as_slice(), out);
+                    Status::FeedBroken { rule, file, row }
+                }
+                Err(NoMemory) => {
+                    say(NO_MEMORY, out);
+                    Status::NoMemory
+                }
             }
         }
     }
 }
 
-/// Writes the line, and ends with the status, or for want of memory where the sink has none.
-fn say<S: Sink>(line: &[u8], status: Status, out: &mut S) -> Status
-    ensures end { IsLineEnd line.now status (S.seen out.old) (S.seen out.new) result }
+/// Tries the line once.
+fn say<S: Sink>(line: &[u8], out: &mut S)
+    ensures said { Said (S.seen out.old) (S.seen out.new) line.now }
     ensures kept { (S.seen out.old).faults ≤ (S.seen out.new).faults }
 {
     match put_all(out, line) {
-        Ok(()) | Err(SinkFail::Failed) => status,
-        Err(SinkFail::NoMemory) => Status::NoMemory,
+        Ok(()) | Err(SinkFail::Failed) | Err(SinkFail::NoMemory) => {}
     }
 }
 

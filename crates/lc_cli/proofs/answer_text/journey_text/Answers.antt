@@ -1,22 +1,11 @@
-use Rattle.std.proofs.Common.{◌≡◌, ◌∙◌, ◌++◌, [], List, ℕ, take, ap, sym, arith}
-use Rattle.std.specs.List.{flat_map}
-use Rattle.std.proofs.lemmas.List.{take_all}
-use Rattle.lc_cli.specs.AnswerText.{ride_line_of}
-use Rattle.lc_cli.proofs.TextLemmas.{appended, one_more_line}
+-- The lines stand one behind the other.
+use Rattle.std.proofs.Common.{[]}
+use Rattle.lc_cli.proofs.TextLemmas.{appended}
 use Rattle.lc_cli.proofs.answer_text.journey_text.Goals as goal
-
-pub loop-ride-preserved : goal.loop-ride-preserved
-loop-ride-preserved c =
-    let front : List ℕ = c.extend_from_slice-2.new.self.items in
-    let lines : List ℕ = flat_map ride_line_of (take c.loop-ride.ride-index c.args.rides.now) in
-    let more = appended front c.loop-ride.text.items c.push_ride.new.text.items lines (ride_line_of c.ride-item.result) c.loop-ride.invariant c.in_ok-push_ride.ensures in
-    more ∙ ap (λ text. front ++ text) (sym (one_more_line ride_line_of c.args.rides.now c.loop-ride.ride-index c.ride-item.result (omega arith) c.ride-item.is))
 
 pub returns : goal.returns
 returns c =
-    let count = appended [] _ _ _ _ c.in_ok-text.ensures.items c.in_ok-push_count.ensures in
-    let arrives = appended [] _ _ _ _ count c.in_ok-extend_from_slice.ensures.items in
-    let arrival = appended [] _ _ _ _ arrives c.in_ok-push_arrival.ensures in
-    let front = appended [] _ _ _ _ arrival c.in_ok-extend_from_slice-2.ensures.items in
-    let all : take c.loop-ride.ride-index c.args.rides.now ≡ c.args.rides.now = take_all c.loop-ride.ride-index c.args.rides.now (omega arith) in
-    c.loop-ride.invariant ∙ (ap (λ rides. c.extend_from_slice-2.new.self.items ++ flat_map ride_line_of rides) all ∙ ap (λ text. text ++ flat_map ride_line_of c.args.rides.now) front)
+    let lines = rw c.as_slice.ensures at c.in_ok-push_rides.ensures in
+    let before = appended [] _ _ _ _ c.in_ok-text.ensures c.in_ok-push_walk.ensures in
+    let rides = appended [] _ _ _ _ before lines in
+    appended [] _ _ _ _ rides c.in_ok-push_walk-2.ensures

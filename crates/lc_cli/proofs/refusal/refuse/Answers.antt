@@ -8,14 +8,14 @@ use Rattle.lc_cli.proofs.refusal.refuse.Goals as goal
 
 pub returns-in-Usage-clause-end : goal.returns-in-Usage-clause-end
 returns-in-Usage-clause-end g c =
-    ends_with_its_line c.args.refusal _ Usage c.say.result (g.S.Sink.seen c.args.out.now) (g.S.Sink.seen c.say.new.out)
-    (sym (ap error_line_of c.in-Usage.is)) (sym (ap status_of c.in-Usage.is)) c.say.ensures.end
+    ends_with_its_line c.args.refusal _ Usage (g.S.Sink.seen c.args.out.now) (g.S.Sink.seen c.say.new.out)
+    (sym (ap error_line_of c.in-Usage.is)) (sym (ap status_of c.in-Usage.is)) c.say.ensures.said
 
 pub returns-in-Feed-Folder-clause-end : goal.returns-in-Feed-Folder-clause-end
 returns-in-Feed-Folder-clause-end g c =
     let is : c.args.refusal ≡ Feed (fault.Folder c.in-Feed-Folder.before c.in-Feed-Folder.after) = c.in-Feed-Folder.is ∙ ap Feed c.in-Feed-Folder.field-0-is in
-    ends_with_its_line c.args.refusal _ (FolderFault c.in-Feed-Folder.before c.in-Feed-Folder.after) c.say-in-Feed-Folder.result (g.S.Sink.seen c.args.out.now)
-    (g.S.Sink.seen c.say-in-Feed-Folder.new.out) (sym (ap error_line_of is)) (sym (ap status_of is)) c.say-in-Feed-Folder.ensures.end
+    ends_with_its_line c.args.refusal _ (FolderFault c.in-Feed-Folder.before c.in-Feed-Folder.after) (g.S.Sink.seen c.args.out.now)
+    (g.S.Sink.seen c.say-in-Feed-Folder.new.out) (sym (ap error_line_of is)) (sym (ap status_of is)) c.say-in-Feed-Folder.ensures.said
 
 pub returns-in-Ok-clause-end : goal.returns-in-Ok-clause-end
 returns-in-Ok-clause-end g c =
@@ -24,5 +24,5 @@ returns-in-Ok-clause-end g c =
     let row = c.in-Feed-Broken.row in
     let is : c.args.refusal ≡ Feed (fault.Broken rule file row) = c.in-Feed-Broken.is ∙ ap Feed c.in-Feed-Broken.field-0-is in
     let line : c.as_slice.result.now ≡ feed_line_of rule file row = c.as_slice.ensures.value ∙ c.in-Ok.ensures ∙ ap (λ f. feed_line_of rule f row) c.as_str.ensures.value in
-    ends_with_its_line c.args.refusal c.as_slice.result.now (FeedBroken rule file row) c.say-in-Ok.result (g.S.Sink.seen c.args.out.now)
-    (g.S.Sink.seen c.say-in-Ok.new.out) (line ∙ sym (ap error_line_of is)) (sym (ap status_of is)) c.say-in-Ok.ensures.end
+    ends_with_its_line c.args.refusal c.as_slice.result.now (FeedBroken rule file row) (g.S.Sink.seen c.args.out.now)
+    (g.S.Sink.seen c.say-in-Ok.new.out) (line ∙ sym (ap error_line_of is)) (sym (ap status_of is)) c.say-in-Ok.ensures.said
