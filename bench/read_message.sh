@@ -81,14 +81,23 @@ with open(f"{work}/header", "wb") as file:
     file.write(HEADER)
 
 
+# A process of its own measures, since the most memory of a child counts what its parent had when it began.
+MEASURE = """
+import os, sys
+silence = [(os.POSIX_SPAWN_OPEN, 1, os.devnull, os.O_WRONLY, 0)]
+child = os.posix_spawn(sys.argv[1], sys.argv[1:], os.environ, file_actions=silence)
+_, status, usage = os.wait4(child, 0)
+print(os.waitstatus_to_exitcode(status), usage.ru_maxrss)
+"""
+
+
 def peak(path):
     """The most memory that a run of the reader had, in bytes."""
-    silence = [(os.POSIX_SPAWN_OPEN, 1, os.devnull, os.O_WRONLY, 0)]
-    child = os.posix_spawn(reader, [reader, path], os.environ, file_actions=silence)
-    _, status, usage = os.wait4(child, 0)
-    if os.waitstatus_to_exitcode(status) != 0:
+    run = subprocess.run([sys.executable, "-c", MEASURE, reader, path], capture_output=True, text=True, check=True)
+    status, kilobytes = map(int, run.stdout.split())
+    if status != 0:
         sys.exit(f"read_message.sh: {path} is not read")
-    return usage.ru_maxrss * 1024
+    return kilobytes * 1024
 
 
 print()
