@@ -1,7 +1,4 @@
-ghost use Rattle.std.specs.Prelude.{◌≡◌};
-
-use lc_model::Id;
-use std::marker::Model;
+use lc_model::{Id, Items};
 
 /// A row of frequencies.txt: within a span of a service day a trip starts every so often.
 #[derive(Debug, Drop)]
@@ -16,30 +13,4 @@ pub struct Frequency {
 }
 
 /// The spans in which the trips of a feed start every so often, in the order of the file.
-#[derive(Debug, Drop)]
-pub struct Frequencies {
-    items: Vec<Frequency>,
-}
-
-impl Model for Frequencies {
-    ghost use Rattle.std.specs.Prelude.{List};
-    ghost use Rattle.gtfs_files.specs.declared.frequency.Frequency.{Frequency};
-
-    ghost Value = { List Frequency };
-
-    ghost view = { λ f. f.items.items };
-}
-
-impl Frequencies {
-    pub fn from_list(list: Vec<Frequency>) -> Frequencies
-        ensures { result ≡ list.items }
-    {
-        Frequencies { items: list }
-    }
-
-    pub fn as_slice(&self) -> &[Frequency]
-        ensures { result.now ≡ self.now }
-    {
-        self.items.as_slice()
-    }
-}
+pub type Frequencies = Items<Frequency>;

@@ -1,8 +1,5 @@
-ghost use Rattle.std.specs.Prelude.{◌≡◌};
-
-use lc_model::{Bytes, NoMemory, PlainData, copy_each};
+use lc_model::{Bytes, Items, NoMemory, PlainData};
 use std::alloc::Global;
-use std::marker::Model;
 
 /// A field of a head. The value stands without the blanks around it.
 #[derive(Debug, Drop)]
@@ -21,37 +18,4 @@ impl PlainData for Field {
 }
 
 /// The fields of a head, in order.
-#[derive(Debug, Drop)]
-pub struct Fields {
-    items: Vec<Field>,
-}
-
-impl Model for Fields {
-    ghost use Rattle.std.specs.Prelude.{List};
-    ghost use Rattle.http_text.specs.declared.field.Field.{Field};
-
-    ghost Value = { List Field };
-
-    ghost view = { λ f. f.items.items };
-}
-
-impl Fields {
-    pub fn from_list(list: Vec<Field>) -> Fields
-        ensures { result ≡ list.items }
-    {
-        Fields { items: list }
-    }
-
-    pub fn as_slice(&self) -> &[Field]
-        ensures { result.now ≡ self.now }
-    {
-        self.items.as_slice()
-    }
-}
-
-impl PlainData for Fields {
-    fn copy(&self, alloc: Global) -> Result<Fields, NoMemory> {
-        let items = copy_each(alloc, self.as_slice())?;
-        Ok(Fields::from_list(items))
-    }
-}
+pub type Fields = Items<Field>;

@@ -1,8 +1,5 @@
-ghost use Rattle.std.specs.Prelude.{◌≡◌};
-
-use crate::{Id, Moment, NoMemory, PlainData, RunKey, copy_each};
+use crate::{Id, Items, Moment, NoMemory, PlainData, RunKey};
 use std::alloc::Global;
-use std::marker::Model;
 
 /// A ride on one run, from the call of boarding to the call of alighting.
 #[derive(Debug, PartialEq, Eq, Drop)]
@@ -33,37 +30,4 @@ impl PlainData for Ride {
 }
 
 /// Rides, one after the other.
-#[derive(Debug, Drop)]
-pub struct Rides {
-    items: Vec<Ride>,
-}
-
-impl Model for Rides {
-    ghost use Rattle.std.specs.Prelude.{List};
-    ghost use Rattle.lc_model.specs.declared.ride.Ride.{Ride};
-
-    ghost Value = { List Ride };
-
-    ghost view = { λ r. r.items.items };
-}
-
-impl Rides {
-    pub fn from_list(list: Vec<Ride>) -> Rides
-        ensures { result ≡ list.items }
-    {
-        Rides { items: list }
-    }
-
-    pub fn as_slice(&self) -> &[Ride]
-        ensures { result.now ≡ self.now }
-    {
-        self.items.as_slice()
-    }
-}
-
-impl PlainData for Rides {
-    fn copy(&self, alloc: Global) -> Result<Rides, NoMemory> {
-        let items = copy_each(alloc, self.as_slice())?;
-        Ok(Rides::from_list(items))
-    }
-}
+pub type Rides = Items<Ride>;

@@ -2,7 +2,7 @@ ghost use Rattle.std.specs.Prelude.{◌≡◌, IfOk, None};
 ghost use Rattle.std.specs.Option.{option_copied};
 
 use crate::TripNews;
-use lc_model::{Bytes, NoMemory, PlainData, copy_each};
+use lc_model::{Bytes, Items, NoMemory, PlainData};
 use std::alloc::Global;
 use std::marker::Model;
 
@@ -74,38 +74,5 @@ impl PlainData for EntityNews {
     }
 }
 
-/// Entities in the order of the message. A contract sees the list.
-#[derive(Debug, Drop)]
-pub struct EntityList {
-    items: Vec<EntityNews>,
-}
-
-impl Model for EntityList {
-    ghost use Rattle.std.specs.Prelude.{List};
-    ghost use Rattle.lc_versions.specs.News.{EntitySaid};
-
-    ghost Value = { List EntitySaid };
-
-    ghost view = { λ l. l.items.items };
-}
-
-impl EntityList {
-    pub fn from_list(list: Vec<EntityNews>) -> EntityList
-        ensures { result ≡ list.items }
-    {
-        EntityList { items: list }
-    }
-
-    pub fn as_slice(&self) -> &[EntityNews]
-        ensures { result.now ≡ self.now }
-    {
-        self.items.as_slice()
-    }
-}
-
-impl PlainData for EntityList {
-    fn copy(&self, alloc: Global) -> Result<EntityList, NoMemory> {
-        let items = copy_each(alloc, self.as_slice())?;
-        Ok(EntityList::from_list(items))
-    }
-}
+/// Entities in the order of the message.
+pub type EntityList = Items<EntityNews>;

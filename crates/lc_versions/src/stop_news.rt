@@ -3,7 +3,7 @@ ghost use Rattle.std.specs.Option.{option_copied};
 ghost use Rattle.lc_versions.specs.News.{StopSaid};
 
 use crate::{Event, Relation};
-use lc_model::{Bytes, NoMemory, PlainData, copy_each};
+use lc_model::{Bytes, Items, NoMemory, PlainData};
 use std::alloc::Global;
 use std::marker::Model;
 
@@ -131,38 +131,5 @@ impl PlainData for StopNews {
     }
 }
 
-/// The news of stops in the order of the message. A contract sees the list.
-#[derive(Debug, Drop)]
-pub struct StopNewsList {
-    items: Vec<StopNews>,
-}
-
-impl Model for StopNewsList {
-    ghost use Rattle.std.specs.Prelude.{List};
-    ghost use Rattle.lc_versions.specs.News.{StopSaid};
-
-    ghost Value = { List StopSaid };
-
-    ghost view = { λ l. l.items.items };
-}
-
-impl StopNewsList {
-    pub fn from_list(list: Vec<StopNews>) -> StopNewsList
-        ensures { result ≡ list.items }
-    {
-        StopNewsList { items: list }
-    }
-
-    pub fn as_slice(&self) -> &[StopNews]
-        ensures { result.now ≡ self.now }
-    {
-        self.items.as_slice()
-    }
-}
-
-impl PlainData for StopNewsList {
-    fn copy(&self, alloc: Global) -> Result<StopNewsList, NoMemory> {
-        let items = copy_each(alloc, self.as_slice())?;
-        Ok(StopNewsList::from_list(items))
-    }
-}
+/// The news of stops in the order of the message.
+pub type StopNewsList = Items<StopNews>;

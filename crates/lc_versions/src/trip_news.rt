@@ -1,7 +1,5 @@
-ghost use Rattle.std.specs.Prelude.{◌≡◌};
-
 use crate::{StopNewsList, TripKind};
-use lc_model::{Bytes, NoMemory, PlainData, ServiceDate, copy_each};
+use lc_model::{Bytes, Items, NoMemory, PlainData, ServiceDate};
 use std::alloc::Global;
 use std::marker::Model;
 
@@ -36,38 +34,5 @@ impl PlainData for TripNews {
     }
 }
 
-/// The news of trips, one after the other. A contract sees the list.
-#[derive(Debug, Drop)]
-pub struct NewsList {
-    items: Vec<TripNews>,
-}
-
-impl Model for NewsList {
-    ghost use Rattle.std.specs.Prelude.{List};
-    ghost use Rattle.lc_versions.specs.News.{TripSaid};
-
-    ghost Value = { List TripSaid };
-
-    ghost view = { λ l. l.items.items };
-}
-
-impl NewsList {
-    pub fn from_list(list: Vec<TripNews>) -> NewsList
-        ensures { result ≡ list.items }
-    {
-        NewsList { items: list }
-    }
-
-    pub fn as_slice(&self) -> &[TripNews]
-        ensures { result.now ≡ self.now }
-    {
-        self.items.as_slice()
-    }
-}
-
-impl PlainData for NewsList {
-    fn copy(&self, alloc: Global) -> Result<NewsList, NoMemory> {
-        let items = copy_each(alloc, self.as_slice())?;
-        Ok(NewsList::from_list(items))
-    }
-}
+/// The news of trips, one after the other.
+pub type NewsList = Items<TripNews>;
