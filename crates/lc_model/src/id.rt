@@ -10,24 +10,25 @@ use crate::{NoMemory, PlainData};
 use std::alloc::Global;
 use std::cmp::Ordering;
 use std::marker::Model;
+use std::rc::RcStr;
 
 /// The name of a stop, a trip or a service: a nonempty UTF-8 text. A contract sees its bytes.
 ///
-/// Ids are ordered by their bytes.
+/// Ids are ordered by their bytes. A copy shares the text.
 #[derive(Debug, Drop)]
 pub struct Id {
-    text: String,
+    text: RcStr,
 }
 
 impl Model for Id {
     ghost use Rattle.std.specs.Prelude.{ℕ, List, [], ◌≢◌};
-    ghost use Rattle.std.specs.String.{string_bytes};
+    ghost use Rattle.std.specs.Rc.{rc_str_bytes};
 
     ghost Value = { List ℕ };
 
-    ghost view = { λ id. string_bytes id.text };
+    ghost view = { λ id. rc_str_bytes id.text };
 
-    ghost invariant = { λ id. string_bytes id.text ≢ [] };
+    ghost invariant = { λ id. rc_str_bytes id.text ≢ [] };
 }
 
 impl Id {
@@ -38,7 +39,7 @@ impl Id {
         match std::str::from_utf8(text) {
             Ok("") | Err(_) => Ok(None),
             Ok(text) => Ok(Some(Id {
-                text: String::from_str(alloc, text)?,
+                text: RcStr::from_str(alloc, text)?,
             })),
         }
     }
@@ -67,9 +68,10 @@ impl Id {
 }
 
 impl PlainData for Id {
-    fn copy(&self, alloc: Global) -> Result<Id, NoMemory> {
+    /// Shares the text: it takes no memory.
+    fn copy(&self, _alloc: Global) -> Result<Id, NoMemory> {
         Ok(Id {
-            text: String::from_str(alloc, self.text.as_str())?,
+            text: self.text.clone()?,
         })
     }
 }
