@@ -1,7 +1,7 @@
-pub mod ListFacts
-pub mod NamedFacts
-pub mod PartnerFacts
-pub mod PushFacts
-pub mod RowFacts
-pub mod TableFacts
-pub mod WorkedFacts
+pub mod ListLemmas
+pub mod NamedLemmas
+pub mod PartnerLemmas
+pub mod PushLemmas
+pub mod RowLemmas
+pub mod TableLemmas
+pub mod WorkedLemmas

@@ -6,4 +6,4 @@ pub mod MomentLemmas
 pub mod NameLemmas
 pub mod PageLemmas
 pub mod RelativeLemmas
-pub mod TwoSlashes
+pub mod TwoSlashesLemmas

@@ -12,7 +12,7 @@ use Rattle.lc_model.specs.declared.date.ServiceDate.{ServiceDate}
 use Rattle.lc_model.specs.declared.key.RunKey.{RunKey}
 use Rattle.lc_time.specs.Clock.{start_text_of}
 use Rattle.lc_time.specs.Date.{date_text_of}
-use Rattle.lc_time.proofs.OneText.{one_date, one_start}
+use Rattle.lc_time.proofs.OneTextLemmas.{one_date, one_start}
 use Rattle.percent_encoding.specs.AsciiSet.{should_percent_encode}
 use Rattle.percent_encoding.specs.Percent.{percent_decode}
 use Rattle.percent_encoding.proofs.PercentLemmas.{All-percent_encode, IsEscapeByte}

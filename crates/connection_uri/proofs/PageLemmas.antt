@@ -4,7 +4,7 @@ use Rattle.std.proofs.lemmas.List.{append_cancel_left}
 use Rattle.lc_model.specs.declared.page.PageName.{PageName}
 use Rattle.lc_time.specs.Iso.{SaysMoment, iso_text_of}
 use Rattle.lc_time.proofs.IsoLemmas.{says_text}
-use Rattle.lc_time.proofs.OneText.{one_moment}
+use Rattle.lc_time.proofs.OneTextLemmas.{one_moment}
 use Rattle.connection_uri.specs.Base.{BaseParts}
 use Rattle.connection_uri.specs.Page.{page_url_of, page_parts_of, PageUrlsDiffer}
 use Rattle.connection_uri.proofs.NameLemmas.{parted}

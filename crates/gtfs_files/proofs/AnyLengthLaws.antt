@@ -1,7 +1,7 @@
 -- A file whose rows have no limit says one sheet or has one first fault, and never both.
 use Rattle.std.proofs.Common.{◌≡◌, ℕ, ◌≤◌, List, Option, arith, inl, inr, length, subst}
 use Rattle.gtfs_rows.specs.Sheet.{IsTable, Sheet}
-use Rattle.gtfs_rows.proofs.SheetLaws.{sheets_are_one}
+use Rattle.gtfs_rows.proofs.SheetLemmas.{sheets_are_one}
 use Rattle.gtfs_files.specs.AnyLength.{IsFirstFault, IsNoTable, IsSoundTable}
 use Rattle.gtfs_files.specs.Table.{IsRowFault, IsTableFault}
 use Rattle.gtfs_files.specs.declared.fault.FileFault.{FileFault}

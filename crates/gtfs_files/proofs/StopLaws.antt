@@ -6,7 +6,7 @@ use Rattle.std.specs.Ordering.{on}
 use Rattle.gtfs_rows.specs.Sheet.{Sheet}
 use Rattle.lc_model.specs.Text.{id_cmp}
 use Rattle.lc_model.specs.declared.stop.Stop.{Stop}
-use Rattle.lc_model.proofs.Orders.{strict_orders_are_one}
+use Rattle.lc_model.proofs.OrdersLemmas.{strict_orders_are_one}
 use Rattle.gtfs_files.specs.Laws.{NeverBothStops, OneStops, OneStopsFault}
 use Rattle.gtfs_files.specs.Stops.{most_stops, stop_of, stop_rule_at, stops_columns}
 use Rattle.gtfs_files.proofs.TableLaws.{file_faults_are_one, sound_has_no_fault, sound_sheets_are_one}

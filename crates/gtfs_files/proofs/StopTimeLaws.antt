@@ -5,7 +5,7 @@ use Rattle.std.specs.List.{filter_map}
 use Rattle.std.specs.List.Sorted.{IsPermutation}
 use Rattle.gtfs_rows.specs.Sheet.{Sheet}
 use Rattle.lc_model.specs.declared.stop.Stop.{Stop}
-use Rattle.lc_model.proofs.Orders.{strict_orders_are_one}
+use Rattle.lc_model.proofs.OrdersLemmas.{strict_orders_are_one}
 use Rattle.gtfs_files.specs.Laws.{NeverBothStopTimes, OneStopTimes, OneStopTimesFault}
 use Rattle.gtfs_files.specs.Rules.{IsUnbroken}
 use Rattle.gtfs_files.specs.StopTimeRows.{most_stop_times, stop_time_rule_at, stop_times_columns}

@@ -5,8 +5,8 @@ use Rattle.gtfs_rows.specs.Fault.{Breaks}
 use Rattle.gtfs_rows.specs.Sheet.{IsTable, Sheet}
 use Rattle.gtfs_rows.specs.declared.fault.RowFault.{RowFault}
 use Rattle.gtfs_rows.specs.declared.fault.RowFault.TheVariants as row_faults
-use Rattle.gtfs_rows.proofs.FaultLaws.{faults_are_one, table_breaks_none}
-use Rattle.gtfs_rows.proofs.SheetLaws.{sheets_are_one}
+use Rattle.gtfs_rows.proofs.FaultLemmas.{faults_are_one, table_breaks_none}
+use Rattle.gtfs_rows.proofs.SheetLemmas.{sheets_are_one}
 use Rattle.gtfs_files.specs.Rules.{IsFirstBroken, IsUnbroken}
 use Rattle.gtfs_files.specs.Table.{BreaksRow, BreaksTable, IsFaultOf, IsFileFault, IsRowFault, IsSmallTable, IsSound, IsTableFault, rule_of_fault}
 use Rattle.gtfs_files.specs.declared.fault.FileFault.{FileFault}

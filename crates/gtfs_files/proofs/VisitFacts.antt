@@ -15,8 +15,8 @@ use Rattle.gtfs_rows.specs.Sheet.{Sheet}
 use Rattle.lc_model.specs.Order.{AreApart, IsStrict}
 use Rattle.lc_model.specs.Text.{id_cmp}
 use Rattle.lc_model.specs.declared.stop.Stop.{Stop}
-use Rattle.lc_model.proofs.Orders.{apart_permuted, strict_from_sorted}
-use Rattle.lc_model.proofs.Search.{both_tie, id_tie}
+use Rattle.lc_model.proofs.OrdersLemmas.{apart_permuted, strict_from_sorted}
+use Rattle.lc_model.proofs.SearchLemmas.{both_tie, id_tie}
 use Rattle.gtfs_files.specs.Columns.{row_at}
 use Rattle.gtfs_files.specs.Places.{stands_twice}
 use Rattle.gtfs_files.specs.StopTimeRows.{key_of, same_key, sequence_of, stop_time_keys, stop_time_rule_at, stop_time_rules}

@@ -1,7 +1,7 @@
-pub mod FaultLaws
-mod PlaceFacts
-mod ReadFacts
-pub mod SheetLaws
-mod StoreFacts
-mod TableFacts
-mod Utf8Facts
+pub mod FaultLemmas
+mod PlaceLemmas
+mod ReadLemmas
+pub mod SheetLemmas
+mod StoreLemmas
+mod TableLemmas
+mod Utf8Lemmas

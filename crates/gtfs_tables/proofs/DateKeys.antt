@@ -8,7 +8,7 @@ use Rattle.std.specs.Ordering.{nat_cmp, on, ordering_then, then_cmp}
 use Rattle.std.specs.declared.cmp.Ordering.{Ordering}
 use Rattle.lc_model.specs.Text.{id_cmp}
 use Rattle.lc_model.specs.declared.date.ServiceDate.{ServiceDate}
-use Rattle.lc_model.proofs.Search.{both_tie}
+use Rattle.lc_model.proofs.SearchLemmas.{both_tie}
 use Rattle.lc_time.proofs.DateLemmas.{same_date}
 use Rattle.gtfs_tables.specs.CalendarDates.{key_of}
 use Rattle.gtfs_tables.specs.declared.dates.DateRow.{DateRow}

@@ -3,12 +3,12 @@ use Rattle.std.proofs.Common.{◌≡◌, ◌∙◌, ℕ, inl, inr, Bool, List, [
 use Rattle.std.proofs.Props.{props}
 use Rattle.std.specs.Prelude.{codes}
 use Rattle.std.specs.List.Sorted.{IsPermutation}
-use Rattle.gtfs_rows.proofs.SheetLaws.{sheets_are_one}
+use Rattle.gtfs_rows.proofs.SheetLemmas.{sheets_are_one}
 use Rattle.gtfs_rows.specs.Sheet.{Sheet}
 use Rattle.lc_model.specs.declared.stop.Stop.{Stop}
-use Rattle.lc_model.proofs.Orders.{strict_orders_are_one}
+use Rattle.lc_model.proofs.OrdersLemmas.{strict_orders_are_one}
 use Rattle.lc_model.specs.Totals.{stop_cmp_total}
-use Rattle.lc_time.proofs.OneText.{one_date, one_time}
+use Rattle.lc_time.proofs.OneTextLemmas.{one_date, one_time}
 use Rattle.gtfs_tables.specs.CalendarDates.{ArePlainDates, SaysAdded, SaysDate}
 use Rattle.gtfs_tables.specs.Feed.{Holds}
 use Rattle.gtfs_tables.specs.Laws.{OneTables}

@@ -14,8 +14,8 @@ use Rattle.lc_model.specs.Text.{id_cmp}
 use Rattle.gtfs_tables.specs.StopTimeOrder.{InTripOrder, stop_time_cmp}
 use Rattle.gtfs_tables.specs.StopTimes.{AreTimely}
 use Rattle.gtfs_tables.specs.declared.stop_times.StopTime.{StopTime}
-use Rattle.lc_model.proofs.Search.{both_tie, id_tie, same_id}
-use Rattle.lc_model.proofs.Orders.{apart_permuted, strict_from_neighbours, strict_from_sorted}
+use Rattle.lc_model.proofs.SearchLemmas.{both_tie, id_tie, same_id}
+use Rattle.lc_model.proofs.OrdersLemmas.{apart_permuted, strict_from_neighbours, strict_from_sorted}
 
 pub stop_time_total : IsTotalOrder stop_time_cmp
 stop_time_total = then_total (on_total (λ (t : StopTime). t.trip) nat_list_cmp_total) (on_total (λ (t : StopTime). t.seq) nat_cmp_total)

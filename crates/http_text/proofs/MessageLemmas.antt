@@ -4,7 +4,7 @@ use Rattle.std.proofs.lemmas.Bool.{cases_lt}
 use Rattle.std.proofs.lemmas.List.{take-append-drop, take-append-le, take_at}
 use Rattle.httparse.specs.Grammar.{ResponseHead, print_response, status_code, HasNoResponse, NeverHasResponse, MayBecomeResponse}
 use Rattle.httparse.proofs.GrammarLemmas.{request_unique}
-use Rattle.lc_time.proofs.OneText.{one_http_moment}
+use Rattle.lc_time.proofs.OneTextLemmas.{one_http_moment}
 use Rattle.http_text.specs.declared.reply.Reply.{Reply}
 use Rattle.http_text.specs.declared.reply_fault.ReplyFault.{ReplyFault}
 use Rattle.http_text.specs.declared.reply_fault.ReplyFault.TheVariants as faults

@@ -1,5 +1,5 @@
-mod Journeys
-mod Ordered
-mod Pairs
-mod Places
-mod RidesAreLegs
+mod JourneysLemmas
+mod OrderedLemmas
+mod PairsLemmas
+mod PlacesLemmas
+mod RidesAreLegsLemmas

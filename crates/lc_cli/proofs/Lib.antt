@@ -1,6 +1,6 @@
 mod AskLemmas
 mod DocLemmas
-mod OneRun
+mod OneRunLemmas
 mod PlanLemmas
 mod RefusalLemmas
 mod TextLemmas

@@ -26,7 +26,7 @@ use Rattle.lc_model.specs.declared.ride.Ride.{Ride}
 use Rattle.lc_model.specs.declared.run.Run.{Run}
 use Rattle.lc_model.specs.declared.stop.Stop.{Stop}
 use Rattle.lc_model.specs.declared.walk.Walk.{Walk}
-use Rattle.lc_model.proofs.Disorders.{strict_without_disorder}
+use Rattle.lc_model.proofs.DisordersLemmas.{strict_without_disorder}
 use Rattle.std.specs.Ordering.{on}
 use Rattle.lc_time.specs.Calendar.{Day, day_at}
 use Rattle.lc_time.proofs.CalendarLemmas.{from_1970}

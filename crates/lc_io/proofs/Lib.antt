@@ -1,2 +1,2 @@
-pub mod CountLaws
-mod Written
+pub mod CountLemmas
+mod WrittenLemmas

@@ -1,7 +1,7 @@
-pub mod ChangeSearch
-pub mod Disorders
-pub mod OneValue
-pub mod Orders
-pub mod Ranges
-pub mod Search
-pub mod Walks
+pub mod ChangeSearchLemmas
+pub mod DisordersLemmas
+pub mod OneValueLemmas
+pub mod OrdersLemmas
+pub mod RangesLemmas
+pub mod SearchLemmas
+pub mod WalksLemmas

@@ -3,6 +3,6 @@ pub mod CalendarLemmas
 pub mod DateLemmas
 pub mod HttpLemmas
 pub mod IsoLemmas
-pub mod OneText
+pub mod OneTextLemmas
 pub mod OptionLemmas
 pub mod SaidLemmas

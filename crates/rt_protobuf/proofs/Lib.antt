@@ -1,7 +1,7 @@
-pub mod Steps
-pub mod Varints
-pub mod Contents
-pub mod Faults
-pub mod Fields
-pub mod OneWay
-pub mod Places
+pub mod StepsLemmas
+pub mod VarintsLemmas
+pub mod ContentsLemmas
+pub mod FaultsLemmas
+pub mod FieldsLemmas
+pub mod OneWayLemmas
+pub mod PlacesLemmas

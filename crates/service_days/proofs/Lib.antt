@@ -4,7 +4,7 @@ pub mod DayLemmas
 pub mod GainLemmas
 pub mod ListedLemmas
 pub mod ListingLemmas
-pub mod OneZone
+pub mod OneZoneLemmas
 pub mod OrderLemmas
 pub mod RuleLemmas
 pub mod UtcLemmas

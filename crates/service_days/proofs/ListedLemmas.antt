@@ -6,7 +6,7 @@ use Rattle.std.specs.List.Sorted.{IsStrictlySortedBy}
 use Rattle.std.specs.declared.cmp.Ordering.TheVariants.{Less}
 use Rattle.std.proofs.lemmas.List.Elements.{All-from_recursion}
 use Rattle.std.proofs.lemmas.List.Kept.{AllPairs-cons}
-use Rattle.lc_model.proofs.Orders.{strict_lists_are_one}
+use Rattle.lc_model.proofs.OrdersLemmas.{strict_lists_are_one}
 use Rattle.lc_model.specs.declared.date.ServiceDate.{ServiceDate}
 use Rattle.gtfs_files.specs.declared.calendar.Weekly.{Weekly}
 use Rattle.gtfs_files.specs.declared.calendar_dates.DateRow.{DateRow}

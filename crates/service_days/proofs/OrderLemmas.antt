@@ -14,7 +14,7 @@ use Rattle.std.proofs.lemmas.List.Kept.{Contains-dedup, Contains-from_dedup, IsS
 use Rattle.std.proofs.lemmas.List.Sorted.{Contains-permutation, IsPermutation-sym, searchable_from_sorted}
 use Rattle.lc_model.specs.RunKey.{date_cmp}
 use Rattle.lc_model.specs.declared.date.ServiceDate.{ServiceDate}
-use Rattle.lc_model.proofs.Search.{both_tie, id_tie}
+use Rattle.lc_model.proofs.SearchLemmas.{both_tie, id_tie}
 use Rattle.lc_time.proofs.DateLemmas.{same_date}
 use Rattle.service_days.specs.Days.{day_cmp}
 use Rattle.service_days.specs.declared.service_day.ServiceDay.{ServiceDay}

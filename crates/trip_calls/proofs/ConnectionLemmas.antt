@@ -20,9 +20,9 @@ use Rattle.lc_model.specs.declared.key.RunKey.{RunKey}
 use Rattle.lc_model.specs.declared.run.Run.{Run}
 use Rattle.trip_calls.specs.Runs.{RunsForward}
 use Rattle.trip_calls.proofs.Lists.{All-from_contains, AllPairs-flat_map, AllPairs-head, AllPairs-nil, AllPairs-tail, StandsIn-flat_map}
-use Rattle.lc_model.proofs.Orders.{IsStrict-from_sorted}
+use Rattle.lc_model.proofs.OrdersLemmas.{IsStrict-from_sorted}
 use Rattle.lc_model.specs.Totals.{departure_cmp_total}
-use Rattle.lc_model.proofs.Search.{both_tie}
+use Rattle.lc_model.proofs.SearchLemmas.{both_tie}
 
 -- after the last call but one there is no connection
 pub no_more : (key : RunKey) (calls : List Call) (n : ℕ) → length calls ≤ n + 1 → connections_of_calls key (drop n calls) ≡ []

@@ -32,8 +32,8 @@ use Rattle.trip_calls.specs.TripRuns.{HasMoments, key_on, run_on, runs_of_trip, 
 use Rattle.trip_calls.specs.declared.service_days.ServiceDay.{ServiceDay}
 use Rattle.trip_calls.specs.declared.window.Window.{Window}
 use Rattle.trip_calls.proofs.Lists.{All-from_contains, AllPairs-flat_map, AllPairs-map, AllPairs-weaker, ComesFrom-map, Contains-filter, Contains-flat_map, Contains-map, IsKept-filter, StandsIn-flat_map}
-use Rattle.lc_model.proofs.Orders.{IsStrict-from_sorted}
-use Rattle.lc_model.proofs.Search.{both_tie}
+use Rattle.lc_model.proofs.OrdersLemmas.{IsStrict-from_sorted}
+use Rattle.lc_model.proofs.SearchLemmas.{both_tie}
 use Rattle.lc_model.specs.Totals.{key_cmp_total}
 use Rattle.trip_calls.proofs.TimeLemmas.{RiseInSequence-times_of, id_cmp-same, same_text}
 

@@ -14,7 +14,7 @@ use Rattle.trip_calls.specs.ServiceDays.{AddsOn, AddsDay, AreServiceDays}
 use Rattle.trip_calls.specs.declared.service_days.ServiceDay.{ServiceDay}
 use Rattle.trip_calls.specs.declared.window.Window.{Window}
 use Rattle.trip_calls.proofs.Lists.{Contains-nil, AllPairs-nil}
-use Rattle.lc_model.proofs.Orders.{AllPairs-permutation}
+use Rattle.lc_model.proofs.OrdersLemmas.{AllPairs-permutation}
 
 abbrev day_of : List ℕ → ServiceDate → ℕ → ServiceDay
 day_of service date day = record { service = service; date = date; day = day }

@@ -8,7 +8,7 @@ use Rattle.std.proofs.lemmas.Cmp.{nat_list_cmp_total, tied_back, ranked}
 use Rattle.std.proofs.lemmas.List.Kept.{AllPairs-filter}
 use Rattle.lc_model.specs.Change.{is_same_id}
 use Rattle.lc_model.specs.Text.{id_cmp}
-use Rattle.lc_model.proofs.Search.{both_tie}
+use Rattle.lc_model.proofs.SearchLemmas.{both_tie}
 use Rattle.gtfs_tables.specs.StopTimeOrder.{stop_time_cmp, InTripOrder}
 use Rattle.gtfs_tables.specs.declared.stop_times.StopTime.{StopTime}
 use Rattle.trip_calls.specs.Runs.{times_of}

@@ -1,6 +1,6 @@
-pub mod Steps
-pub mod Trees
-pub mod Walking
-pub mod Embedded
-pub mod Said
-pub mod Whole
+pub mod StepsLemmas
+pub mod TreesLemmas
+pub mod WalkingLemmas
+pub mod EmbeddedLemmas
+pub mod SaidLemmas
+pub mod WholeLemmas

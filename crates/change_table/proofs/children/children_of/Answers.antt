@@ -1,8 +1,8 @@
 -- A sort only moves the children.
 use Rattle.std.proofs.Common.{rules}
-use Rattle.lc_model.proofs.Orders.{IsSorted-from_closure}
+use Rattle.lc_model.proofs.OrdersLemmas.{IsSorted-from_closure}
 use Rattle.change_table.specs.Partners.{child_cmp}
-use Rattle.change_table.proofs.PartnerFacts.{AreChildren-moved, child_cmp_total}
+use Rattle.change_table.proofs.PartnerLemmas.{AreChildren-moved, child_cmp_total}
 use Rattle.change_table.proofs.children.children_of.Goals as goal
 
 pub returns-clause-all : goal.returns-clause-all

@@ -1,7 +1,7 @@
 use Rattle.std.proofs.Common.{[], ◌∷◌, map}
 use Rattle.std.specs.Option.{option_to_list}
 use Rattle.change_table.specs.Rows.{target}
-use Rattle.change_table.proofs.PartnerFacts.{Gains-four}
+use Rattle.change_table.proofs.PartnerLemmas.{Gains-four}
 use Rattle.change_table.proofs.partners.named_places.Goals as goal
 
 pub returns : goal.returns

@@ -5,7 +5,7 @@ use Rattle.std.proofs.lemmas.List.Filters.{dedup_is}
 use Rattle.std.proofs.lemmas.Map.Keys.{IsStrictlyIncreasing-dedup}
 use lib.Dec.{eqb}
 use Rattle.change_table.specs.Partners.{Gains, named_ids}
-use Rattle.change_table.proofs.PartnerFacts.{Gains-dedup}
+use Rattle.change_table.proofs.PartnerLemmas.{Gains-dedup}
 use Rattle.std.proofs.Common.{[]}
 use Rattle.change_table.proofs.partners.partners.Goals as goal
 

@@ -4,7 +4,7 @@ use Rattle.std.proofs.lemmas.Fn.{always_returns_same}
 use Rattle.lc_model.specs.Text.{id_cmp}
 use Rattle.lc_model.specs.declared.stop.Stop.{Stop}
 use Rattle.change_table.specs.Partners.{id_at}
-use Rattle.change_table.proofs.PartnerFacts.{place_is}
+use Rattle.change_table.proofs.PartnerLemmas.{place_is}
 use Rattle.change_table.proofs.partners.place_of.Goals as goal
 
 pub returns : goal.returns

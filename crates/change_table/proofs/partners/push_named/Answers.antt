@@ -1,5 +1,5 @@
 -- The place of the id, and those of its children.
-use Rattle.change_table.proofs.PartnerFacts.{Gains-one}
+use Rattle.change_table.proofs.PartnerLemmas.{Gains-one}
 use Rattle.change_table.proofs.partners.push_named.Goals as goal
 
 pub returns : goal.returns

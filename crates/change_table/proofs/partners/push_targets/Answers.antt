@@ -1,4 +1,4 @@
-use Rattle.change_table.proofs.PartnerFacts.{Gains-all, Gains-more}
+use Rattle.change_table.proofs.PartnerLemmas.{Gains-all, Gains-more}
 use Rattle.change_table.proofs.partners.push_targets.Goals as goal
 
 pub loop-row-preserved : goal.loop-row-preserved

@@ -1,6 +1,6 @@
 -- The first of the rows to the stop.
 use Rattle.std.proofs.Common.{Some, None}
-use Rattle.change_table.proofs.RowFacts.{first_to}
+use Rattle.change_table.proofs.RowLemmas.{first_to}
 use Rattle.change_table.proofs.rows.row_to.Goals as goal
 
 pub returns-in-Some : goal.returns-in-Some

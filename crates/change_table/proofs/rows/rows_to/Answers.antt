@@ -1,7 +1,7 @@
 -- Between the two places stand exactly the rows to the stop.
 use Rattle.std.proofs.Common.{sym, rules}
 use Rattle.std.proofs.lemmas.List.Sorted.{IsPartitionPoint-from_clause}
-use Rattle.lc_model.proofs.Ranges.{is_before, is_not_after, AreBounds-found, bounds_rise, filter_is_between}
+use Rattle.lc_model.proofs.RangesLemmas.{is_before, is_not_after, AreBounds-found, bounds_rise, filter_is_between}
 use Rattle.change_table.specs.Rows.{target}
 use Rattle.change_table.proofs.rows.rows_to.Goals as goal
 

@@ -1,8 +1,8 @@
 -- A stable sort leaves the first row between two stops the first.
 use Rattle.std.proofs.Common.{rules}
-use Rattle.lc_model.proofs.Orders.{IsSorted-from_closure}
+use Rattle.lc_model.proofs.OrdersLemmas.{IsSorted-from_closure}
 use Rattle.change_table.specs.Rows.{row_cmp}
-use Rattle.change_table.proofs.RowFacts.{AreSortedRows-sorted, IsStable-from_closure, row_cmp_total}
+use Rattle.change_table.proofs.RowLemmas.{AreSortedRows-sorted, IsStable-from_closure, row_cmp_total}
 use Rattle.change_table.proofs.rows.sorted_rows.Goals as goal
 
 pub returns : goal.returns

@@ -1,6 +1,6 @@
 -- What the deciding row says, or what is usual.
 use Rattle.std.proofs.Common.{true, false}
-use Rattle.change_table.proofs.RowFacts.{by_row, without_row}
+use Rattle.change_table.proofs.RowLemmas.{by_row, without_row}
 use Rattle.change_table.proofs.rule.seconds_by.Goals as goal
 
 pub returns-in-Some : goal.returns-in-Some

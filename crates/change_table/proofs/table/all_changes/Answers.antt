@@ -7,8 +7,8 @@ use Rattle.change_table.specs.Pairs.{changes_among, changes_to}
 use Rattle.change_table.specs.Partners.{AreChildren, named_ids, stops_at}
 use Rattle.change_table.specs.Rows.{seconds_by}
 use Rattle.change_table.specs.declared.children.Child.{Child}
-use Rattle.change_table.proofs.NamedFacts.{made_there, named_within, origin_sorted}
-use Rattle.change_table.proofs.PushFacts.{among_front_is_less, among_more, cause_kept}
+use Rattle.change_table.proofs.NamedLemmas.{made_there, named_within, origin_sorted}
+use Rattle.change_table.proofs.PushLemmas.{among_front_is_less, among_more, cause_kept}
 use Rattle.change_table.proofs.table.all_changes.Goals as goal
 
 pub partners-requires-clause-children : goal.partners-requires-clause-children

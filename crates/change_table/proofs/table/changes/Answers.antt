@@ -1,8 +1,8 @@
 -- The list that is made is that of the changes, and as long as there are pairs.
 use Rattle.std.proofs.Common.{◌∙◌, ap, length, refl, subst, arith}
 use Rattle.lc_model.specs.Stop.{InStopOrder}
-use Rattle.change_table.proofs.PushFacts.{cause_kept}
-use Rattle.change_table.proofs.TableFacts.{between_is, made_are, made_count}
+use Rattle.change_table.proofs.PushLemmas.{cause_kept}
+use Rattle.change_table.proofs.TableLemmas.{between_is, made_are, made_count}
 use Rattle.change_table.proofs.table.changes.Goals as goal
 
 pub returns-in_err-list-clause-fault : goal.returns-in_err-list-clause-fault

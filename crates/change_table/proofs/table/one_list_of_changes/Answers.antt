@@ -1,4 +1,4 @@
-use Rattle.change_table.proofs.TableFacts as law
+use Rattle.change_table.proofs.TableLemmas as law
 use Rattle.change_table.proofs.table.one_list_of_changes.Goals as goal
 
 pub returns : goal.returns

@@ -1,5 +1,5 @@
 -- What is pushed is the change between the stops.
-use Rattle.change_table.proofs.PushFacts.{pushed_is}
+use Rattle.change_table.proofs.PushLemmas.{pushed_is}
 use Rattle.change_table.proofs.table.push_change.Goals as goal
 
 pub returns-in_ok-push-clause-added : goal.returns-in_ok-push-clause-added

@@ -5,7 +5,7 @@ use Rattle.std.proofs.Common.{List}
 use Rattle.change_table.specs.Pairs.{changes_to}
 use Rattle.change_table.specs.Partners.{stops_at}
 use Rattle.change_table.specs.Rows.{seconds_by}
-use Rattle.change_table.proofs.PushFacts.{cause_kept, changes_more, front_is_less}
+use Rattle.change_table.proofs.PushLemmas.{cause_kept, changes_more, front_is_less}
 use Rattle.change_table.proofs.table.push_changes.Goals as goal
 
 pub returns-in_err-push_change-clause-fault : goal.returns-in_err-push_change-clause-fault

@@ -1,6 +1,6 @@
 use Rattle.std.proofs.Common.{lit<}
 use Rattle.change_table.specs.ChangeRule.{given_seconds}
-use Rattle.change_table.proofs.WorkedFacts.{apart, none_apart}
+use Rattle.change_table.proofs.WorkedLemmas.{apart, none_apart}
 use Rattle.std.proofs.Common.{sym}
 use Rattle.change_table.proofs.worked.refused_at_station.Goals as goal
 

@@ -1,6 +1,6 @@
 use Rattle.std.proofs.Common.{refl}
 use Rattle.change_table.specs.ChangeRule.{given_seconds}
-use Rattle.change_table.proofs.WorkedFacts.{not_a_second_more, not_five, six_are, six_of_one}
+use Rattle.change_table.proofs.WorkedLemmas.{not_a_second_more, not_five, six_are, six_of_one}
 use Rattle.change_table.proofs.worked.worked_six_stops.Goals as goal
 
 pub returns-clause-takes : goal.returns-clause-takes

@@ -1,7 +1,7 @@
 use Rattle.std.proofs.Common.{◌≡◌, ◌<◌, ℕ, Some, length, refl, arith}
 use Rattle.std.specs.List.{slice_get}
 use Rattle.std.proofs.lemmas.Option.{slice_get_read}
-use Rattle.csa_scan.proofs.WayBack.{leads_back, nearer}
+use Rattle.csa_scan.proofs.WayBackLemmas.{leads_back, nearer}
 use Rattle.csa_scan.proofs.journey.rides_to.Goals as goal
 
 less_than : (i j k : ℕ) → i < j → j < k → i < k

@@ -1,7 +1,7 @@
 use Rattle.std.proofs.Common.{◌<◌, None, Some, get_or, length, refl, sym, ◌∙◌, arith}
 use Rattle.std.proofs.lemmas.Bool.{false≢true}
 use Rattle.std.proofs.lemmas.Option.{get_or_from_slice_get}
-use Rattle.csa_scan.proofs.NearSteps.{comes_nearer, comes_no_nearer}
+use Rattle.csa_scan.proofs.NearStepsLemmas.{comes_nearer, comes_no_nearer}
 use Rattle.csa_scan.proofs.near.come_near.Goals as goal
 
 pub returns-then-is_nearer : goal.returns-then-is_nearer

@@ -1,6 +1,6 @@
 use Rattle.std.proofs.Common.{arith}
 use Rattle.std.proofs.lemmas.Grind.{common_steps}
-use Rattle.csa_scan.proofs.NearSteps.{alone_more}
+use Rattle.csa_scan.proofs.NearStepsLemmas.{alone_more}
 use Rattle.csa_scan.proofs.near.ends_alone.Goals as goal
 
 pub loop-place-preserved : goal.loop-place-preserved

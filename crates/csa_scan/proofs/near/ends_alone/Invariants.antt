@@ -1,5 +1,5 @@
 use Rattle.std.proofs.Common.{◌≡◌, length}
-use Rattle.csa_scan.proofs.NearSteps.{AreAloneSoFar}
+use Rattle.csa_scan.proofs.NearStepsLemmas.{AreAloneSoFar}
 use Rattle.csa_scan.proofs.near.ends_alone.Given as goal
 
 abbrev pub invariant-loop-place : goal.invariant-loop-place

@@ -4,7 +4,7 @@ use Rattle.lc_model.specs.Change.{InChangeOrder}
 use Rattle.lc_model.specs.declared.change.Change.{Change}
 use Rattle.lc_model.specs.declared.stop.Stop.{Stop}
 use Rattle.csa_scan.specs.Near.{ComesNear, outer_of}
-use Rattle.csa_scan.proofs.Nearness.{AreNearBy, near_by_all, near_by_more}
+use Rattle.csa_scan.proofs.NearnessLemmas.{AreNearBy, near_by_all, near_by_more}
 use Rattle.csa_scan.proofs.near.walk_all.Goals as goal
 
 pub loop-change-preserved : goal.loop-change-preserved

@@ -1,5 +1,5 @@
 use Rattle.std.proofs.Common.{take}
-use Rattle.csa_scan.proofs.Nearness.{AreNearBy}
+use Rattle.csa_scan.proofs.NearnessLemmas.{AreNearBy}
 use Rattle.csa_scan.proofs.near.walk_all.Given as goal
 
 abbrev pub invariant-loop-change : goal.invariant-loop-change

@@ -2,8 +2,8 @@ use Rattle.std.proofs.Common.{◌≡◌, ◌∙◌, ◌<◌, None, Some, get_or,
 use Rattle.std.specs.List.{slice_get}
 use Rattle.std.proofs.lemmas.Option.{slice_get-get_or}
 use Rattle.csa_scan.specs.declared.trace.Near.{Near}
-use Rattle.csa_scan.proofs.NearSteps.{makes_none, makes_walk}
-use Rattle.csa_scan.proofs.Sought.{id_at-get_or}
+use Rattle.csa_scan.proofs.NearStepsLemmas.{makes_none, makes_walk}
+use Rattle.csa_scan.proofs.SoughtLemmas.{id_at-get_or}
 use Rattle.csa_scan.proofs.near.walk_at.Goals as goal
 use Rattle.csa_scan.proofs.near.walk_at.Goals.{in_default-near-via-in-Some-near+else-near-gt0, in_default-near-via-in_default-near}
 

@@ -1,7 +1,7 @@
 use Rattle.std.proofs.Common.{◌∙◌, inl, inr, sym}
 use Rattle.std.proofs.lemmas.Bool.{false≢true}
 use Rattle.std.proofs.lemmas.Slice.Eq.{bytes_eq-Decides}
-use Rattle.csa_scan.proofs.Sought.{end_there}
+use Rattle.csa_scan.proofs.SoughtLemmas.{end_there}
 use Rattle.csa_scan.proofs.places.is_end.Goals as goal
 
 pub returns-then-eq : goal.returns-then-eq

@@ -4,7 +4,7 @@ use Rattle.std.proofs.lemmas.Fn.{always_returns_same}
 use Rattle.lc_model.specs.Text.{id_cmp}
 use Rattle.lc_model.specs.declared.stop.Stop.{Stop}
 use Rattle.csa_scan.specs.PlaceOf.{IsPlaceOf, LacksId}
-use Rattle.csa_scan.proofs.Sought.{sought}
+use Rattle.csa_scan.proofs.SoughtLemmas.{sought}
 use Rattle.csa_scan.proofs.places.place_of.Goals as goal
 
 pub returns : goal.returns

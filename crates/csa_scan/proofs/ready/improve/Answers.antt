@@ -1,7 +1,7 @@
 use Rattle.std.proofs.Common.{None, Some, get_or, length, refl, sym, ◌∙◌, ◌<◌, arith}
 use Rattle.std.proofs.lemmas.Bool.{false≢true}
 use Rattle.std.proofs.lemmas.Option.{get_or_from_slice_get}
-use Rattle.csa_scan.proofs.Relaxing.{improves_to, improves_kept}
+use Rattle.csa_scan.proofs.RelaxingLemmas.{improves_to, improves_kept}
 use Rattle.csa_scan.proofs.ready.improve.Goals as goal
 
 pub returns-then-is_sooner : goal.returns-then-is_sooner

@@ -4,8 +4,8 @@ use Rattle.lc_model.specs.Change.{InChangeOrder, changes_from}
 use Rattle.lc_model.specs.declared.change.Change.{Change}
 use Rattle.lc_model.specs.declared.stop.Stop.{Stop}
 use Rattle.csa_scan.specs.Relaxed.{IsRelaxed, Improves}
-use Rattle.csa_scan.proofs.Relaxing.{relaxed_none, relaxed_more}
-use Rattle.csa_scan.proofs.Sought.{id_at-get_or}
+use Rattle.csa_scan.proofs.RelaxingLemmas.{relaxed_none, relaxed_more}
+use Rattle.csa_scan.proofs.SoughtLemmas.{id_at-get_or}
 use Rattle.csa_scan.proofs.ready.relax.Goals as goal
 
 pub loop-change-init : goal.loop-change-init

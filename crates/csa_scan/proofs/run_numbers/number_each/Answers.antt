@@ -1,5 +1,5 @@
 use Rattle.std.proofs.Common.{◌≡◌, [], ◌∷◌, ◌++◌, arith}
-use Rattle.csa_scan.proofs.NumbersGrow.{numbers_of-more}
+use Rattle.csa_scan.proofs.NumbersGrowLemmas.{numbers_of-more}
 use Rattle.csa_scan.proofs.run_numbers.number_each.Goals as goal
 
 pub loop-connection-preserved : goal.loop-connection-preserved

@@ -4,7 +4,7 @@ use Rattle.std.proofs.lemmas.Map.Lookups.{exact_bytes}
 use Rattle.std.specs.Ordering.{on}
 use Rattle.lc_model.specs.Text.{id_cmp}
 use Rattle.lc_model.specs.declared.stop.Stop.{Stop}
-use Rattle.lc_model.proofs.Orders.{apart_permuted, strict_from_sorted}
+use Rattle.lc_model.proofs.OrdersLemmas.{apart_permuted, strict_from_sorted}
 use Rattle.gtfs_files.proofs.Keys.{apart_from_distinct}
 use Rattle.gtfs_files.proofs.stops.sorted_stops.Goals as goal
 

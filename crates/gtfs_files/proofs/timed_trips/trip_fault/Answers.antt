@@ -1,5 +1,5 @@
 use Rattle.std.specs.Ordering.{nat_cmp, on}
-use Rattle.lc_model.proofs.Ranges.{sorted_by_key}
+use Rattle.lc_model.proofs.RangesLemmas.{sorted_by_key}
 use Rattle.gtfs_files.specs.declared.visits.Visit.{Visit}
 use Rattle.gtfs_files.proofs.timed_trips.trip_fault.Goals as goal
 

@@ -1,5 +1,5 @@
-use Rattle.gtfs_rows.proofs.FaultLaws.{faults_are_one, table_breaks_none}
-use Rattle.gtfs_rows.proofs.SheetLaws.{sheets_are_one}
+use Rattle.gtfs_rows.proofs.FaultLemmas.{faults_are_one, table_breaks_none}
+use Rattle.gtfs_rows.proofs.SheetLemmas.{sheets_are_one}
 use Rattle.gtfs_rows.proofs.laws.one_table.Goals as goal
 
 pub returns : goal.returns

@@ -5,9 +5,9 @@ use Rattle.gtfs_rows.specs.Fault.{Breaks}
 use Rattle.gtfs_rows.specs.Sheet.{AreRecordsOf, IsTable, missing_column, names_of}
 use Rattle.gtfs_rows.specs.Store.{sheet_of}
 use Rattle.gtfs_rows.specs.declared.fault.RowFault.TheVariants.{NoColumn, NoHeader, Ragged}
-use Rattle.gtfs_rows.proofs.FaultLaws.{no_column_here, none_read, only_fault, ragged_here, table_breaks_none, table_here}
-use Rattle.gtfs_rows.proofs.SheetLaws.{sheets_are_one}
-use Rattle.gtfs_rows.proofs.Utf8Facts.{texts_of}
+use Rattle.gtfs_rows.proofs.FaultLemmas.{no_column_here, none_read, only_fault, ragged_here, table_breaks_none, table_here}
+use Rattle.gtfs_rows.proofs.SheetLemmas.{sheets_are_one}
+use Rattle.gtfs_rows.proofs.Utf8Lemmas.{texts_of}
 use Rattle.gtfs_rows.proofs.tabulate.table.Goals as goal
 
 pub returns-then-len-eq0-clause-table : goal.returns-then-len-eq0-clause-table

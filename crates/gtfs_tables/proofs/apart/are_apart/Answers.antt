@@ -4,7 +4,7 @@ use Rattle.std.specs.Cmp.{IsTotalOrder}
 use Rattle.std.specs.List.Sorted.{IsPermutation}
 use Rattle.std.specs.declared.cmp.Ordering.{Ordering}
 use Rattle.lc_model.specs.Order.{AreApart}
-use Rattle.lc_model.proofs.Orders.{apart_permuted}
+use Rattle.lc_model.proofs.OrdersLemmas.{apart_permuted}
 use Rattle.gtfs_tables.proofs.apart.are_apart.Goals as goal
 
 -- what is known of the keys in another order is known of the keys

@@ -1,5 +1,5 @@
 use Rattle.std.proofs.Common.{arith, refl}
-use Rattle.lc_model.proofs.Orders.{apart_from_neighbours}
+use Rattle.lc_model.proofs.OrdersLemmas.{apart_from_neighbours}
 use Rattle.gtfs_tables.proofs.apart.neighbours_apart.Goals as goal
 
 pub returns : goal.returns

@@ -3,7 +3,7 @@ use Rattle.std.proofs.Common.{rules}
 use Rattle.std.proofs.lemmas.Iterator.{YieldsList-from_slice, cases_from_all}
 use Rattle.lc_model.specs.Stop.{HasStop}
 use Rattle.gtfs_tables.specs.declared.stop_times.StopTime.{StopTime}
-use Rattle.lc_model.proofs.Search.{all_tells}
+use Rattle.lc_model.proofs.SearchLemmas.{all_tells}
 use Rattle.gtfs_tables.proofs.known.have_stops.Goals as goal
 
 pub returns : goal.returns

@@ -5,7 +5,7 @@ use Rattle.std.proofs.lemmas.Iterator.{YieldsList-from_slice, cases_from_all}
 use Rattle.std.proofs.lemmas.List.Elements.{All-weaker}
 use Rattle.gtfs_tables.specs.Trips.{HasTrip}
 use Rattle.gtfs_tables.specs.declared.stop_times.StopTime.{StopTime}
-use Rattle.lc_model.proofs.Search.{TellsAll, all_tells}
+use Rattle.lc_model.proofs.SearchLemmas.{TellsAll, all_tells}
 use Rattle.gtfs_tables.proofs.known.have_trips.Goals as goal
 
 pub returns : goal.returns

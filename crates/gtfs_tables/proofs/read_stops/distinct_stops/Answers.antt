@@ -6,7 +6,7 @@ use Rattle.std.specs.Ordering.{on}
 use Rattle.lc_model.specs.Text.{id_cmp}
 use Rattle.lc_model.specs.declared.stop.Stop.{Stop}
 use Rattle.gtfs_tables.proofs.Keys.{apart_from_distinct}
-use Rattle.lc_model.proofs.Orders.{apart_permuted, strict_from_sorted}
+use Rattle.lc_model.proofs.OrdersLemmas.{apart_permuted, strict_from_sorted}
 use Rattle.gtfs_tables.proofs.read_stops.distinct_stops.Goals as goal
 
 pub from_list-requires : goal.from_list-requires

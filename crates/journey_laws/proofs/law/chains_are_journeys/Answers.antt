@@ -1,7 +1,7 @@
 use Rattle.std.proofs.Common.{subst}
 use Rattle.lc_model.specs.Run.{InKeyOrder}
-use Rattle.journey_laws.proofs.Journeys.{chain_is_journey, journey_is_chain}
-use Rattle.journey_laws.proofs.RidesAreLegs.{Timetable}
+use Rattle.journey_laws.proofs.JourneysLemmas.{chain_is_journey, journey_is_chain}
+use Rattle.journey_laws.proofs.RidesAreLegsLemmas.{Timetable}
 use Rattle.journey_laws.proofs.law.chains_are_journeys.Goals as goal
 
 pub returns : goal.returns

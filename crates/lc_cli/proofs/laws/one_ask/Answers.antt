@@ -1,4 +1,4 @@
-use Rattle.lc_cli.proofs.OneRun.{one_ask}
+use Rattle.lc_cli.proofs.OneRunLemmas.{one_ask}
 use Rattle.lc_cli.proofs.laws.one_ask.Goals as goal
 
 pub returns : goal.returns

@@ -1,5 +1,5 @@
 use Rattle.std.proofs.Common.{◌∙◌, sym}
-use Rattle.lc_model.proofs.OneValue.{documents_are_one}
+use Rattle.lc_model.proofs.OneValueLemmas.{documents_are_one}
 use Rattle.lc_cli.proofs.laws.one_doc.Goals as goal
 
 pub returns : goal.returns

@@ -1,4 +1,4 @@
-use Rattle.lc_cli.proofs.OneRun.{one_run}
+use Rattle.lc_cli.proofs.OneRunLemmas.{one_run}
 use Rattle.lc_cli.proofs.laws.one_run.Goals as goal
 
 pub returns : goal.returns

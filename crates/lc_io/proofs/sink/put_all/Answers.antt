@@ -2,7 +2,7 @@
 use Rattle.std.proofs.Common.{◌≡◌, ℕ, ◌-◌, List, drop, take, length, arith, ap, ◌∙◌, length-drop}
 use Rattle.std.proofs.lemmas.List.{take_rest}
 use Rattle.lc_io.specs.Sink.{written_after}
-use Rattle.lc_io.proofs.Written.{written_after-more}
+use Rattle.lc_io.proofs.WrittenLemmas.{written_after-more}
 use Rattle.lc_io.proofs.sink.put_all.Goals as goal
 
 pub loop-done-preserved : goal.loop-done-preserved

@@ -1,5 +1,5 @@
 -- A sort only moves the keys.
-use Rattle.lc_model.proofs.Search.{ids_moved}
+use Rattle.lc_model.proofs.SearchLemmas.{ids_moved}
 use Rattle.lc_model.proofs.keyed.sorted_keys.Goals as goal
 
 pub returns-clause-same : goal.returns-clause-same

@@ -1,4 +1,4 @@
-use Rattle.lc_model.proofs.OneValue as law
+use Rattle.lc_model.proofs.OneValueLemmas as law
 use Rattle.lc_model.proofs.laws.one_list_of_connections.Goals as goal
 
 pub returns : goal.returns

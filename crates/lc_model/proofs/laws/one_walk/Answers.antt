@@ -1,4 +1,4 @@
-use Rattle.lc_model.proofs.Walks as law
+use Rattle.lc_model.proofs.WalksLemmas as law
 use Rattle.lc_model.proofs.laws.one_walk.Goals as goal
 
 pub returns : goal.returns

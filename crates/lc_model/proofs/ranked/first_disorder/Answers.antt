@@ -1,6 +1,6 @@
 -- The place tells whether there is a disorder.
 use Rattle.std.proofs.Common.{rules}
-use Rattle.lc_model.proofs.Disorders.{disorder_tells}
+use Rattle.lc_model.proofs.DisordersLemmas.{disorder_tells}
 use Rattle.lc_model.proofs.ranked.first_disorder.Goals as goal
 
 pub returns-in-Some-clause-in_order : goal.returns-in-Some-clause-in_order

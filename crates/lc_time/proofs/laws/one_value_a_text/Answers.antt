@@ -1,4 +1,4 @@
-use Rattle.lc_time.proofs.OneText as law
+use Rattle.lc_time.proofs.OneTextLemmas as law
 use Rattle.lc_time.proofs.SaidLemmas as said
 use Rattle.lc_time.proofs.laws.one_value_a_text.Goals as goal
 

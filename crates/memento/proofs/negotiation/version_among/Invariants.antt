@@ -1,6 +1,6 @@
 use Rattle.std.proofs.Common.{◌≡◌, drop, filter}
 use Rattle.lc_versions.specs.Named.{is_by, last_of}
-use Rattle.memento.proofs.Versions.{base_of}
+use Rattle.memento.proofs.VersionsLemmas.{base_of}
 use Rattle.memento.proofs.negotiation.version_among.Given as goal
 
 abbrev pub invariant-loop-version : goal.invariant-loop-version

@@ -4,7 +4,7 @@ use Rattle.page_json.specs.Says.{SaysName}
 use Rattle.serde_json.specs.View.{view}
 use Rattle.page_json.specs.Members.{text_of}
 use Rattle.page_json.specs.Reading.{what_is_said}
-use Rattle.page_json.proofs.Readings.{after_ok, said_from}
+use Rattle.page_json.proofs.ReadingsLemmas.{after_ok, said_from}
 use Rattle.page_json.proofs.connection_reading.name_at.Goals as goal
 
 pub returns : goal.returns

@@ -6,7 +6,7 @@ use Rattle.std.proofs.lemmas.Iterator.{YieldsList-from_slice, cases_from_all}
 use Rattle.std.proofs.lemmas.List.Elements.{All-weaker}
 use Rattle.lc_model.specs.Stop.{HasStop}
 use Rattle.lc_model.specs.declared.stop.Stop.{Stop}
-use Rattle.lc_model.proofs.Search.{TellsAll, all_tells}
+use Rattle.lc_model.proofs.SearchLemmas.{TellsAll, all_tells}
 use Rattle.page_json.proofs.known.have_parents.Goals as goal
 
 if_some_weaker : {X : Type 0} (P Q : X → Type 0) → ((x : X) → P x → Q x) → (o : Option X) → IfSome o P → IfSome o Q

@@ -1,5 +1,5 @@
 -- Readings have one result.
-use Rattle.page_json.proofs.OneResult.{one_doc_of_bytes, one_page_of_bytes}
+use Rattle.page_json.proofs.OneResultLemmas.{one_doc_of_bytes, one_page_of_bytes}
 use Rattle.page_json.proofs.laws.one_reading.Goals as goal
 
 pub returns-clause-page : goal.returns-clause-page

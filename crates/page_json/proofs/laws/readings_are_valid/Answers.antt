@@ -1,4 +1,4 @@
-use Rattle.page_json.proofs.ValidResult.{valid_page_of_bytes, valid_doc_of_bytes}
+use Rattle.page_json.proofs.ValidResultLemmas.{valid_page_of_bytes, valid_doc_of_bytes}
 use Rattle.page_json.proofs.laws.readings_are_valid.Goals as goal
 
 pub returns-clause-page : goal.returns-clause-page

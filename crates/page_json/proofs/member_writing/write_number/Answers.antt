@@ -1,7 +1,7 @@
 -- The value follows the key.
 use Rattle.std.proofs.Common.{SFits, rules, w64}
 use Rattle.std.proofs.lemmas.Int.{to_z-of_z}
-use Rattle.page_json.proofs.TokensLaw.{counts, number_member, one, ◌>>◌}
+use Rattle.page_json.proofs.TokensLemmas.{counts, number_member, one, ◌>>◌}
 use Rattle.page_json.proofs.member_writing.write_number.Goals as goal
 
 pub returns : goal.returns

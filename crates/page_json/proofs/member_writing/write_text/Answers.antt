@@ -1,5 +1,5 @@
 -- The value follows the key.
-use Rattle.page_json.proofs.TokensLaw.{one, ◌>>◌}
+use Rattle.page_json.proofs.TokensLemmas.{one, ◌>>◌}
 use Rattle.page_json.proofs.member_writing.write_text.Goals as goal
 
 pub returns : goal.returns

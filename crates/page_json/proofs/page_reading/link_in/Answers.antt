@@ -5,7 +5,7 @@ use Rattle.serde_json.specs.View.{view}
 use Rattle.page_json.specs.Members.{formed}
 use Rattle.page_json.specs.Reading.{what_is_said}
 use Rattle.page_json.specs.Says.{SaysLink}
-use Rattle.page_json.proofs.Readings.{after_ok, said_from}
+use Rattle.page_json.proofs.ReadingsLemmas.{after_ok, said_from}
 use Rattle.page_json.proofs.page_reading.link_in.Goals as goal
 
 pub returns-clause-said : goal.returns-clause-said

@@ -7,7 +7,7 @@ use Rattle.page_json.specs.Disorder.{unless_disorder}
 use Rattle.page_json.specs.PageReading.{page_in}
 use Rattle.page_json.specs.Reading.{exactly}
 use Rattle.page_json.specs.declared.page.Page.{Page}
-use Rattle.page_json.proofs.Readings.{meets_err, meets_last}
+use Rattle.page_json.proofs.ReadingsLemmas.{meets_err, meets_last}
 use Rattle.page_json.proofs.page_reading.page_in.Goals as goal
 
 pub returns-clause-said : goal.returns-clause-said

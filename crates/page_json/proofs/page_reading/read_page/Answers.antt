@@ -2,8 +2,8 @@
 use Rattle.std.proofs.Common.{Ok, Err, refl}
 use Rattle.serde_json.specs.View.{view}
 use Rattle.page_json.specs.PageReading.{page_in, page_of_bytes}
-use Rattle.page_json.proofs.OneResult.{meets_one, one_page_of_bytes}
-use Rattle.page_json.proofs.Readings.{meets_err, meets_last}
+use Rattle.page_json.proofs.OneResultLemmas.{meets_one, one_page_of_bytes}
+use Rattle.page_json.proofs.ReadingsLemmas.{meets_err, meets_last}
 use Rattle.page_json.proofs.page_reading.read_page.Goals as goal
 
 pub returns-clause-said : goal.returns-clause-said

@@ -10,7 +10,7 @@ use Rattle.lc_model.specs.Change.{change_cmp}
 use Rattle.lc_model.specs.Stop.{HasStop}
 use Rattle.lc_model.specs.declared.change.Change.{Change}
 use Rattle.page_json.specs.StopsReading.{changes_in}
-use Rattle.page_json.proofs.Readings.{meets_err, meets_last}
+use Rattle.page_json.proofs.ReadingsLemmas.{meets_err, meets_last}
 use Rattle.page_json.proofs.stops_reading.changes_in.Goals as goal
 
 pub returns-clause-said : goal.returns-clause-said

@@ -9,7 +9,7 @@ use Rattle.std.specs.Ordering.{on}
 use Rattle.lc_model.specs.Text.{id_cmp}
 use Rattle.lc_model.specs.declared.stop.Stop.{Stop}
 use Rattle.page_json.specs.StopsReading.{stops_in}
-use Rattle.page_json.proofs.Readings.{meets_err, meets_last}
+use Rattle.page_json.proofs.ReadingsLemmas.{meets_err, meets_last}
 use Rattle.page_json.proofs.stops_reading.stops_in.Goals as goal
 
 pub returns-clause-said : goal.returns-clause-said

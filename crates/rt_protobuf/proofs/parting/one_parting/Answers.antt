@@ -1,4 +1,4 @@
-use Rattle.rt_protobuf.proofs.OneWay.{parts_are, only_parts, fields_are, are_fields}
+use Rattle.rt_protobuf.proofs.OneWayLemmas.{parts_are, only_parts, fields_are, are_fields}
 use Rattle.rt_protobuf.proofs.parting.one_parting.Goals as goal
 
 pub returns-clause-parts : goal.returns-clause-parts

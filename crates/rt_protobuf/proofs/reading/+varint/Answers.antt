@@ -1,4 +1,4 @@
-use Rattle.rt_protobuf.proofs.Varints.{spent}
+use Rattle.rt_protobuf.proofs.VarintsLemmas.{spent}
 use Rattle.rt_protobuf.proofs.reading.+varint.Goals as goal
 
 pub returns-then-left-eq0 : goal.returns-then-left-eq0

@@ -2,9 +2,9 @@ use Rattle.std.proofs.Common.{◌-◌, length, refl, arith}
 use Rattle.std.specs.Prelude.{slice_range}
 use Rattle.std.proofs.lemmas.Result.{err_from_is_err_and}
 use Rattle.rt_protobuf.specs.Held.{held_content}
-use Rattle.rt_protobuf.proofs.Steps.{ok_or_err}
-use Rattle.rt_protobuf.proofs.Fields.{field_fails, broken_again}
-use Rattle.rt_protobuf.proofs.Places.{behind_within, lands, no_parts, breaks, is_field_at, begins_with, fits_before, one_fault}
+use Rattle.rt_protobuf.proofs.StepsLemmas.{ok_or_err}
+use Rattle.rt_protobuf.proofs.FieldsLemmas.{field_fails, broken_again}
+use Rattle.rt_protobuf.proofs.PlacesLemmas.{behind_within, lands, no_parts, breaks, is_field_at, begins_with, fits_before, one_fault}
 use Rattle.rt_protobuf.proofs.reading.next_field.Goals as goal
 
 pub returns-then-from-to-clause-parts : goal.returns-then-from-to-clause-parts

@@ -1,7 +1,7 @@
 use Rattle.std.proofs.Common.{rules}
 use Rattle.std.specs.Cmp.Rules.{comparing}
 use Rattle.std.proofs.lemmas.List.Filters.{dedup_is}
-use Rattle.lc_model.proofs.Orders.{IsSorted-from_closure}
+use Rattle.lc_model.proofs.OrdersLemmas.{IsSorted-from_closure}
 use Rattle.service_days.specs.Days.{day_cmp}
 use Rattle.service_days.proofs.ListedLemmas.{in_day_order}
 use Rattle.service_days.proofs.OrderLemmas.{day_cmp_total, deduped, strictly}

@@ -1,4 +1,4 @@
-use Rattle.service_days.proofs.OneZone.{one_zone}
+use Rattle.service_days.proofs.OneZoneLemmas.{one_zone}
 use Rattle.service_days.proofs.laws.one_zone_a_word.Goals as goal
 
 pub returns : goal.returns

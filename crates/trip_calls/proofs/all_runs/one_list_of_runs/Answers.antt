@@ -1,7 +1,7 @@
 use Rattle.std.specs.Ordering.{on}
 use Rattle.lc_model.specs.RunKey.{key_cmp}
 use Rattle.lc_model.specs.declared.run.Run.{Run}
-use Rattle.lc_model.proofs.Orders.{strict_lists_are_one}
+use Rattle.lc_model.proofs.OrdersLemmas.{strict_lists_are_one}
 use Rattle.lc_model.specs.Totals.{key_cmp_total}
 use Rattle.std.proofs.lemmas.Cmp.{on_total}
 use Rattle.trip_calls.proofs.all_runs.one_list_of_runs.Goals as goal

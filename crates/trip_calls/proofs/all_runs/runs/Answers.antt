@@ -16,7 +16,7 @@ use Rattle.trip_calls.specs.Runs.{AreRunsOf, RunsForward}
 use Rattle.trip_calls.specs.ServiceDays.{AreServiceDays}
 use Rattle.trip_calls.specs.TripRuns.{HasMoments, runs_of_trips}
 use Rattle.trip_calls.specs.declared.service_days.ServiceDay.{ServiceDay}
-use Rattle.lc_model.proofs.Orders.{IsSorted-from_closure}
+use Rattle.lc_model.proofs.OrdersLemmas.{IsSorted-from_closure}
 use Rattle.trip_calls.proofs.RunLemmas.{runs_moved, RunsForward-sorted, InKeyOrder-sorted, HasMoments-days}
 use Rattle.lc_model.specs.Totals.{key_cmp_total}
 use Rattle.trip_calls.proofs.all_runs.runs.Goals as goal

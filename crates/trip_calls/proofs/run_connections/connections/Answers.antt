@@ -6,7 +6,7 @@ use Rattle.lc_model.specs.Run.{InKeyOrder}
 use Rattle.lc_model.specs.declared.run.Run.{Run}
 use Rattle.trip_calls.proofs.ConnectionLemmas.{AreConnectionsOf-sorted, NoneArrivesEarly-sorted}
 use Rattle.lc_model.specs.Totals.{departure_cmp_total}
-use Rattle.lc_model.proofs.Orders.{IsSorted-from_closure}
+use Rattle.lc_model.proofs.OrdersLemmas.{IsSorted-from_closure}
 use Rattle.trip_calls.proofs.run_connections.connections.Goals as goal
 
 abbrev RiseInRuns : List Run → Type 0

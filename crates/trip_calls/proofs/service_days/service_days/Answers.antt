@@ -4,7 +4,7 @@ use Rattle.std.proofs.lemmas.List.{take_all}
 use Rattle.gtfs_tables.specs.declared.dates.DateRow.{DateRow}
 use Rattle.trip_calls.specs.ServiceDays.{AreServiceDays, service_cmp}
 use Rattle.trip_calls.specs.declared.service_days.ServiceDay.{ServiceDay}
-use Rattle.lc_model.proofs.Orders.{IsSorted-from_closure}
+use Rattle.lc_model.proofs.OrdersLemmas.{IsSorted-from_closure}
 use Rattle.trip_calls.proofs.ServiceDayLemmas.{AreServiceDays-none, AreServiceDays-more, AreServiceDays-permutation}
 use Rattle.trip_calls.proofs.service_days.service_days.Goals as goal
 

@@ -3,7 +3,7 @@ use Rattle.std.specs.Prelude.{slice_range}
 use Rattle.trip_updates.specs.Table.{trip_descriptor}
 use Rattle.trip_updates.specs.Faults.{read}
 use Rattle.trip_updates.specs.Shows.{ShowsDescriptor}
-use Rattle.trip_updates.proofs.Walking.{Going}
+use Rattle.trip_updates.proofs.WalkingLemmas.{Going}
 use Rattle.trip_updates.proofs.descriptor.read_descriptor.Given as goal
 
 abbrev pub invariant-loop-field : goal.invariant-loop-field

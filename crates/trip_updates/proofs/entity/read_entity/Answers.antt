@@ -3,7 +3,7 @@ use Rattle.std.proofs.lemmas.Result.{err_from_is_err_and}
 use Rattle.trip_updates.specs.Table.{feed_entity}
 use Rattle.trip_updates.specs.Faults.{read}
 use Rattle.trip_updates.specs.Shows.{ShowsEntity, ShowsEntityFields}
-use Rattle.trip_updates.proofs.Walking.{starts, takes, breaks, no_more, read_deep, ends_tested, fails}
+use Rattle.trip_updates.proofs.WalkingLemmas.{starts, takes, breaks, no_more, read_deep, ends_tested, fails}
 use Rattle.trip_updates.proofs.entity.read_entity.Goals as goal
 
 pub loop-entity-init : goal.loop-entity-init

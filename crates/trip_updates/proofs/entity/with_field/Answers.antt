@@ -6,7 +6,7 @@ use Rattle.trip_updates.specs.Table.{feed_entity, trip_update}
 use Rattle.trip_updates.specs.Faults.{read}
 use Rattle.trip_updates.specs.Meaning.{news_of, passed_or}
 use Rattle.trip_updates.specs.Shows.{ShowsSaid, ShowsEntityFields}
-use Rattle.trip_updates.proofs.Embedded.{in_span, span_at, none_yet, one_ok, one_err}
+use Rattle.trip_updates.proofs.EmbeddedLemmas.{in_span, span_at, none_yet, one_ok, one_err}
 use Rattle.trip_updates.proofs.entity.with_field.Goals as goal
 
 pub returns-in_err-read_trip-in-3-Span : goal.returns-in_err-read_trip-in-3-Span

@@ -3,7 +3,7 @@ use Rattle.std.proofs.lemmas.Result.{err_from_is_err_and}
 use Rattle.trip_updates.specs.Tree.{empty}
 use Rattle.trip_updates.specs.Table.{stop_time_event}
 use Rattle.trip_updates.specs.Shows.{ShowsEvent}
-use Rattle.trip_updates.proofs.Walking.{starts, takes, breaks, ends_whole, no_more, read_flat}
+use Rattle.trip_updates.proofs.WalkingLemmas.{starts, takes, breaks, ends_whole, no_more, read_flat}
 use Rattle.trip_updates.proofs.event.read_event.Goals as goal
 
 pub loop-field-init : goal.loop-field-init

@@ -4,7 +4,7 @@ use Rattle.trip_updates.specs.Tree.{empty}
 use Rattle.trip_updates.specs.Table.{stop_time_event}
 use Rattle.trip_updates.specs.Faults.{read}
 use Rattle.trip_updates.specs.Shows.{ShowsEvent}
-use Rattle.trip_updates.proofs.Walking.{Going}
+use Rattle.trip_updates.proofs.WalkingLemmas.{Going}
 use Rattle.trip_updates.proofs.event.read_event.Given as goal
 
 abbrev pub invariant-loop-field : goal.invariant-loop-field

@@ -3,7 +3,7 @@ use Rattle.std.proofs.lemmas.Result.{err_from_is_err_and}
 use Rattle.trip_updates.specs.Table.{feed_header}
 use Rattle.trip_updates.specs.Faults.{read}
 use Rattle.trip_updates.specs.Shows.{ShowsHeader, ShowsHead}
-use Rattle.trip_updates.proofs.Walking.{starts, takes, breaks, no_more, read_deep, ends_tested}
+use Rattle.trip_updates.proofs.WalkingLemmas.{starts, takes, breaks, no_more, read_deep, ends_tested}
 use Rattle.trip_updates.proofs.header.read_header.Goals as goal
 
 pub loop-field-init : goal.loop-field-init

@@ -3,7 +3,7 @@ use Rattle.std.specs.Prelude.{slice_range}
 use Rattle.trip_updates.specs.Table.{feed_header}
 use Rattle.trip_updates.specs.Faults.{read}
 use Rattle.trip_updates.specs.Shows.{ShowsHeader}
-use Rattle.trip_updates.proofs.Walking.{Going}
+use Rattle.trip_updates.proofs.WalkingLemmas.{Going}
 use Rattle.trip_updates.proofs.header.read_header.Given as goal
 
 abbrev pub invariant-loop-field : goal.invariant-loop-field

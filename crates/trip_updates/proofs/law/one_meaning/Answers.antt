@@ -1,4 +1,4 @@
-use Rattle.trip_updates.proofs.Trees.{has_meaning, same_meaning, never_both}
+use Rattle.trip_updates.proofs.TreesLemmas.{has_meaning, same_meaning, never_both}
 use Rattle.trip_updates.proofs.law.one_meaning.Goals as goal
 
 pub returns-clause-one : goal.returns-clause-one

@@ -3,7 +3,7 @@ use Rattle.std.proofs.lemmas.Result.{err_from_is_err_and}
 use Rattle.trip_updates.specs.Table.{feed_message}
 use Rattle.trip_updates.specs.Faults.{read}
 use Rattle.trip_updates.specs.Shows.{ShowsFeed, ShowsUpdate}
-use Rattle.trip_updates.proofs.Walking.{starts, takes, breaks, no_more, read_deep, ends_tested, fails}
+use Rattle.trip_updates.proofs.WalkingLemmas.{starts, takes, breaks, no_more, read_deep, ends_tested, fails}
 use Rattle.trip_updates.proofs.message.read_feed.Goals as goal
 
 pub loop-feed-init : goal.loop-feed-init

@@ -3,7 +3,7 @@ use Rattle.std.specs.Prelude.{slice_range}
 use Rattle.trip_updates.specs.Table.{feed_message}
 use Rattle.trip_updates.specs.Faults.{read}
 use Rattle.trip_updates.specs.Shows.{ShowsFeed}
-use Rattle.trip_updates.proofs.Walking.{Going}
+use Rattle.trip_updates.proofs.WalkingLemmas.{Going}
 use Rattle.trip_updates.proofs.message.read_feed.Given as goal
 
 abbrev pub invariant-loop-feed : goal.invariant-loop-feed

@@ -2,7 +2,7 @@ use Rattle.std.proofs.Common.{List, ℕ, subst}
 use Rattle.trip_updates.specs.Table.{feed_message}
 use Rattle.trip_updates.specs.Faults.{read}
 use Rattle.trip_updates.specs.Shows.{Answers, ShowsUpdate}
-use Rattle.trip_updates.proofs.Trees.{all_bytes, read_message_is, only_message_is, fault_is}
+use Rattle.trip_updates.proofs.TreesLemmas.{all_bytes, read_message_is, only_message_is, fault_is}
 use Rattle.trip_updates.proofs.message.read_message.Goals as goal
 
 pub returns-clause-message : goal.returns-clause-message

@@ -1,7 +1,7 @@
 use Rattle.std.proofs.Common.{ap, ◌∙◌, ◌+◌}
 use Rattle.std.specs.Prelude.{if◌then◌else◌}
 use Rattle.trip_updates.specs.Meaning.{told, counts}
-use Rattle.trip_updates.proofs.Said.{one_more, count_more}
+use Rattle.trip_updates.proofs.SaidLemmas.{one_more, count_more}
 use Rattle.trip_updates.proofs.message.update.Goals as goal
 
 pub loop-entity-preserved : goal.loop-entity-preserved

@@ -1,5 +1,5 @@
 use Rattle.std.proofs.Common.{sym, ◌∙◌}
-use Rattle.trip_updates.proofs.Whole.{whole_update}
+use Rattle.trip_updates.proofs.WholeLemmas.{whole_update}
 use Rattle.trip_updates.proofs.message.whole.Goals as goal
 
 pub returns-in-Some : goal.returns-in-Some

@@ -6,8 +6,8 @@ use Rattle.trip_updates.specs.Table.{feed_message, feed_header, feed_entity}
 use Rattle.trip_updates.specs.Faults.{read}
 use Rattle.trip_updates.specs.Meaning.{head_of, entity_of}
 use Rattle.trip_updates.specs.Shows.{ShowsHead, ShowsEntity, ShowsFeed}
-use Rattle.trip_updates.proofs.Embedded.{in_span, span_at, none_yet, one_ok, one_err, many_ok, many_err}
-use Rattle.trip_updates.proofs.Said.{one_more}
+use Rattle.trip_updates.proofs.EmbeddedLemmas.{in_span, span_at, none_yet, one_ok, one_err, many_ok, many_err}
+use Rattle.trip_updates.proofs.SaidLemmas.{one_more}
 use Rattle.trip_updates.proofs.message.with_field.Goals as goal
 
 pub returns-in_err-read_header-in-1-Span : goal.returns-in_err-read_header-in-1-Span

@@ -3,7 +3,7 @@ use Rattle.std.proofs.lemmas.Result.{err_from_is_err_and}
 use Rattle.trip_updates.specs.Table.{stop_time_update}
 use Rattle.trip_updates.specs.Faults.{read}
 use Rattle.trip_updates.specs.Shows.{ShowsStop}
-use Rattle.trip_updates.proofs.Walking.{starts, takes, breaks, no_more, read_deep, ends_whole, fails}
+use Rattle.trip_updates.proofs.WalkingLemmas.{starts, takes, breaks, no_more, read_deep, ends_whole, fails}
 use Rattle.trip_updates.proofs.stop.read_stop.Goals as goal
 
 pub loop-field-init : goal.loop-field-init

@@ -6,7 +6,7 @@ use Rattle.trip_updates.specs.Table.{stop_time_update, stop_time_event}
 use Rattle.trip_updates.specs.Faults.{read}
 use Rattle.trip_updates.specs.Meaning.{event_of}
 use Rattle.trip_updates.specs.Shows.{ShowsEvent, ShowsStop}
-use Rattle.trip_updates.proofs.Embedded.{in_span, span_at, none_yet, one_ok, one_err}
+use Rattle.trip_updates.proofs.EmbeddedLemmas.{in_span, span_at, none_yet, one_ok, one_err}
 use Rattle.trip_updates.proofs.stop.with_field.Goals as goal
 
 pub returns-in_err-arrival-in-2-Span : goal.returns-in_err-arrival-in-2-Span

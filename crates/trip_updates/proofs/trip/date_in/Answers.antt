@@ -1,7 +1,7 @@
 use Rattle.std.proofs.Common.{◌≡◌, Some, None, refl, sym, ◌∙◌}
 use Rattle.lc_time.specs.Date.{date_said, date_text_of}
 use Rattle.lc_time.proofs.SaidLemmas.{dates_said}
-use Rattle.trip_updates.proofs.Said.{said_is, said_there, some}
+use Rattle.trip_updates.proofs.SaidLemmas.{said_is, said_there, some}
 use Rattle.trip_updates.proofs.trip.date_in.Goals as goal
 
 pub returns-in_err-date : goal.returns-in_err-date

@@ -2,7 +2,7 @@ use Rattle.std.proofs.lemmas.Result.{err_from_is_err_and}
 use Rattle.trip_updates.specs.Table.{trip_update}
 use Rattle.trip_updates.specs.Faults.{read}
 use Rattle.trip_updates.specs.Shows.{ShowsSaid, ShowsTrip}
-use Rattle.trip_updates.proofs.Walking.{starts, takes, breaks, no_more, read_deep, ends_tested, fails}
+use Rattle.trip_updates.proofs.WalkingLemmas.{starts, takes, breaks, no_more, read_deep, ends_tested, fails}
 use Rattle.trip_updates.proofs.trip.read_trip.Goals as goal
 
 pub loop-trip-init : goal.loop-trip-init

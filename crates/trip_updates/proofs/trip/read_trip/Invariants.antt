@@ -3,7 +3,7 @@ use Rattle.std.specs.Prelude.{slice_range}
 use Rattle.trip_updates.specs.Table.{trip_update}
 use Rattle.trip_updates.specs.Faults.{read}
 use Rattle.trip_updates.specs.Shows.{ShowsTrip}
-use Rattle.trip_updates.proofs.Walking.{Going}
+use Rattle.trip_updates.proofs.WalkingLemmas.{Going}
 use Rattle.trip_updates.proofs.trip.read_trip.Given as goal
 
 abbrev pub invariant-loop-trip : goal.invariant-loop-trip

@@ -1,7 +1,7 @@
 use Rattle.std.proofs.Common.{Some, None, refl, sym, ◌∙◌}
 use Rattle.lc_time.specs.Clock.{SaysGtfsTime, gtfs_time_said}
 use Rattle.lc_time.proofs.SaidLemmas.{times_said}
-use Rattle.trip_updates.proofs.Said.{said_is, said_there, some}
+use Rattle.trip_updates.proofs.SaidLemmas.{said_is, said_there, some}
 use Rattle.trip_updates.proofs.trip.start_in.Goals as goal
 
 pub returns-in_err-start : goal.returns-in_err-start

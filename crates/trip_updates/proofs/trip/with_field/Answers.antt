@@ -6,8 +6,8 @@ use Rattle.trip_updates.specs.Table.{trip_update, trip_descriptor, stop_time_upd
 use Rattle.trip_updates.specs.Faults.{read}
 use Rattle.trip_updates.specs.Meaning.{stop_news_of}
 use Rattle.trip_updates.specs.Shows.{ShowsDescriptor, ShowsStop, ShowsTrip}
-use Rattle.trip_updates.proofs.Embedded.{in_span, span_at, none_both, one_ok, one_err, many_ok, many_err}
-use Rattle.trip_updates.proofs.Said.{one_more}
+use Rattle.trip_updates.proofs.EmbeddedLemmas.{in_span, span_at, none_both, one_ok, one_err, many_ok, many_err}
+use Rattle.trip_updates.proofs.SaidLemmas.{one_more}
 use Rattle.trip_updates.proofs.trip.with_field.Goals as goal
 
 pub returns-in_err-read_descriptor-in-1-Span : goal.returns-in_err-read_descriptor-in-1-Span

@@ -1,6 +1,6 @@
 use Rattle.std.proofs.Common.{◌≡◌, [], ◌∷◌, ◌++◌, length, take, drop, arith}
 use Rattle.std.proofs.lemmas.Grind.{common_steps}
-use Rattle.csa_scan.proofs.Linking.{linked-written}
+use Rattle.csa_scan.proofs.LinkingLemmas.{linked-written}
 use Rattle.csa_scan.proofs.progress.Progress.arrive.Goals as goal
 
 pub invariant_of-self : goal.invariant_of-self

@@ -1,7 +1,7 @@
 use Rattle.std.proofs.Common.{◌++◌, get_or, take, arith}
 use Rattle.std.proofs.lemmas.Option.{slice_get-get_or}
 use Rattle.csa_scan.specs.Kept.{kept_of}
-use Rattle.csa_scan.proofs.Order.{next_at, more_taken, all_taken}
+use Rattle.csa_scan.proofs.OrderLemmas.{next_at, more_taken, all_taken}
 use Rattle.csa_scan.proofs.progress.Progress.take_each.Goals as goal
 
 pub loop-i-preserved : goal.loop-i-preserved

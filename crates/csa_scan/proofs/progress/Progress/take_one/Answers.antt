@@ -10,8 +10,8 @@ use Rattle.csa_scan.specs.Takes.{Arrives, IsReachedAlready}
 use Rattle.csa_scan.specs.declared.trace.Boarding.{Boarding}
 use Rattle.csa_scan.specs.declared.trace.Near.{Near}
 use Rattle.csa_scan.specs.declared.trace.Ready.{Ready}
-use Rattle.csa_scan.proofs.Linking.{boarding_in, linked-boarded}
-use Rattle.csa_scan.proofs.Taking.{in_time_by, take_off, take_on, take_arrived}
+use Rattle.csa_scan.proofs.LinkingLemmas.{boarding_in, linked-boarded}
+use Rattle.csa_scan.proofs.TakingLemmas.{in_time_by, take_off, take_on, take_arrived}
 use Rattle.csa_scan.proofs.progress.Progress.take_one.Goals as goal
 
 pub returns-in_default-clause-stands : goal.returns-in_default-clause-stands

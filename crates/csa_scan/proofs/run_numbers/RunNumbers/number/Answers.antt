@@ -5,8 +5,8 @@ use Rattle.std.proofs.lemmas.Grind.{common_steps}
 use Rattle.lc_model.specs.RunKey.{key_cmp}
 use Rattle.lc_model.specs.declared.key.RunKey.{RunKey}
 use Rattle.csa_scan.specs.Numbers.{AreNumbers}
-use Rattle.csa_scan.proofs.NumbersGrow.{numbers-push}
-use Rattle.csa_scan.proofs.ListPlaces.{slice_get-append, slice_get-last}
+use Rattle.csa_scan.proofs.NumbersGrowLemmas.{numbers-push}
+use Rattle.csa_scan.proofs.ListPlacesLemmas.{slice_get-append, slice_get-last}
 use Rattle.csa_scan.proofs.run_numbers.RunNumbers.number.Goals as goal
 
 pub returns-in-Some-clause-ok : goal.returns-in-Some-clause-ok

@@ -4,7 +4,7 @@ use Rattle.lc_model.specs.Stop.{HasStop}
 use Rattle.lc_model.specs.declared.stop.Stop.{Stop}
 use Rattle.csa_scan.specs.Kept.{Kept}
 use Rattle.csa_scan.specs.Stands.{Stands}
-use Rattle.csa_scan.proofs.Begun.{known, stands_nothing}
+use Rattle.csa_scan.proofs.BegunLemmas.{known, stands_nothing}
 use Rattle.csa_scan.proofs.scan.Scan.begin.Goals as goal
 
 pub returns-clause-known : goal.returns-clause-known

@@ -3,7 +3,7 @@ use Rattle.std.specs.Prelude.{option_map}
 use Rattle.lc_model.specs.Leg.{IsListBest, in_time}
 use Rattle.csa_scan.specs.Kept.{kept_of}
 use Rattle.csa_scan.specs.declared.trace.Goal.{Goal}
-use Rattle.csa_scan.proofs.Least.{least_arrival}
+use Rattle.csa_scan.proofs.LeastLemmas.{least_arrival}
 use Rattle.csa_scan.proofs.scan.Scan.best.Goals as goal
 
 pub returns : goal.returns

@@ -2,7 +2,7 @@ use Rattle.std.proofs.Common.{ℕ, Option, IsTrue, subst}
 use Rattle.lc_model.specs.Leg.{IsLegOf, in_time}
 use Rattle.lc_model.specs.declared.query.Query.{Query}
 use Rattle.csa_scan.specs.Done.{IsDone}
-use Rattle.lc_model.proofs.OneValue.{least_arrivals_are_one}
+use Rattle.lc_model.proofs.OneValueLemmas.{least_arrivals_are_one}
 use Rattle.csa_scan.proofs.scan.Scan.done.Goals as goal
 
 pub returns : goal.returns

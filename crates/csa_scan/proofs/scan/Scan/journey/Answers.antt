@@ -10,7 +10,7 @@ use Rattle.csa_scan.specs.Near.{IsWalkAt}
 use Rattle.csa_scan.specs.RidesTo.{AreRidesTo}
 use Rattle.csa_scan.specs.declared.side.Side.TheVariants.{After, Before}
 use Rattle.csa_scan.specs.declared.trace.Arrival.{Arrival}
-use Rattle.csa_scan.proofs.Least.{journey_no_earlier, best_journey}
+use Rattle.csa_scan.proofs.LeastLemmas.{journey_no_earlier, best_journey}
 use Rattle.csa_scan.proofs.scan.Scan.journey.Goals as goal
 
 pub returns-in_default : goal.returns-in_default

@@ -1,7 +1,7 @@
 use Rattle.lc_model.specs.Leg.{in_time}
 use Rattle.csa_scan.specs.Kept.{kept_of}
-use Rattle.csa_scan.proofs.Begun.{adds_nothing}
-use Rattle.csa_scan.proofs.Room.{stands-added}
+use Rattle.csa_scan.proofs.BegunLemmas.{adds_nothing}
+use Rattle.csa_scan.proofs.RoomLemmas.{stands-added}
 use Rattle.csa_scan.proofs.scan.Scan.prepare.Goals as goal
 
 pub returns-in_err-numbers-clause-same : goal.returns-in_err-numbers-clause-same

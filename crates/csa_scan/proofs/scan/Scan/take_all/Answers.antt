@@ -7,7 +7,7 @@ use Rattle.csa_scan.specs.Kept.{kept_of}
 use Rattle.csa_scan.specs.Numbers.{AreNumbersOf}
 use Rattle.csa_scan.specs.Stands.{IsAsked, Stands}
 use Rattle.csa_scan.specs.Walks.{AreWalks}
-use Rattle.csa_scan.proofs.Begun.{carried, numbers_known}
+use Rattle.csa_scan.proofs.BegunLemmas.{carried, numbers_known}
 use Rattle.csa_scan.proofs.scan.Scan.take_all.Goals as goal
 
 pub take_each-requires-clause-known : goal.take_each-requires-clause-known

@@ -2,7 +2,7 @@ use Rattle.std.proofs.Common.{List, Option, ℕ, sym, subst, arith}
 use Rattle.csa_scan.specs.Near.{IsWalkAt}
 use Rattle.csa_scan.specs.declared.side.Side.TheVariants.{After}
 use Rattle.csa_scan.specs.declared.trace.Near.{Near}
-use Rattle.csa_scan.proofs.WayBack.{alight_of-last}
+use Rattle.csa_scan.proofs.WayBackLemmas.{alight_of-last}
 use Rattle.csa_scan.proofs.walks.Walks.journey.Goals as goal
 
 pub returns-clause-after : goal.returns-clause-after

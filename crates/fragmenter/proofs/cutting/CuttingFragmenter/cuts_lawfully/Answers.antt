@@ -1,4 +1,4 @@
-use Rattle.fragmenter.proofs.Lawful as law
+use Rattle.fragmenter.proofs.LawfulLemmas as law
 use Rattle.fragmenter.proofs.cutting.CuttingFragmenter.cuts_lawfully.Goals as goal
 
 pub returns : goal.returns

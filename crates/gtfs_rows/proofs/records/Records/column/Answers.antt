@@ -1,6 +1,6 @@
 use Rattle.std.proofs.Common.{◌≡◌, ◌<◌, [], arith, get_or, length, sym, true}
 use Rattle.std.specs.Str.{bytes_eq}
-use Rattle.gtfs_rows.proofs.PlaceFacts.{position-found, position-none}
+use Rattle.gtfs_rows.proofs.PlaceLemmas.{position-found, position-none}
 use Rattle.gtfs_rows.proofs.records.Records.column.Goals as goal
 
 pub returns-then-eq : goal.returns-then-eq

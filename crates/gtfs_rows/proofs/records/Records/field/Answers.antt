@@ -1,7 +1,7 @@
 use Rattle.std.proofs.Common.{◌<◌, ◌+◌, ◌^◌, sym, arith}
 use Rattle.std.proofs.Math.Facts.{Fits-of_lt}
 use Rattle.csv.specs.Records.{fields_of}
-use Rattle.gtfs_rows.proofs.StoreFacts.{field_within, get_or-record, record_there}
+use Rattle.gtfs_rows.proofs.StoreLemmas.{field_within, get_or-record, record_there}
 use Rattle.gtfs_rows.proofs.records.Records.field.Goals as goal
 
 pub bounds-start-requires : goal.bounds-start-requires

@@ -1,6 +1,6 @@
 use Rattle.std.proofs.Common.{rules}
 use Rattle.csv.specs.Records.{fields_of}
-use Rattle.gtfs_rows.proofs.StoreFacts.{length-cut_records}
+use Rattle.gtfs_rows.proofs.StoreLemmas.{length-cut_records}
 use Rattle.gtfs_rows.proofs.records.Records.len.Goals as goal
 
 pub returns : goal.returns

@@ -1,6 +1,6 @@
 use Rattle.std.proofs.Common.{◌∙◌}
 use Rattle.gtfs_rows.specs.Store.{sheet_of}
-use Rattle.gtfs_rows.proofs.TableFacts.{missing-found, missing-passed}
+use Rattle.gtfs_rows.proofs.TableLemmas.{missing-found, missing-passed}
 use Rattle.gtfs_rows.proofs.records.Records.missing.Goals as goal
 
 pub returns-then-is_none : goal.returns-then-is_none

@@ -1,5 +1,5 @@
 use Rattle.std.proofs.Common.{◌≢◌, ◌≤◌, ◌<◌, ◌∙◌, [], arith, get_or, length, sym}
-use Rattle.gtfs_rows.proofs.TableFacts.{IsEvenBelow, ragged-found, ragged-none}
+use Rattle.gtfs_rows.proofs.TableLemmas.{IsEvenBelow, ragged-found, ragged-none}
 use Rattle.gtfs_rows.proofs.records.Records.ragged.Goals as goal
 
 pub returns-then-width-clause-row : goal.returns-then-width-clause-row

@@ -1,6 +1,6 @@
 use Rattle.std.proofs.Common.{◌∙◌, inr}
 use Rattle.csv.specs.Records.{fields_of}
-use Rattle.gtfs_rows.proofs.StoreFacts.{reading_done, reading_more, reading_shorter, reading_start}
+use Rattle.gtfs_rows.proofs.StoreLemmas.{reading_done, reading_more, reading_shorter, reading_start}
 use Rattle.gtfs_rows.proofs.records.Records.read.Goals as goal
 
 pub records-init : goal.records-init

@@ -1,4 +1,4 @@
-use Rattle.gtfs_rows.proofs.StoreFacts.{IsReading, unread}
+use Rattle.gtfs_rows.proofs.StoreLemmas.{IsReading, unread}
 use Rattle.gtfs_rows.proofs.records.Records.read.Given as goal
 
 abbrev pub invariant-records : goal.invariant-records

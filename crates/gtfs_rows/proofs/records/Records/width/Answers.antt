@@ -1,7 +1,7 @@
 use Rattle.std.proofs.Common.{length, sym}
 use Rattle.csv.proofs.RecordFacts.{field-bounds}
 use Rattle.csv.specs.Records.{fields_of}
-use Rattle.gtfs_rows.proofs.StoreFacts.{length-record, record_there}
+use Rattle.gtfs_rows.proofs.StoreLemmas.{length-record, record_there}
 use Rattle.gtfs_rows.proofs.records.Records.width.Goals as goal
 
 pub bounds-start-requires : goal.bounds-start-requires

@@ -4,7 +4,7 @@ use Rattle.std.proofs.lemmas.Fn.{always_returns_same}
 use Rattle.std.specs.List.Sorted.{IsBinarySearchResult, IsSearchInRange}
 use Rattle.lc_model.specs.Change.{change_between}
 use Rattle.lc_model.specs.declared.change.Change.{Change}
-use Rattle.lc_model.proofs.ChangeSearch.{found_between, none_between, stands}
+use Rattle.lc_model.proofs.ChangeSearchLemmas.{found_between, none_between, stands}
 use Rattle.lc_model.proofs.changes.Changes.between.Goals as goal
 
 pub returns-in-Ok : goal.returns-in-Ok

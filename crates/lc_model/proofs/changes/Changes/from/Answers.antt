@@ -2,7 +2,7 @@
 use Rattle.std.specs.Ordering.{on}
 use Rattle.lc_model.specs.Text.{id_cmp}
 use Rattle.lc_model.specs.declared.change.Change.{Change}
-use Rattle.lc_model.proofs.Ranges.{sorted_by_key}
+use Rattle.lc_model.proofs.RangesLemmas.{sorted_by_key}
 use Rattle.lc_model.proofs.changes.Changes.from.Goals as goal
 
 pub items_of-requires : goal.items_of-requires

@@ -5,7 +5,7 @@ use Rattle.std.proofs.lemmas.Fn.{always_returns_same}
 use Rattle.std.specs.Ordering.{on}
 use Rattle.lc_model.specs.Text.{id_cmp}
 use Rattle.lc_model.specs.declared.stop.Stop.{Stop}
-use Rattle.lc_model.proofs.Search.{Tells, search_tells, sorted_from_strict}
+use Rattle.lc_model.proofs.SearchLemmas.{Tells, search_tells, sorted_from_strict}
 use Rattle.lc_model.proofs.stop.Stops.has.Goals as goal
 
 pub returns : goal.returns

@@ -4,7 +4,7 @@ use Rattle.std.specs.Result.{is_ok}
 use Rattle.lc_world.specs.Place.{pieces_at}
 use Rattle.lc_world.specs.SureDoor.{SureDoorState, sends}
 use Rattle.lc_world.specs.declared.sure_door.Place.{Place}
-use Rattle.lc_world.proofs.Sent.{door_with, more_sent, same_sent}
+use Rattle.lc_world.proofs.SentLemmas.{door_with, more_sent, same_sent}
 use Rattle.lc_world.proofs.sure_door.SureDoorDoor.write.Goals as goal
 
 pub returns-then-is_err-clause-no_memory : goal.returns-then-is_err-clause-no_memory

@@ -1,5 +1,5 @@
 use Rattle.std.specs.Ordering.{on}
-use Rattle.lc_model.proofs.Ranges.{sorted_by_key}
+use Rattle.lc_model.proofs.RangesLemmas.{sorted_by_key}
 use Rattle.lc_model.specs.RunKey.{date_cmp}
 use Rattle.service_days.specs.declared.service_day.ServiceDay.{ServiceDay}
 use Rattle.service_days.proofs.service_day.Days.of.Goals as goal
