@@ -1,0 +1,4 @@
+mod LineLemmas
+mod OneCommandLemmas
+mod OptionLemmas
+mod WordsLemmas

@@ -1,0 +1,65 @@
+-- The words of a command, in the definitions of `clap`.
+use Rattle.std.specs.Prelude.{◌≡◌, ◌≢◌, ℕ, List, [], ◌∷◌, ◌++◌, map, codes, Option, Some, true, String, All}
+use Rattle.std.specs.String.{string_bytes}
+use Rattle.std.specs.declared.alloc.Global.{Global}
+use Rattle.clap.specs.Faults.{fault_of}
+use Rattle.clap.specs.Matches.{first_value, found_of}
+use Rattle.clap.specs.Simple.{App, matches_of, new_rule, new_shape}
+use Rattle.clap.specs.Walk.{Rule, Text, first_of}
+use Rattle.clap.specs.declared.builder.action.ArgAction.TheVariants.{Set}
+use Rattle.clap.specs.declared.parser.matches.ArgMatches.{ArgMatches}
+
+-- the words as texts
+abbrev pub texts_of : List (String Global) → List Text
+texts_of words = map string_bytes words
+
+-- a plain word, which has to stand in its place
+abbrev pub placed : Text → Rule
+placed name = record (new_rule name) { action = Some Set; required = true }
+
+-- an option with a value, `--name value` or `--name=value`
+abbrev pub named : Text → Rule
+named name = record (new_rule name) { long = Some name; action = Some Set }
+
+-- a command with these plain words and these options, and no help
+unfoldable pub line : Text → List Text → List Text → App
+line name places options = record {
+  top = record (new_shape name) {
+    rules = map placed places ++ map named options;
+    no_binary_name = true;
+    disable_help_flag = true;
+  };
+  subs = [];
+}
+
+-- `clap` takes the words
+unfoldable pub Takes : App → List Text → Type 0
+Takes a words = fault_of a words ≡ []
+
+-- the value that the words give for a plain word or an option
+unfoldable pub value_at : App → List Text → Text → Option Text
+value_at a words id = first_of id (matches_of a words)
+
+-- this was found in the words
+abbrev pub HasFound : App → List Text → ArgMatches → Type 0
+HasFound a words matches = (id : List ℕ) → first_value (found_of matches) id ≡ value_at a words id
+
+-- the word is not a dash alone
+abbrev pub IsNoDash : Text → Type 0
+IsNoDash word = word ≢ codes "-"
+
+-- The words are a line of the command: `clap` takes them, and none is a dash alone.
+pub record IsLine (a : App) (words : List Text) : Type 0 where
+  pub taken : Takes a words
+  pub no_dash : All IsNoDash words
+
+-- the line of `check FEED FIRST` with its options
+unfoldable pub check_line : App
+check_line =
+    line (codes "check") (codes "feed" ∷ codes "first" ∷ []) (codes "days" ∷ codes "zone" ∷ codes "change" ∷ [])
+
+-- the line of `ask FEED FROM TO MOMENT` with its options
+unfoldable pub ask_line : App
+ask_line =
+    line (codes "ask") (codes "feed" ∷ codes "from" ∷ codes "to" ∷ codes "moment" ∷ [])
+    (codes "days" ∷ codes "zone" ∷ codes "change" ∷ [])

@@ -1,0 +1,132 @@
+//! Cases of the grammar: options before, between and behind the plain words, and what is no command.
+use crate::{Command, read_words};
+use lc_time::date_text;
+use std::alloc::Global;
+use std::test::Fail;
+
+fn words_of(alloc: Global, words: &str) -> Result<Vec<String>, Fail> {
+    let mut list = Vec::new(alloc);
+    for word in words.split(' ') {
+        list.push(String::from_str(alloc, word)?)?;
+    }
+    Ok(list)
+}
+
+// What the words say, as one text.
+fn said(alloc: Global, words: &[String]) -> Result<String, Fail> {
+    Ok(match read_words(alloc, words)? {
+        Some(Command::Check(check)) => {
+            let (feed, zone) = (check.feed.as_str(), check.zone.as_str());
+            let date = date_text(check.first);
+            let first = std::str::from_utf8(&date).unwrap_or("?");
+            format!(in alloc;
+                "check {feed} {first} {} {zone} {}",
+                check.days, check.change
+            )?
+        }
+        Some(Command::Ask(ask)) => {
+            let (feed, zone) = (ask.feed.as_str(), ask.zone.as_str());
+            let (from, to) = (ask.query.from.as_str(), ask.query.to.as_str());
+            let date = date_text(ask.first);
+            let first = std::str::from_utf8(&date).unwrap_or("?");
+            format!(in alloc;
+                "ask {feed} {from} {to} {} {first} {} {zone} {}",
+                ask.query.leave.seconds(),
+                ask.days,
+                ask.change
+            )?
+        }
+        None => String::from_str(alloc, "none")?,
+    })
+}
+
+const ASKED: &str = "ask tiny A D 1714550400 20240430 3 utc 120";
+
+#[test]
+fn words_of_commands(rt: HostRuntime) -> Result<(), Fail> {
+    let alloc = rt.alloc();
+    for &(words, command) in &[
+        ("check tiny 20240501", "check tiny 20240501 7 utc 120"),
+        (
+            "check tiny 20240501 --days 14",
+            "check tiny 20240501 14 utc 120",
+        ),
+        (
+            "check tiny 20240501 --zone posix:CET-1CEST,M3.5.0,M10.5.0/3",
+            "check tiny 20240501 7 posix:CET-1CEST,M3.5.0,M10.5.0/3 120",
+        ),
+        ("--days=062 check tiny 20240501", "none"),
+        (
+            "check --days=062 tiny --change 0 20240501 --zone=x",
+            "check tiny 20240501 62 x 0",
+        ),
+        ("check  20240501", "check  20240501 7 utc 120"),
+        ("check tiny 20240501 --days 0", "none"),
+        ("check tiny 20240501 --days 63", "none"),
+        ("check tiny 20240501 --days 4294967298", "none"),
+        ("check tiny 20240501 --days=-5", "none"),
+        ("check tiny 20240501 --days=", "none"),
+        ("check tiny 20240501 --days", "none"),
+        ("check tiny 20240501 --days -- 7", "none"),
+        (
+            "check tiny 20240501 --change 86400",
+            "check tiny 20240501 7 utc 86400",
+        ),
+        ("check tiny 20240501 --change 86401", "none"),
+        ("check tiny 20240501 --zone=", "none"),
+        ("check tiny 20240501 --zone=-x", "none"),
+        ("check tiny 20240501 --zone -x", "none"),
+        ("check tiny 20240501 --cache 5", "none"),
+        ("check tiny 20240501 -d 5", "none"),
+        ("check tiny 20240501 -", "none"),
+        ("check -- - 20240501", "none"),
+        ("check -- -tiny 20240501", "check -tiny 20240501 7 utc 120"),
+        ("check -- -- 20240501", "check -- 20240501 7 utc 120"),
+        ("check tiny -- 20240501 --days", "none"),
+        ("check tiny 20240501 x", "none"),
+        ("check tiny", "none"),
+        ("check tiny 20240230", "none"),
+        ("check tiny 19700109", "none"),
+        ("check tiny 19700110", "check tiny 19700110 7 utc 120"),
+        ("check tiny 99991209", "check tiny 99991209 7 utc 120"),
+        ("check tiny 99991210", "none"),
+        ("ask tiny A D 2024-05-01T08:00:00Z", ASKED),
+        ("ask tiny -- A D 2024-05-01T08:00:00Z", ASKED),
+        ("ask --days=3 tiny A D 2024-05-01T08:00:00Z", ASKED),
+        (
+            "ask tiny A --days 5 D 2024-05-01T08:00:00Z --change=60",
+            "ask tiny A D 1714550400 20240430 5 utc 60",
+        ),
+        ("ask tiny A D yesterday", "none"),
+        (
+            "ask tiny A D 2024-05-01T08:00:00Z --days 3 --days 3",
+            "none",
+        ),
+        ("ask tiny  D 2024-05-01T08:00:00Z", "none"),
+        ("ask tiny A D 1970-01-10T23:59:59Z", "none"),
+        (
+            "ask tiny A D 1970-01-11T00:00:00Z",
+            "ask tiny A D 864000 19700110 3 utc 120",
+        ),
+        (
+            "ask tiny A D 9999-12-14T23:59:59Z",
+            "ask tiny A D 253400831999 99991213 3 utc 120",
+        ),
+        ("ask tiny A D 9999-12-14T23:59:59Z --days 4", "none"),
+        ("ask tiny A D 9999-12-15T00:00:00Z --days 1", "none"),
+        ("ask --help", "none"),
+        ("--help", "none"),
+        ("help", "none"),
+        ("", "none"),
+    ] {
+        let list = words_of(alloc, words)?;
+        assert_eq!(rt; said(alloc, list.as_slice())?.as_str(), command, "{words}");
+    }
+    Ok(())
+}
+
+#[test]
+fn no_word_is_no_command(rt: HostRuntime) -> Result<(), Fail> {
+    assert_eq!(rt; said(rt.alloc(), &[])?.as_str(), "none");
+    Ok(())
+}
