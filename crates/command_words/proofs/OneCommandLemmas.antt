@@ -1,19 +1,17 @@
 -- Words say one command at most.
-use Rattle.std.proofs.Common.{◌≡◌, ◌∙◌, ℕ, ◌/◌, ◌-◌, ◌≤◌, List, [], ◌∷◌, codes, Option, Some, ap, subst, sym}
+use Rattle.std.proofs.Common.{◌≡◌, ◌∙◌, ℕ, ◌/◌, ◌-◌, ◌≤◌, List, [], ◌∷◌, Option, ap, subst, sym}
 use Rattle.std.proofs.Props.{props}
 use Rattle.lc_model.specs.declared.date.ServiceDate.{ServiceDate}
 use Rattle.lc_model.specs.declared.query.Query.{Query}
 use Rattle.lc_model.specs.declared.query.TheConstants.{FIRST_LEAVE, LAST_LEAVE}
-use Rattle.lc_time.specs.Laws.{OneDate}
 use Rattle.lc_time.proofs.OneTextLemmas.{one_date}
-use Rattle.command_words.specs.Ask.{AreAskWords, IsQuestion, SaysAsk}
-use Rattle.command_words.specs.Check.{AreCheckWords, SaysCheck}
+use Rattle.command_words.specs.Ask.{SaysAsk}
+use Rattle.command_words.specs.Check.{SaysCheck}
 use Rattle.command_words.specs.Laws.{OneCommand}
 use Rattle.command_words.specs.Line.{ask_line, check_line}
 use Rattle.command_words.specs.Window.{IsWindow}
 use Rattle.command_words.specs.declared.command.Ask.{Ask}
 use Rattle.command_words.specs.declared.command.Check.{Check}
-use Rattle.command_words.specs.declared.command.Command.{Command}
 use Rattle.command_words.specs.declared.command.Command.TheVariants as command
 use Rattle.command_words.proofs.WordsLemmas.{one_date_at, one_leave, one_options, same_text}
 

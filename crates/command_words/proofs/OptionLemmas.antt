@@ -1,5 +1,5 @@
 -- What options say lies in its range.
-use Rattle.std.proofs.Common.{◌≡◌, ℕ, ◌≤◌, ◌&&◌, Bool, true, false, nat_le, if◌then◌else◌, List, Option, Some, None, option_and_then, codes, arith, subst, sym, refl}
+use Rattle.std.proofs.Common.{◌≡◌, ℕ, ◌≤◌, ◌&&◌, Bool, true, false, nat_le, if◌then◌else◌, List, Option, Some, None, option_and_then, codes, arith, subst, refl}
 use Rattle.std.proofs.lemmas.Bool.{leb-true}
 use Rattle.clap.specs.Simple.{App}
 use Rattle.lc_time.specs.Digits.{u32_said}

@@ -1,5 +1,5 @@
 -- What was read is what the words say.
-use Rattle.std.proofs.Common.{◌≡◌, ◌∙◌, ℕ, ◌+◌, ◌/◌, ◌-◌, ◌≤◌, ap, ap₂, arith, drop, get_or, length, map, take, Some, String, List, [], ◌∷◌, codes, refl, subst, sym, true}
+use Rattle.std.proofs.Common.{◌≡◌, ◌∙◌, ℕ, ◌/◌, ◌-◌, ◌≤◌, ap, ap₂, arith, drop, get_or, length, take, Some, String, List, [], ◌∷◌, codes, refl, subst, sym, true}
 use Rattle.std.proofs.Math.Seq.{take-length}
 use Rattle.std.specs.String.{string_bytes}
 use Rattle.std.specs.declared.alloc.Global.{Global}

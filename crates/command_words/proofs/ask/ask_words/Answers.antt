@@ -1,4 +1,4 @@
-use Rattle.std.proofs.Common.{◌≡◌, ◌∙◌, ℕ, Some, codes, subst, sym}
+use Rattle.std.proofs.Common.{◌∙◌, codes, subst, sym}
 use Rattle.command_words.specs.Ask.{SaysLeave}
 use Rattle.command_words.specs.Line.{ask_line}
 use Rattle.command_words.proofs.WordsLemmas.{same_text, same_window}

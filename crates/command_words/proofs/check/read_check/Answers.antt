@@ -1,4 +1,4 @@
-use Rattle.std.proofs.Common.{◌≡◌, ℕ, ◌≤◌, arith}
+use Rattle.std.proofs.Common.{arith}
 use Rattle.command_words.specs.Line.{check_line, texts_of}
 use Rattle.command_words.proofs.OptionLemmas.{options_in_range}
 use Rattle.command_words.proofs.WordsLemmas.{check_is_simple, same_check_words}

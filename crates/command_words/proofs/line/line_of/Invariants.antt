@@ -1,4 +1,4 @@
-use Rattle.std.proofs.Common.{◌≡◌, ◌++◌, List, ℕ, [], map, take}
+use Rattle.std.proofs.Common.{◌≡◌, [], map, take}
 use Rattle.clap.specs.Simple.{app_of}
 use Rattle.command_words.specs.Line.{line}
 use Rattle.command_words.proofs.line.line_of.Given as goal

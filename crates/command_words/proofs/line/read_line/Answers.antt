@@ -1,7 +1,7 @@
-use Rattle.std.proofs.Common.{◌≡◌, ◌∙◌, ℕ, List, ap, refl, sym, subst, true, false, map, []}
+use Rattle.std.proofs.Common.{◌≡◌, ◌∙◌, ap, refl, sym, subst, true, false, map, []}
 use Rattle.std.proofs.lemmas.List.Elements.{All-map}
-use Rattle.clap.specs.Words.{App, app_of, fault_of, first_value, found_of, is_simple, is_simple_and_free, kind_of, matches_of, rows_of}
-use Rattle.clap.specs.Walk.{Row, first_of}
+use Rattle.clap.specs.Words.{App, app_of, fault_of, found_of, is_simple_and_free, kind_of, matches_of}
+use Rattle.clap.specs.Walk.{first_of}
 use Rattle.clap.specs.declared.error.kind.ErrorKind.TheVariants.{OutOfMemory}
 use Rattle.clap.proofs.WalkLemmas.{both, first_value-rows}
 use Rattle.command_words.specs.Line.{IsNoDash, Takes, line, texts_of, value_at}

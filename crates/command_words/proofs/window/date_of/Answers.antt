@@ -1,5 +1,5 @@
 -- The text of the moment begins with the date of its day.
-use Rattle.std.proofs.Common.{◌≡◌, ◌/◌, ◌<◌, arith, refl, rules}
+use Rattle.std.proofs.Common.{◌/◌, ◌<◌, arith, refl, rules}
 use Rattle.lc_time.proofs.DateLemmas.{date_of}
 use Rattle.command_words.proofs.window.date_of.Goals as goal
 

@@ -1,4 +1,4 @@
-use Rattle.std.proofs.Common.{◌≡◌, List, ℕ, codes, rules}
+use Rattle.std.proofs.Common.{◌≡◌, codes, rules}
 use Rattle.std.specs.String.{string_bytes}
 use Rattle.command_words.proofs.WordsLemmas.{no_ask, parted}
 use Rattle.command_words.proofs.words.read_words.Goals as goal
