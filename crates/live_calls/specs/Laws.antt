@@ -1,0 +1,26 @@
+-- The values of which clauses say that they exist are one each, and the calls that news give go forward.
+use Rattle.std.specs.Prelude.{◌≡◌, List, Option}
+use Rattle.lc_model.specs.Call.{GoesForward, InSequence}
+use Rattle.lc_model.specs.declared.call.Call.{Call}
+use Rattle.lc_model.specs.declared.run.Run.{Run}
+use Rattle.lc_model.specs.declared.stop.Stop.{Stop}
+use Rattle.lc_versions.specs.Added.{added_calls}
+use Rattle.lc_versions.specs.Live.{live_calls_of}
+use Rattle.lc_versions.specs.News.{StopSaid, TripSaid}
+use Rattle.lc_versions.specs.Timetable.{AreLiveRuns}
+use Rattle.live_calls.specs.AddedRun.{IsAdded}
+
+-- a timetable has one list of live runs by its news
+abbrev pub OneListOfLiveRuns : Type 0
+OneListOfLiveRuns =
+    (runs : List Run) (stops : List Stop) (list : List TripSaid) (a b : List Run) → AreLiveRuns runs stops list a → AreLiveRuns runs stops list b
+    → a ≡ b
+
+-- the news of an added trip make one run, or none
+abbrev pub OneAddedRun : Type 0
+OneAddedRun = (stops : List Stop) (news : TripSaid) (a b : Option Run) → IsAdded stops news a → IsAdded stops news b → a ≡ b
+
+-- live calls go forward, whether the timetable does or not, and so do those of added trips
+pub record CallsGoForward : Type 0 where
+  pub live : (calls : List Call) (news : Option TripSaid) → InSequence calls → GoesForward (live_calls_of calls news)
+  pub added : (stops : List Stop) (news : List StopSaid) → GoesForward (added_calls stops news)

@@ -1,0 +1,3 @@
+pub mod AddedRun
+pub mod Laws
+pub mod Walk

@@ -1,0 +1,17 @@
+//! The calls of runs as news change them, their connections, and the runs that news of added trips make. It stands on the
+//! words of `lc_model` and the definitions of `lc_versions`.
+#![tactic(auto)]
+
+mod added_calls;
+mod build_run;
+mod forward;
+mod laws;
+mod naming;
+mod run_calls;
+mod run_connections;
+mod told;
+
+pub use build_run::added_run;
+pub use laws::{calls_go_forward, one_added_run, one_list_of_live_runs};
+pub use run_calls::live;
+pub use run_connections::connections;
