@@ -1,0 +1,4 @@
+pub mod ChainLemmas
+pub mod DeparturesLemmas
+pub mod FilterLemmas
+pub mod RowLemmas
