@@ -21,21 +21,21 @@ use Rattle.journey_laws.proofs.PlacesLemmas.{all_at, pair_at}
 use Rattle.journey_laws.proofs.RidesAreLegsLemmas.{Timetable, leg_is_ride, ride_is_leg}
 
 -- a change takes time
-waits : (seconds : Option ℕ) (arr dep : ℕ) → IsSomeAnd seconds (λ s. arr + s ≤ dep) → arr ≤ dep
+pub waits : (seconds : Option ℕ) (arr dep : ℕ) → IsSomeAnd seconds (λ s. arr + s ≤ dep) → arr ≤ dep
 waits None arr dep change = absurd change
 waits (Some s) arr dep change = omega arith
 
 -- rides that are all of another kind too are rides of that kind
-goes_over : (A B : Ride → Type 0) (doc : StopsDoc) (ride : Ride) (rest : List Ride) → ((r : Ride) → A r → B r) → GoesOn A doc ride rest → GoesOn B doc ride rest
+pub goes_over : (A B : Ride → Type 0) (doc : StopsDoc) (ride : Ride) (rest : List Ride) → ((r : Ride) → A r → B r) → GoesOn A doc ride rest → GoesOn B doc ride rest
 goes_over A B doc ride [] all goes = goes
 goes_over A B doc ride (next ∷ rest) all goes = (all next goes.0, goes.1, goes_over A B doc next rest all goes.2)
 
-rides_over : (A B : Ride → Type 0) (doc : StopsDoc) (rides : List Ride) → ((r : Ride) → A r → B r) → AreRides A doc rides → AreRides B doc rides
+pub rides_over : (A B : Ride → Type 0) (doc : StopsDoc) (rides : List Ride) → ((r : Ride) → A r → B r) → AreRides A doc rides → AreRides B doc rides
 rides_over A B doc [] all are = are
 rides_over A B doc (first ∷ rest) all are = (all first are.0, goes_over A B doc first rest all are.1)
 
 -- a journey with rides of another kind is a journey over that kind: its walks and its moments stay
-of_kind : (A B : Ride → Type 0) (query : Query) (doc : StopsDoc) (journey : Journey) → IsJourney A query doc journey → AreRides B doc journey.rides → IsJourney B query doc journey
+pub of_kind : (A B : Ride → Type 0) (query : Query) (doc : StopsDoc) (journey : Journey) → IsJourney A query doc journey → AreRides B doc journey.rides → IsJourney B query doc journey
 of_kind A B query doc journey is are = record {
   are_rides = are;
   begins = is.begins;
@@ -53,14 +53,14 @@ goes_in_time A B doc latest ride (next ∷ rest) forward all goes arrives =
     let waited : ride.arr ≤ next.dep = waits (change_between doc.changes ride.alight next.board) ride.arr next.dep goes.1 in
     ((all next goes.0 onward.1, goes.1, onward.0), omega (arith, onward.1))
 
-rides_in_time : (A B : Ride → Type 0) (doc : StopsDoc) (latest : ℕ) (rides : List Ride) → ((r : Ride) → A r → r.dep ≤ r.arr) → ((r : Ride) → A r → r.arr ≤ latest → B r) → AreRides A doc rides → arrival_of_rides rides ≤ latest → AreRides B doc rides
+pub rides_in_time : (A B : Ride → Type 0) (doc : StopsDoc) (latest : ℕ) (rides : List Ride) → ((r : Ride) → A r → r.dep ≤ r.arr) → ((r : Ride) → A r → r.arr ≤ latest → B r) → AreRides A doc rides → arrival_of_rides rides ≤ latest → AreRides B doc rides
 rides_in_time A B doc latest [] forward all are arrives = are
 rides_in_time A B doc latest (first ∷ rest) forward all are arrives =
     let onward = goes_in_time A B doc latest first rest forward all are.1 arrives in
     (all first are.0 onward.1, onward.0)
 
 -- the last ride arrives no later than the journey
-last_in_time : (arrival walk latest : ℕ) → arrival + walk ≤ latest → arrival ≤ latest
+pub last_in_time : (arrival walk latest : ℕ) → arrival + walk ≤ latest → arrival ≤ latest
 last_in_time arrival walk latest in_time = omega arith
 
 -- a ride departs before it arrives

@@ -1,5 +1,5 @@
-mod JourneysLemmas
+pub mod JourneysLemmas
 mod OrderedLemmas
 mod PairsLemmas
-mod PlacesLemmas
-mod RidesAreLegsLemmas
+pub mod PlacesLemmas
+pub mod RidesAreLegsLemmas

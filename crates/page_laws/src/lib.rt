@@ -1,7 +1,9 @@
-//! The laws of pages: along their links the order of departures goes on. It stands on `lc_model`, `lc_versions` and
-//! `journey_laws`.
+//! The laws of pages: along their links the order of departures goes on, and rides are legs of the pages from the one on that
+//! is asked for. It stands on `lc_model`, `lc_versions` and `journey_laws`.
 #![tactic(auto)]
 
 mod chain;
+mod rides;
 
 pub use chain::{page_of_a_moment, pages_in_a_row};
+pub use rides::{early_may_go, journeys_along_next, legs_along_next};
