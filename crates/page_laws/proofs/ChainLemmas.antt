@@ -160,7 +160,7 @@ pub previous_stays : (page next : CutPage) (rest : List CutPage) (moment : ℕ) 
 previous_stays page next rest moment not_named = ap (λ b. cond b (along_previous next rest moment ++ page ∷ []) []) not_named
 
 -- a test of names holds or not
-by_or_not : (page : CutPage) (moment : ℕ) → ((nat_le page.departs moment ≡ true) × (page.departs ≤ moment)) ⊎ ((nat_le page.departs moment ≡ false) × (moment < page.departs))
+pub by_or_not : (page : CutPage) (moment : ℕ) → ((nat_le page.departs moment ≡ true) × (page.departs ≤ moment)) ⊎ ((nat_le page.departs moment ≡ false) × (moment < page.departs))
 by_or_not page moment = leb_tells page.departs moment
 
 pub begins_there : (page : CutPage) (rest : List CutPage) (moment : ℕ) → Follow page rest → (more : List CutPage) × (along_next page rest moment ≡ page_for page rest moment ∷ more)

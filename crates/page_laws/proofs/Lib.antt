@@ -5,3 +5,5 @@ pub mod FilterLemmas
 pub mod LegLemmas
 pub mod PartJourneyLemmas
 pub mod RowLemmas
+pub mod StopLemmas
+pub mod TakenLemmas

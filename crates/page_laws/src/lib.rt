@@ -4,6 +4,8 @@
 
 mod chain;
 mod rides;
+mod stop;
 
 pub use chain::{page_of_a_moment, pages_in_a_row};
 pub use rides::{early_may_go, journeys_along_next, legs_along_next};
+pub use stop::{no_journey_arrives_earlier, stop_is_right};
