@@ -3,7 +3,9 @@ pub mod ChainLemmas
 pub mod DeparturesLemmas
 pub mod FilterLemmas
 pub mod LegLemmas
+pub mod NeededLemmas
 pub mod PartJourneyLemmas
 pub mod RowLemmas
 pub mod StopLemmas
 pub mod TakenLemmas
+pub mod UpToLemmas

@@ -1,3 +1,4 @@
 pub mod Chain
+pub mod Needed
 pub mod Rides
 pub mod Stop
