@@ -9,3 +9,4 @@ pub mod RowLemmas
 pub mod StopLemmas
 pub mod TakenLemmas
 pub mod UpToLemmas
+pub mod WorkedLemmas

@@ -7,7 +7,7 @@ use Rattle.std.proofs.lemmas.List.Elements.{All-contains, All-nil, Contains-appe
 use Rattle.std.proofs.Common.{arith}
 use Rattle.lc_model.specs.declared.connection.Connection.{Connection}
 use Rattle.lc_versions.specs.Cuts.{AreCuts, first_of}
-use Rattle.lc_versions.specs.Pages.{CutPage, departing, departures_of, page_for, pages_of}
+use Rattle.lc_versions.specs.Pages.{CutPage, departing, departures_of, page_for, pages_from, pages_of}
 use Rattle.page_laws.specs.Chain.{AreTheList, ArePagesOf, BackAreTheRest, BeginOnTime, IsGreatestByThen, IsWhereNextBegins, LateAreAlongNext, LinksPartPages, NamesRise, NeverEmpty, NextAreTheSuffix, SecondsAreWhole, along_next, along_previous, connections_along}
 use Rattle.page_laws.proofs.ChainLemmas.{Follow, all_from_first, before_moment, before_name, begins_there, is_greatest, is_one_of, links_part, names_rise as rise_by_name, next_are_part, no_departures, pages_are_part, pages_begin, pages_follow, part_from, parts_there, seconds_are_whole as are_whole}
 use Rattle.page_laws.proofs.DeparturesLemmas.{Sorted, sorted_from_order}
@@ -58,8 +58,8 @@ whole_by_links list first rest moment is =
     ∙ ap connections_along (links_part first rest moment) ∙ is.whole
 
 pub never_empty : NeverEmpty
-never_empty list [] none = cc
-never_empty list (cut ∷ rest) none = cc
+never_empty list [] = (record { departs = 0; connections = [] }, [], refl)
+never_empty list (cut ∷ rest) = (record { departs = cut; connections = departing cut (first_of rest) list }, pages_from rest list, refl)
 
 pub are_the_list : AreTheList
 are_the_list list first rest pages = (row list first rest pages).whole

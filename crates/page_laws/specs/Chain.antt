@@ -1,6 +1,6 @@
 -- The chain of pages: each one links to the next one and to the one before it (Linked Connections 1.0), and along these
 -- links they are the connections in their order. The laws hold for all lawful cuts.
-use Rattle.std.specs.Prelude.{◌≡◌, ◌≢◌, ℕ, ◌<◌, ◌≤◌, ◌⊎◌, List, [], ◌∷◌, ◌++◌, map, reverse, nat_le, Some, None, if◌then◌else◌}
+use Rattle.std.specs.Prelude.{◌≡◌, ℕ, ◌<◌, ◌≤◌, ◌⊎◌, List, [], ◌∷◌, ◌++◌, map, reverse, nat_le, Some, None, if◌then◌else◌}
 use Rattle.std.specs.List.{All, AllPairs, Contains, flat_map}
 use Rattle.lc_model.specs.Connection.{InDepartureOrder}
 use Rattle.lc_model.specs.declared.connection.Connection.{Connection}
@@ -34,7 +34,7 @@ pub record ArePagesOf (list : List Connection) (first : CutPage) (rest : List Cu
 
 -- there is always a first page
 abbrev pub NeverEmpty : Type 0
-NeverEmpty = (list : List Connection) (cuts : List ℕ) → pages_of cuts list ≢ []
+NeverEmpty = (list : List Connection) (cuts : List ℕ) → (first : CutPage) × (rest : List CutPage) × (pages_of cuts list ≡ first ∷ rest)
 
 -- the connections of the pages, page by page, are the list
 abbrev pub AreTheList : Type 0

@@ -2,3 +2,4 @@ pub mod Chain
 pub mod Needed
 pub mod Rides
 pub mod Stop
+pub mod Worked
