@@ -11,7 +11,7 @@ module _ {X : Type 0} (R : X → X → Type 0) where
   pairs_head : (x : X) (xs : List X) → AllPairs R (x ∷ xs) → All (R x) xs
   pairs_head x xs h k d inside = h 0 (suc k) d (omega arith) (omega arith)
 
-  pairs_cons : (x : X) (xs : List X) → All (R x) xs → AllPairs R xs → AllPairs R (x ∷ xs)
+  pub pairs_cons : (x : X) (xs : List X) → All (R x) xs → AllPairs R xs → AllPairs R (x ∷ xs)
   pairs_cons x xs head tail zero zero d before inside = absurd (omega arith)
   pairs_cons x xs head tail zero (suc j) d before inside = head j d (omega arith)
   pairs_cons x xs head tail (suc i) zero d before inside = absurd (omega arith)
@@ -25,7 +25,7 @@ none_all P k d inside = absurd (omega arith)
 
 module _ {X Y : Type 0} (f : X → Option Y) where
   -- what holds of each item holds so of each that is kept
-  all_kept : (P : X → Type 0) (Q : Y → Type 0) → ((x : X) (y : Y) → f x ≡ Some y → P x → Q y) → (xs : List X) → All P xs → All Q (filter_map f xs)
+  pub all_kept : (P : X → Type 0) (Q : Y → Type 0) → ((x : X) (y : Y) → f x ≡ Some y → P x → Q y) → (xs : List X) → All P xs → All Q (filter_map f xs)
   all_kept P Q gives [] all = none_all Q
   all_kept P Q gives (x ∷ xs) all = by_item (f x) refl (all_kept P Q gives xs (All-tail P x xs all))
     where

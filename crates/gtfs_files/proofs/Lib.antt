@@ -14,12 +14,14 @@ pub mod RuleFacts
 pub mod Said
 pub mod SaidFacts
 pub mod SaidItems
+pub mod SpanLemmas
 pub mod StopFacts
 pub mod StopLaws
 pub mod StopTimeLaws
 pub mod StopTimeRuleFacts
 pub mod TableLaws
 pub mod TimedFacts
+pub mod TimelyLemmas
 pub mod TransferFacts
 pub mod TripFacts
 pub mod TripLaws

@@ -10,10 +10,12 @@ pub mod FrequencyColumns
 pub mod KeyPlaces
 pub mod Laws
 pub mod LeftOut
+pub mod OnTime
 pub mod PairPlaces
 pub mod Places
 pub mod Rules
 pub mod ServiceLaws
+pub mod Spans
 pub mod StopColumns
 pub mod StopTimeColumns
 pub mod StopTimeOrder
@@ -23,6 +25,7 @@ pub mod Stops
 pub mod Table
 pub mod TextPlaces
 pub mod Texts
+pub mod Timely
 pub mod Timing
 pub mod TransferColumns
 pub mod Transfers

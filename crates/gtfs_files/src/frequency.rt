@@ -1,4 +1,9 @@
-use lc_model::{Id, Items};
+ghost use Rattle.std.specs.Prelude.{◌≡◌};
+ghost use Rattle.gtfs_files.specs.Spans.{AreSpans};
+
+use lc_model::{Id, NoMemory, PlainData};
+use std::alloc::Global;
+use std::marker::Model;
 
 /// A row of frequencies.txt: within a span of a service day a trip starts every so often.
 #[derive(Debug, Drop)]
@@ -12,5 +17,47 @@ pub struct Frequency {
     pub headway: u32,
 }
 
+impl PlainData for Frequency {
+    fn copy(&self, alloc: Global) -> Result<Frequency, NoMemory> {
+        Ok(Frequency {
+            trip: self.trip.copy(alloc)?,
+            from: self.from,
+            to: self.to,
+            headway: self.headway,
+        })
+    }
+}
+
 /// The spans in which the trips of a feed start every so often, in the order of the file.
-pub type Frequencies = Items<Frequency>;
+#[derive(Debug, Drop)]
+pub struct Frequencies {
+    items: Vec<Frequency>,
+}
+
+impl Model for Frequencies {
+    ghost use Rattle.std.specs.Prelude.{List};
+    ghost use Rattle.gtfs_files.specs.Spans.{AreSpans};
+    ghost use Rattle.gtfs_files.specs.declared.frequency.Frequency.{Frequency};
+
+    ghost Value = { List Frequency };
+
+    ghost view = { λ f. f.items.items };
+
+    ghost invariant = { λ f. AreSpans f.items.items };
+}
+
+impl Frequencies {
+    pub fn from_list(list: Vec<Frequency>) -> Frequencies
+        requires { AreSpans list.items }
+        ensures { result ≡ list.items }
+    {
+        Frequencies { items: list }
+    }
+
+    pub fn as_slice(&self) -> &[Frequency]
+        ensures value { result.now ≡ self.now }
+        ensures spans { AreSpans result.now }
+    {
+        self.items.as_slice()
+    }
+}

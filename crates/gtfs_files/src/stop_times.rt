@@ -1,5 +1,6 @@
 ghost use Rattle.std.specs.Prelude.{◌≡◌};
 ghost use Rattle.gtfs_files.specs.StopTimeOrder.{InTripOrder};
+ghost use Rattle.gtfs_files.specs.Timely.{AreTimely};
 
 use lc_model::Id;
 use std::marker::Model;
@@ -17,7 +18,8 @@ pub struct StopTime {
     pub alight: bool,
 }
 
-/// The stop times of a feed, strictly ordered by trip and sequence.
+/// The stop times of a feed, strictly ordered by trip and sequence. The first and the last of a trip have a time, and none
+/// is earlier than one before it.
 #[derive(Debug, Drop)]
 pub struct StopTimes {
     items: Vec<StopTime>,
@@ -27,17 +29,19 @@ impl Model for StopTimes {
     ghost use Rattle.std.specs.Prelude.{List};
     ghost use Rattle.gtfs_files.specs.declared.stop_times.StopTime.{StopTime};
     ghost use Rattle.gtfs_files.specs.StopTimeOrder.{InTripOrder};
+    ghost use Rattle.gtfs_files.specs.Timely.{AreTimely};
 
     ghost Value = { List StopTime };
 
     ghost view = { λ t. t.items.items };
 
-    ghost invariant = { λ t. InTripOrder t.items.items };
+    ghost invariant = { λ t. InTripOrder t.items.items × AreTimely t.items.items };
 }
 
 impl StopTimes {
     pub fn from_list(list: Vec<StopTime>) -> StopTimes
-        requires { InTripOrder list.items }
+        requires in_order { InTripOrder list.items }
+        requires timely { AreTimely list.items }
         ensures { result ≡ list.items }
     {
         StopTimes { items: list }
@@ -46,6 +50,7 @@ impl StopTimes {
     pub fn as_slice(&self) -> &[StopTime]
         ensures value { result.now ≡ self.now }
         ensures in_order { InTripOrder result.now }
+        ensures timely { AreTimely result.now }
     {
         self.items.as_slice()
     }

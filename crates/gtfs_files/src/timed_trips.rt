@@ -1,6 +1,7 @@
 ghost use Rattle.std.specs.Prelude.{◌≡◌, ◌⊎◌, ◌<◌, ◌+◌, ◌++◌, [], ◌∷◌, IfErr, IfOk, OnOk, filter, length, not};
 ghost use Rattle.std.specs.List.{filter_map};
 ghost use Rattle.gtfs_files.specs.LeftOut.{AreLeftOut, AreSorted, is_in, time_unless};
+ghost use Rattle.gtfs_files.specs.OnTime.{AreOfTrips, AreOnTime};
 ghost use Rattle.gtfs_files.specs.Rules.{IsUnbroken};
 ghost use Rattle.gtfs_files.specs.StopTimeRows.{most_stop_times, stop_time_rule_at, stop_times_columns};
 ghost use Rattle.gtfs_files.specs.Table.{IsFileFault};
@@ -77,7 +78,8 @@ fn read_visits(
 
 // What the visits say of the trips, or the first trip whose rows break a rule together.
 fn timed(alloc: Global, visits: Vec<Visit>, trips: TripRows) -> Result<TimedTrips, FileFault>
-    requires { IsStrict visit_cmp visits.items }
+    requires in_order { IsStrict visit_cmp visits.items }
+    requires of_trips { AreOfTrips trips visits.items }
     ensures times { IfOk result (λ read. AreTimed visits.items trips read.times read.trips) }
     ensures left_out { IfOk result (λ read. read.left_out + length read.trips ≡ length trips) }
     ensures fault { IfErr result (λ fault. (fault ≡ FileFault.NoMemory) ⊎ IsTripFault visits.items trips fault) }
@@ -102,6 +104,7 @@ fn kept(
 ) -> Result<TimedTrips, NoMemory>
     requires in_order { IsStrict visit_cmp visits.items }
     requires left { AreLeftOut visits.items left.now }
+    requires on_time { AreOnTime visits.items }
     ensures times { IfOk result (λ read. read.times ≡ filter_map (time_of_visit visits.items) visits.items) }
     ensures trips { IfOk result (λ read. read.trips ≡ filter (λ (t : Trip). not (is_left_out visits.items t.trip)) trips) }
     ensures left_out { IfOk result (λ read. read.left_out + length read.trips ≡ length trips) }

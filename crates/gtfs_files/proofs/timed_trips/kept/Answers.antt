@@ -4,6 +4,7 @@ use Rattle.gtfs_files.specs.LeftOut.{is_in}
 use Rattle.gtfs_files.specs.declared.trip_rows.TripRow.{TripRow}
 use Rattle.gtfs_files.proofs.KeptFacts.{filter_shorter}
 use Rattle.gtfs_files.proofs.TimedFacts.{kept_once, times_are, times_in_order, trips_are}
+use Rattle.gtfs_files.proofs.TimelyLemmas.{timely}
 use Rattle.gtfs_files.proofs.timed_trips.kept.Goals as goal
 
 pub from_list-requires : goal.from_list-requires
@@ -11,7 +12,10 @@ from_list-requires c =
     kept_once (λ (t : TripRow). not (is_in c.args.left.now t.trip)) c.into_list-all.result.items c.in_ok-few.few.items c.in_ok-few.ensures c.into_list-all.ensures.one_row_a_trip
 
 pub from_list-requires-2 : goal.from_list-requires-2
-from_list-requires-2 c = times_in_order c.args.left.now c.args.visits.items c.in_ok-times.times.items c.in_ok-times.ensures c.requires.in_order
+from_list-requires-2 c = record {
+  in_order = times_in_order c.args.left.now c.args.visits.items c.in_ok-times.times.items c.in_ok-times.ensures c.requires.in_order;
+  timely = timely c.args.visits.items c.in_ok-times.times.items (times_are c.args.visits.items c.args.left.now c.in_ok-times.times.items c.requires.left c.in_ok-times.ensures) c.requires.on_time;
+}
 
 pub overflow_sub-left_out : goal.overflow_sub-left_out
 overflow_sub-left_out c =
