@@ -1,0 +1,3 @@
+pub mod VersionLemmas
+pub mod OneReplyLemmas
+pub mod LaterLemmas

@@ -1,0 +1,7 @@
+pub mod Asked
+pub mod Laws
+pub mod PageAt
+pub mod Reply
+pub mod Response
+pub mod Side
+pub mod Worked
