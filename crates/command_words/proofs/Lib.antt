@@ -1,3 +1,4 @@
+mod FindsLemmas
 mod LineLemmas
 mod OneCommandLemmas
 mod OptionLemmas

@@ -1,5 +1,6 @@
 pub mod Ask
 pub mod Check
+pub mod Finds
 pub mod Laws
 pub mod Line
 pub mod Options

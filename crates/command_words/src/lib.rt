@@ -13,5 +13,5 @@ mod window;
 mod words;
 
 pub use command::{Ask, Check, Command};
-pub use laws::one_command;
+pub use laws::{lines_of_check, one_command};
 pub use words::read_words;
