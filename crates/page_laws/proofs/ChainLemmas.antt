@@ -2,6 +2,7 @@
 use Rattle.std.proofs.Common.{◌≡◌, ℕ, ◌<◌, ◌≤◌, ◌⊎◌, inl, inr, List, [], ◌∷◌, ◌++◌, Bool, true, false, cond, Option, Some, None, refl, ap, sym, subst, ◌∙◌, arith, filter}
 use Rattle.std.specs.Prelude.{nat_le, nat_lt, reverse}
 use Rattle.std.specs.List.{All, AllPairs, Contains}
+use Rattle.std.proofs.lemmas.Bool.{le-leb}
 use Rattle.std.proofs.lemmas.Bool.Decides.{leb_tells, nat_tests}
 use Rattle.std.proofs.lemmas.List.{append-nil, reverse-append}
 use Rattle.std.proofs.lemmas.List.Elements.{All-append, All-cons, All-head, All-nil, All-tail, All-weaker, Contains-append_right, filter-append, filter_passes}
@@ -305,3 +306,47 @@ parts_there moment front rest before after =
     ∙ ap (λ kept. kept ++ departing 0 (Some moment) rest) (filter_all (is_within 0 (Some moment)) front (All-weaker (λ (c : Connection). c.dep < moment) (λ c. is_within 0 (Some moment) c ≡ true) (λ c h. between 0 moment c (omega arith) h) front before))
     ∙ ap (λ kept. front ++ kept) (no_part_beyond 0 moment rest after)
     ∙ append-nil front
+
+not_behind : (before : List CutPage) (page : CutPage) (more : List CutPage) → [] ≡ before ++ page ∷ more → ⊥
+not_behind [] page more e = cc
+not_behind (q ∷ before) page more e = cc
+
+-- a page that is named after all those before it
+found_behind : (page : CutPage) (rest before : List CutPage) (found : CutPage) (behind : List CutPage) → Follow page rest → page ∷ rest ≡ before ++ found ∷ behind → page.departs ≤ found.departs
+found_behind page rest [] found behind follow is =
+    let same : page ≡ found = cc in
+    let e : page.departs ≡ found.departs = ap (λ (p : CutPage). p.departs) same in
+    omega arith
+found_behind page [] (x ∷ before) found behind follow is =
+    let others : [] ≡ before ++ found ∷ behind = cc in
+    absurd (not_behind before found behind others)
+found_behind page (next ∷ rest) (x ∷ before) found behind follow is =
+    let others : next ∷ rest ≡ before ++ found ∷ behind = cc in
+    let onward : next.departs ≤ found.departs = found_behind next rest before found behind follow.3 others in
+    omega (arith, follow.2)
+
+-- a page that is asked for by its name is found with those before and behind it
+pub found_by_name : (page : CutPage) (rest before : List CutPage) (found : CutPage) (behind : List CutPage) → Follow page rest → page ∷ rest ≡ before ++ found ∷ behind →
+    (page_for page rest found.departs ≡ found) × (along_next page rest found.departs ≡ found ∷ behind) × (along_previous page rest found.departs ≡ reverse before)
+found_by_name page [] [] found behind follow is =
+    let same : page ≡ found = cc in
+    (same, is, refl)
+found_by_name page (next ∷ rest) [] found behind follow is =
+    let same : page ≡ found = cc in
+    let e : page.departs ≡ found.departs = ap (λ (p : CutPage). p.departs) same in
+    let after : nat_le next.departs found.departs ≡ false = is_after (omega (arith, follow.2)) in
+    (stays page next rest found.departs follow.3 after ∙ same, next_stays page next rest found.departs after ∙ is, previous_stays page next rest found.departs after) where
+      is_after : found.departs < next.departs → nat_le next.departs found.departs ≡ false
+      is_after h = grind (arith, nat_tests)
+found_by_name page [] (x ∷ before) found behind follow is =
+    let others : [] ≡ before ++ found ∷ behind = cc in
+    absurd (not_behind before found behind others)
+found_by_name page (next ∷ rest) (x ∷ before) found behind follow is =
+    let others : next ∷ rest ≡ before ++ found ∷ behind = cc in
+    let first : page ≡ x = cc in
+    let named : nat_le next.departs found.departs ≡ true = le-leb next.departs found.departs (found_behind next rest before found behind follow.3 others) in
+    let onward = found_by_name next rest before found behind follow.3 others in (
+      goes_on page next rest found.departs named ∙ onward.0,
+      next_goes_on page next rest found.departs named ∙ onward.1,
+      previous_goes_on page next rest found.departs named ∙ ap (λ back. back ++ page ∷ []) onward.2 ∙ ap (λ p. reverse before ++ p ∷ []) first ∙ sym (reverse-append (x ∷ []) before),
+    )

@@ -8,8 +8,8 @@ use Rattle.std.proofs.Common.{arith}
 use Rattle.lc_model.specs.declared.connection.Connection.{Connection}
 use Rattle.lc_versions.specs.Cuts.{AreCuts, first_of}
 use Rattle.lc_versions.specs.Pages.{CutPage, departing, departures_of, page_for, pages_from, pages_of}
-use Rattle.page_laws.specs.Chain.{AreTheList, ArePagesOf, BackAreTheRest, BeginOnTime, IsGreatestByThen, IsWhereNextBegins, LateAreAlongNext, LinksPartPages, NamesRise, NeverEmpty, NextAreTheSuffix, SecondsAreWhole, along_next, along_previous, connections_along}
-use Rattle.page_laws.proofs.ChainLemmas.{Follow, all_from_first, before_moment, before_name, begins_there, is_greatest, is_one_of, links_part, names_rise as rise_by_name, next_are_part, no_departures, pages_are_part, pages_begin, pages_follow, part_from, parts_there, seconds_are_whole as are_whole}
+use Rattle.page_laws.specs.Chain.{AreTheList, ArePagesOf, BackAreTheRest, BeginOnTime, FoundByName, IsGreatestByThen, IsWhereNextBegins, LateAreAlongNext, LinksPartPages, NamesRise, NeverEmpty, NextAreTheSuffix, SecondsAreWhole, along_next, along_previous, connections_along}
+use Rattle.page_laws.proofs.ChainLemmas.{Follow, all_from_first, before_moment, before_name, begins_there, found_by_name as found_in_row, is_greatest, is_one_of, links_part, names_rise as rise_by_name, next_are_part, no_departures, pages_are_part, pages_begin, pages_follow, part_from, parts_there, seconds_are_whole as are_whole}
 use Rattle.page_laws.proofs.DeparturesLemmas.{Sorted, sorted_from_order}
 
 -- each page begins with the departure of its name, or there is one empty page of nothing
@@ -113,3 +113,6 @@ late_are_along_next list first rest moment pages =
             | inl in_front ↦ (let before : c.dep < moment = All-contains (λ (d : Connection). d.dep < moment) front c early in_front in absurd (omega arith))
             | inr in_on ↦ in_on
           ]
+
+pub found_by_name : FoundByName
+found_by_name list first rest before page behind pages is = found_in_row first rest before page behind (row list first rest pages).follow is

@@ -101,3 +101,11 @@ LateAreAlongNext =
     (list : List Connection) (first : CutPage) (rest : List CutPage) (moment : ℕ) → ArePagesOf list first rest →
     All (λ (c : Connection). moment ≤ c.dep → Contains (connections_along (along_next first rest moment)) c) list
     × All (λ (c : Connection). c.dep < moment) (connections_along (reverse (along_previous first rest moment)))
+
+-- A page that is asked for by its name, as links do, is found: along the links to the next one it and those behind it follow, along
+-- those to the previous one those before it.
+abbrev pub FoundByName : Type 0
+FoundByName =
+    (list : List Connection) (first : CutPage) (rest before : List CutPage) (page : CutPage) (behind : List CutPage) → ArePagesOf list first rest →
+    first ∷ rest ≡ before ++ page ∷ behind →
+    (page_for first rest page.departs ≡ page) × (along_next first rest page.departs ≡ page ∷ behind) × (along_previous first rest page.departs ≡ reverse before)

@@ -1,5 +1,5 @@
 ghost use Rattle.page_laws.specs.Chain.{AreTheList, BeginOnTime, NamesRise, NeverEmpty, SecondsAreWhole};
-ghost use Rattle.page_laws.specs.Chain.{BackAreTheRest, IsGreatestByThen, IsWhereNextBegins, LateAreAlongNext, LinksPartPages, NextAreTheSuffix};
+ghost use Rattle.page_laws.specs.Chain.{BackAreTheRest, FoundByName, IsGreatestByThen, IsWhereNextBegins, LateAreAlongNext, LinksPartPages, NextAreTheSuffix};
 
 /// The pages of connections in departure order, one after the other, are these connections, however they are cut.
 pub fn pages_in_a_row()
@@ -19,4 +19,5 @@ pub fn page_of_a_moment()
     ensures next_are_the_suffix { NextAreTheSuffix }
     ensures back_are_the_rest { BackAreTheRest }
     ensures late_are_along_next { LateAreAlongNext }
+    ensures found_by_name { FoundByName }
 {}

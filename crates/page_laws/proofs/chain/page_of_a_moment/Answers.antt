@@ -9,4 +9,5 @@ returns c = record {
   next_are_the_suffix = law.next_are_the_suffix;
   back_are_the_rest = law.back_are_the_rest;
   late_are_along_next = law.late_are_along_next;
+  found_by_name = law.found_by_name;
 }
