@@ -3,6 +3,7 @@ pub mod ChainLemmas
 pub mod DeparturesLemmas
 pub mod FilterLemmas
 pub mod LegLemmas
+pub mod NameLemmas
 pub mod NeededLemmas
 pub mod PartJourneyLemmas
 pub mod RowLemmas

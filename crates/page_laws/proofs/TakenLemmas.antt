@@ -31,7 +31,7 @@ follow_on page (next ∷ rest) moment follow =
     ]
 
 -- a page is named before each one that follows it
-named_before : (page : CutPage) (between : List CutPage) (next : CutPage) (more : List CutPage) → Follow page (between ++ next ∷ more) → page.departs < next.departs
+pub named_before : (page : CutPage) (between : List CutPage) (next : CutPage) (more : List CutPage) → Follow page (between ++ next ∷ more) → page.departs < next.departs
 named_before page [] next more follow = follow.2
 named_before page (q ∷ between) next more follow =
     let onward : q.departs < next.departs = named_before q between next more follow.3 in
@@ -56,7 +56,7 @@ left_from moment page (next ∷ rest) before follow =
     All-append (λ (c : Connection). moment ≤ c.dep) page.connections (connections_along (next ∷ rest)) (all_after moment page.departs page.connections before follow.0)
     (left_from moment next rest (omega (arith, follow.2)) follow.3)
 
-follow_behind : (taken : List CutPage) (next : CutPage) (more : List CutPage) → AllFollow (taken ++ next ∷ more) → Follow next more
+pub follow_behind : (taken : List CutPage) (next : CutPage) (more : List CutPage) → AllFollow (taken ++ next ∷ more) → Follow next more
 follow_behind [] next more follow = follow
 follow_behind (page ∷ []) next more follow = follow.3
 follow_behind (page ∷ q ∷ taken) next more follow = follow_behind (q ∷ taken) next more follow.3

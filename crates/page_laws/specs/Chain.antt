@@ -1,6 +1,6 @@
 -- The chain of pages: each one links to the next one and to the one before it (Linked Connections 1.0), and along these
 -- links they are the connections in their order. The laws hold for all lawful cuts.
-use Rattle.std.specs.Prelude.{◌≡◌, ℕ, ◌<◌, ◌≤◌, ◌⊎◌, List, [], ◌∷◌, ◌++◌, map, reverse, nat_le, Some, None, if◌then◌else◌}
+use Rattle.std.specs.Prelude.{◌≡◌, ℕ, ◌<◌, ◌≤◌, ◌⊎◌, List, [], ◌∷◌, ◌++◌, map, reverse, filter, nat_le, nat_lt, Some, None, if◌then◌else◌}
 use Rattle.std.specs.List.{All, AllPairs, Contains, flat_map}
 use Rattle.lc_model.specs.Connection.{InDepartureOrder}
 use Rattle.lc_model.specs.declared.connection.Connection.{Connection}
@@ -109,3 +109,10 @@ FoundByName =
     (list : List Connection) (first : CutPage) (rest before : List CutPage) (page : CutPage) (behind : List CutPage) → ArePagesOf list first rest →
     first ∷ rest ≡ before ++ page ∷ behind →
     (page_for first rest page.departs ≡ page) × (along_next first rest page.departs ≡ page ∷ behind) × (along_previous first rest page.departs ≡ reverse before)
+
+-- the cuts behind a page's name are the names of the pages behind it, and those before its name the names of the pages before it
+abbrev pub CutsNameNeighbours : Type 0
+CutsNameNeighbours =
+    (list : List Connection) (first : CutPage) (rest before : List CutPage) (page : CutPage) (behind : List CutPage) (pages : ArePagesOf list first rest) →
+    first ∷ rest ≡ before ++ page ∷ behind →
+    (filter (nat_lt page.departs) pages.cuts ≡ names_of behind) × (filter (λ (cut : ℕ). nat_lt cut page.departs) pages.cuts ≡ names_of before)

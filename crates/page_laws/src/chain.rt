@@ -1,4 +1,4 @@
-ghost use Rattle.page_laws.specs.Chain.{AreTheList, BeginOnTime, NamesRise, NeverEmpty, SecondsAreWhole};
+ghost use Rattle.page_laws.specs.Chain.{AreTheList, BeginOnTime, CutsNameNeighbours, NamesRise, NeverEmpty, SecondsAreWhole};
 ghost use Rattle.page_laws.specs.Chain.{BackAreTheRest, FoundByName, IsGreatestByThen, IsWhereNextBegins, LateAreAlongNext, LinksPartPages, NextAreTheSuffix};
 
 /// The pages of connections in departure order, one after the other, are these connections, however they are cut.
@@ -8,6 +8,7 @@ pub fn pages_in_a_row()
     ensures begin_on_time { BeginOnTime }
     ensures names_rise { NamesRise }
     ensures seconds_are_whole { SecondsAreWhole }
+    ensures cuts_name_neighbours { CutsNameNeighbours }
 {}
 
 /// The page for a moment, the pages behind it along the links to the next one, and those before it along the links to

@@ -1,5 +1,5 @@
-//! The laws of pages: along their links the order of departures goes on, and rides are legs of the pages from the one on that
-//! is asked for. It stands on `lc_model`, `lc_versions` and `journey_laws`.
+//! The laws of pages: along their links the order of departures goes on, rides are legs of the pages from the one asked for,
+//! where a page may be the last, and which are needed. It stands on `lc_model`, `lc_versions` and `journey_laws`.
 #![tactic(auto)]
 
 mod chain;

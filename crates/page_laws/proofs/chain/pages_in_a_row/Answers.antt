@@ -1,3 +1,4 @@
+use Rattle.page_laws.proofs.NameLemmas.{cuts_name_neighbours}
 use Rattle.page_laws.proofs.RowLemmas as law
 use Rattle.page_laws.proofs.chain.pages_in_a_row.Goals as goal
 
@@ -8,4 +9,5 @@ returns c = record {
   begin_on_time = law.begin_on_time;
   names_rise = law.names_rise;
   seconds_are_whole = law.seconds_are_whole;
+  cuts_name_neighbours = cuts_name_neighbours;
 }
