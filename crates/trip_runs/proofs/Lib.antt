@@ -1,0 +1,11 @@
+pub mod AnchorLemmas
+pub mod BlankLemmas
+pub mod CallLemmas
+pub mod ConnectionLemmas
+pub mod FillLemmas
+pub mod ListsLemmas
+pub mod RunLemmas
+pub mod SortLemmas
+pub mod StartLemmas
+pub mod StayLemmas
+pub mod TotalLemmas

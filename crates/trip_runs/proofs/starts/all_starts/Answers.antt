@@ -1,0 +1,16 @@
+use Rattle.std.proofs.Common.{List, subst}
+use Rattle.std.proofs.lemmas.List.{take_all}
+use Rattle.gtfs_files.specs.declared.frequency.Frequency.{Frequency}
+use Rattle.trip_runs.specs.Starts.{AreAllGiven}
+use Rattle.trip_runs.proofs.StartLemmas.{given_more, given_none}
+use Rattle.trip_runs.proofs.starts.all_starts.Goals as goal
+
+pub spans-init : goal.spans-init
+spans-init c = given_none c.new-starts.result.items c.args.spans.now c.new-starts.ensures.items
+
+pub spans-preserved : goal.spans-preserved
+spans-preserved c =
+    given_more c.args.spans.now c.spans.span-index c.span-item.result c.spans.starts.items c.push_starts.new.starts.items c.spans-test.true c.span-item.is c.spans.invariant c.in_ok-push_starts.ensures
+
+pub returns : goal.returns
+returns c = subst (λ (l : List Frequency). AreAllGiven l c.spans.starts.items) (take_all c.spans.span-index c.args.spans.now c.spans-test.false) c.spans.invariant

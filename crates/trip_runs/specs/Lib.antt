@@ -1,0 +1,10 @@
+pub mod BlankTimes
+pub mod Counting
+pub mod Laws
+pub mod LoadFault
+pub mod Plannable
+pub mod Runs
+pub mod Starts
+pub mod Stays
+pub mod Texts
+pub mod TripRuns

@@ -1,0 +1,83 @@
+ghost use Rattle.std.specs.Prelude.{◌≡◌, ◌+◌, ◌*◌, [], ◌∷◌, IfOk};
+ghost use Rattle.std.specs.List.Sorted.{IsSorted};
+ghost use Rattle.std.specs.Ordering.{on};
+ghost use Rattle.lc_model.specs.Text.{id_cmp};
+ghost use Rattle.lc_time.specs.declared.zone.Zone.{Zone as Clock};
+ghost use Rattle.gtfs_files.specs.Spans.{AreSpans};
+ghost use Rattle.gtfs_files.specs.StopTimeOrder.{InTripOrder};
+ghost use Rattle.gtfs_files.specs.Timely.{AreTimely};
+ghost use Rattle.gtfs_files.specs.TripRows.{HaveOneRowATrip};
+ghost use Rattle.gtfs_files.specs.declared.frequency.Frequency.{Frequency as Row};
+ghost use Rattle.trip_runs.specs.Counting.{HaveConnections};
+ghost use Rattle.trip_runs.specs.Plannable.{ArePlannable};
+
+use crate::starts::starts_of;
+use crate::trip_runs::{dates_of, rows_of};
+use gtfs_files::{Frequency, StopTime, TripRow};
+use lc_model::NoMemory;
+use service_days::Days;
+use std::alloc::Global;
+
+/// The product of three numbers. One that 64 bits cannot count is want of memory: as many connections have no room.
+fn product(a: u64, b: u64, c: u64) -> Result<u64, NoMemory>
+    ensures { IfOk result (λ count. count ≡ a * b * c) }
+{
+    let runs = a.checked_mul(b).ok_or(NoMemory)?;
+    runs.checked_mul(c).ok_or(NoMemory)
+}
+
+/// The sum of two numbers. One that 64 bits cannot count is want of memory.
+fn sum(a: u64, b: u64) -> Result<u64, NoMemory>
+    ensures { IfOk result (λ count. count ≡ a + b) }
+{
+    a.checked_add(b).ok_or(NoMemory)
+}
+
+/// How many connections the runs of a trip have, of which none is made: two calls in a row for each date and each start.
+fn trip_connections(
+    alloc: Global,
+    trip: &TripRow,
+    times: &[StopTime],
+    spans: &[Frequency],
+    days: &Days,
+) -> Result<u64, NoMemory>
+    requires sorted { IsSorted (on (λ (f : Row). f.trip) id_cmp) spans.now }
+    requires spans { AreSpans spans.now }
+    requires in_trip_order { InTripOrder times.now }
+    requires timely { AreTimely times.now }
+    requires plannable { ArePlannable days.now }
+    ensures { IfOk result (λ count. (zone : Clock) → HaveConnections (trip.now ∷ []) times.now spans.now days.now zone count) }
+{
+    let rows = rows_of(times, &trip.trip);
+    let pairs = rows.len().saturating_sub(1);
+    let starts = starts_of(alloc, spans, &trip.trip)?;
+    let starts = starts.as_slice().len();
+    let dates = dates_of(days, &trip.service).len();
+    let count = product(dates as u64, starts as u64, pairs as u64)?;
+    Ok(count)
+}
+
+/// How many connections the runs of the trips have, of which none is made: for each trip four binary searches, and a sort
+/// of the starts that its rows of frequencies.txt give. These are sorted by their trips.
+pub(crate) fn connection_count(
+    alloc: Global,
+    trips: &[TripRow],
+    times: &[StopTime],
+    spans: &[Frequency],
+    days: &Days,
+) -> Result<u64, NoMemory>
+    requires one_row_a_trip { HaveOneRowATrip trips.now }
+    requires sorted { IsSorted (on (λ (f : Row). f.trip) id_cmp) spans.now }
+    requires spans { AreSpans spans.now }
+    requires in_trip_order { InTripOrder times.now }
+    requires timely { AreTimely times.now }
+    requires plannable { ArePlannable days.now }
+    ensures { IfOk result (λ count. (zone : Clock) → HaveConnections trips.now times.now spans.now days.now zone count) }
+{
+    let mut count: u64 = 0;
+    'trips: for trip in trips {
+        let more = trip_connections(alloc, trip, times, spans, days)?;
+        count = sum(count, more)?;
+    }
+    Ok(count)
+}

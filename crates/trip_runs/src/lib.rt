@@ -1,0 +1,18 @@
+//! The runs of a feed's trips on the dates of their services, in the feed's zone, and their connections. It stands on
+//! `gtfs_files` and `service_days`.
+#![tactic(auto)]
+
+mod all_runs;
+mod counting;
+mod laws;
+mod load_fault;
+mod run_connections;
+mod start;
+mod starts;
+mod stays;
+mod trip_runs;
+
+pub use all_runs::runs;
+pub use laws::{blank_rows_lie_between, one_list_of_runs};
+pub use load_fault::{LoadFault, MOST_CONNECTIONS};
+pub use run_connections::connections;

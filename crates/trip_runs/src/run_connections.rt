@@ -1,0 +1,77 @@
+ghost use Rattle.std.specs.Prelude.{◌≡◌, ◌++◌, All, IfOk, OnOk};
+ghost use Rattle.lc_model.specs.Call.{InSequence};
+ghost use Rattle.lc_model.specs.Connection.{AreConnectionsOf, connection_between, connections_of, connections_of_calls, departure_cmp};
+ghost use Rattle.lc_model.specs.declared.run.Run.{Run};
+ghost use Rattle.trip_runs.specs.Runs.{RunsForward};
+
+use lc_model::{Call, Connection, Connections, NoMemory, PlainData, Run, RunKey, Runs};
+use std::alloc::Global;
+use std::cmp::Ordering;
+
+fn connection_between(
+    alloc: Global,
+    key: &RunKey,
+    from: &Call,
+    to: &Call,
+) -> Result<Connection, NoMemory>
+    ensures { IfOk result (λ connection. connection ≡ connection_between key.now from.now to.now) }
+{
+    Ok(Connection {
+        key: key.copy(alloc)?,
+        seq: from.seq,
+        dep_stop: from.stop.copy(alloc)?,
+        dep: from.dep,
+        arr_stop: to.stop.copy(alloc)?,
+        arr: to.arr,
+        board: from.board,
+        alight: to.alight,
+        dep_delay: from.dep_delay,
+        arr_delay: to.arr_delay,
+    })
+}
+
+/// Adds the connections of a run: from each call to the next.
+fn push_connections(
+    alloc: Global,
+    connections: &mut Vec<Connection>,
+    key: &RunKey,
+    calls: &[Call],
+) -> Result<(), NoMemory>
+    ensures { OnOk result (connections.new.items
+        ≡ connections.old.items ++ connections_of_calls key.now calls.now) }
+{
+    for i in 1..calls.len() {
+        connections.push(connection_between(alloc, key, &calls[i - 1], &calls[i])?)?;
+    }
+    Ok(())
+}
+
+fn by_departure(a: &Connection, b: &Connection) -> Ordering
+    ensures { result ≡ departure_cmp a.now b.now }
+{
+    let by_time = a.dep.cmp(&b.dep);
+    by_time.then_with(|| a.key.cmp(&b.key).then(a.seq.cmp(&b.seq)))
+}
+
+fn all_connections(alloc: Global, runs: &[Run]) -> Result<Vec<Connection>, NoMemory>
+    ensures are { IfOk result (λ list. list.items ≡ connections_of runs.now) }
+    ensures in_sequence { OnOk result (All (λ (r : Run). InSequence r.calls) runs.now) }
+{
+    let mut connections = Vec::new(alloc);
+    for run in runs {
+        let calls = run.calls.as_slice();
+        push_connections(alloc, &mut connections, &run.key, calls)?;
+    }
+    Ok(connections)
+}
+
+/// The connections of runs, from each call of a run to its next, strictly in the order of their departures: by
+/// departure, then trip, service date, start and sequence (Linked Connections 1.0). It takes the time of a sort.
+pub fn connections(alloc: Global, runs: &Runs) -> Result<Connections, NoMemory>
+    requires { RunsForward runs.now }
+    ensures { IfOk result (AreConnectionsOf runs.now) }
+{
+    let mut connections = all_connections(alloc, runs.as_slice())?;
+    connections.sort_unstable_by(|a, b| by_departure(a, b));
+    Ok(Connections::from_list(connections))
+}
