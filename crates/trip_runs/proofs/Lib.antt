@@ -9,3 +9,4 @@ pub mod SortLemmas
 pub mod StartLemmas
 pub mod StayLemmas
 pub mod TotalLemmas
+pub mod WorkedLemmas

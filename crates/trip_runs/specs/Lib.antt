@@ -8,3 +8,4 @@ pub mod Starts
 pub mod Stays
 pub mod Texts
 pub mod TripRuns
+pub mod Worked

@@ -6,13 +6,17 @@ mod all_runs;
 mod counting;
 mod laws;
 mod load_fault;
+mod plannable;
 mod run_connections;
 mod start;
 mod starts;
 mod stays;
+#[cfg(test)]
+mod tests;
 mod trip_runs;
 
 pub use all_runs::runs;
-pub use laws::{blank_rows_lie_between, one_list_of_runs};
+pub use laws::{blank_rows_lie_between, one_list_of_runs, worked_starts, worked_times};
 pub use load_fault::{LoadFault, MOST_CONNECTIONS};
+pub use plannable::{are_plannable, is_plannable};
 pub use run_connections::connections;

@@ -1,16 +1,11 @@
-use Rattle.std.proofs.Common.{◌≡◌, ◌∙◌, ◌≤◌, List, length, rules, subst, sym}
-use Rattle.std.specs.Ordering.{on}
+use Rattle.std.proofs.Common.{rules, subst, sym}
 use Rattle.std.proofs.lemmas.Cmp.{on_total}
-use Rattle.lc_model.specs.Connection.{connections_of}
-use Rattle.lc_model.specs.RunKey.{key_cmp}
 use Rattle.lc_model.specs.Totals.{key_cmp_total}
 use Rattle.lc_model.specs.declared.run.Run.{Run}
 use Rattle.lc_model.proofs.OrdersLemmas.{IsSorted-from_closure}
 use Rattle.gtfs_files.specs.StopTimeOrder.{InTripOrder}
 use Rattle.gtfs_files.specs.Timely.{AreTimely}
-use Rattle.trip_runs.specs.Counting.{HaveConnections}
-use Rattle.trip_runs.specs.Runs.{AreRunsOf, RunsForward}
-use Rattle.trip_runs.specs.declared.load_fault.TheConstants.{MOST_CONNECTIONS}
+use Rattle.trip_runs.specs.Runs.{AreRunsOf}
 use Rattle.trip_runs.proofs.CallLemmas.{rise_in_rows}
 use Rattle.trip_runs.proofs.TotalLemmas.{all_forward, by_key, counted_of, few_enough, listed_of, sorted_runs, too_many}
 use Rattle.trip_runs.proofs.all_runs.runs.Goals as goal

@@ -1,4 +1,4 @@
-use Rattle.std.proofs.Common.{◌≡◌, ◌-◌, ◌*◌, ap, ◌∙◌, length}
+use Rattle.std.proofs.Common.{◌*◌, ap, ◌∙◌, length}
 use Rattle.trip_runs.proofs.TotalLemmas.{of_one}
 use Rattle.trip_runs.proofs.counting.trip_connections.Goals as goal
 

@@ -1,6 +1,5 @@
 use Rattle.std.proofs.Common.{eqb}
 use Rattle.std.proofs.lemmas.List.Filters.{dedup_is}
-use Rattle.std.proofs.lemmas.Cmp.{nat_cmp_total}
 use Rattle.trip_runs.proofs.StartLemmas.{given_once}
 use Rattle.trip_runs.proofs.starts.given_starts.Goals as goal
 

@@ -1,4 +1,4 @@
-use Rattle.std.proofs.Common.{ap, subst, sym, ◌∙◌, rules}
+use Rattle.std.proofs.Common.{subst, sym, rules}
 use Rattle.std.specs.Ordering.{on}
 use Rattle.std.proofs.lemmas.Cmp.{nat_list_cmp_total, on_total}
 use Rattle.std.proofs.lemmas.List.Sorted.{All-permutation}

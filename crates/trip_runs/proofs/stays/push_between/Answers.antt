@@ -1,6 +1,5 @@
-use Rattle.std.proofs.Common.{◌≡◌, ◌∙◌, ◌+◌, ◌-◌, ◌≤◌, ◌++◌, ℕ, ap, arith, map}
+use Rattle.std.proofs.Common.{◌≡◌, ◌∙◌, ◌+◌, ◌-◌, ◌++◌, ℕ, ap, arith, map}
 use Rattle.std.specs.List.{range_with_len}
-use Rattle.trip_runs.specs.declared.stays.Stay.{Stay}
 use Rattle.trip_runs.proofs.FillLemmas.{blank_at, blank_more, stay}
 use Rattle.trip_runs.proofs.stays.push_between.Goals as goal
 

@@ -1,7 +1,5 @@
 use Rattle.std.proofs.Common.{◌≡◌, ◌+◌, ◌-◌, ◌++◌, map}
 use Rattle.std.specs.List.{range_with_len}
-use Rattle.trip_runs.specs.BlankTimes.{time_between}
-use Rattle.trip_runs.specs.declared.stays.Stay.{Stay}
 use Rattle.trip_runs.proofs.FillLemmas.{blank_at}
 use Rattle.trip_runs.proofs.stays.push_between.Given as goal
 

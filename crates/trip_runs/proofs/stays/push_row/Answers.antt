@@ -1,4 +1,4 @@
-use Rattle.std.proofs.Common.{◌≡◌, ◌∙◌, ◌++◌, [], ◌∷◌, List, None, Some, ap, get_or, sym}
+use Rattle.std.proofs.Common.{◌∙◌, ◌++◌, [], ◌∷◌, List, ap, sym}
 use Rattle.trip_runs.specs.Stays.{stay_said}
 use Rattle.trip_runs.specs.declared.stays.Stay.{Stay}
 use Rattle.trip_runs.proofs.FillLemmas.{blank_row, none_later, stay_row}

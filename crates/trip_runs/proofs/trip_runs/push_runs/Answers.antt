@@ -1,4 +1,4 @@
-use Rattle.std.proofs.Common.{◌≡◌, ◌∙◌, ◌++◌, [], ◌∷◌, List, ap, get_or, subst, sym, take}
+use Rattle.std.proofs.Common.{◌∙◌, ◌++◌, List, ap, subst, sym}
 use Rattle.std.proofs.lemmas.List.{take_all}
 use Rattle.service_days.specs.declared.service_day.ServiceDay.{ServiceDay}
 use Rattle.trip_runs.specs.Plannable.{IsPlannable}
