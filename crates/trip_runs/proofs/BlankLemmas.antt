@@ -1,13 +1,13 @@
 -- The nearest rows with a time before and after a place.
-use Rattle.std.proofs.Common.{◌≡◌, ◌∙◌, ℕ, ◌+◌, ◌-◌, ◌<◌, ◌≤◌, Bool, true, false, cond, not, List, [], ◌∷◌, Option, Some, None, ap, arith, drop, inl, inr, length, refl, subst, suc, sym, zero}
-use Rattle.std.specs.List.{position_or_len, slice_get}
+use Rattle.std.proofs.Common.{◌≡◌, ◌∙◌, ℕ, ◌+◌, ◌-◌, ◌<◌, ◌≤◌, Bool, true, false, cond, not, List, [], ◌∷◌, ap, arith, drop, inl, inr, length, refl, subst, suc, sym, zero}
+use Rattle.std.specs.List.{position_or_len}
 use Rattle.std.specs.Option.{option_map_or}
 use Rattle.std.proofs.lemmas.Bool.{cases_lt, false≢true}
 use Rattle.std.proofs.lemmas.Option.{slice_get-get_or}
 use Rattle.gtfs_files.specs.Timely.{AreTimelyRows, is_timed}
 use Rattle.gtfs_files.specs.declared.stop_times.StopTime.{StopTime}
 use Rattle.trip_runs.specs.BlankTimes.{is_timed_at, timed_after, timed_before}
-use Rattle.trip_runs.specs.Laws.{BlankRowsLieBetween, IsBetween}
+use Rattle.trip_runs.specs.Laws.{BlankRowsLieBetween}
 
 -- the first place from one on whose row has a time
 record IsFirst (rows : List StopTime) (from at : ℕ) : Type 0 where

@@ -1,6 +1,6 @@
 -- The calls of a run: none goes back in time.
-use Rattle.std.proofs.Common.{◌≡◌, ◌∙◌, ℕ, ◌+◌, ◌-◌, ◌<◌, ◌≤◌, List, [], ◌∷◌, ◌++◌, Option, Some, None, ap, ap₂, arith, get_or, length, map, refl, subst, suc, sym, take, zero}
-use Rattle.std.specs.List.{All, AllPairs, enumerate_from}
+use Rattle.std.proofs.Common.{◌≡◌, ◌∙◌, ℕ, ◌+◌, ◌<◌, List, [], ◌∷◌, ◌++◌, Option, Some, None, ap, ap₂, arith, get_or, length, refl, sym, take}
+use Rattle.std.specs.List.{enumerate_from}
 use Rattle.std.proofs.lemmas.List.{get_or-map, length-map, take_more}
 use Rattle.std.proofs.lemmas.List.FromFn.{get_or-enumerate_from, get_or-map-range_with_len, length-enumerate_from}
 use Rattle.std.specs.Ordering.{nat_cmp, ordering_then}
@@ -16,7 +16,7 @@ use Rattle.gtfs_files.specs.StopTimeOrder.{InTripOrder, stop_time_cmp}
 use Rattle.lc_model.specs.declared.call.Call.{Call}
 use Rattle.gtfs_files.specs.Timely.{AreTimelyRows, rows_of}
 use Rattle.gtfs_files.specs.declared.stop_times.StopTime.{StopTime}
-use Rattle.trip_runs.specs.BlankTimes.{arrives_at, departs_at}
+use Rattle.trip_runs.specs.BlankTimes.{arrives_at}
 use Rattle.trip_runs.specs.Runs.{call_at, calls_from, calls_of}
 use Rattle.trip_runs.specs.Stays.{call_from, first_arrival, stay_at, stays_upto}
 use Rattle.trip_runs.specs.TripRuns.{RiseInSequence}

@@ -1,31 +1,21 @@
 -- The runs of a trip are exactly those of the trip on the dates of its service, with its starts.
-use Rattle.std.proofs.Common.{◌≡◌, ◌≢◌, ◌∙◌, ◌⊎◌, ◌↔◌, ℕ, ◌+◌, ◌-◌, ◌*◌, ◌<◌, ◌≤◌, Bool, true, List, [], ◌∷◌, ◌++◌, Option, Some, None, ap, ap₂, arith, get_or, inl, inr, length, length-append, map, refl, subst, suc, sym, take, unwrap_or, zero}
+use Rattle.std.proofs.Common.{◌≡◌, ◌≢◌, ◌∙◌, ℕ, ◌+◌, ◌<◌, List, [], ◌∷◌, ◌++◌, Option, Some, None, ap, ap₂, arith, get_or, inl, inr, length, refl, subst, sym, take, unwrap_or}
 use Rattle.std.proofs.Props.{props}
-use Rattle.std.specs.Prelude.{filter, sum_by}
-use Rattle.std.specs.List.{All, AllPairs, Any, Contains, flat_map}
-use Rattle.std.specs.List.Sorted.{IsPermutation, IsSorted}
+use Rattle.std.specs.List.{AllPairs, Contains}
 use Rattle.std.specs.Option.{ForSome, option_cmp}
-use Rattle.std.specs.Ordering.{nat_cmp, on}
+use Rattle.std.specs.Ordering.{nat_cmp}
 use Rattle.std.specs.declared.cmp.Ordering.{Ordering}
-use Rattle.std.specs.declared.cmp.Ordering.TheVariants.{Less, Equal, Greater}
-use Rattle.std.proofs.lemmas.Cmp.{on_total, ranked, tied_itself}
-use Rattle.std.proofs.lemmas.Grind.{flat_map-append}
+use Rattle.std.specs.declared.cmp.Ordering.TheVariants.{Less, Equal}
+use Rattle.std.proofs.lemmas.Cmp.{ranked, tied_itself}
 use Rattle.std.proofs.lemmas.List.{flat_map_more, get_or-take, get_or_default, length-take-le, take_more}
-use Rattle.std.proofs.lemmas.List.Concat.{length-flat_map}
 use Rattle.std.proofs.lemmas.List.Elements.{All-contains, Contains-append_cases, Contains-append_left, Contains-append_right}
-use Rattle.std.proofs.lemmas.List.Sorted.{All-permutation, Contains-permutation, IsPermutation-sym, sum_by-IsPermutation}
 use Rattle.std.proofs.lemmas.Slice.Eq.{bytes_eq-Decides}
 use Rattle.lc_model.specs.Change.{is_same_id}
-use Rattle.lc_model.specs.Connection.{connections_from, connections_of, connections_of_calls}
-use Rattle.lc_model.specs.Order.{IsStrict}
-use Rattle.lc_model.specs.Run.{InKeyOrder}
 use Rattle.lc_model.specs.RunKey.{date_cmp, key_cmp}
-use Rattle.lc_model.specs.Totals.{key_cmp_total}
 use Rattle.lc_model.specs.declared.call.Call.{Call}
 use Rattle.lc_model.specs.declared.date.ServiceDate.{ServiceDate}
 use Rattle.lc_model.specs.declared.key.RunKey.{RunKey}
 use Rattle.lc_model.specs.declared.run.Run.{Run}
-use Rattle.lc_model.proofs.OrdersLemmas.{IsStrict-from_sorted}
 use Rattle.lc_model.proofs.SearchLemmas.{both_tie, id_tie}
 use Rattle.lc_time.proofs.DateLemmas.{same_date}
 use Rattle.lc_time.specs.Zone.{anchor_of}
@@ -44,7 +34,6 @@ use Rattle.trip_runs.specs.Starts.{AreStarts, IsStartOf}
 use Rattle.trip_runs.specs.TripRuns.{AddsRunsOf, AreAllRuns, AreUntied, dates_of, key_of, run_from, runs_of_trip, runs_on}
 use Rattle.trip_runs.specs.declared.start.Start.{Start}
 use Rattle.trip_runs.proofs.AnchorLemmas.{anchored}
-use Rattle.trip_runs.proofs.CallLemmas.{length-calls_of}
 use Rattle.trip_runs.proofs.ListsLemmas.{AllPairs-append, AllPairs-flat_map, AllPairs-map, AllPairs-weaker, ComesFrom-map, Contains-cases, Contains-filter, Contains-flat_map, Contains-here, Contains-map, Contains-nil, IsKept-filter, StandsIn-flat_map}
 
 abbrev IsInDay : Option ℕ → Type 0

@@ -1,6 +1,5 @@
 -- The starts that rows of frequencies.txt give.
-use Rattle.std.proofs.Common.{◌≡◌, ◌≢◌, ◌∙◌, ◌⊎◌, ◌↔◌, ℕ, ◌+◌, ◌-◌, ◌*◌, ◌<◌, ◌≤◌, ◌==◌, Bool, true, false, List, [], ◌∷◌, ◌++◌, Option, Some, None, ap, ap₂, append_assoc, arith, eqb, eqb-true, get_or, inl, inr, length, length-append, map, refl, subst, suc, sym, take, zero}
-use Rattle.std.specs.Prelude.{filter}
+use Rattle.std.proofs.Common.{◌≡◌, ◌≢◌, ◌∙◌, ◌⊎◌, ◌↔◌, ℕ, ◌+◌, ◌-◌, ◌*◌, ◌<◌, ◌≤◌, ◌==◌, true, false, List, [], ◌∷◌, ◌++◌, Option, Some, None, ap, ap₂, append_assoc, arith, eqb, eqb-true, get_or, inl, inr, length, length-append, map, refl, subst, sym, take}
 use Rattle.std.specs.List.{All, AllPairs, Any, Contains, dedup, range_with_len}
 use Rattle.std.specs.List.Sorted.{IsPermutation, IsSorted}
 use Rattle.std.specs.Ordering.{nat_cmp}
@@ -15,7 +14,7 @@ use Rattle.std.proofs.lemmas.Map.Keys.{IsStrictlyIncreasing-dedup}
 use Rattle.std.proofs.lemmas.Slice.Eq.{bytes_eq-Decides}
 use Rattle.lc_model.specs.Change.{is_same_id}
 use Rattle.gtfs_files.specs.declared.frequency.Frequency.{Frequency}
-use Rattle.trip_runs.specs.Starts.{AreAllGiven, AreGiven, AreStarts, GainsStarts, IsStartOf, StartsAt, StartsTrip, spans_of}
+use Rattle.trip_runs.specs.Starts.{AreAllGiven, AreGiven, AreStarts, GainsStarts, IsStartOf, StartsAt, spans_of}
 use Rattle.trip_runs.specs.declared.start.Start.{Start}
 use Rattle.trip_runs.proofs.ListsLemmas.{All-from_contains, Contains-cases, Contains-filter, Contains-here, Contains-nil, IsKept-filter}
 

@@ -1,7 +1,7 @@
 -- The stays of a trip at the stops of its rows: none is before the one before it, and all lie in a service day.
-use Rattle.std.proofs.Common.{◌≡◌, ◌∙◌, ℕ, ◌+◌, ◌-◌, ◌*◌, ◌/◌, ◌<◌, ◌≤◌, ◌||◌, Bool, true, false, cond, List, [], ◌∷◌, ◌++◌, Option, Some, None, ap, ap₂, arith, get_or, inl, inr, is_some, length, map, refl, subst, suc, sym, unwrap_or, zero}
+use Rattle.std.proofs.Common.{◌≡◌, ◌∙◌, ℕ, ◌-◌, ◌*◌, ◌/◌, ◌<◌, ◌≤◌, ◌||◌, Bool, true, false, cond, List, Option, Some, None, ap, ap₂, arith, get_or, inl, inr, is_some, length, refl, subst, suc, sym, unwrap_or, zero}
 use Rattle.std.specs.Prelude.{option_and_then}
-use Rattle.std.specs.List.{All, AllPairs, range_with_len, slice_get}
+use Rattle.std.specs.List.{All, slice_get}
 use Rattle.std.specs.Option.{option_map_or, option_or}
 use Rattle.std.proofs.Math.Nat.{div-le_of_le-mul, div-mul-le_self, mul-le-mul_left}
 use Rattle.std.proofs.lemmas.Bool.{cases_lt, false≢true}

@@ -1,21 +1,15 @@
 -- How many connections runs have, and the runs of a feed in the order of their keys.
-use Rattle.std.proofs.Common.{◌≡◌, ◌≢◌, ◌∙◌, ◌↔◌, ℕ, ◌+◌, ◌-◌, ◌*◌, ◌<◌, ◌≤◌, List, [], ◌∷◌, ◌++◌, Option, Some, None, ap, ap₂, arith, length, length-append, map, refl, subst, suc, sym}
-use Rattle.std.specs.Prelude.{sum_by}
-use Rattle.std.specs.List.{All, AllPairs, Any, Contains, flat_map}
+use Rattle.std.proofs.Common.{◌≡◌, ◌≢◌, ◌∙◌, ℕ, ◌+◌, ◌-◌, ◌*◌, ◌<◌, ◌≤◌, List, [], ◌∷◌, ◌++◌, Option, Some, None, ap, ap₂, arith, length, length-append, map, refl, subst, suc, sym}
+use Rattle.std.specs.List.{Any}
 use Rattle.std.specs.List.Sorted.{IsPermutation, IsSorted}
 use Rattle.std.specs.Ordering.{on}
 use Rattle.std.specs.declared.cmp.Ordering.{Ordering}
 use Rattle.std.proofs.lemmas.Cmp.{on_total}
 use Rattle.std.proofs.lemmas.Grind.{flat_map-append}
-use Rattle.std.proofs.lemmas.List.{length-map}
 use Rattle.std.proofs.lemmas.List.Concat.{length-flat_map}
-use Rattle.std.proofs.lemmas.List.Elements.{All-contains, All-nil}
-use Rattle.std.proofs.lemmas.List.Kept.{AllPairs-filter}
 use Rattle.std.proofs.lemmas.List.Sorted.{All-permutation, Contains-permutation, IsPermutation-sym, sum_by-IsPermutation}
 use Rattle.lc_model.specs.Call.{GoesForward}
 use Rattle.lc_model.specs.Connection.{connections_from, connections_of, connections_of_calls}
-use Rattle.lc_model.specs.Order.{IsStrict}
-use Rattle.lc_model.specs.Run.{InKeyOrder}
 use Rattle.lc_model.specs.RunKey.{key_cmp}
 use Rattle.lc_model.specs.Totals.{key_cmp_total}
 use Rattle.lc_model.specs.declared.call.Call.{Call}
@@ -23,10 +17,8 @@ use Rattle.lc_model.specs.declared.connection.Connection.{Connection}
 use Rattle.lc_model.specs.declared.key.RunKey.{RunKey}
 use Rattle.lc_model.specs.declared.run.Run.{Run}
 use Rattle.lc_model.proofs.OrdersLemmas.{IsStrict-from_sorted, strict_lists_are_one}
-use Rattle.lc_time.specs.Zone.{anchor_of}
 use Rattle.lc_time.specs.declared.zone.Zone.{Zone}
-use Rattle.gtfs_files.specs.Timely.{AreTimely, AreTimelyRows, rows_of}
-use Rattle.gtfs_files.specs.StopTimeOrder.{InTripOrder}
+use Rattle.gtfs_files.specs.Timely.{AreTimely, rows_of}
 use Rattle.gtfs_files.specs.declared.frequency.Frequency.{Frequency}
 use Rattle.gtfs_files.specs.declared.stop_times.StopTime.{StopTime}
 use Rattle.gtfs_files.specs.declared.trip_rows.TripRow.{TripRow}

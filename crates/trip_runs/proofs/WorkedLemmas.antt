@@ -1,9 +1,8 @@
 -- The values worked out by hand are those of the definitions.
-use Rattle.std.proofs.Common.{◌≡◌, ◌≢◌, ◌∙◌, ℕ, ◌+◌, ◌*◌, ◌<◌, List, [], ◌∷◌, Option, Some, None, ap, arith, codes, get_or, length, lit<, refl, subst, suc, sym, zero}
-use Rattle.std.specs.List.{All, Any}
+use Rattle.std.proofs.Common.{◌≡◌, ◌≢◌, ℕ, ◌+◌, ◌*◌, ◌<◌, List, Some, ap, arith, codes, get_or, length, lit<, refl, subst, suc, sym, zero}
 use Rattle.gtfs_files.specs.declared.frequency.Frequency.{Frequency}
-use Rattle.trip_runs.specs.Starts.{IsStartOf, StartsAt, StartsTrip}
-use Rattle.trip_runs.specs.Worked.{WorkedStarts, WorkedTimes, each_20_minutes, four_rows}
+use Rattle.trip_runs.specs.Starts.{IsStartOf, StartsTrip}
+use Rattle.trip_runs.specs.Worked.{WorkedStarts, WorkedTimes, each_20_minutes}
 
 pub worked_times : WorkedTimes
 worked_times = record { second_arrives = refl; second_departs = refl; third_arrives = refl; third_departs = refl; last_departs = refl }

@@ -1,5 +1,5 @@
 -- Dates from whose anchors times are counted.
-use Rattle.std.specs.Prelude.{ℤ, pos, ◌≤ℤ◌, List}
+use Rattle.std.specs.Prelude.{pos, ◌≤ℤ◌, List}
 use Rattle.std.specs.List.{All}
 use Rattle.lc_model.specs.declared.date.ServiceDate.{ServiceDate}
 use Rattle.service_days.specs.Days.{day_number}

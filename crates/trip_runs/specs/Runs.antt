@@ -4,7 +4,6 @@ use Rattle.std.specs.List.{All, Contains, enumerate_from}
 use Rattle.lc_model.specs.Call.{GoesForward}
 use Rattle.lc_model.specs.Run.{InKeyOrder}
 use Rattle.lc_model.specs.declared.call.Call.{Call}
-use Rattle.lc_model.specs.declared.date.ServiceDate.{ServiceDate}
 use Rattle.lc_model.specs.declared.run.Run.{Run}
 use Rattle.lc_time.specs.Zone.{anchor_of}
 use Rattle.lc_time.specs.declared.zone.Zone.{Zone}
