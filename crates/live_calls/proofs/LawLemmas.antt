@@ -64,7 +64,8 @@ parts_of_key key news e =
 some_is_one : {X : Type 0} (x y : X) → Some x ≡ Some y → x ≡ y
 some_is_one x y e = cc
 
-keys_are_one : (a b : RunKey) (news : TripSaid) → has_key a news ≡ true → has_key b news ≡ true → a ≡ b
+-- the news have one key
+pub keys_are_one : (a b : RunKey) (news : TripSaid) → has_key a news ≡ true → has_key b news ≡ true → a ≡ b
 keys_are_one a b news first second =
     let x = parts_of_key a news first in
     let y = parts_of_key b news second in
@@ -80,10 +81,14 @@ start_in : (key : RunKey) (start : Option ℕ) → start ≡ key.start → IsSom
 start_in key None e past = past
 start_in key (Some seconds) e past = let under : seconds < 360_000 = key.start_in_range seconds (sym e) in omega (arith, under, past)
 
+-- news that have no key have none
+pub no_key_names_none : (news : TripSaid) (key : RunKey) → has_key key news ≡ true → IsIdText key.trip → HasNoKey news → ⊥
+no_key_names_none news key same named (inl not_named) = not_named (subst IsIdText (sym (parts_of_key key news same).trip) named)
+no_key_names_none news key same named (inr (inl no_date)) = let parts = parts_of_key key news same in let e : None ≡ Some key.date = sym no_date ∙ parts.date in cc
+no_key_names_none news key same named (inr (inr past)) = start_in key news.start (parts_of_key key news same).start past
+
 not_both : (stops : List Stop) (news : TripSaid) (run : Run) → IsAddedRun stops news run → IsAdded stops news None → ⊥
-not_both stops news run is (inl (inl not_named)) = not_named (subst IsIdText (sym (parts_of_key run.key news is.same_key).trip) is.trip_named)
-not_both stops news run is (inl (inr (inl no_date))) = let parts = parts_of_key run.key news is.same_key in let e : None ≡ Some run.key.date = sym no_date ∙ parts.date in cc
-not_both stops news run is (inl (inr (inr past))) = start_in run.key news.start (parts_of_key run.key news is.same_key).start past
+not_both stops news run is (inl no_key) = no_key_names_none news run.key is.same_key is.trip_named no_key
 not_both stops news run is (inr few) = let enough : 2 ≤ length (added_calls stops news.stops) = subst (λ calls. 2 ≤ length calls) is.calls is.two_at_least in omega (arith, few, enough)
 
 pub one_run : OneAddedRun

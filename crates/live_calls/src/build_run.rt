@@ -22,7 +22,7 @@ fn is_past(start: Option<u32>) -> bool
 }
 
 /// The key of the run that the news of an added trip make on a date.
-fn key_on(
+pub fn added_key(
     alloc: Global,
     news: &TripNews,
     date: ServiceDate,
@@ -40,7 +40,7 @@ fn key_on(
 }
 
 /// The run that the news of an added trip make on a date, whatever date they say; else as `added_run`.
-pub(crate) fn added_run_on(
+pub fn added_run_on(
     alloc: Global,
     news: &TripNews,
     date: ServiceDate,
@@ -48,7 +48,7 @@ pub(crate) fn added_run_on(
 ) -> Result<Option<Run>, NoMemory>
     ensures { IfOk result (IsAdded stops.now (on_date date news.now)) }
 {
-    let Some(key) = key_on(alloc, news, date)? else {
+    let Some(key) = added_key(alloc, news, date)? else {
         return Ok(None);
     };
     let calls = added_calls(alloc, stops.as_slice(), news.stops.as_slice())?;

@@ -11,7 +11,7 @@ mod run_calls;
 mod run_connections;
 mod told;
 
-pub use build_run::added_run;
+pub use build_run::{added_key, added_run, added_run_on};
 pub use laws::{calls_go_forward, one_added_run, one_list_of_live_runs};
 pub use run_calls::live;
 pub use run_connections::connections;

@@ -1,0 +1,20 @@
+use Rattle.std.proofs.Common.{◌≡◌, ◌≤◌, ◌∙◌, List, [], ap, arith, drop, length, map, refl, sym}
+use Rattle.std.proofs.lemmas.List.{drop_all}
+use Rattle.lc_versions.specs.History.{filled}
+use Rattle.lc_versions.specs.News.{EntitySaid}
+use Rattle.version_store.specs.Kept.{then_all, then_entities}
+use Rattle.version_store.proofs.KeptLemmas.{entities_none, marks_more}
+use Rattle.version_store.proofs.kept.push_entities.Goals as goal
+
+pub entities-preserved : goal.entities-preserved
+entities-preserved c =
+    marks_more c.args.replaces (filled c.args.date) c.args.entities.now c.entities.entity-index c.entity-item.result _ _ _ _ c.entities-test.true c.entity-item.is c.in_ok-push.ensures.items refl refl c.entities.invariant
+
+pub returns : goal.returns
+returns c =
+    let entities = c.args.entities.now in
+    let kept = then_all [] c.entities.marks.items in
+    let at_end : drop c.entities.entity-index entities ≡ [] = drop_all c.entities.entity-index entities (omega arith) in
+    sym (entities_none c.args.replaces kept)
+    ∙ sym (ap (λ (v : List EntitySaid). then_entities c.args.replaces kept (map (filled c.args.date) v)) at_end)
+    ∙ c.entities.invariant

@@ -1,0 +1,9 @@
+pub mod Admission
+pub mod Dates
+pub mod Further
+pub mod Inside
+pub mod Kept
+pub mod Laws
+pub mod Rows
+pub mod Store
+pub mod Texts

@@ -1,0 +1,73 @@
+ghost use Rattle.std.specs.Prelude.{◌≡◌, Some};
+ghost use Rattle.version_store.specs.Texts.{fault_text};
+ghost use Rattle.version_store.specs.declared.admission.AdmitFault.TheVariants.{NoMemory as want_of_memory};
+
+use lc_model::{Moment, NoMemory};
+use std::alloc::AllocFailed;
+use std::error::Error;
+use std::fmt;
+use trip_updates::RtFault;
+
+/// So many bytes may a message have: 16 MiB.
+pub const MOST_MESSAGE_BYTES: usize = 16_777_216;
+/// So many messages are admitted.
+pub const MOST_MESSAGES: usize = 10_000;
+/// So many bytes may all admitted messages have: 256 MiB.
+pub const MOST_BYTES: usize = 268_435_456;
+
+/// A message that was admitted: its moment, which is the new version, and how many of its trip updates were passed over.
+#[derive(Clone, Copy, Debug, PartialEq, Eq)]
+pub struct Admitted {
+    pub moment: Moment,
+    pub passed: u32,
+}
+
+/// Why a message was not admitted. Of several causes the first one stands.
+#[derive(Clone, Copy, Debug, PartialEq, Eq)]
+pub enum AdmitFault {
+    /// The message is too long.
+    TooLong { bytes: usize },
+    /// The bytes are no message.
+    Broken(RtFault),
+    /// The message is not of a later moment than the newest version.
+    NotNewer { newest: Moment },
+    /// There is no room for it beside the messages that were admitted.
+    Full { messages: usize, bytes: usize },
+    /// There was not enough memory.
+    NoMemory,
+}
+
+impl fmt::Display for AdmitFault {
+    ghost output = { λ fault. Some (fault_text fault) };
+
+    fn fmt<W: fmt::Write>(&self, f: &mut fmt::Formatter<W>) -> fmt::Result {
+        match self {
+            AdmitFault::TooLong { bytes } => write!(f, "{bytes} bytes are too many"),
+            AdmitFault::Broken(fault) => write!(f, "{fault}"),
+            AdmitFault::NotNewer { newest } => {
+                let newest = newest.seconds();
+                write!(f, "not newer than {newest}")
+            }
+            AdmitFault::Full { messages, .. } => write!(f, "full after {messages} messages"),
+            AdmitFault::NoMemory => write!(f, "no memory"),
+        }
+    }
+}
+
+impl Error for AdmitFault {}
+
+impl From<NoMemory> for AdmitFault {
+    ghost from_gives = { λ _ fault. fault ≡ want_of_memory };
+
+    fn from(_: NoMemory) -> AdmitFault {
+        AdmitFault::NoMemory
+    }
+}
+
+impl<T: Drop> From<AllocFailed<T>> for AdmitFault {
+    ghost from_gives = { λ _ fault. fault ≡ want_of_memory };
+
+    fn from(_: AllocFailed<T>) -> AdmitFault {
+        AdmitFault::NoMemory
+    }
+}

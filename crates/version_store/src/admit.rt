@@ -1,0 +1,96 @@
+ghost use Rattle.std.specs.Prelude.{◌≡◌, ◌+◌, ◌<◌, ◌≤◌, ◌⊎◌, ◌∷◌, ◌++◌, [], ⊤, IfErr, IfOk, IfSome, IsOk, OnErr, OnOk, Some, None, length};
+ghost use Rattle.lc_versions.specs.declared.update.Update.{Update as Said};
+ghost use Rattle.trip_updates.specs.Message.{IsMessage};
+ghost use Rattle.version_store.specs.Admission.{Admits, HasRoom, IsReadFault, IsRefused, IsTaken, Refuses};
+ghost use Rattle.version_store.specs.Store.{entry_of, newest_of};
+ghost use Rattle.version_store.specs.declared.admission.AdmitFault.{AdmitFault as Fault};
+ghost use Rattle.version_store.specs.declared.admission.AdmitFault.TheVariants.{NoMemory as OutOfMemory};
+
+use crate::store::Admission;
+use crate::{AdmitFault, Admitted, MOST_BYTES, MOST_MESSAGE_BYTES, MOST_MESSAGES, Store};
+use lc_model::NoMemory;
+use lc_versions::Update;
+use std::alloc::Global;
+use trip_updates::{RtFault, read_message};
+
+/// What a message says.
+fn read(alloc: Global, bytes: &[u8]) -> Result<Update, AdmitFault>
+    ensures said { IfOk result (IsMessage bytes.now) }
+    ensures fault { IfErr result (IsReadFault bytes.now) }
+{
+    match read_message(alloc, bytes) {
+        Ok(update) => Ok(update),
+        Err(RtFault::NoMemory) => Err(AdmitFault::NoMemory),
+        Err(fault) => Err(AdmitFault::Broken(fault)),
+    }
+}
+
+impl Store {
+    /// Why a message of so many bytes is not taken, though it is one.
+    fn refusal(&self, update: &Update, bytes: usize) -> Option<AdmitFault>
+        ensures none { result ≡ None → (newest_of self.now < update.now.moment) × HasRoom self.now.history bytes }
+        ensures some { IfSome result (Refuses self.now update.now bytes) }
+    {
+        let newest = self.newest();
+        if update.moment <= newest {
+            return Some(AdmitFault::NotNewer { newest });
+        }
+        let messages = self.admitted.len();
+        if messages >= MOST_MESSAGES || bytes > MOST_BYTES - self.bytes {
+            let bytes = self.bytes;
+            return Some(AdmitFault::Full { messages, bytes });
+        }
+        None
+    }
+
+    /// What the bytes say, if the store takes them.
+    fn checked(&self, alloc: Global, bytes: &[u8]) -> Result<Update, AdmitFault>
+        ensures taken { IfOk result (IsTaken self.now bytes.now) }
+        ensures refused { IfErr result (λ fault. (fault ≡ OutOfMemory) ⊎ IsRefused self.now bytes.now fault) }
+    {
+        if bytes.len() > MOST_MESSAGE_BYTES {
+            let bytes = bytes.len();
+            return Err(AdmitFault::TooLong { bytes });
+        }
+        let update = read(alloc, bytes)?;
+        match self.refusal(&update, bytes.len()) {
+            Some(fault) => Err(fault),
+            None => Ok(update),
+        }
+    }
+
+    /// Puts a message at the end of the history.
+    fn append(&mut self, update: Update, bytes: usize) -> Result<(), NoMemory>
+        requires newer { newest_of self.old < update.moment }
+        requires room { HasRoom self.old.history bytes }
+        ensures ok { OnOk result (self.new ≡ record self.old { history = self.old.history ++ entry_of update bytes ∷ [] }) }
+        ensures err { OnErr result (self.new ≡ self.old) }
+    {
+        self.versions.push(update.moment)?;
+        if self.admitted.push(Admission { update, bytes }).is_err() {
+            let _ = self.versions.pop();
+            return Err(NoMemory);
+        }
+        self.bytes += bytes;
+        Ok(())
+    }
+
+    /// Admits a message (GTFS Realtime): behind it there is a version of its moment. Of the causes of a refusal the first one
+    /// in the order of `AdmitFault` stands. Linear in the bytes.
+    pub fn admit(&mut self, alloc: Global, bytes: &[u8]) -> Result<Admitted, AdmitFault>
+        ensures taken { IfOk result (Admits self.old self.new bytes.now) }
+        ensures refused { IfErr result (λ fault. (fault ≡ OutOfMemory) ⊎ IsRefused self.old bytes.now fault) }
+        ensures unchanged { OnErr result (self.new ≡ self.old) }
+        ensures only_taken { (update : Said) → IsTaken self.old bytes.now update → IsOk result ⊎ (result ≡ Err OutOfMemory) }
+        ensures only_refused { (fault : Fault) → IsRefused self.old bytes.now fault →
+            (result ≡ Err fault) ⊎ (result ≡ Err OutOfMemory) }
+    {
+        let update = self.checked(alloc, bytes)?;
+        let admitted = Admitted {
+            moment: update.moment,
+            passed: update.passed,
+        };
+        self.append(update, bytes.len())?;
+        Ok(admitted)
+    }
+}

@@ -1,0 +1,17 @@
+//! The versions of a timetable: the messages that were admitted, and the runs, departures and rows of each version. It stands
+//! on `live_calls` for calls and runs under news, on `trip_updates` for messages, and on `service_days` for dates.
+#![tactic(auto)]
+
+mod admission;
+mod admit;
+mod dated;
+mod kept;
+mod laws;
+mod live_runs;
+mod rows;
+mod store;
+
+pub use admission::{AdmitFault, Admitted, MOST_BYTES, MOST_MESSAGES, MOST_MESSAGE_BYTES};
+pub use kept::message_date;
+pub use laws::{cuts_do_not_matter, one_list_of_rows, one_outcome};
+pub use store::Store;
