@@ -1,0 +1,7 @@
+pub mod CountLemmas
+pub mod FeedLaws
+pub mod FeedWalkLemmas
+pub mod OneTablesLaws
+pub mod StepLemmas
+pub mod ToldLemmas
+pub mod WalkLemmas

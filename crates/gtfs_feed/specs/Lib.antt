@@ -1,0 +1,6 @@
+pub mod Feed
+pub mod Files
+pub mod Laws
+pub mod Reading
+pub mod Steps
+pub mod Texts

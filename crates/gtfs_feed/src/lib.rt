@@ -1,0 +1,24 @@
+//! The tables of a GTFS feed in a folder, or the first rule or limit that it breaks, with file and row. It stands on
+//! `gtfs_files` and `lc_io`.
+#![tactic(auto)]
+
+mod copied;
+mod end;
+mod fault;
+mod feed;
+mod feed_file;
+mod judge;
+mod laws;
+mod look;
+mod steps;
+mod tables;
+#[cfg(test)]
+mod tests;
+mod what;
+
+pub use fault::FeedFault;
+pub use feed::read_feed;
+pub use feed_file::FeedFile;
+pub use laws::one_feed;
+pub use tables::Tables;
+pub use what::What;

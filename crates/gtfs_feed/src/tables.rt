@@ -1,0 +1,21 @@
+ghost use Rattle.gtfs_files.specs.Stops.{HaveKnownParents};
+
+use gtfs_files::{DateRows, Frequencies, StopTimes, Transfers, TripRows, WeeklyList};
+use lc_model::Stops;
+
+/// The tables of a feed.
+#[derive(Debug, Drop)]
+pub struct Tables {
+    pub stops: Stops,
+    /// The trips that are not left out.
+    pub trips: TripRows,
+    /// The stop times of these trips.
+    pub stop_times: StopTimes,
+    pub weekly: WeeklyList,
+    pub dates: DateRows,
+    pub frequencies: Frequencies,
+    pub transfers: Transfers,
+    /// How many trips are left out, since a row of theirs names no stop.
+    pub left_out: u64,
+    pub ghost parents_known: { ∥ HaveKnownParents stops ∥₁ },
+}
