@@ -1,0 +1,7 @@
+pub mod BeginLemmas
+pub mod BodyLemmas
+pub mod GateLemmas
+pub mod LastLemmas
+pub mod OneReplyLemmas
+pub mod OrderLemmas
+pub mod PageLemmas

@@ -1,0 +1,9 @@
+pub mod Client
+pub mod Course
+pub mod Fault
+pub mod Gate
+pub mod Page
+pub mod Replied
+pub mod Request
+pub mod Shown
+pub mod Stops

@@ -1,0 +1,49 @@
+ghost use Rattle.std.specs.Prelude.{◌↔◌, IsTrue};
+ghost use Rattle.page_client.specs.Fault.{IsWant};
+
+use http_text::ReplyFault;
+use page_json::{Page, PageFault};
+
+/// Why a question is not asked, or not answered.
+#[derive(Clone, Copy, Debug, PartialEq, Eq)]
+pub enum QueryFault {
+    /// The horizon is not from 1 to 604,800 seconds.
+    HorizonRange,
+    /// It begins and ends at one stop.
+    SameStop,
+    /// The stops document lacks the stop where it begins.
+    UnknownFrom,
+    /// The stops document lacks the stop where it ends.
+    UnknownTo,
+}
+
+/// The first test that a reply fails.
+#[derive(Debug, Drop)]
+pub enum PeerFault {
+    /// It is no reply.
+    Reply(ReplyFault),
+    /// It has another status than 302 at the time gate and 200 elsewhere.
+    Status { got: u16 },
+    /// The gate sends to no page, or to none of this base.
+    Location,
+    /// It has no body that says a page, or a stops document.
+    Body(PageFault),
+    /// It is another page than the one asked for, or is not sent as a memento of its version.
+    Identity,
+    /// The page does not begin with its name's departure, or its next link does not go on.
+    Advance,
+    /// The gate sent to this page, though another one is for the moment at which the question leaves.
+    GateWrong { page: Page },
+}
+
+impl PeerFault {
+    /// Whether it is want of memory in a lower fault, and no failed test.
+    pub fn is_want(&self) -> bool
+        ensures { IsTrue result ↔ IsWant self.now }
+    {
+        matches!(
+            self,
+            PeerFault::Reply(ReplyFault::NoMemory) | PeerFault::Body(PageFault::NoMemory)
+        )
+    }
+}

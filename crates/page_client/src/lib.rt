@@ -1,0 +1,24 @@
+//! One client: it asks the time gate, the stops document and page after page, until nothing later can be better, and
+//! knows nothing but the bytes of replies. It stands on `csa_scan`, `page_json`, `http_text`, `memento` and `connection_uri`.
+#![tactic(auto)]
+
+mod beginning;
+mod client;
+mod fault;
+mod gate;
+mod laws;
+mod outcome;
+mod page_reply;
+mod phase;
+mod replied;
+mod request;
+mod step;
+mod stops_reply;
+mod want;
+
+pub use client::Client;
+pub use fault::{PeerFault, QueryFault};
+pub use laws::one_reply;
+pub use outcome::Outcome;
+pub use page_reply::page_of;
+pub use want::Want;

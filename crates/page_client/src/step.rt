@@ -1,0 +1,65 @@
+ghost use Rattle.std.specs.Prelude.{◌≡◌, ◌⊎◌, List, None, Some, IfOk, IfSome, IfNone, IsTrue, ◌↔◌};
+ghost use Rattle.lc_model.specs.declared.connection.Connection.{Connection};
+ghost use Rattle.lc_model.specs.declared.doc.StopsDoc.{StopsDoc};
+ghost use Rattle.lc_model.specs.declared.query.Query.{Query};
+ghost use Rattle.csa_scan.specs.StandsFor.{StandsFor};
+ghost use Rattle.page_client.specs.Course.{IsOver, TakesOn};
+
+use crate::page_reply::last_departure;
+use csa_scan::Scan;
+use lc_model::{Journey, NoMemory, PageName};
+use page_json::Page;
+use std::alloc::Global;
+
+/// What comes after a page.
+#[derive(Debug, Drop)]
+pub enum Step {
+    /// The page of this name.
+    Next(PageName),
+    /// The answer: a best journey, or that there is none.
+    Last(Option<Journey>),
+}
+
+/// Takes a page and says what comes after it. Takes the time of `Scan::take_all`, and for an answer that of
+/// `Scan::journey`.
+pub fn take(alloc: Global, scan: &mut Scan, page: &Page) -> Result<Step, NoMemory>
+    ensures { IfOk result (TakesOn scan.old scan.new page.now) }
+{
+    scan.take_all(alloc, &page.list)?;
+    // There is a least arrival, or none: it says how far one goes on.
+    let _best = scan.best();
+    match next_of(scan, page) {
+        Some(next) => Ok(Step::Next(next)),
+        None => Ok(Step::Last(scan.journey(alloc)?)),
+    }
+}
+
+/// The page to which this one links, unless nothing behind it can be better.
+fn next_of(scan: &Scan, page: &Page) -> Option<PageName>
+    ensures next { IfSome result (λ next. (page.now.next ≡ Some next) × ((query : Query) (doc : StopsDoc) (taken : List Connection)
+        → StandsFor scan.now query doc taken → IsOver query doc taken page.now → ⊥)) }
+    ensures last { IfNone result ((query : Query) (doc : StopsDoc) (taken : List Connection)
+        → StandsFor scan.now query doc taken → (page.now.next ≡ None) ⊎ IsOver query doc taken page.now) }
+{
+    let next = page.next?;
+    if is_over(scan, page) {
+        None
+    } else {
+        Some(next)
+    }
+}
+
+/// Whether nothing behind the page can be better.
+fn is_over(scan: &Scan, page: &Page) -> bool
+    ensures over { IsTrue result → ((query : Query) (doc : StopsDoc) (taken : List Connection) → StandsFor scan.now query doc taken
+        → IsOver query doc taken page.now) }
+    ensures only { (query : Query) (doc : StopsDoc) (taken : List Connection) → StandsFor scan.now query doc taken
+        → IsOver query doc taken page.now → IsTrue result }
+{
+    // There is a least arrival, or none: it says where one is done.
+    let _best = scan.best();
+    match last_departure(page.list.as_slice()) {
+        None => false,
+        Some(last) => scan.done(last),
+    }
+}
