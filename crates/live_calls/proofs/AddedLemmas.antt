@@ -1,7 +1,7 @@
 -- The calls of added trips, one stop at a time, and that they go forward.
-use Rattle.std.proofs.Common.{◌≡◌, ◌≢◌, ℕ, suc, ◌+◌, ◌<◌, ◌≤◌, ℤ, List, [], ◌∷◌, ◌++◌, length, get_or, drop, Bool, true, false, Option, Some, None, option_to_list, Result, Ok, Err, refl, sym, ap, ◌∙◌, subst, arith, add-one, ⊎_elim}
+use Rattle.std.proofs.Common.{◌≡◌, ℕ, suc, ◌+◌, ◌<◌, ◌≤◌, ℤ, List, [], ◌∷◌, ◌++◌, length, get_or, drop, Bool, true, false, Option, Some, None, option_to_list, Result, Ok, Err, refl, sym, ap, ◌∙◌, subst, arith, add-one, ⊎_elim}
 use Rattle.std.specs.Prelude.{if◌then◌else◌, is_some}
-use Rattle.std.specs.List.{All, AllPairs, list_any}
+use Rattle.std.specs.List.{All}
 use Rattle.std.specs.List.Sorted.{IsBinarySearchResult, IsSearchInRange}
 use Rattle.std.specs.Ordering.{on}
 use Rattle.std.specs.Option.{IfSome}
@@ -25,8 +25,6 @@ use Rattle.lc_model.proofs.SearchLemmas.{id_tie, same_id, sorted_from_strict}
 use Rattle.lc_versions.specs.Added.{added_at, added_call, added_call_at, added_calls, added_from, added_known, has_stop, is_skipped, time_of}
 use Rattle.lc_versions.specs.Live.{ToldCall, raised}
 use Rattle.lc_versions.specs.News.{StopSaid}
-use Rattle.lc_versions.specs.declared.event.Relation.{Relation}
-use Rattle.lc_versions.specs.declared.event.Relation.TheVariants as relations
 use Rattle.live_calls.specs.Walk.{added_by, served_times, times_said}
 use Rattle.live_calls.specs.declared.told.Times.{Times}
 use Rattle.live_calls.proofs.ForwardLemmas.{AllPairs-nil, KeepsTimes, RiseInTold, raised_go_forward, seq_of}
@@ -144,11 +142,11 @@ stop_search stops id (Err k) sorted inside at =
     let parts = at (searchable_from_sorted nat_list_cmp_total (λ (s : Stop). s.id) stops id (sorted_from_strict (on (λ (s : Stop). s.id) id_cmp) (on_total (λ (s : Stop). s.id) nat_list_cmp_total) stops sorted)) in
     record {
       known = sym (list_any_none (λ (s : Stop). is_same_id s.id id) stops (λ n d there.
-        not_same (get_or stops n d).id id (is_same_id (get_or stops n d).id id) refl (λ same.
-        ⊎_elim
-        (λ (low : n < k). let f : Less ≡ Equal = sym (parts.0 n d (omega arith) low) ∙ same_id (get_or stops n d).id id same in cc)
-        (λ (high : k ≤ n). let f : Greater ≡ Equal = sym (parts.1 n d high there) ∙ same_id (get_or stops n d).id id same in cc)
-        (cases_lt n k))));
+          not_same (get_or stops n d).id id (is_same_id (get_or stops n d).id id) refl (λ same.
+          ⊎_elim
+          (λ (low : n < k). let f : Less ≡ Equal = sym (parts.0 n d (omega arith) low) ∙ same_id (get_or stops n d).id id same in cc)
+          (λ (high : k ≤ n). let f : Greater ≡ Equal = sym (parts.1 n d high there) ∙ same_id (get_or stops n d).id id same in cc)
+          (cases_lt n k))));
       inside = tt;
       named = tt;
     }

@@ -1,13 +1,13 @@
 -- The walk over the calls of a run, one call at a time, and that live calls go forward.
-use Rattle.std.proofs.Common.{◌≡◌, ℕ, suc, ◌+◌, ◌<◌, ◌≤◌, ℤ, pos, List, [], ◌∷◌, ◌++◌, length, get_or, drop, true, false, Option, Some, None, refl, sym, ap, ◌∙◌, subst, arith, add-one}
-use Rattle.std.specs.List.{All, AllPairs}
+use Rattle.std.proofs.Common.{◌≡◌, ℕ, suc, ◌+◌, ◌<◌, ◌≤◌, ℤ, pos, List, [], ◌∷◌, ◌++◌, length, get_or, drop, true, false, Option, Some, None, refl, sym, ap, ◌∙◌, subst, add-one}
+use Rattle.std.specs.List.{All}
 use Rattle.std.specs.Prelude.{if◌then◌else◌}
 use Rattle.std.proofs.lemmas.List.{drop_more}
-use Rattle.std.proofs.lemmas.List.Elements.{All-nil, All-cons, All-head, All-tail, All-append, All-weaker}
+use Rattle.std.proofs.lemmas.List.Elements.{All-nil, All-cons, All-head, All-tail, All-append}
 use Rattle.std.proofs.lemmas.List.Kept.{AllPairs-cons}
 use Rattle.lc_model.specs.Call.{GoesForward, InSequence}
 use Rattle.lc_model.specs.declared.call.Call.{Call}
-use Rattle.lc_versions.specs.Live.{ToldCall, call_at, calls_with, live_calls_of, raised, told, told_calls, told_with, told_related}
+use Rattle.lc_versions.specs.Live.{ToldCall, call_at, calls_with, live_calls_of, raised, told_calls, told_with, told_related}
 use Rattle.lc_versions.specs.Naming.{Naming, is_canceled, namings, news_at_place}
 use Rattle.lc_versions.specs.News.{StopSaid, TripSaid}
 use Rattle.lc_versions.specs.declared.event.Relation.{Relation}

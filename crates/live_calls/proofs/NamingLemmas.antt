@@ -1,7 +1,6 @@
 -- The call that is named by its sequence or its stop, and the last news that name it.
-use Rattle.std.proofs.Common.{◌≡◌, ℕ, zero, suc, ◌+◌, ◌<◌, ◌≤◌, List, [], ◌∷◌, length, get_or, map, filter, eqb, Bool, true, false, cond, Option, Some, None, option_map, Result, Ok, Err, refl, sym, ap, ◌∙◌, subst, arith, ⊎_elim}
-use Rattle.std.specs.List.{All, AllPairs, last_or, position, position_from}
-use Rattle.std.specs.Option.{IfSome}
+use Rattle.std.proofs.Common.{◌≡◌, ℕ, zero, suc, ◌+◌, ◌<◌, ◌≤◌, List, [], ◌∷◌, length, get_or, map, filter, eqb, Bool, true, false, cond, Option, Some, None, option_map, Result, Ok, Err, refl, sym, ap, ◌∙◌, arith, ⊎_elim}
+use Rattle.std.specs.List.{All, last_or, position, position_from}
 use Rattle.std.specs.Result.{result_ok}
 use Rattle.std.specs.List.Sorted.{IsBinarySearchResult, IsSearchInRange}
 use Rattle.std.specs.Ordering.{MatchOrdering, nat_cmp, ordering_index}
@@ -13,7 +12,6 @@ use Rattle.std.proofs.lemmas.Iterator.Adapters.{position_from-zero}
 use Rattle.lc_model.specs.Call.{InSequence}
 use Rattle.lc_model.specs.declared.call.Call.{Call}
 use Rattle.lc_versions.specs.Naming.{Naming, place_of, news_at_place}
-use Rattle.lc_versions.specs.News.{StopSaid}
 use Rattle.live_calls.specs.Walk.{last_news}
 
 shifted : (i : ℕ) (o : Option ℕ) → option_map (λ k. i + 1 + k) o ≡ option_map (λ k. i + k) (option_map suc o)
@@ -81,9 +79,9 @@ found_place calls seq (Err i) rising inside at =
     (λ (low : k < i). when_less (get_or calls k d).seq seq (parts.0 k d (omega arith) low))
     (λ (high : i ≤ k). when_greater (get_or calls k d).seq seq (parts.1 k d high lt))
     (cases_lt k i))) where
-  never_falls : (calls : List Call) → InSequence calls → (j k : ℕ) (d : Call) → j ≤ k → k < length calls → (get_or calls j d).seq ≤ (get_or calls k d).seq
-  never_falls calls rising j k d le lt =
-      ⊎_elim
-      (λ (low : j < k). let less : (get_or calls j d).seq < (get_or calls k d).seq = rising j k d low lt in omega (arith, less))
-      (λ (high : k ≤ j). let same : j ≡ k = omega arith in let e : (get_or calls j d).seq ≡ (get_or calls k d).seq = ap (λ (n : ℕ). (get_or calls n d).seq) same in omega (arith, e))
-      (cases_lt j k)
+      never_falls : (calls : List Call) → InSequence calls → (j k : ℕ) (d : Call) → j ≤ k → k < length calls → (get_or calls j d).seq ≤ (get_or calls k d).seq
+      never_falls calls rising j k d le lt =
+          ⊎_elim
+          (λ (low : j < k). let less : (get_or calls j d).seq < (get_or calls k d).seq = rising j k d low lt in omega (arith, less))
+          (λ (high : k ≤ j). let same : j ≡ k = omega arith in let e : (get_or calls j d).seq ≡ (get_or calls k d).seq = ap (λ (n : ℕ). (get_or calls n d).seq) same in omega (arith, e))
+          (cases_lt j k)

@@ -1,5 +1,5 @@
 -- The run that the news of an added trip make.
-use Rattle.std.specs.Prelude.{◌≡◌, ◌⊎◌, ℕ, ◌<◌, ◌≤◌, List, length, true, Option, Some, None}
+use Rattle.std.specs.Prelude.{◌≡◌, ◌⊎◌, ◌<◌, ◌≤◌, List, length, true, Option, Some, None}
 use Rattle.std.specs.Option.{IsSomeAnd}
 use Rattle.lc_model.specs.Text.{IsIdText}
 use Rattle.lc_model.specs.declared.date.ServiceDate.{ServiceDate}

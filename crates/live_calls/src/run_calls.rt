@@ -89,11 +89,7 @@ fn calls_by(alloc: Global, calls: &[Call], news: &TripNews) -> Result<Vec<Call>,
 }
 
 /// The calls with the news of their run, or without.
-fn live_list(
-    alloc: Global,
-    calls: &[Call],
-    news: Option<&TripNews>,
-) -> Result<Vec<Call>, NoMemory>
+fn live_list(alloc: Global, calls: &[Call], news: Option<&TripNews>) -> Result<Vec<Call>, NoMemory>
     requires { InSequence calls.now }
     ensures { IfOk result (λ live. live.items ≡ live_calls_of calls.now (option_copied news.entry)) }
 {

@@ -1,6 +1,6 @@
 -- The cuts of a history do not matter to its news, its versions and its bytes.
-use Rattle.std.proofs.Common.{◌≡◌, ℕ, ◌+◌, List, [], ◌∷◌, map, filter, leb, Bool, true, false, cond, refl, ap, ◌∙◌, sym}
-use Rattle.std.specs.List.{filter_map, sum_by}
+use Rattle.std.proofs.Common.{◌≡◌, ℕ, ◌+◌, List, [], ◌∷◌, leb, Bool, true, false, cond, refl, ap, ◌∙◌, sym}
+use Rattle.std.specs.List.{filter_map}
 use Rattle.std.proofs.lemmas.List.Sums.{sum_by-cons}
 use Rattle.lc_model.specs.declared.date.ServiceDate.{ServiceDate}
 use Rattle.lc_versions.specs.History.{Entry, kept_after, kept_behind, moments_of, up_to}

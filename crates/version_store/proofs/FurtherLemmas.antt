@@ -1,10 +1,10 @@
 -- Further runs by the news one after the other, and the runs of the timetable in their places.
 use Rattle.std.proofs.Common.{◌≡◌, ◌⊎◌, inl, inr, ℕ, ◌+◌, ◌<◌, ◌≤◌, List, [], ◌∷◌, ◌++◌, length, filter, get_or, map, take, Bool, true, false, Option, Some, None, refl, sym, ap, ◌∙◌, subst, arith}
-use Rattle.std.specs.Prelude.{◌↔◌, if◌then◌else◌, option_map}
+use Rattle.std.specs.Prelude.{◌↔◌, if◌then◌else◌}
 use Rattle.std.specs.BTreeMap.{BTreeMap, IsOrdered, get}
 use Rattle.std.specs.Map.{keys_of, lookup}
-use Rattle.std.specs.List.{All, Any, AllPairs, Contains, last_or}
-use Rattle.std.specs.Ordering.{is_eq, on}
+use Rattle.std.specs.List.{All, Any, Contains, last_or}
+use Rattle.std.specs.Ordering.{is_eq}
 use Rattle.std.specs.declared.cmp.Ordering.{Ordering}
 use Rattle.std.specs.declared.cmp.Ordering.TheVariants.{Less, Equal, Greater}
 use Rattle.std.proofs.lemmas.Cmp.{tied_itself}
@@ -26,13 +26,12 @@ use Rattle.lc_versions.specs.Live.{live_calls_of}
 use Rattle.lc_versions.specs.Naming.{is_added, news_for}
 use Rattle.lc_versions.specs.News.{TripSaid}
 use Rattle.lc_versions.specs.Timetable.{AreLiveRuns, IsLiveRun}
-use Rattle.live_calls.specs.AddedRun.{HasNoKey, IsAdded, IsAddedRun}
 use Rattle.live_calls.proofs.KeyLemmas.{same_keys}
 use Rattle.live_calls.proofs.LawLemmas.{keys_are_one, no_key_names_none}
 use Rattle.live_calls.proofs.AddedLemmas.{added_go_forward}
 use Rattle.version_store.specs.Kept.{news_said}
 use Rattle.version_store.specs.declared.dated.DatedNews.{DatedNews}
-use Rattle.version_store.specs.Further.{GoForward, HasExactly, IsFurther, IsOfEither, PutsAtKey, PutsFurther, calls_of}
+use Rattle.version_store.specs.Further.{GoForward, HasExactly, IsFurther, IsOfEither, PutsFurther, calls_of}
 
 last_pushed : {X : Type 0} (o : Option X) (xs : List X) (x : X) → last_or o (xs ++ x ∷ []) ≡ Some x
 last_pushed o [] x = refl
@@ -91,15 +90,15 @@ at_its_key stops list news (Some made) run is of =
         two_at_least = subst (λ (v : List Call). 2 ≤ length v) calls is.1.two_at_least;
       }),
       (λ further.
-      let one : news ≡ further.news = some_is_one news further.news (sym last ∙ further.last) in
-      ap Some (is.1.calls ∙ ap (λ (n : TripSaid). added_calls stops n.stops) one ∙ sym further.calls)),
+          let one : news ≡ further.news = some_is_one news further.news (sym last ∙ further.last) in
+          ap Some (is.1.calls ∙ ap (λ (n : TripSaid). added_calls stops n.stops) one ∙ sym further.calls)),
     )
 at_its_key stops list news None run (inl not_added) of =
     let last = news_pushed run.key list news true of in (
       (λ e. absurd (let f : None ≡ Some run.calls = e in cc)),
       (λ further.
-      let one : news ≡ further.news = some_is_one news further.news (sym last ∙ further.last) in
-      let f : false ≡ true = sym not_added ∙ ap (λ (n : TripSaid). is_added n.kind) one ∙ further.added in absurd (cc)),
+          let one : news ≡ further.news = some_is_one news further.news (sym last ∙ further.last) in
+          let f : false ≡ true = sym not_added ∙ ap (λ (n : TripSaid). is_added n.kind) one ∙ further.added in absurd (cc)),
     )
 at_its_key stops list news None run (inr (inl no_key)) of =
     let last = news_pushed run.key list news true of in (
@@ -110,10 +109,10 @@ at_its_key stops list news None run (inr (inr few)) of =
     let last = news_pushed run.key list news true of in (
       (λ e. absurd (let f : None ≡ Some run.calls = e in cc)),
       (λ further.
-      let one : news ≡ further.news = some_is_one news further.news (sym last ∙ further.last) in
-      let calls : run.calls ≡ added_calls stops news.stops = further.calls ∙ ap (λ (n : TripSaid). added_calls stops n.stops) (sym one) in
-      let enough : 2 ≤ length (added_calls stops news.stops) = subst (λ (v : List Call). 2 ≤ length v) calls further.two_at_least in
-      absurd (omega (arith, few, enough))),
+          let one : news ≡ further.news = some_is_one news further.news (sym last ∙ further.last) in
+          let calls : run.calls ≡ added_calls stops news.stops = further.calls ∙ ap (λ (n : TripSaid). added_calls stops n.stops) (sym one) in
+          let enough : 2 ≤ length (added_calls stops news.stops) = subst (λ (v : List Call). 2 ≤ length v) calls further.two_at_least in
+          absurd (omega (arith, few, enough))),
     )
 
 -- the news of one trip more
@@ -134,9 +133,10 @@ further_more stops list news old new has (inl puts) run =
 further_more stops list news old new has (inr (no_key, same)) run =
     by_bool _ (has_key run.key news)
     (λ of.
-    let last = news_pushed run.key list news true of in
-    ((λ f. absurd (let further = (has run).0 (sym (same run.key) ∙ f) in no_key_names_none news run.key of further.trip_named no_key)),
-     (λ further. absurd (no_key_names_none news run.key of further.trip_named no_key))))
+    let last = news_pushed run.key list news true of in (
+      (λ f. absurd (let further = (has run).0 (sym (same run.key) ∙ f) in no_key_names_none news run.key of further.trip_named no_key)),
+      (λ further. absurd (no_key_names_none news run.key of further.trip_named no_key)),
+    ))
     (λ other.
     let is = not_of_key stops list news run other in
     ((λ f. is.0 ((has run).0 (sym (same run.key) ∙ f))), (λ f. same run.key ∙ (has run).1 (is.1 f))))
@@ -178,32 +178,35 @@ live_more runs stops list next calls old new later are at has run = by_bool _ (t
         (λ f. inl (record { run = next; of_timetable = Contains-push runs next; same_key = sym same; calls = sym (some_is_one calls run.calls (sym now ∙ f)) ∙ are })),
         (λ either. now ∙ ap Some (its_calls same either)),
       ) where
-    its_calls : next.key ≡ run.key → IsOfEither (runs ++ next ∷ []) stops list run → calls ≡ run.calls
-    its_calls same (inr further) = absurd (let put = Contains-push runs next in further.is_new (put.0, next, put.1, put.2, same))
-    its_calls same (inl live) = by_place (Contains-push_cases runs next live.run live.of_timetable) where
-      by_place : Contains runs live.run ⊎ (next ≡ live.run) → calls ≡ run.calls
-      by_place (inl before) =
-          let less : key_cmp live.run.key next.key ≡ Less = later live.run before in
-          let equal : key_cmp live.run.key next.key ≡ Equal = subst (λ (k : RunKey). key_cmp live.run.key k ≡ Equal) (sym live.same_key ∙ sym same) (tied_itself key_cmp_total live.run.key) in
-          absurd (cc)
-      by_place (inr is) = are ∙ ap (λ (r : Run). live_calls_of r.calls (news_for r.key list)) is ∙ sym live.calls
+        its_calls : next.key ≡ run.key → IsOfEither (runs ++ next ∷ []) stops list run → calls ≡ run.calls
+        its_calls same (inr further) = absurd (let put = Contains-push runs next in further.is_new (put.0, next, put.1, put.2, same))
+        its_calls same (inl live) = by_place (Contains-push_cases runs next live.run live.of_timetable) where
+          by_place : Contains runs live.run ⊎ (next ≡ live.run) → calls ≡ run.calls
+          by_place (inl before) =
+              let less : key_cmp live.run.key next.key ≡ Less = later live.run before in
+              let equal : key_cmp live.run.key next.key ≡ Equal = subst (λ (k : RunKey). key_cmp live.run.key k ≡ Equal) (sym live.same_key ∙ sym same) (tied_itself key_cmp_total live.run.key) in
+              absurd (cc)
+          by_place (inr is) = are ∙ ap (λ (r : Run). live_calls_of r.calls (news_for r.key list)) is ∙ sym live.calls
+
   there : tie next.key run.key ≡ false → (get key_cmp new run.key ≡ Some run.calls) ↔ IsOfEither (runs ++ next ∷ []) stops list run
   there e =
       let now : get key_cmp new run.key ≡ get key_cmp old run.key = at run.key ∙ ap (λ b. if b then Some calls else get key_cmp old run.key) e in (
         (λ f. forth ((has run).0 (sym now ∙ f))),
         (λ either. now ∙ (has run).1 (back either)),
       ) where
-    other : next.key ≡ run.key → ⊥
-    other same = let f : false ≡ true = sym e ∙ tie_from_same next.key run.key same in absurd (cc)
-    forth : IsOfEither runs stops list run → IsOfEither (runs ++ next ∷ []) stops list run
-    forth (inl live) = inl (live_kept runs next list run live)
-    forth (inr f) = inr (record { is_new = any_pushed runs next run.key other f.is_new; news = f.news; last = f.last; added = f.added; trip_named = f.trip_named; calls = f.calls; two_at_least = f.two_at_least })
-    back : IsOfEither (runs ++ next ∷ []) stops list run → IsOfEither runs stops list run
-    back (inr f) = inr (record { is_new = λ any. f.is_new (any_kept runs next run.key any); news = f.news; last = f.last; added = f.added; trip_named = f.trip_named; calls = f.calls; two_at_least = f.two_at_least })
-    back (inl live) = by_place (Contains-push_cases runs next live.run live.of_timetable) where
-      by_place : Contains runs live.run ⊎ (next ≡ live.run) → IsOfEither runs stops list run
-      by_place (inl before) = inl (record { run = live.run; of_timetable = before; same_key = live.same_key; calls = live.calls })
-      by_place (inr is) = absurd (other (ap (λ (r : Run). r.key) is ∙ sym live.same_key))
+        other : next.key ≡ run.key → ⊥
+        other same = let f : false ≡ true = sym e ∙ tie_from_same next.key run.key same in absurd (cc)
+
+        forth : IsOfEither runs stops list run → IsOfEither (runs ++ next ∷ []) stops list run
+        forth (inl live) = inl (live_kept runs next list run live)
+        forth (inr f) = inr (record { is_new = any_pushed runs next run.key other f.is_new; news = f.news; last = f.last; added = f.added; trip_named = f.trip_named; calls = f.calls; two_at_least = f.two_at_least })
+
+        back : IsOfEither (runs ++ next ∷ []) stops list run → IsOfEither runs stops list run
+        back (inr f) = inr (record { is_new = λ any. f.is_new (any_kept runs next run.key any); news = f.news; last = f.last; added = f.added; trip_named = f.trip_named; calls = f.calls; two_at_least = f.two_at_least })
+        back (inl live) = by_place (Contains-push_cases runs next live.run live.of_timetable) where
+          by_place : Contains runs live.run ⊎ (next ≡ live.run) → IsOfEither runs stops list run
+          by_place (inl before) = inl (record { run = live.run; of_timetable = before; same_key = live.same_key; calls = live.calls })
+          by_place (inr is) = absurd (other (ap (λ (r : Run). r.key) is ∙ sym live.same_key))
 
 -- before any news there are no further runs
 pub no_further : (stops : List Stop) (live : BTreeMap RunKey (List Call)) → live.entries ≡ [] → HasExactly live (IsFurtherRun [] stops [])
@@ -228,10 +231,10 @@ runs_in_order live runs ordered e = subst InKeyOrder (sym e) (λ i j d before in
 run_stands : (es : List (RunKey × List Call)) (run : Run) → Contains (map run_of es) run ↔ Contains es (run.key, run.calls)
 run_stands es run = (
   (λ (k, inside, at).
-  let there : k < length es = omega (arith, length-map es run_of, inside) in
-  (k, there, ap (λ (r : Run). let p : RunKey × List Call = (r.key, r.calls) in p) (sym (get_or-map run_of es k (run.key, run.calls) run there) ∙ at))),
+      let there : k < length es = omega (arith, length-map es run_of, inside) in
+      (k, there, ap (λ (r : Run). let p : RunKey × List Call = (r.key, r.calls) in p) (sym (get_or-map run_of es k (run.key, run.calls) run there) ∙ at))),
   (λ (k, there, at).
-  (k, omega (arith, length-map es run_of, there), get_or-map run_of es k (run.key, run.calls) run there ∙ ap run_of at)),
+      (k, omega (arith, length-map es run_of, there), get_or-map run_of es k (run.key, run.calls) run there ∙ ap run_of at)),
 )
 
 -- the runs of a map are exactly those of which it has the calls

@@ -1,15 +1,14 @@
 -- What is kept behind messages is what a walk from the last entity to the first one keeps.
-use Rattle.std.proofs.Common.{◌≡◌, ℕ, ◌+◌, ◌<◌, ◌≤◌, drop, get_or, length, leb, List, [], ◌∷◌, ◌++◌, map, filter, reverse, Bool, true, false, cond, Option, Some, None, refl, sym, ap, ap₂, ◌∙◌, subst}
-use Rattle.std.specs.Prelude.{if◌then◌else◌, not, ◌&&◌, ◌||◌, is_some, option_map, option_to_list}
-use Rattle.std.specs.List.{filter_map, list_any}
-use Rattle.std.specs.Cmp.Lexicographic.{pointwise, slice_cmp, texts_ties}
+use Rattle.std.proofs.Common.{◌≡◌, ℕ, ◌+◌, ◌<◌, drop, get_or, length, leb, List, [], ◌∷◌, ◌++◌, map, filter, reverse, Bool, true, false, cond, Option, Some, None, refl, sym, ap, ap₂, ◌∙◌}
+use Rattle.std.specs.Prelude.{if◌then◌else◌, not, ◌&&◌, ◌||◌, is_some}
+use Rattle.std.specs.List.{filter_map}
+use Rattle.std.specs.Cmp.Lexicographic.{slice_cmp, texts_ties}
 use Rattle.std.specs.Ordering.{is_eq, nat_cmp}
 use Rattle.std.proofs.lemmas.List.{drop_more, append-nil, append_assoc, map-append, reverse-append}
 use Rattle.std.proofs.lemmas.List.Elements.{filter-append, filter_map-append}
 use Rattle.std.proofs.lemmas.Slice.Eq.{bytes_eq-Decides}
 use Rattle.lc_model.specs.Change.{is_same_id}
-use Rattle.lc_model.specs.declared.date.ServiceDate.{ServiceDate}
-use Rattle.lc_versions.specs.History.{Entry, up_to, filled, filled_entities, kept_after, kept_behind, put, put_all, with_news}
+use Rattle.lc_versions.specs.History.{Entry, up_to, put, put_all, with_news}
 use Rattle.lc_versions.specs.News.{EntitySaid, TripSaid}
 use Rattle.version_store.specs.Kept.{entity_said, is_replaced, kept_of, survivors, then_all, then_entities, then_marked}
 use Rattle.version_store.specs.declared.kept.Marked.{Marked}
@@ -74,8 +73,8 @@ kept_then true kept e later =
     ap (filter_map N) (filter-append (Stays later) others (with_news (e ∷ [])))
     ∙ filter_map-append N (filter (Stays later) others) (filter (Stays later) (with_news (e ∷ [])))
     ∙ ap₂ (λ a b. a ++ b)
-      (ap (filter_map N) (filter_twice (Stays later) (λ (x : EntitySaid). not (is_same_id x.id e.id)) (λ (x : EntitySaid). not (is_same_id x.id e.id || is_replaced x.id later)) (λ x. not_either (is_same_id x.id e.id) (is_replaced x.id later)) kept))
-      (one_kept later e e.news (is_replaced e.id later) refl refl)
+    (ap (filter_map N) (filter_twice (Stays later) (λ (x : EntitySaid). not (is_same_id x.id e.id)) (λ (x : EntitySaid). not (is_same_id x.id e.id || is_replaced x.id later)) (λ x. not_either (is_same_id x.id e.id) (is_replaced x.id later)) kept))
+    (one_kept later e e.news (is_replaced e.id later) refl refl)
 kept_then false kept e later =
     let N : EntitySaid → Option TripSaid = λ e. e.news in
     ap (filter_map N) (filter-append (Stays later) kept (with_news (e ∷ [])))

@@ -1,7 +1,6 @@
 -- What becomes of bytes at a store is one thing, and a version has one list of connections.
-use Rattle.std.proofs.Common.{◌≡◌, ◌⊎◌, inl, inr, ℕ, ◌<◌, ◌≤◌, List, length, Option, Some, None, Result, Ok, Err, refl, sym, ap, ap₂, ◌∙◌, subst, arith}
+use Rattle.std.proofs.Common.{◌≡◌, ◌⊎◌, inl, inr, ℕ, ◌<◌, ◌≤◌, List, length, Some, None, sym, ap, ap₂, ◌∙◌, subst, arith}
 use Rattle.lc_model.specs.Connection.{AreConnectionsOf}
-use Rattle.lc_model.specs.declared.connection.Connection.{Connection}
 use Rattle.lc_model.specs.declared.run.Run.{Run}
 use Rattle.lc_model.proofs.OneValueLemmas.{one_list_of_connections}
 use Rattle.lc_versions.specs.declared.update.Update.{Update}
@@ -12,9 +11,7 @@ use Rattle.trip_updates.specs.declared.fault.RtFault.{RtFault}
 use Rattle.trip_updates.proofs.TreesLemmas.{never_both, same_meaning}
 use Rattle.version_store.specs.Admission.{HasRoom, IsFullFor, IsRefused, IsShort, IsTaken}
 use Rattle.version_store.specs.Laws.{OneListOfRows, OneOutcome}
-use Rattle.version_store.specs.Rows.{AreConnectionsAt}
-use Rattle.version_store.specs.Store.{Stored, newest_of, news_of, bytes_of}
-use Rattle.version_store.specs.declared.admission.Admitted.{Admitted}
+use Rattle.version_store.specs.Store.{Stored, newest_of, news_of}
 use Rattle.version_store.specs.declared.admission.AdmitFault.{AdmitFault}
 use Rattle.version_store.specs.declared.admission.AdmitFault.TheVariants as faults
 use Rattle.lc_versions.specs.History.{Entry}

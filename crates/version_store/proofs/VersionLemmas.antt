@@ -54,15 +54,16 @@ found versions version (Err i) inside at rising =
     let parts = at (λ j k d le lt. index_rises (get_or versions j d) (get_or versions k d) version (rises j k d le lt)) in (
       (λ yes. absurd (let f : false ≡ true = yes in cc)),
       (λ (k, there, is).
-      absurd (⊎_elim
-      (λ (low : k < i). let m : MatchOrdering Less (get_or versions k version < version) (get_or versions k version ≡ version) (version < get_or versions k version) = ranked (get_or versions k version) version Less (sym (parts.0 k version (omega arith) low)) in omega (arith, m, is))
-      (λ (high : i ≤ k). let m : MatchOrdering Greater (get_or versions k version < version) (get_or versions k version ≡ version) (version < get_or versions k version) = ranked (get_or versions k version) version Greater (sym (parts.1 k version high there)) in omega (arith, m, is))
-      (cases_lt k i))),
+          absurd (⊎_elim
+          (λ (low : k < i). let m : MatchOrdering Less (get_or versions k version < version) (get_or versions k version ≡ version) (version < get_or versions k version) = ranked (get_or versions k version) version Less (sym (parts.0 k version (omega arith) low)) in omega (arith, m, is))
+          (λ (high : i ≤ k). let m : MatchOrdering Greater (get_or versions k version < version) (get_or versions k version ≡ version) (version < get_or versions k version) = ranked (get_or versions k version) version Greater (sym (parts.1 k version high there)) in omega (arith, m, is))
+          (cases_lt k i))),
     ) where
-  index_rises : (x y s : ℕ) → x ≤ y → ordering_index (nat_cmp x s) ≤ ordering_index (nat_cmp y s)
-  index_rises x y s h = grind (arith, nat_tests)
-  rises : (j k d : ℕ) → j ≤ k → k < length versions → get_or versions j d ≤ get_or versions k d
-  rises j k d le lt = let e : get_or versions j d ≡ get_or versions j 0 = get_or_default versions j d 0 (omega arith) in let f : get_or versions k d ≡ get_or versions k 0 = get_or_default versions k d 0 lt in let g : get_or versions j 0 ≤ get_or versions k 0 = never_falls versions rising j k le lt in omega (arith, e, f, g)
+      index_rises : (x y s : ℕ) → x ≤ y → ordering_index (nat_cmp x s) ≤ ordering_index (nat_cmp y s)
+      index_rises x y s h = grind (arith, nat_tests)
+
+      rises : (j k d : ℕ) → j ≤ k → k < length versions → get_or versions j d ≤ get_or versions k d
+      rises j k d le lt = let e : get_or versions j d ≡ get_or versions j 0 = get_or_default versions j d 0 (omega arith) in let f : get_or versions k d ≡ get_or versions k 0 = get_or_default versions k d 0 lt in let g : get_or versions j 0 ≤ get_or versions k 0 = never_falls versions rising j k le lt in omega (arith, e, f, g)
 
 -- what a search among the versions answers
 pub version_search : (versions : List ℕ) (version : ℕ) (r : Result ℕ ℕ) (answer : Bool) → IsSearchInRange r (length versions) → IsBinarySearchResult (λ y. nat_cmp y version) versions r → AllPairs (λ (x y : ℕ). x < y) versions → answer ≡ is_ok r

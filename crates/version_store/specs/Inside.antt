@@ -1,5 +1,5 @@
 -- What the fields of a store stand for, and what holds of them.
-use Rattle.std.specs.Prelude.{◌≡◌, ℕ, ◌≤◌, List, ◌∷◌, length, map}
+use Rattle.std.specs.Prelude.{◌≡◌, ◌≤◌, ◌∷◌, map}
 use Rattle.lc_versions.specs.History.{IsRising, moments_of}
 use Rattle.version_store.specs.Store.{Stored, bytes_of, entry_of}
 use Rattle.version_store.specs.declared.store.Admission.{Admission}

@@ -1,5 +1,5 @@
 -- The news that are kept behind the messages, as a walk from the last entity to the first one finds them.
-use Rattle.std.specs.Prelude.{◌≡◌, ℕ, List, [], ◌∷◌, ◌++◌, map, filter, not, Bool, true, false, ◌&&◌, if◌then◌else◌, Option, Some, None, option_to_list}
+use Rattle.std.specs.Prelude.{ℕ, List, [], ◌∷◌, ◌++◌, Bool, true, false, ◌&&◌, if◌then◌else◌, Option, option_to_list}
 use Rattle.std.specs.List.{list_any}
 use Rattle.lc_model.specs.Change.{is_same_id}
 use Rattle.lc_versions.specs.History.{Entry, filled, put, put_all, with_news}

@@ -1,6 +1,6 @@
 -- What a store stands for: a timetable and the messages that were admitted (RFC 7089: one version at the base, and one more behind
 -- each message).
-use Rattle.std.specs.Prelude.{◌≡◌, ℕ, List, [], ◌∷◌, map, sum_by}
+use Rattle.std.specs.Prelude.{ℕ, List, [], ◌∷◌, map, sum_by}
 use Rattle.lc_model.specs.declared.run.Run.{Run}
 use Rattle.lc_model.specs.declared.stop.Stop.{Stop}
 use Rattle.lc_time.specs.declared.zone.Zone.{Zone}

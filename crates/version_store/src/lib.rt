@@ -11,7 +11,7 @@ mod live_runs;
 mod rows;
 mod store;
 
-pub use admission::{AdmitFault, Admitted, MOST_BYTES, MOST_MESSAGES, MOST_MESSAGE_BYTES};
+pub use admission::{AdmitFault, Admitted, MOST_BYTES, MOST_MESSAGE_BYTES, MOST_MESSAGES};
 pub use kept::message_date;
 pub use laws::{cuts_do_not_matter, one_list_of_rows, one_outcome};
 pub use store::Store;

@@ -89,11 +89,7 @@ fn live_of(alloc: Global, run: &Run, news: &[DatedNews<'_>]) -> Result<Calls, No
 }
 
 /// The run that news make, if they are of an added trip and make one.
-fn further_run(
-    alloc: Global,
-    stops: &Stops,
-    news: DatedNews<'_>,
-) -> Result<Option<Run>, NoMemory>
+fn further_run(alloc: Global, stops: &Stops, news: DatedNews<'_>) -> Result<Option<Run>, NoMemory>
     ensures { IfOk result (IsFurther stops.now (news_said news.entry)) }
 {
     let said = news.news;

@@ -15,11 +15,7 @@ use live_calls::connections;
 use std::alloc::Global;
 
 /// Adds the connections of a run.
-fn push_connections(
-    alloc: Global,
-    list: &mut Vec<Connection>,
-    run: &Run,
-) -> Result<(), NoMemory>
+fn push_connections(alloc: Global, list: &mut Vec<Connection>, run: &Run) -> Result<(), NoMemory>
     requires { GoesForward run.now.calls }
     ensures { OnOk result (list.new.items ≡ list.old.items ++ connections_of_calls run.now.key run.now.calls) }
 {

@@ -1,4 +1,4 @@
-use Rattle.std.proofs.Common.{◌≡◌, ◌≤◌, true, ap, sym, ◌∙◌, arith, length, subst}
+use Rattle.std.proofs.Common.{◌≡◌, ◌≤◌, true, sym, ◌∙◌, arith, length, subst}
 use Rattle.std.proofs.lemmas.List.{get_or_read}
 use Rattle.lc_model.specs.Change.{is_same_id}
 use Rattle.lc_model.specs.declared.call.Call.{Call}
@@ -11,8 +11,8 @@ returns-then-is_at c =
     let here : is_same_id c.index-calls-place.result.stop c.args.stop.now ≡ true = sym c.is_at.ensures ∙ c.if-is_at.true in
     record {
       place = sym (place_of-some (λ (call : Call). is_same_id call.stop c.args.stop.now) calls c.calls.place c.calls-test.true
-      (λ d. subst (λ (call : Call). is_same_id call.stop c.args.stop.now ≡ true) (get_or_read calls c.calls.place c.index-calls-place.result c.calls-test.true c.index-calls-place.is d) here)
-      (λ k d before. c.calls.invariant k d before));
+          (λ d. subst (λ (call : Call). is_same_id call.stop c.args.stop.now ≡ true) (get_or_read calls c.calls.place c.index-calls-place.result c.calls-test.true c.index-calls-place.is d) here)
+          (λ k d before. c.calls.invariant k d before));
       inside = c.calls-test.true;
     }
 

@@ -1,4 +1,4 @@
-use Rattle.std.proofs.Common.{◌≡◌, ◌++◌, drop, pos}
+use Rattle.std.proofs.Common.{◌≡◌, ◌++◌, drop}
 use Rattle.lc_versions.specs.Live.{calls_with, raised, told_calls}
 use Rattle.lc_versions.specs.Naming.{namings}
 use Rattle.live_calls.specs.Walk.{IsLateness}

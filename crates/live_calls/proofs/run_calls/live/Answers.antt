@@ -1,8 +1,6 @@
-use Rattle.std.proofs.Common.{List, ap, sym, subst, ◌∙◌}
+use Rattle.std.proofs.Common.{sym, subst, ◌∙◌}
 use Rattle.std.specs.Option.{option_copied}
 use Rattle.lc_model.specs.Call.{GoesForward}
-use Rattle.lc_model.specs.declared.call.Call.{Call}
-use Rattle.lc_versions.specs.Live.{live_calls_of}
 use Rattle.live_calls.proofs.LiveLemmas.{live_go_forward}
 use Rattle.live_calls.proofs.run_calls.live.Goals as goal
 

@@ -1,8 +1,8 @@
-use Rattle.std.proofs.Common.{◌≡◌, ◌∙◌, ap, map}
+use Rattle.std.proofs.Common.{◌∙◌, ap}
 use Rattle.std.specs.List.{filter_map}
 use Rattle.std.proofs.lemmas.Result.{IfOk-weaker}
 use Rattle.lc_versions.specs.News.{EntitySaid}
-use Rattle.version_store.specs.Kept.{news_said, survivors}
+use Rattle.version_store.specs.Kept.{survivors}
 use Rattle.version_store.proofs.KeptLemmas.{survivors_are_kept}
 use Rattle.version_store.proofs.kept.kept_news.Goals as goal
 

@@ -1,4 +1,4 @@
-use Rattle.std.proofs.Common.{◌≡◌, ◌≤◌, ◌∙◌, List, [], ap, arith, drop, length, map, refl, sym}
+use Rattle.std.proofs.Common.{◌≡◌, ◌∙◌, List, [], ap, arith, drop, map, refl, sym}
 use Rattle.std.proofs.lemmas.List.{drop_all}
 use Rattle.lc_versions.specs.History.{filled}
 use Rattle.lc_versions.specs.News.{EntitySaid}

@@ -1,5 +1,4 @@
 use Rattle.std.proofs.Common.{List, map, refl, subst, sym, take}
-use Rattle.std.proofs.lemmas.List.{take_more}
 use Rattle.lc_model.specs.declared.run.Run.{Run}
 use Rattle.lc_versions.specs.Live.{live_calls_of}
 use Rattle.lc_versions.specs.Naming.{news_for}

@@ -1,6 +1,4 @@
-
 use Rattle.lc_versions.specs.Naming.{names_run}
-
 use Rattle.version_store.proofs.FurtherLemmas.{named_more}
 use Rattle.version_store.proofs.live_runs.news_for.Goals as goal
 

@@ -1,4 +1,4 @@
-use Rattle.std.proofs.Common.{◌≡◌, ◌++◌, ◌∙◌, List, [], ap, map, sym}
+use Rattle.std.proofs.Common.{◌++◌, ◌∙◌, List, ap, map, sym}
 use Rattle.std.proofs.lemmas.List.{append-nil}
 use Rattle.std.proofs.lemmas.Map.Iter.{rest_all}
 use Rattle.lc_model.specs.declared.call.Call.{Call}

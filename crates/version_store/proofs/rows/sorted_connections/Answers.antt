@@ -1,4 +1,4 @@
-use Rattle.std.proofs.Common.{List, ap, subst, sym, ◌∙◌, rules}
+use Rattle.std.proofs.Common.{ap, subst, ◌∙◌, rules}
 use Rattle.lc_model.specs.Connection.{connections_of, departure_cmp}
 use Rattle.lc_model.specs.Run.{InKeyOrder}
 use Rattle.lc_model.specs.Totals.{departure_cmp_total}

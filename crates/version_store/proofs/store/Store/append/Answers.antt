@@ -1,6 +1,5 @@
-use Rattle.std.proofs.Common.{◌≡◌, ◌∙◌, ◌<◌, ◌+◌, ◌≤◌, ◌++◌, ◌∷◌, [], List, ap, arith, subst, sym, true, if◌then◌else◌}
+use Rattle.std.proofs.Common.{◌≡◌, ◌∙◌, ◌<◌, ◌+◌, ◌≤◌, ◌++◌, ◌∷◌, [], ap, arith, subst, sym, true, if◌then◌else◌}
 use Rattle.std.specs.Prelude.{is_ok}
-use Rattle.lc_versions.specs.History.{Entry}
 use Rattle.version_store.specs.Store.{Stored, bytes_of, newest_of}
 use Rattle.version_store.specs.declared.store.Admission.{Admission}
 use Rattle.version_store.proofs.StoreLemmas.{kept_more}

@@ -1,6 +1,6 @@
 use Rattle.std.proofs.Common.{ℕ, ◌<◌, ◌∙◌, List, ap, subst, sym}
 use Rattle.std.specs.List.{AllPairs}
-use Rattle.version_store.specs.Store.{Stored, versions_of}
+use Rattle.version_store.specs.Store.{versions_of}
 use Rattle.version_store.proofs.VersionLemmas.{TellsVersion, version_search}
 use Rattle.version_store.proofs.store.Store.has.Goals as goal
 
