@@ -1,9 +1,8 @@
-mod AskLemmas
-mod DocLemmas
+mod CommandLemmas
 mod OneRunLemmas
 mod PlanLemmas
 mod RefusalLemmas
 mod TextLemmas
 mod TinyLemmas
 mod TopLemmas
-mod WordsLemmas
+mod WindowLemmas

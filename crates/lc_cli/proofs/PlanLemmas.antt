@@ -9,9 +9,9 @@ use Rattle.lc_model.specs.declared.moment.TheConstants.{MOMENTS_END}
 use Rattle.lc_model.specs.declared.query.Query.{Query}
 use Rattle.lc_model.specs.declared.query.TheConstants.{LAST_LEAVE}
 use Rattle.lc_model.specs.declared.ride.Ride.{Ride}
-use Rattle.gtfs_tables.specs.declared.tables.Tables.{Tables}
+use Rattle.timetable.specs.declared.timetable.Timetable.{Timetable}
 use Rattle.lc_cli.specs.AnswerText.{ArrivesAtAMoment, answer_text_of}
-use Rattle.lc_cli.specs.Ask.{IsBlockText}
+use Rattle.lc_cli.specs.Command.{IsBlockText}
 use Rattle.lc_cli.specs.Plan.{AnswersQuestion}
 use Rattle.lc_cli.specs.Question.{IsAskable}
 use Rattle.lc_cli.specs.declared.block.Block.{Block}
@@ -29,14 +29,14 @@ within_a_day : (arrival leave horizon : ℕ) → horizon ≡ 86_400 → leave �
 within_a_day arrival leave horizon day not_after in_time = omega arith
 
 -- what answers a question arrives within its horizon, and so at a moment
-pub arrives_at_a_moment : (tables : Tables) (query : Query) (answer : Answer) → query.horizon ≡ 86_400 → AnswersQuestion tables query answer → ArrivesAtAMoment answer
-arrives_at_a_moment tables query (answers.Journey journey) day is =
-    within_a_day (arrives_at journey) query.leave query.horizon day query.not_after is.best.is_journey.in_time
-arrives_at_a_moment tables query answers.NoJourney day is = tt
+pub arrives_at_a_moment : (made : Timetable) (query : Query) (answer : Answer) → query.horizon ≡ 86_400 → AnswersQuestion made query answer → ArrivesAtAMoment answer
+arrives_at_a_moment made query (answers.Journey journey) day is =
+    within_a_day (arrives_at journey) query.leave query.horizon day query.not_after is.is_journey.in_time
+arrives_at_a_moment made query answers.NoJourney day is = tt
 
 -- the text of what answers a question is what is printed of its client
-pub prints_answer : {E : Type 0} (tables : Tables) (query : Query) (answer : Answer) (result : Result Block E) → IsAskable tables.stops query → AnswersQuestion tables query answer
-    → IfOk result (λ block. block.fault ≡ None) → IfOk result (λ block. block.text.items ≡ codes "client 1\n" ++ answer_text_of answer) → IfOk result (λ block. IsBlockText tables query block.fault block.text.items)
-prints_answer tables query answer (Ok block) askable is fault text =
-    subst (λ fault. IsBlockText tables query fault block.text.items) (sym fault) (askable, (answer, is, text))
-prints_answer tables query answer (Err fault) askable is none text = tt
+pub prints_answer : {E : Type 0} (made : Timetable) (query : Query) (answer : Answer) (result : Result Block E) → IsAskable made.doc.stops query → AnswersQuestion made query answer
+    → IfOk result (λ block. block.fault ≡ None) → IfOk result (λ block. block.text.items ≡ codes "client 1\n" ++ answer_text_of answer) → IfOk result (λ block. IsBlockText made query block.fault block.text.items)
+prints_answer made query answer (Ok block) askable is fault text =
+    subst (λ fault. IsBlockText made query fault block.text.items) (sym fault) (askable, (answer, is, text))
+prints_answer made query answer (Err fault) askable is none text = tt

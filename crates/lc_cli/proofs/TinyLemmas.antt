@@ -1,20 +1,27 @@
--- The runs of the feed Tiny, and that the worked journey over them is a best one.
-use Rattle.std.proofs.Common.{◌≡◌, ℕ, suc, ◌+◌, ◌-◌, ◌<◌, ◌≤◌, inl, inr, List, [], ◌∷◌, get_or, Option, Some, None, Bool, true, false, ◌&&◌, cond, nat_lt, map, sym, ap, ◌∙◌, subst, refl, arith, lit<, lit≤, codes}
+-- That the worked journey over the runs of the small feed is a best one.
+use Rattle.std.proofs.Common.{◌≡◌, ℕ, suc, ◌+◌, ◌-◌, ◌<◌, ◌≤◌, inl, inr, List, [], ◌∷◌, drop, get_or, Option, Some, None, Bool, true, false, ◌&&◌, cond, nat_lt, map, sym, ap, ◌∙◌, subst, refl, arith, lit<, lit≤, codes}
 use Rattle.std.specs.Prelude.{find, option_map}
 use Rattle.std.proofs.lemmas.Bool.{and_parts, ltb-true}
 use Rattle.std.proofs.lemmas.Slice.Eq.{bytes_eq-Decides}
-use Rattle.std.specs.List.{list_all}
-use Rattle.std.proofs.lemmas.List.Elements.{All-map}
+use Rattle.std.specs.List.{All, AllPairs, list_all}
+use Rattle.std.specs.Option.{IfSome}
+use Rattle.std.proofs.lemmas.List.{get_or_default}
+use Rattle.std.proofs.lemmas.List.Elements.{All-cons, All-map, All-nil}
+use Rattle.std.proofs.lemmas.List.Kept.{AllPairs-cons}
 use Rattle.std.proofs.lemmas.List.Sums.{AllPass-from_list_all}
 use Rattle.std.proofs.lemmas.Option.{slice_get_within, get_or_from_slice_get}
-use Rattle.httpdate.specs.Calendar.{days_of_years, days_of_months}
+use Rattle.lc_model.specs.Call.{GoesForward}
+use Rattle.trip_runs.specs.Runs.{RunsForward}
 use Rattle.lc_model.specs.Change.{change_between, is_same_id}
 use Rattle.lc_model.specs.Journey.{AreRides, GoesOn, IsAnswer, IsJourney, alight_of, arrival_of_rides, arrives_at, board_of, departure_of}
 use Rattle.lc_model.specs.Question.{IsFrom, IsTo, latest_of}
 use Rattle.lc_model.specs.Ride.{IsRideAt, IsRideOn}
-use Rattle.lc_model.specs.Totals.{run_cmp_total}
-use Rattle.lc_model.specs.RunKey.{key_cmp}
+use Rattle.lc_model.specs.Stop.{HasStop}
+use Rattle.lc_model.specs.StopsDoc.{NamesItsStops}
+use Rattle.lc_model.proofs.OneValueLemmas.{documents_are_one}
+use Rattle.lc_time.specs.declared.zone.Zone.TheVariants.{Utc}
 use Rattle.lc_model.specs.Walk.{IsWalkAfter, IsWalkBefore, seconds_of}
+use Rattle.lc_model.specs.declared.answer.Answer.{Answer}
 use Rattle.lc_model.specs.declared.answer.Answer.TheVariants as answers
 use Rattle.lc_model.specs.declared.call.Call.{Call}
 use Rattle.lc_model.specs.declared.change.Change.{Change}
@@ -26,77 +33,82 @@ use Rattle.lc_model.specs.declared.ride.Ride.{Ride}
 use Rattle.lc_model.specs.declared.run.Run.{Run}
 use Rattle.lc_model.specs.declared.stop.Stop.{Stop}
 use Rattle.lc_model.specs.declared.walk.Walk.{Walk}
-use Rattle.lc_model.proofs.DisordersLemmas.{strict_without_disorder}
-use Rattle.std.specs.Ordering.{on}
-use Rattle.lc_time.specs.Calendar.{Day, day_at}
-use Rattle.lc_time.proofs.CalendarLemmas.{from_1970}
-use Rattle.lc_time.proofs.HttpLemmas.{days, days_at}
-use Rattle.gtfs_tables.specs.declared.dates.DateRow.{DateRow}
-use Rattle.trip_calls.specs.Runs.{IsDay, AreRunsOf, call_at}
-use Rattle.trip_calls.specs.ServiceDays.{AddsOn, AreServiceDays}
-use Rattle.trip_calls.specs.TripRuns.{key_on, runs_of_trips}
-use Rattle.trip_calls.specs.declared.service_days.ServiceDay.{ServiceDay}
-use Rattle.trip_calls.proofs.RunLemmas.{IsRunOf-stands, stands_IsRunOf}
-use Rattle.trip_calls.proofs.ServiceDayLemmas.{AreServiceDays-none, AreServiceDays-more}
-use Rattle.lc_cli.specs.Plan.{AnswersQuestion, window_of}
-use Rattle.lc_cli.specs.Doc.{change_at}
+use Rattle.timetable.specs.Tiny.{IsTiny, call, change_at, key_of, moment, run_of, stop_ids, stop_named, tiny_changes, tiny_runs, tiny_stops}
+use Rattle.timetable.specs.declared.timetable.Timetable.{Timetable}
+use Rattle.lc_cli.specs.Plan.{AnswersQuestion}
 use Rattle.lc_cli.specs.Laws.{OneAnswer}
-use Rattle.lc_cli.specs.Tiny.{AreJourneyBy, AreRefused, AreTaken, IsMadeOf, MakeJourneys, clock, first_of_may, from_a_to_d, in_place, moment, nine_minutes_late, parents, stops_at, stop_ids, stop_named, tiny, to_b, to_d_at, to_d_later, worked}
-use Rattle.lc_cli.proofs.DocLemmas.{changes_known}
+use Rattle.lc_cli.specs.Tiny.{AnswersTiny, AreJourneyBy, AreRefused, AreTaken, IsMadeOf, MakeJourneys, from_a_to_d, in_place, nine_minutes_late, to_b, to_d_at, to_d_later, worked}
 
--- a day of this year, month and day
-abbrev civil_day : ℕ → ℕ → ℕ → Day
-civil_day year month day = record { year = year; month = month; day = day }
+-- each stop is one of the stops
+each_known : (stops : List Stop) → All (λ (s : Stop). HasStop stops s.id) stops
+each_known stops place d inside = (place, get_or stops place d, inside, get_or_default stops place _ d inside, refl)
 
--- 2024-05-01 is 19,844 days after 1970-01-01
-count : days (civil_day 2_024 5 1) ≡ 19_844
-unfolding days days_of_years days_of_months
-count = refl
-
--- no other day is 2024-05-01
-only_day : (n : ℕ) → n < 2_932_897 → IsDay first_of_may n → n ≡ 19_844
-only_day n bound is =
-    let same : civil_day 2_024 5 1 ≡ day_at n = ap (λ (y : ℕ). civil_day y 5 1) is.year ∙ ap (λ (m : ℕ). civil_day (day_at n).year m 1) is.month ∙ ap (λ (d : ℕ). civil_day (day_at n).year (day_at n).month d) is.of_month in
-    sym (days_at n bound) ∙ ap days (sym same) ∙ count
-
--- and that day is
-is_day : IsDay first_of_may 19_844
-is_day =
-    let has = from_1970 2_024 5 1 first_of_may.civil (lit≤ tt) in
-    let here : IsDay first_of_may has.number = record { year = has.year; month = has.month; of_month = has.day } in
-    subst (IsDay first_of_may) (only_day has.number has.bound here) here
-
--- the day of the service
-abbrev service_days : List ServiceDay
-service_days = record { service = codes "w"; date = first_of_may; day = 19_844 } ∷ []
-
-abbrev row : DateRow
-row = record { service = codes "w"; date = first_of_may; added = true }
-
-adds : (day : ℕ) → AddsOn row (window_of from_a_to_d) day → day ≡ 19_844
-adds day on = let after = on.not_after in only_day day (omega (arith, after)) on.is_day
-
-adds_then : AddsOn row (window_of from_a_to_d) 19_844
-adds_then = record { added = refl; is_day = is_day; not_before = lit≤ tt; not_after = lit< tt }
-
-are_days : AreServiceDays tiny.dates (window_of from_a_to_d) service_days
-are_days =
-    AreServiceDays-more (window_of from_a_to_d) tiny.dates 0 row [] service_days (λ i j d before inside. absurd (omega (arith, before, inside))) (lit< tt) refl
-    (AreServiceDays-none (window_of from_a_to_d))
-    (inl (19_844, (λ other. (adds other, λ e. subst (AddsOn row (window_of from_a_to_d)) (sym e) adds_then)), refl))
-
--- the runs: one of each trip
-abbrev runs : List Run
-runs = runs_of_trips tiny.stop_times service_days tiny.trips
-
-are_runs : AreRunsOf tiny (window_of from_a_to_d) runs
-are_runs = record {
-  all = λ run. (IsRunOf-stands tiny (window_of from_a_to_d) service_days are_days run, stands_IsRunOf tiny (window_of from_a_to_d) service_days are_days run);
-  in_order = strict_without_disorder (on (λ (r : Run). r.key) key_cmp) run_cmp_total runs refl;
+-- the stops and the changes of the small feed name its stops
+pub known : NamesItsStops tiny_stops tiny_changes
+known = record {
+  parents = All-map (λ (s : Stop). IfSome s.parent (HasStop tiny_stops)) stop_named stop_ids (λ place stop inside. tt);
+  changes_from = All-map (λ (c : Change). HasStop tiny_stops c.from) change_at tiny_stops (each_known tiny_stops);
+  changes_to = All-map (λ (c : Change). HasStop tiny_stops c.to) change_at tiny_stops (each_known tiny_stops);
 }
 
+abbrev runs : List Run
+runs = tiny_runs
+
 abbrev doc : StopsDoc
-doc = record { stops = tiny.stops; changes = map change_at tiny.stops; closed = ∣ changes_known tiny.stops parents ∣₁ }
+doc = record { stops = tiny_stops; changes = tiny_changes; closed = ∣ known ∣₁ }
+
+abbrev SequenceRises : Call → Call → Type 0
+SequenceRises x y = x.seq < y.seq
+
+abbrev StaysForward : Call → Type 0
+StaysForward x = x.arr ≤ x.dep
+
+abbrev GoesOnForward : Call → Call → Type 0
+GoesOnForward x y = x.dep ≤ y.arr
+
+pairs_of_two : {X : Type 0} (R : X → X → Type 0) (a b : X) → R a b → AllPairs R (a ∷ b ∷ [])
+pairs_of_two R a b r = AllPairs-cons R a (b ∷ []) (All-cons (R a) b [] r (All-nil (R a))) (AllPairs-cons R b [] (All-nil (R b)) (λ i j d before inside. absurd (omega (arith, inside))))
+
+-- two calls that go forward, and three
+two_forward : (a b : Call) → SequenceRises a b → StaysForward a → StaysForward b → GoesOnForward a b → GoesForward (a ∷ b ∷ [])
+two_forward a b seq stay_a stay_b along = record {
+  in_sequence = pairs_of_two SequenceRises a b seq;
+  at_a_stop = All-cons StaysForward a (b ∷ []) stay_a (All-cons StaysForward b [] stay_b (All-nil StaysForward));
+  along = pairs_of_two GoesOnForward a b along;
+}
+
+pairs_of_three : {X : Type 0} (R : X → X → Type 0) (a b c : X) → R a b → R a c → R b c → AllPairs R (a ∷ b ∷ c ∷ [])
+pairs_of_three R a b c ab ac bc = AllPairs-cons R a (b ∷ c ∷ []) (All-cons (R a) b (c ∷ []) ab (All-cons (R a) c [] ac (All-nil (R a)))) (pairs_of_two R b c bc)
+
+three_forward : (a b c : Call) → SequenceRises a b → SequenceRises a c → SequenceRises b c → StaysForward a → StaysForward b → StaysForward c → GoesOnForward a b → GoesOnForward a c → GoesOnForward b c
+    → GoesForward (a ∷ b ∷ c ∷ [])
+three_forward a b c ab ac bc stay_a stay_b stay_c along_ab along_ac along_bc = record {
+  in_sequence = pairs_of_three SequenceRises a b c ab ac bc;
+  at_a_stop = All-cons StaysForward a (b ∷ c ∷ []) stay_a (All-cons StaysForward b (c ∷ []) stay_b (All-cons StaysForward c [] stay_c (All-nil StaysForward)));
+  along = pairs_of_three GoesOnForward a b c along_ab along_ac along_bc;
+}
+
+abbrev RunForward : Run → Type 0
+RunForward run = GoesForward run.calls
+
+two_run : (trip from to : List ℕ) (dep arr : ℕ) → dep ≤ arr → RunForward (run_of trip (call from 1 dep dep ∷ call to 2 arr arr ∷ []))
+two_run trip from to dep arr along = two_forward (call from 1 dep dep) (call to 2 arr arr) (lit< tt) (omega arith) (omega arith) along
+
+pub forward : RunsForward tiny_runs
+forward =
+    All-cons RunForward (get_or tiny_runs 0 (run_of [] [])) (drop 1 tiny_runs)
+    (three_forward (call (codes "A") 1 (moment 8 0) (moment 8 0)) (call (codes "B") 2 (moment 8 10) (moment 8 11)) (call (codes "C") 3 (moment 8 30) (moment 8 30))
+    (lit< tt) (lit< tt) (lit< tt) (lit≤ tt) (lit≤ tt) (lit≤ tt) (lit≤ tt) (lit≤ tt) (lit≤ tt))
+    (All-cons RunForward (get_or tiny_runs 1 (run_of [] [])) (drop 2 tiny_runs) (two_run (codes "T2") (codes "B") (codes "D") (moment 8 20) (moment 8 40) (lit≤ tt))
+    (All-cons RunForward (get_or tiny_runs 2 (run_of [] [])) (drop 3 tiny_runs) (two_run (codes "T3") (codes "B") (codes "D") (moment 8 12) (moment 8 31) (lit≤ tt))
+    (All-cons RunForward (get_or tiny_runs 3 (run_of [] [])) (drop 4 tiny_runs) (two_run (codes "T4") (codes "E") (codes "F") (moment 9 0) (moment 9 10) (lit≤ tt))
+    (All-cons RunForward (get_or tiny_runs 4 (run_of [] [])) [] (two_run (codes "T5") (codes "E") (codes "F") (moment 10 0) (moment 10 10) (lit≤ tt)) (All-nil RunForward)))))
+
+abbrev pub tiny : Timetable
+tiny = record { zone = Utc; runs = runs; connections = 6; doc = doc; trips = 5; left_out = 0; forward = forward }
+
+is_tiny : IsTiny tiny
+is_tiny = record { runs = refl; stops = refl; changes = refl }
 
 -- at D, the call arrives at 08:31 or later
 abbrev is_late_at_d : Call → Bool
@@ -148,16 +160,12 @@ stays (stop ∷ stops) from to seconds is =
 ends_late : (rides : List Ride) (after : Option Walk) → AreRides (IsRideAt runs) doc rides → IsWalkAfter from_a_to_d doc (alight_of rides) after → moment 8 31 ≤ arrival_of_rides rides + seconds_of after
 ends_late rides None are ends = let late : moment 8 31 ≤ arrival_of_rides rides = are_late rides are (ends_at_d (alight_of rides) ends) in omega (arith, late)
 ends_late rides (Some walk) are (apart, from, nearest) =
-    let same : alight_of rides ≡ walk.to = stays tiny.stops (alight_of rides) walk.to walk.seconds nearest.takes_so_long in
+    let same : alight_of rides ≡ walk.to = stays tiny_stops (alight_of rides) walk.to walk.seconds nearest.takes_so_long in
     absurd (apart (subst (IsTo doc.stops from_a_to_d) (sym same) nearest.is_an_end))
 
 -- no journey arrives earlier
 journeys_late : (journey : Journey) → IsJourney (IsRideAt runs) from_a_to_d doc journey → moment 8 31 ≤ arrives_at journey
 journeys_late journey is = ends_late journey.rides journey.after is.are_rides is.ends
-
--- the call of a row of the timetable on the day
-abbrev call : List ℕ → List ℕ → ℕ → ℕ → Call
-call trip stop seq time = call_at 19_844 (stops_at trip stop seq time time)
 
 -- a ride from the first call of a run to the second
 from_first : (key : RunKey) (boards alights : Call) (rest : List Call) → boards.board ≡ true → alights.alight ≡ true → IsRideOn key (boards ∷ alights ∷ rest) (record { key = key; first_seq = boards.seq; last_seq = boards.seq; board = boards.stop; dep = boards.dep; alight = alights.stop; arr = alights.arr })
@@ -176,20 +184,20 @@ from_first key boards alights rest board alight = record {
   is_ride = refl;
 }
 
-abbrev run_of : ℕ → Run
-run_of place = get_or runs place (record { key = key_on [] first_of_may; calls = [] })
+abbrev run_at : ℕ → Run
+run_at place = get_or runs place (run_of [] [])
 
 rides_to_b : IsRideAt runs to_b
 rides_to_b =
-    (0, run_of 0, lit< tt, refl, from_first (key_on (codes "T1") first_of_may) (call (codes "T1") (codes "A") 1 (clock 8 0)) (call_at 19_844 (stops_at (codes "T1") (codes "B") 2 (clock 8 10) (clock 8 11))) (call (codes "T1") (codes "C") 3 (clock 8 30) ∷ []) refl refl)
+    (0, run_at 0, lit< tt, refl, from_first (key_of (codes "T1")) (call (codes "A") 1 (moment 8 0) (moment 8 0)) (call (codes "B") 2 (moment 8 10) (moment 8 11)) (call (codes "C") 3 (moment 8 30) (moment 8 30) ∷ []) refl refl)
 
 rides_to_d : IsRideAt runs (to_d_at (moment 8 31))
 rides_to_d =
-    (2, run_of 2, lit< tt, refl, from_first (key_on (codes "T3") first_of_may) (call (codes "T3") (codes "B") 1 (clock 8 12)) (call (codes "T3") (codes "D") 2 (clock 8 31)) [] refl refl)
+    (2, run_at 2, lit< tt, refl, from_first (key_of (codes "T3")) (call (codes "B") 1 (moment 8 12) (moment 8 12)) (call (codes "D") 2 (moment 8 31) (moment 8 31)) [] refl refl)
 
 rides_to_d_later : IsRideAt runs to_d_later
 rides_to_d_later =
-    (1, run_of 1, lit< tt, refl, from_first (key_on (codes "T2") first_of_may) (call (codes "T2") (codes "B") 1 (clock 8 20)) (call (codes "T2") (codes "D") 2 (clock 8 40)) [] refl refl)
+    (1, run_at 1, lit< tt, refl, from_first (key_of (codes "T2")) (call (codes "B") 1 (moment 8 20) (moment 8 20)) (call (codes "D") 2 (moment 8 40) (moment 8 40)) [] refl refl)
 
 -- a journey with no walks is one where its rides are, from an end of the question to an end and in time
 walks_nowhere : (IsRide : Ride → Type 0) (query : Query) (doc : StopsDoc) (rides : List Ride) (journey : Journey) → IsMadeOf None rides None journey → AreRides IsRide doc rides
@@ -215,15 +223,13 @@ best journey made = record {
 }
 
 pub worked_answers : AreTaken None worked
-worked_answers journey made = record { runs = runs; are_runs = are_runs; doc = doc; is_doc = record { stops_are = refl; changes_are = refl }; best = best journey made }
+worked_answers journey made = (tiny, is_tiny, best journey made)
 
 -- the journey by T2 is one too
-pub later_is_journey : AreJourneyBy tiny from_a_to_d nine_minutes_late
+pub later_is_journey : AreJourneyBy from_a_to_d nine_minutes_late
 later_is_journey = record {
-  runs = runs;
-  are_runs = are_runs;
-  doc = doc;
-  is_doc = record { stops_are = refl; changes_are = refl };
+  made = tiny;
+  is_tiny = is_tiny;
   are_journey = λ journey made. walks_nowhere (IsRideAt runs) from_a_to_d doc nine_minutes_late journey made (rides_to_b, (rides_to_d_later, lit≤ tt, tt)) (inl refl) (lit≤ tt) (inl refl) (lit≤ tt);
 }
 
@@ -241,21 +247,31 @@ abbrev pub the_worked : Journey
 the_worked = (rides_make to_b (to_d_at (moment 8 31) ∷ []) None None).0
 
 pub the_worked_answers : AnswersQuestion tiny from_a_to_d (answers.Journey the_worked)
-the_worked_answers = worked_answers the_worked (rides_make to_b (to_d_at (moment 8 31) ∷ []) None None).1
+the_worked_answers = best the_worked (rides_make to_b (to_d_at (moment 8 31) ∷ []) None None).1
+
+-- what answers by a timetable of the small feed answers by this one
+same_doc : (made : Timetable) → IsTiny made → made.doc ≡ doc
+same_doc made is = documents_are_one made.doc doc is.stops is.changes
+
+pub by_tiny : (answer : Answer) → AnswersTiny from_a_to_d answer → AnswersQuestion tiny from_a_to_d answer
+by_tiny answer (made, is, answers) =
+    subst (λ (d : StopsDoc). IsAnswer (IsRideAt runs) from_a_to_d d answer) (same_doc made is)
+    (subst (λ (r : List Run). IsAnswer (IsRideAt r) from_a_to_d made.doc answer) is.runs answers)
 
 -- rides that arrive at another moment than those of an answer are no answer
 pub refused_arrival : OneAnswer → (rides : List Ride) → (arrival_of_rides rides ≡ moment 8 31 → ⊥) → AreRefused None rides
 refused_arrival one_answer rides other journey made answered =
-    let one = one_answer tiny from_a_to_d (answers.Journey the_worked) (answers.Journey journey) the_worked_answers answered in
+    let one = one_answer tiny from_a_to_d (answers.Journey the_worked) (answers.Journey journey) the_worked_answers (by_tiny (answers.Journey journey) answered) in
     let same : arrives_at the_worked ≡ arrives_at journey = cc in
     other (sym (arrives_with_rides None rides journey made) ∙ sym same ∙ arrives_with_rides None worked the_worked (rides_make to_b (to_d_at (moment 8 31) ∷ []) None None).1)
 
 -- where a journey may begin there is no walk, be it from the same stop
 pub refused_walk : (seconds : ℕ) → AreRefused (Some (in_place seconds)) worked
 refused_walk seconds journey made answered =
-    let begins : IsWalkBefore from_a_to_d answered.doc (board_of worked) (Some (in_place seconds)) =
-    subst (λ rides. IsWalkBefore from_a_to_d answered.doc (board_of rides) (Some (in_place seconds))) made.rides_are
-    (subst (IsWalkBefore from_a_to_d answered.doc (board_of journey.rides)) made.before_is answered.best.is_journey.begins) in
+    let here = by_tiny (answers.Journey journey) answered in
+    let begins : IsWalkBefore from_a_to_d doc (board_of worked) (Some (in_place seconds)) =
+    subst (λ rides. IsWalkBefore from_a_to_d doc (board_of rides) (Some (in_place seconds))) made.rides_are
+    (subst (IsWalkBefore from_a_to_d doc (board_of journey.rides)) made.before_is here.is_journey.begins) in
     begins.0 (inl refl)
 
 -- no two arrivals are one

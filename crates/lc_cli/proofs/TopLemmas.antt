@@ -1,56 +1,48 @@
 -- What follows from the cause of a status.
-use Rattle.std.proofs.Common.{◌≡◌, ◌⊎◌, inl, inr, ℕ, List, Option, Some, Err, IfSome, refl, ap, subst, sym, ◌∙◌}
+use Rattle.std.proofs.Common.{◌≡◌, ◌⊎◌, inl, inr, ℕ, List, Some, Err, refl, ap, subst, sym}
 use Rattle.lc_io.specs.Counts.{Rose}
-use Rattle.gtfs_tables.specs.Feed.{ArePlainTables}
-use Rattle.lc_io.specs.declared.file.File.{File}
-use Rattle.gtfs_tables.specs.Files.{Found, files_of}
-use Rattle.gtfs_tables.specs.Reading.{EndsSo}
-use Rattle.gtfs_tables.specs.declared.feed.fault.FeedFault.TheVariants as fault
-use Rattle.gtfs_tables.specs.declared.feed.feed_file.FeedFile.{FeedFile}
-use Rattle.gtfs_tables.proofs.FeedLaws.{never_both}
+use Rattle.command_words.specs.Laws.{OneCommand}
+use Rattle.command_words.specs.Words.{SaysCommand}
+use Rattle.command_words.specs.declared.command.Command.{Command}
+use Rattle.timetable.specs.Laws.{NotBroken, NotTooLarge}
+use Rattle.timetable.specs.Loading.{LoadsSo}
+use Rattle.timetable.specs.Told.{IsSound}
+use Rattle.timetable.specs.declared.fault.LoadFault.TheVariants as fault
+use Rattle.timetable.specs.declared.scope.Scope.{Scope}
+use Rattle.gtfs_feed.specs.declared.what.What.{What}
+use Rattle.lc_cli.specs.Command.{scope_of}
 use Rattle.lc_cli.specs.Top.{IsAnswered, IsClear, IsRight, Past}
-use Rattle.lc_cli.specs.Words.{AreAskWords, SaysAsk}
 use Rattle.lc_cli.specs.declared.status.Status.{Status}
-use Rattle.lc_cli.specs.declared.status.Status.TheVariants.{Done, Usage, FeedBroken, FolderFault, SinkFault, QueryRefused, NoMemory}
-use Rattle.lc_cli.specs.declared.words.Ask.{Ask}
+use Rattle.lc_cli.specs.declared.status.Status.TheVariants.{Done, Usage, FeedBroken, FolderFault, SinkFault, QueryRefused, TooLarge, NoMemory}
 
--- every other status has a question that the words ask
-pub usage_only : (p : Past) (status : Status) → IsRight p status → ((ask : Ask) → SaysAsk p.words ask → ⊥) → (status ≡ Usage) ⊎ (status ≡ NoMemory)
+-- every other status has a command that the words say
+pub usage_only : (p : Past) (status : Status) → IsRight p status → ((command : Command) → SaysCommand p.words command → ⊥) → (status ≡ Usage) ⊎ (status ≡ NoMemory)
 usage_only p Usage right none = inl refl
 usage_only p NoMemory right none = inr refl
 usage_only p Done right none = absurd (none right.1.0 right.1.1)
 usage_only p (QueryRefused client fault) right none = absurd (none right.1.1.0 right.1.1.1)
 usage_only p (SinkFault before after) right none = absurd (none right.3.1.0 right.3.1.1)
 usage_only p (FeedBroken rule file row) right none = absurd (none right.0.0 right.0.1)
+usage_only p (TooLarge what count) right none = absurd (none right.0.0 right.0.1)
 usage_only p (FolderFault before after) right none = absurd (none right.0.0 right.0.1)
 
--- the words ask of one feed
-same_feed : (words : List (List ℕ)) (feed from to moment feed' from' to' moment' : List ℕ) → AreAskWords words feed from to moment → AreAskWords words feed' from' to' moment' → feed ≡ feed'
-same_feed words feed from to moment feed' from' to' moment' here there =
-    let all = sym here.are ∙ there.are in
-    cc
+module _ (one_command : OneCommand) (not_broken : NotBroken) (not_too_large : NotTooLarge) where
+  -- the files are sound for each command that the words say
+  sound_for : (p : Past) (clear : IsClear p) (command : Command) → SaysCommand p.words command → IsSound clear.told (scope_of command) clear.made
+  sound_for p clear command says =
+      subst (λ (c : Command). IsSound clear.told (scope_of c) clear.made) (one_command p.words clear.command command clear.says says) clear.sound
 
--- what is found in a folder that tells its files is what it has
-pub found_is : (told : Option (List File)) (files : List File) (feed : List ℕ) (found : Found) → told ≡ Some files
-    → IfSome told (λ files. (at : FeedFile) → found at ≡ files_of files feed at) → found ≡ files_of files feed
-found_is told files feed found tells there = λ i at. subst (λ t. IfSome t (λ files. (at : FeedFile) → found at ≡ files_of files feed at)) tells there at i
-
--- a feed that is plain is not broken
-not_broken : (p : Past) (clear : IsClear p) (ask : Ask) (rule : ℕ) (file : List ℕ) (row : ℕ) → SaysAsk p.words ask → EndsSo p.folder_before p.folder_after ask.feed (Err (fault.Broken rule file row)) → ⊥
-not_broken p clear ask rule file row says (is_rule, is_row, (found, place, at, reads, first, named)) =
-    let feed = same_feed p.words clear.ask.feed clear.says.from clear.says.to clear.says.moment ask.feed says.from says.to says.moment clear.says.words_are says.words_are in
-    let seen : found ≡ files_of clear.told ask.feed = found_is p.folder_before.files clear.told ask.feed found clear.tells reads.found_there in
-    let plain : ArePlainTables found clear.tables = subst (λ found. ArePlainTables found clear.tables) (ap (files_of clear.told) feed ∙ sym seen) clear.plain in
-    never_both found clear.tables place at plain first
-
--- nothing but memory keeps the answer from being printed
-pub complete : (p : Past) (status : Status) → IsRight p status → IsClear p → IsAnswered status
-complete p Done right clear = tt
-complete p (QueryRefused client fault) right clear = tt
-complete p NoMemory right clear = tt
-complete p Usage right clear = right.0.0 clear.ask clear.says
-complete p (FeedBroken rule file row) right clear = not_broken p clear right.0.0 rule file row right.0.1 right.0.2
-complete p (FolderFault before after) right clear =
-    clear.no_folder_fault (subst (λ count. Rose count p.folder_after.faults) right.0.2.0 (subst (λ count. Rose before count) right.0.2.1 right.0.2.2))
-complete p (SinkFault before after) right clear =
-    clear.no_sink_fault (subst (λ count. Rose count p.sink_after.faults) right.0 (subst (λ count. Rose before count) right.1 right.2))
+  -- nothing but memory keeps the output from being printed
+  pub complete : (p : Past) (status : Status) → IsRight p status → IsClear p → IsAnswered status
+  complete p Done right clear = tt
+  complete p (QueryRefused client fault) right clear = tt
+  complete p NoMemory right clear = tt
+  complete p Usage right clear = right.0.0 clear.command clear.says
+  complete p (FeedBroken rule file row) right clear =
+      not_broken clear.told (scope_of right.0.0) p.folder_before p.folder_after clear.made rule file row clear.tells (sound_for p clear right.0.0 right.0.1) right.0.2
+  complete p (TooLarge what count) right clear =
+      not_too_large clear.told (scope_of right.0.0) p.folder_before p.folder_after clear.made what count clear.tells (sound_for p clear right.0.0 right.0.1) right.0.2
+  complete p (FolderFault before after) right clear =
+      clear.no_folder_fault (subst (λ count. Rose count p.folder_after.faults) right.0.2.0 (subst (λ count. Rose before count) right.0.2.1 right.0.2.2))
+  complete p (SinkFault before after) right clear =
+      clear.no_sink_fault (subst (λ count. Rose count p.sink_after.faults) right.0 (subst (λ count. Rose before count) right.1 right.2))

@@ -6,7 +6,7 @@ use Rattle.lc_cli.specs.Writing.{Wrote, WroteFront}
 use Rattle.lc_cli.specs.declared.block.Block.{Block}
 use Rattle.lc_cli.specs.declared.status.QueryFault.{QueryFault}
 use Rattle.lc_cli.specs.declared.status.Status.{Status}
-use Rattle.lc_cli.specs.declared.status.Status.TheVariants.{Done, Usage, FeedBroken, FolderFault, SinkFault, QueryRefused, NoMemory}
+use Rattle.lc_cli.specs.declared.status.Status.TheVariants.{Done, Usage, FeedBroken, FolderFault, SinkFault, QueryRefused, TooLarge, NoMemory}
 
 -- the status of the first client: done, or its question is refused
 abbrev pub client_status_of : Option QueryFault → Status
@@ -25,3 +25,4 @@ IsBlockEnd block before after NoMemory = Rose before.wants after.wants × WroteF
 IsBlockEnd block before after Usage = ⊥
 IsBlockEnd block before after (FeedBroken rule file row) = ⊥
 IsBlockEnd block before after (FolderFault counted now) = ⊥
+IsBlockEnd block before after (TooLarge what count) = ⊥

@@ -1,7 +1,7 @@
 pub mod AnswerText
-pub mod Ask
 pub mod Block
-pub mod Doc
+pub mod CheckText
+pub mod Command
 pub mod Laws
 pub mod Plan
 pub mod Question
@@ -9,5 +9,4 @@ pub mod Refusal
 pub mod Status
 pub mod Tiny
 pub mod Top
-pub mod Words
 pub mod Writing

@@ -1,7 +1,7 @@
 -- The exit status of each end of a run.
 use Rattle.std.specs.Prelude.{ℕ}
 use Rattle.lc_cli.specs.declared.status.Status.{Status}
-use Rattle.lc_cli.specs.declared.status.Status.TheVariants.{Done, Usage, FeedBroken, FolderFault, SinkFault, QueryRefused, NoMemory}
+use Rattle.lc_cli.specs.declared.status.Status.TheVariants.{Done, Usage, FeedBroken, FolderFault, SinkFault, QueryRefused, TooLarge, NoMemory}
 
 abbrev pub code_of : Status → ℕ
 code_of Done = 0
@@ -11,3 +11,4 @@ code_of (FolderFault before after) = 5
 code_of (SinkFault before after) = 6
 code_of (QueryRefused client fault) = 9
 code_of NoMemory = 12
+code_of (TooLarge what count) = 13

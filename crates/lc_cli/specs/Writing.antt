@@ -3,6 +3,11 @@ use Rattle.std.specs.Prelude.{◌≡◌, ◌⊎◌, ℕ, ◌≤◌, List, length
 use Rattle.lc_io.specs.Counts.{Rose}
 use Rattle.lc_io.specs.Sink.{SinkSeen, written_after}
 
+-- neither count of the sink has fallen
+pub record NeitherFell (before after : SinkSeen) : Type 0 where
+  pub faults : before.faults ≤ after.faults
+  pub wants : before.wants ≤ after.wants
+
 -- the whole text was written
 abbrev pub Wrote : SinkSeen → SinkSeen → List ℕ → Type 0
 Wrote before after text = after.written ≡ written_after before.written text (length text)

@@ -1,5 +1,6 @@
-ghost use Rattle.std.specs.Prelude.{◌≡◌, ◌≤◌};
+ghost use Rattle.std.specs.Prelude.{◌≡◌};
 ghost use Rattle.lc_cli.specs.Block.{IsBlockEnd, client_status_of};
+ghost use Rattle.lc_cli.specs.Writing.{NeitherFell};
 
 use crate::status::{QueryFault, Status};
 use lc_world::{Sink, SinkFail, put_all};
@@ -14,7 +15,7 @@ pub struct Block {
 /// Writes the block whole, and ends with the status of its client.
 pub(crate) fn write_block<S: Sink>(block: &Block, out: &mut S) -> Status
     ensures end { IsBlockEnd block.now (S.seen out.old) (S.seen out.new) result }
-    ensures kept { (S.seen out.old).faults ≤ (S.seen out.new).faults }
+    ensures kept { NeitherFell (S.seen out.old) (S.seen out.new) }
 {
     let before = out.faults();
     match put_all(out, block.text.as_slice()) {

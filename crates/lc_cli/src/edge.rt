@@ -1,7 +1,7 @@
 ghost use Rattle.std.specs.Prelude.{◌≡◌, ◌≢◌, ◌≤◌, ◌↔◌, ◌⊎◌, IfErr, IfOk, None, length};
-ghost use Rattle.gtfs_tables.specs.declared.feed.fault.FeedFault.TheVariants.{NoMemory as no_memory};
+ghost use Rattle.timetable.specs.declared.fault.LoadFault.TheVariants.{NoMemory as no_memory};
 ghost use Rattle.std.specs.declared.io.ErrorKind.TheVariants.{NotFound, OutOfMemory};
-ghost use Rattle.lc_cli.specs.declared.refusal.Refusal.TheVariants.{Feed, Usage};
+ghost use Rattle.lc_cli.specs.declared.refusal.Refusal.TheVariants.{Load, Usage};
 ghost use Rattle.lc_io.specs.declared.folder.FolderFail.TheVariants.{Absent, NoMemory as WantOfMemory};
 
 use crate::refusal::Refusal;
@@ -14,7 +14,7 @@ use std::{env, fs};
 
 /// The words behind the program's name, or why they cannot be read.
 pub fn words_of(rt: &HostRuntime) -> Result<Vec<String>, Refusal>
-    ensures { IfErr result (λ refusal. (refusal ≡ Usage) ⊎ (refusal ≡ Feed no_memory)) }
+    ensures { IfErr result (λ refusal. (refusal ≡ Usage) ⊎ (refusal ≡ Load no_memory)) }
 {
     match env::args(rt) {
         Ok(words) => Ok(words.skip(1).collect(rt.alloc()).map_err(NoMemory::from)?),
@@ -24,7 +24,7 @@ pub fn words_of(rt: &HostRuntime) -> Result<Vec<String>, Refusal>
 
 /// What words are refused for that cannot be read: no command has one that is not UTF-8.
 fn refusal_of(kind: ErrorKind) -> Refusal
-    ensures no_memory { (result ≡ Feed no_memory) ↔ (kind ≡ OutOfMemory) }
+    ensures no_memory { (result ≡ Load no_memory) ↔ (kind ≡ OutOfMemory) }
     ensures usage { (result ≡ Usage) ↔ (kind ≢ OutOfMemory) }
 {
     match kind {

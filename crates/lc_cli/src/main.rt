@@ -1,10 +1,10 @@
-//! The command `lc`: it plans journeys over a timetable. It stands on the folder, the tables and the scan.
+//! The command `lc`: it plans journeys over a timetable. It stands on the words, the timetable of a feed and the scan.
 #![tactic(auto)]
 
 mod answer_text;
-mod ask;
 mod block;
-mod doc;
+mod check_text;
+mod command;
 mod edge;
 mod laws;
 mod plan;
@@ -14,7 +14,6 @@ mod status;
 #[cfg(test)]
 mod tests;
 mod top;
-mod words;
 mod worked;
 
 use edge::{DirFolder, StdSink, words_of};
@@ -27,11 +26,11 @@ use top::run;
 
 fn main(rt: HostRuntime) -> ExitCode {
     let mut out = StdSink::new(&rt);
-    ExitCode::from(code(&command(&rt, &mut out)))
+    ExitCode::from(code(&carried_out(&rt, &mut out)))
 }
 
-/// Carries out the command that the words of the command line are, and gives the status with which it ended.
-fn command(rt: &HostRuntime, out: &mut StdSink<HostRuntime>) -> Status {
+/// Carries out the command that the words of the command line say, and gives the status with which it ended.
+fn carried_out(rt: &HostRuntime, out: &mut StdSink<HostRuntime>) -> Status {
     let alloc = rt.alloc();
     let words = match words_of(rt) {
         Ok(words) => words,

@@ -4,44 +4,27 @@ ghost use Rattle.lc_model.specs.Journey.{IsAnswer};
 ghost use Rattle.lc_model.specs.Leg.{IsLegOf, in_time};
 ghost use Rattle.lc_model.specs.Stop.{HasStop};
 ghost use Rattle.csa_scan.specs.StandsFor.{StandsFor};
-ghost use Rattle.lc_cli.specs.Plan.{AnswersQuestion, window_of};
+ghost use Rattle.lc_cli.specs.Plan.{AnswersQuestion};
 ghost use Rattle.lc_cli.specs.Question.{IsAskable};
 ghost use Rattle.std.specs.Prelude.{[]};
 
-use crate::doc::doc_of;
 use csa_scan::{BeginFault, Scan};
-use gtfs_tables::Tables;
 use journey_laws::chains_are_journeys;
 use lc_model::{Answer, Connections, NoMemory, Query, StopsDoc};
 use std::alloc::Global;
-use trip_calls::{Window, connections, runs};
+use timetable::Timetable;
+use trip_runs::connections;
 
-/// Seconds of a day.
-const DAY: u64 = 86_400;
-
-/// A best journey by the feed's timetable, or that there is none, in the time of a sort of the connections.
-pub(crate) fn plan(alloc: Global, tables: &Tables, query: &Query) -> Result<Answer, NoMemory>
-    requires askable { IsAskable tables.now.stops query.now }
+/// A best journey by the timetable, or that there is none, in the time of a sort of the connections.
+pub(crate) fn plan(alloc: Global, made: &Timetable, query: &Query) -> Result<Answer, NoMemory>
+    requires askable { IsAskable made.now.doc.stops query.now }
     requires horizon { query.now.horizon ≡ 86_400 }
-    ensures { IfOk result (AnswersQuestion tables.now query.now) }
+    ensures { IfOk result (AnswersQuestion made.now query.now) }
 {
-    let doc = doc_of(alloc, &tables.stops)?;
-    let runs = runs(alloc, tables, window(query))?;
-    let list = connections(alloc, &runs)?;
-    let answer = scanned(alloc, &list, query, &doc)?;
-    chains_are_journeys(&runs, &list, query, &doc);
+    let list = connections(alloc, &made.runs)?;
+    let answer = scanned(alloc, &list, query, &made.doc)?;
+    chains_are_journeys(&made.runs, &list, query, &made.doc);
     Ok(answer)
-}
-
-/// The days on which a run can serve the question: the one before it leaves in UTC, that day and the next.
-fn window(query: &Query) -> Window
-    ensures { result ≡ window_of query.now }
-{
-    let day = query.leave.seconds() / DAY;
-    Window {
-        first: (day - 1) as u32,
-        count: 3,
-    }
 }
 
 /// A best chain of the connections, or that there is none.

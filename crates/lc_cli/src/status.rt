@@ -1,6 +1,7 @@
 ghost use Rattle.std.specs.Prelude.{◌≡◌};
 ghost use Rattle.lc_cli.specs.Status.{code_of};
 
+use gtfs_feed::What;
 use lc_model::Text;
 
 /// Why a question is refused.
@@ -21,7 +22,7 @@ pub enum Status {
     Done,
     /// The words are none that a command has.
     Usage,
-    /// A file of the feed breaks a rule in a row, or as a whole in row 0.
+    /// A file of the feed breaks a rule in a row, or as a whole in row 0; by rule 15 the word of the zone says none.
     FeedBroken { rule: u8, file: Text, row: u64 },
     /// The folder failed: its count of faults before and after.
     FolderFault { before: u64, after: u64 },
@@ -30,6 +31,8 @@ pub enum Status {
     /// The question of a client, counted from 1, is refused.
     QueryRefused { client: usize, fault: QueryFault },
     NoMemory,
+    /// The feed or its timetable has more of something than is taken: so much of it.
+    TooLarge { what: What, count: u64 },
 }
 
 /// The exit status of the program.
@@ -44,5 +47,6 @@ pub fn code(status: &Status) -> u8
         Status::SinkFault { .. } => 6,
         Status::QueryRefused { .. } => 9,
         Status::NoMemory => 12,
+        Status::TooLarge { .. } => 13,
     }
 }

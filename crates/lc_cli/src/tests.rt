@@ -11,13 +11,21 @@ use std::alloc::Global;
 use std::process::Abort;
 use std::test::Fail;
 use std::{env, fs};
-use tiny_feed::{CALENDAR_DATES, STOP_TIMES, STOPS, TINY, TRIPS, files_of};
+use tiny_feed::{TINY, file_of, files_of};
 
 const FIRST: &str = "client 1
 journey 2 arrives 2024-05-01T08:31:00.000Z
 ride T1 20240501 - 1 1 A 2024-05-01T08:00:00.000Z B 2024-05-01T08:10:00.000Z
 ride T3 20240501 - 1 1 B 2024-05-01T08:12:00.000Z D 2024-05-01T08:31:00.000Z
 ";
+
+const LATER: &str = "client 1
+journey 2 arrives 2024-05-01T08:40:00.000Z
+ride T1 20240501 - 1 1 A 2024-05-01T08:00:00.000Z B 2024-05-01T08:10:00.000Z
+ride T2 20240501 - 1 1 B 2024-05-01T08:20:00.000Z D 2024-05-01T08:40:00.000Z
+";
+
+const COUNTS: &str = "stops 6\ntrips 5\nleft out 0\nruns 5\nconnections 6\nchanges 6\nok\n";
 
 fn words_of(alloc: Global, words: &str) -> Result<Vec<String>, Fail> {
     let mut list = Vec::new(alloc);
@@ -38,17 +46,25 @@ fn ask<F: Folder>(alloc: Global, folder: &mut F, words: &str) -> Result<(u8, Vec
     Ok((code(&status), text))
 }
 
-// Questions of the feed Tiny: by hand from its ten minutes at B and its two minutes of change.
+// What the words come to over the feed Tiny: by hand from its ten minutes at B and its two minutes of change.
 #[test]
-fn questions_of_tiny(rt: HostRuntime) -> Result<(), Fail> {
+fn words_over_tiny(rt: HostRuntime) -> Result<(), Fail> {
     let alloc = rt.alloc();
     for &(words, status, output) in &[
         ("ask tiny A D 2024-05-01T08:00:00Z", 0, FIRST),
+        ("ask --days=3 tiny A D 2024-05-01T08:00:00Z", 0, FIRST),
+        ("ask tiny -- A D 2024-05-01T08:00:00Z", 0, FIRST),
         (
             "ask tiny A D 2024-05-01T08:00:01Z",
             0,
             "client 1\nno journey\n",
         ),
+        (
+            "ask tiny A D 2024-05-01T08:00:00Z --days 1",
+            0,
+            "client 1\nno journey\n",
+        ),
+        ("ask tiny A D 2024-05-01T08:00:00Z --change 121", 0, LATER),
         ("ask tiny A D yesterday", 2, "error usage\n"),
         (
             "ask tiny A D 2024-05-01T08:00:00Z --cache 0",
@@ -56,11 +72,12 @@ fn questions_of_tiny(rt: HostRuntime) -> Result<(), Fail> {
             "error usage\n",
         ),
         (
-            "ask tiny A D 2024-05-01T08:00:00Z --base http://lc.example/a!b/",
+            "ask tiny A D 2024-05-01T08:00:00Z --days 3 --days 3",
             2,
             "error usage\n",
         ),
         ("ask tiny A D 1970-01-10T23:59:59Z", 2, "error usage\n"),
+        ("ask --help", 2, "error usage\n"),
         (
             "ask tiny A A 2024-05-01T08:00:00Z",
             9,
@@ -79,8 +96,20 @@ fn questions_of_tiny(rt: HostRuntime) -> Result<(), Fail> {
         (
             "ask none A D 2024-05-01T08:00:00Z",
             3,
-            "error feed F16 stops.txt row 0\n",
+            "error feed F1 stops.txt row 0\n",
         ),
+        ("check tiny 20240501", 0, COUNTS),
+        (
+            "check tiny 20240501 --zone cet",
+            3,
+            "error feed F15 cet row 0\n",
+        ),
+        (
+            "check tiny 20240501 --zone file:none",
+            3,
+            "error feed F15 file:none row 0\n",
+        ),
+        ("check tiny 20240230", 2, "error usage\n"),
     ] {
         let mut folder = SureFolder::new(alloc, files_of(alloc, TINY.as_slice())?)?;
         let (code, text) = ask(alloc, &mut folder, words)?;
@@ -90,100 +119,114 @@ fn questions_of_tiny(rt: HostRuntime) -> Result<(), Fail> {
     Ok(())
 }
 
-// Feeds with one question each: of header lines alone, without trips, a ride over two calls at one moment, and feeds that
-// are not plain.
+// Feeds of other files than Tiny's, or of more: of header lines alone, without trips, a ride over two calls at one moment, services by
+// weekdays, a trip that is left out, changes between stops, and files that break a rule.
 #[test]
 fn other_feeds(rt: HostRuntime) -> Result<(), Fail> {
     let alloc = rt.alloc();
-    let no_trips = "service_id,trip_id\n";
-    let no_times = "trip_id,arrival_time,departure_time,stop_id,stop_sequence\n";
-    let no_dates = "service_id,date,exception_type\n";
-    let over_y = "trip_id,arrival_time,departure_time,stop_id,stop_sequence
-T6,09:00:00,09:00:00,X,1
-T6,09:00:00,09:00:00,Y,2
-T6,09:05:00,09:05:00,Z,3
-";
-    let unknown_trip = "trip_id,arrival_time,departure_time,stop_id,stop_sequence
-T1,08:00:00,08:00:00,A,1
-T1,08:10:00,08:11:00,B,2
-T1,08:30:00,08:30:00,C,3
-T9,08:20:00,08:20:00,B,1
-T2,08:40:00,08:40:00,D,2
-";
     let a_to_d = "ask tiny A D 2024-05-01T08:00:00Z";
-    for &(stops, trips, times, dates, extra, words, status, output) in &[
+    for &(name, bytes, words, status, output) in &[
         (
+            "stops.txt",
             "stop_id,stop_name\n",
-            no_trips,
-            no_times,
-            no_dates,
-            "x",
-            a_to_d,
-            9,
-            "client 1\nrefused unknown from\n",
+            "check tiny 20240501",
+            3,
+            "error feed F8 stop_times.txt row 1\n",
         ),
         (
-            STOPS,
-            no_trips,
-            no_times,
-            no_dates,
-            "x",
+            "stop_times.txt",
+            "trip_id,arrival_time,departure_time,stop_id,stop_sequence\n",
             a_to_d,
             0,
             "client 1\nno journey\n",
         ),
         (
-            "stop_id\nX\nY\nZ\n",
-            "service_id,trip_id\nw,T6\n",
-            over_y,
-            CALENDAR_DATES,
-            "x",
-            "ask tiny X Z 2024-05-01T09:00:00Z",
+            "stop_times.txt",
+            "trip_id,arrival_time,departure_time,stop_id,stop_sequence
+T4,09:00:00,09:00:00,A,1
+T4,09:00:00,09:00:00,B,2
+T4,09:05:00,09:05:00,C,3
+",
+            "ask tiny A C 2024-05-01T09:00:00Z",
             0,
             "client 1
 journey 1 arrives 2024-05-01T09:05:00.000Z
-ride T6 20240501 - 1 2 X 2024-05-01T09:00:00.000Z Z 2024-05-01T09:05:00.000Z
+ride T4 20240501 - 1 2 A 2024-05-01T09:00:00.000Z C 2024-05-01T09:05:00.000Z
 ",
         ),
         (
-            STOPS,
-            TRIPS,
-            unknown_trip,
-            CALENDAR_DATES,
-            "x",
+            "stop_times.txt",
+            "trip_id,arrival_time,departure_time,stop_id,stop_sequence
+T1,08:00:00,08:00:00,A,1
+T1,08:10:00,08:11:00,B,2
+T1,08:30:00,08:30:00,C,3
+T9,08:20:00,08:20:00,B,1
+T2,08:40:00,08:40:00,D,2
+",
             a_to_d,
             3,
-            "error feed F16 stop_times.txt row 0\n",
+            "error feed F9 stop_times.txt row 4\n",
         ),
         (
-            STOPS,
-            TRIPS,
-            STOP_TIMES,
-            CALENDAR_DATES,
-            "tiny/transfers.txt",
+            "transfers.txt",
+            "from_stop_id,to_stop_id,transfer_type,min_transfer_time\nB,B,2,121\n",
             a_to_d,
-            3,
-            "error feed F16 transfers.txt row 0\n",
+            0,
+            LATER,
         ),
         (
-            STOPS,
-            TRIPS,
-            STOP_TIMES,
-            CALENDAR_DATES,
-            "tiny/calendar.txt",
+            "transfers.txt",
+            "from_stop_id,to_stop_id,transfer_type,min_transfer_time\nB,B,3,121\n",
             a_to_d,
-            3,
-            "error feed F16 calendar.txt row 0\n",
+            0,
+            "client 1\nno journey\n",
+        ),
+        (
+            "transfers.txt",
+            "from_stop_id,to_stop_id,transfer_type,min_transfer_time\nB,E,2,300\n",
+            "ask tiny A F 2024-05-01T08:00:00Z",
+            0,
+            "client 1
+journey 2 arrives 2024-05-01T09:10:00.000Z
+ride T1 20240501 - 1 1 A 2024-05-01T08:00:00.000Z B 2024-05-01T08:10:00.000Z
+ride T4 20240501 - 1 1 E 2024-05-01T09:00:00.000Z F 2024-05-01T09:10:00.000Z
+",
+        ),
+        (
+            "transfers.txt",
+            "from_stop_id,to_stop_id,transfer_type,min_transfer_time\nB,E,2,300\n",
+            "ask tiny B F 2024-05-01T08:55:00Z",
+            0,
+            "client 1
+journey 1 arrives 2024-05-01T09:10:00.000Z
+walk B E 300
+ride T4 20240501 - 1 1 E 2024-05-01T09:00:00.000Z F 2024-05-01T09:10:00.000Z
+",
+        ),
+        (
+            "stops.txt",
+            "stop_id,parent_station\nA,\nB,P\nC,\nD,\nE,\nF,\nP,\n",
+            "ask tiny A P 2024-05-01T08:00:00Z",
+            0,
+            "client 1
+journey 1 arrives 2024-05-01T08:10:00.000Z
+ride T1 20240501 - 1 1 A 2024-05-01T08:00:00.000Z B 2024-05-01T08:10:00.000Z
+",
+        ),
+        (
+            "calendar.txt",
+            "service_id,monday,tuesday,wednesday,thursday,friday,saturday,sunday,start_date,end_date
+w,0,0,1,0,0,0,0,20240401,20240531
+",
+            "check tiny 20240501 --days 14",
+            0,
+            "stops 6\ntrips 5\nleft out 0\nruns 10\nconnections 12\nchanges 6\nok\n",
         ),
     ] {
-        let files = [
-            ("tiny/stops.txt", stops),
-            ("tiny/trips.txt", trips),
-            ("tiny/stop_times.txt", times),
-            ("tiny/calendar_dates.txt", dates),
-            (extra, ""),
-        ];
-        let mut folder = SureFolder::new(alloc, files_of(alloc, files.as_slice())?)?;
+        let mut files = files_of(alloc, TINY.as_slice())?;
+        let path = format!(in alloc; "tiny/{name}")?;
+        files.insert(0, file_of(alloc, path.as_str(), bytes)?)?;
+        let mut folder = SureFolder::new(alloc, files)?;
         let (code, text) = ask(alloc, &mut folder, words)?;
         assert_eq!(rt; code, status, "{output}");
         assert_eq!(rt; text.as_slice(), output.as_bytes(), "{output}");
@@ -193,7 +236,7 @@ ride T6 20240501 - 1 2 X 2024-05-01T09:00:00.000Z Z 2024-05-01T09:05:00.000Z
     assert_eq!(rt; code, 3);
     assert_eq!(rt;
         text.as_slice(),
-        b"error feed F16 calendar.txt row 0\n".as_slice()
+        b"error feed F1 calendar.txt row 0\n".as_slice()
     );
     Ok(())
 }

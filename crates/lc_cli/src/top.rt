@@ -1,21 +1,25 @@
-ghost use Rattle.std.specs.Prelude.{◌≡◌, ◌≤◌, ◌⊎◌};
-ghost use Rattle.gtfs_tables.specs.Reading.{Keeps};
+ghost use Rattle.std.specs.Prelude.{◌≡◌, ◌⊎◌};
+ghost use Rattle.command_words.specs.Line.{texts_of};
+ghost use Rattle.command_words.specs.Words.{SaysCommand};
+ghost use Rattle.command_words.specs.declared.command.Command.{Command};
+ghost use Rattle.gtfs_feed.specs.Reading.{Keeps};
 ghost use Rattle.lc_cli.specs.Top.{IsAnswered, IsClear, IsRight};
-ghost use Rattle.lc_cli.specs.Words.{SaysAsk, texts_of};
-ghost use Rattle.lc_cli.specs.declared.words.Ask.{Ask};
+ghost use Rattle.lc_cli.specs.Writing.{NeitherFell};
 
-use crate::ask::outcome;
 use crate::block::write_block;
+use crate::command::outcome;
 use crate::refusal::refuse;
 use crate::status::Status;
+use command_words::one_command;
 use lc_world::{Door, Folder, Link, Sink};
 use std::alloc::Global;
+use timetable::one_timetable;
 
 /// Runs the command of these words, over a folder, a link, a door and a sink, and gives the link back.
 ///
-/// The one command is `ask FEED FROM TO MOMENT`: by the plain GTFS feed of that name in the folder, it prints a best
-/// journey from one stop to another that leaves at the moment or later and arrives within a day, or that there is none.
-/// The link and the door are not used by it.
+/// `check FEED FIRST` reads the GTFS feed of that name in the folder and prints its counts, or the first rule that it breaks.
+/// `ask FEED FROM TO MOMENT` prints a best journey by it from one stop to another that leaves at the moment or later and arrives
+/// within a day, or that there is none. The link and the door are not used by them.
 pub fn run<F: Folder, L: Link, D: Door, S: Sink>(
     alloc: Global,
     words: &[String],
@@ -32,11 +36,11 @@ pub fn run<F: Folder, L: Link, D: Door, S: Sink>(
       sink_after = S.seen out.new;
     }) result.0 }
 
-    // Usage comes wherever the words ask no question, memory apart.
-    ensures usage_only { ((ask : Ask) → SaysAsk (texts_of words.now) ask → ⊥)
+    // Usage comes wherever the words say no command, memory apart.
+    ensures usage_only { ((command : Command) → SaysCommand (texts_of words.now) command → ⊥)
         → (result.0 ≡ Status.Usage) ⊎ (result.0 ≡ Status.NoMemory) }
 
-    // Nothing but memory keeps the answer to a question of a plain feed from being printed, where no fault is counted.
+    // Nothing but memory keeps the output from being printed where no rule refuses the feed and no fault is counted.
     ensures complete { IsClear (record {
       words = texts_of words.now;
       folder_before = F.seen folder.old;
@@ -47,10 +51,12 @@ pub fn run<F: Folder, L: Link, D: Door, S: Sink>(
 
     // The folder has the same files, and no count has fallen.
     ensures folder { Keeps (F.seen folder.old) (F.seen folder.new) }
-    ensures sink { (S.seen out.old).faults ≤ (S.seen out.new).faults }
+    ensures sink { NeitherFell (S.seen out.old) (S.seen out.new) }
     ensures link { result.1 ≡ link }
     ensures door { door.new ≡ door.old }
 {
+    one_command();
+    one_timetable();
     match outcome(alloc, words, folder) {
         Ok(block) => (write_block(&block, out), link),
         Err(refusal) => (refuse(alloc, refusal, out), link),

@@ -1,18 +1,17 @@
 ghost use Rattle.std.specs.Prelude.{ℕ, None, Some, List, [], ◌∷◌};
 ghost use Rattle.lc_model.specs.declared.answer.Answer.TheVariants.{NoJourney};
 ghost use Rattle.lc_model.specs.declared.ride.Ride.{Ride as RideValue};
-ghost use Rattle.lc_cli.specs.Plan.{AnswersQuestion};
-ghost use Rattle.lc_cli.specs.Tiny.{AreJourneyBy, AreRefused, AreTaken, MakeJourneys, a_second_late, from_a_to_d, in_place, nine_minutes_late, swapped, tiny, worked};
+ghost use Rattle.lc_cli.specs.Tiny.{AnswersTiny, AreJourneyBy, AreRefused, AreTaken, MakeJourneys, a_second_late, from_a_to_d, in_place, nine_minutes_late, swapped, worked};
 
 use crate::laws::one_answer;
 
-/// Of the feed Tiny, the worked journey answers its question, and each wrong answer is refused.
+/// Of the small feed, the worked journey answers its question, and each wrong answer is refused.
 pub fn worked_answer()
     ensures takes { AreTaken None worked }
-    ensures refuses_no_journey { ¬ AnswersQuestion tiny from_a_to_d NoJourney }
+    ensures refuses_no_journey { ¬ AnswersTiny from_a_to_d NoJourney }
     ensures refuses_a_later_arrival { AreRefused None a_second_late }
     ensures refuses_swapped_rides { AreRefused None swapped }
-    ensures has_a_later_journey { AreJourneyBy tiny from_a_to_d nine_minutes_late }
+    ensures has_a_later_journey { AreJourneyBy from_a_to_d nine_minutes_late }
     ensures refuses_a_later_journey { AreRefused None nine_minutes_late }
 
     // A walk from a stop to itself stands for no walk, however short it is.

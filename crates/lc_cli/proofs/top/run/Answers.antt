@@ -1,7 +1,7 @@
 use Rattle.std.proofs.Common.{refl}
+use Rattle.command_words.specs.Line.{texts_of}
 use Rattle.lc_cli.specs.Top.{IsRight, Past}
-use Rattle.lc_cli.specs.Words.{texts_of}
-use Rattle.lc_cli.proofs.AskLemmas.{right_block, right_refusal}
+use Rattle.lc_cli.proofs.CommandLemmas.{right_block, right_refusal}
 use Rattle.lc_cli.proofs.TopLemmas.{complete, usage_only}
 use Rattle.lc_cli.proofs.top.run.Goals as goal
 
@@ -18,7 +18,7 @@ returns-in-Ok g c =
     record {
       status = right;
       usage_only = usage_only p c.write_block.result right;
-      complete = complete p c.write_block.result right;
+      complete = complete c.one_command.ensures c.one_timetable.ensures.not_broken c.one_timetable.ensures.not_too_large p c.write_block.result right;
       folder = c.outcome.ensures.kept;
       sink = c.write_block.ensures.kept;
       link = refl;
@@ -38,7 +38,7 @@ returns-in-Err g c =
     record {
       status = right;
       usage_only = usage_only p c.refuse.result right;
-      complete = complete p c.refuse.result right;
+      complete = complete c.one_command.ensures c.one_timetable.ensures.not_broken c.one_timetable.ensures.not_too_large p c.refuse.result right;
       folder = c.outcome.ensures.kept;
       sink = c.refuse.ensures.kept;
       link = refl;

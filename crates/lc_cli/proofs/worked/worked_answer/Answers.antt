@@ -1,7 +1,8 @@
 use Rattle.std.proofs.Common.{◌+◌, lit<, sym}
 use Rattle.lc_model.specs.declared.answer.Answer.TheVariants as answers
-use Rattle.lc_cli.specs.Tiny.{a_second_late, from_a_to_d, moment, nine_minutes_late, swapped, tiny}
-use Rattle.lc_cli.proofs.TinyLemmas.{apart, later_is_journey, none_make_none, refused_arrival, refused_walk, rides_make, the_worked, the_worked_answers, worked_answers}
+use Rattle.timetable.specs.Tiny.{moment}
+use Rattle.lc_cli.specs.Tiny.{a_second_late, from_a_to_d, nine_minutes_late, swapped}
+use Rattle.lc_cli.proofs.TinyLemmas.{apart, by_tiny, later_is_journey, none_make_none, refused_arrival, refused_walk, rides_make, the_worked, the_worked_answers, tiny, worked_answers}
 use Rattle.lc_cli.proofs.worked.worked_answer.Goals as goal
 
 pub returns-clause-takes : goal.returns-clause-takes
@@ -9,7 +10,7 @@ returns-clause-takes c = worked_answers
 
 pub returns-clause-refuses_no_journey : goal.returns-clause-refuses_no_journey
 returns-clause-refuses_no_journey c = λ other.
-    let one = c.one_answer.ensures tiny from_a_to_d (answers.Journey the_worked) answers.NoJourney the_worked_answers other in
+    let one = c.one_answer.ensures tiny from_a_to_d (answers.Journey the_worked) answers.NoJourney the_worked_answers (by_tiny answers.NoJourney other) in
     cc
 
 pub returns-clause-refuses_a_later_arrival : goal.returns-clause-refuses_a_later_arrival

@@ -1,0 +1,5 @@
+mod EndLemmas
+mod LawLemmas
+mod MadeLemmas
+mod NeverWrongLemmas
+mod ZoneLemmas

@@ -1,0 +1,8 @@
+pub mod Laws
+pub mod Loading
+pub mod Made
+pub mod Scope
+pub mod Timetable
+pub mod Tiny
+pub mod Told
+pub mod Zone

@@ -1,0 +1,18 @@
+//! The timetable of a feed in a window of days: its runs and its stops document in the zone that a word says, or why there
+//! is none. It stands on `gtfs_feed`, `service_days`, `trip_runs` and `change_table`.
+#![tactic(auto)]
+
+mod fault;
+mod laws;
+mod loading;
+mod made;
+mod scope;
+mod timetable;
+mod zone;
+mod zone_end;
+
+pub use fault::LoadFault;
+pub use laws::one_timetable;
+pub use loading::load;
+pub use scope::Scope;
+pub use timetable::Timetable;

@@ -1,0 +1,113 @@
+ghost use Rattle.std.specs.Prelude.{◌≡◌, ◌-◌, IfErr, IfOk, OnOk, length};
+ghost use Rattle.change_table.specs.ChangeTable.{AreChangesOf};
+ghost use Rattle.lc_model.specs.Connection.{connections_of};
+ghost use Rattle.lc_model.specs.StopsDoc.{NamesItsStops};
+ghost use Rattle.timetable.specs.Made.{FailsToMake, FailsToMakeChanges, FailsToMakeRuns};
+ghost use Rattle.timetable.specs.Scope.{IsWindow};
+ghost use Rattle.timetable.specs.Timetable.{HasFewChanges, HaveFewConnections, IsTimetableOf, RunsAre};
+ghost use Rattle.trip_runs.specs.Runs.{RunsForward};
+
+use crate::{LoadFault, Scope, Timetable};
+use change_table::{ChangeFault, changes};
+use gtfs_feed::{Tables, What};
+use lc_model::{Call, Changes, Run, Runs, StopsDoc};
+use lc_time::Zone;
+use service_days::days;
+use std::alloc::Global;
+use trip_runs::{LoadFault as RunsFault, runs};
+
+/// The timetable of the tables in the scope, by the clock of the zone.
+pub(crate) fn timetable_of(
+    alloc: Global,
+    scope: &Scope,
+    zone: Zone,
+    tables: Tables,
+) -> Result<Timetable, LoadFault>
+    requires { IsWindow scope.now.first scope.now.days }
+    ensures made { IfOk result (IsTimetableOf scope.now zone tables) }
+    ensures fault { IfErr result (FailsToMake scope.now zone tables) }
+{
+    let runs = runs_of(alloc, scope, &zone, &tables)?;
+    let connections = count_connections(runs.as_slice());
+    let changes = changes_of(alloc, scope, &tables)?;
+    Ok(Timetable {
+        zone,
+        runs,
+        connections,
+        trips: tables.trips.as_slice().len() as u64,
+        left_out: tables.left_out,
+        doc: StopsDoc {
+            stops: tables.stops,
+            changes,
+        },
+    })
+}
+
+// The runs of the tables in the window of the scope.
+fn runs_of(alloc: Global, scope: &Scope, zone: &Zone, tables: &Tables) -> Result<Runs, LoadFault>
+    requires { IsWindow scope.now.first scope.now.days }
+    ensures are { IfOk result (RunsAre scope.now zone.now tables.now) }
+    ensures forward { IfOk result RunsForward }
+    ensures few { IfOk result HaveFewConnections }
+    ensures fault { IfErr result (FailsToMakeRuns scope.now zone.now tables.now) }
+{
+    let weekly = tables.weekly.as_slice();
+    let days = days(
+        alloc,
+        weekly,
+        tables.dates.as_slice(),
+        scope.first,
+        scope.days,
+    )?;
+    match runs(
+        alloc,
+        &tables.trips,
+        &tables.stop_times,
+        &tables.frequencies,
+        &days,
+        zone,
+    ) {
+        Ok(runs) => Ok(runs),
+        Err(RunsFault::TooManyConnections { count }) => Err(LoadFault::TooLarge {
+            what: What::Connections,
+            count,
+        }),
+        Err(RunsFault::NoMemory) => Err(LoadFault::NoMemory),
+    }
+}
+
+// The changes between the stops of the tables.
+fn changes_of(alloc: Global, scope: &Scope, tables: &Tables) -> Result<Changes, LoadFault>
+    ensures are { IfOk result (AreChangesOf tables.now.stops tables.now.transfers scope.now.change) }
+    ensures known { IfOk result (λ changes. ∥ NamesItsStops tables.now.stops changes ∥₁) }
+    ensures few { OnOk result (HasFewChanges scope.now tables.now) }
+    ensures fault { IfErr result (FailsToMakeChanges scope.now tables.now) }
+{
+    match changes(alloc, &tables.stops, &tables.transfers, scope.change) {
+        Ok(changes) => Ok(changes),
+        Err(ChangeFault::TooManyChanges { count }) => Err(LoadFault::TooLarge {
+            what: What::Changes,
+            count,
+        }),
+        Err(ChangeFault::NoMemory) => Err(LoadFault::NoMemory),
+    }
+}
+
+// How many connections the runs have. Linear in the runs.
+fn count_connections(runs: &[Run]) -> u64
+    requires { HaveFewConnections runs.now }
+    ensures { result ≡ length (connections_of runs.now) }
+{
+    let mut count = 0;
+    for run in runs {
+        count += pairs(run.calls.as_slice());
+    }
+    count
+}
+
+// How many pairs of consecutive calls there are.
+fn pairs(calls: &[Call]) -> u64
+    ensures { result ≡ length calls.now - 1 }
+{
+    calls.len().saturating_sub(1) as u64
+}

@@ -1,5 +1,0 @@
-pub mod ConnectionLemmas
-pub mod Lists
-pub mod RunLemmas
-pub mod ServiceDayLemmas
-pub mod TimeLemmas
