@@ -1,5 +1,5 @@
 #!/usr/bin/env python3
-"""Writes a plain GTFS feed.
+"""Writes a GTFS feed.
 
     make_feed.py ROWS DIR
 
@@ -15,7 +15,7 @@ import os
 import random
 import sys
 
-MOST_ROWS = 10_000  # A plain file has at most so many.
+MOST_ROWS = 999_990  # The ids of trips have five digits.
 CALLS = 10  # of a trip
 FIRST_START = 5 * 3600  # Trips start from 05:00:00 on,
 LAST_START = 22 * 3600  # and before 22:00:00.
