@@ -1,9 +1,8 @@
 -- How the loading ends behind the zone: with a timetable, or for a fault of the feed or of its timetable.
-use Rattle.std.proofs.Common.{◌≡◌, ◌∙◌, inl, inr, ℕ, ◌+◌, ◌≤◌, min, Result, Ok, Err, IfErr, IfOk, arith, refl, subst, sym}
+use Rattle.std.proofs.Common.{◌≡◌, ◌∙◌, inl, inr, ℕ, ◌≤◌, Result, Ok, Err, IfErr, IfOk, arith, refl, subst, sym}
 use Rattle.lc_io.specs.Counts.{Rose}
 use Rattle.lc_io.specs.Folder.{FolderSeen}
 use Rattle.lc_time.specs.declared.zone.Zone.{Zone}
-use Rattle.gtfs_feed.specs.Files.{name_of}
 use Rattle.gtfs_feed.specs.Reading.{EndsSo, Keeps}
 use Rattle.gtfs_feed.specs.declared.fault.FeedFault.{FeedFault}
 use Rattle.gtfs_feed.specs.declared.fault.FeedFault.TheVariants as feed

@@ -1,12 +1,11 @@
 -- The timetable of a feed is one, and a feed that has one is not refused.
-use Rattle.std.proofs.Common.{◌≡◌, ◌∙◌, ◌⊎◌, ℕ, suc, ◌<◌, ◌≤◌, inl, inr, List, length, Option, Some, None, Ok, Err, Result, ap, arith, subst, sym, refl}
+use Rattle.std.proofs.Common.{◌≡◌, ◌∙◌, ◌⊎◌, ℕ, suc, inl, inr, List, length, Option, Some, None, ap, arith, subst, sym, refl}
 use Rattle.std.specs.Prelude.{IfSome, MatchOption, option_and_then}
 use Rattle.lc_io.specs.Folder.{FolderSeen, bytes_named}
 use Rattle.lc_io.specs.declared.file.File.{File}
 use Rattle.lc_model.specs.Connection.{connections_of}
 use Rattle.lc_model.specs.declared.run.Run.{Run}
 use Rattle.lc_model.proofs.OneValueLemmas.{documents_are_one}
-use Rattle.lc_time.specs.Zone.{anchor_of}
 use Rattle.lc_time.specs.declared.zone.Zone.{Zone}
 use Rattle.change_table.specs.ChangeTable.{OneListOfChanges}
 use Rattle.service_days.specs.Laws.{OneListOfDays, OneZone, ShowSame}
@@ -27,12 +26,11 @@ use Rattle.gtfs_feed.specs.declared.what.What.{What}
 use Rattle.trip_runs.specs.Laws.{OneListOfRuns}
 use Rattle.trip_runs.specs.Runs.{AreRunsOf, IsRunOf}
 use Rattle.timetable.specs.Laws.{AreSame, LoadsTold, NotBroken, NotTooLarge, OneOfTables, OneTimetable}
-use Rattle.timetable.specs.Loading.{Loads, LoadsSo, ReadsFeed, ReadsTables}
+use Rattle.timetable.specs.Loading.{ReadsTables}
 use Rattle.timetable.specs.Made.{HasManyChangesAlone, HasManyConnections}
 use Rattle.timetable.specs.Timetable.{HasFewChanges, IsTimetableOf, RunsAre}
 use Rattle.timetable.specs.Told.{IsSound, zone_bytes}
-use Rattle.timetable.specs.Zone.{FindsNoZone, Finds, LooksUp, ReadsZone}
-use Rattle.timetable.specs.declared.fault.LoadFault.TheVariants as fault
+use Rattle.timetable.specs.Zone.{Finds, ReadsZone}
 use Rattle.timetable.specs.declared.scope.Scope.{Scope}
 use Rattle.timetable.specs.declared.timetable.Timetable.{Timetable}
 
@@ -56,7 +54,7 @@ run_by_other a b trips times frequencies days run same is = record {
 flipped : (a b : Zone) → ShowSame a b → ShowSame b a
 flipped a b same = record { anchors = λ date. sym (same.anchors date); dates = λ moment. sym (same.dates moment) }
 
-runs_by_other : (a b : Zone) (scope : Scope) (tables : Tables) (runs : List Run) → ShowSame a b → RunsAre scope a tables runs → RunsAre scope b tables runs
+pub runs_by_other : (a b : Zone) (scope : Scope) (tables : Tables) (runs : List Run) → ShowSame a b → RunsAre scope a tables runs → RunsAre scope b tables runs
 runs_by_other a b scope tables runs same are = record {
   days = are.days;
   are_days = are.are_days;
@@ -104,7 +102,7 @@ module _ (one_days : OneListOfDays) (one_runs : OneListOfRuns) where
           one_by scope p.zone q.zone q.tables a b zones (subst (λ (t : Tables). IsTimetableOf scope p.zone t a) tables p.is) q.is
 
 -- what was looked up of the zone's word is what told files have
-looked_up : (files : List File) (old new : FolderSeen) (found named : Option (List ℕ)) → old.files ≡ Some files
+pub looked_up : (files : List File) (old new : FolderSeen) (found named : Option (List ℕ)) → old.files ≡ Some files
     → MatchOption named ((new ≡ old) × (found ≡ None)) (λ name. Finds old new name found)
     → (new.files ≡ Some files) × (found ≡ option_and_then (bytes_named files) named)
 looked_up files old new found None tells (same, none) = (ap (λ (f : FolderSeen). f.files) same ∙ tells, none)
@@ -112,21 +110,21 @@ looked_up files old new found (Some name) tells finds =
     (finds.kept.files ∙ tells, subst (λ t. IfSome t (λ files. found ≡ bytes_named files name)) tells finds.there)
 
 -- what was found of a feed is what told files have
-found_is : (told : Option (List File)) (files : List File) (name : List ℕ) (found : Found) → told ≡ Some files
+pub found_is : (told : Option (List File)) (files : List File) (name : List ℕ) (found : Found) → told ≡ Some files
     → IfSome told (λ files. (at : FeedFile) → found at ≡ files_of files name at) → found ≡ files_of files name
 found_is told files name found tells there = λ i at. subst (λ t. IfSome t (λ files. (at : FeedFile) → found at ≡ files_of files name at)) tells there at i
 
 -- the zone that was read is the one that told files say
-zone_told : (files : List File) (old new : FolderSeen) (word : List ℕ) (zone : Zone) → old.files ≡ Some files → ReadsZone old new word zone → SaysZone word (zone_bytes files word) zone
+pub zone_told : (files : List File) (old new : FolderSeen) (word : List ℕ) (zone : Zone) → old.files ≡ Some files → ReadsZone old new word zone → SaysZone word (zone_bytes files word) zone
 zone_told files old new word zone tells read =
     subst (λ found. SaysZone word found zone) (looked_up files old new read.found (file_named word) tells read.looked).1 read.says
 
 -- the folder tells the same files once the zone is read
-still_told : (files : List File) (old new : FolderSeen) (word : List ℕ) (zone : Zone) → old.files ≡ Some files → ReadsZone old new word zone → new.files ≡ Some files
+pub still_told : (files : List File) (old new : FolderSeen) (word : List ℕ) (zone : Zone) → old.files ≡ Some files → ReadsZone old new word zone → new.files ≡ Some files
 still_told files old new word zone tells read = (looked_up files old new read.found (file_named word) tells read.looked).0
 
 -- the tables that were read are those of told files
-tables_told : (files : List File) (scope : Scope) (old new : FolderSeen) (zone : Zone) (tables : Tables) → old.files ≡ Some files → ReadsTables scope old new zone tables → AreTables (files_of files scope.feed) tables
+pub tables_told : (files : List File) (scope : Scope) (old new : FolderSeen) (zone : Zone) (tables : Tables) → old.files ≡ Some files → ReadsTables scope old new zone tables → AreTables (files_of files scope.feed) tables
 tables_told files scope old new zone tables tells read =
     let told = still_told files old read.between scope.zone zone tells read.zone_read in
     let ends = read.files_read in

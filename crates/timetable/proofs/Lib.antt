@@ -2,4 +2,5 @@ mod EndLemmas
 mod LawLemmas
 mod MadeLemmas
 mod NeverWrongLemmas
+mod OneEndLemmas
 mod ZoneLemmas

@@ -1,7 +1,5 @@
 -- Days of a window, connections of runs one more at a time, and the stops that changes name.
 use Rattle.std.proofs.Common.{◌≡◌, ◌∙◌, ℕ, ◌+◌, ◌-◌, ◌<◌, ◌≤◌, List, [], ◌∷◌, ◌++◌, Option, Some, None, ap, arith, drop, get_or, length, length-append, refl, sym, take, take-append-drop}
-use Rattle.std.specs.Prelude.{pos}
-use Rattle.std.specs.List.{All, Contains, flat_map}
 use Rattle.std.specs.Option.{option_and_then}
 use Rattle.std.proofs.lemmas.Grind.{flat_map-append}
 use Rattle.std.proofs.lemmas.List.{get_or_default, take_more}
@@ -22,7 +20,7 @@ use Rattle.gtfs_files.specs.Stops.{HaveKnownParents}
 use Rattle.gtfs_files.specs.declared.calendar.Weekly.{Weekly}
 use Rattle.gtfs_files.specs.declared.calendar_dates.DateRow.{DateRow}
 use Rattle.gtfs_files.specs.declared.transfer.Transfer.{Transfer}
-use Rattle.service_days.specs.Days.{AreDays, IsInWindow, day_number}
+use Rattle.service_days.specs.Days.{AreDays, IsInWindow}
 use Rattle.service_days.specs.declared.service_day.ServiceDay.{ServiceDay}
 use Rattle.change_table.specs.ChangeRule.{change_from_to, change_of, stop_of}
 use Rattle.change_table.specs.ChangeTable.{AreChangesOf}

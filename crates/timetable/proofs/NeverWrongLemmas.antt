@@ -1,6 +1,6 @@
 -- A word that says a zone is none that says none.
-use Rattle.std.proofs.Common.{◌≡◌, ◌≢◌, ℕ, suc, List, [], ◌∷◌, length, take, drop, Bool, true, false, cond, Option, Some, None, Result, Ok, ap, arith, sym, subst, codes, get_or, refl}
-use Rattle.std.specs.Prelude.{IsErr, IsSome, IsSomeAnd, MatchOption, ⊤}
+use Rattle.std.proofs.Common.{◌≡◌, ◌≢◌, ℕ, suc, List, [], ◌∷◌, length, take, drop, Bool, true, false, cond, Option, Some, None, arith, subst, codes, get_or, refl}
+use Rattle.std.specs.Prelude.{IsSome, IsSomeAnd, MatchOption, ⊤}
 use Rattle.std.specs.Str.{bytes_eq}
 use Rattle.std.proofs.lemmas.Slice.Eq.{bytes_eq-Decides}
 use Rattle.jiff_tz.specs.PosixReader.{read_whole}

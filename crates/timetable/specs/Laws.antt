@@ -1,13 +1,19 @@
 -- The timetable of a feed is one, and a feed that has one is not refused.
-use Rattle.std.specs.Prelude.{◌≡◌, ℕ, List, Some, Err}
+use Rattle.std.specs.Prelude.{◌≡◌, ℕ, List, Some, Result, Ok, Err}
 use Rattle.lc_io.specs.Folder.{FolderSeen}
 use Rattle.lc_io.specs.declared.file.File.{File}
 use Rattle.lc_time.specs.declared.zone.Zone.{Zone}
+use Rattle.service_days.specs.ZoneWord.{SaysZone}
+use Rattle.gtfs_files.specs.declared.fault.FileFault.TheVariants as wrong
+use Rattle.gtfs_feed.specs.Feed.{IsFirstBroken, named_at}
+use Rattle.gtfs_feed.specs.Files.{files_of, name_of}
+use Rattle.gtfs_feed.specs.declared.feed_file.FeedFile.{FeedFile}
 use Rattle.gtfs_feed.specs.declared.tables.Tables.{Tables}
 use Rattle.gtfs_feed.specs.declared.what.What.{What}
 use Rattle.timetable.specs.Loading.{Loads, LoadsSo}
 use Rattle.timetable.specs.Timetable.{IsTimetableOf}
-use Rattle.timetable.specs.Told.{IsSound}
+use Rattle.timetable.specs.Told.{IsSound, zone_bytes}
+use Rattle.timetable.specs.declared.fault.LoadFault.{LoadFault}
 use Rattle.timetable.specs.declared.fault.LoadFault.TheVariants as fault
 use Rattle.timetable.specs.declared.scope.Scope.{Scope}
 use Rattle.timetable.specs.declared.timetable.Timetable.{Timetable}
@@ -47,3 +53,35 @@ abbrev pub NotTooLarge : Type 0
 NotTooLarge =
     (files : List File) (scope : Scope) (old new : FolderSeen) (made : Timetable) (what : What) (count : ℕ) → old.files ≡ Some files
     → IsSound files scope made → LoadsSo scope old new (Err (fault.TooLarge what count)) → ⊥
+
+-- the end is one that the files have: neither a fault of the folder nor want of memory
+abbrev pub IsOfFiles : Result Timetable LoadFault → Type 0
+IsOfFiles (Ok made) = Unit {0}
+IsOfFiles (Err (fault.Broken rule file row)) = Unit {0}
+IsOfFiles (Err (fault.TooLarge what count)) = Unit {0}
+IsOfFiles (Err (fault.Folder before after)) = ⊥
+IsOfFiles (Err fault.NoMemory) = ⊥
+
+-- two ends are the same: one fault, or timetables that are the same
+abbrev pub AreSameEnds : Result Timetable LoadFault → Result Timetable LoadFault → Type 0
+AreSameEnds (Ok a) (Ok b) = AreSame a b
+AreSameEnds (Ok a) (Err g) = ⊥
+AreSameEnds (Err f) (Ok b) = ⊥
+AreSameEnds (Err f) (Err g) = f ≡ g
+
+-- The loading of told files ends in one way, but for faults of the folder and want of memory: the timetable, the first rule that
+-- is broken with its file and row, or what is too large and how much of it.
+abbrev pub OneEnd : Type 0
+OneEnd =
+    (files : List File) (scope : Scope) (old new other later : FolderSeen) (x y : Result Timetable LoadFault)
+    → old.files ≡ Some files → other.files ≡ Some files → IsOfFiles x → IsOfFiles y → LoadsSo scope old new x → LoadsSo scope other later y
+    → AreSameEnds x y
+
+-- where the word says a zone and told files break this rule first, the loading ends with it, but for faults of the folder and want
+-- of memory
+abbrev pub BrokenEnds : Type 0
+BrokenEnds =
+    (files : List File) (scope : Scope) (old new : FolderSeen) (end : Result Timetable LoadFault) (zone : Zone) (place : ℕ) (at : FeedFile) (rule row : ℕ)
+    → old.files ≡ Some files → IsOfFiles end → LoadsSo scope old new end → SaysZone scope.zone (zone_bytes files scope.zone) zone
+    → IsFirstBroken (files_of files scope.feed) place at (wrong.Broken rule row)
+    → end ≡ Err (fault.Broken rule (name_of (named_at (files_of files scope.feed) at)) row)

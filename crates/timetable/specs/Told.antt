@@ -1,5 +1,5 @@
 -- The timetable of a feed by the files that a folder tells.
-use Rattle.std.specs.Prelude.{◌≡◌, ℕ, List, Option, None, MatchOption, option_and_then}
+use Rattle.std.specs.Prelude.{ℕ, List, Option, option_and_then}
 use Rattle.lc_io.specs.Folder.{bytes_named}
 use Rattle.lc_io.specs.declared.file.File.{File}
 use Rattle.lc_time.specs.declared.zone.Zone.{Zone}

@@ -1,4 +1,4 @@
-ghost use Rattle.timetable.specs.Laws.{LoadsTold, NotBroken, NotTooLarge, OneOfTables, OneTimetable};
+ghost use Rattle.timetable.specs.Laws.{BrokenEnds, LoadsTold, NotBroken, NotTooLarge, OneEnd, OneOfTables, OneTimetable};
 
 use change_table::one_list_of_changes;
 use gtfs_feed::one_feed;
@@ -19,4 +19,16 @@ pub fn one_timetable()
     one_list_of_days();
     one_list_of_runs();
     one_list_of_changes();
+}
+
+/// The loading of the files that a folder tells ends in one way, but for faults of the folder and want of memory.
+pub fn one_end()
+    ensures one { OneEnd }
+    ensures broken { BrokenEnds }
+{
+    one_timetable();
+    one_zone_a_word();
+    one_feed();
+    one_list_of_days();
+    one_list_of_runs();
 }

@@ -12,7 +12,7 @@ mod zone;
 mod zone_end;
 
 pub use fault::LoadFault;
-pub use laws::one_timetable;
+pub use laws::{one_end, one_timetable};
 pub use loading::load;
 pub use scope::Scope;
 pub use timetable::Timetable;

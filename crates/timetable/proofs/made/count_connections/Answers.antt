@@ -1,6 +1,5 @@
 -- One run more has its pairs of calls more.
-use Rattle.std.proofs.Common.{◌≡◌, ◌∙◌, ◌+◌, ◌-◌, ◌≤◌, ap, arith, length, sym, take, take_all}
-use Rattle.lc_model.specs.Connection.{connections_of}
+use Rattle.std.proofs.Common.{◌+◌, ap, arith, length}
 use Rattle.timetable.proofs.MadeLemmas.{no_more, one_more}
 use Rattle.timetable.proofs.made.count_connections.Goals as goal
 
