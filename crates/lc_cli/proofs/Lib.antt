@@ -1,5 +1,6 @@
 mod CommandLemmas
 mod OneRunLemmas
+mod OneStatusLemmas
 mod PlanLemmas
 mod RefusalLemmas
 mod TextLemmas
