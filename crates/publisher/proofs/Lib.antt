@@ -1,0 +1,6 @@
+pub mod AnswerLemmas
+pub mod AskingLemmas
+pub mod PageLemmas
+pub mod PlaceLemmas
+pub mod UpdateLemmas
+pub mod VersionsLemmas

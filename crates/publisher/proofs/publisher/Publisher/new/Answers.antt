@@ -1,0 +1,17 @@
+use Rattle.std.proofs.Common.{◌≡◌, ◌∙◌, ap, subst, sym, List}
+use Rattle.std.specs.List.{All}
+use Rattle.lc_model.specs.Call.{InSequence}
+use Rattle.lc_model.specs.Run.{InKeyOrder}
+use Rattle.lc_model.specs.declared.run.Run.{Run}
+use Rattle.version_store.specs.Store.{Stored}
+use Rattle.publisher.proofs.publisher.Publisher.new.Goals as goal
+
+pub invariant_of-result : goal.invariant_of-result
+invariant_of-result g c =
+    let store = c.in_ok-store.ensures in
+    let runs : c.in_ok-store.store.runs ≡ c.args.runs = ap (λ (s : Stored). s.runs) store in
+    record {
+      stops = ap (λ (s : Stored). s.stops) store ∙ c.in_ok-stops.ensures;
+      runs = subst InKeyOrder (sym runs) c.runs_are_in_order.ensures.runs;
+      calls = subst (λ (list : List Run). All (λ (run : Run). InSequence run.calls) list) (sym runs) c.runs_are_in_order.ensures.calls;
+    }

@@ -1,0 +1,17 @@
+use Rattle.std.proofs.Common.{subst}
+use Rattle.publisher.specs.Held.{side_of}
+use Rattle.publisher_side.specs.Side.{IsValidSide}
+use Rattle.publisher.proofs.publisher.Publisher.side_is_valid.Goals as goal
+
+pub returns : goal.returns
+returns g c =
+    let cuts_of = g.G.Fragmenter.cuts_of in
+    subst (λ held. IsValidSide (side_of cuts_of held)) c.self.view_is
+    (record {
+      runs = c.self.invariant.runs;
+      calls = c.self.invariant.calls;
+      doc = c.doc_is_valid.ensures;
+      base = c.text-base.ensures.plain;
+      rising = c.versions-versions.ensures.rising;
+      lawful = c.cuts_lawfully.ensures;
+    })

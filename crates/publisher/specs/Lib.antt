@@ -1,0 +1,6 @@
+pub mod Held
+pub mod Inside
+pub mod Place
+pub mod PlaceOf
+pub mod Updated
+pub mod Writable

@@ -1,0 +1,15 @@
+-- Where a moment lies among the cuts of a version.
+use Rattle.std.specs.Prelude.{ℕ, nat_le, List, [], ◌∷◌, Option, Some, None, if◌then◌else◌}
+use Rattle.publisher.specs.declared.place.Place.{Place}
+
+-- Behind these two cuts, of which the first may be missing: the last cut at or before the moment, or else the second one, with its
+-- neighbours.
+abbrev pub place_behind : Option ℕ → ℕ → List ℕ → ℕ → Place
+place_behind previous cut [] moment = record { previous = previous; cut = cut; next = None }
+place_behind previous cut (next ∷ rest) moment =
+    if nat_le next moment then place_behind (Some cut) next rest moment else record { previous = previous; cut = cut; next = Some next }
+
+-- the cut of the page for a moment, with its neighbours; without cuts it is 0
+abbrev pub place_of : List ℕ → ℕ → Place
+place_of [] moment = record { previous = None; cut = 0; next = None }
+place_of (first ∷ rest) moment = place_behind None first rest moment

@@ -1,0 +1,109 @@
+ghost use Rattle.std.specs.Prelude.{◌≡◌, ◌≤◌, ◌⊎◌, ℕ, length, drop, IfErr, IfOk, IfSome, OnErr, OnOk, IsOk};
+ghost use Rattle.http_text.specs.ReplyText.{HasReason};
+ghost use Rattle.http_text.specs.Request.{IsWhole, IsWholeRequest};
+ghost use Rattle.lc_versions.specs.declared.update.Update.{Update as Said};
+ghost use Rattle.publisher.specs.Held.{side_of};
+ghost use Rattle.publisher.specs.Updated.{IsRefusal, IsUpdated, status_of_fault};
+ghost use Rattle.publisher_side.specs.Reply.{IsNextSide, IsReply};
+ghost use Rattle.version_store.specs.Admission.{Admits, IsRefused, IsTaken};
+ghost use Rattle.version_store.specs.declared.admission.AdmitFault.{AdmitFault as Fault};
+ghost use Rattle.version_store.specs.declared.admission.AdmitFault.TheVariants.{NoMemory as OutOfMemory};
+
+use crate::Publisher;
+use crate::saying::says_length;
+use fragmenter::Fragmenter;
+use http_text::{Request, read_request};
+use lc_model::NoMemory;
+use publisher_side::{Asked, Response};
+use std::alloc::Global;
+use version_store::{AdmitFault, Admitted};
+
+/// The status of a message that is not admitted. None for want of memory.
+fn status_of(fault: AdmitFault) -> Option<u16>
+    ensures status { result ≡ status_of_fault fault }
+    ensures reason { IfSome result HasReason }
+{
+    match fault {
+        AdmitFault::TooLong { .. } => Some(413),
+        AdmitFault::Broken(_) => Some(400),
+        AdmitFault::NotNewer { .. } => Some(409),
+        AdmitFault::Full { .. } => Some(507),
+        AdmitFault::NoMemory => None,
+    }
+}
+
+/// The body of a request.
+fn body_of<'a>(bytes: &'a [u8], request: &Request) -> &'a [u8]
+    requires { request.now.body_from ≤ length bytes.now }
+    ensures { result.now ≡ drop request.now.body_from bytes.now }
+{
+    &bytes[request.body_from..]
+}
+
+impl<G: Fragmenter + Drop> Publisher<G> {
+    /// Admits a message, as the store does: behind it there is a version of its moment.
+    pub fn admit(&mut self, alloc: Global, bytes: &[u8]) -> Result<Admitted, AdmitFault>
+        ensures taken { IfOk result (Admits self.old.store self.new.store bytes.now) }
+        ensures same { self.new ≡ record self.old { store = self.new.store } }
+        ensures refused { IfErr result (λ fault. (fault ≡ OutOfMemory) ⊎ IsRefused self.old.store bytes.now fault) }
+        ensures unchanged { OnErr result (self.new ≡ self.old) }
+        ensures only_taken { (update : Said) → IsTaken self.old.store bytes.now update → IsOk result ⊎ (result ≡ Err OutOfMemory) }
+        ensures only_refused { (fault : Fault) → IsRefused self.old.store bytes.now fault →
+            (result ≡ Err fault) ⊎ (result ≡ Err OutOfMemory) }
+    {
+        self.store.admit(alloc, bytes)
+    }
+
+    /// The reply to the bytes of one whole request. Where these bring a message that is taken, it is admitted. For a page it
+    /// takes the time of the store's departures and rows, and else that of the reply and of the request.
+    pub fn answer(&mut self, alloc: Global, bytes: &[u8]) -> Result<Vec<u8>, NoMemory>
+        requires { IsWhole bytes.now }
+        ensures reply { IfOk result (λ reply. IsReply (side_of G.cuts_of self.old) bytes.now reply.items) }
+        ensures next { OnOk result (IsNextSide (side_of G.cuts_of self.old) bytes.now (side_of G.cuts_of self.new)) }
+        ensures cutting { self.new.cutting ≡ self.old.cutting }
+        ensures unchanged { OnErr result (self.new ≡ self.old) }
+    {
+        let request = read_request(alloc, bytes)?;
+        match self.asked(&request) {
+            Asked::Update => self.update(alloc, &request, body_of(bytes, &request)),
+            asked => {
+                let response = self.respond(alloc, &request, asked)?;
+                self.reply(alloc, &request, &response)
+            }
+        }
+    }
+
+    /// The reply to a request that a message is admitted. It is written before the message is, so that want of memory leaves
+    /// the side as it was. Linear in the body.
+    fn update(&mut self, alloc: Global, request: &Request, body: &[u8]) -> Result<Vec<u8>, NoMemory>
+        ensures updated { IfOk result (λ text.
+            IsUpdated (side_of G.cuts_of self.old) request.now body.now text.items (side_of G.cuts_of self.new)) }
+        ensures cutting { self.new.cutting ≡ self.old.cutting }
+        ensures unchanged { OnErr result (self.new ≡ self.old) }
+    {
+        if !says_length(request) {
+            return self.reply(alloc, request, &Response::Status(411));
+        }
+        let admitted = self.reply(alloc, request, &Response::Status(204))?;
+        match self.admit(alloc, body) {
+            Ok(_) => Ok(admitted),
+            Err(fault) => self.refusal(alloc, request, fault),
+        }
+    }
+
+    /// The reply to a message that is not admitted.
+    fn refusal(
+        &self,
+        alloc: Global,
+        request: &Request,
+        fault: AdmitFault,
+    ) -> Result<Vec<u8>, NoMemory>
+        ensures { IfOk result
+            (λ text. IsRefusal (side_of G.cuts_of self.now) request.now fault text.items) }
+    {
+        match status_of(fault) {
+            Some(status) => self.reply(alloc, request, &Response::Status(status)),
+            None => Err(NoMemory),
+        }
+    }
+}

@@ -1,0 +1,18 @@
+//! A publisher of a timetable with its versions as pages over HTTP: it stands for a side, and answers each request as that side
+//! replies. It stands on `version_store`, on `fragmenter`, and on the definitions of `publisher_side`.
+#![tactic(auto)]
+
+mod answering;
+mod asking;
+mod kept;
+mod options;
+mod pages;
+mod place;
+mod publisher;
+mod replying;
+mod responding;
+mod saying;
+
+pub use options::Options;
+pub use publisher::Publisher;
+pub use version_store::{AdmitFault, Admitted};

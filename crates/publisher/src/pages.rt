@@ -1,0 +1,70 @@
+ghost use Rattle.std.specs.Prelude.{◌≡◌, IfOk, option_map};
+ghost use Rattle.publisher_side.specs.PageAt.{named as named_there};
+ghost use Rattle.std.specs.List.{Contains};
+ghost use Rattle.page_json.specs.Sound.{IsSoundPage};
+ghost use Rattle.page_json.specs.Valid.{IsValidPage};
+ghost use Rattle.publisher.specs.Held.{side_of};
+ghost use Rattle.publisher.specs.PlaceOf.{IsPlaceOf};
+ghost use Rattle.publisher_side.specs.Response.{IsPageOf};
+ghost use Rattle.version_store.specs.Store.{versions_of};
+
+use crate::Publisher;
+use crate::place::{Place, place_of};
+use fragmenter::Fragmenter;
+use lc_model::{Moment, NoMemory, PageName};
+use page_json::Page;
+use std::alloc::Global;
+
+/// The page of a version that begins there, if one is given.
+fn named(version: Moment, departs: Option<Moment>) -> Option<PageName>
+    ensures { result ≡ option_map (named_there version) departs }
+{
+    match departs {
+        None => None,
+        Some(departs) => Some(PageName { version, departs }),
+    }
+}
+
+impl<G: Fragmenter + Drop> Publisher<G> {
+    /// Where the page for a moment of departure lies at a version. It takes the time of the store's departures.
+    pub(crate) fn place(
+        &self,
+        alloc: Global,
+        version: Moment,
+        departs: Moment,
+    ) -> Result<Place, NoMemory>
+        requires { Contains (versions_of self.now.store) version }
+        ensures { IfOk result (IsPlaceOf (side_of G.cuts_of self.now) version departs) }
+    {
+        self.cutting.cuts_lawfully();
+        let departures = self.store.departures(alloc, version)?;
+        let cuts = self.cutting.cuts(alloc, departures.as_slice())?;
+        Ok(place_of(cuts.as_slice(), departs))
+    }
+
+    /// The page for a moment of departure at a version, as it is published. It takes the time of the store's departures and
+    /// rows.
+    pub(crate) fn page(
+        &self,
+        alloc: Global,
+        version: Moment,
+        departs: Moment,
+    ) -> Result<Page, NoMemory>
+        requires { Contains (versions_of self.now.store) version }
+        ensures page { IfOk result (IsPageOf (side_of G.cuts_of self.now) version departs) }
+        ensures valid { IfOk result IsValidPage }
+    {
+        let place = self.place(alloc, version, departs)?;
+        let list = self.store.rows(alloc, version, place.cut, place.next)?;
+        let _forward = list.as_slice();
+        Ok(Page {
+            name: PageName {
+                version,
+                departs: place.cut,
+            },
+            next: named(version, place.next),
+            previous: named(version, place.previous),
+            list,
+        })
+    }
+}

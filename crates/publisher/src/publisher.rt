@@ -1,0 +1,90 @@
+ghost use Rattle.std.specs.Prelude.{◌≡◌, [], IfOk};
+ghost use Rattle.publisher.specs.Held.{side_of};
+ghost use Rattle.publisher_side.specs.Side.{IsValidSide, newest_of};
+
+use crate::Options;
+use crate::kept::{doc_is_valid, runs_are_in_order};
+use connection_uri::Base;
+use fragmenter::Fragmenter;
+use lc_model::{Moment, NoMemory, PlainData, Runs, StopsDoc};
+use lc_time::Zone;
+use std::alloc::Global;
+use std::marker::Model;
+use version_store::Store;
+
+/// A publisher of a timetable with its versions as pages. A contract sees the way in which it cuts, its store, its stops
+/// document, its base, and whether it takes messages.
+#[derive(Drop)]
+pub struct Publisher<G: Fragmenter + Drop> {
+    pub(crate) cutting: G,
+    pub(crate) store: Store,
+    pub(crate) doc: StopsDoc,
+    pub(crate) options: Options,
+}
+
+impl<G: Fragmenter + Drop> Model for Publisher<G> {
+    ghost use Rattle.publisher.specs.Held.{Held};
+
+    ghost Value = { Held G };
+
+    ghost use Rattle.publisher.specs.Inside.{IsKept, held_of};
+
+    ghost view = { held_of };
+
+    ghost invariant = { IsKept };
+}
+
+impl<G: Fragmenter + Drop> Publisher<G> {
+    /// The publisher of a timetable to which no message was admitted. Linear in the runs and their calls, and in the stops.
+    pub fn new(
+        alloc: Global,
+        runs: Runs,
+        doc: StopsDoc,
+        zone: Zone,
+        base_moment: Moment,
+        cutting: G,
+        options: Options,
+    ) -> Result<Publisher<G>, NoMemory>
+        ensures { IfOk result (λ publisher. publisher ≡ record {
+          cutting = cutting;
+          store = record { runs = runs; stops = doc.stops; zone = zone; base = base_moment; history = [] };
+          doc = doc;
+          base = options.base;
+          accepts_updates = options.accept_updates;
+        }) }
+    {
+        runs_are_in_order(&runs);
+        let stops = doc.stops.copy(alloc)?;
+        let store = Store::new(alloc, runs, stops, zone, base_moment)?;
+        Ok(Publisher {
+            cutting,
+            store,
+            doc,
+            options,
+        })
+    }
+
+    /// The newest version.
+    pub fn newest(&self) -> Moment
+        ensures { result ≡ newest_of (side_of G.cuts_of self.now) }
+    {
+        self.store.newest()
+    }
+
+    /// The base under which the documents stand.
+    pub fn base(&self) -> &Base
+        ensures { result.now ≡ self.now.base }
+    {
+        &self.options.base
+    }
+
+    /// The side for which a publisher stands is valid. A law: the call does nothing.
+    pub fn side_is_valid(&self)
+        ensures { IsValidSide (side_of G.cuts_of self.now) }
+    {
+        self.cutting.cuts_lawfully();
+        doc_is_valid(&self.doc);
+        let _base = self.options.base.text();
+        let _versions = self.store.versions();
+    }
+}
