@@ -26,7 +26,8 @@ use Rattle.change_table.specs.Partners.{AreChildren, Gains, IsOf, all_shown, chi
 use Rattle.change_table.specs.Rows.{target}
 use Rattle.change_table.specs.declared.children.Child.{Child}
 use Rattle.change_table.specs.declared.rows.Row.{Row}
-use Rattle.change_table.proofs.ListLemmas.{ComesFrom-map, Contains-cases, Contains-filter, Contains-here, Contains-map, Contains-nil, IsKept-filter}
+use Rattle.lc_model.proofs.ListLemmas.{ComesFrom-map, Contains-cases, Contains-filter, Contains-here, Contains-map, Contains-nil}
+use Rattle.lc_model.proofs.ListLemmas.{IsKept-filter}
 
 -- a stop of this id stands at the place
 pub record StandsAt (stops : List Stop) (place : ℕ) (id : List ℕ) : Type 0 where

@@ -20,7 +20,8 @@ use Rattle.gtfs_files.specs.declared.transfer.Transfer.{Transfer}
 use Rattle.change_table.specs.ChangeRule.{change_from_to, change_of, given_seconds, stop_of}
 use Rattle.change_table.specs.ChangeTable.{AreChangesOf, OneListOfChanges, count_of_changes}
 use Rattle.change_table.specs.Pairs.{changes_among, changes_to, timed_change}
-use Rattle.change_table.proofs.ListLemmas.{AllPairs-flat_map, Contains-filter_map, Contains-flat_map, IsFound-find, IsMade-filter_map, StandsIn-flat_map, find_none}
+use Rattle.lc_model.proofs.ListLemmas.{AllPairs-flat_map, Contains-flat_map, StandsIn-flat_map}
+use Rattle.change_table.proofs.ListLemmas.{Contains-filter_map, IsKept-find, IsMade-filter_map, find_none}
 use Rattle.change_table.proofs.NamedLemmas.{InChangeOrder-changes_to, is_timed}
 use Rattle.change_table.proofs.PartnerLemmas.{one_place}
 use Rattle.change_table.proofs.PushLemmas.{change_is}
@@ -37,7 +38,7 @@ stop_there stops strict stop h = go (stop_of stops stop.id) refl where
 
   go : (o : Option Stop) → stop_of stops stop.id ≡ o → stop_of stops stop.id ≡ Some stop
   go (Some t) e =
-      let found = IsFound-find (λ (s : Stop). is_same_id s.id stop.id) stops t e in
+      let found = IsKept-find (λ (s : Stop). is_same_id s.id stop.id) stops t e in
       e ∙ ap Some (at_place t found.stands stop h ((bytes_eq-Decides t.id stop.id).0 found.passes))
   go None e = absurd (find_none (λ (s : Stop). is_same_id s.id stop.id) stops stop e h ((bytes_eq-Decides stop.id stop.id).1 refl))
 
@@ -101,8 +102,8 @@ module _ (stops : List Stop) (strict : InStopOrder stops) (transfers : List Tran
     second : (a : Stop) → stop_of stops from ≡ Some a → (o : Option Stop) → stop_of stops to ≡ o → option_and_then (change_from_to transfers default a) o ≡ Some seconds → IsGiven stops given from to seconds
     second a at None f g = absurd (cc)
     second a at (Some b) f g =
-        let found = IsFound-find (λ (s : Stop). is_same_id s.id from) stops a at in
-        let other = IsFound-find (λ (s : Stop). is_same_id s.id to) stops b f in
+        let found = IsKept-find (λ (s : Stop). is_same_id s.id from) stops a at in
+        let other = IsKept-find (λ (s : Stop). is_same_id s.id to) stops b f in
         let (m, is, time) = some_max (given a b) seconds g in
         record {
           a = a;
@@ -133,7 +134,7 @@ module _ (stops : List Stop) (strict : InStopOrder stops) (transfers : List Tran
 
   in_order : InChangeOrder whole
   in_order = AllPairs-flat_map (λ (c d : Change). change_cmp c d ≡ Less) (λ (x y : Stop). id_cmp x.id y.id ≡ Less) (λ (from : Stop). changes_to (given from) from stops) stops
-      (λ x. InChangeOrder-changes_to (given x) x stops strict)
+      (λ x _. InChangeOrder-changes_to (given x) x stops strict)
       (λ x z c d less hc hd.
       let made_c = IsMade-filter_map (λ (to : Stop). option_map (timed_change x.id to.id) (given x to)) stops c hc in
       let made_d = IsMade-filter_map (λ (to : Stop). option_map (timed_change z.id to.id) (given z to)) stops d hd in
@@ -180,7 +181,7 @@ between_is stops transfers default changes strict are from to = go (find sought 
 
   go : (o : Option Change) → find sought changes ≡ o → option_map (λ (c : Change). c.seconds) (find sought changes) ≡ change_of stops transfers default from to
   go (Some c) e =
-      let found = IsFound-find sought changes c e in
+      let found = IsKept-find sought changes c e in
       let both = both_true (is_same_id c.from from) (is_same_id c.to to) found.passes in
       let from_is : c.from ≡ from = (bytes_eq-Decides c.from from).0 both.0 in
       let to_is : c.to ≡ to = (bytes_eq-Decides c.to to).0 both.1 in

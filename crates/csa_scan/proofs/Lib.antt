@@ -9,7 +9,6 @@ pub mod WayBackLemmas
 pub mod NearnessLemmas
 pub mod NearStepsLemmas
 pub mod NearWalksLemmas
-pub mod KeysLemmas
 pub mod NumbersGrowLemmas
 pub mod SoughtLemmas
 pub mod RelaxingLemmas

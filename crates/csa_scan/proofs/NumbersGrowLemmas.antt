@@ -10,7 +10,7 @@ use Rattle.lc_model.specs.RunKey.{key_cmp}
 use Rattle.lc_model.specs.declared.connection.Connection.{Connection}
 use Rattle.lc_model.specs.declared.key.RunKey.{RunKey}
 use Rattle.csa_scan.specs.Numbers.{AreNumbers, AreNumbersOf, Extends}
-use Rattle.csa_scan.proofs.KeysLemmas.{same_keys}
+use Rattle.lc_model.proofs.KeyLemmas.{same_keys}
 use Rattle.csa_scan.proofs.ListPlacesLemmas.{slice_get-append, slice_get-last, push_cases}
 
 is_equal : (o : Ordering) → is_eq o ≡ true → o ≡ Equal

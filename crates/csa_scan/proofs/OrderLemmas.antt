@@ -21,14 +21,7 @@ use Rattle.csa_scan.specs.Next.{IsNext}
 use Rattle.csa_scan.specs.Numbers.{AreDistinct, AreNumbersOf}
 use Rattle.csa_scan.specs.Stands.{Stands}
 use Rattle.csa_scan.proofs.ListPlacesLemmas.{slice_get-append, slice_get-filter}
-
--- what stands before another departs no later
-departs_by : (c d : Connection) → departure_cmp c d ≡ Less → c.dep ≤ d.dep
-departs_by c d e = first_part (nat_cmp c.dep d.dep) refl e where
-  first_part : (o : Ordering) → nat_cmp c.dep d.dep ≡ o → ordering_then o (ordering_then (key_cmp c.key d.key) (nat_cmp c.seq d.seq)) ≡ Less → c.dep ≤ d.dep
-  first_part Less f g = let h = ranked c.dep d.dep Less (sym f) in omega arith
-  first_part Equal f g = let h = ranked c.dep d.dep Equal (sym f) in omega arith
-  first_part Greater f g = absurd (cc)
+use Rattle.lc_model.proofs.ConnectionLemmas.{departs_by}
 
 here : {X : Type 0} (list : List X) (c : X) (rest : List X) → slice_get (list ++ c ∷ rest) (length list) ≡ Some c
 here [] c rest = refl

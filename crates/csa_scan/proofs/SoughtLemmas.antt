@@ -17,7 +17,7 @@ use Rattle.lc_model.specs.declared.stop.Stop.{Stop}
 use Rattle.csa_scan.specs.PlaceOf.{IsPlaceOf, LacksId}
 use Rattle.csa_scan.specs.Reach.{id_at}
 use Rattle.csa_scan.proofs.ChangesLemmas.{id_at-is}
-use Rattle.csa_scan.proofs.KeysLemmas.{same_texts}
+use Rattle.lc_model.proofs.KeyLemmas.{same_texts}
 use Rattle.csa_scan.proofs.ListPlacesLemmas.{item_within}
 
 -- numbers are less, the same or greater

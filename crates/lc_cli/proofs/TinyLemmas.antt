@@ -11,7 +11,7 @@ use Rattle.std.proofs.lemmas.List.Kept.{AllPairs-cons}
 use Rattle.std.proofs.lemmas.List.Sums.{AllPass-from_list_all}
 use Rattle.std.proofs.lemmas.Option.{slice_get_within, get_or_from_slice_get}
 use Rattle.lc_model.specs.Call.{GoesForward}
-use Rattle.trip_runs.specs.Runs.{RunsForward}
+use Rattle.lc_model.specs.Run.{RunsForward}
 use Rattle.lc_model.specs.Change.{change_between, is_same_id}
 use Rattle.lc_model.specs.Journey.{AreRides, GoesOn, IsAnswer, IsJourney, alight_of, arrival_of_rides, arrives_at, board_of, departure_of}
 use Rattle.lc_model.specs.Question.{IsFrom, IsTo, latest_of}

@@ -1,5 +1,8 @@
 pub mod ChangeSearchLemmas
+pub mod ConnectionLemmas
 pub mod DisordersLemmas
+pub mod KeyLemmas
+pub mod ListLemmas
 pub mod OneValueLemmas
 pub mod OrdersLemmas
 pub mod RangesLemmas

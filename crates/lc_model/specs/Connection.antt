@@ -1,5 +1,5 @@
 -- Connections and the order of their departures (Linked Connections 1.0: pages are sorted by departure time).
-use Rattle.std.specs.Prelude.{List, [], ◌∷◌, ◌≤◌}
+use Rattle.std.specs.Prelude.{ℕ, List, [], ◌∷◌, ◌≤◌, Option, Some, None}
 use Rattle.std.specs.List.{All, flat_map}
 use Rattle.std.specs.List.Sorted.{IsPermutation}
 use Rattle.std.specs.Ordering.{nat_cmp, then_cmp, on}
@@ -22,6 +22,12 @@ departure_cmp = then_cmp (on (λ c. c.dep) nat_cmp) (then_cmp (on (λ c. c.key) 
 -- connections stand strictly by their departures
 abbrev pub InDepartureOrder : List Connection → Type 0
 InDepartureOrder list = IsStrict departure_cmp list
+
+-- the last departure of connections, if there are any
+abbrev pub last_departure : List Connection → Option ℕ
+last_departure [] = None
+last_departure (last ∷ []) = Some last.dep
+last_departure (c ∷ next ∷ rest) = last_departure (next ∷ rest)
 
 -- the connection from one call of a run to the next
 abbrev pub connection_between : RunKey → Call → Call → Connection

@@ -23,7 +23,7 @@ use Rattle.lc_versions.specs.Naming.{is_on}
 use Rattle.lc_versions.specs.News.{TripSaid}
 use Rattle.live_calls.specs.AddedRun.{HasNoKey, IsAdded, IsAddedRun}
 use Rattle.live_calls.specs.Laws.{OneAddedRun, OneListOfLiveRuns}
-use Rattle.live_calls.proofs.KeyLemmas.{same_dates, same_key_parts}
+use Rattle.lc_model.proofs.KeyLemmas.{same_dates, same_key_parts}
 
 pub one_live_list : OneListOfLiveRuns
 one_live_list runs stops list a b first second =

@@ -1,7 +1,6 @@
 pub mod AddedLemmas
 pub mod ConnectionLemmas
 pub mod ForwardLemmas
-pub mod KeyLemmas
 pub mod LawLemmas
 pub mod LiveLemmas
 pub mod NamingLemmas

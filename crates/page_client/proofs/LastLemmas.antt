@@ -2,7 +2,7 @@
 use Rattle.std.proofs.Common.{◌≡◌, ℕ, suc, ◌-◌, List, [], ◌∷◌, Option, Some, length, ap, sym, subst, arith}
 use Rattle.std.specs.List.{slice_get}
 use Rattle.lc_model.specs.declared.connection.Connection.{Connection}
-use Rattle.page_client.specs.Page.{last_departure}
+use Rattle.lc_model.specs.Connection.{last_departure}
 
 pub last_is : (list : List Connection) (c : Connection) → slice_get list (length list - 1) ≡ Some c → last_departure list ≡ Some c.dep
 last_is [] c is = absurd (cc)

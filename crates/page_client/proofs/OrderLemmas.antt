@@ -20,7 +20,9 @@ use Rattle.lc_model.specs.declared.doc.StopsDoc.{StopsDoc}
 use Rattle.lc_model.specs.declared.page.PageName.{PageName}
 use Rattle.lc_model.specs.declared.query.Query.{Query}
 use Rattle.csa_scan.specs.Done.{IsDone}
-use Rattle.page_client.specs.Page.{begins_at, is_on_from, last_departure}
+use Rattle.lc_model.specs.Connection.{last_departure}
+use Rattle.page_client.specs.Page.{begins_at, is_on_from}
+use Rattle.lc_model.proofs.ConnectionLemmas.{departs_by}
 
 -- one connection stands before another
 abbrev pub Before : Connection → Connection → Type 0
@@ -32,14 +34,6 @@ pairs_head R x list pairs k d within = pairs zero (suc k) d (omega arith) (omega
 
 pairs_tail : {X : Type 0} (R : X → X → Type 0) (x : X) (list : List X) → AllPairs R (x ∷ list) → AllPairs R list
 pairs_tail R x list pairs i j d before within = pairs (suc i) (suc j) d (omega arith) (omega arith)
-
--- what stands before another departs no later
-departs_by : (c d : Connection) → Before c d → c.dep ≤ d.dep
-departs_by c d e = first_part (nat_cmp c.dep d.dep) refl e where
-  first_part : (o : Ordering) → nat_cmp c.dep d.dep ≡ o → ordering_then o (ordering_then (key_cmp c.key d.key) (nat_cmp c.seq d.seq)) ≡ Less → c.dep ≤ d.dep
-  first_part Less f g = let h = ranked c.dep d.dep Less (sym f) in omega arith
-  first_part Equal f g = let h = ranked c.dep d.dep Equal (sym f) in omega arith
-  first_part Greater f g = absurd (cc)
 
 -- what departs earlier stands before
 stands_before : (c d : Connection) → c.dep < d.dep → Before c d

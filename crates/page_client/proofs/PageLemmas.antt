@@ -21,7 +21,8 @@ use Rattle.page_json.specs.Valid.{IsValidPage}
 use Rattle.page_json.specs.declared.page.Page.{Page}
 use Rattle.page_client.specs.Client.{AfterPage, GoesOnBy, StandsFor as ClientStandsFor, TakesPage, shown}
 use Rattle.page_client.specs.Course.{Follows, HasScanned, IsOver, IsReading, IsSound, TakesOn}
-use Rattle.page_client.specs.Page.{advances, begins_at, is_on_from, last_departure}
+use Rattle.lc_model.specs.Connection.{last_departure}
+use Rattle.page_client.specs.Page.{advances, begins_at, is_on_from}
 use Rattle.page_client.specs.Shown.{answered, ended, is_early, is_late, is_off, left_at, onward, pages_left, want_of, wrong_gate}
 use Rattle.page_client.specs.declared.client.Client.{Client}
 use Rattle.page_client.specs.declared.fault.PeerFault.TheVariants.{GateWrong}

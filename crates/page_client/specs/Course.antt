@@ -12,7 +12,7 @@ use Rattle.csa_scan.specs.Done.{IsDone}
 use Rattle.csa_scan.specs.StandsFor.{IsBestChain, StandsFor}
 use Rattle.csa_scan.specs.declared.scan.Scan.{Scan}
 use Rattle.page_json.specs.declared.page.Page.{Page}
-use Rattle.page_client.specs.Page.{last_departure}
+use Rattle.lc_model.specs.Connection.{last_departure}
 use Rattle.page_client.specs.Shown.{HasHorizon}
 use Rattle.page_client.specs.declared.phase.Phase.{Phase}
 use Rattle.page_client.specs.declared.phase.Phase.TheVariants as phases

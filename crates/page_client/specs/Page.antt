@@ -1,5 +1,6 @@
 -- The reply in which a client is sent a page.
 use Rattle.std.specs.Prelude.{ℕ, Bool, true, false, not, ◌&&◌, ◌==◌, nat_lt, List, [], ◌∷◌, Option, Some, None, is_none, Result, Ok, Err, ◌≡◌, if◌then◌else◌}
+use Rattle.lc_model.specs.Connection.{last_departure}
 use Rattle.lc_model.specs.declared.connection.Connection.{Connection}
 use Rattle.lc_model.specs.declared.page.PageName.{PageName}
 use Rattle.connection_uri.specs.Base.{BaseParts}
@@ -21,12 +22,6 @@ is_of_version version (Some memento) = memento == version
 abbrev pub is_asked : PageName → Option ℕ → Page → Bool
 is_asked name memento page =
     (page.name.version == name.version) && (page.name.departs == name.departs) && is_of_version name.version memento
-
--- the last departure of connections, if there are any
-abbrev pub last_departure : List Connection → Option ℕ
-last_departure [] = None
-last_departure (last ∷ []) = Some last.dep
-last_departure (c ∷ next ∷ rest) = last_departure (next ∷ rest)
 
 -- the link, if there is one, leads to a later departure than the last of these
 abbrev pub is_on_from : Option ℕ → Option PageName → Bool

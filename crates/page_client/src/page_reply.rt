@@ -1,7 +1,8 @@
 ghost use Rattle.std.specs.Prelude.{◌≡◌, true, IfOk};
 ghost use Rattle.page_json.specs.Valid.{IsValidPage};
 ghost use Rattle.page_client.specs.Fault.{Meets};
-ghost use Rattle.page_client.specs.Page.{Fits, IsPageReply, advances, begins_at, is_asked, is_of_version, is_on_from, last_departure, tested_page};
+ghost use Rattle.lc_model.specs.Connection.{last_departure};
+ghost use Rattle.page_client.specs.Page.{Fits, IsPageReply, advances, begins_at, is_asked, is_of_version, is_on_from, tested_page};
 
 use crate::PeerFault;
 use crate::replied::{body_of, replied};

@@ -15,19 +15,12 @@ use Rattle.lc_model.specs.declared.connection.Connection.{Connection}
 use Rattle.lc_versions.specs.Cuts.{first_of}
 use Rattle.lc_versions.specs.Pages.{departing, departures_of, is_before}
 use Rattle.page_laws.proofs.FilterLemmas.{filter_all, filter_drops, filter_none, filter_takes, pairs_head, pairs_tail}
+use Rattle.lc_model.proofs.ConnectionLemmas.{departs_by}
 
 -- no connection departs before an earlier one of the list
 abbrev pub Sorted : List Connection → Type 0
 Sorted [] = Unit {0}
 Sorted (c ∷ list) = All (λ (d : Connection). c.dep ≤ d.dep) list × Sorted list
-
--- what stands before another departs no later
-pub departs_by : (c d : Connection) → departure_cmp c d ≡ Less → c.dep ≤ d.dep
-departs_by c d e = first_part (nat_cmp c.dep d.dep) refl e where
-  first_part : (o : Ordering) → nat_cmp c.dep d.dep ≡ o → ordering_then o (ordering_then (key_cmp c.key d.key) (nat_cmp c.seq d.seq)) ≡ Less → c.dep ≤ d.dep
-  first_part Less f g = let h = ranked c.dep d.dep Less (sym f) in omega arith
-  first_part Equal f g = let h = ranked c.dep d.dep Equal (sym f) in omega arith
-  first_part Greater f g = absurd (cc)
 
 pub sorted_from_order : (list : List Connection) → InDepartureOrder list → Sorted list
 sorted_from_order [] in_order = tt

@@ -11,7 +11,7 @@ use Rattle.lc_model.specs.declared.connection.Connection.{Connection}
 use Rattle.lc_model.specs.declared.query.Query.{Query}
 use Rattle.lc_model.specs.declared.ride.Ride.{Ride}
 use Rattle.journey_laws.proofs.PlacesLemmas.{all_at, pair_at}
-use Rattle.page_laws.proofs.DeparturesLemmas.{departs_by}
+use Rattle.lc_model.proofs.ConnectionLemmas.{departs_by}
 
 -- a leg is one of each list in which its first and its last connection stand in this order
 leg_of : (list other : List Connection) (ride : Ride) (leg : IsLegOf list ride) (boards_at last_at : ℕ) → boards_at ≤ last_at → slice_get other boards_at ≡ Some leg.boards → slice_get other last_at ≡ Some leg.last → IsLegOf other ride

@@ -15,7 +15,8 @@ use Rattle.lc_versions.specs.Pages.{CutPage}
 use Rattle.page_laws.specs.Chain.{ArePagesOf, connections_along}
 use Rattle.page_laws.specs.Needed.{IsOver, IsTakenUntilOver, OneListOfNeeded, needed_pages, reaches, up_to_bound}
 use Rattle.page_laws.specs.Rides.{pages_on}
-use Rattle.page_laws.specs.Stop.{bound_of, last_departure}
+use Rattle.lc_model.specs.Connection.{last_departure}
+use Rattle.page_laws.specs.Stop.{bound_of}
 use Rattle.page_laws.proofs.AlongLemmas.{least_is_there}
 use Rattle.page_laws.proofs.TakenLemmas.{pages_may_be_all}
 use Rattle.page_laws.proofs.UpToLemmas.{EndsThere, IsUpTo, is_last_by, is_up_to, up_to_taken}

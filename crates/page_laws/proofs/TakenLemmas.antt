@@ -10,7 +10,8 @@ use Rattle.lc_model.specs.declared.query.Query.{Query}
 use Rattle.lc_versions.specs.Pages.{CutPage}
 use Rattle.page_laws.specs.Chain.{ArePagesOf, along_next, connections_along}
 use Rattle.page_laws.specs.Rides.{connections_on, pages_on}
-use Rattle.page_laws.specs.Stop.{PagesMayBeAll, last_departure}
+use Rattle.lc_model.specs.Connection.{last_departure}
+use Rattle.page_laws.specs.Stop.{PagesMayBeAll}
 use Rattle.page_laws.proofs.AlongLemmas.{IsParted, least_is_there, parted_by_links}
 use Rattle.page_laws.proofs.ChainLemmas.{Follow, by_or_not, next_goes_on, next_stays}
 use Rattle.page_laws.proofs.DeparturesLemmas.{all_after}

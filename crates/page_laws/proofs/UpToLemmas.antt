@@ -2,7 +2,7 @@
 use Rattle.std.proofs.Common.{◌≡◌, ℕ, ◌⊎◌, inl, inr, List, [], ◌∷◌, ◌++◌, Bool, true, false, cond, refl, ap, sym, subst, ◌∙◌}
 use Rattle.lc_versions.specs.Pages.{CutPage}
 use Rattle.page_laws.specs.Needed.{reaches, up_to_bound}
-use Rattle.page_laws.specs.Stop.{last_departure}
+use Rattle.lc_model.specs.Connection.{last_departure}
 
 -- the page's last departure is at the bound or later
 abbrev pub is_last_by : ℕ → CutPage → Bool

@@ -12,7 +12,8 @@ use Rattle.lc_model.specs.declared.run.Run.{Run}
 use Rattle.lc_versions.specs.Pages.{CutPage}
 use Rattle.page_laws.specs.Chain.{ArePagesOf, connections_along, names_of}
 use Rattle.page_laws.specs.Rides.{pages_on}
-use Rattle.page_laws.specs.Stop.{bound_of, last_departure}
+use Rattle.lc_model.specs.Connection.{last_departure}
+use Rattle.page_laws.specs.Stop.{bound_of}
 
 -- there is a last departure, and it is at the bound or later
 abbrev pub reaches : ℕ → Option ℕ → Bool

@@ -1,7 +1,7 @@
 -- Where a client may stop: no later connection lets it arrive earlier.
 use Rattle.std.specs.Prelude.{◌≡◌, ℕ, ◌<◌, ◌≤◌, List, [], ◌∷◌, ◌++◌, Option, Some, None, ◌↔◌}
 use Rattle.std.specs.List.{All}
-use Rattle.lc_model.specs.Connection.{InDepartureOrder, NoneArrivesEarly}
+use Rattle.lc_model.specs.Connection.{InDepartureOrder, NoneArrivesEarly, last_departure}
 use Rattle.lc_model.specs.Leg.{IsListBest}
 use Rattle.lc_model.specs.Question.{latest_of}
 use Rattle.lc_model.specs.declared.connection.Connection.{Connection}
@@ -15,12 +15,6 @@ use Rattle.page_laws.specs.Rides.{pages_on}
 abbrev pub bound_of : Query → Option ℕ → ℕ
 bound_of query None = latest_of query
 bound_of query (Some arrival) = arrival
-
--- the last departure of connections, if there are any
-abbrev pub last_departure : List Connection → Option ℕ
-last_departure [] = None
-last_departure (last ∷ []) = Some last.dep
-last_departure (c ∷ next ∷ rest) = last_departure (next ∷ rest)
 
 -- What was taken of a list is followed by later departures alone, and the bound is no later than a moment by which they all
 -- depart: so the least arrival of what was taken is that of the whole list, and where the one has no chain, so has the other.

@@ -9,7 +9,8 @@ ghost use Rattle.lc_model.specs.declared.run.Run.{Run as RunValue};
 ghost use Rattle.lc_versions.specs.Pages.{CutPage};
 ghost use Rattle.page_laws.specs.Chain.{ArePagesOf, connections_along};
 ghost use Rattle.page_laws.specs.Rides.{pages_on};
-ghost use Rattle.page_laws.specs.Stop.{FrontMayBeAll, FrontWithChainMayBeAll, PagesMayBeAll, bound_of, last_departure};
+ghost use Rattle.lc_model.specs.Connection.{last_departure};
+ghost use Rattle.page_laws.specs.Stop.{FrontMayBeAll, FrontWithChainMayBeAll, PagesMayBeAll, bound_of};
 
 use crate::journeys_along_next;
 use lc_model::{Connections, Query, Runs, StopsDoc};

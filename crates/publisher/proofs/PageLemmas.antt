@@ -28,6 +28,7 @@ use Rattle.lc_versions.specs.History.{news_at}
 use Rattle.lc_versions.specs.Timetable.{AreLiveRuns}
 use Rattle.version_store.specs.Rows.{AreConnectionsAt, AreDepartures, AreRows}
 use Rattle.publisher.specs.Held.{Held, side_of}
+use Rattle.lc_model.proofs.ConnectionLemmas.{departs_by}
 
 -- where cuts are lawful and there are none, there is nothing
 nothing_by : (list : List Connection) → first_of [] ≡ first_of (departures_of list) → list ≡ []
@@ -66,15 +67,6 @@ is_page_of side version departs place p = record {
       ap (λ (q : Place). page_made version q p.list) p.is
       ∙ made_is_page version departs (side.cuts_of (departures_of p.list)) p.list p.lawful;
 }
-
--- what stands before another departs no later
-departs_by : (c d : Connection) → departure_cmp c d ≡ Less → c.dep ≤ d.dep
-departs_by c d e = first_part (nat_cmp c.dep d.dep) refl e
-  where
-    first_part : (o : Ordering) → nat_cmp c.dep d.dep ≡ o → ordering_then o (ordering_then (key_cmp c.key d.key) (nat_cmp c.seq d.seq)) ≡ Less → c.dep ≤ d.dep
-    first_part Less f g = let h = ranked c.dep d.dep Less (sym f) in omega arith
-    first_part Equal f g = let h = ranked c.dep d.dep Equal (sym f) in omega arith
-    first_part Greater f g = absurd (cc)
 
 -- in departure order no departure is before an earlier one
 pub never_falls : (list : List Connection) → InDepartureOrder list → NeverFalls (departures_of list)

@@ -24,7 +24,7 @@ use Rattle.service_days.specs.Days.{AreDays, IsInWindow}
 use Rattle.service_days.specs.declared.service_day.ServiceDay.{ServiceDay}
 use Rattle.change_table.specs.ChangeRule.{change_from_to, change_of, stop_of}
 use Rattle.change_table.specs.ChangeTable.{AreChangesOf}
-use Rattle.change_table.proofs.ListLemmas.{IsFound-find}
+use Rattle.change_table.proofs.ListLemmas.{IsKept-find}
 use Rattle.trip_runs.specs.Plannable.{ArePlannable, IsPlannable}
 use Rattle.timetable.specs.Scope.{IsWindow}
 
@@ -75,7 +75,7 @@ no_more runs count =
 -- a stop that is found by its id is there
 found_there : (stops : List Stop) (id : List ℕ) (stop : Stop) → stop_of stops id ≡ Some stop → HasStop stops id
 found_there stops id stop e =
-    let found = IsFound-find (λ (s : Stop). is_same_id s.id id) stops stop e in
+    let found = IsKept-find (λ (s : Stop). is_same_id s.id id) stops stop e in
     (found.stands.0, stop, found.stands.1, found.stands.2, (bytes_eq-Decides stop.id id).0 found.passes)
 
 -- a change is between two stops

@@ -5,7 +5,7 @@ ghost use Rattle.lc_model.specs.StopsDoc.{NamesItsStops};
 ghost use Rattle.timetable.specs.Made.{FailsToMake, FailsToMakeChanges, FailsToMakeRuns};
 ghost use Rattle.timetable.specs.Scope.{IsWindow};
 ghost use Rattle.timetable.specs.Timetable.{HasFewChanges, HaveFewConnections, IsTimetableOf, RunsAre};
-ghost use Rattle.trip_runs.specs.Runs.{RunsForward};
+ghost use Rattle.lc_model.specs.Run.{RunsForward};
 
 use crate::{LoadFault, Scope, Timetable};
 use change_table::{ChangeFault, changes};

@@ -1,4 +1,4 @@
-ghost use Rattle.trip_runs.specs.Runs.{RunsForward};
+ghost use Rattle.lc_model.specs.Run.{RunsForward};
 
 use lc_model::{Runs, StopsDoc};
 use lc_time::Zone;

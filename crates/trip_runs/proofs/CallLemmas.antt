@@ -21,7 +21,7 @@ use Rattle.trip_runs.specs.Runs.{call_at, calls_from, calls_of}
 use Rattle.trip_runs.specs.Stays.{call_from, first_arrival, stay_at, stays_upto}
 use Rattle.trip_runs.specs.TripRuns.{RiseInSequence}
 use Rattle.trip_runs.specs.declared.stays.Stay.{Stay}
-use Rattle.trip_runs.proofs.ListsLemmas.{AllPairs-weaker, IsKept-filter}
+use Rattle.lc_model.proofs.ListLemmas.{AllPairs-weaker, IsKept-filter}
 use Rattle.trip_runs.proofs.StayLemmas.{along, at_stop}
 
 pub length-calls_from : (origin first : ℕ) (rows : List StopTime) → length (calls_from origin first rows) ≡ length rows

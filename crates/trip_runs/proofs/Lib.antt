@@ -3,7 +3,6 @@ pub mod BlankLemmas
 pub mod CallLemmas
 pub mod ConnectionLemmas
 pub mod FillLemmas
-pub mod ListsLemmas
 pub mod RunLemmas
 pub mod SortLemmas
 pub mod StartLemmas

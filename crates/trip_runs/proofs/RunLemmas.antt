@@ -34,7 +34,7 @@ use Rattle.trip_runs.specs.Starts.{AreStarts, IsStartOf}
 use Rattle.trip_runs.specs.TripRuns.{AddsRunsOf, AreAllRuns, AreUntied, dates_of, key_of, run_from, runs_of_trip, runs_on}
 use Rattle.trip_runs.specs.declared.start.Start.{Start}
 use Rattle.trip_runs.proofs.AnchorLemmas.{anchored}
-use Rattle.trip_runs.proofs.ListsLemmas.{AllPairs-append, AllPairs-flat_map, AllPairs-map, AllPairs-weaker, ComesFrom-map, Contains-cases, Contains-filter, Contains-flat_map, Contains-here, Contains-map, Contains-nil, IsKept-filter, StandsIn-flat_map}
+use Rattle.lc_model.proofs.ListLemmas.{AllPairs-append, AllPairs-flat_map, AllPairs-map, AllPairs-weaker, ComesFrom-map, Contains-cases, Contains-filter, Contains-flat_map, Contains-here, Contains-map, Contains-nil, IsKept-filter, StandsIn-flat_map}
 
 abbrev IsInDay : Option ℕ → Type 0
 IsInDay start = ForSome start (λ seconds. seconds < 360_000)

@@ -10,7 +10,7 @@ use Rattle.std.proofs.lemmas.List.Elements.{All-cons, All-head, All-nil, All-tai
 use Rattle.std.proofs.lemmas.List.Kept.{AllPairs-cons}
 use Rattle.std.proofs.lemmas.List.Sorted.{All-permutation, IsPermutation-cons, IsPermutation-middle, IsPermutation-refl, IsPermutation-sym, IsPermutation-trans}
 use Rattle.lc_model.specs.Order.{AreApart, IsStrict}
-use Rattle.trip_runs.proofs.ListsLemmas.{AllPairs-head, AllPairs-nil, AllPairs-tail}
+use Rattle.lc_model.proofs.ListLemmas.{AllPairs-head, AllPairs-nil, AllPairs-tail}
 
 -- of an item and a list with a first one, the list in order, by how the two compare
 abbrev put : {X : Type 0} → Ordering → X → X → List X → List X → List X

@@ -16,7 +16,7 @@ use Rattle.lc_model.specs.Change.{is_same_id}
 use Rattle.gtfs_files.specs.declared.frequency.Frequency.{Frequency}
 use Rattle.trip_runs.specs.Starts.{AreAllGiven, AreGiven, AreStarts, GainsStarts, IsStartOf, StartsAt, spans_of}
 use Rattle.trip_runs.specs.declared.start.Start.{Start}
-use Rattle.trip_runs.proofs.ListsLemmas.{All-from_contains, Contains-cases, Contains-filter, Contains-here, Contains-nil, IsKept-filter}
+use Rattle.lc_model.proofs.ListLemmas.{All-from_contains, Contains-cases, Contains-filter, Contains-here, Contains-nil, IsKept-filter}
 
 -- the first so many starts of a row
 abbrev pub starts_upto : Frequency → ℕ → List ℕ

@@ -28,13 +28,14 @@ use Rattle.trip_runs.specs.Counting.{HaveConnections}
 use Rattle.trip_runs.specs.LoadFault.{HaveTooMany}
 use Rattle.trip_runs.specs.Laws.{OneListOfRuns}
 use Rattle.trip_runs.specs.Plannable.{ArePlannable}
-use Rattle.trip_runs.specs.Runs.{AreRunsOf, IsRunOf, RunsForward, calls_of}
+use Rattle.lc_model.specs.Run.{RunsForward}
+use Rattle.trip_runs.specs.Runs.{AreRunsOf, IsRunOf, calls_of}
 use Rattle.trip_runs.specs.Starts.{AreStarts, IsStartOf, StartsTrip}
 use Rattle.trip_runs.specs.TripRuns.{AreAllRuns, RiseInSequence, dates_of, run_from, runs_of_trip, runs_on}
 use Rattle.trip_runs.specs.declared.load_fault.TheConstants.{MOST_CONNECTIONS}
 use Rattle.trip_runs.specs.declared.start.Start.{Start}
 use Rattle.trip_runs.proofs.CallLemmas.{calls_forward, length-calls_of}
-use Rattle.trip_runs.proofs.ListsLemmas.{All-from_contains}
+use Rattle.lc_model.proofs.ListLemmas.{All-from_contains}
 use Rattle.trip_runs.proofs.RunLemmas.{of_trip}
 use Rattle.trip_runs.proofs.SortLemmas.{in_order, in_order_moved, in_order_strict}
 

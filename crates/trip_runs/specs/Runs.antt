@@ -49,10 +49,6 @@ pub record IsRunOf (trips : List TripRow) (times : List StopTime) (frequencies :
   pub anchor_is : anchor_of zone run.key.date ≡ Some anchor
   pub calls : run.calls ≡ calls_of anchor run.key.start (rows_of times trip.trip)
 
--- no run goes back in time
-abbrev pub RunsForward : List Run → Type 0
-RunsForward runs = All (λ (r : Run). GoesForward r.calls) runs
-
 -- the list has exactly the runs, strictly by their keys
 pub record AreRunsOf (trips : List TripRow) (times : List StopTime) (frequencies : List Frequency) (days : List ServiceDay) (zone : Zone) (runs : List Run) : Type 0 where
   pub all : (run : Run) → Contains runs run ↔ IsRunOf trips times frequencies days zone run

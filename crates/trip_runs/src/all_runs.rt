@@ -11,7 +11,8 @@ ghost use Rattle.gtfs_files.specs.TripRows.{HaveOneRowATrip};
 ghost use Rattle.gtfs_files.specs.declared.frequency.Frequency.{Frequency as Row};
 ghost use Rattle.trip_runs.specs.LoadFault.{HasCause};
 ghost use Rattle.trip_runs.specs.Plannable.{ArePlannable};
-ghost use Rattle.trip_runs.specs.Runs.{AreRunsOf, RunsForward};
+ghost use Rattle.lc_model.specs.Run.{RunsForward};
+ghost use Rattle.trip_runs.specs.Runs.{AreRunsOf};
 ghost use Rattle.trip_runs.specs.TripRuns.{AreAllRuns};
 
 use crate::counting::connection_count;

@@ -2,7 +2,7 @@ ghost use Rattle.std.specs.Prelude.{◌≡◌, ◌++◌, All, IfOk, OnOk};
 ghost use Rattle.lc_model.specs.Call.{InSequence};
 ghost use Rattle.lc_model.specs.Connection.{AreConnectionsOf, connection_between, connections_of, connections_of_calls, departure_cmp};
 ghost use Rattle.lc_model.specs.declared.run.Run.{Run};
-ghost use Rattle.trip_runs.specs.Runs.{RunsForward};
+ghost use Rattle.lc_model.specs.Run.{RunsForward};
 
 use lc_model::{Call, Connection, Connections, NoMemory, PlainData, Run, RunKey, Runs};
 use std::alloc::Global;

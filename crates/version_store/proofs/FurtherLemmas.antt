@@ -26,7 +26,7 @@ use Rattle.lc_versions.specs.Live.{live_calls_of}
 use Rattle.lc_versions.specs.Naming.{is_added, news_for}
 use Rattle.lc_versions.specs.News.{TripSaid}
 use Rattle.lc_versions.specs.Timetable.{AreLiveRuns, IsLiveRun}
-use Rattle.live_calls.proofs.KeyLemmas.{same_keys}
+use Rattle.lc_model.proofs.KeyLemmas.{same_keys}
 use Rattle.live_calls.proofs.LawLemmas.{keys_are_one, no_key_names_none}
 use Rattle.live_calls.proofs.AddedLemmas.{added_go_forward}
 use Rattle.version_store.specs.Kept.{news_said}

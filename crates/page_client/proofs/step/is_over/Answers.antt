@@ -1,5 +1,5 @@
 use Rattle.std.proofs.Common.{ap, sym, ◌∙◌}
-use Rattle.page_client.specs.Page.{last_departure}
+use Rattle.lc_model.specs.Connection.{last_departure}
 use Rattle.page_client.proofs.step.is_over.Goals as goal
 
 pub returns-in-Some-clause-over : goal.returns-in-Some-clause-over

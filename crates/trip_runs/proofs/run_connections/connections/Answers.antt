@@ -4,7 +4,7 @@ use Rattle.lc_model.specs.Call.{InSequence}
 use Rattle.lc_model.specs.Connection.{AreConnectionsOf, connections_of, departure_cmp}
 use Rattle.lc_model.specs.Run.{InKeyOrder}
 use Rattle.lc_model.specs.declared.run.Run.{Run}
-use Rattle.trip_runs.proofs.ConnectionLemmas.{AreConnectionsOf-sorted, NoneArrivesEarly-sorted}
+use Rattle.lc_model.proofs.ConnectionLemmas.{AreConnectionsOf-sorted, NoneArrivesEarly-sorted}
 use Rattle.lc_model.specs.Totals.{departure_cmp_total}
 use Rattle.lc_model.proofs.OrdersLemmas.{IsSorted-from_closure}
 use Rattle.trip_runs.proofs.run_connections.connections.Goals as goal

@@ -3,7 +3,7 @@ use Rattle.lc_model.specs.Connection.{connections_of, departure_cmp}
 use Rattle.lc_model.specs.Run.{InKeyOrder}
 use Rattle.lc_model.specs.Totals.{departure_cmp_total}
 use Rattle.lc_model.proofs.OrdersLemmas.{IsSorted-from_closure}
-use Rattle.version_store.proofs.ConnectionLemmas.{AreConnectionsOf-sorted, NoneArrivesEarly-sorted, in_sequence}
+use Rattle.lc_model.proofs.ConnectionLemmas.{AreConnectionsOf-sorted, NoneArrivesEarly-sorted, in_sequence}
 use Rattle.version_store.proofs.rows.sorted_connections.Goals as goal
 
 pub returns-clause-are : goal.returns-clause-are

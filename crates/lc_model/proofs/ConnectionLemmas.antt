@@ -1,30 +1,34 @@
--- The connections of runs: none arrives before it departs, and no two tie in the order of departures.
+-- Connections in the order of their departures, and those of runs: none arrives before it departs, and no two tie.
 use Rattle.std.proofs.Common.{◌≡◌, ◌≢◌, ℕ, ◌<◌, ◌≤◌, List, [], ◌∷◌, sym, ap, ◌∙◌, subst, refl, arith}
 use Rattle.std.specs.List.{All, AllPairs}
 use Rattle.std.specs.List.Sorted.{IsPermutation, IsSorted}
-use Rattle.std.specs.Ordering.{nat_cmp}
+use Rattle.std.specs.Ordering.{nat_cmp, ordering_then}
 use Rattle.std.specs.declared.cmp.Ordering.{Ordering}
-use Rattle.std.specs.declared.cmp.Ordering.TheVariants.{Less, Equal}
+use Rattle.std.specs.declared.cmp.Ordering.TheVariants.{Less, Equal, Greater}
 use Rattle.std.proofs.lemmas.Cmp.{ranked}
 use Rattle.std.proofs.lemmas.List.Elements.{All-nil, All-cons, All-head, All-tail, All-contains, All-weaker}
 use Rattle.std.proofs.lemmas.List.Kept.{AllPairs-cons}
 use Rattle.std.proofs.lemmas.List.Sorted.{All-permutation}
 use Rattle.lc_model.specs.Call.{GoesForward, InSequence}
 use Rattle.lc_model.specs.Connection.{AreConnectionsOf, NoneArrivesEarly, connection_between, connections_from, connections_of, connections_of_calls, departure_cmp}
-use Rattle.lc_model.specs.Run.{InKeyOrder}
+use Rattle.lc_model.specs.Run.{InKeyOrder, RunsForward}
 use Rattle.lc_model.specs.RunKey.{key_cmp}
 use Rattle.lc_model.specs.declared.call.Call.{Call}
 use Rattle.lc_model.specs.declared.connection.Connection.{Connection}
 use Rattle.lc_model.specs.declared.key.RunKey.{RunKey}
 use Rattle.lc_model.specs.declared.run.Run.{Run}
-use Rattle.version_store.proofs.ListLemmas.{All-from_contains, AllPairs-flat_map, AllPairs-head, AllPairs-nil, AllPairs-tail, StandsIn-flat_map}
+use Rattle.lc_model.proofs.ListLemmas.{All-from_contains, AllPairs-flat_map, AllPairs-head, AllPairs-nil, AllPairs-tail, StandsIn-flat_map}
 use Rattle.lc_model.proofs.OrdersLemmas.{IsStrict-from_sorted}
 use Rattle.lc_model.specs.Totals.{departure_cmp_total}
 use Rattle.lc_model.proofs.SearchLemmas.{both_tie}
 
--- no run goes back in time
-abbrev pub RunsForward : List Run → Type 0
-RunsForward runs = All (λ (r : Run). GoesForward r.calls) runs
+-- what stands before another departs no later
+pub departs_by : (c d : Connection) → departure_cmp c d ≡ Less → c.dep ≤ d.dep
+departs_by c d e = first_part (nat_cmp c.dep d.dep) refl e where
+  first_part : (o : Ordering) → nat_cmp c.dep d.dep ≡ o → ordering_then o (ordering_then (key_cmp c.key d.key) (nat_cmp c.seq d.seq)) ≡ Less → c.dep ≤ d.dep
+  first_part Less f g = let h = ranked c.dep d.dep Less (sym f) in omega arith
+  first_part Equal f g = let h = ranked c.dep d.dep Equal (sym f) in omega arith
+  first_part Greater f g = absurd (cc)
 
 forward_from : (key : RunKey) (from : Call) (rest : List Call) → AllPairs (λ (x y : Call). x.dep ≤ y.arr) (from ∷ rest) → NoneArrivesEarly (connections_from key from rest)
 forward_from key from [] h = All-nil (λ (c : Connection). c.dep ≤ c.arr)
