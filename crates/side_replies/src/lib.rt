@@ -1,0 +1,3 @@
+//! What the replies of a publisher's side tell the client that asks it: the page to which the gate sends, the stops document and
+//! the pages. It stands on `publisher_side`, `page_client` and `page_laws`.
+#![tactic(auto)]
