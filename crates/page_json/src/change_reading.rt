@@ -6,7 +6,7 @@ ghost use Rattle.serde_json.specs.View.{items_view, view};
 ghost use Rattle.page_json.specs.Members.{formed, needed};
 ghost use Rattle.page_json.specs.Reading.{Meets, each_in, exactly};
 ghost use Rattle.page_json.specs.StopsReading.{as_seconds, change_in, if_stop, seconds_from, stop_at};
-ghost use Rattle.page_json.specs.declared.fault.PageFault.TheVariants.{NoMemory as want_of_memory};
+ghost use Rattle.page_json.specs.declared.fault.PageFault.TheVariants.{NoMemory as OutOfMemory};
 
 use crate::PageFault;
 use crate::members::{bad_member, no_member, object_under, or_bad};
@@ -19,7 +19,7 @@ use std::alloc::Global;
 pub fn each_change(alloc: Global, stops: &Stops, values: &[Value]) -> Result<Vec<Change>, PageFault>
     ensures ok { IfOk result (λ list. each_in (change_in stops.now) (items_view values.now) (Ok list.items)) }
     ensures err { IfErr result
-        (λ fault. fault ≢ want_of_memory → each_in (change_in stops.now) (items_view values.now) (Err fault)) }
+        (λ fault. fault ≢ OutOfMemory → each_in (change_in stops.now) (items_view values.now) (Err fault)) }
     ensures from { IfOk result (λ list. All (λ (c : Told). HasStop stops.now c.from) list.items) }
     ensures to { IfOk result (λ list. All (λ (c : Told). HasStop stops.now c.to) list.items) }
 {

@@ -1,5 +1,5 @@
 ghost use Rattle.std.specs.Prelude.{◌≡◌, Some};
-ghost use Rattle.page_json.specs.declared.fault.PageFault.TheVariants.{NoMemory as want_of_memory};
+ghost use Rattle.page_json.specs.declared.fault.PageFault.TheVariants.{NoMemory as OutOfMemory};
 ghost use Rattle.page_json.specs.Texts.{fault_text};
 
 use lc_model::{NoMemory, Text};
@@ -39,7 +39,7 @@ impl fmt::Display for PageFault {
 impl Error for PageFault {}
 
 impl From<NoMemory> for PageFault {
-    ghost from_gives = { λ _ fault. fault ≡ want_of_memory };
+    ghost from_gives = { λ _ fault. fault ≡ OutOfMemory };
 
     fn from(_: NoMemory) -> PageFault {
         PageFault::NoMemory
@@ -47,7 +47,7 @@ impl From<NoMemory> for PageFault {
 }
 
 impl From<AllocError> for PageFault {
-    ghost from_gives = { λ _ fault. fault ≡ want_of_memory };
+    ghost from_gives = { λ _ fault. fault ≡ OutOfMemory };
 
     fn from(_: AllocError) -> PageFault {
         PageFault::NoMemory
@@ -55,7 +55,7 @@ impl From<AllocError> for PageFault {
 }
 
 impl<T: Drop> From<AllocFailed<T>> for PageFault {
-    ghost from_gives = { λ _ fault. fault ≡ want_of_memory };
+    ghost from_gives = { λ _ fault. fault ≡ OutOfMemory };
 
     fn from(_: AllocFailed<T>) -> PageFault {
         PageFault::NoMemory

@@ -2,7 +2,7 @@ ghost use Rattle.std.specs.Prelude.{◌≡◌, ◌≢◌, None, Some, IfOk, IfEr
 ghost use Rattle.std.specs.Str.{IsUtf8};
 ghost use Rattle.serde_json.specs.Read.{read};
 ghost use Rattle.serde_json.specs.View.{view};
-ghost use Rattle.page_json.specs.declared.fault.PageFault.TheVariants.{NoMemory as want_of_memory, NotJson as no_json};
+ghost use Rattle.page_json.specs.declared.fault.PageFault.TheVariants.{NoMemory as OutOfMemory, NotJson as no_json};
 
 use crate::PageFault;
 use serde_json::Value;
@@ -11,7 +11,7 @@ use std::alloc::Global;
 /// The JSON that the bytes are.
 pub fn json_in(alloc: Global, bytes: &[u8]) -> Result<Value, PageFault>
     ensures ok { IfOk result (λ v. IsUtf8 bytes.now × (read bytes.now ≡ Some (view v))) }
-    ensures err { IfErr result (λ fault. fault ≢ want_of_memory
+    ensures err { IfErr result (λ fault. fault ≢ OutOfMemory
         → (fault ≡ no_json) × (IsUtf8 bytes.now → read bytes.now ≡ None)) }
 {
     match Value::from_slice(alloc, bytes) {

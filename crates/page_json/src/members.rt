@@ -5,7 +5,7 @@ ghost use Rattle.serde_json.specs.View.{items_view, view};
 ghost use Rattle.page_json.specs.Members.{delay_of, formed, list_of, object_under, text_of};
 ghost use Rattle.page_json.specs.PageReading.{allows};
 ghost use Rattle.page_json.specs.Reading.{Meets, exactly};
-ghost use Rattle.page_json.specs.declared.fault.PageFault.TheVariants.{BadMember as bad, NoMember as missing, NoMemory as want_of_memory};
+ghost use Rattle.page_json.specs.declared.fault.PageFault.TheVariants.{BadMember as bad, NoMember as missing, NoMemory as OutOfMemory};
 
 use crate::PageFault;
 use lc_model::Text;
@@ -14,7 +14,7 @@ use std::alloc::Global;
 
 /// That a member is missing.
 pub fn no_member(alloc: Global, name: &str) -> PageFault
-    ensures { result ≢ want_of_memory → result ≡ missing name.now }
+    ensures { result ≢ OutOfMemory → result ≡ missing name.now }
 {
     match String::from_str(alloc, name) {
         Ok(name) => PageFault::NoMember {
@@ -26,7 +26,7 @@ pub fn no_member(alloc: Global, name: &str) -> PageFault
 
 /// That a member has another form.
 pub fn bad_member(alloc: Global, name: &str) -> PageFault
-    ensures { result ≢ want_of_memory → result ≡ bad name.now }
+    ensures { result ≢ OutOfMemory → result ≡ bad name.now }
 {
     match String::from_str(alloc, name) {
         Ok(name) => PageFault::BadMember {
@@ -39,7 +39,7 @@ pub fn bad_member(alloc: Global, name: &str) -> PageFault
 /// What was read of a member; where nothing was, the member is bad.
 pub fn or_bad<T: Drop>(alloc: Global, read: Option<T>, key: &str) -> Result<T, PageFault>
     ensures ok { IfOk result (λ x. read ≡ Some x) }
-    ensures err { IfErr result (λ fault. fault ≢ want_of_memory → (read ≡ None) × (fault ≡ bad key.now)) }
+    ensures err { IfErr result (λ fault. fault ≢ OutOfMemory → (read ≡ None) × (fault ≡ bad key.now)) }
 {
     match read {
         Some(said) => Ok(said),
@@ -50,7 +50,7 @@ pub fn or_bad<T: Drop>(alloc: Global, read: Option<T>, key: &str) -> Result<T, P
 /// That the value is an object.
 pub fn object_under(alloc: Global, value: &Value, name: &str) -> Result<(), PageFault>
     ensures ok { OnOk result ((members : Members) × (object_under name.now (view value.now) ≡ Ok members)) }
-    ensures err { IfErr result (λ fault. fault ≢ want_of_memory → object_under name.now (view value.now) ≡ Err fault) }
+    ensures err { IfErr result (λ fault. fault ≢ OutOfMemory → object_under name.now (view value.now) ≡ Err fault) }
 {
     match value.as_object() {
         Some(_) => Ok(()),
@@ -61,7 +61,7 @@ pub fn object_under(alloc: Global, value: &Value, name: &str) -> Result<(), Page
 /// The text of a member that is needed.
 pub fn needed_text<'v>(alloc: Global, value: &'v Value, key: &str) -> Result<&'v str, PageFault>
     ensures ok { IfOk result (λ text. text_of key.now (view value.now) ≡ Ok text.now) }
-    ensures err { IfErr result (λ fault. fault ≢ want_of_memory → text_of key.now (view value.now) ≡ Err fault) }
+    ensures err { IfErr result (λ fault. fault ≢ OutOfMemory → text_of key.now (view value.now) ≡ Err fault) }
 {
     match value.get(key) {
         Some(member) => text_under(alloc, member, key),
@@ -73,7 +73,7 @@ pub fn needed_text<'v>(alloc: Global, value: &'v Value, key: &str) -> Result<&'v
 pub fn text_under<'v>(alloc: Global, member: &'v Value, key: &str) -> Result<&'v str, PageFault>
     ensures ok { IfOk result (λ text. formed key.now (as_str (view member.now)) ≡ Ok text.now) }
     ensures err { IfErr result
-        (λ fault. fault ≢ want_of_memory → formed key.now (as_str (view member.now)) ≡ Err fault) }
+        (λ fault. fault ≢ OutOfMemory → formed key.now (as_str (view member.now)) ≡ Err fault) }
 {
     match member.as_str() {
         Some(text) => Ok(text),
@@ -84,7 +84,7 @@ pub fn text_under<'v>(alloc: Global, member: &'v Value, key: &str) -> Result<&'v
 /// The list of a member that is needed.
 pub fn needed_list<'v>(alloc: Global, value: &'v Value, key: &str) -> Result<&'v [Value], PageFault>
     ensures ok { IfOk result (λ list. list_of key.now (view value.now) ≡ Ok (items_view list.now)) }
-    ensures err { IfErr result (λ fault. fault ≢ want_of_memory → list_of key.now (view value.now) ≡ Err fault) }
+    ensures err { IfErr result (λ fault. fault ≢ OutOfMemory → list_of key.now (view value.now) ≡ Err fault) }
 {
     match value.get(key) {
         Some(member) => list_under(alloc, member, key),
@@ -96,7 +96,7 @@ pub fn needed_list<'v>(alloc: Global, value: &'v Value, key: &str) -> Result<&'v
 fn list_under<'v>(alloc: Global, member: &'v Value, key: &str) -> Result<&'v [Value], PageFault>
     ensures ok { IfOk result (λ list. formed key.now (as_array (view member.now)) ≡ Ok (items_view list.now)) }
     ensures err { IfErr result
-        (λ fault. fault ≢ want_of_memory → formed key.now (as_array (view member.now)) ≡ Err fault) }
+        (λ fault. fault ≢ OutOfMemory → formed key.now (as_array (view member.now)) ≡ Err fault) }
 {
     match member.as_array() {
         Some(list) => Ok(list.as_slice()),

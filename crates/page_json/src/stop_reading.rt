@@ -4,7 +4,7 @@ ghost use Rattle.serde_json.specs.View.{items_view, view};
 ghost use Rattle.page_json.specs.Members.{formed, needed};
 ghost use Rattle.page_json.specs.Reading.{Meets, each_in, exactly};
 ghost use Rattle.page_json.specs.StopsReading.{as_id, id_from, id_if, stop_in, text_if};
-ghost use Rattle.page_json.specs.declared.fault.PageFault.TheVariants.{NoMemory as want_of_memory};
+ghost use Rattle.page_json.specs.declared.fault.PageFault.TheVariants.{NoMemory as OutOfMemory};
 
 use crate::PageFault;
 use crate::members::{bad_member, no_member, object_under, or_bad, text_under};
@@ -16,7 +16,7 @@ use std::alloc::Global;
 pub fn each_stop(alloc: Global, values: &[Value]) -> Result<Vec<Stop>, PageFault>
     ensures ok { IfOk result (λ list. each_in stop_in (items_view values.now) (Ok list.items)) }
     ensures err { IfErr result
-        (λ fault. fault ≢ want_of_memory → each_in stop_in (items_view values.now) (Err fault)) }
+        (λ fault. fault ≢ OutOfMemory → each_in stop_in (items_view values.now) (Err fault)) }
 {
     let mut stops = Vec::with_capacity(alloc, values.len())?;
     for value in values {

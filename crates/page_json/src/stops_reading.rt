@@ -12,7 +12,7 @@ ghost use Rattle.page_json.specs.Disorder.{unless_disorder};
 ghost use Rattle.page_json.specs.Reading.{Meets, exactly, gives};
 ghost use Rattle.page_json.specs.StopsReading.{AreParents, changes_in, doc_in, doc_of_bytes, stops_in};
 ghost use Rattle.page_json.specs.Valid.{IsValidDoc};
-ghost use Rattle.page_json.specs.declared.fault.PageFault.TheVariants.{BadMember as bad, NoMemory as want_of_memory};
+ghost use Rattle.page_json.specs.declared.fault.PageFault.TheVariants.{BadMember as bad, NoMemory as OutOfMemory};
 
 use crate::PageFault;
 use crate::change_reading::each_change;
@@ -61,7 +61,7 @@ fn stops_in(alloc: Global, value: &Value) -> Result<Stops, PageFault>
 fn with_parents(alloc: Global, stops: &[Stop]) -> Result<(), PageFault>
     ensures ok { OnOk result (AreParents stops.now) }
     ensures err { IfErr result
-        (λ fault. fault ≢ want_of_memory → (fault ≡ bad (codes "parent")) × (AreParents stops.now → ⊥)) }
+        (λ fault. fault ≢ OutOfMemory → (fault ≡ bad (codes "parent")) × (AreParents stops.now → ⊥)) }
 {
     if have_parents(alloc, stops)? {
         Ok(())

@@ -1,5 +1,5 @@
 ghost use Rattle.std.specs.Prelude.{◌≡◌, Some};
-ghost use Rattle.trip_updates.specs.declared.fault.RtFault.TheVariants.{NoMemory as NoMemoryFault};
+ghost use Rattle.trip_updates.specs.declared.fault.RtFault.TheVariants.{NoMemory as OutOfMemory};
 ghost use Rattle.trip_updates.specs.Texts.{part_text, fault_text};
 ghost use Rattle.trip_updates.specs.Wire.{wire};
 
@@ -92,7 +92,7 @@ impl From<WireFault> for RtFault {
 }
 
 impl From<AllocError> for RtFault {
-    ghost from_gives = { λ _ result. result ≡ NoMemoryFault };
+    ghost from_gives = { λ _ result. result ≡ OutOfMemory };
 
     fn from(_: AllocError) -> RtFault {
         RtFault::NoMemory
@@ -100,7 +100,7 @@ impl From<AllocError> for RtFault {
 }
 
 impl<T: Drop> From<AllocFailed<T>> for RtFault {
-    ghost from_gives = { λ _ result. result ≡ NoMemoryFault };
+    ghost from_gives = { λ _ result. result ≡ OutOfMemory };
 
     fn from(_: AllocFailed<T>) -> RtFault {
         RtFault::NoMemory
@@ -108,7 +108,7 @@ impl<T: Drop> From<AllocFailed<T>> for RtFault {
 }
 
 impl From<NoMemory> for RtFault {
-    ghost from_gives = { λ _ result. result ≡ NoMemoryFault };
+    ghost from_gives = { λ _ result. result ≡ OutOfMemory };
 
     fn from(_: NoMemory) -> RtFault {
         RtFault::NoMemory
