@@ -1,11 +1,11 @@
 -- What percent-encoding by the set of reserved bytes gives.
-use Rattle.std.proofs.Common.{◌≡◌, ℕ, ◌<◌, true, false, not, cond, Bool, List, [], ◌∷◌, ◌++◌, All, refl, sym, ap, ap₂, ◌∙◌}
+use Rattle.std.proofs.Common.{◌≡◌, ℕ, ◌<◌, true, false, not, cond, Bool, List, [], ◌∷◌, ◌++◌, All, IsAscii, refl, sym, ap, ap₂, subst, ◌∙◌}
 use Rattle.std.proofs.lemmas.Bool.{agree_below_at}
 use Rattle.std.proofs.lemmas.List.Elements.{All-head, All-tail}
 use Rattle.lc_model.specs.Text.{IsIdText}
 use Rattle.percent_encoding.specs.AsciiSet.{should_percent_encode, contains}
 use Rattle.percent_encoding.specs.Percent.{percent_encode, percent_decode, percent_encode_byte, encode_byte}
-use Rattle.percent_encoding.proofs.PercentLemmas.{round_trip}
+use Rattle.percent_encoding.proofs.PercentLemmas.{IsAscii-percent_encode, round_trip}
 use Rattle.connection_uri.specs.declared.encoding.TheConstants.{RESERVED}
 use Rattle.connection_uri.specs.Encoding.{is_unreserved, encoded, encoded_byte}
 use Rattle.connection_uri.proofs.ByteLemmas.{IsByte, text_bytes}
@@ -26,6 +26,10 @@ pub percent_encode_is : (bytes : List ℕ) → All IsByte bytes → percent_enco
 unfolding percent_encode encoded
 percent_encode_is [] small = refl
 percent_encode_is (b ∷ bytes) small = ap₂ (λ (x y : List ℕ). x ++ y) (one b (All-head IsByte b bytes small)) (percent_encode_is bytes (All-tail IsByte b bytes small))
+
+-- an encoding is ASCII
+pub encoded_ascii : (bytes : List ℕ) → All IsByte bytes → IsAscii (encoded bytes)
+encoded_ascii bytes small = subst IsAscii (percent_encode_is bytes small) (IsAscii-percent_encode RESERVED bytes)
 
 percent_inside : contains RESERVED 37 ≡ true
 percent_inside = refl

@@ -12,4 +12,5 @@ pub mod SaysLemmas
 pub mod SomeResultLemmas
 pub mod StopsLemmas
 pub mod TokensLemmas
+pub mod Utf8Lemmas
 pub mod ValidResultLemmas
