@@ -50,7 +50,7 @@ late_len (suc (suc (suc (suc zero)))) = omega arith
 late_len (suc (suc (suc (suc (suc zero))))) = omega arith
 late_len (suc (suc (suc (suc (suc (suc k)))))) = omega arith
 
-date_len : (m : ℕ) → length (http_date_of m) ≤ 29
+pub date_len : (m : ℕ) → length (http_date_of m) ≤ 29
 date_len m =
     let p = http_parts_of m in
     let day : length (day_name p.wday) ≤ 3 = day_len (p.wday - 1) in
@@ -75,11 +75,11 @@ path_visible b h = grind arith
 pub moment_visible : (b : ℕ) → IsMomentByte b → is_uri_byte b ≡ true
 moment_visible b h = grind (arith, nat_tests)
 
-path_bytes : (base : BaseParts) → IsWrittenBase base → AllPass is_uri_byte base.path
+pub path_bytes : (base : BaseParts) → IsWrittenBase base → AllPass is_uri_byte base.path
 path_bytes base is =
     All-weaker (λ b. is_path_byte b ≡ true) (λ b. is_uri_byte b ≡ true) path_visible base.path (AllPass-from_list_all is_path_byte base.path is.path.plain)
 
-iso_visible : (m : ℕ) → m < 253_402_128_000 → AllPass is_uri_byte (iso_text_of m)
+pub iso_visible : (m : ℕ) → m < 253_402_128_000 → AllPass is_uri_byte (iso_text_of m)
 iso_visible m bound = All-weaker IsMomentByte (λ b. is_uri_byte b ≡ true) moment_visible (iso_text_of m) (moment_bytes m bound)
 
 origin : (path tail : List ℕ) → slice_get path 0 ≡ Some 47 → is_origin_form (path ++ tail) ≡ true
