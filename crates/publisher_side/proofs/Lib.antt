@@ -1,3 +1,5 @@
-pub mod VersionLemmas
-pub mod OneReplyLemmas
+pub mod AskedLemmas
 pub mod LaterLemmas
+pub mod OneReplyLemmas
+pub mod PageLemmas
+pub mod VersionLemmas

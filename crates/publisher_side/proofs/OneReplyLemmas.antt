@@ -51,15 +51,15 @@ the_one IsSo one None (Some y) first second = absurd (first y second)
 the_one IsSo one (Some x) None first second = absurd (second x first)
 the_one IsSo one (Some x) (Some y) first second = ap Some (one x y first second)
 
-one_departure : (said : Option (List ℕ)) (x y : ℕ) → SaysDeparture said x → SaysDeparture said y → x ≡ y
+pub one_departure : (said : Option (List ℕ)) (x y : ℕ) → SaysDeparture said x → SaysDeparture said y → x ≡ y
 one_departure None x y first second = first ∙ sym second
 one_departure (Some text) x y first second = one_moment text x y first second
 
-one_version : (said : Option (List ℕ)) (x y : ℕ) → SaysVersion said x → SaysVersion said y → x ≡ y
+pub one_version : (said : Option (List ℕ)) (x y : ℕ) → SaysVersion said x → SaysVersion said y → x ≡ y
 one_version None x y first second = absurd first
 one_version (Some text) x y first second = one_moment text x y first second
 
-one_negotiated : (versions : List ℕ) (said : Option (List ℕ)) (x y : ℕ) → Negotiates versions said x → Negotiates versions said y → x ≡ y
+pub one_negotiated : (versions : List ℕ) (said : Option (List ℕ)) (x y : ℕ) → Negotiates versions said x → Negotiates versions said y → x ≡ y
 one_negotiated versions None x y first second = cc
 one_negotiated versions (Some text) x y (known, says, first) (again, says_again, second) =
     let same : known ≡ again = one_http_moment text known again says says_again in
