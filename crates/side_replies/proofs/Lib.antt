@@ -1,0 +1,7 @@
+pub mod AskedLemmas
+pub mod CutPageLemmas
+pub mod GateLemmas
+pub mod PageLemmas
+pub mod StopsLemmas
+pub mod TextLemmas
+pub mod TimetableLemmas

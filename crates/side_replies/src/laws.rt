@@ -1,0 +1,16 @@
+ghost use Rattle.side_replies.specs.Told.{GateIsTold, PageIsTold, StopsAreTold};
+
+/// The reply at the gate sends to the page for the moment at which the question leaves, at the version of its known moment.
+pub fn gate_is_told()
+    ensures { GateIsTold }
+{}
+
+/// The reply at the stops document tells it.
+pub fn stops_are_told()
+    ensures { StopsAreTold }
+{}
+
+/// The reply at a page that is asked for by its name tells it: it passes each test of the client.
+pub fn pages_are_told()
+    ensures { PageIsTold }
+{}
