@@ -3,4 +3,5 @@ pub mod ConnectionLemmas
 pub mod ForwardLemmas
 pub mod LawLemmas
 pub mod LiveLemmas
+pub mod LiveRunsLemmas
 pub mod NamingLemmas
