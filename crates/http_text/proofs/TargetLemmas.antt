@@ -99,10 +99,10 @@ can_ask base is tail visible short = λ known.
       head_fits = omega (arith, len, text, both, is.text_len);
     }
 
-both : (xs ys : List ℕ) → AllPass is_uri_byte xs → AllPass is_uri_byte ys → AllPass is_uri_byte (xs ++ ys)
+pub both : (xs ys : List ℕ) → AllPass is_uri_byte xs → AllPass is_uri_byte ys → AllPass is_uri_byte (xs ++ ys)
 both xs ys h k = All-append (λ b. is_uri_byte b ≡ true) xs ys h k
 
-literal : (xs : List ℕ) → list_all is_uri_byte xs ≡ true → AllPass is_uri_byte xs
+pub literal : (xs : List ℕ) → list_all is_uri_byte xs ≡ true → AllPass is_uri_byte xs
 literal xs e = AllPass-from_list_all is_uri_byte xs e
 
 can_gate : (base : BaseParts) → IsWrittenBase base → (departs : ℕ) → departs < 253_402_128_000 → CanAskFor base (gate_target_of base departs)

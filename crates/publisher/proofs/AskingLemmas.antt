@@ -1,20 +1,14 @@
 -- Paths under a base, and what is read of a request.
-use Rattle.std.proofs.Common.{◌≡◌, ℕ, List, [], ◌∷◌, ◌++◌, Bool, true, false, Option, Some, None, refl, ap, ◌∙◌}
+use Rattle.std.proofs.Common.{◌≡◌, ℕ, List, ◌++◌, Bool, true, false, Option, Some, None, refl}
 use Rattle.std.specs.Prelude.{nat_eq, ◌&&◌, if◌then◌else◌}
 use Rattle.std.specs.Option.{IfSome}
 use Rattle.std.specs.Cmp.Lexicographic.{same_text}
-use Rattle.std.proofs.lemmas.Bool.{eq-eqb}
 use lib.Pointwise.{pointwise}
 use Rattle.std.specs.Prelude.{codes}
 use Rattle.connection_uri.specs.Base.{BaseParts}
 use Rattle.publisher_side.specs.Asked.{asked_by_posting, asked_by_reading, asked_of, is_under}
 use Rattle.publisher_side.specs.Response.{IsTheOne}
 use Rattle.publisher_side.specs.declared.asked.Asked.TheVariants as kinds
-
--- behind the same front texts are the same exactly where their ends are
-pub same_behind : (front xs ys : List ℕ) → pointwise nat_eq (front ++ xs) (front ++ ys) ≡ pointwise nat_eq xs ys
-same_behind [] xs ys = refl
-same_behind (x ∷ front) xs ys = ap (λ (b : Bool). b && pointwise nat_eq (front ++ xs) (front ++ ys)) (eq-eqb x x refl) ∙ same_behind front xs ys
 
 -- a text without the front is none of those that have it
 not_under_by : (same : Bool) (text other : List ℕ) → (text ≡ other → ⊥) → same ≡ pointwise nat_eq text other → false ≡ same

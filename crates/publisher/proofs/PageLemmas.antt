@@ -1,14 +1,9 @@
 -- The page at the place of a moment is the page for it.
-use Rattle.std.proofs.Common.{◌≡◌, ℕ, ◌≤◌, List, [], ◌∷◌, get_or, length, Option, Some, None, refl, ap, sym, subst, ◌∙◌, arith, map}
+use Rattle.std.proofs.Common.{◌≡◌, ℕ, List, [], ◌∷◌, Option, Some, None, refl, ap, sym, subst, ◌∙◌}
 use Rattle.std.specs.Prelude.{nat_le, ◌&&◌, option_map}
-use Rattle.std.proofs.lemmas.Cmp.{ranked}
-use Rattle.std.proofs.lemmas.List.{get_or-map, length-map}
 use Rattle.std.proofs.lemmas.List.Kept.{AllPairs-filter}
-use Rattle.std.specs.Ordering.{ordering_then, nat_cmp}
-use Rattle.std.specs.declared.cmp.Ordering.{Ordering}
-use Rattle.std.specs.declared.cmp.Ordering.TheVariants.{Less, Equal, Greater}
+use Rattle.std.specs.declared.cmp.Ordering.TheVariants.{Less}
 use Rattle.lc_model.specs.Connection.{InDepartureOrder, NoneArrivesEarly, departure_cmp}
-use Rattle.lc_model.specs.RunKey.{key_cmp}
 use Rattle.lc_model.specs.declared.connection.Connection.{Connection}
 use Rattle.lc_versions.specs.Cuts.{AreCuts, NeverFalls, first_of}
 use Rattle.lc_versions.specs.Pages.{departing, departures_of, is_before}
@@ -22,13 +17,13 @@ use Rattle.publisher_side.specs.PageAt.{linked, named, page_at}
 use Rattle.publisher_side.specs.Response.{IsPageOf}
 use Rattle.publisher_side.specs.Side.{IsTimetableAt, Side, date_in}
 use Rattle.publisher_side.proofs.OneReplyLemmas.{one_timetable}
+use Rattle.publisher_side.proofs.PageLemmas.{never_falls}
 use Rattle.lc_model.specs.declared.page.PageName.{PageName}
 use Rattle.lc_model.specs.declared.stop.Stop.{Stop}
 use Rattle.lc_versions.specs.History.{news_at}
 use Rattle.lc_versions.specs.Timetable.{AreLiveRuns}
 use Rattle.version_store.specs.Rows.{AreConnectionsAt, AreDepartures, AreRows}
 use Rattle.publisher.specs.Held.{Held, side_of}
-use Rattle.lc_model.proofs.ConnectionLemmas.{departs_by}
 
 -- where cuts are lawful and there are none, there is nothing
 nothing_by : (list : List Connection) → first_of [] ≡ first_of (departures_of list) → list ≡ []
@@ -67,17 +62,6 @@ is_page_of side version departs place p = record {
       ap (λ (q : Place). page_made version q p.list) p.is
       ∙ made_is_page version departs (side.cuts_of (departures_of p.list)) p.list p.lawful;
 }
-
--- in departure order no departure is before an earlier one
-pub never_falls : (list : List Connection) → InDepartureOrder list → NeverFalls (departures_of list)
-never_falls [] in_order = λ i j d before inside. absurd (omega arith)
-never_falls (c ∷ list) in_order = λ i j d before inside.
-    let dep : Connection → ℕ = λ (x : Connection). x.dep in
-    let long : length (map dep (c ∷ list)) ≡ length (c ∷ list) = length-map (c ∷ list) dep in
-    let at_i : get_or (map dep (c ∷ list)) i d ≡ dep (get_or (c ∷ list) i c) = get_or-map dep (c ∷ list) i c d (omega arith) in
-    let at_j : get_or (map dep (c ∷ list)) j d ≡ dep (get_or (c ∷ list) j c) = get_or-map dep (c ∷ list) j c d (omega arith) in
-    let up : dep (get_or (c ∷ list) i c) ≤ dep (get_or (c ∷ list) j c) = departs_by (get_or (c ∷ list) i c) (get_or (c ∷ list) j c) (in_order i j c before (omega arith)) in
-    rw (at_i, at_j) up
 
 -- the page at a place is valid
 pub valid_page : (version : ℕ) (place : Place) (list : List Connection) → InDepartureOrder list → NoneArrivesEarly (departing place.cut place.next list)

@@ -1,19 +1,15 @@
 -- Departures of connections in their order.
-use Rattle.std.proofs.Common.{◌≡◌, ℕ, ◌≤◌, List, [], ◌∷◌, get_or, length, map, arith}
-use Rattle.std.proofs.lemmas.List.{get_or-map, length-map}
-use Rattle.lc_model.specs.Connection.{InDepartureOrder}
+use Rattle.std.proofs.Common.{ℕ, ◌≡◌, ◌≤◌, List}
+use Rattle.std.specs.declared.cmp.Ordering.TheVariants.{Less}
+use Rattle.lc_model.specs.Connection.{InDepartureOrder, departure_cmp}
 use Rattle.lc_model.specs.declared.connection.Connection.{Connection}
 use Rattle.lc_model.proofs.ConnectionLemmas.{departs_by}
+use Rattle.lc_model.proofs.ListLemmas.{AllPairs-map, AllPairs-weaker}
 use Rattle.lc_versions.specs.Cuts.{NeverFalls}
 use Rattle.lc_versions.specs.Pages.{departures_of}
 
 -- in departure order no departure is before an earlier one
 pub never_falls : (list : List Connection) → InDepartureOrder list → NeverFalls (departures_of list)
-never_falls [] in_order = λ i j d before inside. absurd (omega arith)
-never_falls (c ∷ list) in_order = λ i j d before inside.
-    let dep : Connection → ℕ = λ (x : Connection). x.dep in
-    let long : length (map dep (c ∷ list)) ≡ length (c ∷ list) = length-map (c ∷ list) dep in
-    let at_i : get_or (map dep (c ∷ list)) i d ≡ dep (get_or (c ∷ list) i c) = get_or-map dep (c ∷ list) i c d (omega arith) in
-    let at_j : get_or (map dep (c ∷ list)) j d ≡ dep (get_or (c ∷ list) j c) = get_or-map dep (c ∷ list) j c d (omega arith) in
-    let up : dep (get_or (c ∷ list) i c) ≤ dep (get_or (c ∷ list) j c) = departs_by (get_or (c ∷ list) i c) (get_or (c ∷ list) j c) (in_order i j c before (omega arith)) in
-    rw (at_i, at_j) up
+never_falls list in_order =
+    AllPairs-map (λ (x y : ℕ). x ≤ y) (λ (c : Connection). c.dep) list
+    (AllPairs-weaker (λ (c d : Connection). departure_cmp c d ≡ Less) (λ (c d : Connection). c.dep ≤ d.dep) list (λ c d of_c of_d less. departs_by c d less) in_order)
