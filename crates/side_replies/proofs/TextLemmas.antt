@@ -1,12 +1,11 @@
 -- The texts of replies are short enough to be read back, and say what they were made of.
 use Rattle.std.proofs.Common.{◌≡◌, ℕ, ◌+◌, ◌-◌, ◌<◌, ◌≤◌, Bool, true, false, List, ◌++◌, length, drop, codes, decimal, Option, Some, None, refl, sym, ap, subst, ◌∙◌, arith, length-append, length-drop}
 use Rattle.std.specs.Fmt.{digits}
-use Rattle.std.specs.List.{list_all}
 use Rattle.std.specs.Option.{IfSome}
 use Rattle.std.specs.Str.{IsUtf8}
 use Rattle.std.proofs.lemmas.Fmt.{length-decimal-le}
 use Rattle.std.proofs.lemmas.List.{take_all}
-use Rattle.std.proofs.lemmas.List.Elements.{All-append, All-weaker}
+use Rattle.std.proofs.lemmas.List.Elements.{All-weaker}
 use Rattle.std.proofs.lemmas.List.Sums.{AllPass-from_list_all}
 use Rattle.httparse.specs.Ascii.{crlf_bytes}
 use Rattle.httparse.specs.Grammar.{AllPass, is_uri_byte, is_value_byte}
@@ -24,7 +23,7 @@ use Rattle.http_text.specs.declared.reply_parts.BodyKind.TheVariants as bodies
 use Rattle.http_text.specs.declared.reply_parts.ReplyParts.{ReplyParts}
 use Rattle.http_text.proofs.AnswerLemmas.{answers, body_is}
 use Rattle.http_text.proofs.ByteLemmas.{value_bytes}
-use Rattle.http_text.proofs.TargetLemmas.{date_len, iso_visible, path_bytes}
+use Rattle.http_text.proofs.TargetLemmas.{both, date_len, iso_visible, literal, path_bytes}
 use Rattle.page_json.specs.Sound.{IsSoundName}
 use Rattle.page_json.proofs.Utf8Lemmas.{page_url_is_utf8}
 use Rattle.page_client.specs.Replied.{body_of}
@@ -139,12 +138,6 @@ found_len = omega arith
 
 authority_visible : (b : ℕ) → is_visible b ≡ true → is_uri_byte b ≡ true
 authority_visible b h = grind arith
-
-both : (xs ys : List ℕ) → AllPass is_uri_byte xs → AllPass is_uri_byte ys → AllPass is_uri_byte (xs ++ ys)
-both xs ys h k = All-append (λ b. is_uri_byte b ≡ true) xs ys h k
-
-literal : (xs : List ℕ) → list_all is_uri_byte xs ≡ true → AllPass is_uri_byte xs
-literal xs e = AllPass-from_list_all is_uri_byte xs e
 
 base_visible : (base : BaseParts) → IsWrittenBase base → AllPass is_uri_byte base.text
 base_visible base is =
