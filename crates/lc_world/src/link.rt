@@ -1,8 +1,11 @@
-ghost use Rattle.std.specs.Prelude.{◌≡◌, [], OnErr, IsErrOf};
+ghost use Rattle.std.specs.Prelude.{◌≡◌, [], OnErr, OnOk, IsErrOf};
+ghost use Rattle.connection_uri.specs.Base.{BaseParts};
 ghost use Rattle.lc_io.specs.Counts.{HasCause};
-ghost use Rattle.lc_world.specs.Link.{LinkSeen};
-ghost use Rattle.lc_world.specs.declared.link.LinkFail.TheVariants.{Failed};
+ghost use Rattle.lc_world.specs.Link.{Exchanges, IsGet, IsHonestWith, LinkSeen, Tells};
+ghost use Rattle.lc_world.specs.declared.link.LinkFail.TheVariants.{Failed, NoMemory as OutOfMemory};
+ghost use Rattle.publisher_side.specs.Side.{Side};
 
+use lc_model::NoMemory;
 use std::alloc::Global;
 
 /// Why a link gave no reply.
@@ -12,7 +15,16 @@ pub enum LinkFail {
     NoMemory,
 }
 
-/// A link to a publisher, by which requests are answered.
+impl From<NoMemory> for LinkFail {
+    ghost from_gives = { λ _ fail. fail ≡ OutOfMemory };
+
+    fn from(_: NoMemory) -> LinkFail {
+        LinkFail::NoMemory
+    }
+}
+
+/// A link to a publisher, by which requests are answered. Honest, quiet and clear are said of what it holds now: what each call
+/// leaves is said of the call.
 pub trait Link {
     /// What is known of the link.
     ghost seen: { Self → LinkSeen };
@@ -25,6 +37,11 @@ pub trait Link {
         request: &[u8],
         reply: &mut Vec<u8>,
     ) -> Result<(), LinkFail>
+        // What an honest link is asked by a GET it answers from its side, and an honest link is left, whatever the result.
+        ensures honest { (base : BaseParts) (side : Side) → IsGet request.now → IsHonestWith (seen self.old) base side
+            → Exchanges (seen self.old) (seen self.new) base side request.now reply.new.items result }
+        ensures clear { (seen self.old).clear → (seen self.new).clear }
+        ensures told { Tells (seen self.old).told (seen self.new).told authority.now request.now reply.new.items result }
         ensures empty { OnErr result (reply.new.items ≡ []) }
         ensures faults { HasCause (seen self.old).faults (seen self.new).faults (IsErrOf result Failed) };
 
@@ -36,6 +53,13 @@ pub trait Link {
         request: &[u8],
         reply: &mut Vec<u8>,
     ) -> Result<(), LinkFail>
+        // The side stays, and so does what the link is.
+        ensures side { (seen self.new).side ≡ (seen self.old).side }
+        ensures honest { (base : BaseParts) → (seen self.old).honest base → (seen self.new).honest base }
+        ensures quiet { (base : BaseParts) → (seen self.old).quiet base → (seen self.new).quiet base }
+        ensures clear { (seen self.old).clear → (seen self.new).clear }
+        ensures answer { OnOk result ((seen self.old).clear → reply.new.items ≡ reply.old.items) }
+        ensures told { Tells (seen self.old).told (seen self.new).told authority.now request.now reply.new.items result }
         ensures empty { OnErr result (reply.new.items ≡ []) }
         ensures faults { HasCause (seen self.old).faults (seen self.new).faults (IsErrOf result Failed) };
 

@@ -7,30 +7,43 @@ fn bytes(alloc: Global, text: &str) -> Result<Bytes, Fail> {
     Ok(Bytes::from_list(Vec::from_slice(alloc, text.as_bytes())?))
 }
 
-// A list of two replies: asked, handed on, and used up.
+/// What a reply of an entry is.
+fn reply_of(entry: &Entry) -> Option<&[u8]> {
+    entry.reply.as_ref().map(|reply| reply.as_slice())
+}
+
+// A list of two replies: asked, handed on, and used up. What was replied is told, also an answer that is left as it is.
 #[test]
 fn links(rt: HostRuntime) -> Result<(), Fail> {
     let alloc = rt.alloc();
     let mut link = ListLink::new(vec![in alloc; bytes(alloc, "one")?, bytes(alloc, "two")?]?)?;
     let mut reply = Vec::from_slice(alloc, b"what was there")?;
-    assert!(rt;
-        link.exchange(alloc, "lc.example", b"GET", &mut reply)
-            .is_ok()
-    );
-    assert_eq!(rt; reply.as_slice(), b"one".as_slice());
-    assert!(rt; link.pass(alloc, "lc.example", b"GET", &mut reply).is_ok());
-    assert_eq!(rt; reply.as_slice(), b"two".as_slice());
-    assert!(rt; link.pass(alloc, "lc.example", b"GET", &mut reply).is_ok());
-    assert_eq!(rt; reply.as_slice(), b"two".as_slice());
+    let asked = link.exchange(alloc, "lc.example", b"GET 1", &mut reply);
+    assert_eq!(rt; (asked, reply.as_slice()), (Ok(()), b"one".as_slice()));
+    let passed = link.pass(alloc, "lc.example", b"GET 2", &mut reply);
+    assert_eq!(rt; (passed, reply.as_slice()), (Ok(()), b"two".as_slice()));
+    reply.push(b'!')?;
+    let passed = link.pass(alloc, "lc.example:80", b"GET 3", &mut reply);
+    assert_eq!(rt; (passed, reply.as_slice()), (Ok(()), b"two!".as_slice()));
     assert_eq!(rt; link.faults(), 0);
-    assert!(rt;
-        matches!(
-            link.exchange(alloc, "lc.example", b"GET", &mut reply),
-            Err(LinkFail::Failed)
-        )
+    let asked = link.exchange(alloc, "lc.example", b"GET 4", &mut reply);
+    assert_eq!(rt;
+        (asked, reply.as_slice()),
+        (Err(LinkFail::Failed), b"".as_slice())
     );
-    assert!(rt; reply.is_empty());
     assert_eq!(rt; link.faults(), 1);
+    let told = [
+        ("lc.example", "GET 1", Some("one")),
+        ("lc.example", "GET 2", Some("two")),
+        ("lc.example:80", "GET 3", Some("two!")),
+        ("lc.example", "GET 4", None),
+    ];
+    assert_eq!(rt; link.told().len(), told.len());
+    for (entry, (authority, request, reply)) in link.told().iter().zip(&told) {
+        assert_eq!(rt; entry.authority.as_str(), *authority);
+        assert_eq!(rt; entry.request.as_slice(), request.as_bytes());
+        assert_eq!(rt; reply_of(entry), reply.map(|reply| reply.as_bytes()));
+    }
     Ok(())
 }
 
