@@ -5,3 +5,4 @@ pub mod LawLemmas
 pub mod LiveLemmas
 pub mod LiveRunsLemmas
 pub mod NamingLemmas
+pub mod OnTimeLemmas

@@ -1,7 +1,10 @@
 -- The values of which clauses say that they exist are one each, and the calls that news give go forward.
-use Rattle.std.specs.Prelude.{◌≡◌, List, Option}
+use Rattle.std.specs.Prelude.{◌≡◌, ◌<◌, pos, List, [], Option}
+use Rattle.std.specs.List.{All}
 use Rattle.lc_model.specs.Call.{GoesForward, InSequence}
+use Rattle.lc_model.specs.Run.{InKeyOrder}
 use Rattle.lc_model.specs.declared.call.Call.{Call}
+use Rattle.lc_model.specs.declared.moment.TheConstants.{MOMENTS_END}
 use Rattle.lc_model.specs.declared.run.Run.{Run}
 use Rattle.lc_model.specs.declared.stop.Stop.{Stop}
 use Rattle.lc_versions.specs.Added.{added_calls}
@@ -24,3 +27,19 @@ OneAddedRun = (stops : List Stop) (news : TripSaid) (a b : Option Run) → IsAdd
 pub record CallsGoForward : Type 0 where
   pub live : (calls : List Call) (news : Option TripSaid) → InSequence calls → GoesForward (live_calls_of calls news)
   pub added : (stops : List Stop) (news : List StopSaid) → GoesForward (added_calls stops news)
+
+-- a call as a timetable has it: its moments are in range, and it is not late
+pub record IsOnTime (call : Call) : Type 0 where
+  pub arr : call.arr < MOMENTS_END
+  pub dep : call.dep < MOMENTS_END
+  pub arr_delay : call.arr_delay ≡ pos 0
+  pub dep_delay : call.dep_delay ≡ pos 0
+
+-- the run goes forward, and none of its calls is late
+pub record RunsOnTime (run : Run) : Type 0 where
+  pub forward : GoesForward run.calls
+  pub on_time : All IsOnTime run.calls
+
+-- without news the live runs of a timetable are its runs
+abbrev pub LiveWithoutNews : Type 0
+LiveWithoutNews = (runs : List Run) (stops : List Stop) (live : List Run) → InKeyOrder runs → All RunsOnTime runs → AreLiveRuns runs stops [] live → live ≡ runs

@@ -1,8 +1,13 @@
-ghost use Rattle.live_calls.specs.Laws.{CallsGoForward, OneAddedRun, OneListOfLiveRuns};
+ghost use Rattle.live_calls.specs.Laws.{CallsGoForward, LiveWithoutNews, OneAddedRun, OneListOfLiveRuns};
 
 /// A timetable has one list of live runs by its news.
 pub fn one_list_of_live_runs()
     ensures { OneListOfLiveRuns }
+{}
+
+/// Without news the live runs of a timetable are its runs, where these go forward and are not late.
+pub fn live_without_news()
+    ensures { LiveWithoutNews }
 {}
 
 /// The news of an added trip make one run, or none.

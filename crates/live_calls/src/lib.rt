@@ -14,6 +14,6 @@ mod tests;
 mod told;
 
 pub use build_run::{added_key, added_run, added_run_on};
-pub use laws::{calls_go_forward, one_added_run, one_list_of_live_runs};
+pub use laws::{calls_go_forward, live_without_news, one_added_run, one_list_of_live_runs};
 pub use run_calls::live;
 pub use run_connections::connections;

@@ -169,6 +169,7 @@ const LIVE: [(TripKind, &[Said], &str); 6] = [
 fn calls_under_news(rt: HostRuntime) -> Result<(), Fail> {
     calls_go_forward();
     one_list_of_live_runs();
+    live_without_news();
     let alloc = rt.alloc();
     let run = added(alloc, "T1", &T1)?.ok_or("a run")?;
     for &(kind, table, wanted) in &LIVE {
