@@ -4,6 +4,7 @@ pub mod Further
 pub mod Inside
 pub mod Kept
 pub mod Laws
+pub mod Named
 pub mod Rows
 pub mod Store
 pub mod Texts

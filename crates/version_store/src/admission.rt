@@ -3,6 +3,8 @@ ghost use Rattle.version_store.specs.Texts.{fault_text};
 ghost use Rattle.version_store.specs.declared.admission.AdmitFault.TheVariants.{NoMemory as want_of_memory};
 
 use lc_model::{Moment, NoMemory};
+use lc_time::iso_text;
+use percent_encoding::ascii_str;
 use std::alloc::AllocFailed;
 use std::error::Error;
 use std::fmt;
@@ -42,13 +44,14 @@ impl fmt::Display for AdmitFault {
 
     fn fmt<W: fmt::Write>(&self, f: &mut fmt::Formatter<W>) -> fmt::Result {
         match self {
-            AdmitFault::TooLong { bytes } => write!(f, "{bytes} bytes are too many"),
+            AdmitFault::TooLong { bytes } => write!(f, "too large update {bytes}"),
             AdmitFault::Broken(fault) => write!(f, "{fault}"),
             AdmitFault::NotNewer { newest } => {
-                let newest = newest.seconds();
-                write!(f, "not newer than {newest}")
+                let text = iso_text(*newest);
+                let newest = ascii_str(&text);
+                write!(f, "ignored newest {newest}")
             }
-            AdmitFault::Full { messages, .. } => write!(f, "full after {messages} messages"),
+            AdmitFault::Full { messages, bytes } => { write!(f, "ignored full {messages} {bytes}") }
             AdmitFault::NoMemory => write!(f, "no memory"),
         }
     }

@@ -1,88 +1,37 @@
-ghost use Rattle.std.specs.Prelude.{◌≡◌, ◌↔◌, [], All, IfOk, OnOk, Some, if◌then◌else◌, map, option_map};
+ghost use Rattle.std.specs.Prelude.{◌≡◌, ◌↔◌, [], All, IfOk, OnOk, Some, if◌then◌else◌, map};
 ghost use Rattle.std.specs.List.{Contains};
 ghost use Rattle.std.specs.Ordering.{is_eq};
 ghost use Rattle.std.specs.BTreeMap.{get};
 ghost use Rattle.lc_model.specs.Call.{GoesForward};
 ghost use Rattle.lc_model.specs.RunKey.{key_cmp};
 ghost use Rattle.lc_model.specs.Run.{InKeyOrder};
+ghost use Rattle.lc_model.specs.Text.{IsIdText};
 ghost use Rattle.lc_model.specs.declared.key.RunKey.{RunKey as ToldKey};
 ghost use Rattle.lc_model.specs.declared.run.Run.{Run as ToldRun};
 ghost use Rattle.lc_versions.specs.Added.{IsFurtherRun};
 ghost use Rattle.lc_versions.specs.Live.{live_calls_of};
-ghost use Rattle.lc_versions.specs.Naming.{is_added as is_of_added, names_run as names_it, news_for as news_named, starts_so as is_start_so};
 ghost use Rattle.lc_versions.specs.Timetable.{AreLiveRuns};
 ghost use Rattle.version_store.specs.Further.{GoForward, HasExactly, IsFurther, IsOfEither, PutsFurther};
 ghost use Rattle.version_store.specs.Kept.{news_said};
+ghost use Rattle.version_store.specs.Named.{said_at};
 
 use crate::dated::DatedNews;
+use crate::named::{is_added, named_news};
 use lc_model::{Calls, NoMemory, PlainData, Run, RunKey, Runs, Stops};
-use lc_versions::TripKind;
 use live_calls::{added_key, added_run_on, live};
 use std::alloc::Global;
 use std::collections::BTreeMap;
 
-fn is_added(kind: TripKind) -> bool
-    ensures { result ≡ is_of_added kind }
-{
-    match kind {
-        TripKind::Added => true,
-        TripKind::Scheduled | TripKind::Canceled => false,
-    }
-}
-
-fn starts_so(start: Option<u32>, said: Option<u32>) -> bool
-    ensures { result ≡ is_start_so start said }
-{
-    match (start, said) {
-        (None, _) => true,
-        (Some(_), None) => false,
-        (Some(start), Some(said)) => said == start,
-    }
-}
-
-/// Whether the news name the run of the timetable with this key.
-fn names_run(key: &RunKey, news: DatedNews<'_>) -> bool
-    ensures { result ≡ names_it key.now (news_said news.entry) }
-{
-    let said = news.news;
-    !is_added(said.kind)
-        && (said.trip.as_slice() == key.trip.bytes()
-            && (news.date.cmp(&key.date).is_eq() && starts_so(key.start, said.start)))
-}
-
-/// These news if they name the run, or those that were found before.
-fn named_or<'a>(
-    found: Option<DatedNews<'a>>,
-    key: &RunKey,
-    news: DatedNews<'a>,
-) -> Option<DatedNews<'a>>
-    ensures { option_map news_said result ≡
-        (if names_it key.now (news_said news.entry) then Some (news_said news.entry) else option_map news_said found.entry) }
-{
-    if names_run(key, news) {
-        Some(news)
-    } else {
-        found
-    }
-}
-
-/// Of the news that name a run the last. Linear in the news.
-fn news_for<'a>(news: &[DatedNews<'a>], key: &RunKey) -> Option<DatedNews<'a>>
-    ensures { option_map news_said result ≡ news_named key.now (map news_said news.now) }
-{
-    let mut found = None;
-    'news: for dated in news {
-        found = named_or(found, key, *dated);
-    }
-    found
-}
-
-/// The live calls of a run of the timetable.
-fn live_of(alloc: Global, run: &Run, news: &[DatedNews<'_>]) -> Result<Calls, NoMemory>
-    ensures live { IfOk result (λ calls. calls ≡ live_calls_of run.now.calls (news_named run.now.key (map news_said news.now))) }
+/// The live calls of a run of the timetable. Takes the logarithm of the news, and the time of its live calls.
+fn live_of(
+    alloc: Global,
+    run: &Run,
+    named: &BTreeMap<RunKey, DatedNews<'_>>,
+) -> Result<Calls, NoMemory>
+    ensures live { IfOk result (λ calls. calls ≡ live_calls_of run.now.calls (said_at named.now run.now.key)) }
     ensures forward { IfOk result GoesForward }
 {
-    match news_for(news, &run.key) {
+    match named.get(&run.key) {
         Some(dated) => live(alloc, run, Some(dated.news)),
         None => live(alloc, run, None),
     }
@@ -140,18 +89,25 @@ fn further_runs(
     Ok(further)
 }
 
+/// The trip of a run is an id, as its type says. The call does nothing.
+fn trip_is_id(run: &Run)
+    ensures { IsIdText run.now.key.trip }
+{
+    let _trip = run.key.trip.bytes();
+}
+
 /// Puts the live calls of a run of the timetable.
 fn put_live(
     alloc: Global,
     live: &mut BTreeMap<RunKey, Calls>,
     run: &Run,
-    news: &[DatedNews<'_>],
+    named: &BTreeMap<RunKey, DatedNews<'_>>,
 ) -> Result<(), NoMemory>
     ensures put { OnOk result ((key : ToldKey) → get key_cmp live.new key ≡ (if is_eq (key_cmp run.now.key key)
-        then Some (live_calls_of run.now.calls (news_named run.now.key (map news_said news.now))) else get key_cmp live.old key)) }
-    ensures forward { OnOk result (GoesForward (live_calls_of run.now.calls (news_named run.now.key (map news_said news.now)))) }
+        then Some (live_calls_of run.now.calls (said_at named.now run.now.key)) else get key_cmp live.old key)) }
+    ensures forward { OnOk result (GoesForward (live_calls_of run.now.calls (said_at named.now run.now.key))) }
 {
-    let calls = live_of(alloc, run, news)?;
+    let calls = live_of(alloc, run, named)?;
     live.insert(run.key.copy(alloc)?, calls)?;
     Ok(())
 }
@@ -167,9 +123,11 @@ fn all_runs(
     ensures exactly { IfOk result (λ live. HasExactly live (IsOfEither runs.now stops.now (map news_said news.now))) }
     ensures forward { IfOk result GoForward }
 {
+    let named = named_news(alloc, news)?;
     let mut live = further_runs(alloc, stops, news)?;
     'runs: for run in runs {
-        put_live(alloc, &mut live, run, news)?;
+        trip_is_id(run);
+        put_live(alloc, &mut live, run, &named)?;
     }
     Ok(live)
 }
@@ -187,7 +145,7 @@ fn runs_in(alloc: Global, live: BTreeMap<RunKey, Calls>) -> Result<Vec<Run>, NoM
 }
 
 /// The runs of the timetable with their live calls by the news, and the further ones. Takes the time of a sort of the runs
-/// and of the news, of the live calls of each run, and for each run of a walk over the news.
+/// and of the news, and of the live calls of each run.
 pub(crate) fn live_runs(
     alloc: Global,
     runs: &Runs,
