@@ -14,6 +14,7 @@ pub mod RuleFacts
 pub mod Said
 pub mod SaidFacts
 pub mod SaidItems
+pub mod SoundLemmas
 pub mod SpanLemmas
 pub mod StopFacts
 pub mod StopLaws

@@ -15,6 +15,7 @@ pub mod PairPlaces
 pub mod Places
 pub mod Rules
 pub mod ServiceLaws
+pub mod SoundRows
 pub mod Spans
 pub mod StopColumns
 pub mod StopTimeColumns

@@ -23,6 +23,7 @@ mod places;
 mod service_laws;
 #[cfg(test)]
 mod service_tests;
+mod sound_visits;
 mod stop_time_rows;
 mod stop_times;
 #[cfg(test)]

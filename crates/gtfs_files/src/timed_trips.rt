@@ -4,7 +4,8 @@ ghost use Rattle.gtfs_files.specs.LeftOut.{AreLeftOut, AreSorted, is_in, time_un
 ghost use Rattle.gtfs_files.specs.OnTime.{AreOfTrips, AreOnTime};
 ghost use Rattle.gtfs_files.specs.Rules.{IsUnbroken};
 ghost use Rattle.gtfs_files.specs.StopTimeRows.{most_stop_times, stop_time_rule_at, stop_times_columns};
-ghost use Rattle.gtfs_files.specs.Table.{IsFileFault};
+ghost use Rattle.gtfs_files.specs.SoundRows.{AreSoundVisits};
+ghost use Rattle.gtfs_files.specs.Table.{IsFileFault, IsRowFault};
 ghost use Rattle.gtfs_files.specs.StopTimes.{AreStopTimesOf, AreTimed, IsStopTimesFault, SaysVisits, time_of as time_of_visit};
 ghost use Rattle.gtfs_files.specs.Timing.{IsTripFault, is_left_out, trip_fault as said_fault, trip_fault_at};
 ghost use Rattle.gtfs_files.specs.Visits.{visit_cmp};
@@ -13,10 +14,12 @@ ghost use Rattle.lc_model.specs.Order.{IsStrict};
 
 use crate::file_rows::file_rows;
 use crate::left_out::{is_left, stopless_trips, trips_of};
+use crate::sound_visits::sound_visits;
 use crate::stop_time_rows::{check_rows, stop_time_columns};
 use crate::timing::timing_fault;
 use crate::visits::{Visit, sorted_visits};
 use crate::{FileFault, StopTime, StopTimes, TripRow, TripRows};
+use gtfs_rows::Rows;
 use lc_model::{Id, NoMemory, Stop, Stops, items_of};
 use std::alloc::Global;
 
@@ -70,9 +73,27 @@ fn read_visits(
         "departure_time",
     ];
     let rows = file_rows(alloc, bytes, &columns, MOST_STOP_TIMES)?;
-    let columns = stop_time_columns(&rows);
-    check_rows(alloc, &rows, columns, stops, trips)?;
-    let visits = sorted_visits(alloc, &rows, columns)?;
+    let visits = judged_visits(alloc, &rows, stops, trips)?;
+    Ok(visits)
+}
+
+// The visits of the rows, by trip and sequence, or the first row that breaks a rule by itself. It is only looked for where
+// there may be one.
+fn judged_visits(
+    alloc: Global,
+    rows: &Rows,
+    stops: &[Stop],
+    trips: &[TripRow],
+) -> Result<Vec<Visit>, FileFault>
+    ensures visits { IfOk result (λ visits. AreSoundVisits stops.now trips.now rows.now visits.items) }
+    ensures fault { IfErr result (λ fault. (fault ≡ FileFault.NoMemory) ⊎ IsRowFault (stop_time_rule_at stops.now trips.now rows.now) (length rows.now.rows) fault) }
+{
+    let columns = stop_time_columns(rows);
+    if let Some(sound) = sound_visits(alloc, rows, columns, stops, trips)? {
+        return Ok(sound);
+    }
+    check_rows(alloc, rows, columns, stops, trips)?;
+    let visits = sorted_visits(alloc, rows, columns)?;
     Ok(visits)
 }
 
@@ -164,7 +185,7 @@ fn kept_of(alloc: Global, trips: Vec<TripRow>, left: &[&[u8]]) -> Result<Vec<Tri
     requires { AreSorted left.now }
     ensures { IfOk result (λ kept. kept.items ≡ filter (λ (t : Trip). not (is_in left.now t.trip)) trips.items) }
 {
-    let mut kept = Vec::new(alloc);
+    let mut kept = Vec::with_capacity(alloc, trips.len())?;
     'trips: for trip in trips {
         push_unless_left(&mut kept, trip, left)?;
     }
@@ -186,7 +207,7 @@ fn times_of(alloc: Global, visits: Vec<Visit>, left: &[&[u8]]) -> Result<Vec<Sto
     requires { AreSorted left.now }
     ensures { IfOk result (λ times. times.items ≡ filter_map (time_unless left.now) visits.items) }
 {
-    let mut times = Vec::new(alloc);
+    let mut times = Vec::with_capacity(alloc, visits.len())?;
     'visits: for visit in visits {
         push_time(&mut times, visit, left)?;
     }

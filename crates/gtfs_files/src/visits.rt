@@ -99,13 +99,13 @@ fn visit_at(
 }
 
 // Whether a pickup_type or drop_off_type allows to board or alight.
-fn allows(text: &[u8]) -> bool
+pub(crate) fn allows(text: &[u8]) -> bool
     ensures { result ≡ is_allowed text.now }
 {
     text != b"1".as_slice()
 }
 
-fn by_trip(visits: Vec<Visit>) -> Result<Vec<Visit>, NoMemory>
+pub(crate) fn by_trip(visits: Vec<Visit>) -> Result<Vec<Visit>, NoMemory>
     ensures moved { IfOk result (λ sorted. IsPermutation visits.items sorted.items) }
     ensures sorted { IfOk result (λ sorted. IsSorted visit_cmp sorted.items) }
 {
@@ -114,7 +114,7 @@ fn by_trip(visits: Vec<Visit>) -> Result<Vec<Visit>, NoMemory>
     Ok(sorted)
 }
 
-fn compare(x: &Visit, y: &Visit) -> Ordering
+pub(crate) fn compare(x: &Visit, y: &Visit) -> Ordering
     ensures { result ≡ visit_cmp x.now y.now }
 {
     x.trip.cmp(&y.trip).then(x.seq.cmp(&y.seq))
