@@ -1,28 +1,14 @@
 -- The connections of runs: none arrives before it departs, and no two tie in the order of departures.
-use Rattle.std.proofs.Common.{◌≡◌, ◌≢◌, ℕ, zero, suc, ◌+◌, ◌-◌, ◌<◌, ◌≤◌, List, [], ◌∷◌, ◌++◌, length, get_or, take, drop, sym, ap, ap₂, append_assoc, ◌∙◌, subst, refl, arith}
-use Rattle.std.specs.List.{All, AllPairs}
-use Rattle.std.specs.List.Sorted.{IsPermutation, IsSorted}
-use Rattle.std.specs.Ordering.{nat_cmp}
-use Rattle.std.specs.declared.cmp.Ordering.{Ordering}
-use Rattle.std.specs.declared.cmp.Ordering.TheVariants.{Less, Equal}
-use Rattle.std.proofs.lemmas.Cmp.{ranked}
-use Rattle.std.proofs.lemmas.List.Elements.{All-nil, All-cons, All-head, All-tail, All-contains, All-more, All-weaker}
+use Rattle.std.proofs.Common.{◌≡◌, ℕ, zero, suc, ◌+◌, ◌-◌, ◌<◌, ◌≤◌, List, [], ◌∷◌, ◌++◌, length, get_or, take, drop, sym, ap, ap₂, append_assoc, ◌∙◌, subst, refl, arith}
+use Rattle.std.specs.List.{All}
+use Rattle.std.proofs.lemmas.List.Elements.{All-more}
 use Rattle.std.proofs.lemmas.List.{flat_map_more, get_or_default, take_more}
-use Rattle.std.proofs.lemmas.List.Kept.{AllPairs-cons}
-use Rattle.std.proofs.lemmas.List.Sorted.{All-permutation}
-use Rattle.lc_model.specs.Call.{GoesForward, InSequence}
-use Rattle.lc_model.specs.Connection.{AreConnectionsOf, NoneArrivesEarly, connection_between, connections_from, connections_of, connections_of_calls, departure_cmp}
-use Rattle.lc_model.specs.Run.{InKeyOrder}
-use Rattle.lc_model.specs.RunKey.{key_cmp}
+use Rattle.lc_model.specs.Call.{InSequence}
+use Rattle.lc_model.specs.Connection.{connection_between, connections_of, connections_of_calls}
 use Rattle.lc_model.specs.declared.call.Call.{Call}
 use Rattle.lc_model.specs.declared.connection.Connection.{Connection}
 use Rattle.lc_model.specs.declared.key.RunKey.{RunKey}
 use Rattle.lc_model.specs.declared.run.Run.{Run}
-use Rattle.lc_model.specs.Run.{RunsForward}
-use Rattle.lc_model.proofs.ListLemmas.{All-from_contains, AllPairs-flat_map, AllPairs-head, AllPairs-nil, AllPairs-tail, StandsIn-flat_map}
-use Rattle.lc_model.proofs.OrdersLemmas.{IsStrict-from_sorted}
-use Rattle.lc_model.specs.Totals.{departure_cmp_total}
-use Rattle.lc_model.proofs.SearchLemmas.{both_tie}
 
 -- after the last call but one there is no connection
 pub no_more : (key : RunKey) (calls : List Call) (n : ℕ) → length calls ≤ n + 1 → connections_of_calls key (drop n calls) ≡ []

@@ -1,20 +1,21 @@
 -- The starts that rows of frequencies.txt give.
-use Rattle.std.proofs.Common.{◌≡◌, ◌≢◌, ◌∙◌, ◌⊎◌, ◌↔◌, ℕ, ◌+◌, ◌-◌, ◌*◌, ◌<◌, ◌≤◌, ◌==◌, true, false, List, [], ◌∷◌, ◌++◌, Option, Some, None, ap, ap₂, append_assoc, arith, eqb, eqb-true, get_or, inl, inr, length, length-append, map, refl, subst, sym, take}
+use Rattle.std.proofs.Common.{◌≡◌, ◌≢◌, ◌∙◌, ◌⊎◌, ◌↔◌, ℕ, ◌+◌, ◌-◌, ◌*◌, ◌<◌, ◌≤◌, ◌==◌, true, false, List, [], ◌∷◌, ◌++◌, Option, Some, None, ap, ap₂, append_assoc, arith, eqb, eqb-true, get_or, inl, inr, length, length-append, map, refl, subst, suc, sym, take, zero}
 use Rattle.std.specs.List.{All, AllPairs, Any, Contains, dedup, range_with_len}
 use Rattle.std.specs.List.Sorted.{IsPermutation, IsSorted}
 use Rattle.std.specs.Ordering.{nat_cmp}
 use Rattle.std.proofs.Math.Nat.{mul-le-mul_right}
 use Rattle.std.proofs.lemmas.Bool.{cases_lt, false≢true}
 use Rattle.std.proofs.lemmas.List.{append-nil, get_or-map, get_or_default, length-map, map_more, map_push, take_more}
-use Rattle.std.proofs.lemmas.List.Elements.{Contains-append_cases, Contains-append_left, Contains-append_right}
+use Rattle.std.proofs.lemmas.List.Elements.{All-filter, Contains-append_cases, Contains-append_left, Contains-append_right}
 use Rattle.std.proofs.lemmas.List.FromFn.{get_or-map-range_with_len, length-map-range_with_len, map-range_with_len_more}
 use Rattle.std.proofs.lemmas.List.Kept.{AllPairs-from_increasing, Contains-dedup_nat, Contains-from_dedup}
 use Rattle.std.proofs.lemmas.List.Sorted.{Contains-permutation, IsPermutation-sym}
 use Rattle.std.proofs.lemmas.Map.Keys.{IsStrictlyIncreasing-dedup}
 use Rattle.std.proofs.lemmas.Slice.Eq.{bytes_eq-Decides}
 use Rattle.lc_model.specs.Change.{is_same_id}
+use Rattle.gtfs_files.specs.Spans.{AreSpans, IsSpan}
 use Rattle.gtfs_files.specs.declared.frequency.Frequency.{Frequency}
-use Rattle.trip_runs.specs.Starts.{AreAllGiven, AreGiven, AreStarts, GainsStarts, IsStartOf, StartsAt, spans_of}
+use Rattle.trip_runs.specs.Starts.{AreAllGiven, AreGiven, AreStarts, GainsStarts, GivesSoMany, HaveSameStarts, HaveStarts, IsStartOf, StartsAt, spans_of}
 use Rattle.trip_runs.specs.declared.start.Start.{Start}
 use Rattle.lc_model.proofs.ListLemmas.{All-from_contains, Contains-cases, Contains-filter, Contains-here, Contains-nil, IsKept-filter}
 
@@ -265,15 +266,101 @@ given_push old now new s given i grown is lt so_far =
     ap seconds_of grown ∙ map_push (λ (s : Start). s.seconds) now s ∙ ap₂ (λ (a : List (Option ℕ)) (b : Option ℕ). a ++ b ∷ []) so_far is
     ∙ append_assoc (seconds_of old) (map Some (take i given)) (Some (get_or given i 0) ∷ []) ∙ ap (λ (l : List (Option ℕ)). seconds_of old ++ l) (sym (map_more Some given i 0 lt))
 
--- sorted, and each once
-pub given_once : (rows : List Frequency) (starts sorted new : List ℕ) → AreAllGiven rows starts → IsPermutation starts sorted → IsSorted nat_cmp sorted → new ≡ dedup eqb sorted → AreGiven rows new
-given_once rows starts sorted new given moved up is = record {
-  all = λ s. (
-    λ h. (given s).0 (Contains-permutation sorted starts s (IsPermutation-sym starts sorted moved) (Contains-from_dedup eqb sorted s (subst (λ (l : List ℕ). Contains l s) is h))),
-    λ h. subst (λ (l : List ℕ). Contains l s) (sym is) (Contains-dedup_nat sorted s (Contains-permutation starts sorted s moved ((given s).1 h))),
-  );
-  once = subst (λ (l : List ℕ). AllPairs (λ s t. s < t) l) (sym is) (AllPairs-from_increasing (dedup eqb sorted) (IsStrictlyIncreasing-dedup sorted up));
+-- sorted, and each once, they are the same starts
+pub left_same : (old sorted new : List ℕ) → IsPermutation old sorted → new ≡ dedup eqb sorted → HaveSameStarts old new
+left_same old sorted new moved is s = (
+  λ h. Contains-permutation sorted old s (IsPermutation-sym old sorted moved) (Contains-from_dedup eqb sorted s (subst (λ (l : List ℕ). Contains l s) is h)),
+  λ h. subst (λ (l : List ℕ). Contains l s) (sym is) (Contains-dedup_nat sorted s (Contains-permutation old sorted s moved h)),
+)
+
+pub left_once : (sorted new : List ℕ) → IsSorted nat_cmp sorted → new ≡ dedup eqb sorted → AllPairs (λ (s t : ℕ). s < t) new
+left_once sorted new up is = subst (λ (l : List ℕ). AllPairs (λ s t. s < t) l) (sym is) (AllPairs-from_increasing (dedup eqb sorted) (IsStrictlyIncreasing-dedup sorted up))
+
+pub given_same : (rows : List Frequency) (old new : List ℕ) → HaveSameStarts old new → AreAllGiven rows old → AreAllGiven rows new
+given_same rows old new same given s = (λ h. (given s).0 ((same s).0 h), λ h. (same s).1 ((given s).1 h))
+
+-- the quotient, rounded up, counts the starts of a row
+pub count_is : (f : Frequency) (seconds count : ℕ) → seconds ≡ f.to - f.from → (seconds ≤ count * f.headway) × (count * f.headway < seconds + f.headway) → GivesSoMany f count
+count_is f seconds count is bounds =
+    let above : seconds ≤ count * f.headway = bounds.0 in
+    let below : count * f.headway < seconds + f.headway = bounds.1 in
+    record {
+      before_end = λ k lt.
+          let next : k + 1 ≤ count = omega arith in
+          let more : (k + 1) * f.headway ≤ count * f.headway = mul-le-mul_right f.headway next in
+          let step : (k + 1) * f.headway ≡ k * f.headway + f.headway = omega arith in
+          omega (arith, more, step, below, is);
+      past = omega (arith, above, is);
+    }
+
+-- the starts of a row stand each once
+upto_once : (f : Frequency) (count : ℕ) → 0 < f.headway → AllPairs (λ (s t : ℕ). s < t) (starts_upto f count)
+upto_once f count apart i j d lt inside =
+    let size = length-map-range_with_len (λ k. f.from + k * f.headway) 0 count in
+    let at_j : j < count = omega (arith, inside, size) in
+    let at_i : i < count = omega (arith, at_j, lt) in
+    let first : get_or (starts_upto f count) i d ≡ f.from + i * f.headway = get_or-map-range_with_len (λ k. f.from + k * f.headway) 0 count i i d at_i (omega arith) in
+    let second : get_or (starts_upto f count) j d ≡ f.from + j * f.headway = get_or-map-range_with_len (λ k. f.from + k * f.headway) 0 count j j d at_j (omega arith) in
+    let next : i + 1 ≤ j = omega (arith, lt) in
+    let more : (i + 1) * f.headway ≤ j * f.headway = mul-le-mul_right f.headway next in
+    let step : (i + 1) * f.headway ≡ i * f.headway + f.headway = omega arith in
+    omega (arith, first, second, more, step, apart)
+
+row_gives : (f : Frequency) (count : ℕ) → 0 < f.headway → GivesSoMany f count → AreGiven (f ∷ []) (starts_upto f count)
+row_gives f count apart gives = record {
+  all = given_more (f ∷ []) 0 f [] (starts_upto f count) (omega arith) refl (given_none [] (f ∷ []) refl)
+      (gained f [] (starts_upto f count) count (f.from + count * f.headway) refl gives.before_end refl gives.past);
+  once = upto_once f count apart;
 }
+
+-- seconds of a service day as starts
+starts_from : (given : List ℕ) → All (λ s. s < 360_000) given → List Start
+starts_from [] in_day = []
+starts_from (s ∷ given) in_day =
+    let below : s < 360_000 = in_day 0 s (omega arith) in
+    record { seconds = Some s; in_range = λ x e. let same : s ≡ x = cc in omega (arith, same, below) } ∷ starts_from given (λ k d lt. in_day (suc k) d (omega arith))
+
+seconds_of-starts_from : (given : List ℕ) (in_day : All (λ s. s < 360_000) given) → seconds_of (starts_from given in_day) ≡ map Some given
+unfolding starts_from
+seconds_of-starts_from [] in_day = refl
+seconds_of-starts_from (s ∷ given) in_day = ap (λ (l : List (Option ℕ)). Some s ∷ l) (seconds_of-starts_from given (λ k d lt. in_day (suc k) d (omega arith)))
+
+-- the row that stands alone is a span
+pub alone_is_span : (spans own : List Frequency) (trip : List ℕ) (f : Frequency) → AreSpans spans → own ≡ spans_of spans trip → 0 < length own → f ≡ get_or own 0 f → IsSpan f
+alone_is_span spans own trip f are own_is there is =
+    let all : AreSpans own = subst AreSpans (sym own_is) (All-filter (λ (g : Frequency). is_same_id g.trip trip) IsSpan spans are) in
+    subst IsSpan (sym is) (all 0 f there)
+
+-- a trip with one row has as many starts as the row gives
+pub one_row : (frequencies : List Frequency) (trip : List ℕ) (f : Frequency) (count : ℕ) → f ∷ [] ≡ spans_of frequencies trip → IsSpan f → GivesSoMany f count → HaveStarts frequencies trip count
+one_row frequencies trip f count own span gives =
+    let given = starts_upto f count in
+    let are = row_gives f count span.apart gives in
+    let in_day = given_in_day (f ∷ []) given are.all (only f span) in
+    let seconds = seconds_of-starts_from given in_day in
+    record {
+      starts = starts_from given in_day;
+      are = with_rows frequencies trip (f ∷ []) given (starts_from given in_day) own (omega arith) are seconds;
+      counted = sym (sym (length-map (starts_from given in_day) (λ (s : Start). s.seconds)) ∙ ap length seconds ∙ length-map given Some ∙ length-map-range_with_len (λ k. f.from + k * f.headway) 0 count);
+    }
+  where
+    only : (f : Frequency) → IsSpan f → All (λ (g : Frequency). g.to < 360_000) (f ∷ [])
+    only f span zero d lt = span.to_in_day
+    only f span (suc k) d lt = absurd (omega (arith, lt))
+
+none_not_some : (x : ℕ) → (◌≡◌ {A = Option ℕ} None (Some x)) → ⊥
+none_not_some x e = cc
+
+-- and one without a row has one
+pub no_rows : (frequencies : List Frequency) (trip : List ℕ) → spans_of frequencies trip ≡ [] → HaveStarts frequencies trip 1
+no_rows frequencies trip none =
+    let starts : List Start = record { seconds = None; in_range = λ x e. absurd (none_not_some x e) } ∷ [] in
+    record { starts = starts; are = without_rows frequencies trip starts none refl; counted = refl }
+
+pub one_there : {X : Type 0} (xs : List X) (x : X) → length xs ≡ 1 → x ≡ get_or xs 0 x → x ∷ [] ≡ xs
+one_there [] x size is = absurd (omega (arith, size))
+one_there (y ∷ []) x size is = ap (λ z. z ∷ []) is
+one_there (y ∷ z ∷ xs) x size is = absurd (omega (arith, size))
 
 pub empty_is : {X : Type 0} (xs : List X) → (length xs == 0) ≡ true → xs ≡ []
 empty_is [] h = refl

@@ -30,7 +30,7 @@ use Rattle.trip_runs.specs.Laws.{OneListOfRuns}
 use Rattle.trip_runs.specs.Plannable.{ArePlannable}
 use Rattle.lc_model.specs.Run.{RunsForward}
 use Rattle.trip_runs.specs.Runs.{AreRunsOf, IsRunOf, calls_of}
-use Rattle.trip_runs.specs.Starts.{AreStarts, IsStartOf, StartsTrip}
+use Rattle.trip_runs.specs.Starts.{HaveStarts, IsStartOf, StartsTrip}
 use Rattle.trip_runs.specs.TripRuns.{AreAllRuns, RiseInSequence, dates_of, run_from, runs_of_trip, runs_on}
 use Rattle.trip_runs.specs.declared.load_fault.TheConstants.{MOST_CONNECTIONS}
 use Rattle.trip_runs.specs.declared.start.Start.{Start}
@@ -175,15 +175,15 @@ pub one_list_of_runs : OneListOfRuns
 one_list_of_runs trips times frequencies days zone a b p q = one_list trips times frequencies days zone a b p q
 
 -- how many connections the runs of one trip have
-pub of_one : (t : TripRow) (times : List StopTime) (spans : List Frequency) (days : List ServiceDay) (zone : Zone) (own : List StopTime) (starts given : List Start) (dates : List ServiceDay) (count : ℕ)
-    → own ≡ rows_of times t.trip → starts ≡ given → dates ≡ dates_of days t.service → AreStarts spans t.trip given → ArePlannable days → InDayOrder dates
-    → count ≡ length dates * length starts * (length own - 1) → HaveConnections (t ∷ []) times spans days zone count
-of_one t times spans days zone own starts given dates count e f g are planned up counted = record {
-  runs = runs_of_trip zone (rows_of times t.trip) t.trip given (dates_of days t.service);
-  are = of_trip t times spans days zone given are planned (subst InDayOrder g up);
-  counted = of_dates zone (rows_of times t.trip) t.trip given (dates_of days t.service)
-      ∙ sym (counted ∙ ap (λ (l : List ServiceDay). length l * length starts * (length own - 1)) g ∙ ap (λ (l : List Start). length (dates_of days t.service) * length l * (length own - 1)) f
-      ∙ ap (λ (l : List StopTime). length (dates_of days t.service) * length given * (length l - 1)) e);
+pub of_one : (t : TripRow) (times : List StopTime) (spans : List Frequency) (days : List ServiceDay) (zone : Zone) (own : List StopTime) (starts : ℕ) (dates : List ServiceDay) (count : ℕ)
+    → own ≡ rows_of times t.trip → HaveStarts spans t.trip starts → dates ≡ dates_of days t.service → ArePlannable days → InDayOrder dates
+    → count ≡ length dates * starts * (length own - 1) → HaveConnections (t ∷ []) times spans days zone count
+of_one t times spans days zone own starts dates count e have g planned up counted = record {
+  runs = runs_of_trip zone (rows_of times t.trip) t.trip have.starts (dates_of days t.service);
+  are = of_trip t times spans days zone have.starts have.are planned (subst InDayOrder g up);
+  counted = of_dates zone (rows_of times t.trip) t.trip have.starts (dates_of days t.service)
+      ∙ sym (counted ∙ ap (λ (l : List ServiceDay). length l * starts * (length own - 1)) g ∙ ap (λ n. length (dates_of days t.service) * n * (length own - 1)) have.counted
+      ∙ ap (λ (l : List StopTime). length (dates_of days t.service) * length have.starts * (length l - 1)) e);
 }
 
 -- what is counted and listed of slices is so of what they are slices of

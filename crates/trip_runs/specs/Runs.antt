@@ -1,7 +1,6 @@
 -- The runs of a feed's trips on the dates of their services, in the feed's zone.
 use Rattle.std.specs.Prelude.{◌≡◌, ◌↔◌, ℕ, pos, ◌+◌, ◌-◌, List, Option, Some, None, map}
-use Rattle.std.specs.List.{All, Contains, enumerate_from}
-use Rattle.lc_model.specs.Call.{GoesForward}
+use Rattle.std.specs.List.{Contains, enumerate_from}
 use Rattle.lc_model.specs.Run.{InKeyOrder}
 use Rattle.lc_model.specs.declared.call.Call.{Call}
 use Rattle.lc_model.specs.declared.run.Run.{Run}

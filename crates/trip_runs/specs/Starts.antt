@@ -1,5 +1,5 @@
 -- When the runs of a trip start (GTFS Schedule Reference, frequencies.txt).
-use Rattle.std.specs.Prelude.{◌≡◌, ◌≢◌, ◌↔◌, ◌⊎◌, ℕ, ◌+◌, ◌*◌, ◌<◌, List, Option, Some, None, filter}
+use Rattle.std.specs.Prelude.{◌≡◌, ◌≢◌, ◌↔◌, ◌⊎◌, ℕ, ◌+◌, ◌*◌, ◌<◌, ◌≤◌, List, Option, Some, None, filter, length}
 use Rattle.std.specs.List.{All, AllPairs, Any, Contains}
 use Rattle.lc_model.specs.Change.{is_same_id}
 use Rattle.gtfs_files.specs.declared.frequency.Frequency.{Frequency}
@@ -41,3 +41,18 @@ GainsStarts f old new = (start : ℕ) → Contains new start ↔ (Contains old s
 -- the rows of a trip
 abbrev pub spans_of : List Frequency → List ℕ → List Frequency
 spans_of frequencies trip = filter (λ (f : Frequency). is_same_id f.trip trip) frequencies
+
+-- two lists have the same starts
+abbrev pub HaveSameStarts : List ℕ → List ℕ → Type 0
+HaveSameStarts old new = (start : ℕ) → Contains new start ↔ Contains old start
+
+-- the row gives so many starts: each before its end, and the next one is not
+pub record GivesSoMany (f : Frequency) (count : ℕ) : Type 0 where
+  pub before_end : (k : ℕ) → k < count → f.from + k * f.headway < f.to
+  pub past : f.to ≤ f.from + count * f.headway
+
+-- the runs of the trip have so many starts
+pub record HaveStarts (frequencies : List Frequency) (trip : List ℕ) (count : ℕ) : Type 0 where
+  pub starts : List Start
+  pub are : AreStarts frequencies trip starts
+  pub counted : count ≡ length starts

@@ -15,7 +15,7 @@ ghost use Rattle.lc_model.specs.Run.{RunsForward};
 ghost use Rattle.trip_runs.specs.Runs.{AreRunsOf};
 ghost use Rattle.trip_runs.specs.TripRuns.{AreAllRuns};
 
-use crate::counting::connection_count;
+use crate::counting::count_of;
 use crate::starts::sorted_spans;
 use crate::trip_runs::push_trip;
 use crate::{LoadFault, MOST_CONNECTIONS};
@@ -24,6 +24,9 @@ use lc_model::{NoMemory, Run, Runs};
 use service_days::{Days, Zone};
 use std::alloc::Global;
 use std::cmp::Ordering;
+
+// More runs without connections than so many count as want of memory: each takes as much as a connection.
+const MOST_BARE_RUNS: u64 = 4_000_000;
 
 /// The runs of all trips, trip by trip, where the rows of frequencies.txt are sorted by their trips.
 fn listed_runs(
@@ -58,7 +61,8 @@ fn by_key(a: &Run, b: &Run) -> Ordering
 /// The runs of the trips of a feed on the dates of their services, strictly ordered by their keys. Their times are counted
 /// from the anchors of these dates in the zone (GTFS Schedule Reference, field type Time). A trip that has rows in
 /// frequencies.txt starts whenever they say, a start that two rows give once; else it runs once on each date. It is refused
-/// if the runs have more connections than may be, before any of them is made.
+/// if the runs have more connections than may be, before any of them is made. More than 4,000,000 runs without a connection,
+/// as of a trip with one row and a headway, are want of memory.
 ///
 /// It takes the time of a sort of the runs, of a sort of the rows of frequencies.txt and of the starts that they give, of
 /// all calls, and of eight binary searches for each trip.
@@ -79,9 +83,15 @@ pub fn runs(
     let (trips, times) = (trips.as_slice(), times.as_slice());
     let spans = sorted_spans(alloc, frequencies)?;
     let rows = spans.as_slice();
-    let count = connection_count(alloc, trips, times, rows, days)?;
-    if count > MOST_CONNECTIONS {
-        return Err(LoadFault::TooManyConnections { count });
+    let count = count_of(alloc, trips, times, rows, days)?;
+    if count.connections > MOST_CONNECTIONS {
+        return Err(LoadFault::TooManyConnections {
+            count: count.connections,
+        });
+    }
+    // No limit of the timetable's is on runs without connections, of which a row of frequencies.txt can give millions.
+    if count.bare_runs > MOST_BARE_RUNS {
+        return Err(LoadFault::NoMemory);
     }
     let mut runs = listed_runs(alloc, trips, times, rows, days, zone)?;
     runs.sort_unstable_by(|a, b| by_key(a, b));

@@ -11,7 +11,7 @@ ghost use Rattle.gtfs_files.specs.declared.frequency.Frequency.{Frequency as Row
 ghost use Rattle.trip_runs.specs.Counting.{HaveConnections};
 ghost use Rattle.trip_runs.specs.Plannable.{ArePlannable};
 
-use crate::starts::starts_of;
+use crate::starts::start_count;
 use crate::trip_runs::{dates_of, rows_of};
 use gtfs_files::{Frequency, StopTime, TripRow};
 use lc_model::NoMemory;
@@ -33,51 +33,76 @@ fn sum(a: u64, b: u64) -> Result<u64, NoMemory>
     a.checked_add(b).ok_or(NoMemory)
 }
 
+/// How many connections runs have, and how many runs have none.
+#[derive(Clone, Copy)]
+pub(crate) struct Count {
+    pub(crate) connections: u64,
+    pub(crate) bare_runs: u64,
+}
+
+/// How many runs without a connection a trip has, with so many dates, starts and pairs of rows: as many as 64 bits count
+/// where there are more.
+fn bare_runs(dates: u64, starts: u64, pairs: u64) -> u64 {
+    if pairs == 0 {
+        dates.saturating_mul(starts)
+    } else {
+        0
+    }
+}
+
 /// How many connections the runs of a trip have, of which none is made: two calls in a row for each date and each start.
-fn trip_connections(
+fn trip_count(
     alloc: Global,
     trip: &TripRow,
     times: &[StopTime],
     spans: &[Frequency],
     days: &Days,
-) -> Result<u64, NoMemory>
+) -> Result<Count, NoMemory>
     requires sorted { IsSorted (on (λ (f : Row). f.trip) id_cmp) spans.now }
     requires spans { AreSpans spans.now }
     requires in_trip_order { InTripOrder times.now }
     requires timely { AreTimely times.now }
     requires plannable { ArePlannable days.now }
-    ensures { IfOk result (λ count. (zone : Clock) → HaveConnections (trip.now ∷ []) times.now spans.now days.now zone count) }
+    ensures { IfOk result (λ count. (zone : Clock) → HaveConnections (trip.now ∷ []) times.now spans.now days.now zone count.connections) }
 {
     let rows = rows_of(times, &trip.trip);
     let pairs = rows.len().saturating_sub(1);
-    let starts = starts_of(alloc, spans, &trip.trip)?;
-    let starts = starts.as_slice().len();
+    let starts = start_count(alloc, spans, &trip.trip)?;
     let dates = dates_of(days, &trip.service).len();
-    let count = product(dates as u64, starts as u64, pairs as u64)?;
-    Ok(count)
+    let connections = product(dates as u64, starts, pairs as u64)?;
+    let bare_runs = bare_runs(dates as u64, starts, pairs as u64);
+    Ok(Count {
+        connections,
+        bare_runs,
+    })
 }
 
-/// How many connections the runs of the trips have, of which none is made: for each trip four binary searches, and a sort
-/// of the starts that its rows of frequencies.txt give. These are sorted by their trips.
-pub(crate) fn connection_count(
+/// How many connections the runs of the trips have, of which none is made: for each trip four binary searches, and, where
+/// it has more than one row of frequencies.txt, a sort of the starts that they give. These are sorted by their trips.
+pub(crate) fn count_of(
     alloc: Global,
     trips: &[TripRow],
     times: &[StopTime],
     spans: &[Frequency],
     days: &Days,
-) -> Result<u64, NoMemory>
+) -> Result<Count, NoMemory>
     requires one_row_a_trip { HaveOneRowATrip trips.now }
     requires sorted { IsSorted (on (λ (f : Row). f.trip) id_cmp) spans.now }
     requires spans { AreSpans spans.now }
     requires in_trip_order { InTripOrder times.now }
     requires timely { AreTimely times.now }
     requires plannable { ArePlannable days.now }
-    ensures { IfOk result (λ count. (zone : Clock) → HaveConnections trips.now times.now spans.now days.now zone count) }
+    ensures { IfOk result (λ count. (zone : Clock) → HaveConnections trips.now times.now spans.now days.now zone count.connections) }
 {
-    let mut count: u64 = 0;
+    let mut connections: u64 = 0;
+    let mut bare_runs: u64 = 0;
     'trips: for trip in trips {
-        let more = trip_connections(alloc, trip, times, spans, days)?;
-        count = sum(count, more)?;
+        let more = trip_count(alloc, trip, times, spans, days)?;
+        connections = sum(connections, more.connections)?;
+        bare_runs = bare_runs.saturating_add(more.bare_runs);
     }
-    Ok(count)
+    Ok(Count {
+        connections,
+        bare_runs,
+    })
 }

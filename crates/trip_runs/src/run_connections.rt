@@ -53,11 +53,21 @@ fn by_departure(a: &Connection, b: &Connection) -> Ordering
     by_time.then_with(|| a.key.cmp(&b.key).then(a.seq.cmp(&b.seq)))
 }
 
+/// How many connections the runs have, for which room is made.
+fn room_of(runs: &[Run]) -> usize {
+    let mut count: usize = 0;
+    for run in runs {
+        let pairs = run.calls.as_slice().len().saturating_sub(1);
+        count = count.saturating_add(pairs);
+    }
+    count
+}
+
 fn all_connections(alloc: Global, runs: &[Run]) -> Result<Vec<Connection>, NoMemory>
     ensures are { IfOk result (λ list. list.items ≡ connections_of runs.now) }
     ensures in_sequence { OnOk result (All (λ (r : Run). InSequence r.calls) runs.now) }
 {
-    let mut connections = Vec::new(alloc);
+    let mut connections = Vec::with_capacity(alloc, room_of(runs))?;
     for run in runs {
         let calls = run.calls.as_slice();
         push_connections(alloc, &mut connections, &run.key, calls)?;

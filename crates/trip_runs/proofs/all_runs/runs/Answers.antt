@@ -17,8 +17,8 @@ returns-then-count-gt-MOST_CONNECTIONS-clause-fault c =
     let frequencies = c.args.frequencies.now in
     let days = c.args.days.now in
     let zone = c.args.zone.now in
-    too_many trips times frequencies days zone c.in_ok-count.count
-    (counted_of trips _ times _ frequencies c.in_ok-spans.spans.items _ days zone c.in_ok-count.count c.as_slice-trips.ensures.value c.as_slice-times.ensures.value c.as_slice-rows.ensures.value c.in_ok-spans.ensures.moved (c.in_ok-count.ensures zone))
+    too_many trips times frequencies days zone c.in_ok-count.count.connections
+    (counted_of trips _ times _ frequencies c.in_ok-spans.spans.items _ days zone c.in_ok-count.count.connections c.as_slice-trips.ensures.value c.as_slice-times.ensures.value c.as_slice-rows.ensures.value c.in_ok-spans.ensures.moved (c.in_ok-count.ensures zone))
     c.if-count-gt-MOST_CONNECTIONS.true
 
 pub from_list-requires : goal.from_list-requires
@@ -60,6 +60,6 @@ returns-clause-room c =
     let frequencies = c.args.frequencies.now in
     let days = c.args.days.now in
     let zone = c.args.zone.now in
-    few_enough trips times frequencies days zone c.in_ok-count.count c.from_list.result
-    (counted_of trips _ times _ frequencies c.in_ok-spans.spans.items _ days zone c.in_ok-count.count c.as_slice-trips.ensures.value c.as_slice-times.ensures.value c.as_slice-rows.ensures.value c.in_ok-spans.ensures.moved (c.in_ok-count.ensures zone))
+    few_enough trips times frequencies days zone c.in_ok-count.count.connections c.from_list.result
+    (counted_of trips _ times _ frequencies c.in_ok-spans.spans.items _ days zone c.in_ok-count.count.connections c.as_slice-trips.ensures.value c.as_slice-times.ensures.value c.as_slice-rows.ensures.value c.in_ok-spans.ensures.moved (c.in_ok-count.ensures zone))
     c.if-count-gt-MOST_CONNECTIONS.false (returns-clause-are c)
