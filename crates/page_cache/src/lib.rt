@@ -1,0 +1,7 @@
+//! A bounded cache of pages, by their names, in the order of their last use. It stands on `page_json` and `lc_model`, and on
+//! `lru` of the kit.
+#![tactic(auto)]
+
+mod cache;
+
+pub use cache::{MOST_PAGES, PageCache};
