@@ -57,7 +57,7 @@ reaches_at bound (Some last) there = record { last = last; is_last = refl; by_la
 
 module _ (list : List Connection) (first : CutPage) (rest : List CutPage) (query : Query) (doc : StopsDoc) (pages : ArePagesOf list first rest) (forward : NoneArrivesEarly list) where
   -- what was taken up to a page has the same least arrival as all connections, if its last departure is at the bound or later
-  same_best : (before : List CutPage) (page : CutPage) (left : List CutPage) (best : Option ℕ) (last : ℕ) → pages_on first rest query ≡ before ++ page ∷ left → last_departure page.connections ≡ Some last → bound_of query best ≤ last →
+  pub same_best : (before : List CutPage) (page : CutPage) (left : List CutPage) (best : Option ℕ) (last : ℕ) → pages_on first rest query ≡ before ++ page ∷ left → last_departure page.connections ≡ Some last → bound_of query best ≤ last →
       (IsListBest query doc (connections_along (before ++ page ∷ [])) best ↔ IsListBest query doc list best)
   same_best before page left best last are is_last by_last =
       pages_may_be_all list first rest query doc (before ++ page ∷ []) left best last pages forward (are ∙ sym (append_assoc before (page ∷ []) left)) (last_taken before page last is_last) by_last
@@ -77,7 +77,7 @@ module _ (list : List Connection) (first : CutPage) (rest : List CutPage) (query
       reaches_by (bound_of query best) over.last (last_departure page.connections) over.is_last
       ((over_is_over before page left over.best best over.last are over.is_last over.is_best is_best).0 over.by_last)
 
-  over_if_reaches : (before : List CutPage) (page : CutPage) (left : List CutPage) (best : Option ℕ) → pages_on first rest query ≡ before ++ page ∷ left → IsListBest query doc list best → is_last_by (bound_of query best) page ≡ true →
+  pub over_if_reaches : (before : List CutPage) (page : CutPage) (left : List CutPage) (best : Option ℕ) → pages_on first rest query ≡ before ++ page ∷ left → IsListBest query doc list best → is_last_by (bound_of query best) page ≡ true →
       IsOver query doc before page
   over_if_reaches before page left best are is_best there =
       let found = reaches_at (bound_of query best) (last_departure page.connections) there in

@@ -1,0 +1,5 @@
+pub mod AnsweredLemmas
+pub mod FitsLemmas
+pub mod OwnPageLemmas
+pub mod PublishedLemmas
+pub mod UnderWayLemmas

@@ -1,0 +1,6 @@
+pub mod Answered
+pub mod Fits
+pub mod Laws
+pub mod Published
+pub mod Steps
+pub mod Wants

@@ -1,0 +1,7 @@
+//! When a client agrees with the publisher's side that it asks, as definitions with their laws: it ends with an answer by the timetable
+//! of its version, after exactly the needed pages. It stands on `page_client`, `page_laws`, `publisher_side` and `side_replies`.
+#![tactic(auto)]
+
+mod laws;
+
+pub use laws::one_published;
