@@ -1,17 +1,13 @@
 -- Answers and needed pages at a version are one, and stay.
 use Rattle.std.proofs.Common.{◌≡◌, ℕ, inl, inr, List, [], ◌∷◌, ◌++◌, Option, Some, None, refl, ap, sym, subst, ◌∙◌}
-use Rattle.std.specs.Prelude.{◌↔◌}
 use Rattle.std.proofs.lemmas.List.{append-nil, append_assoc}
 use Rattle.lc_model.specs.Connection.{NoneArrivesEarly}
-use Rattle.lc_model.specs.Journey.{IsAnswer, IsBest, IsJourney, IsLeastArrival, arrives_at}
+use Rattle.lc_model.specs.Journey.{IsAnswer, IsJourney, IsLeastArrival, arrives_at}
 use Rattle.lc_model.specs.Leg.{IsChain, IsLegOf, IsListBest, in_time}
 use Rattle.lc_model.specs.Ride.{IsRideAt}
-use Rattle.lc_model.specs.declared.answer.Answer.{Answer}
-use Rattle.lc_model.specs.declared.answer.Answer.TheVariants as answers
 use Rattle.lc_model.specs.declared.connection.Connection.{Connection}
 use Rattle.lc_model.specs.declared.doc.StopsDoc.{StopsDoc}
 use Rattle.lc_model.specs.declared.journey.Journey.{Journey}
-use Rattle.lc_model.specs.declared.page.PageName.{PageName}
 use Rattle.lc_model.specs.declared.query.Query.{Query}
 use Rattle.lc_model.specs.declared.run.Run.{Run}
 use Rattle.lc_model.proofs.OneValueLemmas.{one_arrival, one_least_arrival}
@@ -21,18 +17,16 @@ use Rattle.journey_laws.proofs.JourneysLemmas.{chain_is_journey, journey_is_chai
 use Rattle.journey_laws.proofs.RidesAreLegsLemmas.{Timetable}
 use Rattle.live_calls.proofs.LawLemmas.{one_live_list}
 use Rattle.page_laws.specs.Chain.{ArePagesOf, connections_along}
-use Rattle.page_laws.specs.Needed.{AreNeeded, IsTakenUntilOver, needed_pages}
+use Rattle.page_laws.specs.Needed.{AreNeeded, IsTakenUntilOver}
 use Rattle.page_laws.specs.Rides.{connections_on, pages_on}
 use Rattle.page_laws.proofs.AlongLemmas.{chains_are_there, least_is_there}
 use Rattle.page_laws.proofs.NeededLemmas.{one_list_of_needed, same_best, takes_the_needed}
 use Rattle.page_laws.proofs.PartJourneyLemmas.{chain_of_front, least_over}
 use Rattle.page_laws.proofs.TakenLemmas.{are_taken}
-use Rattle.publisher_side.proofs.LaterLemmas.{with_more}
-use Rattle.publisher_side.specs.Side.{Side}
-use Rattle.client_answers.specs.Answered.{AnswersAt, NeededAt, names_at}
-use Rattle.client_answers.specs.Laws.{AnswersStay, NeededStays, OneArrivalAt, OneListOfNeededAt, Stays}
-use Rattle.client_answers.specs.Published.{IsPublished, Published}
-use Rattle.client_answers.proofs.PublishedLemmas.{one_published, published_stays, stays_by_news}
+use Rattle.client_answers.specs.Answered.{AnswersAt, NeededAt, answer_of, names_at}
+use Rattle.client_answers.specs.Laws.{AnswersStay, NeededStays, OneArrivalAt, OneListOfNeededAt}
+use Rattle.client_answers.specs.Published.{Published}
+use Rattle.client_answers.proofs.PublishedLemmas.{one_published, stays_by_news}
 
 pub one_arrival_at : OneArrivalAt
 one_arrival_at side version query a b first second =
@@ -73,11 +67,6 @@ needed_stays query names =
         names_are = is.names_are;
       }),
     ))
-
--- the answer that a journey is, or that there is none
-abbrev pub answer_of : Option Journey → Answer
-answer_of (Some journey) = answers.Journey journey
-answer_of None = answers.NoJourney
 
 -- when it arrives
 abbrev pub best_of : Option Journey → Option ℕ

@@ -14,14 +14,12 @@ use Rattle.page_client.specs.declared.outcome.Outcome.TheVariants as outcomes
 use Rattle.page_client.specs.declared.phase.Phase.{Phase}
 use Rattle.page_client.specs.declared.phase.Phase.TheVariants as phases
 use Rattle.page_client.specs.declared.want.Want.{Want}
-use Rattle.page_json.specs.declared.page.Page.{Page}
 use Rattle.publisher_side.specs.Response.{IsPageOf}
 use Rattle.publisher_side.specs.Side.{IsLater, IsValidSide, Side, has_version}
 use Rattle.publisher_side.proofs.LaterLemmas.{timetables_stay, with_more}
 use Rattle.publisher_side.proofs.VersionLemmas.{still_found}
 use Rattle.client_answers.specs.Fits.{FitsAt, FitsSide, HasAnswered, HasEnded, IsDenied, IsOfSide, IsSentOn, IsUnderWay}
 use Rattle.client_answers.specs.Laws.{FitsStays, OwnPagesStay}
-use Rattle.client_answers.specs.Published.{IsOwnPage}
 use Rattle.client_answers.proofs.AnsweredLemmas.{answers_stay, needed_stays}
 use Rattle.client_answers.proofs.PublishedLemmas.{published_stays}
 

@@ -2,4 +2,6 @@ pub mod AnsweredLemmas
 pub mod FitsLemmas
 pub mod OwnPageLemmas
 pub mod PublishedLemmas
+pub mod StepLemmas
 pub mod UnderWayLemmas
+pub mod WantsLemmas

@@ -1,5 +1,5 @@
 -- The pages of a side between their neighbours, and the one to which its gate sends.
-use Rattle.std.proofs.Common.{◌≡◌, ℕ, ◌<◌, ◌≤◌, inl, inr, List, [], ◌∷◌, ◌++◌, Bool, true, false, Option, Some, None, refl, ap, sym, subst, ◌∙◌, arith}
+use Rattle.std.proofs.Common.{◌≡◌, ℕ, ◌<◌, ◌≤◌, inl, inr, List, [], ◌∷◌, ◌++◌, Bool, false, Option, Some, None, refl, ap, sym, subst, ◌∙◌, arith}
 use Rattle.std.specs.Prelude.{◌⊎◌, ◌||◌, option_map, reverse, if◌then◌else◌}
 use Rattle.std.specs.List.{Contains, last_or}
 use Rattle.std.proofs.lemmas.Bool.Decides.{nat_tests}
@@ -18,9 +18,8 @@ use Rattle.page_laws.proofs.NameLemmas.{cuts_name_neighbours}
 use Rattle.page_laws.proofs.RowLemmas.{found_by_name, row}
 use Rattle.page_client.specs.Shown.{is_early, is_late, is_off, wrong_gate}
 use Rattle.page_client.specs.declared.fault.PeerFault.TheVariants.{GateWrong}
-use Rattle.page_client.specs.declared.outcome.Outcome.{Outcome}
 use Rattle.page_client.specs.declared.outcome.Outcome.TheVariants.{PeerWrong}
-use Rattle.publisher_side.specs.PageAt.{linked, named, next_cut, previous_cut}
+use Rattle.publisher_side.specs.PageAt.{linked, named, previous_cut}
 use Rattle.publisher_side.specs.Response.{IsPageOf}
 use Rattle.publisher_side.specs.Side.{IsValidSide, Side}
 use Rattle.client_answers.specs.Laws.{IsAmong}

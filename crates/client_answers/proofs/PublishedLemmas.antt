@@ -1,13 +1,12 @@
 -- What is published of a version is one, is lawful, and stays.
 use Rattle.std.proofs.Common.{◌≡◌, ℕ, ◌≤◌, inl, inr, List, ◌∷◌, ◌++◌, true, refl, ap, sym, subst, ◌∙◌}
 use Rattle.std.specs.Prelude.{◌↔◌, ◌⊎◌}
-use Rattle.std.specs.List.{All, Contains}
+use Rattle.std.specs.List.{All}
 use Rattle.std.specs.declared.cmp.Ordering.TheVariants.{Less}
 use Rattle.std.proofs.lemmas.List.Elements.{All-contains}
 use Rattle.lc_model.specs.Call.{GoesForward, InSequence}
-use Rattle.lc_model.specs.Connection.{AreConnectionsOf, InDepartureOrder, NoneArrivesEarly, connections_of, departure_cmp}
+use Rattle.lc_model.specs.Connection.{AreConnectionsOf, InDepartureOrder, connections_of, departure_cmp}
 use Rattle.lc_model.specs.Run.{RunsForward}
-use Rattle.lc_model.specs.declared.call.Call.{Call}
 use Rattle.lc_model.specs.declared.connection.Connection.{Connection}
 use Rattle.lc_model.specs.declared.run.Run.{Run}
 use Rattle.lc_model.proofs.ConnectionLemmas.{NoneArrivesEarly-sorted, departs_by}
@@ -15,24 +14,21 @@ use Rattle.lc_model.proofs.ListLemmas.{All-from_contains, AllPairs-map, AllPairs
 use Rattle.lc_model.proofs.OneValueLemmas.{one_list_of_connections}
 use Rattle.lc_versions.specs.Added.{IsFurtherRun}
 use Rattle.lc_versions.specs.Cuts.{NeverFalls}
-use Rattle.lc_versions.specs.History.{Entry, moments_of, news_at}
+use Rattle.lc_versions.specs.History.{Entry, news_at}
 use Rattle.lc_versions.specs.News.{TripSaid}
-use Rattle.lc_versions.specs.Pages.{CutPage, departures_of, page_for, pages_of}
+use Rattle.lc_versions.specs.Pages.{CutPage, departures_of, pages_of}
 use Rattle.lc_versions.specs.Naming.{news_for}
 use Rattle.lc_versions.specs.Timetable.{AreLiveRuns, IsLiveRun}
 use Rattle.live_calls.proofs.AddedLemmas.{added_go_forward}
 use Rattle.live_calls.proofs.LawLemmas.{one_live_list}
 use Rattle.live_calls.proofs.LiveLemmas.{live_go_forward}
 use Rattle.journey_laws.proofs.RidesAreLegsLemmas.{Timetable}
-use Rattle.page_json.specs.declared.page.Page.{Page}
-use Rattle.page_laws.specs.Chain.{ArePagesOf}
 use Rattle.page_laws.proofs.RowLemmas.{never_empty}
 use Rattle.publisher_side.specs.PageAt.{linked, page_among}
-use Rattle.publisher_side.specs.Response.{IsPageOf}
-use Rattle.publisher_side.specs.Side.{IsLater, IsTimetableAt, IsValidSide, Side, date_in, has_version}
+use Rattle.publisher_side.specs.Side.{IsTimetableAt, IsValidSide, Side, date_in, has_version}
 use Rattle.publisher_side.proofs.LaterLemmas.{with_more}
 use Rattle.publisher_side.proofs.VersionLemmas.{later_moments, news_stay}
-use Rattle.client_answers.specs.Laws.{IsAmong, IsLawful, OnePublished, PagesAreAmong, PublishedIsLawful, PublishedStays, Stays}
+use Rattle.client_answers.specs.Laws.{OnePublished, PagesAreAmong, PublishedIsLawful, PublishedStays, Stays}
 use Rattle.client_answers.specs.Published.{AreLiveAt, IsPublished, Published}
 
 same_parts : (a b : Published) → a.live ≡ b.live → a.list ≡ b.list → a.first ≡ b.first → a.rest ≡ b.rest → a ≡ b

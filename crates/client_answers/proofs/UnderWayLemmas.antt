@@ -26,7 +26,6 @@ use Rattle.page_client.specs.Course.{Follows, IsOver as IsOverThen}
 use Rattle.page_client.specs.Shown.{IsRefusal, Shown, answered, ended, onward, wrong_gate}
 use Rattle.page_client.specs.declared.client.Client.{Client}
 use Rattle.page_client.specs.declared.outcome.Outcome.{Outcome}
-use Rattle.page_client.specs.declared.phase.Phase.{Phase}
 use Rattle.page_client.specs.declared.phase.Phase.TheVariants as phases
 use Rattle.page_client.specs.declared.step.Step.{Step}
 use Rattle.page_client.specs.declared.step.Step.TheVariants.{Last, Next}
@@ -35,12 +34,12 @@ use Rattle.page_client.specs.declared.want.Want.TheVariants as wants
 use Rattle.publisher_side.specs.PageAt.{named}
 use Rattle.publisher_side.specs.Response.{IsPageOf}
 use Rattle.publisher_side.specs.Side.{IsValidSide, Side}
-use Rattle.client_answers.specs.Answered.{names_at}
+use Rattle.client_answers.specs.Answered.{answer_of, names_at}
 use Rattle.client_answers.specs.Fits.{FitsAt, FitsSide, HasAnswered, HasEnded, IsOfSide, IsUnderWay}
 use Rattle.client_answers.specs.Published.{IsOwnPage}
 use Rattle.client_answers.specs.Steps.{KeepsVersion}
 use Rattle.client_answers.specs.Wants.{HasEnds, wants_of}
-use Rattle.client_answers.proofs.AnsweredLemmas.{answer_of, are_needed, is_answer}
+use Rattle.client_answers.proofs.AnsweredLemmas.{are_needed, is_answer}
 use Rattle.client_answers.proofs.FitsLemmas.{has_own}
 use Rattle.client_answers.proofs.OwnPageLemmas.{all_parts, between, gate_is_right, own_is_between, pages_by_cuts}
 use Rattle.client_answers.proofs.PublishedLemmas.{is_lawful, is_timetable}
@@ -153,7 +152,6 @@ answered_so side s wanted None has = has
 answered_so side s wanted (Some journey) has = has
 
 module _ (side : Side) (valid : IsValidSide side) (old new : Client) (wanted : List Want) (page : Page) (own : IsOfSide side old.version) (u : IsUnderWay side old wanted page.name) (is_own : IsOwnPage side page) where
-
   is_between : page ≡ between page.name.version (reverse (along_previous u.published.first u.published.rest old.query.leave) ++ u.before) u.page u.behind
   is_between =
       own_is_between side page.name.version u.published valid u.is_published

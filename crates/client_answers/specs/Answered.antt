@@ -1,8 +1,10 @@
 -- The answers to a question at a version of a side, and the pages that it needs.
-use Rattle.std.specs.Prelude.{◌≡◌, ℕ, List, map}
+use Rattle.std.specs.Prelude.{◌≡◌, ℕ, List, map, Option, Some, None}
 use Rattle.lc_model.specs.Journey.{IsAnswer}
 use Rattle.lc_model.specs.Ride.{IsRideAt}
 use Rattle.lc_model.specs.declared.answer.Answer.{Answer}
+use Rattle.lc_model.specs.declared.answer.Answer.TheVariants as answers
+use Rattle.lc_model.specs.declared.journey.Journey.{Journey}
 use Rattle.lc_model.specs.declared.page.PageName.{PageName}
 use Rattle.lc_model.specs.declared.query.Query.{Query}
 use Rattle.lc_model.specs.declared.run.Run.{Run}
@@ -17,6 +19,11 @@ pub record AnswersAt (side : Side) (version : ℕ) (query : Query) (answer : Ans
   pub live : List Run
   pub are_live : AreLiveAt side version live
   pub is_answer : IsAnswer (IsRideAt live) query side.doc answer
+
+-- the answer that a journey is, or that there is none
+abbrev pub answer_of : Option Journey → Answer
+answer_of (Some journey) = answers.Journey journey
+answer_of None = answers.NoJourney
 
 -- the names of pages of a version
 abbrev pub names_at : ℕ → List CutPage → List PageName

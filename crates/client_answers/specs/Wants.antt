@@ -1,11 +1,13 @@
 -- What a client of a question wants of a side, one after the other.
-use Rattle.std.specs.Prelude.{◌≡◌, ℕ, ◌⊎◌, List, [], ◌∷◌, map, Some, None}
+use Rattle.std.specs.Prelude.{◌≡◌, ℕ, ◌⊎◌, List, [], ◌∷◌, map, Option, Some, None}
 use Rattle.lc_model.specs.Stop.{HasStop}
 use Rattle.lc_model.specs.declared.doc.StopsDoc.{StopsDoc}
 use Rattle.lc_model.specs.declared.page.PageName.{PageName}
 use Rattle.lc_model.specs.declared.query.Query.{Query}
 use Rattle.page_client.specs.Shown.{IsRefusal}
 use Rattle.page_client.specs.declared.fault.QueryFault.{QueryFault}
+use Rattle.page_client.specs.declared.outcome.Outcome.{Outcome}
+use Rattle.page_client.specs.declared.outcome.Outcome.TheVariants as outcomes
 use Rattle.page_client.specs.declared.want.Want.{Want}
 use Rattle.page_client.specs.declared.want.Want.TheVariants as wants
 use Rattle.publisher_side.specs.Side.{Side}
@@ -44,3 +46,17 @@ pub record IsAnswered (side : Side) (version : ℕ) (query : Query) (wanted : Li
 -- stops document where this lacks an end of the question; else these two and then the needed pages.
 abbrev pub AreWants : Side → ℕ → Query → List Want → Type 0
 AreWants side version query wanted = IsRefusedAtOnce query wanted ⊎ IsRefusedByStops side query wanted ⊎ IsAnswered side version query wanted
+
+-- the version, if there is one, is this one
+abbrev pub IsItsVersion : Option ℕ → ℕ → Type 0
+IsItsVersion None version = Unit {0}
+IsItsVersion (Some own) version = own ≡ version
+
+-- it ended with an answer or a refusal, and by no fault
+abbrev pub IsNoFault : Option Outcome → Type 0
+IsNoFault None = ⊥
+IsNoFault (Some (outcomes.Found journey)) = Unit {0}
+IsNoFault (Some outcomes.NoJourney) = Unit {0}
+IsNoFault (Some (outcomes.Refused fault)) = Unit {0}
+IsNoFault (Some (outcomes.LinkFault before after)) = ⊥
+IsNoFault (Some (outcomes.PeerWrong reply fault)) = ⊥

@@ -1,8 +1,27 @@
-ghost use Rattle.client_answers.specs.Laws.{OnePublished};
-ghost use Rattle.client_answers.specs.Steps.{BeginsInAgreement, WantsTheNext};
+ghost use Rattle.client_answers.specs.Laws.{AnswersStay, FitsStays, NeededStays, OneArrivalAt, OneListOfNeededAt, OneListOfWants, OnePublished, OwnPagesStay, PagesAreAmong, PublishedIsLawful, PublishedStays, WantsStay};
 
-/// What is published.
+/// One thing is published of a version: runs that go forward, their connections, and pages of these. The pages of a side are
+/// among them.
 pub fn one_published()
     ensures published { OnePublished }
-    ensures begins { BeginsInAgreement }
+    ensures lawful { PublishedIsLawful }
+    ensures pages { PagesAreAmong }
+{}
+
+/// The answers to a question at a version have one arrival, the needed pages are one list, and so are the wants of a client.
+pub fn one_answer()
+    ensures arrival { OneArrivalAt }
+    ensures needed { OneListOfNeededAt }
+    ensures wants { OneListOfWants }
+{}
+
+/// Messages that are admitted later change nothing of a version: what is published of it, its answers, the needed pages and the
+/// wants stay, and a client that agrees with a side agrees with each later one.
+pub fn versions_stay()
+    ensures published { PublishedStays }
+    ensures answers { AnswersStay }
+    ensures needed { NeededStays }
+    ensures wants { WantsStay }
+    ensures pages { OwnPagesStay }
+    ensures clients { FitsStays }
 {}

@@ -3,5 +3,7 @@
 #![tactic(auto)]
 
 mod laws;
+mod steps;
 
-pub use laws::one_published;
+pub use laws::{one_answer, one_published, versions_stay};
+pub use steps::{clients_end_right, steps_keep_agreement};

@@ -1,5 +1,5 @@
 use Rattle.client_answers.proofs.PublishedLemmas as lemmas
 use Rattle.client_answers.proofs.laws.one_published.Goals as goal
 
-pub returns-clause-published : goal.returns-clause-published
-returns-clause-published c = lemmas.one_published
+pub returns : goal.returns
+returns c = record { published = lemmas.one_published; lawful = lemmas.is_lawful; pages = lemmas.pages_are_among }
