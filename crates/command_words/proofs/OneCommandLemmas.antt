@@ -13,7 +13,7 @@ use Rattle.command_words.specs.Window.{IsWindow}
 use Rattle.command_words.specs.declared.command.Ask.{Ask}
 use Rattle.command_words.specs.declared.command.Check.{Check}
 use Rattle.command_words.specs.declared.command.Command.TheVariants as command
-use Rattle.command_words.proofs.WordsLemmas.{one_date_at, one_leave, one_options, same_text}
+use Rattle.command_words.proofs.WordsLemmas.{one_date_at, one_leave, one_options, same_number, same_text}
 
 -- what is made of a value and of facts that it has is one
 same_made : {A C : Type 0} (B : A → Type 0) (prop : (a : A) → IsProp (B a)) (f : (a : A) → B a → C) (a a' : A) (p : B a) (q : B a') → a ≡ a' → f a p ≡ f a' q
@@ -76,10 +76,11 @@ one_ask words a b x y =
     let g = y.question in
     let options = one_options ask_line words 3 a.days b.days a.zone b.zone a.change b.change p.options q.options in
     let leaves = one_leave p.moment q.moment x.leave y.leave (same_text _ _ (sym p.moment_is ∙ q.moment_is)) p.leave_is q.leave_is in
+    let horizons = same_number x.horizon y.horizon (sym p.horizon_said ∙ q.horizon_said) in
     let query = same_query a.query b.query
     (f.from_is ∙ same_text _ _ (sym p.from_is ∙ q.from_is) ∙ sym g.from_is)
     (f.to_is ∙ same_text _ _ (sym p.to_is ∙ q.to_is) ∙ sym g.to_is)
-    (f.newest ∙ sym g.newest) (f.horizon ∙ sym g.horizon) (f.leave_is ∙ leaves ∙ sym g.leave_is) in
+    (f.newest ∙ sym g.newest) (f.horizon_is ∙ horizons ∙ sym g.horizon_is) (f.leave_is ∙ leaves ∙ sym g.leave_is) in
     let firsts = one_date_at a.first b.first _ _ (ap (λ (n : ℕ). n / 86_400 - 1) leaves) p.first_is q.first_is in
     same_ask a b (same_text _ _ (sym p.feed_is ∙ q.feed_is)) query firsts options.0 options.1 options.2
 

@@ -25,7 +25,7 @@ pub check_is_simple : is_simple_and_free (line (codes "check") (codes "feed" ∷
 unfolding line
 check_is_simple = refl
 
-pub ask_is_simple : is_simple_and_free (line (codes "ask") (codes "feed" ∷ codes "from" ∷ codes "to" ∷ codes "moment" ∷ []) (codes "days" ∷ codes "zone" ∷ codes "change" ∷ [])) ≡ true
+pub ask_is_simple : is_simple_and_free (line (codes "ask") (codes "feed" ∷ codes "from" ∷ codes "to" ∷ codes "moment" ∷ []) (codes "days" ∷ codes "zone" ∷ codes "change" ∷ codes "horizon" ∷ [])) ≡ true
 unfolding line
 ask_is_simple = refl
 
@@ -35,14 +35,18 @@ same_check_words words feed feed' first days zone zone' change e f are =
     subst (λ (t : List ℕ). AreCheckWords words feed' first days t change) (sym f)
     (subst (λ (t : List ℕ). AreCheckWords words t first days zone change) (sym e) are)
 
-pub same_ask_words : (words : List (List ℕ)) (feed feed' from to : List ℕ) (leave : ℕ) (first : ServiceDate) (days : ℕ) (zone zone' : List ℕ) (change : ℕ) → feed' ≡ feed → zone' ≡ zone → AreAskWords words feed from to leave first days zone change → AreAskWords words feed' from to leave first days zone' change
-same_ask_words words feed feed' from to leave first days zone zone' change e f are =
-    subst (λ (t : List ℕ). AreAskWords words feed' from to leave first days t change) (sym f)
-    (subst (λ (t : List ℕ). AreAskWords words t from to leave first days zone change) (sym e) are)
+pub same_ask_words : (words : List (List ℕ)) (feed feed' from to : List ℕ) (leave horizon : ℕ) (first : ServiceDate) (days : ℕ) (zone zone' : List ℕ) (change : ℕ) → feed' ≡ feed → zone' ≡ zone → AreAskWords words feed from to leave horizon first days zone change → AreAskWords words feed' from to leave horizon first days zone' change
+same_ask_words words feed feed' from to leave horizon first days zone zone' change e f are =
+    subst (λ (t : List ℕ). AreAskWords words feed' from to leave horizon first days t change) (sym f)
+    (subst (λ (t : List ℕ). AreAskWords words t from to leave horizon first days zone change) (sym e) are)
 
 -- two texts that are one value are one
 pub same_text : (a b : List ℕ) → Some a ≡ Some b → a ≡ b
 same_text a b e = cc
+
+-- two numbers that are one value are one
+pub same_number : (a b : ℕ) → Some a ≡ Some b → a ≡ b
+same_number a b e = cc
 
 -- options say one number of days, one zone and one change
 pub one_options : (a : App) (words : List (List ℕ)) (default_days days days' : ℕ) (zone zone' : List ℕ) (change change' : ℕ) → AreOptions a words default_days days zone change → AreOptions a words default_days days' zone' change' → (days ≡ days') × (zone ≡ zone') × (change ≡ change')
@@ -64,22 +68,24 @@ one_date_at a b m n same p q =
     same_date a b (p'.year ∙ sym q.year) (p'.month ∙ sym q.month) (p'.day ∙ sym q.day)
 
 -- the words of a question have one window
-pub same_window : (words : List (List ℕ)) (moment : List ℕ) (leave : ℕ) (first : ServiceDate) (days : ℕ) (zone : List ℕ) (change : ℕ) (feed' from' to' : List ℕ) (leave' : ℕ) (first' : ServiceDate) (days' : ℕ) (zone' : List ℕ) (change' : ℕ) → Some moment ≡ value_at ask_line words (codes "moment") → SaysLeave moment leave → IsDateAt first (leave / 86_400 - 1) → AreOptions ask_line words 3 days zone change → AreAskWords words feed' from' to' leave' first' days' zone' change' → IsWindow first days
-same_window words moment leave first days zone change feed' from' to' leave' first' days' zone' change' at says is options are =
+pub same_window : (words : List (List ℕ)) (moment : List ℕ) (leave : ℕ) (first : ServiceDate) (days : ℕ) (zone : List ℕ) (change : ℕ) (feed' from' to' : List ℕ) (leave' horizon' : ℕ) (first' : ServiceDate) (days' : ℕ) (zone' : List ℕ) (change' : ℕ) → Some moment ≡ value_at ask_line words (codes "moment") → SaysLeave moment leave → IsDateAt first (leave / 86_400 - 1) → AreOptions ask_line words 3 days zone change → AreAskWords words feed' from' to' leave' horizon' first' days' zone' change' → IsWindow first days
+same_window words moment leave first days zone change feed' from' to' leave' horizon' first' days' zone' change' at says is options are =
     let leaves = one_leave moment are.moment leave leave' (same_text _ _ (at ∙ are.moment_is)) says are.leave_is in
     let firsts = one_date_at first' first _ _ (ap (λ (n : ℕ). n / 86_400 - 1) (sym leaves)) are.first_is is in
     let same = one_options ask_line words 3 days' days zone' zone change' change are.options options in
     subst (λ (n : ℕ). IsWindow first n) same.0 (subst (λ (date : ServiceDate). IsWindow date days') firsts are.window)
 
 -- the same words ask the same question
-pub same_question : (words : List (List ℕ)) (feed from to : List ℕ) (leave : ℕ) (first : ServiceDate) (days : ℕ) (zone : List ℕ) (change : ℕ) (feed' from' to' : List ℕ) (leave' : ℕ) (first' : ServiceDate) (days' : ℕ) (zone' : List ℕ) (change' : ℕ) (query : Query) → AreAskWords words feed from to leave first days zone change → AreAskWords words feed' from' to' leave' first' days' zone' change' → IsQuestion from' to' leave' query → IsQuestion from to leave query
-same_question words feed from to leave first days zone change feed' from' to' leave' first' days' zone' change' query p q asks =
+pub same_question : (words : List (List ℕ)) (feed from to : List ℕ) (leave horizon : ℕ) (first : ServiceDate) (days : ℕ) (zone : List ℕ) (change : ℕ) (feed' from' to' : List ℕ) (leave' horizon' : ℕ) (first' : ServiceDate) (days' : ℕ) (zone' : List ℕ) (change' : ℕ) (query : Query) → AreAskWords words feed from to leave horizon first days zone change → AreAskWords words feed' from' to' leave' horizon' first' days' zone' change' → IsQuestion from' to' leave' horizon' query → IsQuestion from to leave horizon query
+same_question words feed from to leave horizon first days zone change feed' from' to' leave' horizon' first' days' zone' change' query p q asks =
     let leaves = one_leave p.moment q.moment leave leave' (same_text _ _ (sym p.moment_is ∙ q.moment_is)) p.leave_is q.leave_is in
+    let horizons = same_number horizon' horizon (sym q.horizon_said ∙ p.horizon_said) in
     let froms = same_text from' from (sym q.from_is ∙ p.from_is) in
     let tos = same_text to' to (sym q.to_is ∙ p.to_is) in
-    subst (λ (t : List ℕ). IsQuestion t to leave query) froms
-    (subst (λ (t : List ℕ). IsQuestion from' t leave query) tos
-    (subst (λ (n : ℕ). IsQuestion from' to' n query) (sym leaves) asks))
+    subst (λ (t : List ℕ). IsQuestion t to leave horizon query) froms
+    (subst (λ (t : List ℕ). IsQuestion from' t leave horizon query) tos
+    (subst (λ (n : ℕ). IsQuestion from' to' n horizon query) (sym leaves)
+    (subst (λ (n : ℕ). IsQuestion from' to' leave' n query) horizons asks)))
 
 -- a list of words is the first and those behind it
 pub parted : (words : List (String Global)) (name : String Global) → 1 ≤ length words → name ≡ get_or words 0 name → texts_of words ≡ string_bytes name ∷ texts_of (take (length words - 1) (drop 1 words))

@@ -7,20 +7,20 @@ ghost use Rattle.command_words.specs.declared.command.Ask.{Ask as Asked};
 
 use crate::Ask;
 use crate::line::{read_line, text_of};
-use crate::options::{WindowOptions, read_options};
+use crate::options::{WindowOptions, number, read_options};
 use crate::window::{date_before, is_window};
 use clap::ArgMatches;
 use lc_model::{FIRST_LEAVE, Id, LAST_LEAVE, Moment, NoMemory, Query, ServiceDate};
 use lc_time::read_iso;
 use std::alloc::Global;
 
-/// How long after the moment of leaving a journey may arrive, in seconds.
+/// How long after the moment of leaving a journey may arrive where the words do not say it, in seconds.
 const HORIZON: u32 = 86_400;
 
 /// The plain words of `ask` in their order, and its options.
 static PLACES: [&str; 4] = ["feed", "from", "to", "moment"];
 
-static OPTIONS: [&str; 3] = ["days", "zone", "change"];
+static OPTIONS: [&str; 4] = ["days", "zone", "change", "horizon"];
 
 /// What was found in the words of `ask`.
 #[derive(Clone, Copy)]
@@ -29,6 +29,7 @@ struct AskWords<'a> {
     from: &'a str,
     to: &'a str,
     leave: Moment,
+    horizon: u32,
     first: ServiceDate,
     options: WindowOptions<'a>,
 }
@@ -44,7 +45,7 @@ pub(crate) fn read_ask(alloc: Global, words: &[String]) -> Result<Option<Ask>, N
     let Some(said) = ask_words(&found) else {
         return Ok(None);
     };
-    let Some(query) = read_question(alloc, said.from, said.to, said.leave)? else {
+    let Some(query) = read_question(alloc, said.from, said.to, said.leave, said.horizon)? else {
         return Ok(None);
     };
     Ok(Some(Ask {
@@ -60,14 +61,17 @@ pub(crate) fn read_ask(alloc: Global, words: &[String]) -> Result<Option<Ask>, N
 /// The plain words, the window and the options that were found, if they are said rightly.
 fn ask_words<'a>(found: &ArgMatches<'a>) -> Option<AskWords<'a>>
     ensures { (words : List (List ℕ)) → HasFound ask_line words found.now → MatchOption result
-        ((feed from to : List ℕ) (leave : ℕ) (first : Date) (days : ℕ) (zone : List ℕ) (change : ℕ)
-        → AreAskWords words feed from to leave first days zone change → ⊥)
-        (λ said. AreAskWords words said.feed.now said.from.now said.to.now said.leave said.first
+        ((feed from to : List ℕ) (leave horizon : ℕ) (first : Date) (days : ℕ) (zone : List ℕ) (change : ℕ)
+        → AreAskWords words feed from to leave horizon first days zone change → ⊥)
+        (λ said. AreAskWords words said.feed.now said.from.now said.to.now said.leave said.horizon said.first
         said.options.days said.options.zone.now said.options.change) }
 {
     let (feed, from) = (found.get_str("feed")?, found.get_str("from")?);
     let (to, moment) = (found.get_str("to")?, found.get_str("moment")?);
     let Some(leave) = read_leave(moment) else {
+        return None;
+    };
+    let Some(horizon) = number(found.get_str("horizon"), HORIZON, 0, u32::MAX) else {
         return None;
     };
     let Some(options) = read_options(found, 3) else {
@@ -80,6 +84,7 @@ fn ask_words<'a>(found: &ArgMatches<'a>) -> Option<AskWords<'a>>
             from,
             to,
             leave,
+            horizon,
             first,
             options,
         })
@@ -94,11 +99,12 @@ fn read_question(
     from: &str,
     to: &str,
     leave: Moment,
+    horizon: u32,
 ) -> Result<Option<Query>, NoMemory>
     requires not_before { FIRST_LEAVE ≤ leave }
     requires not_after { leave ≤ LAST_LEAVE }
-    ensures { IfOk result (λ query. MatchOption query ((query : Question) → IsQuestion from.now to.now leave query → ⊥)
-        (IsQuestion from.now to.now leave)) }
+    ensures { IfOk result (λ query. MatchOption query ((query : Question) → IsQuestion from.now to.now leave horizon query → ⊥)
+        (IsQuestion from.now to.now leave horizon)) }
 {
     let Some(from) = Id::new(alloc, from.as_bytes())? else {
         return Ok(None);
@@ -111,7 +117,7 @@ fn read_question(
         to,
         leave,
         known: None,
-        horizon: HORIZON,
+        horizon,
     }))
 }
 

@@ -30,7 +30,7 @@ pub(crate) fn read_options<'a>(
 }
 
 /// The number that an option says, if it lies between these. Linear in the text.
-fn number(value: Option<&str>, default: u32, low: u32, high: u32) -> Option<u32>
+pub(crate) fn number(value: Option<&str>, default: u32, low: u32, high: u32) -> Option<u32>
     ensures { result ≡ number_said default low high (option_map (λ s. s.now) value.entry) }
 {
     let Some(text) = value else {

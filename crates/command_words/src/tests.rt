@@ -30,8 +30,9 @@ fn said(alloc: Global, words: &[String]) -> Result<String, Fail> {
             let date = date_text(ask.first);
             let first = std::str::from_utf8(&date).unwrap_or("?");
             format!(in alloc;
-                "ask {feed} {from} {to} {} {first} {} {zone} {}",
+                "ask {feed} {from} {to} {} {} {first} {} {zone} {}",
                 ask.query.leave.seconds(),
+                ask.query.horizon,
                 ask.days,
                 ask.change
             )?
@@ -40,7 +41,7 @@ fn said(alloc: Global, words: &[String]) -> Result<String, Fail> {
     })
 }
 
-const ASKED: &str = "ask tiny A D 1714550400 20240430 3 utc 120";
+const ASKED: &str = "ask tiny A D 1714550400 86400 20240430 3 utc 120";
 
 #[test]
 fn words_of_commands(rt: HostRuntime) -> Result<(), Fail> {
@@ -95,8 +96,23 @@ fn words_of_commands(rt: HostRuntime) -> Result<(), Fail> {
         ("ask --days=3 tiny A D 2024-05-01T08:00:00Z", ASKED),
         (
             "ask tiny A --days 5 D 2024-05-01T08:00:00Z --change=60",
-            "ask tiny A D 1714550400 20240430 5 utc 60",
+            "ask tiny A D 1714550400 86400 20240430 5 utc 60",
         ),
+        (
+            "ask --horizon=0 tiny A D 2024-05-01T08:00:00Z",
+            "ask tiny A D 1714550400 0 20240430 3 utc 120",
+        ),
+        (
+            "ask tiny A D 2024-05-01T08:00:00Z --horizon 4294967295",
+            "ask tiny A D 1714550400 4294967295 20240430 3 utc 120",
+        ),
+        (
+            "ask tiny A D 2024-05-01T08:00:00Z --horizon 4294967296",
+            "none",
+        ),
+        ("ask tiny A D 2024-05-01T08:00:00Z --horizon=", "none"),
+        ("ask tiny A D 2024-05-01T08:00:00Z --horizon=-1", "none"),
+        ("check tiny 20240501 --horizon 60", "none"),
         ("ask tiny A D yesterday", "none"),
         (
             "ask tiny A D 2024-05-01T08:00:00Z --days 3 --days 3",
@@ -106,11 +122,11 @@ fn words_of_commands(rt: HostRuntime) -> Result<(), Fail> {
         ("ask tiny A D 1970-01-10T23:59:59Z", "none"),
         (
             "ask tiny A D 1970-01-11T00:00:00Z",
-            "ask tiny A D 864000 19700110 3 utc 120",
+            "ask tiny A D 864000 86400 19700110 3 utc 120",
         ),
         (
             "ask tiny A D 9999-12-14T23:59:59Z",
-            "ask tiny A D 253400831999 99991213 3 utc 120",
+            "ask tiny A D 253400831999 86400 99991213 3 utc 120",
         ),
         ("ask tiny A D 9999-12-14T23:59:59Z --days 4", "none"),
         ("ask tiny A D 9999-12-15T00:00:00Z --days 1", "none"),

@@ -1,5 +1,5 @@
 -- From what loading a timetable comes to, to what the words and the run come to.
-use Rattle.std.proofs.Common.{inl, inr, ℕ, List, Result, Ok, Err, IfErr, IfOk, subst, sym}
+use Rattle.std.proofs.Common.{inl, inr, ℕ, List, Err, subst, sym}
 use Rattle.lc_io.specs.Folder.{FolderSeen}
 use Rattle.command_words.specs.Words.{SaysCommand}
 use Rattle.command_words.specs.declared.command.Command.{Command}

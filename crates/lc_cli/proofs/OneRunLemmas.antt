@@ -1,6 +1,5 @@
 -- Two runs of one command over the same files print one output.
-use Rattle.std.proofs.Common.{◌≡◌, ◌∙◌, ℕ, ◌+◌, ◌++◌, List, codes, length, None, Some, ap, subst, sym}
-use Rattle.lc_io.specs.Folder.{FolderSeen}
+use Rattle.std.proofs.Common.{◌≡◌, ◌∙◌, ◌+◌, ◌++◌, List, codes, length, None, Some, ap, subst, sym}
 use Rattle.lc_io.specs.declared.file.File.{File}
 use Rattle.lc_model.specs.declared.doc.StopsDoc.{StopsDoc}
 use Rattle.lc_model.specs.declared.run.Run.{Run}

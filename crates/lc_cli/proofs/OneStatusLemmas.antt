@@ -1,7 +1,6 @@
 -- Two runs of one command over the same files end with one status, memory apart.
 use Rattle.std.proofs.Common.{◌≡◌, ◌∙◌, ◌⊎◌, ℕ, inl, inr, List, None, Some, Option, Result, Ok, Err, ap, subst, sym, refl}
 use Rattle.lc_io.specs.Counts.{Rose}
-use Rattle.lc_io.specs.Folder.{FolderSeen}
 use Rattle.lc_io.specs.declared.file.File.{File}
 use Rattle.lc_model.specs.declared.doc.StopsDoc.{StopsDoc}
 use Rattle.lc_model.specs.declared.query.Query.{Query}
@@ -16,31 +15,39 @@ use Rattle.timetable.specs.Loading.{LoadsSo}
 use Rattle.timetable.specs.declared.fault.LoadFault.{LoadFault}
 use Rattle.timetable.specs.declared.fault.LoadFault.TheVariants as fault
 use Rattle.timetable.specs.declared.timetable.Timetable.{Timetable}
-use Rattle.lc_cli.specs.Command.{IsBlockText, IsCommandBlock, IsRightBlock, Prints, scope_of}
+use Rattle.lc_cli.specs.Command.{IsBlockText, IsRightBlock, Prints, scope_of}
 use Rattle.lc_cli.specs.Laws.{DoneIsClear, IsUnhindered, OneStatus}
 use Rattle.lc_cli.specs.Question.{Deserves, IsAskable}
 use Rattle.lc_cli.specs.Top.{IsRight, Past}
 use Rattle.lc_cli.specs.declared.block.Block.{Block}
 use Rattle.lc_cli.specs.declared.status.QueryFault.{QueryFault}
-use Rattle.lc_cli.specs.declared.status.QueryFault.TheVariants.{SameStop, UnknownFrom, UnknownTo}
+use Rattle.lc_cli.specs.declared.status.QueryFault.TheVariants.{HorizonRange, SameStop, UnknownFrom, UnknownTo}
 use Rattle.lc_cli.specs.declared.status.Status.{Status}
 use Rattle.lc_cli.specs.declared.status.Status.TheVariants.{Done, Usage, FeedBroken, FolderFault, SinkFault, QueryRefused, TooLarge, NoMemory}
 
 -- a question that may be asked deserves no refusal
 not_both : (stops : List Stop) (query : Query) (f : QueryFault) → IsAskable stops query → Deserves stops query f → ⊥
-not_both stops query SameStop ask is = ask.not_same is
+not_both stops query HorizonRange ask is = is ask.horizon
+not_both stops query SameStop ask is = ask.not_same is.1
 not_both stops query UnknownFrom ask is = is.1 ask.from_known
 not_both stops query UnknownTo ask is = is.2 ask.to_known
 
 -- a question deserves one refusal
 one_fault : (stops : List Stop) (query : Query) (f g : QueryFault) → Deserves stops query f → Deserves stops query g → f ≡ g
+one_fault stops query HorizonRange HorizonRange p q = refl
+one_fault stops query HorizonRange SameStop p q = absurd (p q.0)
+one_fault stops query HorizonRange UnknownFrom p q = absurd (p q.0.horizon)
+one_fault stops query HorizonRange UnknownTo p q = absurd (p q.0.horizon)
+one_fault stops query SameStop HorizonRange p q = absurd (q p.0)
 one_fault stops query SameStop SameStop p q = refl
-one_fault stops query SameStop UnknownFrom p q = absurd (q.0 p)
-one_fault stops query SameStop UnknownTo p q = absurd (q.0 p)
-one_fault stops query UnknownFrom SameStop p q = absurd (p.0 q)
+one_fault stops query SameStop UnknownFrom p q = absurd (q.0.not_same p.1)
+one_fault stops query SameStop UnknownTo p q = absurd (q.0.not_same p.1)
+one_fault stops query UnknownFrom HorizonRange p q = absurd (q p.0.horizon)
+one_fault stops query UnknownFrom SameStop p q = absurd (p.0.not_same q.1)
 one_fault stops query UnknownFrom UnknownFrom p q = refl
 one_fault stops query UnknownFrom UnknownTo p q = absurd (p.1 q.1)
-one_fault stops query UnknownTo SameStop p q = absurd (p.0 q)
+one_fault stops query UnknownTo HorizonRange p q = absurd (q p.0.horizon)
+one_fault stops query UnknownTo SameStop p q = absurd (p.0.not_same q.1)
 one_fault stops query UnknownTo UnknownFrom p q = absurd (q.1 p.1)
 one_fault stops query UnknownTo UnknownTo p q = refl
 

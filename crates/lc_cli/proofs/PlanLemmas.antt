@@ -13,7 +13,7 @@ use Rattle.timetable.specs.declared.timetable.Timetable.{Timetable}
 use Rattle.lc_cli.specs.AnswerText.{ArrivesAtAMoment, answer_text_of}
 use Rattle.lc_cli.specs.Command.{IsBlockText}
 use Rattle.lc_cli.specs.Plan.{AnswersQuestion}
-use Rattle.lc_cli.specs.Question.{IsAskable}
+use Rattle.lc_cli.specs.Question.{HasHorizon, IsAskable}
 use Rattle.lc_cli.specs.declared.block.Block.{Block}
 
 -- where the journeys over two kinds of ride are the same, so are the answers
@@ -24,15 +24,15 @@ same_answer A B query doc (answers.Journey journey) same is = record {
 }
 same_answer A B query doc answers.NoJourney same is = λ journey goes. is journey ((same journey).1 goes)
 
--- within a day of any moment of leaving there are only moments
-within_a_day : (arrival leave horizon : ℕ) → horizon ≡ 86_400 → leave ≤ LAST_LEAVE → arrival ≤ leave + horizon → arrival < MOMENTS_END
-within_a_day arrival leave horizon day not_after in_time = omega arith
+-- within a week of any moment of leaving there are only moments
+within_a_week : (arrival leave horizon : ℕ) → horizon ≤ 604_800 → leave ≤ LAST_LEAVE → arrival ≤ leave + horizon → arrival < MOMENTS_END
+within_a_week arrival leave horizon week not_after in_time = omega arith
 
 -- what answers a question arrives within its horizon, and so at a moment
-pub arrives_at_a_moment : (made : Timetable) (query : Query) (answer : Answer) → query.horizon ≡ 86_400 → AnswersQuestion made query answer → ArrivesAtAMoment answer
-arrives_at_a_moment made query (answers.Journey journey) day is =
-    within_a_day (arrives_at journey) query.leave query.horizon day query.not_after is.is_journey.in_time
-arrives_at_a_moment made query answers.NoJourney day is = tt
+pub arrives_at_a_moment : (made : Timetable) (query : Query) (answer : Answer) → HasHorizon query → AnswersQuestion made query answer → ArrivesAtAMoment answer
+arrives_at_a_moment made query (answers.Journey journey) horizon is =
+    within_a_week (arrives_at journey) query.leave query.horizon horizon.up_to_a_week query.not_after is.is_journey.in_time
+arrives_at_a_moment made query answers.NoJourney horizon is = tt
 
 -- the text of what answers a question is what is printed of its client
 pub prints_answer : {E : Type 0} (made : Timetable) (query : Query) (answer : Answer) (result : Result Block E) → IsAskable made.doc.stops query → AnswersQuestion made query answer

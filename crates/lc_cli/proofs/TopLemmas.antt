@@ -1,15 +1,11 @@
 -- What follows from the cause of a status.
-use Rattle.std.proofs.Common.{◌≡◌, ◌⊎◌, inl, inr, ℕ, List, Some, Err, refl, ap, subst, sym}
+use Rattle.std.proofs.Common.{◌≡◌, ◌⊎◌, inl, inr, refl, subst}
 use Rattle.lc_io.specs.Counts.{Rose}
 use Rattle.command_words.specs.Laws.{OneCommand}
 use Rattle.command_words.specs.Words.{SaysCommand}
 use Rattle.command_words.specs.declared.command.Command.{Command}
 use Rattle.timetable.specs.Laws.{NotBroken, NotTooLarge}
-use Rattle.timetable.specs.Loading.{LoadsSo}
 use Rattle.timetable.specs.Told.{IsSound}
-use Rattle.timetable.specs.declared.fault.LoadFault.TheVariants as fault
-use Rattle.timetable.specs.declared.scope.Scope.{Scope}
-use Rattle.gtfs_feed.specs.declared.what.What.{What}
 use Rattle.lc_cli.specs.Command.{scope_of}
 use Rattle.lc_cli.specs.Top.{IsAnswered, IsClear, IsRight, Past}
 use Rattle.lc_cli.specs.declared.status.Status.{Status}

@@ -19,10 +19,11 @@ use Rattle.lc_cli.specs.declared.block.Block.{Block}
 use Rattle.lc_cli.specs.declared.refusal.Refusal.{Refusal}
 use Rattle.lc_cli.specs.declared.refusal.Refusal.TheVariants.{Usage, Load}
 use Rattle.lc_cli.specs.declared.status.QueryFault.{QueryFault}
-use Rattle.lc_cli.specs.declared.status.QueryFault.TheVariants.{SameStop, UnknownFrom, UnknownTo}
+use Rattle.lc_cli.specs.declared.status.QueryFault.TheVariants.{HorizonRange, SameStop, UnknownFrom, UnknownTo}
 
 -- the line of a refused question
 abbrev pub refused_line_of : QueryFault → List ℕ
+refused_line_of HorizonRange = codes "refused horizon\n"
 refused_line_of SameStop = codes "refused same stop\n"
 refused_line_of UnknownFrom = codes "refused unknown from\n"
 refused_line_of UnknownTo = codes "refused unknown to\n"
@@ -39,11 +40,6 @@ IsBlockText made query (Some fault) text =
 abbrev pub scope_of : Command → Scope
 scope_of (commands.Check check) = record { feed = check.feed; zone = check.zone; first = check.first; days = check.days; change = check.change }
 scope_of (commands.Ask ask) = record { feed = ask.feed; zone = ask.zone; first = ask.first; days = ask.days; change = ask.change }
-
--- where the command asks a question, it has a day to be answered in
-abbrev pub AsksWithinADay : Command → Type 0
-AsksWithinADay (commands.Check check) = Unit {0}
-AsksWithinADay (commands.Ask ask) = ask.query.horizon ≡ 86_400
 
 -- What the command prints of the feed's timetable: its counts, or the client that asks.
 abbrev pub Prints : Command → Timetable → Block → Type 0

@@ -3,7 +3,7 @@ ghost use Rattle.command_words.specs.Line.{texts_of};
 ghost use Rattle.gtfs_feed.specs.Reading.{Keeps};
 ghost use Rattle.timetable.specs.Scope.{IsWindow};
 ghost use Rattle.lc_cli.specs.AnswerText.{ArrivesAtAMoment, answer_text_of};
-ghost use Rattle.lc_cli.specs.Command.{AsksWithinADay, IsBlockText, IsCommandBlock, IsLoadRefusal, IsRightBlock, IsRightRefusal, Prints, refused_line_of, scope_of};
+ghost use Rattle.lc_cli.specs.Command.{IsBlockText, IsCommandBlock, IsLoadRefusal, IsRightBlock, IsRightRefusal, Prints, refused_line_of, scope_of};
 
 use crate::answer_text::answer_text;
 use crate::block::Block;
@@ -44,7 +44,6 @@ fn command_block<F: Folder>(
     folder: &mut F,
     command: &Command,
 ) -> Result<Block, LoadFault>
-    requires { AsksWithinADay command.now }
     ensures block { IfOk result (IsCommandBlock command.now (F.seen folder.old) (F.seen folder.new)) }
     ensures refused { IfErr result (IsLoadRefusal (scope_of command.now) (F.seen folder.old) (F.seen folder.new)) }
     ensures kept { Keeps (F.seen folder.old) (F.seen folder.new) }
@@ -86,7 +85,6 @@ fn scope(alloc: Global, command: &Command) -> Result<Scope, NoMemory>
 
 /// What the command prints of the timetable.
 fn printed(alloc: Global, command: &Command, made: &Timetable) -> Result<Block, NoMemory>
-    requires { AsksWithinADay command.now }
     ensures { IfOk result (Prints command.now made.now) }
 {
     match command {
@@ -100,7 +98,6 @@ fn printed(alloc: Global, command: &Command, made: &Timetable) -> Result<Block, 
 
 /// What is printed of the client that asks the question.
 fn client_block(alloc: Global, made: &Timetable, query: &Query) -> Result<Block, NoMemory>
-    requires { query.now.horizon ≡ 86_400 }
     ensures { IfOk result (λ block. IsBlockText made.now query.now block.fault block.text.items) }
 {
     match fault_of(&made.doc.stops, query) {
@@ -128,6 +125,7 @@ fn refused_line(fault: QueryFault) -> &'static [u8]
     ensures { result.now ≡ refused_line_of fault }
 {
     match fault {
+        QueryFault::HorizonRange => b"refused horizon\n",
         QueryFault::SameStop => b"refused same stop\n",
         QueryFault::UnknownFrom => b"refused unknown from\n",
         QueryFault::UnknownTo => b"refused unknown to\n",

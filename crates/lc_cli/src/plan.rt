@@ -5,7 +5,7 @@ ghost use Rattle.lc_model.specs.Leg.{IsLegOf, in_time};
 ghost use Rattle.lc_model.specs.Stop.{HasStop};
 ghost use Rattle.csa_scan.specs.StandsFor.{StandsFor};
 ghost use Rattle.lc_cli.specs.Plan.{AnswersQuestion};
-ghost use Rattle.lc_cli.specs.Question.{IsAskable};
+ghost use Rattle.lc_cli.specs.Question.{HasHorizon, IsAskable};
 ghost use Rattle.std.specs.Prelude.{[]};
 
 use csa_scan::{BeginFault, Scan};
@@ -17,8 +17,7 @@ use trip_runs::connections;
 
 /// A best journey by the timetable, or that there is none, in the time of a sort of the connections.
 pub(crate) fn plan(alloc: Global, made: &Timetable, query: &Query) -> Result<Answer, NoMemory>
-    requires askable { IsAskable made.now.doc.stops query.now }
-    requires horizon { query.now.horizon ≡ 86_400 }
+    requires { IsAskable made.now.doc.stops query.now }
     ensures { IfOk result (AnswersQuestion made.now query.now) }
 {
     let list = connections(alloc, &made.runs)?;
@@ -36,7 +35,7 @@ fn scanned(
 ) -> Result<Answer, NoMemory>
     requires from_known { HasStop doc.now.stops query.now.from }
     requires to_known { HasStop doc.now.stops query.now.to }
-    requires horizon { query.now.horizon ≡ 86_400 }
+    requires horizon { HasHorizon query.now }
     requires in_order { InDepartureOrder list.now }
     ensures { IfOk result (IsAnswer (IsLegOf (in_time query.now list.now)) query.now doc.now) }
 {
@@ -52,7 +51,7 @@ fn scanned(
 fn begun(alloc: Global, query: &Query, doc: &StopsDoc) -> Result<Scan, NoMemory>
     requires from_known { HasStop doc.now.stops query.now.from }
     requires to_known { HasStop doc.now.stops query.now.to }
-    requires horizon { query.now.horizon ≡ 86_400 }
+    requires horizon { HasHorizon query.now }
     ensures { IfOk result (λ scan. StandsFor scan query.now doc.now []) }
 {
     match Scan::begin(alloc, query, doc) {

@@ -7,6 +7,8 @@ use lc_model::Text;
 /// Why a question is refused.
 #[derive(Clone, Copy, Debug, PartialEq, Eq)]
 pub enum QueryFault {
+    /// Its horizon is not from 1 to 604,800 seconds.
+    HorizonRange,
     /// It goes from a stop to the same stop.
     SameStop,
     /// It begins at a stop that the feed does not have.

@@ -65,6 +65,32 @@ fn words_over_tiny(rt: HostRuntime) -> Result<(), Fail> {
             "client 1\nno journey\n",
         ),
         ("ask tiny A D 2024-05-01T08:00:00Z --change 121", 0, LATER),
+        ("ask tiny A D 2024-05-01T08:00:00Z --horizon 1860", 0, FIRST),
+        (
+            "ask tiny A D 2024-05-01T08:00:00Z --horizon 1859",
+            0,
+            "client 1\nno journey\n",
+        ),
+        (
+            "ask tiny A D 2024-05-01T08:00:00Z --horizon=604800",
+            0,
+            FIRST,
+        ),
+        (
+            "ask tiny A D 2024-05-01T08:00:00Z --horizon 0",
+            9,
+            "client 1\nrefused horizon\n",
+        ),
+        (
+            "ask tiny X X 2024-05-01T08:00:00Z --horizon 604801",
+            9,
+            "client 1\nrefused horizon\n",
+        ),
+        (
+            "ask tiny A D 2024-05-01T08:00:00Z --horizon 4294967296",
+            2,
+            "error usage\n",
+        ),
         ("ask tiny A D yesterday", 2, "error usage\n"),
         (
             "ask tiny A D 2024-05-01T08:00:00Z --cache 0",

@@ -19,7 +19,7 @@ use timetable::one_timetable;
 ///
 /// `check FEED FIRST` reads the GTFS feed of that name in the folder and prints its counts, or the first rule that it breaks.
 /// `ask FEED FROM TO MOMENT` prints a best journey by it from one stop to another that leaves at the moment or later and arrives
-/// within a day, or that there is none. The link and the door are not used by them.
+/// within the horizon, a day where `--horizon` does not say it, or that there is none. The link and the door are not used by them.
 pub fn run<F: Folder, L: Link, D: Door, S: Sink>(
     alloc: Global,
     words: &[String],

@@ -17,7 +17,7 @@ pub returns-in_default-ask_words : goal.returns-in_default-ask_words
 unfolding ask_line
 returns-in_default-ask_words c = λ ask says.
     let found = rw c.in-Some.is at c.in_ok-found.ensures in
-    c.in_default-ask_words.ensures (texts_of c.args.words.now) found.1 _ _ _ _ _ _ _ _ says.words_are
+    c.in_default-ask_words.ensures (texts_of c.args.words.now) found.1 _ _ _ _ _ _ _ _ _ says.words_are
 
 pub read_question-requires-clause-not_before : goal.read_question-requires-clause-not_before
 unfolding ask_line
@@ -37,7 +37,7 @@ returns-in_default-2 c = λ ask says.
     let found = rw c.in-Some.is at c.in_ok-found.ensures in
     let are = c.in-Some-ask_words.ensures (texts_of c.args.words.now) found.1 in
     let none = rw c.in_default-2.is at c.in_ok-query.ensures in
-    none ask.query (same_question _ _ _ _ _ _ _ _ _ _ _ _ _ _ _ _ _ _ are says.words_are says.question)
+    none ask.query (same_question _ _ _ _ _ _ _ _ _ _ _ _ _ _ _ _ _ _ _ _ are says.words_are says.question)
 
 pub invariant_of-result : goal.invariant_of-result
 unfolding ask_line
@@ -56,7 +56,8 @@ returns c =
       from = _;
       to = _;
       leave = _;
+      horizon = _;
       is_line = found.0;
-      words_are = same_ask_words _ _ _ _ _ _ _ _ _ _ _ c.in_ok-text_of.ensures c.in_ok-text_of-2.ensures are;
+      words_are = same_ask_words _ _ _ _ _ _ _ _ _ _ _ _ c.in_ok-text_of.ensures c.in_ok-text_of-2.ensures are;
       question = rw c.in-Some-2.is at c.in_ok-query.ensures;
     }

@@ -1,4 +1,3 @@
-use Rattle.lc_model.specs.Ride.{IsRideAt}
 use Rattle.lc_cli.proofs.laws.one_answer.Goals as goal
 
 pub returns : goal.returns

@@ -1,8 +1,8 @@
 use Rattle.std.proofs.Common.{◌≡◌, ◌∙◌, ap, sym}
 use Rattle.timetable.specs.declared.fault.LoadFault.TheVariants as fault
-use Rattle.lc_cli.specs.Refusal.{error_line_of, feed_line_of, large_line_of, status_of}
+use Rattle.lc_cli.specs.Refusal.{error_line_of, feed_line_of, status_of}
 use Rattle.lc_cli.specs.declared.refusal.Refusal.TheVariants.{Load}
-use Rattle.lc_cli.specs.declared.status.Status.TheVariants.{Usage, FeedBroken, FolderFault, TooLarge}
+use Rattle.lc_cli.specs.declared.status.Status.TheVariants.{Usage, FeedBroken, FolderFault}
 use Rattle.lc_cli.proofs.RefusalLemmas.{ends_with_its_line}
 use Rattle.lc_cli.proofs.refusal.refuse.Goals as goal
 
