@@ -51,11 +51,14 @@ impl<G: Fragmenter + Drop> Publisher<G> {
         ensures only_refused { (fault : Fault) → IsRefused self.old.store bytes.now fault →
             (result ≡ Err fault) ⊎ (result ≡ Err OutOfMemory) }
     {
-        self.store.admit(alloc, bytes)
+        let outcome = self.store.admit(alloc, bytes);
+        let _versions = self.store.versions();
+        outcome
     }
 
     /// The reply to the bytes of one whole request. Where these bring a message that is taken, it is admitted. For a page it
-    /// takes the time of the store's departures and rows, and else that of the reply and of the request.
+    /// takes the time of the store's rows, the first time that a version is asked for that of its departures too, and else that of
+    /// the reply and of the request.
     pub fn answer(&mut self, alloc: Global, bytes: &[u8]) -> Result<Vec<u8>, NoMemory>
         requires { IsWhole bytes.now }
         ensures reply { IfOk result (λ reply. IsReply (side_of G.cuts_of self.old) bytes.now reply.items) }

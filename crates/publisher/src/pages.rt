@@ -1,4 +1,4 @@
-ghost use Rattle.std.specs.Prelude.{◌≡◌, IfOk, option_map};
+ghost use Rattle.std.specs.Prelude.{◌≡◌, IfOk, IfSome, option_map};
 ghost use Rattle.publisher_side.specs.PageAt.{named as named_there};
 ghost use Rattle.std.specs.List.{Contains};
 ghost use Rattle.page_json.specs.Sound.{IsSoundPage};
@@ -26,35 +26,70 @@ fn named(version: Moment, departs: Option<Moment>) -> Option<PageName>
 }
 
 impl<G: Fragmenter + Drop> Publisher<G> {
-    /// Where the page for a moment of departure lies at a version. It takes the time of the store's departures.
+    /// Where the page for a moment of departure lies among the cuts that are kept for a version, if some are.
+    fn kept_place(&self, version: Moment, departs: Moment) -> Option<Place>
+        ensures { IfSome result (IsPlaceOf (side_of G.cuts_of self.now) version departs) }
+    {
+        self.cutting.cuts_lawfully();
+        match self.cuts.get(&version) {
+            Some(cuts) => Some(place_of(cuts.as_slice(), departs)),
+            None => None,
+        }
+    }
+
+    /// Where the page for a moment of departure lies at a version. The first time it takes the time of the store's departures,
+    /// and from then on that of a walk over the cuts, which are kept.
     pub(crate) fn place(
-        &self,
+        &mut self,
         alloc: Global,
         version: Moment,
         departs: Moment,
     ) -> Result<Place, NoMemory>
-        requires { Contains (versions_of self.now.store) version }
-        ensures { IfOk result (IsPlaceOf (side_of G.cuts_of self.now) version departs) }
+        requires { Contains (versions_of self.old.store) version }
+        ensures place { IfOk result (IsPlaceOf (side_of G.cuts_of self.old) version departs) }
+        ensures same { self.new ≡ self.old }
     {
+        if let Some(place) = self.kept_place(version, departs) {
+            return Ok(place);
+        }
         self.cutting.cuts_lawfully();
         let departures = self.store.departures(alloc, version)?;
         let cuts = self.cutting.cuts(alloc, departures.as_slice())?;
-        Ok(place_of(cuts.as_slice(), departs))
+        let place = place_of(cuts.as_slice(), departs);
+        self.cuts.insert(version, cuts)?;
+        Ok(place)
     }
 
-    /// The page for a moment of departure at a version, as it is published. It takes the time of the store's departures and
+    /// The page for a moment of departure at a version, as it is published. It takes the time of its place and of the store's
     /// rows.
     pub(crate) fn page(
-        &self,
+        &mut self,
         alloc: Global,
         version: Moment,
         departs: Moment,
     ) -> Result<Page, NoMemory>
-        requires { Contains (versions_of self.now.store) version }
+        requires { Contains (versions_of self.old.store) version }
+        ensures page { IfOk result (IsPageOf (side_of G.cuts_of self.old) version departs) }
+        ensures valid { IfOk result IsValidPage }
+        ensures same { self.new ≡ self.old }
+    {
+        let place = self.place(alloc, version, departs)?;
+        self.page_there(alloc, version, departs, place)
+    }
+
+    /// The page at a place. It takes the time of the store's rows.
+    fn page_there(
+        &self,
+        alloc: Global,
+        version: Moment,
+        departs: Moment,
+        place: Place,
+    ) -> Result<Page, NoMemory>
+        requires version { Contains (versions_of self.now.store) version }
+        requires place { IsPlaceOf (side_of G.cuts_of self.now) version departs place }
         ensures page { IfOk result (IsPageOf (side_of G.cuts_of self.now) version departs) }
         ensures valid { IfOk result IsValidPage }
     {
-        let place = self.place(alloc, version, departs)?;
         let list = self.store.rows(alloc, version, place.cut, place.next)?;
         let _forward = list.as_slice();
         Ok(Page {

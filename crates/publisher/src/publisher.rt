@@ -9,17 +9,19 @@ use fragmenter::Fragmenter;
 use lc_model::{Moment, NoMemory, PlainData, Runs, StopsDoc};
 use lc_time::Zone;
 use std::alloc::Global;
+use std::collections::BTreeMap;
 use std::marker::Model;
 use version_store::Store;
 
 /// A publisher of a timetable with its versions as pages. A contract sees the way in which it cuts, its store, its stops
-/// document, its base, and whether it takes messages.
+/// document, its base, and whether it takes messages. Beside these it keeps the cuts of the versions that were asked for.
 #[derive(Drop)]
 pub struct Publisher<G: Fragmenter + Drop> {
     pub(crate) cutting: G,
     pub(crate) store: Store,
     pub(crate) doc: StopsDoc,
     pub(crate) options: Options,
+    pub(crate) cuts: BTreeMap<Moment, Vec<Moment>>,
 }
 
 impl<G: Fragmenter + Drop> Model for Publisher<G> {
@@ -31,7 +33,7 @@ impl<G: Fragmenter + Drop> Model for Publisher<G> {
 
     ghost view = { held_of };
 
-    ghost invariant = { IsKept };
+    ghost invariant = { IsKept G.cuts_of };
 }
 
 impl<G: Fragmenter + Drop> Publisher<G> {
@@ -61,6 +63,7 @@ impl<G: Fragmenter + Drop> Publisher<G> {
             store,
             doc,
             options,
+            cuts: BTreeMap::new(alloc),
         })
     }
 

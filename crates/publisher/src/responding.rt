@@ -32,14 +32,15 @@ impl<G: Fragmenter + Drop> Publisher<G> {
 
     /// What is said to a request that asks for this, and is not that a message is admitted. It takes the time of a page.
     pub(crate) fn respond(
-        &self,
+        &mut self,
         alloc: Global,
         request: &Request,
         asked: Asked,
     ) -> Result<Response, NoMemory>
         requires { asked ≡ AnUpdate → ⊥ }
-        ensures said { (body : List ℕ) → IfOk result (IsResponseTo (side_of G.cuts_of self.now) request.now body asked) }
+        ensures said { (body : List ℕ) → IfOk result (IsResponseTo (side_of G.cuts_of self.old) request.now body asked) }
         ensures writable { IfOk result IsWritable }
+        ensures same { self.new ≡ self.old }
     {
         match asked {
             Asked::Gate => self.at_gate(alloc, request),
@@ -58,9 +59,10 @@ impl<G: Fragmenter + Drop> Publisher<G> {
         Response::Stops
     }
 
-    fn at_gate(&self, alloc: Global, request: &Request) -> Result<Response, NoMemory>
-        ensures said { (body : List ℕ) → IfOk result (IsResponseTo (side_of G.cuts_of self.now) request.now body TheGate) }
+    fn at_gate(&mut self, alloc: Global, request: &Request) -> Result<Response, NoMemory>
+        ensures said { (body : List ℕ) → IfOk result (IsResponseTo (side_of G.cuts_of self.old) request.now body TheGate) }
         ensures writable { IfOk result IsWritable }
+        ensures same { self.new ≡ self.old }
     {
         let departs = departure(request);
         let version = self.negotiated(request);
@@ -79,14 +81,15 @@ impl<G: Fragmenter + Drop> Publisher<G> {
     }
 
     fn gate_response(
-        &self,
+        &mut self,
         alloc: Global,
         departs: Option<Moment>,
         version: Option<Moment>,
     ) -> Result<Response, NoMemory>
-        requires { IfSome version (λ version. has_version (side_of G.cuts_of self.now) version ≡ true) }
-        ensures said { IfOk result (IsGateResponse (side_of G.cuts_of self.now) departs version) }
+        requires { IfSome version (λ version. has_version (side_of G.cuts_of self.old) version ≡ true) }
+        ensures said { IfOk result (IsGateResponse (side_of G.cuts_of self.old) departs version) }
         ensures writable { IfOk result IsWritable }
+        ensures same { self.new ≡ self.old }
     {
         match (departs, version) {
             (Some(departs), Some(version)) => self.moved_to(alloc, version, departs),
@@ -95,14 +98,15 @@ impl<G: Fragmenter + Drop> Publisher<G> {
     }
 
     fn moved_to(
-        &self,
+        &mut self,
         alloc: Global,
         version: Moment,
         departs: Moment,
     ) -> Result<Response, NoMemory>
-        requires { has_version (side_of G.cuts_of self.now) version ≡ true }
-        ensures said { IfOk result (IsMovedTo (side_of G.cuts_of self.now) version departs) }
+        requires { has_version (side_of G.cuts_of self.old) version ≡ true }
+        ensures said { IfOk result (IsMovedTo (side_of G.cuts_of self.old) version departs) }
         ensures writable { IfOk result IsWritable }
+        ensures same { self.new ≡ self.old }
     {
         let place = self.place(alloc, version, departs)?;
         let _version = version.seconds();
@@ -116,9 +120,10 @@ impl<G: Fragmenter + Drop> Publisher<G> {
         })
     }
 
-    fn at_page(&self, alloc: Global, request: &Request) -> Result<Response, NoMemory>
-        ensures said { (body : List ℕ) → IfOk result (IsResponseTo (side_of G.cuts_of self.now) request.now body ThePage) }
+    fn at_page(&mut self, alloc: Global, request: &Request) -> Result<Response, NoMemory>
+        ensures said { (body : List ℕ) → IfOk result (IsResponseTo (side_of G.cuts_of self.old) request.now body ThePage) }
         ensures writable { IfOk result IsWritable }
+        ensures same { self.new ≡ self.old }
     {
         let departs = departure(request);
         let version = version_said(request);
@@ -126,13 +131,14 @@ impl<G: Fragmenter + Drop> Publisher<G> {
     }
 
     fn page_response(
-        &self,
+        &mut self,
         alloc: Global,
         version: Option<Moment>,
         departs: Option<Moment>,
     ) -> Result<Response, NoMemory>
-        ensures said { IfOk result (IsPageResponse (side_of G.cuts_of self.now) version departs) }
+        ensures said { IfOk result (IsPageResponse (side_of G.cuts_of self.old) version departs) }
         ensures writable { IfOk result IsWritable }
+        ensures same { self.new ≡ self.old }
     {
         match (version, departs) {
             (Some(version), Some(departs)) => self.sent(alloc, version, departs),
@@ -140,10 +146,16 @@ impl<G: Fragmenter + Drop> Publisher<G> {
         }
     }
 
-    fn sent(&self, alloc: Global, version: Moment, departs: Moment) -> Result<Response, NoMemory>
+    fn sent(
+        &mut self,
+        alloc: Global,
+        version: Moment,
+        departs: Moment,
+    ) -> Result<Response, NoMemory>
         ensures said { IfOk result
-            (IsSentOf (side_of G.cuts_of self.now) (has_version (side_of G.cuts_of self.now) version) version departs) }
+            (IsSentOf (side_of G.cuts_of self.old) (has_version (side_of G.cuts_of self.old) version) version departs) }
         ensures writable { IfOk result IsWritable }
+        ensures same { self.new ≡ self.old }
     {
         if !self.store.has(version) {
             return Ok(Response::Status(404));

@@ -36,7 +36,7 @@ later_on a b c first second = record {
 }
 
 -- the timetable of a version is the same behind more messages
-timetable_stays : (side : Side) (more : List Entry) (version : ℕ) (list : List Connection) → IsRising side.base_moment (moments_of (side.history ++ more))
+pub timetable_stays : (side : Side) (more : List Entry) (version : ℕ) (list : List Connection) → IsRising side.base_moment (moments_of (side.history ++ more))
     → has_version side version ≡ true → IsTimetableAt side version list → IsTimetableAt (with_more side more) version list
 timetable_stays side more version list rising there t = record {
   live = t.live;

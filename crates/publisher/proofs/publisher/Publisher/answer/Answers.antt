@@ -1,5 +1,6 @@
-use Rattle.std.proofs.Common.{◌≡◌, ◌∙◌, sym, subst, refl, List, ℕ}
-use Rattle.std.specs.Prelude.{IfOk}
+use Rattle.std.proofs.Common.{◌≡◌, ◌∙◌, ap, sym, subst, List, ℕ}
+use Rattle.std.specs.Prelude.{IfOk, OnOk}
+use Rattle.publisher_side.specs.Reply.{IsNextSide, text_said}
 use Rattle.publisher.specs.Updated.{IsUpdated}
 use Rattle.publisher.specs.Held.{side_of}
 use Rattle.publisher.proofs.AnswerLemmas.{plain_next_if, plain_reply_if, update_next_if, update_reply_if}
@@ -22,16 +23,19 @@ returns-in-Update-clause-next g c =
 
 pub returns : goal.returns
 returns g c =
-    let side = side_of g.G.Fragmenter.cuts_of c.args.self.now in
+    let cuts_of = g.G.Fragmenter.cuts_of in
+    let side = side_of cuts_of c.args.self.now in
     let asked = c.asked.result in
     let is = c.asked.ensures in
+    let request = c.in_ok-request.request in
+    let response = c.in_ok-response-in_default.response in
+    let same = c.in_ok-response-in_default.ensures.same in
+    let said = subst (λ held. IfOk c.reply.result (λ text. text.items ≡ text_said (side_of cuts_of held) request response)) same c.reply.ensures in
     record {
-      reply =
-          plain_reply_if side c.args.bytes.now c.in_ok-request.request c.in_ok-request.ensures.said asked c.in_ok-response-in_default.response c.reply.result is
-          c.in_ok-response-in_default.ensures.said c.reply.ensures;
+      reply = plain_reply_if side c.args.bytes.now request c.in_ok-request.ensures.said asked response c.reply.result is c.in_ok-response-in_default.ensures.said said;
       next =
-          plain_next_if side c.args.bytes.now c.in_ok-request.request c.in_ok-request.ensures.said asked c.reply.result is
-          c.in_default.not-Update;
-      cutting = refl;
-      unchanged = on_err (c.args.self.now ≡ c.args.self.now) c.reply.result refl;
+          subst (λ held. OnOk c.reply.result (IsNextSide side c.args.bytes.now (side_of cuts_of held))) (sym same)
+          (plain_next_if side c.args.bytes.now request c.in_ok-request.ensures.said asked c.reply.result is c.in_default.not-Update);
+      cutting = ap (λ held. held.cutting) same;
+      unchanged = on_err _ c.reply.result same;
     }

@@ -13,7 +13,7 @@ pub returns-clause-said : goal.returns-clause-said
 returns-clause-said g c =
     let side = side_of g.G.Fragmenter.cuts_of c.args.self.now in
     let place = c.in_ok-place.place in
-    let p = c.in_ok-place.ensures in
+    let p = c.in_ok-place.ensures.place in
     record {
       page = page_made c.args.version place p.list;
       page_is = is_page_of side c.args.version c.args.departs place p;

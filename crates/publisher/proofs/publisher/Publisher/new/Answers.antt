@@ -4,6 +4,7 @@ use Rattle.lc_model.specs.Call.{InSequence}
 use Rattle.lc_model.specs.Run.{InKeyOrder}
 use Rattle.lc_model.specs.declared.run.Run.{Run}
 use Rattle.version_store.specs.Store.{Stored}
+use Rattle.publisher.proofs.CutsLemmas.{keeps_none}
 use Rattle.publisher.proofs.publisher.Publisher.new.Goals as goal
 
 pub invariant_of-result : goal.invariant_of-result
@@ -14,4 +15,5 @@ invariant_of-result g c =
       stops = ap (λ (s : Stored). s.stops) store ∙ c.in_ok-stops.ensures;
       runs = subst InKeyOrder (sym runs) c.runs_are_in_order.ensures.runs;
       calls = subst (λ (list : List Run). All (λ (run : Run). InSequence run.calls) list) (sym runs) c.runs_are_in_order.ensures.calls;
+      cuts = keeps_none _ c.new-2.result c.new-2.ensures.empty;
     }
