@@ -18,10 +18,11 @@ use Rattle.publisher_side.specs.Response.{IsPageOf}
 use Rattle.publisher_side.specs.Side.{IsLater, IsValidSide, Side, has_version}
 use Rattle.publisher_side.proofs.LaterLemmas.{timetables_stay, with_more}
 use Rattle.publisher_side.proofs.VersionLemmas.{still_found}
-use Rattle.client_answers.specs.Fits.{FitsAt, FitsSide, HasAnswered, HasEnded, IsDenied, IsOfSide, IsSentOn, IsUnderWay}
+use Rattle.client_answers.specs.Fits.{FitsAt, FitsSide, HasAnswered, HasEnded, HasFailed, IsDenied, IsOfSide, IsSentOn, IsUnderWay}
 use Rattle.client_answers.specs.Laws.{FitsStays, OwnPagesStay}
 use Rattle.client_answers.proofs.AnsweredLemmas.{answers_stay, needed_stays}
 use Rattle.client_answers.proofs.PublishedLemmas.{published_stays}
+use Rattle.client_answers.proofs.WantsLemmas.{wants_stay}
 
 -- who has a version of the side has this one
 pub has_own : (side : Side) (at : Option ℕ) (version : ℕ) → at ≡ Some version → IsOfSide side at → has_version side version ≡ true
@@ -57,12 +58,20 @@ module _ (side : Side) (more : List Entry) (valid : IsValidSide (with_more side 
   denied_stays s wanted UnknownFrom is = record { accepted = is.accepted; no_from = is.no_from; given = is.given }
   denied_stays s wanted UnknownTo is = record { accepted = is.accepted; from = is.from; no_to = is.no_to; given = is.given }
 
+  failed_stays : (s : Shown) (wanted : List Want) (version : Option ℕ) → HasFailed side s wanted version → HasFailed (with_more side more) s wanted version
+  failed_stays s wanted None is = is
+  failed_stays s wanted (Some version) is = record {
+    of_side = still_has version is.of_side;
+    past_gate = is.past_gate;
+    goes_on = λ all are. is.goes_on all ((wants_stay s.query all side (with_more side more) version valid later is.of_side).1 are);
+  }
+
   ended_stays : (s : Shown) (wanted : List Want) (outcome : Option Outcome) → HasEnded side s wanted outcome → HasEnded (with_more side more) s wanted outcome
   ended_stays s wanted None is = is
   ended_stays s wanted (Some (outcomes.Found journey)) is = answered_stays s wanted (answers.Journey journey) is
   ended_stays s wanted (Some outcomes.NoJourney) is = answered_stays s wanted answers.NoJourney is
   ended_stays s wanted (Some (outcomes.Refused fault)) is = denied_stays s wanted fault is
-  ended_stays s wanted (Some (outcomes.LinkFault before after)) is = is
+  ended_stays s wanted (Some (outcomes.LinkFault before after)) is = failed_stays s wanted s.version is
   ended_stays s wanted (Some (outcomes.PeerWrong reply fault)) is = is
 
   module _ (client : Client) (wanted : List Want) (own : IsOfSide side client.version) where

@@ -1,5 +1,5 @@
 -- What each step of a client leaves: it agrees with the side that answered.
-use Rattle.std.proofs.Common.{◌≡◌, ℕ, inl, inr, List, [], ◌∷◌, ◌++◌, Bool, true, false, Option, Some, None, Result, Ok, refl, ap, sym, subst, ◌∙◌, arith, filter}
+use Rattle.std.proofs.Common.{◌≡◌, ◌≢◌, ℕ, inl, inr, List, [], ◌∷◌, ◌++◌, Bool, true, false, Option, Some, None, Result, Ok, refl, ap, sym, subst, ◌∙◌, arith, filter}
 use Rattle.std.specs.Prelude.{◌||◌, ◌==◌}
 use Rattle.std.specs.List.{list_any}
 use Rattle.std.proofs.lemmas.Bool.Decides.{nat_tests}
@@ -38,14 +38,15 @@ use Rattle.publisher_side.specs.Response.{IsPageOf}
 use Rattle.publisher_side.specs.Short.{StandsUnder}
 use Rattle.publisher_side.specs.Side.{IsValidSide, Side, has_version}
 use Rattle.side_replies.specs.Told.{GateIsTold, IsSentTo, IsToldTo, PageIsTold, version_at}
-use Rattle.client_answers.specs.Fits.{FitsAt, FitsSide, HasEnded, IsAtGate, IsOfSide, IsSentOn, IsUnderWay}
+use Rattle.client_answers.specs.Fits.{FitsAt, FitsSide, HasEnded, HasFailed, IsAtGate, IsCutShort, IsOfSide, IsSentOn, IsUnderWay}
 use Rattle.client_answers.specs.Laws.{IsAmong}
 use Rattle.client_answers.specs.Steps.{GateKeepsIt, GetsVersion, IsReplyTo, KeepsVersion, LinkFaultKeepsIt, PageIsOwn, PageKeepsIt, SaysOwnPage, SpentKeepsIt, StopsKeepIt}
-use Rattle.client_answers.specs.Wants.{HasEnds, wants_of}
+use Rattle.client_answers.specs.Wants.{AreWants, HasEnds, IsItsVersion, wants_of}
 use Rattle.client_answers.proofs.FitsLemmas.{has_own}
 use Rattle.client_answers.proofs.OwnPageLemmas.{all_parts, found}
 use Rattle.client_answers.proofs.PublishedLemmas.{is_lawful, pages_are_among}
 use Rattle.client_answers.proofs.UnderWayLemmas.{ended_fits, takes_on}
+use Rattle.client_answers.proofs.WantsLemmas.{wants_at}
 
 -- who wants the gate waits for it
 waits_at_gate : (phase : Phase) → want_of phase ≡ wants.Gate → phase ≡ phases.Gate
@@ -253,8 +254,40 @@ spent_keeps_it side old new wanted fits waits is =
       record { query = ap (λ (s : Shown). s.query) is; version = ap (λ (s : Shown). s.version) is },
     )
 
+something_given : (wanted rest : List Want) (want : Want) → wanted ≡ want ∷ rest → wanted ≢ []
+something_given wanted rest want given nothing = cc
+
+-- behind the gate a client whose exchange fails is cut short
+cut_short : (side : Side) (old : Client) (wanted rest : List Want) (first : Want) (version : ℕ) (phase : Phase) → IsValidSide side → IsOfSide side old.version → FitsAt side old wanted phase →
+    (want_of phase ≡ wants.Finished → ⊥) → old.version ≡ Some version → wanted ≡ first ∷ rest → HasFailed side (shown old) wanted old.version
+cut_short side old wanted rest first version phase valid own fits waits at given =
+    let is : IsCutShort side (shown old) wanted version = record {
+      of_side = has_own side old.version version at own;
+      past_gate = something_given wanted rest first given;
+      goes_on = λ all are.
+          let next = wants_at side old wanted all version phase valid fits (subst (λ (o : Option ℕ). IsItsVersion o version) (sym at) refl) are waits in
+          (want_of phase, next.0, next.1);
+    } in
+    subst (HasFailed side (shown old) wanted) (sym at) is
+
+failed : (side : Side) (old : Client) (wanted : List Want) (phase : Phase) → IsValidSide side → IsOfSide side old.version → FitsAt side old wanted phase → (want_of phase ≡ wants.Finished → ⊥) →
+    HasFailed side (shown old) wanted old.version
+failed side old wanted phases.Gate valid own fits waits = subst (HasFailed side (shown old) wanted) (sym fits.no_version) (fits.accepted, fits.given)
+failed side old wanted (phases.Stops name) valid own fits waits = cut_short side old wanted [] wants.Gate name.version (phases.Stops name) valid own fits waits fits.at_version fits.given
+failed side old wanted (phases.Page name) valid own fits waits = cut_short side old wanted _ wants.Gate name.version (phases.Page name) valid own fits waits fits.at_version fits.given
+failed side old wanted phases.Finished valid own fits waits = absurd (waits refl)
+
 pub link_fault_keeps_it : LinkFaultKeepsIt
-link_fault_keeps_it side old new wanted before after fits is = (
-  ended_fits side new wanted (ended (outcomes.LinkFault before after) (shown old)) is refl fits.of_side tt,
-  record { query = ap (λ (s : Shown). s.query) is; version = ap (λ (s : Shown). s.version) is },
-)
+link_fault_keeps_it side old new wanted before after valid fits waits is =
+    let there : HasFailed side (shown old) wanted old.version = failed side old wanted old.phase valid fits.of_side fits.fits waits in (
+      ended_fits side new wanted (ended (outcomes.LinkFault before after) (shown old)) is refl fits.of_side
+          (moved side (shown old) (ended (outcomes.LinkFault before after) (shown old)) wanted old.version refl there),
+      record { query = ap (λ (s : Shown). s.query) is; version = ap (λ (s : Shown). s.version) is },
+    ) where
+      moved : (side : Side) (s t : Shown) (wanted : List Want) (version : Option ℕ) → t.query ≡ s.query → HasFailed side s wanted version → HasFailed side t wanted version
+      moved side s t wanted None same has = (subst (λ (q : Query). IsRefusal q None) (sym same) has.0, has.1)
+      moved side s t wanted (Some version) same has = record {
+        of_side = has.of_side;
+        past_gate = has.past_gate;
+        goes_on = λ all are. has.goes_on all (subst (λ (q : Query). AreWants side version q all) same are);
+      }

@@ -30,7 +30,7 @@ use Rattle.client_answers.specs.Answered.{NeededAt, names_at}
 use Rattle.client_answers.specs.Fits.{FitsAt, HasAnswered, HasEnded, IsDenied, IsUnderWay}
 use Rattle.client_answers.specs.Laws.{OneListOfWants, WantsStay}
 use Rattle.client_answers.specs.Published.{Published}
-use Rattle.client_answers.specs.Steps.{EndsWithAnAnswer, EndsWithItsWants, NoReplyFailsATest, RefusalsAreDeserved, TwoAndThePages, WantsTheNext}
+use Rattle.client_answers.specs.Steps.{EndsWithAnAnswer, EndsWithItsWants, FaultsCutShort, NoReplyFailsATest, RefusalsAreDeserved, TwoAndThePages, WantsTheNext}
 use Rattle.client_answers.specs.Wants.{AreWants, IsItsVersion, IsNoFault, HasEnds, wants_of}
 use Rattle.client_answers.proofs.AnsweredLemmas.{least_of_chains, needed_stays, one_list_of_needed_at}
 use Rattle.client_answers.proofs.PublishedLemmas.{is_lawful, is_timetable, one_published}
@@ -136,7 +136,7 @@ pages_next side client wanted all name valid u (inr (inr x)) =
     let next = wants_next side valid client wanted name u x.names x.are_needed in
     (next.0, x.are ∙ next.1)
 
-wants_at : (side : Side) (client : Client) (wanted all : List Want) (version : ℕ) (phase : Phase) → IsValidSide side → FitsAt side client wanted phase → IsItsVersion client.version version →
+pub wants_at : (side : Side) (client : Client) (wanted all : List Want) (version : ℕ) (phase : Phase) → IsValidSide side → FitsAt side client wanted phase → IsItsVersion client.version version →
     AreWants side version client.query all → (want_of phase ≡ wants.Finished → ⊥) → (more : List Want) × (all ≡ wanted ++ want_of phase ∷ more)
 wants_at side client wanted all version phases.Gate valid fits is are waits =
     let two = first_two side version client.query all are fits.accepted in
@@ -165,6 +165,9 @@ ends_with_an_answer side client wanted (Some journey) fits is = ended_so side cl
 
 pub refusals_are_deserved : RefusalsAreDeserved
 refusals_are_deserved side client wanted fault fits is = ended_so side client wanted (outcomes.Refused fault) client.phase fits.fits is
+
+pub faults_cut_short : FaultsCutShort
+faults_cut_short side client wanted before after fits is = ended_so side client wanted (outcomes.LinkFault before after) client.phase fits.fits is
 
 pub no_reply_fails_a_test : NoReplyFailsATest
 no_reply_fails_a_test side client wanted reply fault fits is = ended_so side client wanted (outcomes.PeerWrong reply fault) client.phase fits.fits is

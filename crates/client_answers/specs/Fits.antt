@@ -1,5 +1,5 @@
 -- When a client agrees with the side that it asks.
-use Rattle.std.specs.Prelude.{◌≡◌, ℕ, true, ◌⊎◌, List, [], ◌∷◌, ◌++◌, Option, Some, None}
+use Rattle.std.specs.Prelude.{◌≡◌, ◌≢◌, ℕ, true, ◌⊎◌, List, [], ◌∷◌, ◌++◌, Option, Some, None}
 use Rattle.lc_model.specs.Stop.{HasStop}
 use Rattle.lc_model.specs.declared.answer.Answer.{Answer}
 use Rattle.lc_model.specs.declared.answer.Answer.TheVariants as answers
@@ -24,7 +24,7 @@ use Rattle.publisher_side.specs.PageAt.{named}
 use Rattle.publisher_side.specs.Side.{Side, has_version}
 use Rattle.client_answers.specs.Answered.{AnswersAt, NeededAt, names_at}
 use Rattle.client_answers.specs.Published.{IsPublished, Published}
-use Rattle.client_answers.specs.Wants.{HasEnds, wants_of}
+use Rattle.client_answers.specs.Wants.{AreWants, HasEnds, wants_of}
 
 -- the version, if there is one, is one of the side
 abbrev pub IsOfSide : Side → Option ℕ → Type 0
@@ -106,13 +106,24 @@ IsDenied side s wanted SameStop = IsDeniedAtOnce s wanted SameStop
 IsDenied side s wanted UnknownFrom = LacksFrom side s wanted
 IsDenied side s wanted UnknownTo = LacksTo side s wanted
 
+-- A link failed behind the gate: what it was given stands before what it asked then, and all that in front of its wants.
+pub record IsCutShort (side : Side) (s : Shown) (wanted : List Want) (version : ℕ) : Type 0 where
+  pub of_side : has_version side version ≡ true
+  pub past_gate : wanted ≢ []
+  pub goes_on : (all : List Want) → AreWants side version s.query all → (asked : Want) × (more : List Want) × (all ≡ wanted ++ asked ∷ more)
+
+-- a link failed: at the gate, and it has no version, or behind it
+abbrev pub HasFailed : Side → Shown → List Want → Option ℕ → Type 0
+HasFailed side s wanted None = IsRefusal s.query None × (wanted ≡ [])
+HasFailed side s wanted (Some version) = IsCutShort side s wanted version
+
 -- how it ended: with an answer, or refused, or by a fault of the link, or without memory; and never by a reply that fails a test
 abbrev pub HasEnded : Side → Shown → List Want → Option Outcome → Type 0
 HasEnded side s wanted None = Unit {0}
 HasEnded side s wanted (Some (outcomes.Found journey)) = HasAnswered side s wanted (answers.Journey journey)
 HasEnded side s wanted (Some outcomes.NoJourney) = HasAnswered side s wanted answers.NoJourney
 HasEnded side s wanted (Some (outcomes.Refused fault)) = IsDenied side s wanted fault
-HasEnded side s wanted (Some (outcomes.LinkFault before after)) = Unit {0}
+HasEnded side s wanted (Some (outcomes.LinkFault before after)) = HasFailed side s wanted s.version
 HasEnded side s wanted (Some (outcomes.PeerWrong reply fault)) = ⊥
 
 -- where it stands

@@ -23,7 +23,7 @@ use Rattle.publisher_side.specs.Short.{StandsUnder}
 use Rattle.publisher_side.specs.Side.{IsValidSide, Side}
 use Rattle.side_replies.specs.Told.{GateIsTold, PageIsTold, StopsAreTold, version_at}
 use Rattle.client_answers.specs.Answered.{NeededAt, answer_of}
-use Rattle.client_answers.specs.Fits.{FitsSide, HasAnswered, IsDenied}
+use Rattle.client_answers.specs.Fits.{FitsSide, HasAnswered, HasFailed, IsDenied}
 use Rattle.client_answers.specs.Published.{IsOwnPage}
 use Rattle.client_answers.specs.Wants.{AreWants, IsItsVersion, IsNoFault}
 
@@ -91,8 +91,8 @@ SpentKeepsIt =
 -- and so does one whose exchange failed
 abbrev pub LinkFaultKeepsIt : Type 0
 LinkFaultKeepsIt =
-    (side : Side) (old new : Client) (wanted : List Want) (before after : ℕ) → FitsSide side old wanted
-    → shown new ≡ ended (LinkFault before after) (shown old) → FitsSide side new wanted × KeepsVersion (shown old) (shown new)
+    (side : Side) (old new : Client) (wanted : List Want) (before after : ℕ) → IsValidSide side → FitsSide side old wanted
+    → (want_of (shown old).phase ≡ wants.Finished → ⊥) → shown new ≡ ended (LinkFault before after) (shown old) → FitsSide side new wanted × KeepsVersion (shown old) (shown new)
 
 -- what a client wants is the next one of its wants
 abbrev pub WantsTheNext : Type 0
@@ -125,6 +125,12 @@ abbrev pub RefusalsAreDeserved : Type 0
 RefusalsAreDeserved =
     (side : Side) (client : Client) (wanted : List Want) (fault : QueryFault) → FitsSide side client wanted
     → (shown client).outcome ≡ Some (Refused fault) → IsDenied side (shown client) wanted fault
+
+-- who ended by a fault of the link had asked for a front of its wants, and has no version exactly where that was the gate alone
+abbrev pub FaultsCutShort : Type 0
+FaultsCutShort =
+    (side : Side) (client : Client) (wanted : List Want) (before after : ℕ) → FitsSide side client wanted
+    → (shown client).outcome ≡ Some (LinkFault before after) → HasFailed side (shown client) wanted (shown client).version
 
 -- and none ended by a reply that fails a test
 abbrev pub NoReplyFailsATest : Type 0

@@ -8,5 +8,6 @@ returns c = record {
   exchanges = lemmas.two_and_the_pages;
   answer = lemmas.ends_with_an_answer;
   refusal = lemmas.refusals_are_deserved;
+  fault = lemmas.faults_cut_short;
   no_peer_fault = lemmas.no_reply_fails_a_test;
 }
