@@ -25,7 +25,8 @@ use Rattle.publisher.specs.Inside.{HasCuts, KeepsCuts}
 use Rattle.publisher.specs.Place.{place_of}
 use Rattle.publisher.specs.PlaceOf.{IsPlaceOf}
 use Rattle.publisher.specs.declared.place.Place.{Place}
-use Rattle.publisher.proofs.PageLemmas.{never_falls, timetable_of}
+use Rattle.publisher.proofs.PageLemmas.{timetable_of}
+use Rattle.publisher_side.proofs.PageLemmas.{never_falls}
 use Rattle.publisher.proofs.VersionsLemmas.{contained_is_there}
 
 -- where a moment lies among the cuts of a version
