@@ -1,9 +1,9 @@
 #!/usr/bin/env python3
 """Writes a GTFS feed.
 
-    make_feed.py ROWS DIR
+    make_feed.py ROWS DIR [DAYS]
 
-DIR gets stops.txt, trips.txt, stop_times.txt and calendar_dates.txt. stop_times.txt has ROWS rows behind its header:
+The trips run on DAYS days from 2024-05-01 on, one where it is not given, and at most 31. DIR gets stops.txt, trips.txt, stop_times.txt and calendar_dates.txt. stop_times.txt has ROWS rows behind its header:
 trips of 10 calls each, the last one of what is left. There are about sqrt(ROWS) stops. With 0 rows, each file is its
 header line. The same ROWS gives the same feed: it is drawn at random from a fixed seed.
 
@@ -56,7 +56,7 @@ def trip_calls(chance, trip, stops, calls):
     return lines
 
 
-def feed(rows):
+def feed(rows, days):
     """The lines of each file."""
     chance = random.Random(1)
     stops = stop_count(rows)
@@ -68,16 +68,19 @@ def feed(rows):
         "stops.txt": [STOPS] + [f"{stop_id(s)},Stop {s:05}" for s in range(stops)],
         "trips.txt": [TRIPS] + [f"r,w,{trip_id(t)}" for t in range(trips)],
         "stop_times.txt": [STOP_TIMES] + times,
-        "calendar_dates.txt": [CALENDAR_DATES] + (["w,20240501,1"] if rows > 0 else []),
+        "calendar_dates.txt": [CALENDAR_DATES] + [f"w,202405{day:02},1" for day in range(1, days + 1) if rows > 0],
     }
 
 
 def main(words):
-    if len(words) != 2 or not words[0].isdecimal() or int(words[0]) > MOST_ROWS:
-        sys.exit(f"usage: make_feed.py ROWS DIR, with at most {MOST_ROWS} rows")
+    if not 2 <= len(words) <= 3 or not words[0].isdecimal() or int(words[0]) > MOST_ROWS:
+        sys.exit(f"usage: make_feed.py ROWS DIR [DAYS], with at most {MOST_ROWS} rows")
     rows, folder = int(words[0]), words[1]
+    days = int(words[2]) if len(words) == 3 else 1
+    if not 1 <= days <= 31:
+        sys.exit("make_feed.py: 1 to 31 days")
     os.makedirs(folder, exist_ok=True)
-    for name, lines in feed(rows).items():
+    for name, lines in feed(rows, days).items():
         with open(os.path.join(folder, name), "w", encoding="ascii", newline="\n") as file:
             file.write("\n".join(lines) + "\n")
 
