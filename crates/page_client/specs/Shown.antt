@@ -1,5 +1,5 @@
 -- What a client shows of where it stands, and its steps as functions of that.
-use Rattle.std.specs.Prelude.{◌≡◌, ℕ, ◌+◌, ◌-◌, ◌≤◌, ◌⊎◌, Bool, true, false, ◌||◌, nat_le, nat_lt, List, [], ◌∷◌, Option, Some, None, is_some, Result, Ok, Err, if◌then◌else◌}
+use Rattle.std.specs.Prelude.{◌≡◌, ℕ, ◌+◌, ◌-◌, ◌≤◌, ◌⊎◌, Bool, true, false, ◌||◌, nat_le, nat_lt, List, [], ◌∷◌, Option, Some, None, is_some, IsSome, Result, Ok, Err, if◌then◌else◌}
 use Rattle.lc_model.specs.declared.connection.Connection.{Connection}
 use Rattle.lc_model.specs.declared.journey.Journey.{Journey}
 use Rattle.lc_model.specs.declared.page.PageName.{PageName}
@@ -120,6 +120,22 @@ wrong_gate page leave (Some reply) = if is_off leave page then Some (outcomes.Pe
 abbrev pub answered : Option Journey → Outcome
 answered (Some journey) = outcomes.Found journey
 answered None = outcomes.NoJourney
+
+-- it ended by a reply that fails a test
+abbrev pub is_wrong : Option Outcome → Bool
+is_wrong None = false
+is_wrong (Some (outcomes.Found journey)) = false
+is_wrong (Some outcomes.NoJourney) = false
+is_wrong (Some (outcomes.Refused fault)) = false
+is_wrong (Some (outcomes.LinkFault before after)) = false
+is_wrong (Some (outcomes.PeerWrong reply fault)) = true
+
+-- a client that waits has its outcome as before, and one that waits for nothing has one
+abbrev pub StaysOrEnds : Option Outcome → Phase → Option Outcome → Type 0
+StaysOrEnds before phases.Gate after = after ≡ before
+StaysOrEnds before (phases.Stops first) after = after ≡ before
+StaysOrEnds before (phases.Page name) after = after ≡ before
+StaysOrEnds before phases.Finished after = IsSome after
 
 -- How many exchanges a client makes at most from here on: the gate, the stops document, and then a page for each second of the
 -- horizon that is left, and one more.

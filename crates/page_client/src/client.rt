@@ -29,7 +29,7 @@ pub struct Client {
 }
 
 impl Client {
-    ghost use Rattle.std.specs.Prelude.{◌≡◌, ◌≢◌, ◌<◌, ◌≤◌, ◌+◌, true, Result, Ok, IfOk, OnOk, OnErr};
+    ghost use Rattle.std.specs.Prelude.{◌≡◌, ◌≢◌, ◌<◌, ◌≤◌, ◌+◌, true, None, is_some, Result, Ok, IfOk, OnOk, OnErr};
     ghost use Rattle.std.specs.Option.{option_copied};
     ghost use Rattle.lc_model.specs.declared.doc.StopsDoc.{StopsDoc as Told};
     ghost use Rattle.lc_model.specs.declared.page.PageName.{PageName as Named};
@@ -39,7 +39,7 @@ impl Client {
     ghost use Rattle.page_client.specs.Gate.{IsGateReply};
     ghost use Rattle.page_client.specs.Page.{advances};
     ghost use Rattle.page_client.specs.Request.{Asks, known_at, target_of};
-    ghost use Rattle.page_client.specs.Shown.{Begins, after_gate, ended, exchanges_left, spent, want_of};
+    ghost use Rattle.page_client.specs.Shown.{Begins, StaysOrEnds, after_gate, ended, exchanges_left, is_wrong, spent, want_of, wrong_gate};
     ghost use Rattle.page_client.specs.Stops.{IsStopsReply};
     ghost use Rattle.page_client.specs.declared.fault.PeerFault.{PeerFault as Wrong};
     ghost use Rattle.page_client.specs.declared.outcome.Outcome.TheVariants as outcomes;
@@ -152,6 +152,10 @@ impl Client {
         requires valid { IsValidPage page.now }
         requires advances { advances page.now ≡ true }
         ensures ok { OnOk result (TakesPage self.old page.now self.new) }
+        ensures query { (shown self.new).query ≡ (shown self.old).query }
+        ensures ends { OnOk result (StaysOrEnds (shown self.old).outcome (shown self.new).phase (shown self.new).outcome) }
+        ensures wrong { OnOk result ((shown self.old).outcome ≡ None → is_wrong (shown self.new).outcome
+            ≡ is_some (wrong_gate page.now (shown self.old).query.leave (shown self.old).gate)) }
         ensures err { OnErr result (shown self.new ≡ spent (shown self.old)) }
         ensures fewer { exchanges_left (shown self.new) < exchanges_left (shown self.old) }
     {
