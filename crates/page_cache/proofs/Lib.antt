@@ -1,2 +1,3 @@
 mod EntriesLemmas
+pub mod KeptLemmas
 mod KeyLemmas
