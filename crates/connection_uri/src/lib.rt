@@ -14,4 +14,4 @@ pub use base::{Base, base_is_cut_once, bases_are_read, bases_are_written, one_ba
 pub use encoding::{decode, encode};
 pub use names::{append_run, name, names_differ, read_name};
 pub use pages::{page_targets_join, page_url, page_urls_differ, page_urls_join, read_page_url};
-pub use parts::behind_base;
+pub use parts::{behind_base, read_decimal, read_start_part};

@@ -1,0 +1,5 @@
+mod AnswerWordsLemmas
+mod OneAnswerLemmas
+mod ReadingLemmas
+mod TextLemmas
+mod WordLemmas

@@ -1,0 +1,4 @@
+pub mod AnswerText
+pub mod Laws
+pub mod Sound
+pub mod Words

@@ -1,0 +1,13 @@
+//! The texts of answers, and the answers that texts are. It stands on `lc_model`, `lc_time` and `connection_uri`.
+#![tactic(auto)]
+
+mod answer_reading;
+mod answer_writing;
+mod laws;
+mod ride_words;
+#[cfg(test)]
+mod tests;
+
+pub use answer_reading::read_answer;
+pub use answer_writing::answer_text;
+pub use laws::answers_differ;
