@@ -3,7 +3,6 @@ mod OneRunLemmas
 mod OneStatusLemmas
 mod PlanLemmas
 mod RefusalLemmas
-mod TextLemmas
 mod TinyLemmas
 mod TopLemmas
 mod WindowLemmas

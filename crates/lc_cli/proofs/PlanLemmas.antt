@@ -10,7 +10,7 @@ use Rattle.lc_model.specs.declared.query.Query.{Query}
 use Rattle.lc_model.specs.declared.query.TheConstants.{LAST_LEAVE}
 use Rattle.lc_model.specs.declared.ride.Ride.{Ride}
 use Rattle.timetable.specs.declared.timetable.Timetable.{Timetable}
-use Rattle.lc_cli.specs.AnswerText.{ArrivesAtAMoment, answer_text_of}
+use Rattle.journey_text.specs.AnswerText.{ArrivesAtAMoment, answer_text_of}
 use Rattle.lc_cli.specs.Command.{IsBlockText}
 use Rattle.lc_cli.specs.Plan.{AnswersQuestion}
 use Rattle.lc_cli.specs.Question.{HasHorizon, IsAskable}

@@ -11,7 +11,7 @@ use Rattle.timetable.specs.declared.fault.LoadFault.{LoadFault}
 use Rattle.timetable.specs.declared.fault.LoadFault.TheVariants as fault
 use Rattle.timetable.specs.declared.scope.Scope.{Scope}
 use Rattle.timetable.specs.declared.timetable.Timetable.{Timetable}
-use Rattle.lc_cli.specs.AnswerText.{answer_text_of}
+use Rattle.journey_text.specs.AnswerText.{answer_text_of}
 use Rattle.lc_cli.specs.CheckText.{check_text_of}
 use Rattle.lc_cli.specs.Plan.{AnswersQuestion}
 use Rattle.lc_cli.specs.Question.{Deserves, IsAskable}

@@ -8,7 +8,7 @@ use Rattle.lc_model.specs.declared.query.Query.{Query}
 use Rattle.command_words.specs.declared.command.Command.{Command}
 use Rattle.command_words.specs.declared.command.Command.TheVariants as commands
 use Rattle.timetable.specs.declared.timetable.Timetable.{Timetable}
-use Rattle.lc_cli.specs.AnswerText.{answer_text_of}
+use Rattle.journey_text.specs.AnswerText.{answer_text_of}
 use Rattle.lc_cli.specs.Plan.{AnswersQuestion}
 use Rattle.lc_cli.specs.Top.{IsClear, IsRight, Past}
 use Rattle.lc_cli.specs.declared.block.Block.{Block}

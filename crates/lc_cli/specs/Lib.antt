@@ -1,4 +1,3 @@
-pub mod AnswerText
 pub mod Block
 pub mod CheckText
 pub mod Command

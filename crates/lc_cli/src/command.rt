@@ -2,10 +2,9 @@ ghost use Rattle.std.specs.Prelude.{◌≡◌, ◌++◌, codes, None, Some, IfEr
 ghost use Rattle.command_words.specs.Line.{texts_of};
 ghost use Rattle.gtfs_feed.specs.Reading.{Keeps};
 ghost use Rattle.timetable.specs.Scope.{IsWindow};
-ghost use Rattle.lc_cli.specs.AnswerText.{ArrivesAtAMoment, answer_text_of};
+ghost use Rattle.journey_text.specs.AnswerText.{ArrivesAtAMoment, answer_text_of};
 ghost use Rattle.lc_cli.specs.Command.{IsBlockText, IsCommandBlock, IsLoadRefusal, IsRightBlock, IsRightRefusal, Prints, refused_line_of, scope_of};
 
-use crate::answer_text::answer_text;
 use crate::block::Block;
 use crate::check_text::check_text;
 use crate::plan::plan;
@@ -13,6 +12,7 @@ use crate::question::fault_of;
 use crate::refusal::Refusal;
 use crate::status::QueryFault;
 use command_words::{Command, read_words};
+use journey_text::answer_text;
 use lc_model::{Answer, NoMemory, PlainData, Query};
 use lc_world::Folder;
 use std::alloc::Global;

@@ -1,7 +1,6 @@
 //! The command `lc`: it plans journeys over a timetable. It stands on the words, the timetable of a feed and the scan.
 #![tactic(auto)]
 
-mod answer_text;
 mod block;
 mod check_text;
 mod command;

@@ -1,14 +1,10 @@
-use crate::answer_text::answer_text;
 use crate::edge::{DirFolder, StdSink};
 use crate::status::{Status, code};
 use crate::top::run;
-use lc_model::{Answer, Id, Journey, Ride, Rides, RunKey, Walk};
-use lc_time::{read_date, read_iso};
 use lc_world::{
     Folder, FolderFail, ListLink, MemFolder, MemSink, Sink, SureDoor, SureFolder, SureSink, put_all,
 };
 use std::alloc::Global;
-use std::process::Abort;
 use std::test::Fail;
 use std::{env, fs};
 use tiny_feed::{TINY, file_of, files_of};
@@ -328,44 +324,5 @@ fn faults(rt: HostRuntime) -> Result<(), Fail> {
         )
     );
     assert!(rt; out.written().is_empty());
-    Ok(())
-}
-
-fn id(rt: &impl Abort, alloc: Global, text: &str) -> Result<Id, Fail> {
-    let id = Id::new(alloc, text.as_bytes())?;
-    Ok(id.expect(rt, "an id"))
-}
-
-// A journey that begins with a walk of 300 seconds from B to E, and rides T4 of the small feed.
-#[test]
-fn a_walk_has_its_line(rt: HostRuntime) -> Result<(), Fail> {
-    let alloc = rt.alloc();
-    let date = read_date(b"20240501").expect(&rt, "a date");
-    let ride = Ride {
-        key: RunKey {
-            trip: id(&rt, alloc, "T4")?,
-            date,
-            start: None,
-        },
-        first_seq: 1,
-        last_seq: 1,
-        board: id(&rt, alloc, "E")?,
-        dep: read_iso(b"2024-05-01T09:00:00Z").expect(&rt, "a moment"),
-        alight: id(&rt, alloc, "F")?,
-        arr: read_iso(b"2024-05-01T09:10:00Z").expect(&rt, "a moment"),
-    };
-    let journey = Journey {
-        before: Some(Walk {
-            from: id(&rt, alloc, "B")?,
-            to: id(&rt, alloc, "E")?,
-            seconds: 300,
-        }),
-        rides: Rides::from_list(vec![in alloc; ride]?),
-        after: None,
-    };
-    let text = answer_text(alloc, &Answer::Journey(journey))?;
-    let want =
-        b"journey 1 arrives 2024-05-01T09:10:00.000Z\nwalk B E 300\nride T4 20240501 - 1 1 E 2024-05-01T09:00:00.000Z F 2024-05-01T09:10:00.000Z\n";
-    assert_eq!(rt; text.as_slice(), want.as_slice());
     Ok(())
 }
