@@ -1,0 +1,3 @@
+mod GetLemmas
+mod HonestLemmas
+mod TakingLemmas

@@ -1,0 +1,18 @@
+-- A GET leaves the publisher's side, and so does a want of memory.
+use Rattle.std.proofs.Common.{ap, Ok, Err}
+use Rattle.lc_world.specs.declared.link.LinkFail.TheVariants.{NoMemory}
+use Rattle.publisher.specs.Held.{side_of}
+use Rattle.lc_edge.proofs.GetLemmas.{get_is_whole}
+use Rattle.lc_edge.proofs.HonestLemmas.{get_stays, side_stays}
+use Rattle.lc_edge.proofs.local_link.LocalLinkLink.exchange.Goals as goal
+
+pub returns-in-Ok-clause-honest : goal.returns-in-Ok-clause-honest
+returns-in-Ok-clause-honest g c base side get honest =
+    get_stays base side (side_of g.G.Fragmenter.cuts_of c.args.self.now.publisher) (side_of g.G.Fragmenter.cuts_of c.answer.new.self.publisher)
+    c.args.request.now c.in-Ok.answer.items (Ok tt) get honest (c.in-Ok.ensures.next (get_is_whole c.args.request.now get))
+    (c.in-Ok.ensures.reply (get_is_whole c.args.request.now get))
+
+pub returns-in-Err-clause-honest : goal.returns-in-Err-clause-honest
+returns-in-Err-clause-honest g c base side get honest =
+    side_stays base side (side_of g.G.Fragmenter.cuts_of c.args.self.now.publisher) (side_of g.G.Fragmenter.cuts_of c.answer.new.self.publisher)
+    c.args.request.now c.clear.new.self.items (Err NoMemory) honest (ap (side_of g.G.Fragmenter.cuts_of) c.in-Err.ensures.unchanged) tt

@@ -1,0 +1,7 @@
+-- Links at home: a publisher of the program itself answers, and the answers are handed on.
+use Rattle.lc_edge.specs.LocalLink.{LocalLinkState}
+
+-- the link to the publisher, and the one to which each answer is handed on
+pub record HomeLinkState (G L : Type 0) : Type 0 where
+  pub local : LocalLinkState G
+  pub outer : L

@@ -1,0 +1,4 @@
+pub mod FaultyLink
+pub mod HomeLink
+pub mod LocalLink
+pub mod Taking

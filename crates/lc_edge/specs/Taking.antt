@@ -1,0 +1,7 @@
+-- Exchanges that are told without their replies.
+use Rattle.std.specs.Prelude.{ℕ, List, None}
+use Rattle.lc_world.specs.declared.entry.Entry.{Entry}
+
+-- an exchange of which only the request is told
+abbrev pub asked_entry : List ℕ → List ℕ → Entry
+asked_entry authority request = record { authority = authority; request = request; reply = None }
