@@ -22,9 +22,10 @@ use Rattle.page_client.specs.declared.outcome.Outcome.TheVariants.{PeerWrong}
 use Rattle.publisher_side.specs.PageAt.{linked, named, previous_cut}
 use Rattle.publisher_side.specs.Response.{IsPageOf}
 use Rattle.publisher_side.specs.Side.{IsValidSide, Side}
+use Rattle.publisher_side.proofs.PageLemmas.{never_falls}
 use Rattle.client_answers.specs.Laws.{IsAmong}
 use Rattle.client_answers.specs.Published.{IsPublished, Published}
-use Rattle.client_answers.proofs.PublishedLemmas.{never_falls, one_published, pages_are_among}
+use Rattle.client_answers.proofs.PublishedLemmas.{one_published, pages_are_among}
 
 -- a page between those before it and those behind it, as it is published
 abbrev pub between : ℕ → List CutPage → CutPage → List CutPage → Page

@@ -1,27 +1,19 @@
 -- What is published of a version is one, is lawful, and stays.
-use Rattle.std.proofs.Common.{◌≡◌, ℕ, ◌≤◌, inl, inr, List, ◌∷◌, ◌++◌, true, refl, ap, sym, subst, ◌∙◌}
-use Rattle.std.specs.Prelude.{◌↔◌, ◌⊎◌}
-use Rattle.std.specs.List.{All}
-use Rattle.std.specs.declared.cmp.Ordering.TheVariants.{Less}
-use Rattle.std.proofs.lemmas.List.Elements.{All-contains}
-use Rattle.lc_model.specs.Call.{GoesForward, InSequence}
-use Rattle.lc_model.specs.Connection.{AreConnectionsOf, InDepartureOrder, connections_of, departure_cmp}
+use Rattle.std.proofs.Common.{◌≡◌, ℕ, List, ◌∷◌, ◌++◌, true, refl, ap, sym, subst, ◌∙◌}
+use Rattle.std.specs.Prelude.{◌↔◌}
+use Rattle.lc_model.specs.Connection.{AreConnectionsOf, connections_of}
 use Rattle.lc_model.specs.Run.{RunsForward}
 use Rattle.lc_model.specs.declared.connection.Connection.{Connection}
 use Rattle.lc_model.specs.declared.run.Run.{Run}
-use Rattle.lc_model.proofs.ConnectionLemmas.{NoneArrivesEarly-sorted, departs_by}
-use Rattle.lc_model.proofs.ListLemmas.{All-from_contains, AllPairs-map, AllPairs-weaker}
+use Rattle.lc_model.proofs.ConnectionLemmas.{NoneArrivesEarly-sorted}
 use Rattle.lc_model.proofs.OneValueLemmas.{one_list_of_connections}
-use Rattle.lc_versions.specs.Added.{IsFurtherRun}
-use Rattle.lc_versions.specs.Cuts.{NeverFalls}
 use Rattle.lc_versions.specs.History.{Entry, news_at}
 use Rattle.lc_versions.specs.News.{TripSaid}
 use Rattle.lc_versions.specs.Pages.{CutPage, departures_of, pages_of}
-use Rattle.lc_versions.specs.Naming.{news_for}
-use Rattle.lc_versions.specs.Timetable.{AreLiveRuns, IsLiveRun}
-use Rattle.live_calls.proofs.AddedLemmas.{added_go_forward}
+use Rattle.lc_versions.specs.Timetable.{AreLiveRuns}
 use Rattle.live_calls.proofs.LawLemmas.{one_live_list}
-use Rattle.live_calls.proofs.LiveLemmas.{live_go_forward}
+use Rattle.live_calls.proofs.LiveRunsLemmas.{live_runs_go_forward}
+use Rattle.publisher_side.proofs.PageLemmas.{never_falls}
 use Rattle.journey_laws.proofs.RidesAreLegsLemmas.{Timetable}
 use Rattle.page_laws.proofs.RowLemmas.{never_empty}
 use Rattle.publisher_side.specs.PageAt.{linked, page_among}
@@ -48,27 +40,8 @@ one_published side version a b first second =
     let tail : a.rest ≡ b.rest = cc in
     same_parts a b live list head tail
 
--- in departure order no departure is before an earlier one
-pub never_falls : (list : List Connection) → InDepartureOrder list → NeverFalls (departures_of list)
-never_falls list in_order =
-    AllPairs-map (λ (x y : ℕ). x ≤ y) (λ (c : Connection). c.dep) list
-    (AllPairs-weaker (λ (c d : Connection). departure_cmp c d ≡ Less) (λ (c d : Connection). c.dep ≤ d.dep) list (λ c d of_c of_d less. departs_by c d less) in_order)
-
--- a live run goes forward, and a further one
-runs_on : (runs : List Run) (run : Run) (news : List TripSaid) → All (λ (r : Run). InSequence r.calls) runs → IsLiveRun runs news run → GoesForward run.calls
-runs_on runs run news rise is =
-    subst GoesForward (sym is.calls)
-    (live_go_forward is.run.calls (news_for is.run.key news) (All-contains (λ (r : Run). InSequence r.calls) runs is.run rise is.of_timetable))
-
 pub live_runs_forward : (side : Side) (version : ℕ) (live : List Run) → IsValidSide side → AreLiveAt side version live → RunsForward live
-live_runs_forward side version live valid are =
-    let news : List TripSaid = news_at (date_in side.zone) side.history version in
-    All-from_contains (λ (r : Run). GoesForward r.calls) live (λ run stands.
-    let is : IsLiveRun side.runs news run ⊎ IsFurtherRun side.runs side.doc.stops news run = (are.exactly run).0 stands in
-    elim is [
-      | inl of_timetable ↦ runs_on side.runs run news valid.calls of_timetable
-      | inr further ↦ subst GoesForward (sym further.calls) (added_go_forward side.doc.stops further.news.stops)
-    ])
+live_runs_forward side version live valid are = live_runs_go_forward side.runs side.doc.stops (news_at (date_in side.zone) side.history version) live valid.calls are
 
 pub is_lawful : PublishedIsLawful
 is_lawful side version published valid is =

@@ -37,7 +37,10 @@ use Rattle.publisher_side.specs.PageAt.{linked, named, page_among}
 use Rattle.publisher_side.specs.Response.{IsPageOf}
 use Rattle.publisher_side.specs.Short.{StandsUnder}
 use Rattle.publisher_side.specs.Side.{IsValidSide, Side, has_version}
-use Rattle.side_replies.specs.Told.{GateIsTold, IsSentTo, IsToldTo, PageIsTold, version_at}
+use Rattle.side_replies.specs.Told.{IsSentTo, IsToldTo, version_at}
+use Rattle.side_replies.proofs.GateLemmas.{gate_is_told}
+use Rattle.side_replies.proofs.PageLemmas.{page_is_told}
+use Rattle.side_replies.proofs.StopsLemmas.{stops_are_told}
 use Rattle.client_answers.specs.Fits.{FitsAt, FitsSide, HasEnded, HasFailed, IsAtGate, IsCutShort, IsOfSide, IsSentOn, IsUnderWay}
 use Rattle.client_answers.specs.Laws.{IsAmong}
 use Rattle.client_answers.specs.Steps.{GateKeepsIt, GetsVersion, IsReplyTo, KeepsVersion, LinkFaultKeepsIt, PageIsOwn, PageKeepsIt, SaysOwnPage, SpentKeepsIt, StopsKeepIt}
@@ -100,12 +103,12 @@ told_to : (side : Side) (query : Query) (want : Want) (reply : List ℕ) → IsR
 told_to side query want reply is = record { request = is.request; asks = is.asks; replies = is.replies }
 
 -- the gate's reply
-module _ (side : Side) (old new : Client) (wanted : List Want) (reply : List ℕ) (said : Result PageName PeerFault) (told : GateIsTold) where
+module _ (side : Side) (old new : Client) (wanted : List Want) (reply : List ℕ) (said : Result PageName PeerFault) where
   gate_under : StandsUnder side.base side → IsAtGate (shown old) wanted → IsReplyTo side side.base (shown old).query wants.Gate reply → IsGateReply side.base (shown old).query.leave reply said →
       shown new ≡ after_gate reply said (shown old) → FitsSide side new (wanted ++ wants.Gate ∷ []) × GetsVersion side (shown old) (shown new)
   gate_under stands at_gate replies is_said is =
       let query = old.query in
-      let sent : IsSentTo side old.query reply = told side old.query reply stands (told_to side old.query wants.Gate reply replies) in
+      let sent : IsSentTo side old.query reply = gate_is_told side old.query reply stands (told_to side old.query wants.Gate reply replies) in
       let version = version_at side old.query.known in
       let among : IsAmong side (version_at side old.query.known) old.query.leave sent.is_gate_page.page = pages_are_among side version query.leave sent.is_gate_page.page sent.is_gate_page.is_page in
       let departs = (page_for among.published.first among.published.rest query.leave).departs in
@@ -133,10 +136,10 @@ module _ (side : Side) (old new : Client) (wanted : List Want) (reply : List ℕ
       )
 
 pub gate_keeps_it : GateKeepsIt
-gate_keeps_it side base old new wanted reply said told stands fits wants_gate replies is_said is =
+gate_keeps_it side base old new wanted reply said stands fits wants_gate replies is_said is =
     let at_gate : IsAtGate (shown old) wanted = subst (FitsAt side old wanted) (waits_at_gate old.phase wants_gate) fits.fits in
     let P : BaseParts → Type 0 = λ b. StandsUnder b side → IsReplyTo side b (shown old).query wants.Gate reply → IsGateReply b (shown old).query.leave reply said → FitsSide side new (wanted ++ wants.Gate ∷ []) × GetsVersion side (shown old) (shown new) in
-    let under : P side.base = λ s r g. gate_under side old new wanted reply said told s at_gate r g is in
+    let under : P side.base = λ s r g. gate_under side old new wanted reply said s at_gate r g is in
     subst P stands.is_base under stands replies is_said
 
 -- the stops document
@@ -192,18 +195,18 @@ module _ (side : Side) (valid : IsValidSide side) (old new : Client) (wanted : L
   by_doc (inr (inr (from, to, is, stands))) = (begins from to is stands, keeps (after_stops (shown old)) is refl refl)
 
 pub stops_keep_it : StopsKeepIt
-stops_keep_it side base old new wanted reply said told stands fits wants_stops replies is_said after =
+stops_keep_it side base old new wanted reply said stands fits wants_stops replies is_said after =
     let phase = waits_for_stops old.phase wants_stops in
     let sent : IsSentOn side (shown old) wanted phase.0 = subst (FitsAt side old wanted) phase.1 fits.fits in
     let P : BaseParts → Type 0 = λ b. StandsUnder b side → IsReplyTo side b (shown old).query wants.Stops reply → IsStopsReply reply (Ok side.doc) in
-    let under : P side.base = λ s r. told side reply s (told_to side old.query wants.Stops reply r) in
+    let under : P side.base = λ s r. stops_are_told side reply s (told_to side old.query wants.Stops reply r) in
     let is : IsStopsReply reply (Ok side.doc) = subst P stands.is_base under stands replies in
     let same : said ≡ Ok side.doc = one_stops_reply reply said (Ok side.doc) is_said is in
     let doc : AfterDoc old side.doc new = subst (λ (r : Result StopsDoc PeerFault). AfterStops old reply r new) same after in
     by_doc side stands.valid old new wanted phase.0 fits.of_side sent phase.1 doc
 
 -- a page's reply
-module _ (side : Side) (client : Client) (wanted : List Want) (name : PageName) (reply : List ℕ) (said : Result Page PeerFault) (told : PageIsTold) (own : IsOfSide side client.version) (u : IsUnderWay side client wanted name) where
+module _ (side : Side) (client : Client) (wanted : List Want) (name : PageName) (reply : List ℕ) (said : Result Page PeerFault) (own : IsOfSide side client.version) (u : IsUnderWay side client wanted name) where
   cuts : List ℕ
   cuts = side.cuts_of (departures_of u.published.list)
 
@@ -222,16 +225,16 @@ module _ (side : Side) (client : Client) (wanted : List Want) (name : PageName) 
             sym (ap (λ (pages : List CutPage). linked name.version by (page_among pages u.page.departs)) u.is_published.are_pages
             ∙ ap (linked name.version by) (found side name.version p stands.valid u.is_published _ u.page u.behind parts));
       } in
-      let is_told = told side page reply stands has (subst IsSoundName u.is_page u.sound) is_page (subst (λ (n : PageName). IsToldTo side (page_target_of side.base n) None reply) u.is_page (told_to side client.query (wants.Page name) reply replies)) in
+      let is_told = page_is_told side page reply stands has (subst IsSoundName u.is_page u.sound) is_page (subst (λ (n : PageName). IsToldTo side (page_target_of side.base n) None reply) u.is_page (told_to side client.query (wants.Page name) reply replies)) in
       let same : said ≡ Ok page =
       one_page_reply side.base (named name.version u.page.departs) reply said (Ok page) (subst (λ (n : PageName). IsPageReply side.base n reply said) u.is_page is_said) is_told.0 in
       subst (SaysOwnPage side name) (sym same) (sym u.is_page, record { has = has; is_page = is_page; sound = is_told.1 })
 
 pub page_is_own : PageIsOwn
-page_is_own side base client wanted name reply said told stands fits wants_page replies is_said =
+page_is_own side base client wanted name reply said stands fits wants_page replies is_said =
     let u : IsUnderWay side client wanted name = subst (FitsAt side client wanted) (waits_for client.phase name wants_page) fits.fits in
     let P : BaseParts → Type 0 = λ b. StandsUnder b side → IsReplyTo side b (shown client).query (wants.Page name) reply → IsPageReply b name reply said → SaysOwnPage side name said in
-    let under : P side.base = page_under side client wanted name reply said told fits.of_side u in
+    let under : P side.base = page_under side client wanted name reply said fits.of_side u in
     subst P stands.is_base under stands replies is_said
 
 pub page_keeps_it : PageKeepsIt

@@ -21,7 +21,7 @@ use Rattle.page_client.specs.declared.want.Want.TheVariants as wants
 use Rattle.publisher_side.specs.Reply.{IsReply}
 use Rattle.publisher_side.specs.Short.{StandsUnder}
 use Rattle.publisher_side.specs.Side.{IsValidSide, Side}
-use Rattle.side_replies.specs.Told.{GateIsTold, PageIsTold, StopsAreTold, version_at}
+use Rattle.side_replies.specs.Told.{version_at}
 use Rattle.client_answers.specs.Answered.{NeededAt, answer_of}
 use Rattle.client_answers.specs.Fits.{FitsSide, HasAnswered, HasFailed, IsDenied}
 use Rattle.client_answers.specs.Published.{IsOwnPage}
@@ -55,23 +55,23 @@ BeginsInAgreement = (side : Side) (query : Query) (client : Client) → Begins q
 -- behind the gate's reply it agrees with the side that gave it, and has the version that its question means there
 abbrev pub GateKeepsIt : Type 0
 GateKeepsIt =
-    (side : Side) (base : BaseParts) (old new : Client) (wanted : List Want) (reply : List ℕ) (said : Result PageName PeerFault) → GateIsTold
-    → StandsUnder base side → FitsSide side old wanted → want_of (shown old).phase ≡ wants.Gate → IsReplyTo side base (shown old).query wants.Gate reply
+    (side : Side) (base : BaseParts) (old new : Client) (wanted : List Want) (reply : List ℕ) (said : Result PageName PeerFault) → StandsUnder base side
+    → FitsSide side old wanted → want_of (shown old).phase ≡ wants.Gate → IsReplyTo side base (shown old).query wants.Gate reply
     → IsGateReply base (shown old).query.leave reply said → shown new ≡ after_gate reply said (shown old)
     → FitsSide side new (wanted ++ wants.Gate ∷ []) × GetsVersion side (shown old) (shown new)
 
 -- behind the stops document it agrees with the side that sent it
 abbrev pub StopsKeepIt : Type 0
 StopsKeepIt =
-    (side : Side) (base : BaseParts) (old new : Client) (wanted : List Want) (reply : List ℕ) (said : Result StopsDoc PeerFault) → StopsAreTold
-    → StandsUnder base side → FitsSide side old wanted → want_of (shown old).phase ≡ wants.Stops → IsReplyTo side base (shown old).query wants.Stops reply
+    (side : Side) (base : BaseParts) (old new : Client) (wanted : List Want) (reply : List ℕ) (said : Result StopsDoc PeerFault) → StandsUnder base side
+    → FitsSide side old wanted → want_of (shown old).phase ≡ wants.Stops → IsReplyTo side base (shown old).query wants.Stops reply
     → IsStopsReply reply said → AfterStops old reply said new → FitsSide side new (wanted ++ wants.Stops ∷ []) × KeepsVersion (shown old) (shown new)
 
 -- what is said to a client that wants a page is the side's own page of that name
 abbrev pub PageIsOwn : Type 0
 PageIsOwn =
-    (side : Side) (base : BaseParts) (client : Client) (wanted : List Want) (name : PageName) (reply : List ℕ) (said : Result Page PeerFault) → PageIsTold
-    → StandsUnder base side → FitsSide side client wanted → want_of (shown client).phase ≡ wants.Page name
+    (side : Side) (base : BaseParts) (client : Client) (wanted : List Want) (name : PageName) (reply : List ℕ) (said : Result Page PeerFault) → StandsUnder base side
+    → FitsSide side client wanted → want_of (shown client).phase ≡ wants.Page name
     → IsReplyTo side base (shown client).query (wants.Page name) reply → IsPageReply base name reply said
     → SaysOwnPage side name said
 
