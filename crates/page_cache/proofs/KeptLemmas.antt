@@ -1,5 +1,5 @@
 -- What holds of each page that is kept holds of each page that is kept later.
-use Rattle.std.proofs.Common.{◌≡◌, ℕ, ◌⊎◌, Bool, not, List, [], ◌∷◌, take, Option, Some, None, Contains, cond, true, false, subst, sym, refl, ap}
+use Rattle.std.proofs.Common.{◌≡◌, ℕ, ◌⊎◌, Bool, not, List, [], ◌∷◌, take, Option, Some, None, Contains, cond, true, false, subst, sym, refl, ap, ◌∙◌}
 use Rattle.std.specs.List.{All, filter, find}
 use Rattle.std.specs.Option.{option_map_or}
 use Rattle.std.proofs.lemmas.List.Elements.{All-cons, All-contains, All-head, All-tail}
@@ -8,6 +8,7 @@ use Rattle.lc_model.specs.declared.page.PageName.{PageName}
 use Rattle.lru.proofs.CallerLemmas.{Contains-take}
 use Rattle.page_json.specs.declared.page.Page.{Page}
 use Rattle.page_cache.specs.Kept.{Kept, has_name, page_named, with_put, with_used, without}
+use Rattle.page_cache.proofs.KeyLemmas.{both}
 
 module _ (P : Page → Type 0) where
   All-without : (pages : List Page) (name : PageName) → All P pages → All P (without pages name)
@@ -42,3 +43,10 @@ passes test (first ∷ rest) page is = (elim (test first) as (λ v. test first �
   | true ↦ λ t e. let same : first ≡ page = cc in subst (λ (p : Page). test p ≡ true) same t
   | false ↦ λ t e. passes test rest page e
 ]) refl is
+
+-- and so it has the name
+pub named : (pages : List Page) (name : PageName) (page : Page) → page_named pages name ≡ Some page → page.name ≡ name
+named pages name page is =
+    let e = both name.version name.departs page.name.version page.name.departs (passes (has_name name) pages page is) in
+    let of : ℕ → ℕ → PageName = λ version departs. record { version = version; departs = departs } in
+    ap (λ (v : ℕ). of v page.name.departs) (sym e.0) ∙ ap (of name.version) (sym e.1)

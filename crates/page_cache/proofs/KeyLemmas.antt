@@ -17,7 +17,7 @@ same_keys = eq-value.it
 abbrev pub key_of_page : Page → Key
 key_of_page page = key_of page.name
 
-both : (a b x y : ℕ) → (eqb a x && eqb b y) ≡ true → (a ≡ x) × (b ≡ y)
+pub both : (a b x y : ℕ) → (eqb a x && eqb b y) ≡ true → (a ≡ x) × (b ≡ y)
 both a b x y = (elim (eqb a x) as (λ v. eqb a x ≡ v → (v && eqb b y) ≡ true → (a ≡ x) × (b ≡ y)) [
   | true ↦ λ e h. (eqb-true a x e, eqb-true b y h)
   | false ↦ λ e h. cc
