@@ -1,0 +1,4 @@
+pub mod Exchange
+pub mod State
+pub mod Steps
+pub mod Turn

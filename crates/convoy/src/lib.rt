@@ -1,0 +1,12 @@
+//! Many clients that share one bounded cache of pages, over any link. It stands on `page_client`, `page_cache` and `lc_world`.
+#![tactic(auto)]
+
+mod convoy;
+mod exchange;
+mod member;
+mod steps;
+mod turn;
+mod turning;
+
+pub use convoy::Convoy;
+pub use turn::Turn;

@@ -1,0 +1,171 @@
+ghost use Rattle.std.specs.Prelude.{◌≡◌, ◌≢◌, ◌<◌, ◌+◌, None, IfOk, OnOk};
+ghost use Rattle.std.specs.List.{All};
+ghost use Rattle.page_cache.specs.Kept.{page_named};
+ghost use Rattle.page_client.specs.Client.{TakesPage, shown};
+ghost use Rattle.page_client.specs.Shown.{exchanges_left, want_of};
+ghost use Rattle.page_client.specs.declared.want.Want.TheVariants as wants;
+ghost use Rattle.convoy.specs.Steps.{AsksGate, AsksPage, AsksStops, IsDecided, MayBeTaken};
+ghost use Rattle.convoy.specs.Turn.{Turned};
+ghost use Rattle.convoy.specs.declared.turn.Turn.TheVariants as turns;
+
+use crate::Turn;
+use crate::member::Member;
+use crate::steps::{ask_gate, ask_page, ask_stops};
+use connection_uri::Base;
+use lc_model::{NoMemory, PageName};
+use lc_world::Link;
+use page_cache::PageCache;
+use page_client::Want;
+use page_json::Page;
+use std::alloc::Global;
+
+/// The turn of a member: it takes the reply to what it wants, or a page that is kept.
+pub fn turned<L: Link>(
+    alloc: Global,
+    base: &Base,
+    member: &mut Member,
+    cache: &mut PageCache,
+    link: &mut L,
+) -> Result<Turn, NoMemory>
+    requires decided { IsDecided (shown member.old.client) }
+    requires sound { All MayBeTaken cache.old.pages }
+    ensures turned { IfOk result (Turned base.now member.old member.new cache.old cache.new (L.seen link.old) (L.seen link.new)) }
+    ensures idle { IfOk result (λ turn. turn ≢ turns.Exchanged → link.new ≡ link.old) }
+    ensures fewer { IfOk result (λ turn. turn ≢ turns.Finished → exchanges_left (shown member.new.client) < exchanges_left (shown member.old.client)) }
+    ensures decided { OnOk result (IsDecided (shown member.new.client)) }
+    ensures sound { All MayBeTaken cache.new.pages }
+{
+    match member.client.want() {
+        Want::Gate => gate_turn(alloc, base, member, link),
+        Want::Stops => stops_turn(alloc, base, member, link),
+        Want::Page(name) => page_turn(alloc, base, member, name, cache, link),
+        Want::Finished => Ok(Turn::Finished),
+    }
+}
+
+/// The member asks the gate.
+fn gate_turn<L: Link>(
+    alloc: Global,
+    base: &Base,
+    member: &mut Member,
+    link: &mut L,
+) -> Result<Turn, NoMemory>
+    requires wants { want_of (shown member.old.client).phase ≡ wants.Gate }
+    requires decided { IsDecided (shown member.old.client) }
+    ensures exchanged { IfOk result (λ turn. turn ≡ turns.Exchanged) }
+    ensures asks { OnOk result (AsksGate base.now member.old.client member.new.client (L.seen link.old) (L.seen link.new)) }
+    ensures one_more { OnOk result (member.new.exchanges ≡ member.old.exchanges + 1) }
+    ensures fewer { OnOk result (exchanges_left (shown member.new.client) < exchanges_left (shown member.old.client)) }
+    ensures decided { OnOk result (IsDecided (shown member.new.client)) }
+{
+    match ask_gate(alloc, base, &mut member.client, link) {
+        Ok(()) => {
+            member.exchanges += 1;
+            Ok(Turn::Exchanged)
+        }
+        Err(NoMemory) => Err(NoMemory),
+    }
+}
+
+/// The member asks for the stops document.
+fn stops_turn<L: Link>(
+    alloc: Global,
+    base: &Base,
+    member: &mut Member,
+    link: &mut L,
+) -> Result<Turn, NoMemory>
+    requires wants { want_of (shown member.old.client).phase ≡ wants.Stops }
+    requires decided { IsDecided (shown member.old.client) }
+    ensures exchanged { IfOk result (λ turn. turn ≡ turns.Exchanged) }
+    ensures asks { OnOk result (AsksStops base.now member.old.client member.new.client (L.seen link.old) (L.seen link.new)) }
+    ensures one_more { OnOk result (member.new.exchanges ≡ member.old.exchanges + 1) }
+    ensures fewer { OnOk result (exchanges_left (shown member.new.client) < exchanges_left (shown member.old.client)) }
+    ensures decided { OnOk result (IsDecided (shown member.new.client)) }
+{
+    match ask_stops(alloc, base, &mut member.client, link) {
+        Ok(()) => {
+            member.exchanges += 1;
+            Ok(Turn::Exchanged)
+        }
+        Err(NoMemory) => Err(NoMemory),
+    }
+}
+
+/// The member takes a page: the one that is kept, or that it is sent.
+fn page_turn<L: Link>(
+    alloc: Global,
+    base: &Base,
+    member: &mut Member,
+    name: PageName,
+    cache: &mut PageCache,
+    link: &mut L,
+) -> Result<Turn, NoMemory>
+    requires wants { want_of (shown member.old.client).phase ≡ wants.Page name }
+    requires decided { IsDecided (shown member.old.client) }
+    requires sound { All MayBeTaken cache.old.pages }
+    ensures turned { IfOk result (Turned base.now member.old member.new cache.old cache.new (L.seen link.old) (L.seen link.new)) }
+    ensures idle { IfOk result (λ turn. turn ≢ turns.Exchanged → link.new ≡ link.old) }
+    ensures fewer { OnOk result (exchanges_left (shown member.new.client) < exchanges_left (shown member.old.client)) }
+    ensures decided { OnOk result (IsDecided (shown member.new.client)) }
+    ensures sound { All MayBeTaken cache.new.pages }
+{
+    // Taken apart, as a value that is passed to `get` stays lent as long as the page.
+    let PageName { version, departs } = name;
+    if let Some(page) = cache.get(PageName { version, departs }) {
+        return held_turn(alloc, member, page);
+    }
+    asked_turn(
+        alloc,
+        base,
+        member,
+        PageName { version, departs },
+        cache,
+        link,
+    )
+}
+
+/// The member takes a page that is kept.
+fn held_turn(alloc: Global, member: &mut Member, page: &Page) -> Result<Turn, NoMemory>
+    requires wants { want_of (shown member.old.client).phase ≡ wants.Page page.now.name }
+    requires decided { IsDecided (shown member.old.client) }
+    requires sound { MayBeTaken page.now }
+    ensures cached { IfOk result (λ turn. turn ≡ turns.Cached) }
+    ensures takes { OnOk result (TakesPage member.old.client page.now member.new.client) }
+    ensures same_count { OnOk result (member.new.exchanges ≡ member.old.exchanges) }
+    ensures fewer { OnOk result (exchanges_left (shown member.new.client) < exchanges_left (shown member.old.client)) }
+    ensures decided { OnOk result (IsDecided (shown member.new.client)) }
+{
+    match member.client.give_page(alloc, page) {
+        Ok(()) => Ok(Turn::Cached),
+        Err(NoMemory) => Err(NoMemory),
+    }
+}
+
+/// The member asks for a page that the cache lacks.
+fn asked_turn<L: Link>(
+    alloc: Global,
+    base: &Base,
+    member: &mut Member,
+    name: PageName,
+    cache: &mut PageCache,
+    link: &mut L,
+) -> Result<Turn, NoMemory>
+    requires wants { want_of (shown member.old.client).phase ≡ wants.Page name }
+    requires lacks { page_named cache.old.pages name ≡ None }
+    requires decided { IsDecided (shown member.old.client) }
+    requires sound { All MayBeTaken cache.old.pages }
+    ensures exchanged { IfOk result (λ turn. turn ≡ turns.Exchanged) }
+    ensures asks { OnOk result (AsksPage base.now member.old.client member.new.client cache.old cache.new (L.seen link.old) (L.seen link.new)) }
+    ensures one_more { OnOk result (member.new.exchanges ≡ member.old.exchanges + 1) }
+    ensures fewer { OnOk result (exchanges_left (shown member.new.client) < exchanges_left (shown member.old.client)) }
+    ensures decided { OnOk result (IsDecided (shown member.new.client)) }
+    ensures sound { All MayBeTaken cache.new.pages }
+{
+    match ask_page(alloc, base, &mut member.client, name, cache, link) {
+        Ok(()) => {
+            member.exchanges += 1;
+            Ok(Turn::Exchanged)
+        }
+        Err(NoMemory) => Err(NoMemory),
+    }
+}
