@@ -1,4 +1,5 @@
 pub mod Exchange
+pub mod Finish
 pub mod State
 pub mod Steps
 pub mod Turn

@@ -1,16 +1,17 @@
 -- What a contract sees of a convoy.
-use Rattle.std.specs.Prelude.{◌≡◌, ℕ, ◌-◌, Bool, false, List, [], ◌∷◌, ◌++◌, Some, slice_get, slice_set}
+use Rattle.std.specs.Prelude.{◌≡◌, ◌≢◌, ℕ, ◌-◌, ◌<◌, Bool, false, List, [], ◌∷◌, ◌++◌, Some, slice_get, slice_set}
 use Rattle.std.specs.List.{All}
 use Rattle.connection_uri.specs.Base.{BaseParts}
 use Rattle.lc_world.specs.Link.{LinkSeen}
 use Rattle.page_cache.specs.Kept.{Kept}
 use Rattle.lc_model.specs.declared.query.Query.{Query}
 use Rattle.page_client.specs.Client.{shown}
-use Rattle.page_client.specs.Shown.{Begins}
+use Rattle.page_client.specs.Shown.{Begins, exchanges_left}
 use Rattle.convoy.specs.Steps.{IsDecided, MayBeTaken}
 use Rattle.convoy.specs.Turn.{Turned}
 use Rattle.convoy.specs.declared.member.Member.{Member}
 use Rattle.convoy.specs.declared.turn.Turn.{Turn}
+use Rattle.convoy.specs.declared.turn.Turn.TheVariants.{Finished}
 
 -- the base under which the clients ask, the clients with their numbers of exchanges, the pages that they share, and whether
 -- memory has run out
@@ -37,12 +38,14 @@ pub record Adds (old : ConvoyState) (query : Query) (new : ConvoyState) : Type 0
   pub none_made : member.exchanges ≡ 0
   pub is : new ≡ record old { members = old.members ++ member ∷ [] }
 
--- Client k had its turn: it has become this one, every other stays as it is, and so does the base.
+-- Client k had its turn: it has become this one, with fewer exchanges left unless it had its outcome before, every other stays
+-- as it is, and so does the base.
 pub record IsTurn (old new : ConvoyState) (k : ℕ) (before after : LinkSeen) (turn : Turn) : Type 0 where
   pub was : Member
   pub had : slice_get old.members (k - 1) ≡ Some was
   pub is : Member
   pub turned : Turned old.base was is old.kept new.kept before after turn
+  pub fewer : turn ≢ Finished → exchanges_left (shown is.client) < exchanges_left (shown was.client)
   pub members : new.members ≡ slice_set old.members (k - 1) is
   pub base : new.base ≡ old.base
   pub spent : new.spent ≡ old.spent

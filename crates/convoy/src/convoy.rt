@@ -1,4 +1,5 @@
-ghost use Rattle.std.specs.Prelude.{◌≡◌, ◌≢◌, ◌≤◌, ◌+◌, ◌-◌, true, length, slice_get, IfOk, IfSome, IsErr, OnErr, OnOk};
+ghost use Rattle.std.specs.Prelude.{◌≡◌, ◌≢◌, ℕ, ◌≤◌, ◌+◌, ◌-◌, true, length, slice_get, slice_index_or, IfOk, IfSome, IsErr, OnErr, OnOk};
+ghost use Rattle.std.specs.List.{All};
 ghost use Rattle.std.specs.Option.{option_copied};
 ghost use Rattle.convoy.specs.declared.turn.Turn.TheVariants as turns;
 
@@ -35,6 +36,7 @@ impl Model for Convoy {
 
 impl Convoy {
     ghost use Rattle.page_client.specs.Client.{shown};
+    ghost use Rattle.convoy.specs.Finish.{Ends, HasOutcome, Keeps, Rounds};
     ghost use Rattle.convoy.specs.State.{Adds, IsTurn, begun};
 
     /// No client yet, and a cache of so many pages at most, from 1 to 10,000.
@@ -91,6 +93,49 @@ impl Convoy {
                 Err(NoMemory)
             }
         }
+    }
+
+    /// Turns client 1 until it has an outcome, then client 2, and so on. A client has `horizon + 3` turns at most.
+    pub fn finish<L: Link>(&mut self, alloc: Global, link: &mut L) -> Result<(), NoMemory>
+        ensures rounds { OnOk result (Rounds L.seen (length self.old.members) self.old self.new link.old link.new) }
+        ensures ended { OnOk result (All HasOutcome self.new.members) }
+        ensures keeps { OnOk result (Keeps self.old self.new) }
+        ensures spent { OnErr result (self.new.spent ≡ true) }
+        ensures stays_spent { self.old.spent ≡ true → IsErr result × (self.new ≡ self.old) × (link.new ≡ link.old) }
+    {
+        if self.is_spent() {
+            return Err(NoMemory);
+        }
+        for index in 0..self.clients() {
+            self.finish_client(alloc, index + 1, link)?;
+        }
+        Ok(())
+    }
+
+    /// Turns client k until it has an outcome.
+    fn finish_client<L: Link>(
+        &mut self,
+        alloc: Global,
+        k: usize,
+        link: &mut L,
+    ) -> Result<(), NoMemory>
+        requires from_one { 1 ≤ k }
+        requires clients { k ≤ length self.old.members }
+        ensures ends { OnOk result (Ends L.seen k self.old self.new link.old link.new) }
+        ensures others { OnOk result ((j : ℕ) (d : Member) → j ≢ k - 1 → slice_index_or self.new.members j d ≡ slice_index_or self.old.members j d) }
+        ensures keeps { OnOk result (Keeps self.old self.new) }
+        ensures spent { OnErr result (self.new.spent ≡ true) }
+    {
+        while self.outcome(k).is_none() {
+            self.turn(alloc, k, link)?;
+        }
+        Ok(())
+    }
+
+    fn is_spent(&self) -> bool
+        ensures { result ≡ self.now.spent }
+    {
+        self.spent
     }
 
     /// How client k ended; none where it has not.

@@ -21,6 +21,7 @@ returns-in-Ok-clause-turned g c =
       had = slice_get_read c.self.inside.members.items _ (c.args.k - 1) c.index_mut.result.now refl (omega arith) c.index_mut.ensures.value;
       is = c.turned.new.member;
       turned = c.in-Ok.ensures.turned;
+      fewer = c.in-Ok.ensures.fewer;
       members = refl;
       base = refl;
       spent = refl;
