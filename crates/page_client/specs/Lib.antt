@@ -7,3 +7,4 @@ pub mod Replied
 pub mod Request
 pub mod Shown
 pub mod Stops
+pub mod Texts

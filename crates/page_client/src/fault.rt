@@ -1,8 +1,11 @@
-ghost use Rattle.std.specs.Prelude.{◌↔◌, IsTrue};
+ghost use Rattle.std.specs.Prelude.{◌↔◌, IsTrue, Some};
 ghost use Rattle.page_client.specs.Fault.{IsWant};
+ghost use Rattle.page_client.specs.Texts.{peer_fault_text, query_fault_text};
 
 use http_text::ReplyFault;
 use page_json::{Page, PageFault};
+use std::error::Error;
+use std::fmt;
 
 /// Why a question is not asked, or not answered.
 #[derive(Clone, Copy, Debug, PartialEq, Eq)]
@@ -16,6 +19,21 @@ pub enum QueryFault {
     /// The stops document lacks the stop where it ends.
     UnknownTo,
 }
+
+impl fmt::Display for QueryFault {
+    ghost output = { λ fault. Some (query_fault_text fault) };
+
+    fn fmt<W: fmt::Write>(&self, f: &mut fmt::Formatter<W>) -> fmt::Result {
+        match self {
+            QueryFault::HorizonRange => write!(f, "refused horizon"),
+            QueryFault::SameStop => write!(f, "refused same stop"),
+            QueryFault::UnknownFrom => write!(f, "refused unknown from"),
+            QueryFault::UnknownTo => write!(f, "refused unknown to"),
+        }
+    }
+}
+
+impl Error for QueryFault {}
 
 /// The first test that a reply fails.
 #[derive(Debug, Drop)]
@@ -35,6 +53,24 @@ pub enum PeerFault {
     /// The gate sent to this page, though another one is for the moment at which the question leaves.
     GateWrong { page: Page },
 }
+
+impl fmt::Display for PeerFault {
+    ghost output = { λ fault. Some (peer_fault_text fault) };
+
+    fn fmt<W: fmt::Write>(&self, f: &mut fmt::Formatter<W>) -> fmt::Result {
+        match self {
+            PeerFault::Reply(_) => write!(f, "peer wrong reply"),
+            PeerFault::Status { got } => write!(f, "peer wrong status {got}"),
+            PeerFault::Location => write!(f, "peer wrong location"),
+            PeerFault::Body(_) => write!(f, "peer wrong body"),
+            PeerFault::Identity => write!(f, "peer wrong identity"),
+            PeerFault::Advance => write!(f, "peer wrong advance"),
+            PeerFault::GateWrong { .. } => write!(f, "peer wrong gate"),
+        }
+    }
+}
+
+impl Error for PeerFault {}
 
 impl PeerFault {
     /// Whether it is want of memory in a lower fault, and no failed test.
