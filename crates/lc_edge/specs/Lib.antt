@@ -1,3 +1,4 @@
+pub mod ClosedLink
 pub mod FaultyLink
 pub mod HomeLink
 pub mod LocalLink

@@ -1,0 +1,78 @@
+ghost use Rattle.std.specs.Prelude.{◌≡◌, ◌↔◌, None};
+ghost use Rattle.std.specs.declared.io.ErrorKind.TheVariants.{NotFound, OutOfMemory};
+ghost use Rattle.lc_io.specs.declared.folder.FolderFail.TheVariants.{Absent, NoMemory as WantOfMemory};
+
+use lc_world::{Folder, FolderFail};
+use std::alloc::Global;
+use std::fs;
+use std::io::ErrorKind;
+use std::rt::Files;
+
+/// The largest file that is read, in bytes.
+const MOST_BYTES: usize = 1 << 30;
+
+/// The files of the system, by their paths. It tells nothing of what they hold.
+#[derive(Drop)]
+pub struct DirFolder<'a, R: Files + AllocGlobal> {
+    rt: &'a R,
+    faults: u64,
+    absences: u64,
+}
+
+impl<'a, R: Files + AllocGlobal> DirFolder<'a, R> {
+    /// The folder, with its counts at 0.
+    pub fn new(rt: &'a R) -> DirFolder<'a, R>
+        ensures faults { result.faults ≡ 0 }
+        ensures absences { result.absences ≡ 0 }
+    {
+        DirFolder {
+            rt,
+            faults: 0,
+            absences: 0,
+        }
+    }
+}
+
+impl<R: Files + AllocGlobal> Folder for DirFolder<'_, R> {
+    ghost seen = { λ f. record { files = None; faults = f.faults; absences = f.absences; asked = None } };
+
+    /// A file above 1 GiB is a fault.
+    fn read(&mut self, _: Global, name: &str) -> Result<Vec<u8>, FolderFail> {
+        match fs::read(self.rt, name) {
+            Ok(bytes) => {
+                if bytes.len() <= MOST_BYTES {
+                    return Ok(bytes);
+                }
+                self.faults = self.faults.saturating_add(1);
+                Err(FolderFail::Failed)
+            }
+            Err(e) => match fail_of(e.kind()) {
+                FolderFail::Failed => {
+                    self.faults = self.faults.saturating_add(1);
+                    Err(FolderFail::Failed)
+                }
+                FolderFail::Absent => {
+                    self.absences = self.absences.saturating_add(1);
+                    Err(FolderFail::Absent)
+                }
+                FolderFail::NoMemory => Err(FolderFail::NoMemory),
+            },
+        }
+    }
+
+    fn faults(&self) -> u64 {
+        self.faults
+    }
+}
+
+/// Why a file could not be read.
+fn fail_of(kind: ErrorKind) -> FolderFail
+    ensures absent { (result ≡ Absent) ↔ (kind ≡ NotFound) }
+    ensures no_memory { (result ≡ WantOfMemory) ↔ (kind ≡ OutOfMemory) }
+{
+    match kind {
+        ErrorKind::NotFound => FolderFail::Absent,
+        ErrorKind::OutOfMemory => FolderFail::NoMemory,
+        _ => FolderFail::Failed,
+    }
+}
