@@ -8,8 +8,8 @@ use Rattle.lc_world.specs.Link.{LinkSeen}
 use Rattle.page_client.specs.Client.{shown}
 use Rattle.page_client.specs.Shown.{exchanges_left}
 use Rattle.page_client.specs.declared.outcome.Outcome.{Outcome}
-use Rattle.convoy.specs.Finish.{Ends, Keeps, Step, TurnsOf}
-use Rattle.convoy.specs.State.{ConvoyState, IsTurn}
+use Rattle.convoy.specs.Finish.{Ends, IsStep, Keeps, Step, TurnsOf}
+use Rattle.convoy.specs.State.{ConvoyState}
 use Rattle.convoy.specs.declared.member.Member.{Member}
 use Rattle.convoy.specs.declared.turn.Turn.{Turn}
 
@@ -23,17 +23,19 @@ pub record SoFar {X : Type 0} (seen : X → LinkSeen) (k : ℕ) (old new : Convo
 -- and has one more
 pub one_more :
     {X : Type 0} (seen : X → LinkSeen) (k : ℕ) (old mid new : ConvoyState) (before link after : X) (turn : Turn) →
-    SoFar seen k old mid before link → IsTurn mid new k (seen link) (seen after) turn → SoFar seen k old new before after
-one_more seen k old mid new before link after turn so_far t = record {
-  steps = record { convoy = mid; link = link; turn = turn } ∷ so_far.steps;
-  turns = (t, so_far.turns);
-  others = λ j d other. ap (λ (members : List Member). slice_index_or members j d) t.members ∙ get_or-set_other mid.members (k - 1) j t.is d other ∙ so_far.others j d other;
-  keeps = record {
-    clients = ap length t.members ∙ length-set mid.members (k - 1) t.is ∙ so_far.keeps.clients;
-    base = t.base ∙ so_far.keeps.base;
-    spent = t.spent ∙ so_far.keeps.spent;
-  };
-}
+    SoFar seen k old mid before link → IsStep seen k mid new link after turn → SoFar seen k old new before after
+one_more seen k old mid new before link after turn so_far step =
+    let t = step.turned in
+    record {
+      steps = record { convoy = mid; link = link; turn = turn } ∷ so_far.steps;
+      turns = (step, so_far.turns);
+      others = λ j d other. ap (λ (members : List Member). slice_index_or members j d) t.members ∙ get_or-set_other mid.members (k - 1) j t.is d other ∙ so_far.others j d other;
+      keeps = record {
+        clients = ap length t.members ∙ length-set mid.members (k - 1) t.is ∙ so_far.keeps.clients;
+        base = t.base ∙ so_far.keeps.base;
+        spent = t.spent ∙ so_far.keeps.spent;
+      };
+    }
 
 -- how many exchanges are left to a member, if there is one
 abbrev pub left_of : Option Member → ℕ
