@@ -1,0 +1,148 @@
+-- Client after client comes to its outcome, and the convoy goes on to agree with the side that is left.
+use Rattle.std.proofs.Common.{◌≡◌, ℕ, zero, suc, ◌-◌, ◌<◌, ◌≤◌, inl, inr, List, ◌++◌, Some, refl, sym, subst, ◌∙◌, arith}
+use Rattle.std.specs.Prelude.{set}
+use Rattle.std.specs.List.{slice_get}
+use Rattle.std.proofs.lemmas.Option.{slice_get_within}
+use Rattle.csa_scan.proofs.ListPlacesLemmas.{same_place, slice_get-set_other, slice_get-set_same}
+use Rattle.connection_uri.specs.Base.{BaseParts}
+use Rattle.lc_world.specs.Link.{IsHonestWith, LinkSeen}
+use Rattle.page_client.specs.Client.{shown}
+use Rattle.page_client.specs.Shown.{Shown}
+use Rattle.page_client.specs.declared.want.Want.{Want}
+use Rattle.publisher_side.specs.Side.{IsLater, Side}
+use Rattle.publisher_side.proofs.LaterLemmas.{later_itself}
+use Rattle.client_answers.proofs.FitsLemmas.{fits_stays}
+use Rattle.convoy.specs.Finish.{Ends, HasOutcome, Rounds}
+use Rattle.convoy.specs.State.{ConvoyState}
+use Rattle.convoy.specs.declared.member.Member.{Member}
+use Rattle.convoy_answers.specs.Agreement.{FitsConvoy}
+use Rattle.convoy_answers.specs.Leaves.{EndAgrees, HasCome, HasMoved, LeavesHonest, RoundsAgree, StillAgrees}
+use Rattle.convoy_answers.proofs.HonestLemmas.{leaves_alone, leaves_then, no_less}
+use Rattle.convoy_answers.proofs.NamedLemmas.{version_wider}
+use Rattle.convoy_answers.proofs.TurnLemmas.{honest_still, one_at, rose_wider, turns_agree}
+
+-- client k was turned until it had its outcome
+pub end_agrees :
+    {X : Type 0} (seen : X → LinkSeen) (side : Side) (old new : ConvoyState) (so_far : List (List Want)) (k : ℕ) (before after : X) → IsHonestWith (seen before) old.base side →
+    FitsConvoy side old so_far → Ends seen k old new before after → EndAgrees side old new so_far k (seen before) (seen after)
+end_agrees seen side old new so_far k before after honest fits ends =
+    let agrees = turns_agree seen side old new so_far k before after ends.steps ends.member honest fits ends.is ends.turns in
+    record { agrees = agrees; ended = subst HasOutcome (one_at new.members (k - 1) ends.member agrees.is ends.is agrees.has) ends.ended }
+
+-- what became of a client is seen from further away
+moved_wider :
+    (side from to left : Side) (old new : Shown) (a b c d : LinkSeen) (given : List Want) → IsLater side from → IsLater to left → a.faults ≤ b.faults → c.faults ≤ d.faults →
+    HasMoved from to old new b c given → HasMoved side left old new a d given
+moved_wider side from to left old new a b c d given earlier later before after moved = record {
+  query = moved.query;
+  outcome = moved.outcome;
+  version = version_wider side from to left old old given new.version earlier later refl refl moved.version;
+  fault = λ low high had some. rose_wider a.faults b.faults c.faults d.faults low high before after (moved.fault low high had some);
+}
+
+minus : (n : ℕ) → suc n - 1 ≡ n
+minus n = omega arith
+
+below : (place n : ℕ) → place < suc n → (place ≡ n → ⊥) → place < n
+below place n lt not = omega arith
+
+beyond : (place n : ℕ) → suc n ≤ place → n ≤ place
+beyond place n le = omega arith
+
+no_place : (place n : ℕ) → suc n ≤ place → place ≡ suc n - 1 → ⊥
+no_place place n le same = omega arith
+
+not_last : (place n : ℕ) → (place ≡ n → ⊥) → place ≡ suc n - 1 → ⊥
+not_last place n not same = not (same ∙ minus n)
+
+none_below : (place : ℕ) → place < 0 → ⊥
+none_below place lt = omega arith
+
+-- one client more
+module _ (side : Side) (old mid new : ConvoyState) (so_far : List (List Want)) (n : ℕ) (a b c : LinkSeen) (first : RoundsAgree side old mid so_far n a b)
+    (second : StillAgrees first.left mid new first.now (suc n) b c) (ended : HasOutcome second.is) where
+  now : List (List Want)
+  now = set first.now (suc n - 1) (second.own ++ second.given)
+
+  leaves : LeavesHonest old.base first.left second.left b c
+  leaves = subst (λ (base : BaseParts). LeavesHonest base first.left second.left b c) first.base second.honest
+
+  -- the client whose round it is
+  comes : (was : Member) (place : ℕ) → place ≡ n → slice_get old.members place ≡ Some was → HasCome side second.left was new so_far (set first.now (suc n - 1) (second.own ++ second.given)) place a c
+  comes was place at had =
+      let index : place ≡ suc n - 1 = at ∙ sym (minus n) in
+      let untouched : slice_get mid.members place ≡ slice_get old.members place = first.others place (no_less_at n place at) in
+      let found : slice_get mid.members (suc n - 1) ≡ Some was = subst (λ (i : ℕ). slice_get mid.members i ≡ Some was) index (untouched ∙ had) in
+      let same : second.was ≡ was = one_at mid.members (suc n - 1) second.was was second.had found in
+      let within = slice_get_within first.now (suc n - 1) second.own second.own_is in
+      record {
+        is = second.is;
+        has = subst (λ (i : ℕ). slice_get new.members i ≡ Some second.is) (sym index) second.has;
+        ended = ended;
+        own = second.own;
+        own_is = sym (first.same place (no_less_at n place at)) ∙ subst (λ (i : ℕ). slice_get first.now i ≡ Some second.own) (sym index) second.own_is;
+        given = second.given;
+        all_is =
+            subst (λ (i : ℕ). slice_get (set first.now (suc n - 1) (second.own ++ second.given)) i ≡ Some (second.own ++ second.given)) (sym index)
+            (slice_get-set_same first.now (suc n - 1) (second.own ++ second.given) within);
+        moved =
+            moved_wider side first.left second.left second.left (shown was.client) (shown second.is.client) a b c c second.given first.honest.later (later_itself second.left)
+            first.honest.not_fallen (no_less c.faults)
+            (subst (λ (m : Member). HasMoved first.left second.left (shown m.client) (shown second.is.client) b c second.given) same second.gone.moved);
+        client = second.client;
+      } where
+        no_less_at : (n place : ℕ) → place ≡ n → n ≤ place
+        no_less_at n place at = omega arith
+
+  -- the others
+  came_before : (was : Member) (place : ℕ) → (place ≡ n → ⊥) → HasCome side first.left was mid so_far first.now place a b →
+      HasCome side second.left was new so_far (set first.now (suc n - 1) (second.own ++ second.given)) place a c
+  came_before was place not came = record {
+    is = came.is;
+    has = second.others place (not_last place n not) ∙ came.has;
+    ended = came.ended;
+    own = came.own;
+    own_is = came.own_is;
+    given = came.given;
+    all_is = slice_get-set_other first.now (suc n - 1) (second.own ++ second.given) place (not_last place n not) ∙ came.all_is;
+    moved =
+        moved_wider side side first.left second.left (shown was.client) (shown came.is.client) a a b c came.given (later_itself side) second.honest.later (no_less a.faults) second.honest.not_fallen
+        came.moved;
+    client = fits_stays first.left second.left came.is.client (came.own ++ came.given) second.honest.honest.stands.valid second.honest.later came.client;
+  }
+
+  one_round_more : RoundsAgree side old new so_far (suc n) a c
+  one_round_more = record {
+    left = second.left;
+    honest = leaves_then old.base side first.left second.left a b c first.honest leaves;
+    base = second.base ∙ first.base;
+    now = set first.now (suc n - 1) (second.own ++ second.given);
+    fits = second.fits;
+    came = λ place was lt had. elim (same_place place n) [
+      | inl at ↦ comes was place at had
+      | inr not ↦ came_before was place not (first.came place was (below place n lt not) had)
+    ];
+    others = λ place beyond_it. second.others place (no_place place n beyond_it) ∙ first.others place (beyond place n beyond_it);
+    same = λ place beyond_it. slice_get-set_other first.now (suc n - 1) (second.own ++ second.given) place (no_place place n beyond_it) ∙ first.same place (beyond place n beyond_it);
+  }
+
+pub rounds_agree :
+    {X : Type 0} (seen : X → LinkSeen) (side : Side) (old new : ConvoyState) (so_far : List (List Want)) (n : ℕ) (before after : X) → IsHonestWith (seen before) old.base side →
+    FitsConvoy side old so_far → Rounds seen n old new before after → RoundsAgree side old new so_far n (seen before) (seen after)
+rounds_agree {X} seen side old new so_far zero before after honest fits rounds =
+    subst (λ (x : X). RoundsAgree side old new so_far zero (seen before) (seen x)) (sym rounds.1)
+    (subst (λ (convoy : ConvoyState). RoundsAgree side old convoy so_far zero (seen before) (seen before)) (sym rounds.0) (record {
+      left = side;
+      honest = leaves_alone old.base side (seen before) honest;
+      base = refl;
+      now = so_far;
+      fits = fits;
+      came = λ place was lt had. absurd (none_below place lt);
+      others = λ place beyond_it. refl;
+      same = λ place beyond_it. refl;
+    }))
+rounds_agree seen side old new so_far (suc n) before after honest fits (mid, link, rounds, ends) =
+    let first = rounds_agree seen side old mid so_far n before link honest fits rounds in
+    let still = honest_still old.base mid.base first.left (seen link) first.base first.honest.honest in
+    let second = end_agrees seen first.left mid new first.now (suc n) link after still first.fits ends in
+    one_round_more side old mid new so_far n (seen before) (seen link) (seen after) first second.agrees second.ended

@@ -1,0 +1,286 @@
+-- A turn, and turns one after the other, keep a convoy in agreement with the side that is left.
+use Rattle.std.proofs.Common.{◌≡◌, ◌≢◌, ℕ, ◌+◌, ◌-◌, ◌≤◌, ◌⊎◌, inl, inr, List, [], ◌∷◌, ◌++◌, length, Option, Some, None, Contains, refl, ap, sym, subst, ◌∙◌, arith}
+use Rattle.std.specs.Prelude.{set}
+use Rattle.std.specs.List.{All, slice_get}
+use Rattle.std.proofs.lemmas.List.{append-nil, append_assoc, length-append}
+use Rattle.std.proofs.lemmas.List.Elements.{All-contains, Contains-append_left, Contains-append_right}
+use Rattle.std.proofs.lemmas.Option.{slice_get_within}
+use Rattle.lc_model.proofs.ListLemmas.{All-from_contains}
+use Rattle.csa_scan.proofs.ListPlacesLemmas.{slice_get-set_other, slice_get-set_same}
+use Rattle.lc_model.specs.declared.query.Query.{Query}
+use Rattle.connection_uri.specs.Base.{BaseParts}
+use Rattle.page_cache.specs.Kept.{Kept}
+use Rattle.page_json.specs.declared.page.Page.{Page}
+use Rattle.lc_world.specs.Link.{IsHonestWith, LinkSeen}
+use Rattle.page_client.specs.Client.{shown}
+use Rattle.page_client.specs.Shown.{Shown, want_of}
+use Rattle.page_client.specs.declared.client.Client.{Client}
+use Rattle.page_client.specs.declared.outcome.Outcome.{Outcome}
+use Rattle.page_client.specs.declared.outcome.Outcome.TheVariants.{LinkFault}
+use Rattle.page_client.specs.declared.phase.Phase.{Phase}
+use Rattle.page_client.specs.declared.phase.Phase.TheVariants as phases
+use Rattle.page_client.specs.declared.want.Want.{Want}
+use Rattle.page_client.specs.declared.want.Want.TheVariants as wants
+use Rattle.publisher_side.specs.Side.{Side}
+use Rattle.client_answers.specs.Fits.{FitsAt, FitsSide}
+use Rattle.client_answers.specs.Published.{IsOwnPage}
+use Rattle.convoy.specs.Finish.{IsStep, Step, TurnsOf}
+use Rattle.convoy.specs.State.{ConvoyState}
+use Rattle.convoy.specs.Turn.{Turned}
+use Rattle.convoy.specs.declared.member.Member.{Member}
+use Rattle.convoy.specs.declared.turn.Turn.{Turn}
+use Rattle.convoy.specs.declared.turn.Turn.TheVariants.{Cached, Exchanged, Finished}
+use Rattle.convoy_answers.specs.Agreement.{AllFit, FitsConvoy}
+use Rattle.convoy_answers.specs.Leaves.{Gave, HasGone, HasMoved, KeepsGiven, LeavesHonest, RoseWithin, StillAgrees, TurnAgrees}
+use Rattle.convoy_answers.specs.Requests.{TellsAsked}
+use Rattle.convoy_answers.proofs.HonestLemmas.{leaves_alone, leaves_then, no_less, no_less_then}
+use Rattle.convoy_answers.proofs.MemberLemmas.{MemberAgrees, cached_agrees, exchanged_agrees, finished_agrees, none_more, still_kept}
+use Rattle.convoy_answers.proofs.NamedLemmas.{NoGate, version_then}
+use Rattle.convoy_answers.proofs.PlaceLemmas.{StandsAt, all_later, at_place, set_itself, set_place, set_twice}
+use Rattle.convoy_answers.proofs.RequestLemmas.{tells_nothing, tells_then}
+
+-- what each kind of turn leaves of its client; without an exchange the link is as it was
+member_agrees :
+    {X : Type 0} (seen : X → LinkSeen) (base : BaseParts) (side : Side) (was is : Member) (own : List Want) (kept after_kept : Kept) (before after : X) (turn : Turn) →
+    IsHonestWith (seen before) base side → FitsSide side was.client own → All (IsOwnPage side) kept.pages → Turned base was is kept after_kept (seen before) (seen after) turn →
+    (turn ≢ Exchanged → after ≡ before) → MemberAgrees base side was is own kept after_kept (seen before) (seen after) turn
+member_agrees {X} seen base side was is own kept after_kept before after Finished honest fits pages turned idle =
+    subst (λ (x : X). MemberAgrees base side was is own kept after_kept (seen before) (seen x) Finished) (sym (idle (λ e. cc)))
+    (finished_agrees base side was is own kept after_kept (seen before) honest fits pages turned)
+member_agrees {X} seen base side was is own kept after_kept before after Cached honest fits pages turned idle =
+    subst (λ (x : X). MemberAgrees base side was is own kept after_kept (seen before) (seen x) Cached) (sym (idle (λ e. cc)))
+    (cached_agrees base side was is own kept after_kept (seen before) honest fits pages turned)
+member_agrees seen base side was is own kept after_kept before after Exchanged honest fits pages turned idle =
+    exchanged_agrees base side was is own kept after_kept (seen before) (seen after) honest fits pages turned.had_none turned.one_more turned.asks
+
+pub turn_agrees :
+    {X : Type 0} (seen : X → LinkSeen) (side : Side) (old new : ConvoyState) (so_far : List (List Want)) (k : ℕ) (before after : X) (turn : Turn) → IsHonestWith (seen before) old.base side →
+    FitsConvoy side old so_far → IsStep seen k old new before after turn → TurnAgrees side old new so_far k (seen before) (seen after) turn
+turn_agrees seen side old new so_far k before after turn honest fits step =
+    let t = step.turned in
+    let at : StandsAt side t.was so_far (k - 1) = at_place side old.members so_far (k - 1) t.was fits.clients t.had in
+    let m = member_agrees seen old.base side t.was t.is at.own old.kept new.kept before after turn honest at.fits fits.pages t.turned step.idle in
+    let within = slice_get_within old.members (k - 1) t.was t.had in
+    let clients = all_later side m.left old.members so_far m.honest.honest.stands.valid m.honest.later fits.clients in
+    record {
+      agrees = record {
+        left = m.left;
+        honest = m.honest;
+        base = t.base;
+        was = t.was;
+        had = t.had;
+        is = t.is;
+        has = ap (λ (members : List Member). slice_get members (k - 1)) t.members ∙ slice_get-set_same old.members (k - 1) t.is within;
+        others = λ j other. ap (λ (members : List Member). slice_get members j) t.members ∙ slice_get-set_other old.members (k - 1) t.is j other;
+        own = at.own;
+        own_is = at.is;
+        given = m.given;
+        asked = m.asked;
+        gone = m.gone;
+        kept = m.cache;
+        client = m.client;
+        fits = record {
+          clients =
+              subst (λ (members : List Member). AllFit m.left members (set so_far (k - 1) (at.own ++ m.given))) (sym t.members)
+              (set_place m.left old.members so_far (k - 1) t.is (at.own ++ m.given) clients m.client);
+          pages = m.pages;
+        };
+      };
+      gave = m.gave;
+    }
+
+-- who waits for the gate was given nothing
+nothing_before_gate : (side : Side) (client : Client) (given : List Want) (phase : Phase) → FitsAt side client given phase → want_of phase ≡ wants.Gate → given ≡ []
+nothing_before_gate side client given phases.Gate fits is = fits.given
+nothing_before_gate side client given (phases.Stops first) fits is = absurd (cc)
+nothing_before_gate side client given (phases.Page name) fits is = absurd (cc)
+nothing_before_gate side client given phases.Finished fits is = absurd (cc)
+
+some_or_none : (own first : List Want) → own ++ first ≡ [] → first ≡ []
+some_or_none [] first is = is
+some_or_none (want ∷ own) first is = absurd (cc)
+
+no_gate_then : (given more : List Want) (want : Want) → given ≡ want ∷ [] → (want ≡ wants.Gate → ⊥) → given ≡ wants.Gate ∷ more → ⊥
+no_gate_then given more want is not begins = let same : want ≡ wants.Gate = cc in not same
+
+no_gate_of_none : (given more : List Want) → given ≡ [] → given ≡ wants.Gate ∷ more → ⊥
+no_gate_of_none given more none begins = cc
+
+-- what a turn gave does not begin with the gate where something was given before
+pub gave_no_gate : (side : Side) (was is : Member) (own first given asked : List Want) (turn : Turn) → FitsSide side was.client (own ++ first) → Gave turn was is given asked → first ≢ [] → NoGate given
+gave_no_gate side was is own first given asked Finished fits idle some more begins = no_gate_of_none given more idle.none_given begins
+gave_no_gate side was is own first given asked Cached fits kept some more begins =
+    no_gate_then given more (want_of was.client.phase) kept.is_given (λ gate. some (some_or_none own first (nothing_before_gate side was.client (own ++ first) was.client.phase fits.fits gate))) begins
+gave_no_gate side was is own first given asked Exchanged fits (inl replied) some more begins =
+    no_gate_then given more (want_of was.client.phase) replied.is_given (λ gate. some (some_or_none own first (nothing_before_gate side was.client (own ++ first) was.client.phase fits.fits gate))) begins
+gave_no_gate side was is own first given asked Exchanged fits (inr failed) some more begins = no_gate_of_none given more failed.none_given begins
+
+-- the rise of a count is seen from further away
+pub rose_wider : (a b c d low high : ℕ) → a ≤ b → c ≤ d → RoseWithin b c low high → RoseWithin a d low high
+rose_wider a b c d low high before after rose = record {
+  from = no_less_then a b low before rose.from;
+  to = no_less_then high c d rose.to after;
+  rose = rose.rose;
+}
+
+-- what became of a client in two steps
+pub moved_then :
+    (side mid left : Side) (old between new : Shown) (a b c : LinkSeen) (first second : List Want) (base : BaseParts) → LeavesHonest base side mid a b → LeavesHonest base mid left b c →
+    HasMoved side mid old between a b first → HasMoved mid left between new b c second → (first ≢ [] → NoGate second) → HasMoved side left old new a c (first ++ second)
+moved_then side mid left old between new a b c first second base one two went goes no_gate = record {
+  query = goes.query ∙ went.query;
+  outcome = λ ended had. goes.outcome ended (went.outcome ended had);
+  version = version_then side mid left old between first second new.version one.later two.later went.query went.version goes.version no_gate;
+  fault = λ low high had some. by_outcome low high had some between.outcome refl;
+} where
+  by_outcome : (low high : ℕ) → old.outcome ≡ None → new.outcome ≡ Some (LinkFault low high) → (outcome : Option Outcome) → between.outcome ≡ outcome → RoseWithin a.faults c.faults low high
+  by_outcome low high had some None is = rose_wider a.faults b.faults c.faults c.faults low high one.not_fallen (no_less c.faults) (goes.fault low high is some)
+  by_outcome low high had some (Some ended) is =
+      let stays : new.outcome ≡ Some ended = goes.outcome ended is in
+      let then_fault : between.outcome ≡ Some (LinkFault low high) = is ∙ sym stays ∙ some in
+      rose_wider a.faults a.faults b.faults c.faults low high (no_less a.faults) two.not_fallen (went.fault low high had then_fault)
+
+count_then : (a b c : ℕ) (first second : List Want) → b ≡ a + length first → c ≡ b + length second → c ≡ a + length (first ++ second)
+count_then a b c first second one two = omega (arith, length-append first second)
+
+-- the same with what was asked for it
+pub gone_then :
+    (base : BaseParts) (side mid left : Side) (was between is : Member) (a b c : LinkSeen) (first second first_asked second_asked : List Want) → LeavesHonest base side mid a b → LeavesHonest base mid left b c →
+    HasGone base side mid was between a b first first_asked → HasGone base mid left between is b c second second_asked → (first ≢ [] → NoGate second) →
+    HasGone base side left was is a c (first ++ second) (first_asked ++ second_asked)
+gone_then base side mid left was between is a b c first second first_asked second_asked one two went goes no_gate = record {
+  moved = moved_then side mid left (shown was.client) (shown between.client) (shown is.client) a b c first second base one two went.moved goes.moved no_gate;
+  count = count_then was.exchanges between.exchanges is.exchanges first_asked second_asked went.count goes.count;
+  told =
+      tells_then a.told b.told c.told base (shown was.client).query first_asked second_asked went.told
+      (subst (λ (q : Query). TellsAsked b.told c.told base q second_asked) went.moved.query goes.told);
+}
+
+-- pages that are kept, after two steps
+kept_then : (a b c : List Page) (first second : List Want) → KeepsGiven a b first → KeepsGiven b c second → KeepsGiven a c (first ++ second)
+kept_then a b c first second one two =
+    All-from_contains (λ (page : Page). Contains a page ⊎ Contains (first ++ second) (wants.Page page.name)) c (λ page stands.
+    by_second page (All-contains (λ (page : Page). Contains b page ⊎ Contains second (wants.Page page.name)) c page two stands)
+    ) where
+      by_first : (page : Page) → Contains a page ⊎ Contains first (wants.Page page.name) → Contains a page ⊎ Contains (first ++ second) (wants.Page page.name)
+      by_first page (inl before) = inl before
+      by_first page (inr given) = inr (Contains-append_left first second (wants.Page page.name) given)
+
+      by_second : (page : Page) → Contains b page ⊎ Contains second (wants.Page page.name) → Contains a page ⊎ Contains (first ++ second) (wants.Page page.name)
+      by_second page (inl before) = by_first page (All-contains (λ (page : Page). Contains a page ⊎ Contains first (wants.Page page.name)) b page one before)
+      by_second page (inr given) = inr (Contains-append_right first second (wants.Page page.name) given)
+
+-- no turn yet
+pub nothing_yet : (side : Side) (convoy : ConvoyState) (so_far : List (List Want)) (k : ℕ) (link : LinkSeen) (member : Member) → IsHonestWith link convoy.base side → FitsConvoy side convoy so_far →
+    slice_get convoy.members (k - 1) ≡ Some member → StillAgrees side convoy convoy so_far k link link
+nothing_yet side convoy so_far k link member honest fits has =
+    let at : StandsAt side member so_far (k - 1) = at_place side convoy.members so_far (k - 1) member fits.clients has in
+    let client : FitsSide side member.client (at.own ++ []) = subst (FitsSide side member.client) (sym (append-nil at.own)) at.fits in
+    record {
+      left = side;
+      honest = leaves_alone convoy.base side link honest;
+      base = refl;
+      was = member;
+      had = has;
+      is = member;
+      has = has;
+      others = λ j other. refl;
+      own = at.own;
+      own_is = at.is;
+      given = [];
+      asked = [];
+      gone = record {
+        moved = record {
+          query = refl;
+          outcome = λ ended e. e;
+          version = refl;
+          fault = λ low high none some. absurd (no_outcome_and_one (shown member.client).outcome low high none some);
+        };
+        count = none_more member.exchanges;
+        told = tells_nothing link.told convoy.base (shown member.client).query;
+      };
+      kept = still_kept convoy.kept.pages [];
+      client = client;
+      fits = record {
+        clients =
+            subst (λ (members : List Member). AllFit side members (set so_far (k - 1) (at.own ++ []))) (set_itself convoy.members (k - 1) member has)
+            (set_place side convoy.members so_far (k - 1) member (at.own ++ []) fits.clients client);
+        pages = fits.pages;
+      };
+    } where
+      no_outcome_and_one : (outcome : Option Outcome) (low high : ℕ) → outcome ≡ None → outcome ≡ Some (LinkFault low high) → ⊥
+      no_outcome_and_one outcome low high none some = cc
+
+-- nothing was given or asked then
+pub nothing_yet_is : (side : Side) (convoy : ConvoyState) (so_far : List (List Want)) (k : ℕ) (link : LinkSeen) (member : Member) (honest : IsHonestWith link convoy.base side) (fits : FitsConvoy side convoy so_far)
+    (has : slice_get convoy.members (k - 1) ≡ Some member) → let s = nothing_yet side convoy so_far k link member honest fits has in (s.is ≡ member) × (s.given ≡ []) × (s.asked ≡ [])
+unfolding nothing_yet
+nothing_yet_is side convoy so_far k link member honest fits has = (refl, refl, refl)
+
+-- a client at a place is one
+pub one_at : {X : Type 0} (xs : List X) (place : ℕ) (x y : X) → slice_get xs place ≡ Some x → slice_get xs place ≡ Some y → x ≡ y
+one_at xs place x y one two = cc
+
+-- one turn more
+pub one_turn_more :
+    (side : Side) (old mid new : ConvoyState) (so_far : List (List Want)) (k : ℕ) (a b c : LinkSeen) (turn : Turn) (first : StillAgrees side old mid so_far k a b) →
+    TurnAgrees first.left mid new (set so_far (k - 1) (first.own ++ first.given)) k b c turn → StillAgrees side old new so_far k a c
+one_turn_more side old mid new so_far k a b c turn first turned =
+    let second = turned.agrees in
+    let same : second.was ≡ first.is = one_at mid.members (k - 1) second.was first.is second.had first.has in
+    let within = slice_get_within so_far (k - 1) first.own first.own_is in
+    let all = first.own ++ first.given in
+    let own : second.own ≡ first.own ++ first.given = one_at (set so_far (k - 1) (first.own ++ first.given)) (k - 1) second.own all second.own_is (slice_get-set_same so_far (k - 1) all within) in
+    let leaves : LeavesHonest old.base first.left second.left b c = subst (λ (base : BaseParts). LeavesHonest base first.left second.left b c) first.base second.honest in
+    let goes : HasGone old.base first.left second.left first.is second.is b c second.given second.asked =
+    subst (λ (m : Member). HasGone old.base first.left second.left m second.is b c second.given second.asked) same
+    (subst (λ (base : BaseParts). HasGone base first.left second.left second.was second.is b c second.given second.asked) first.base second.gone) in
+    let gave : Gave turn first.is second.is second.given second.asked = subst (λ (m : Member). Gave turn m second.is second.given second.asked) same turned.gave in
+    let whole : second.own ++ second.given ≡ first.own ++ (first.given ++ second.given) = ap (λ (l : List Want). l ++ second.given) own ∙ append_assoc first.own first.given second.given in
+    record {
+      left = second.left;
+      honest = leaves_then old.base side first.left second.left a b c first.honest leaves;
+      base = second.base ∙ first.base;
+      was = first.was;
+      had = first.had;
+      is = second.is;
+      has = second.has;
+      others = λ j other. second.others j other ∙ first.others j other;
+      own = first.own;
+      own_is = first.own_is;
+      given = first.given ++ second.given;
+      asked = first.asked ++ second.asked;
+      gone = gone_then old.base side first.left second.left first.was first.is second.is a b c first.given second.given first.asked second.asked first.honest leaves first.gone goes
+          (gave_no_gate first.left first.is second.is first.own first.given second.given second.asked turn first.client gave);
+      kept = kept_then old.kept.pages mid.kept.pages new.kept.pages first.given second.given first.kept second.kept;
+      client = subst (FitsSide second.left second.is.client) whole second.client;
+      fits = subst (FitsConvoy second.left new) (set_twice so_far (k - 1) (first.own ++ first.given) (second.own ++ second.given) ∙ ap (set so_far (k - 1)) whole) second.fits;
+    }
+
+-- what was given and asked then
+pub one_turn_more_is :
+    (side : Side) (old mid new : ConvoyState) (so_far : List (List Want)) (k : ℕ) (a b c : LinkSeen) (turn : Turn) (first : StillAgrees side old mid so_far k a b)
+    (turned : TurnAgrees first.left mid new (set so_far (k - 1) (first.own ++ first.given)) k b c turn) → let s = one_turn_more side old mid new so_far k a b c turn first turned in
+    (s.is ≡ turned.agrees.is) × (s.given ≡ first.given ++ turned.agrees.given) × (s.asked ≡ first.asked ++ turned.agrees.asked)
+unfolding one_turn_more
+one_turn_more_is side old mid new so_far k a b c turn first turned = (refl, refl, refl)
+
+-- a link that is honest with a side under the base of a convoy is so under the same base later
+pub honest_still : (base other : BaseParts) (side : Side) (link : LinkSeen) → other ≡ base → IsHonestWith link base side → IsHonestWith link other side
+honest_still base other side link same honest = subst (λ (b : BaseParts). IsHonestWith link b side) (sym same) honest
+
+-- client k alone had turns
+pub turns_agree :
+    {X : Type 0} (seen : X → LinkSeen) (side : Side) (old new : ConvoyState) (so_far : List (List Want)) (k : ℕ) (before after : X) (steps : List (Step X)) (member : Member) →
+    IsHonestWith (seen before) old.base side → FitsConvoy side old so_far → slice_get new.members (k - 1) ≡ Some member → TurnsOf seen k steps old new before after →
+    StillAgrees side old new so_far k (seen before) (seen after)
+turns_agree {X} seen side old new so_far k before after [] member honest fits has turns =
+    subst (λ (x : X). StillAgrees side old new so_far k (seen before) (seen x)) (sym turns.1)
+    (subst (λ (c : ConvoyState). StillAgrees side old c so_far k (seen before) (seen before)) (sym turns.0)
+    (nothing_yet side old so_far k (seen before) member honest fits (subst (λ (c : ConvoyState). slice_get c.members (k - 1) ≡ Some member) turns.0 has)))
+turns_agree seen side old new so_far k before after (step ∷ earlier) member honest fits has turns =
+    let is_step = turns.0 in
+    let first = turns_agree seen side old step.convoy so_far k before step.link earlier is_step.turned.was honest fits is_step.turned.had turns.1 in
+    let still = honest_still old.base step.convoy.base first.left (seen step.link) first.base first.honest.honest in
+    one_turn_more side old step.convoy new so_far k (seen before) (seen step.link) (seen after) step.turn first
+    (turn_agrees seen first.left step.convoy new (set so_far (k - 1) (first.own ++ first.given)) k step.link after step.turn still first.fits is_step)

@@ -1,0 +1,21 @@
+ghost use Rattle.convoy_answers.specs.Laws.{AddedAgrees, EndKeepsAgreement, LaterAgrees, NoneAgrees, RoundsKeepAgreement, TurnKeepsAgreement};
+
+use client_answers::steps_keep_agreement;
+use lc_world::Link;
+
+/// A convoy without clients agrees with every side, and a client more may come. What agrees with a side agrees with each later one.
+pub fn agreement_begins()
+    ensures none { NoneAgrees }
+    ensures added { AddedAgrees }
+    ensures later { LaterAgrees }
+{
+    steps_keep_agreement();
+}
+
+/// Over an honest link a convoy that agrees with the link's side agrees, after each turn and after `finish`, with the side that is left. Over
+/// a quiet one that is the same side.
+pub fn turns_keep_agreement<L: Link>()
+    ensures turn { TurnKeepsAgreement L.seen }
+    ensures end { EndKeepsAgreement L.seen }
+    ensures rounds { RoundsKeepAgreement L.seen }
+{}
