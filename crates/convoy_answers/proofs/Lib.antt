@@ -1,8 +1,10 @@
+mod AloneLemmas
 pub mod BeginLemmas
 mod HonestLemmas
 mod MemberLemmas
 mod NamedLemmas
 mod NoFaultLemmas
+pub mod OneClientLemmas
 mod PlaceLemmas
 mod RequestLemmas
 pub mod RoundsLemmas

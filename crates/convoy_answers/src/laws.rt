@@ -1,4 +1,5 @@
 ghost use Rattle.convoy_answers.specs.Laws.{AddedAgrees, EndKeepsAgreement, LaterAgrees, NoneAgrees, RoundsKeepAgreement, TurnKeepsAgreement};
+ghost use Rattle.convoy_answers.specs.OneClient.{OneClientEndsRight};
 
 use client_answers::steps_keep_agreement;
 use lc_world::Link;
@@ -19,3 +20,10 @@ pub fn turns_keep_agreement<L: Link>()
     ensures end { EndKeepsAgreement L.seen }
     ensures rounds { RoundsKeepAgreement L.seen }
 {}
+
+/// One client alone over a quiet link asks exactly its wants, and its outcome is right at the version of its known moment.
+pub fn one_client<L: Link>()
+    ensures { OneClientEndsRight L.seen }
+{
+    steps_keep_agreement();
+}

@@ -1,7 +1,7 @@
-//! That clients which take turns over an honest link agree with the publisher's side at its other end, turn after turn, as laws. It stands
-//! on `convoy` and `client_answers`.
+//! That clients which take turns over an honest link agree with the publisher's side at its other end, turn after turn, as laws; and what
+//! one client alone asks and finds. It stands on `convoy` and `client_answers`.
 #![tactic(auto)]
 
 mod laws;
 
-pub use laws::{agreement_begins, turns_keep_agreement};
+pub use laws::{agreement_begins, one_client, turns_keep_agreement};
