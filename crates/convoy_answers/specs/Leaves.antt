@@ -20,7 +20,7 @@ use Rattle.convoy.specs.declared.member.Member.{Member}
 use Rattle.convoy.specs.declared.turn.Turn.{Turn}
 use Rattle.convoy.specs.declared.turn.Turn.TheVariants.{Cached, Exchanged, Finished}
 use Rattle.convoy_answers.specs.Agreement.{FitsConvoy}
-use Rattle.convoy_answers.specs.Requests.{TellsAsked}
+use Rattle.convoy_answers.specs.Requests.{TellsAsked, TellsRequests, requests_of}
 
 -- A link that was honest with the side is so with a later one, and with the same one where it was quiet, which it is still then. A
 -- clear one is clear, and its count has not fallen.
@@ -140,8 +140,9 @@ pub record EndAgrees (side : Side) (old new : ConvoyState) (so_far : List (List 
   pub agrees : StillAgrees side old new so_far k before after
   pub ended : HasOutcome agrees.is
 
--- the client at a place came to its outcome, and what it was given all in all stands at its place now
-pub record HasCome (side left : Side) (was : Member) (new : ConvoyState) (so_far now : List (List Want)) (place : ℕ) (before after : LinkSeen) : Type 0 where
+-- The client at a place came to its outcome. What it was given all in all stands at its place now, and at that place what was asked for it, each
+-- exchange being counted.
+pub record HasCome (side left : Side) (was : Member) (new : ConvoyState) (so_far now asked : List (List Want)) (place : ℕ) (before after : LinkSeen) : Type 0 where
   pub is : Member
   pub has : slice_get new.members place ≡ Some is
   pub ended : HasOutcome is
@@ -149,17 +150,23 @@ pub record HasCome (side left : Side) (was : Member) (new : ConvoyState) (so_far
   pub own_is : slice_get so_far place ≡ Some own
   pub given : List Want
   pub all_is : slice_get now place ≡ Some (own ++ given)
+  pub own_asked : List Want
+  pub asked_is : slice_get asked place ≡ Some own_asked
+  pub count : is.exchanges ≡ was.exchanges + length own_asked
   pub moved : HasMoved side left (shown was.client) (shown is.client) before after given
   pub client : FitsSide left is.client (own ++ given)
 
--- What rounds of the first n clients leave of a convoy that agreed with the link's side: it agrees with the side that is left, and each
--- of these clients came to its outcome.
+-- What rounds of the first n clients leave of a convoy that agreed with the link's side: it agrees with the side that is left, each of these
+-- clients came to its outcome, and what was asked for the one after the other is told, where the link tells exchanges.
 pub record RoundsAgree (side : Side) (old new : ConvoyState) (so_far : List (List Want)) (n : ℕ) (before after : LinkSeen) : Type 0 where
   pub left : Side
   pub honest : LeavesHonest old.base side left before after
   pub base : new.base ≡ old.base
   pub now : List (List Want)
   pub fits : FitsConvoy left new now
-  pub came : (place : ℕ) (was : Member) → place < n → slice_get old.members place ≡ Some was → HasCome side left was new so_far now place before after
+  pub asked : List (List Want)
+  pub one_each : length asked ≡ n
+  pub told : TellsRequests before.told after.told old.base.authority (requests_of old.base old.members asked)
+  pub came : (place : ℕ) (was : Member) → place < n → slice_get old.members place ≡ Some was → HasCome side left was new so_far now asked place before after
   pub others : (place : ℕ) → n ≤ place → slice_get new.members place ≡ slice_get old.members place
   pub same : (place : ℕ) → n ≤ place → slice_get now place ≡ slice_get so_far place

@@ -1,12 +1,14 @@
 -- The requests by which wants are asked for, and that a link tells them.
-use Rattle.std.specs.Prelude.{◌≡◌, ℕ, List, ◌++◌, map, Option, option_map}
+use Rattle.std.specs.Prelude.{◌≡◌, ℕ, List, [], ◌∷◌, ◌++◌, map, Option, option_map}
 use Rattle.std.specs.List.{All}
 use Rattle.lc_model.specs.declared.query.Query.{Query}
 use Rattle.connection_uri.specs.Base.{BaseParts}
 use Rattle.http_text.specs.RequestText.{request_text_of}
 use Rattle.lc_world.specs.declared.entry.Entry.{Entry}
+use Rattle.page_client.specs.Client.{shown}
 use Rattle.page_client.specs.Request.{known_at, target_of}
 use Rattle.page_client.specs.declared.want.Want.{Want}
+use Rattle.convoy.specs.declared.member.Member.{Member}
 
 -- the request of a client of the question for what it wants
 abbrev pub request_of : BaseParts → Query → Want → List ℕ
@@ -18,6 +20,12 @@ pub record TellsRequests (before after : Option (List Entry)) (authority : List 
   pub are : map (λ (entry : Entry). entry.request) entries ≡ requests
   pub authorities : All (λ (entry : Entry). entry.authority ≡ authority) entries
   pub is : after ≡ option_map (λ (told : List Entry). told ++ entries) before
+
+-- the requests for what clients want, first all that the first one wants, then those of the next, and so on
+abbrev pub requests_of : BaseParts → List Member → List (List Want) → List (List ℕ)
+requests_of base [] asked = []
+requests_of base (member ∷ others) [] = []
+requests_of base (member ∷ others) (wanted ∷ more) = map (request_of base (shown member.client).query) wanted ++ requests_of base others more
 
 -- what was asked for a client of the question is told
 abbrev pub TellsAsked : Option (List Entry) → Option (List Entry) → BaseParts → Query → List Want → Type 0
