@@ -1,0 +1,4 @@
+pub mod CourseLemmas
+pub mod MadeLemmas
+pub mod RunLemmas
+pub mod StepLemmas

@@ -1,0 +1,4 @@
+pub mod Course
+pub mod Ends
+pub mod Made
+pub mod Run

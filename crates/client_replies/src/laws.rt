@@ -1,0 +1,10 @@
+ghost use Rattle.client_replies.specs.Run.{EndsByItsReplies};
+
+use lc_world::Link;
+
+/// A client that asks alone ends by the replies that it got, whatever the link is. Its answer is a best one by the stops document and the
+/// connections of the pages that these say; an unknown stop is one that the document lacks; a fault of the link comes
+/// only where the link's count rose in that exchange; and a reply that is called wrong fails the test that is named.
+pub fn alone_over_any_link<L: Link>()
+    ensures { EndsByItsReplies L.seen }
+{}
