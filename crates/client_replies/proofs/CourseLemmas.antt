@@ -44,7 +44,7 @@ link_more link (p ∷ pages) page = link_more p.next pages page
 pub right_more : (leave : ℕ) (first : Page) (rest more : List Page) → IsSentRight leave (first ∷ rest) → IsSentRight leave ((first ∷ rest) ++ more)
 right_more leave first rest more right = right
 
-not_behind : (front : List Page) (page : Page) (more : List Page) → [] ≡ front ++ page ∷ more → ⊥
+pub not_behind : {T : Type 0} (front : List T) (page : T) (more : List T) → [] ≡ front ++ page ∷ more → ⊥
 not_behind [] page more e = cc
 not_behind (x ∷ front) page more e = cc
 
@@ -71,7 +71,7 @@ stands_before (p ∷ pages) (x ∷ front) page taken next more e =
     let onward = stands_before pages front page taken next more rest in
     record { back = onward.back; are = ap₂ (λ (y : Page) (l : List Page). y ∷ l) same onward.are }
 
-stands_last : (pages front : List Page) (page taken : Page) → pages ++ page ∷ [] ≡ front ++ taken ∷ [] → (pages ≡ front) × (page ≡ taken)
+pub stands_last : {T : Type 0} (pages front : List T) (page taken : T) → pages ++ page ∷ [] ≡ front ++ taken ∷ [] → (pages ≡ front) × (page ≡ taken)
 stands_last [] [] page taken e = let same : page ≡ taken = cc in (refl, same)
 stands_last [] (x ∷ front) page taken e =
     let nothing : [] ≡ front ++ taken ∷ [] = cc in
@@ -79,11 +79,11 @@ stands_last [] (x ∷ front) page taken e =
 stands_last (p ∷ pages) [] page taken e =
     let nothing : [] ≡ pages ++ page ∷ [] = cc in
     absurd (not_behind pages page [] nothing)
-stands_last (p ∷ pages) (x ∷ front) page taken e =
+stands_last {T} (p ∷ pages) (x ∷ front) page taken e =
     let same : p ≡ x = cc in
     let rest : pages ++ page ∷ [] ≡ front ++ taken ∷ [] = cc in
     let onward = stands_last pages front page taken rest in
-    (ap₂ (λ (y : Page) (l : List Page). y ∷ l) same onward.0, onward.1)
+    (ap₂ (λ (y : T) (l : List T). y ∷ l) same onward.0, onward.1)
 
 -- it goes on after each, this one too
 pub goes_on_more : (query : Query) (doc : StopsDoc) (pages : List Page) (page : Page) → GoesOnAfterEach query doc pages →

@@ -1,4 +1,5 @@
 pub mod CourseLemmas
 pub mod MadeLemmas
+pub mod OneEndLemmas
 pub mod RunLemmas
 pub mod StepLemmas

@@ -1,4 +1,5 @@
 pub mod Course
 pub mod Ends
+pub mod Laws
 pub mod Made
 pub mod Run

@@ -1,3 +1,4 @@
+ghost use Rattle.client_replies.specs.Laws.{OneEnd};
 ghost use Rattle.client_replies.specs.Run.{EndsByItsReplies};
 
 use lc_world::Link;
@@ -7,4 +8,10 @@ use lc_world::Link;
 /// only where the link's count rose in that exchange; and a reply that is called wrong fails the test that is named.
 pub fn alone_over_any_link<L: Link>()
     ensures { EndsByItsReplies L.seen }
+{}
+
+/// By the replies that it got a client ends in one way: what it wanted is one in each exchange, and so is its version, and its arrival or
+/// that there is none, or its refusal, or the reply that fails a test and the test, or that the last exchange failed.
+pub fn one_end()
+    ensures { OneEnd }
 {}

@@ -4,4 +4,4 @@
 
 mod laws;
 
-pub use laws::alone_over_any_link;
+pub use laws::{alone_over_any_link, one_end};

@@ -1,0 +1,36 @@
+-- That how a client ended is one for the replies that it got.
+use Rattle.std.specs.Prelude.{◌≡◌, ℕ, List, map, Option}
+use Rattle.lc_model.specs.Journey.{arrives_at}
+use Rattle.lc_model.specs.declared.query.Query.{Query}
+use Rattle.connection_uri.specs.Base.{BaseParts}
+use Rattle.page_client.specs.declared.outcome.Outcome.{Outcome}
+use Rattle.page_client.specs.declared.outcome.Outcome.TheVariants as outcomes
+use Rattle.client_replies.specs.Ends.{EndsBy}
+use Rattle.client_replies.specs.Made.{Made}
+
+-- The outcomes say the same: journeys that arrive at one moment, or that there is none, or one refusal, or that the link failed, or one
+-- reply that fails one test.
+abbrev pub SayTheSame : Outcome → Outcome → Type 0
+SayTheSame (outcomes.Found a) (outcomes.Found b) = arrives_at a ≡ arrives_at b
+SayTheSame outcomes.NoJourney outcomes.NoJourney = Unit {0}
+SayTheSame (outcomes.Refused a) (outcomes.Refused b) = a ≡ b
+SayTheSame (outcomes.LinkFault before_a after_a) (outcomes.LinkFault before_b after_b) = Unit {0}
+SayTheSame (outcomes.PeerWrong reply_a fault_a) (outcomes.PeerWrong reply_b fault_b) = (reply_a ≡ reply_b) × (fault_a ≡ fault_b)
+SayTheSame a b = ⊥
+
+-- what was got, exchange for exchange: a reply, or none where it failed
+abbrev pub replies_of : List Made → List (Option (List ℕ))
+replies_of made = map (λ (m : Made). m.got) made
+
+-- the same was wanted in each exchange, the version is one, and the outcomes say the same
+pub record IsOneEnd (made_a made_b : List Made) (version_a version_b : Option ℕ) (a b : Outcome) : Type 0 where
+  pub made : made_a ≡ made_b
+  pub version : version_a ≡ version_b
+  pub outcome : SayTheSame a b
+
+-- a client of the question ends in one way by what it got
+abbrev pub OneEnd : Type 0
+OneEnd =
+    (base : BaseParts) (query : Query) (before_a now_a before_b now_b : ℕ) (version_a version_b : Option ℕ) (made_a made_b : List Made) (a b : Outcome)
+    → replies_of made_a ≡ replies_of made_b → EndsBy base query before_a now_a version_a made_a a → EndsBy base query before_b now_b version_b made_b b
+    → IsOneEnd made_a made_b version_a version_b a b
