@@ -49,7 +49,7 @@ BeginsAtGate [] = Unit {0}
 BeginsAtGate (want ∷ more) = want ≡ wants.Gate
 
 -- who was given nothing and waits, waits for the gate
-waits_at_first : (side : Side) (client : Client) (given : List Want) (phase : Phase) → FitsAt side client given phase → (want_of phase ≡ wants.Finished → ⊥) → given ≡ [] → want_of phase ≡ wants.Gate
+pub waits_at_first : (side : Side) (client : Client) (given : List Want) (phase : Phase) → FitsAt side client given phase → (want_of phase ≡ wants.Finished → ⊥) → given ≡ [] → want_of phase ≡ wants.Gate
 waits_at_first side client given phases.Gate fits waits none = refl
 waits_at_first side client given (phases.Stops first) fits waits none = let some : given ≡ wants.Gate ∷ [] = fits.given in absurd (cc)
 waits_at_first side client given (phases.Page name) fits waits none =

@@ -1,13 +1,13 @@
 -- What its turn over an honest link leaves of one client, and of the pages that are kept.
-use Rattle.std.proofs.Common.{◌≡◌, ◌≢◌, ℕ, ◌+◌, ◌⊎◌, inl, inr, List, [], ◌∷◌, ◌++◌, length, Option, Some, None, Result, Ok, Err, Contains, refl, ap, sym, subst, ◌∙◌, arith}
+use Rattle.std.proofs.Common.{◌≡◌, ◌≢◌, ℕ, ◌+◌, inl, inr, List, [], ◌∷◌, ◌++◌, length, Option, Some, None, Result, Ok, Err, refl, ap, sym, subst, ◌∙◌, arith}
 use Rattle.std.specs.List.{All}
 use Rattle.std.proofs.lemmas.List.{append-nil}
 use Rattle.std.proofs.lemmas.List.Elements.{All-contains}
 use Rattle.lc_model.specs.declared.page.PageName.{PageName}
-use Rattle.lc_model.proofs.ListLemmas.{All-from_contains, Contains-here}
+use Rattle.lc_model.proofs.ListLemmas.{All-from_contains}
 use Rattle.connection_uri.specs.Base.{BaseParts}
 use Rattle.page_json.specs.declared.page.Page.{Page}
-use Rattle.page_cache.specs.Kept.{Kept, has_name}
+use Rattle.page_cache.specs.Kept.{Kept, has_name, page_named, with_put}
 use Rattle.page_cache.proofs.KeptLemmas.{All-with_put, All-with_used, found, named}
 use Rattle.lc_io.specs.Counts.{Rose}
 use Rattle.lc_world.specs.Link.{Exchanges, IsHonestWith, LinkSeen}
@@ -32,9 +32,12 @@ use Rattle.convoy.specs.Turn.{Asks, IsCached, IsFinished}
 use Rattle.convoy.specs.declared.member.Member.{Member}
 use Rattle.convoy.specs.declared.turn.Turn.{Turn}
 use Rattle.convoy.specs.declared.turn.Turn.TheVariants.{Cached, Exchanged, Finished}
-use Rattle.convoy_answers.specs.Leaves.{Gave, HasFault, HasGone, KeepsGiven, LeavesHonest, RoseWithin, VersionAfter}
+use Rattle.convoy_answers.specs.Leaves.{AsksByNames, Gave, HasFault, HasGone, LeavesHonest, RoseWithin, VersionAfter, VersionThen}
+use Rattle.convoy_answers.specs.Names.{asked_for, names_of}
 use Rattle.convoy_answers.specs.Requests.{TellsAsked, request_of}
+use Rattle.convoy_answers.proofs.AskedLemmas.{asks_document, asks_in_vain, asks_kept, asks_nothing, asks_page, gate_was_right}
 use Rattle.convoy_answers.proofs.HonestLemmas.{is_get, leaves_alone}
+use Rattle.convoy_answers.proofs.NamesLemmas.{lacked_is_asked}
 use Rattle.convoy_answers.proofs.NoFaultLemmas.{gate_no_fault, page_no_fault, stops_no_fault}
 use Rattle.convoy_answers.proofs.RequestLemmas.{tells_nothing, tells_one}
 
@@ -46,16 +49,13 @@ pub record MemberAgrees (base : BaseParts) (side : Side) (was is : Member) (own 
   pub asked : List Want
   pub gone : HasGone base side left was is before after given asked
   pub gave : Gave turn was is given asked
-  pub cache : KeepsGiven kept.pages after_kept.pages given
+  pub version : VersionThen left (shown was.client) given (shown is.client).version
+  pub by_names : AsksByNames left (shown was.client) (shown is.client) kept after_kept own given asked
   pub client : FitsSide left is.client (own ++ given)
   pub pages : All (IsOwnPage left) after_kept.pages
 
 pub none_more : (n : ℕ) → n ≡ n + 0
 none_more n = omega arith
-
--- pages that are kept were kept before
-pub still_kept : (pages : List Page) (given : List Want) → KeepsGiven pages pages given
-still_kept pages given = All-from_contains (λ (page : Page). Contains pages page ⊎ Contains given (wants.Page page.name)) pages (λ page stands. inl stands)
 
 -- pages of a side are pages of a later one
 pub pages_later : (before after : Side) (pages : List Page) → IsValidSide after → IsLater before after → All (IsOwnPage before) pages → All (IsOwnPage after) pages
@@ -84,7 +84,8 @@ module _ (base : BaseParts) (side : Side) (was is : Member) (own : List Want) (k
           told = tells_nothing link.told base (shown was.client).query;
         };
         gave = record { same = refl; none_given = refl; none_asked = refl };
-        cache = still_kept kept.pages [];
+        version = refl;
+        by_names = asks_nothing side (shown was.client) kept own;
         client = subst (FitsSide side was.client) (sym (append-nil own)) fits;
         pages = pages;
       })
@@ -135,9 +136,8 @@ module _ (base : BaseParts) (side : Side) (was is : Member) (own : List Want) (k
           none_asked = refl;
           no_fault = no_fault;
         };
-        cache =
-            subst (λ (k : Kept). KeepsGiven kept.pages k.pages (wants.Page name ∷ [])) (sym holds.used)
-            (All-with_used (λ (page : Page). Contains kept.pages page ⊎ Contains (wants.Page name ∷ []) (wants.Page page.name)) kept.pages holds.name (still_kept kept.pages (wants.Page name ∷ [])));
+        version = keeps.1.version;
+        by_names = asks_kept side (shown was.client) (shown is.client) kept after_kept own holds.name holds.page holds.holds holds.used no_fault;
         client = keeps.0;
         pages = subst (λ (k : Kept). All (IsOwnPage side) k.pages) (sym holds.used) (All-with_used (IsOwnPage side) kept.pages holds.name pages);
       } where
@@ -192,9 +192,10 @@ module _ (base : BaseParts) (side : Side) (was is : Member) (own : List Want) (k
   -- the link gave a reply
   by_reply : (reply : List ℕ) (ex : IsExchange base (shown was.client) before after (Some reply)) (want : Want) → want_of (shown was.client).phase ≡ want → want ≢ wants.Finished →
       FitsSide (exchanged (Some reply) ex).side is.client (own ++ want ∷ []) → (shown is.client).query ≡ (shown was.client).query →
-      VersionAfter side (exchanged (Some reply) ex).side (shown was.client) (want ∷ []) (shown is.client).version → ¬ HasFault (shown is.client) → KeepsGiven kept.pages after_kept.pages (want ∷ []) →
-      All (IsOwnPage (exchanged (Some reply) ex).side) after_kept.pages → MemberAgrees base side was is own kept after_kept before after Exchanged
-  by_reply reply ex want wants_it not client query version no_fault cache own_pages = record {
+      VersionAfter side (exchanged (Some reply) ex).side (shown was.client) (want ∷ []) (shown is.client).version →
+      VersionThen (exchanged (Some reply) ex).side (shown was.client) (want ∷ []) (shown is.client).version → ¬ HasFault (shown is.client) →
+      AsksByNames (exchanged (Some reply) ex).side (shown was.client) (shown is.client) kept after_kept own (want ∷ []) (want ∷ []) → All (IsOwnPage (exchanged (Some reply) ex).side) after_kept.pages → MemberAgrees base side was is own kept after_kept before after Exchanged
+  by_reply reply ex want wants_it not client query version version_then no_fault by_names own_pages = record {
     left = (exchanged (Some reply) ex).side;
     honest = leaves (Some reply) ex;
     given = want ∷ [];
@@ -207,15 +208,17 @@ module _ (base : BaseParts) (side : Side) (was is : Member) (own : List Want) (k
       is_asked = ap (λ (w : Want). w ∷ []) (sym wants_it);
       no_fault = no_fault;
     });
-    cache = cache;
+    version = version_then;
+    by_names = by_names;
     client = client;
     pages = own_pages;
   }
 
   -- the link failed
   by_failure : (ex : IsExchange base (shown was.client) before after None) (want : Want) → want_of (shown was.client).phase ≡ want → want ≢ wants.Finished →
-      shown is.client ≡ ended (LinkFault before.faults after.faults) (shown was.client) → after_kept ≡ kept → MemberAgrees base side was is own kept after_kept before after Exchanged
-  by_failure ex want wants_it not ends same =
+      shown is.client ≡ ended (LinkFault before.faults after.faults) (shown was.client) → after_kept ≡ kept → asked_for (names_of kept.pages) want ≡ want ∷ [] →
+      MemberAgrees base side was is own kept after_kept before after Exchanged
+  by_failure ex want wants_it not ends same not_kept =
       let x = exchanged None ex in
       let waits : want_of (shown was.client).phase ≡ wants.Finished → ⊥ = λ e. not (sym wants_it ∙ e) in
       let keeps = link_fault_keeps_it x.side was.client is.client own before.faults after.faults x.honest.stands.valid (fits_then None ex) waits ends in
@@ -241,7 +244,10 @@ module _ (base : BaseParts) (side : Side) (was is : Member) (own : List Want) (k
           is_asked = ap (λ (w : Want). w ∷ []) (sym wants_it);
           by_fault = record { low = before.faults; high = after.faults; is = outcome };
         });
-        cache = subst (λ (k : Kept). KeepsGiven kept.pages k.pages []) (sym same) (still_kept kept.pages []);
+        version = keeps.1.version;
+        by_names =
+            asks_in_vain x.side was.client is.client kept after_kept own want x.honest.stands.valid (fits_then None ex) wants_it waits none
+            (record { low = before.faults; high = after.faults; is = outcome }) keeps.1 same not_kept;
         client = subst (FitsSide x.side is.client) (sym (append-nil own)) keeps.0;
         pages = subst (λ (k : Kept). All (IsOwnPage x.side) k.pages) (sym same) (pages_then None ex);
       }
@@ -249,54 +255,56 @@ module _ (base : BaseParts) (side : Side) (was is : Member) (own : List Want) (k
   -- the gate
   gate_agrees : (got : Got) (ex : IsExchange base (shown was.client) before after got) → want_of (shown was.client).phase ≡ wants.Gate →
       Takes was.client is.client before.faults after.faults (TakesGate base was.client is.client) got → after_kept ≡ kept → MemberAgrees base side was is own kept after_kept before after Exchanged
-  gate_agrees None ex wants_it ends same = by_failure ex wants.Gate wants_it (λ e. cc) ends same
+  gate_agrees None ex wants_it ends same = by_failure ex wants.Gate wants_it (λ e. cc) ends same refl
   gate_agrees (Some reply) ex wants_it takes same =
       let x = exchanged (Some reply) ex in
       let keeps = gate_keeps_it x.side base was.client is.client own reply takes.said x.honest.stands (fits_then (Some reply) ex) wants_it (replied reply ex wants.Gate wants_it) takes.says takes.after in
       by_reply reply ex wants.Gate wants_it (λ e. cc) keeps.0 keeps.1.query
-      (record { at = x.side; later = x.later; before = later_itself x.side; is = keeps.1.version })
+      (record { at = x.side; later = x.later; before = later_itself x.side; is = keeps.1.version }) keeps.1.version
       (gate_no_fault (shown was.client) (shown is.client) reply takes.said takes.after none)
-      (subst (λ (k : Kept). KeepsGiven kept.pages k.pages (wants.Gate ∷ [])) (sym same) (still_kept kept.pages (wants.Gate ∷ [])))
+      (asks_document x.side (shown was.client) (shown is.client) kept after_kept own wants.Gate same refl refl (gate_no_fault (shown was.client) (shown is.client) reply takes.said takes.after none))
       (subst (λ (k : Kept). All (IsOwnPage x.side) k.pages) (sym same) (pages_then (Some reply) ex))
 
   -- the stops document
   stops_agrees : (got : Got) (ex : IsExchange base (shown was.client) before after got) → want_of (shown was.client).phase ≡ wants.Stops →
       Takes was.client is.client before.faults after.faults (TakesStops was.client is.client) got → after_kept ≡ kept → MemberAgrees base side was is own kept after_kept before after Exchanged
-  stops_agrees None ex wants_it ends same = by_failure ex wants.Stops wants_it (λ e. cc) ends same
+  stops_agrees None ex wants_it ends same = by_failure ex wants.Stops wants_it (λ e. cc) ends same refl
   stops_agrees (Some reply) ex wants_it takes same =
       let x = exchanged (Some reply) ex in
       let keeps = stops_keep_it x.side base was.client is.client own reply takes.said x.honest.stands (fits_then (Some reply) ex) wants_it (replied reply ex wants.Stops wants_it) takes.says takes.after in
-      by_reply reply ex wants.Stops wants_it (λ e. cc) keeps.0 keeps.1.query keeps.1.version
+      by_reply reply ex wants.Stops wants_it (λ e. cc) keeps.0 keeps.1.query keeps.1.version keeps.1.version
       (stops_no_fault was.client is.client reply takes.said takes.after none)
-      (subst (λ (k : Kept). KeepsGiven kept.pages k.pages (wants.Stops ∷ [])) (sym same) (still_kept kept.pages (wants.Stops ∷ [])))
+      (asks_document x.side (shown was.client) (shown is.client) kept after_kept own wants.Stops same refl refl (stops_no_fault was.client is.client reply takes.said takes.after none))
       (subst (λ (k : Kept). All (IsOwnPage x.side) k.pages) (sym same) (pages_then (Some reply) ex))
 
   -- a page
   said_agrees : (name : PageName) (reply : List ℕ) (ex : IsExchange base (shown was.client) before after (Some reply)) (said : Result Page PeerFault) → want_of (shown was.client).phase ≡ wants.Page name →
-      SaysOwnPage (exchanged (Some reply) ex).side name said → AfterPage was.client is.client reply kept after_kept said → MemberAgrees base side was is own kept after_kept before after Exchanged
-  said_agrees name reply ex (Err fault) wants_it says took = absurd says
-  said_agrees name reply ex (Ok page) wants_it says took =
+      page_named kept.pages name ≡ None → SaysOwnPage (exchanged (Some reply) ex).side name said → AfterPage was.client is.client reply kept after_kept said → MemberAgrees base side was is own kept after_kept before after Exchanged
+  said_agrees name reply ex (Err fault) wants_it lacks says took = absurd says
+  said_agrees name reply ex (Ok page) wants_it lacks says took =
       let x = exchanged (Some reply) ex in
       let wants_page : want_of (shown was.client).phase ≡ wants.Page page.name = wants_it ∙ ap wants.Page (sym says.0) in
       let keeps = page_keeps_it x.side was.client is.client own page x.honest.stands.valid (fits_then (Some reply) ex) wants_page says.1 took.0 in
       let under : IsUnderWay x.side was.client own page.name = subst (FitsAt x.side was.client own) (waits_for was.client.phase page.name wants_page) (fits_then (Some reply) ex).fits in
       let gate = wrong_gate page (shown was.client).query.leave (shown was.client).gate in
-      let P : Page → Type 0 = λ other. Contains kept.pages other ⊎ Contains (wants.Page page.name ∷ []) (wants.Page other.name) in
-      by_reply reply ex (wants.Page page.name) wants_page (λ e. cc) keeps.0 keeps.1.query keeps.1.version
-      (page_no_fault was.client is.client page x.side.doc _ took.0 under.stands none)
-      (subst (λ (k : Kept). All P k.pages) (sym took.1) (so_after P gate kept page (inr (Contains-here (wants.Page page.name) [])) (still_kept kept.pages (wants.Page page.name ∷ []))))
+      let right = gate_was_right x.side was.client is.client (own ++ wants.Page page.name ∷ []) page keeps.0 took.0 in
+      let put : after_kept ≡ record kept { pages = with_put kept page } = took.1 ∙ ap (λ (o : Option Outcome). kept_after o kept page) right in
+      let not_kept : page_named kept.pages page.name ≡ None = subst (λ (n : PageName). page_named kept.pages n ≡ None) (sym says.0) lacks in
+      let no_fault = page_no_fault was.client is.client page x.side.doc _ took.0 under.stands none in
+      by_reply reply ex (wants.Page page.name) wants_page (λ e. cc) keeps.0 keeps.1.query keeps.1.version keeps.1.version no_fault
+      (asks_page x.side (shown was.client) (shown is.client) kept after_kept own page not_kept put no_fault)
       (subst (λ (k : Kept). All (IsOwnPage x.side) k.pages) (sym took.1) (so_after (IsOwnPage x.side) gate kept page says.1 (pages_then (Some reply) ex)))
 
   page_agrees : (name : PageName) (got : Got) (ex : IsExchange base (shown was.client) before after got) → want_of (shown was.client).phase ≡ wants.Page name →
-      TakesAsked base name was.client is.client kept after_kept before.faults after.faults got → MemberAgrees base side was is own kept after_kept before after Exchanged
-  page_agrees name None ex wants_it ends = by_failure ex (wants.Page name) wants_it (λ e. cc) ends.0 ends.1
-  page_agrees name (Some reply) ex wants_it takes =
+      page_named kept.pages name ≡ None → TakesAsked base name was.client is.client kept after_kept before.faults after.faults got → MemberAgrees base side was is own kept after_kept before after Exchanged
+  page_agrees name None ex wants_it lacks ends = by_failure ex (wants.Page name) wants_it (λ e. cc) ends.0 ends.1 (lacked_is_asked kept.pages name lacks)
+  page_agrees name (Some reply) ex wants_it lacks takes =
       let x = exchanged (Some reply) ex in
-      said_agrees name reply ex takes.said wants_it
+      said_agrees name reply ex takes.said wants_it lacks
       (page_is_own x.side base was.client own name reply takes.said x.honest.stands (fits_then (Some reply) ex) wants_it (replied reply ex (wants.Page name) wants_it) takes.says)
       takes.after_page
 
   pub exchanged_agrees : Asks base was.client is.client kept after_kept before after → MemberAgrees base side was is own kept after_kept before after Exchanged
   exchanged_agrees (inl (gate, same)) = gate_agrees gate.got gate.exchange gate.wants gate.takes same
   exchanged_agrees (inr (inl (stops, same))) = stops_agrees stops.got stops.exchange stops.wants stops.takes same
-  exchanged_agrees (inr (inr page)) = page_agrees page.name page.got page.exchange page.wants page.takes
+  exchanged_agrees (inr (inr page)) = page_agrees page.name page.got page.exchange page.wants page.lacks page.takes

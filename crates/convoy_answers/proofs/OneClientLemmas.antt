@@ -3,9 +3,10 @@ use Rattle.std.proofs.Common.{◌≡◌, ◌≢◌, ℕ, ◌+◌, ◌-◌, ◌�
 use Rattle.std.specs.Prelude.{set}
 use Rattle.std.specs.List.{slice_get}
 use Rattle.std.proofs.lemmas.List.{append-nil}
+use Rattle.std.proofs.lemmas.List.Elements.{All-contains_itself}
 use Rattle.lc_model.specs.declared.page.PageName.{PageName}
 use Rattle.lc_model.specs.declared.query.Query.{Query}
-use Rattle.lc_model.proofs.ListLemmas.{Contains-nil}
+use Rattle.lc_model.proofs.ListLemmas.{Contains-map, Contains-nil}
 use Rattle.page_json.specs.declared.page.Page.{Page}
 use Rattle.page_cache.specs.Kept.{Kept, has_name}
 use Rattle.page_cache.proofs.KeptLemmas as kept_pages
@@ -27,11 +28,13 @@ use Rattle.convoy.specs.declared.member.Member.{Member}
 use Rattle.convoy.specs.declared.turn.Turn.{Turn}
 use Rattle.convoy.specs.declared.turn.Turn.TheVariants.{Cached, Exchanged, Finished}
 use Rattle.convoy_answers.specs.Agreement.{FitsConvoy}
-use Rattle.convoy_answers.specs.Leaves.{Gave, HasFault, KeepsGiven, RoseWithin, StillAgrees, TurnAgrees}
+use Rattle.convoy_answers.specs.Leaves.{Gave, HasFault, RoseWithin, StillAgrees, TurnAgrees}
+use Rattle.convoy_answers.specs.Names.{names_after, names_of}
 use Rattle.convoy_answers.specs.OneClient.{AskedAll, AskedOneMore, IsAlone, IsNext, OneClientEndsRight, version_of}
 use Rattle.convoy_answers.specs.Requests.{TellsAsked}
 use Rattle.convoy_answers.proofs.AloneLemmas.{BeginsAtGate, is_next, no_fault_yet, page_not_given, version_is}
 use Rattle.convoy_answers.proofs.BeginLemmas.{added_agrees, none_agrees}
+use Rattle.convoy_answers.proofs.NamesLemmas.{were_wanted}
 use Rattle.convoy_answers.proofs.TurnLemmas.{honest_still, nothing_yet, nothing_yet_is, one_at, one_turn_more, one_turn_more_is, turn_agrees}
 
 -- exactly what was given was asked for, or one more where the link failed
@@ -85,16 +88,20 @@ exact_then side query was is given asked more more_asked Exchanged valid fits sa
     })
 
 -- a page that is kept was given, and is not wanted any more
-never_cached : (side : Side) (was is : Member) (start : List Page) (kept after_kept : Kept) (given : List Want) → IsValidSide side → FitsSide side was.client given → start ≡ [] →
-    KeepsGiven start kept.pages given → IsCached was is kept after_kept → ⊥
-never_cached side was is start kept after_kept given valid fits none keeps c =
+never_cached : (side : Side) (was is : Member) (capacity : ℕ) (start : List Page) (kept after_kept : Kept) (given : List Want) → IsValidSide side → FitsSide side was.client given → start ≡ [] →
+    names_of kept.pages ≡ names_after capacity (names_of start) given → IsCached was is kept after_kept → ⊥
+never_cached side was is capacity start kept after_kept given valid fits none names c =
     let holds = c.holds in
-    let P : Page → Type 0 = λ page. Contains start page ⊎ Contains given (wants.Page page.name) in
-    let name : holds.page.name ≡ holds.name = kept_pages.named kept.pages holds.name holds.page holds.holds in
-    by_keeping holds.page name (kept_pages.found P (has_name holds.name) kept.pages holds.page keeps holds.holds) where
-      by_keeping : (page : Page) → page.name ≡ c.holds.name → Contains start page ⊎ Contains given (wants.Page page.name) → ⊥
-      by_keeping page name (inl before) = Contains-nil page (subst (λ (l : List Page). Contains l page) none before)
-      by_keeping page name (inr given_it) = page_not_given side was.client given c.holds.name valid fits c.holds.wants (subst (λ (n : PageName). Contains given (wants.Page n)) name given_it)
+    let stands : Contains kept.pages holds.page = kept_pages.found (Contains kept.pages) (has_name holds.name) kept.pages holds.page (All-contains_itself kept.pages) holds.holds in
+    let among : Contains (names_of kept.pages) holds.page.name = Contains-map (λ (p : Page). p.name) kept.pages holds.page stands in
+    let after : Contains (names_after capacity [] given) holds.page.name =
+    subst (λ (l : List PageName). Contains l holds.page.name) (names ∙ ap (λ (pages : List Page). names_after capacity (names_of pages) given) none) among in
+    by_wanting (were_wanted capacity [] given holds.page.name after) where
+      by_wanting : Contains [] c.holds.page.name ⊎ Contains given (wants.Page c.holds.page.name) → ⊥
+      by_wanting (inl nothing) = Contains-nil c.holds.page.name nothing
+      by_wanting (inr given_it) =
+          let name : c.holds.page.name ≡ c.holds.name = kept_pages.named kept.pages c.holds.name c.holds.page c.holds.holds in
+          page_not_given side was.client given c.holds.name valid fits c.holds.wants (subst (λ (n : PageName). Contains given (wants.Page n)) name given_it)
 
 -- what was given begins with the gate's reply
 front_then : (first second : List Want) → BeginsAtGate first → (first ≡ [] → BeginsAtGate second) → BeginsAtGate (first ++ second)
@@ -154,7 +161,7 @@ module _ {X : Type 0} (seen : X → LinkSeen) (side : Side) (query : Query) (sta
       let t = step.turned in
       let cached : IsCached t.was t.is mid.kept new.kept = subst (Turned mid.base t.was t.is mid.kept new.kept (seen link) (seen after)) is t.turned in
       let same : t.was ≡ first.agrees.is = one_at mid.members 0 t.was first.agrees.is t.had first.agrees.has in
-      never_cached side first.agrees.is t.is start.kept.pages mid.kept new.kept first.agrees.given honest.stands.valid stands.fits fresh.no_pages first.agrees.kept
+      never_cached side first.agrees.is t.is start.kept.capacity start.kept.pages mid.kept new.kept first.agrees.given honest.stands.valid stands.fits fresh.no_pages first.agrees.by_names.names
       (subst (λ (m : Member). IsCached m t.is mid.kept new.kept) same cached)
 
   turned : TurnAgrees first.agrees.left mid new (set ([] ∷ []) (1 - 1) (first.agrees.own ++ first.agrees.given)) 1 (seen link) (seen after) turn

@@ -11,6 +11,7 @@ use Rattle.lc_world.specs.declared.entry.Entry.{Entry}
 use Rattle.page_client.specs.Client.{shown}
 use Rattle.page_client.specs.declared.want.Want.{Want}
 use Rattle.convoy.specs.declared.member.Member.{Member}
+use Rattle.convoy_answers.specs.Names.{Round}
 use Rattle.convoy_answers.specs.Requests.{TellsAsked, TellsRequests, request_of, requests_of}
 
 abbrev asked_at : List ℕ → Entry → Type 0
@@ -64,16 +65,16 @@ no_requests told base [] = record { entries = []; are = refl; authorities = All-
 no_requests told base (member ∷ members) = record { entries = []; are = refl; authorities = All-nil (asked_at base.authority); is = nothing_told told }
 
 -- the requests of one client more
-pub requests_more : (base : BaseParts) (members : List Member) (asked : List (List Want)) (member : Member) (more : List Want) → slice_get members (length asked) ≡ Some member →
-    requests_of base members (asked ++ more ∷ []) ≡ requests_of base members asked ++ map (request_of base (shown member.client).query) more
-requests_more base [] asked member more has = absurd (cc)
+pub requests_more : (base : BaseParts) (members : List Member) (rounds : List Round) (member : Member) (more : Round) → slice_get members (length rounds) ≡ Some member →
+    requests_of base members (rounds ++ more ∷ []) ≡ requests_of base members rounds ++ map (request_of base (shown member.client).query) more.asked
+requests_more base [] rounds member more has = absurd (cc)
 requests_more base (first ∷ []) [] member more has =
     let same : first ≡ member = cc in
-    append-nil (map (request_of base (shown first.client).query) more) ∙ ap (λ (m : Member). map (request_of base (shown m.client).query) more) same
+    append-nil (map (request_of base (shown first.client).query) more.asked) ∙ ap (λ (m : Member). map (request_of base (shown m.client).query) more.asked) same
 requests_more base (first ∷ second ∷ members) [] member more has =
     let same : first ≡ member = cc in
-    append-nil (map (request_of base (shown first.client).query) more) ∙ ap (λ (m : Member). map (request_of base (shown m.client).query) more) same
-requests_more base (first ∷ members) (wanted ∷ asked) member more has =
-    let own = map (request_of base (shown first.client).query) wanted in
-    ap (λ (l : List (List ℕ)). map (request_of base (shown first.client).query) wanted ++ l) (requests_more base members asked member more has)
-    ∙ sym (append_assoc own (requests_of base members asked) (map (request_of base (shown member.client).query) more))
+    append-nil (map (request_of base (shown first.client).query) more.asked) ∙ ap (λ (m : Member). map (request_of base (shown m.client).query) more.asked) same
+requests_more base (first ∷ members) (round ∷ rounds) member more has =
+    let own = map (request_of base (shown first.client).query) round.asked in
+    ap (λ (l : List (List ℕ)). map (request_of base (shown first.client).query) round.asked ++ l) (requests_more base members rounds member more has)
+    ∙ sym (append_assoc own (requests_of base members rounds) (map (request_of base (shown member.client).query) more.asked))

@@ -1,10 +1,11 @@
 -- Client after client comes to its outcome, and the convoy goes on to agree with the side that is left.
-use Rattle.std.proofs.Common.{◌≡◌, ℕ, zero, suc, ◌+◌, ◌-◌, ◌<◌, ◌≤◌, inl, inr, List, [], ◌∷◌, ◌++◌, length, map, Some, refl, sym, subst, ◌∙◌, arith}
+use Rattle.std.proofs.Common.{◌⊎◌, ap₂, ◌≡◌, ℕ, zero, suc, ◌+◌, ◌-◌, ◌<◌, ◌≤◌, inl, inr, List, [], ◌∷◌, ◌++◌, length, map, Some, refl, sym, subst, ◌∙◌, arith}
 use Rattle.std.specs.Prelude.{set}
 use Rattle.std.specs.List.{slice_get}
 use Rattle.std.proofs.lemmas.List.{length-append}
 use Rattle.std.proofs.lemmas.Option.{slice_get_within}
 use Rattle.csa_scan.proofs.ListPlacesLemmas.{same_place, slice_get-append, slice_get-last, slice_get-set_other, slice_get-set_same}
+use Rattle.lc_model.specs.declared.page.PageName.{PageName}
 use Rattle.connection_uri.specs.Base.{BaseParts}
 use Rattle.lc_world.specs.Link.{IsHonestWith, LinkSeen}
 use Rattle.page_client.specs.Client.{shown}
@@ -12,15 +13,18 @@ use Rattle.page_client.specs.Shown.{Shown}
 use Rattle.page_client.specs.declared.want.Want.{Want}
 use Rattle.publisher_side.specs.Side.{IsLater, Side}
 use Rattle.publisher_side.proofs.LaterLemmas.{later_itself}
-use Rattle.client_answers.proofs.FitsLemmas.{fits_stays}
+use Rattle.client_answers.proofs.FitsLemmas.{fits_stays, has_own}
 use Rattle.convoy.specs.Finish.{Ends, HasOutcome, Rounds}
 use Rattle.convoy.specs.State.{ConvoyState}
 use Rattle.convoy.specs.declared.member.Member.{Member}
 use Rattle.convoy_answers.specs.Agreement.{FitsConvoy}
-use Rattle.convoy_answers.specs.Leaves.{EndAgrees, HasCome, HasMoved, LeavesHonest, RoundsAgree, StillAgrees}
+use Rattle.convoy_answers.specs.Leaves.{EndAgrees, HasCome, HasMoved, LeavesHonest, NoneFailed, OneFailed, RoundsAgree, StillAgrees}
+use Rattle.convoy_answers.specs.Names.{Round, asked_of, names_after, names_of}
 use Rattle.convoy_answers.specs.Requests.{TellsAsked, TellsRequests, request_of, requests_of}
+use Rattle.convoy_answers.proofs.AskedLemmas.{failed_later}
 use Rattle.convoy_answers.proofs.HonestLemmas.{leaves_alone, leaves_then, no_less}
 use Rattle.convoy_answers.proofs.NamedLemmas.{version_wider}
+use Rattle.convoy_answers.proofs.NamesLemmas.{ask_by_names-more, names_behind-more}
 use Rattle.convoy_answers.proofs.RequestLemmas.{no_requests, requests_more, requests_then}
 use Rattle.convoy_answers.proofs.TurnLemmas.{honest_still, one_at, rose_wider, turns_agree}
 
@@ -61,23 +65,24 @@ not_last place n not same = not (same ∙ minus n)
 none_below : (place : ℕ) → place < 0 → ⊥
 none_below place lt = omega arith
 
-one_longer : (asked : List (List Want)) (more : List Want) (n : ℕ) → length asked ≡ n → length (asked ++ more ∷ []) ≡ suc n
-one_longer asked more n is = omega (arith, length-append asked (more ∷ []))
+one_longer : (rounds : List Round) (more : Round) (n : ℕ) → length rounds ≡ n → length (rounds ++ more ∷ []) ≡ suc n
+one_longer rounds more n is = omega (arith, length-append rounds (more ∷ []))
 
 -- one client more
 module _ (side : Side) (old mid new : ConvoyState) (so_far : List (List Want)) (n : ℕ) (a b c : LinkSeen) (first : RoundsAgree side old mid so_far n a b)
     (second : StillAgrees first.left mid new first.now (suc n) b c) (ended : HasOutcome second.is) where
-  now : List (List Want)
+  abbrev now : List (List Want)
   now = set first.now (suc n - 1) (second.own ++ second.given)
 
-  asked : List (List Want)
-  asked = first.asked ++ second.asked ∷ []
+  -- its round
+  abbrev round : Round
+  round = record { given = second.given; failed = second.by_names.failed; asked = second.asked }
 
   leaves : LeavesHonest old.base first.left second.left b c
   leaves = subst (λ (base : BaseParts). LeavesHonest base first.left second.left b c) first.base second.honest
 
   -- the client whose round it is
-  comes : (was : Member) (place : ℕ) → place ≡ n → slice_get old.members place ≡ Some was → HasCome side second.left was new so_far (set first.now (suc n - 1) (second.own ++ second.given)) (first.asked ++ second.asked ∷ []) place a c
+  comes : (was : Member) (place : ℕ) → place ≡ n → slice_get old.members place ≡ Some was → HasCome side second.left was new so_far now (first.rounds ++ round ∷ []) place a c
   comes was place at had =
       let index : place ≡ suc n - 1 = at ∙ sym (minus n) in
       let untouched : slice_get mid.members place ≡ slice_get old.members place = first.others place (no_less_at n place at) in
@@ -90,62 +95,77 @@ module _ (side : Side) (old mid new : ConvoyState) (so_far : List (List Want)) (
         ended = ended;
         own = second.own;
         own_is = sym (first.same place (no_less_at n place at)) ∙ subst (λ (i : ℕ). slice_get first.now i ≡ Some second.own) (sym index) second.own_is;
-        given = second.given;
+        round = round;
+        round_is = subst (λ (i : ℕ). slice_get (first.rounds ++ round ∷ []) i ≡ Some (round)) (first.one_each ∙ sym at) (slice_get-last first.rounds round);
         all_is =
-            subst (λ (i : ℕ). slice_get (set first.now (suc n - 1) (second.own ++ second.given)) i ≡ Some (second.own ++ second.given)) (sym index)
+            subst (λ (i : ℕ). slice_get now i ≡ Some (second.own ++ second.given)) (sym index)
             (slice_get-set_same first.now (suc n - 1) (second.own ++ second.given) within);
-        own_asked = second.asked;
-        asked_is = subst (λ (i : ℕ). slice_get (first.asked ++ second.asked ∷ []) i ≡ Some second.asked) (first.one_each ∙ sym at) (slice_get-last first.asked second.asked);
         count = subst (λ (m : Member). second.is.exchanges ≡ m.exchanges + length second.asked) same second.gone.count;
         moved =
             moved_wider side first.left second.left second.left (shown was.client) (shown second.is.client) a b c c second.given first.honest.later (later_itself second.left)
             first.honest.not_fallen (no_less c.faults)
             (subst (λ (m : Member). HasMoved first.left second.left (shown m.client) (shown second.is.client) b c second.given) same second.gone.moved);
+        how =
+            subst (λ (m : Member). NoneFailed (shown m.client) (shown second.is.client) second.by_names.failed ⊎ OneFailed second.left (shown m.client) (shown second.is.client) (second.own ++ second.given) second.by_names.failed)
+            same second.by_names.how;
         client = second.client;
       } where
         no_less_at : (n place : ℕ) → place ≡ n → n ≤ place
         no_less_at n place at = omega arith
 
   -- the others
-  came_before : (was : Member) (place : ℕ) → (place ≡ n → ⊥) → HasCome side first.left was mid so_far first.now first.asked place a b →
-      HasCome side second.left was new so_far (set first.now (suc n - 1) (second.own ++ second.given)) (first.asked ++ second.asked ∷ []) place a c
+  came_before : (was : Member) (place : ℕ) → (place ≡ n → ⊥) → HasCome side first.left was mid so_far first.now first.rounds place a b →
+      HasCome side second.left was new so_far now (first.rounds ++ round ∷ []) place a c
   came_before was place not came = record {
     is = came.is;
     has = second.others place (not_last place n not) ∙ came.has;
     ended = came.ended;
     own = came.own;
     own_is = came.own_is;
-    given = came.given;
+    round = came.round;
+    round_is = slice_get-append first.rounds (round ∷ []) place came.round came.round_is;
     all_is = slice_get-set_other first.now (suc n - 1) (second.own ++ second.given) place (not_last place n not) ∙ came.all_is;
-    own_asked = came.own_asked;
-    asked_is = slice_get-append first.asked (second.asked ∷ []) place came.own_asked came.asked_is;
     count = came.count;
+    how = how_later came.how;
     moved =
-        moved_wider side side first.left second.left (shown was.client) (shown came.is.client) a a b c came.given (later_itself side) second.honest.later (no_less a.faults) second.honest.not_fallen
+        moved_wider side side first.left second.left (shown was.client) (shown came.is.client) a a b c came.round.given (later_itself side) second.honest.later (no_less a.faults) second.honest.not_fallen
         came.moved;
-    client = fits_stays first.left second.left came.is.client (came.own ++ came.given) second.honest.honest.stands.valid second.honest.later came.client;
-  }
+    client = fits_stays first.left second.left came.is.client (came.own ++ came.round.given) second.honest.honest.stands.valid second.honest.later came.client;
+  } where
+    how_later : NoneFailed (shown was.client) (shown came.is.client) came.round.failed ⊎ OneFailed first.left (shown was.client) (shown came.is.client) (came.own ++ came.round.given) came.round.failed →
+        NoneFailed (shown was.client) (shown came.is.client) came.round.failed ⊎ OneFailed second.left (shown was.client) (shown came.is.client) (came.own ++ came.round.given) came.round.failed
+    how_later (inl none) = inl none
+    how_later (inr one) =
+        inr (failed_later first.left second.left (shown was.client) (shown came.is.client) (came.own ++ came.round.given) came.round.failed second.honest.honest.stands.valid second.honest.later
+        (λ version at. has_own first.left came.is.client.version version at came.client.of_side) one)
 
   -- what was asked for the first clients, and then for this one
-  tells : TellsRequests a.told c.told old.base.authority (requests_of old.base old.members (first.asked ++ second.asked ∷ []))
+  tells : TellsRequests a.told c.told old.base.authority (requests_of old.base old.members (first.rounds ++ round ∷ []))
   tells =
       let at_n : slice_get mid.members n ≡ Some second.was = subst (λ (i : ℕ). slice_get mid.members i ≡ Some second.was) (minus n) second.had in
-      let was_there : slice_get old.members (length first.asked) ≡ Some second.was =
+      let was_there : slice_get old.members (length first.rounds) ≡ Some second.was =
       subst (λ (i : ℕ). slice_get old.members i ≡ Some second.was) (sym first.one_each) (sym (first.others n (no_less n)) ∙ at_n) in
       let told : TellsAsked b.told c.told old.base (shown second.was.client).query second.asked =
       subst (λ (base : BaseParts). TellsAsked b.told c.told base (shown second.was.client).query second.asked) first.base second.gone.told in
-      subst (TellsRequests a.told c.told old.base.authority) (sym (requests_more old.base old.members first.asked second.was second.asked was_there))
-      (requests_then a.told b.told c.told old.base.authority (requests_of old.base old.members first.asked) (map (request_of old.base (shown second.was.client).query) second.asked) first.told told)
+      subst (TellsRequests a.told c.told old.base.authority) (sym (requests_more old.base old.members first.rounds second.was round was_there))
+      (requests_then a.told b.told c.told old.base.authority (requests_of old.base old.members first.rounds) (map (request_of old.base (shown second.was.client).query) second.asked) first.told told)
 
   one_round_more : RoundsAgree side old new so_far (suc n) a c
   one_round_more = record {
     left = second.left;
     honest = leaves_then old.base side first.left second.left a b c first.honest leaves;
     base = second.base ∙ first.base;
-    now = set first.now (suc n - 1) (second.own ++ second.given);
+    now = now;
     fits = second.fits;
-    asked = first.asked ++ second.asked ∷ [];
-    one_each = one_longer first.asked second.asked n first.one_each;
+    rounds = first.rounds ++ round ∷ [];
+    one_each = one_longer first.rounds round n first.one_each;
+    by_names =
+        ask_by_names-more old.kept.capacity (names_of old.kept.pages) first.rounds round first.by_names
+        (second.by_names.are ∙ ap₂ (λ (capacity : ℕ) (names : List PageName). asked_of capacity names (second.given ++ second.by_names.failed)) first.capacity first.names);
+    capacity = second.by_names.capacity ∙ first.capacity;
+    names =
+        second.by_names.names ∙ ap₂ (λ (capacity : ℕ) (names : List PageName). names_after capacity names second.given) first.capacity first.names
+        ∙ sym (names_behind-more old.kept.capacity (names_of old.kept.pages) first.rounds round);
     told = tells;
     came = λ place was lt had. elim (same_place place n) [
       | inl at ↦ comes was place at had
@@ -166,8 +186,11 @@ rounds_agree {X} seen side old new so_far zero before after honest fits rounds =
       base = refl;
       now = so_far;
       fits = fits;
-      asked = [];
+      rounds = [];
       one_each = refl;
+      by_names = tt;
+      capacity = refl;
+      names = refl;
       told = no_requests (seen before).told old.base old.members;
       came = λ place was lt had. absurd (none_below place lt);
       others = λ place beyond_it. refl;

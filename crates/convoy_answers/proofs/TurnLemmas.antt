@@ -1,16 +1,13 @@
 -- A turn, and turns one after the other, keep a convoy in agreement with the side that is left.
-use Rattle.std.proofs.Common.{◌≡◌, ◌≢◌, ℕ, ◌+◌, ◌-◌, ◌≤◌, ◌⊎◌, inl, inr, List, [], ◌∷◌, ◌++◌, length, Option, Some, None, Contains, refl, ap, sym, subst, ◌∙◌, arith}
+use Rattle.std.proofs.Common.{◌≡◌, ◌≢◌, ℕ, ◌+◌, ◌-◌, ◌≤◌, inl, inr, List, [], ◌∷◌, ◌++◌, length, Option, Some, None, refl, ap, sym, subst, ◌∙◌, arith}
 use Rattle.std.specs.Prelude.{set}
 use Rattle.std.specs.List.{All, slice_get}
 use Rattle.std.proofs.lemmas.List.{append-nil, append_assoc, length-append}
-use Rattle.std.proofs.lemmas.List.Elements.{All-contains, Contains-append_left, Contains-append_right}
 use Rattle.std.proofs.lemmas.Option.{slice_get_within}
-use Rattle.lc_model.proofs.ListLemmas.{All-from_contains}
 use Rattle.csa_scan.proofs.ListPlacesLemmas.{slice_get-set_other, slice_get-set_same}
 use Rattle.lc_model.specs.declared.query.Query.{Query}
 use Rattle.connection_uri.specs.Base.{BaseParts}
 use Rattle.page_cache.specs.Kept.{Kept}
-use Rattle.page_json.specs.declared.page.Page.{Page}
 use Rattle.lc_world.specs.Link.{IsHonestWith, LinkSeen}
 use Rattle.page_client.specs.Client.{shown}
 use Rattle.page_client.specs.Shown.{Shown, want_of}
@@ -24,6 +21,7 @@ use Rattle.page_client.specs.declared.want.Want.TheVariants as wants
 use Rattle.publisher_side.specs.Side.{Side}
 use Rattle.client_answers.specs.Fits.{FitsAt, FitsSide}
 use Rattle.client_answers.specs.Published.{IsOwnPage}
+use Rattle.client_answers.proofs.FitsLemmas.{has_own}
 use Rattle.convoy.specs.Finish.{IsStep, Step, TurnsOf}
 use Rattle.convoy.specs.State.{ConvoyState}
 use Rattle.convoy.specs.Turn.{Turned}
@@ -31,10 +29,12 @@ use Rattle.convoy.specs.declared.member.Member.{Member}
 use Rattle.convoy.specs.declared.turn.Turn.{Turn}
 use Rattle.convoy.specs.declared.turn.Turn.TheVariants.{Cached, Exchanged, Finished}
 use Rattle.convoy_answers.specs.Agreement.{AllFit, FitsConvoy}
-use Rattle.convoy_answers.specs.Leaves.{Gave, HasGone, HasMoved, KeepsGiven, LeavesHonest, RoseWithin, StillAgrees, TurnAgrees}
+use Rattle.convoy_answers.specs.Leaves.{AsksByNames, HasFault, Gave, HasGone, HasMoved, LeavesHonest, RoseWithin, StillAgrees, TurnAgrees}
 use Rattle.convoy_answers.specs.Requests.{TellsAsked}
+use Rattle.convoy_answers.proofs.AloneLemmas.{no_fault_yet}
+use Rattle.convoy_answers.proofs.AskedLemmas.{IsStill, asks_nothing, asks_then}
 use Rattle.convoy_answers.proofs.HonestLemmas.{leaves_alone, leaves_then, no_less, no_less_then}
-use Rattle.convoy_answers.proofs.MemberLemmas.{MemberAgrees, cached_agrees, exchanged_agrees, finished_agrees, none_more, still_kept}
+use Rattle.convoy_answers.proofs.MemberLemmas.{MemberAgrees, cached_agrees, exchanged_agrees, finished_agrees, none_more}
 use Rattle.convoy_answers.proofs.NamedLemmas.{NoGate, version_then}
 use Rattle.convoy_answers.proofs.PlaceLemmas.{StandsAt, all_later, at_place, set_itself, set_place, set_twice}
 use Rattle.convoy_answers.proofs.RequestLemmas.{tells_nothing, tells_then}
@@ -77,7 +77,7 @@ turn_agrees seen side old new so_far k before after turn honest fits step =
         given = m.given;
         asked = m.asked;
         gone = m.gone;
-        kept = m.cache;
+        by_names = m.by_names;
         client = m.client;
         fits = record {
           clients =
@@ -87,6 +87,7 @@ turn_agrees seen side old new so_far k before after turn honest fits step =
         };
       };
       gave = m.gave;
+      version = m.version;
     }
 
 -- who waits for the gate was given nothing
@@ -156,20 +157,6 @@ gone_then base side mid left was between is a b c first second first_asked secon
       (subst (λ (q : Query). TellsAsked b.told c.told base q second_asked) went.moved.query goes.told);
 }
 
--- pages that are kept, after two steps
-kept_then : (a b c : List Page) (first second : List Want) → KeepsGiven a b first → KeepsGiven b c second → KeepsGiven a c (first ++ second)
-kept_then a b c first second one two =
-    All-from_contains (λ (page : Page). Contains a page ⊎ Contains (first ++ second) (wants.Page page.name)) c (λ page stands.
-    by_second page (All-contains (λ (page : Page). Contains b page ⊎ Contains second (wants.Page page.name)) c page two stands)
-    ) where
-      by_first : (page : Page) → Contains a page ⊎ Contains first (wants.Page page.name) → Contains a page ⊎ Contains (first ++ second) (wants.Page page.name)
-      by_first page (inl before) = inl before
-      by_first page (inr given) = inr (Contains-append_left first second (wants.Page page.name) given)
-
-      by_second : (page : Page) → Contains b page ⊎ Contains second (wants.Page page.name) → Contains a page ⊎ Contains (first ++ second) (wants.Page page.name)
-      by_second page (inl before) = by_first page (All-contains (λ (page : Page). Contains a page ⊎ Contains first (wants.Page page.name)) b page one before)
-      by_second page (inr given) = inr (Contains-append_right first second (wants.Page page.name) given)
-
 -- no turn yet
 pub nothing_yet : (side : Side) (convoy : ConvoyState) (so_far : List (List Want)) (k : ℕ) (link : LinkSeen) (member : Member) → IsHonestWith link convoy.base side → FitsConvoy side convoy so_far →
     slice_get convoy.members (k - 1) ≡ Some member → StillAgrees side convoy convoy so_far k link link
@@ -199,7 +186,7 @@ nothing_yet side convoy so_far k link member honest fits has =
         count = none_more member.exchanges;
         told = tells_nothing link.told convoy.base (shown member.client).query;
       };
-      kept = still_kept convoy.kept.pages [];
+      by_names = asks_nothing side (shown member.client) convoy.kept at.own;
       client = client;
       fits = record {
         clients =
@@ -216,6 +203,18 @@ pub nothing_yet_is : (side : Side) (convoy : ConvoyState) (so_far : List (List W
     (has : slice_get convoy.members (k - 1) ≡ Some member) → let s = nothing_yet side convoy so_far k link member honest fits has in (s.is ≡ member) × (s.given ≡ []) × (s.asked ≡ [])
 unfolding nothing_yet
 nothing_yet_is side convoy so_far k link member honest fits has = (refl, refl, refl)
+
+-- nothing happens any more to a client that ended by a fault of the link
+still_after_fault : (side : Side) (was is : Member) (own given asked : List Want) (turn : Turn) → FitsSide side was.client own → Gave turn was is given asked → HasFault (shown was.client) →
+    IsStill (shown was.client) (shown is.client) given asked
+still_after_fault side was is own given asked Finished fits idle fault = record {
+  same = ap (λ (m : Member). shown m.client) idle.same;
+  none_given = idle.none_given;
+  none_asked = idle.none_asked;
+}
+still_after_fault side was is own given asked Cached fits kept fault = absurd (no_fault_yet side was.client own fits kept.waited fault)
+still_after_fault side was is own given asked Exchanged fits (inl replied) fault = absurd (no_fault_yet side was.client own fits replied.waited fault)
+still_after_fault side was is own given asked Exchanged fits (inr failed) fault = absurd (no_fault_yet side was.client own fits failed.waited fault)
 
 -- a client at a place is one
 pub one_at : {X : Type 0} (xs : List X) (place : ℕ) (x y : X) → slice_get xs place ≡ Some x → slice_get xs place ≡ Some y → x ≡ y
@@ -236,6 +235,9 @@ one_turn_more side old mid new so_far k a b c turn first turned =
     subst (λ (m : Member). HasGone old.base first.left second.left m second.is b c second.given second.asked) same
     (subst (λ (base : BaseParts). HasGone base first.left second.left second.was second.is b c second.given second.asked) first.base second.gone) in
     let gave : Gave turn first.is second.is second.given second.asked = subst (λ (m : Member). Gave turn m second.is second.given second.asked) same turned.gave in
+    let by_names : AsksByNames second.left (shown first.is.client) (shown second.is.client) mid.kept new.kept (first.own ++ first.given) second.given second.asked =
+    subst (λ (m : Member). AsksByNames second.left (shown m.client) (shown second.is.client) mid.kept new.kept (first.own ++ first.given) second.given second.asked) same
+    (subst (λ (l : List Want). AsksByNames second.left (shown second.was.client) (shown second.is.client) mid.kept new.kept l second.given second.asked) own second.by_names) in
     let whole : second.own ++ second.given ≡ first.own ++ (first.given ++ second.given) = ap (λ (l : List Want). l ++ second.given) own ∙ append_assoc first.own first.given second.given in
     record {
       left = second.left;
@@ -252,7 +254,10 @@ one_turn_more side old mid new so_far k a b c turn first turned =
       asked = first.asked ++ second.asked;
       gone = gone_then old.base side first.left second.left first.was first.is second.is a b c first.given second.given first.asked second.asked first.honest leaves first.gone goes
           (gave_no_gate first.left first.is second.is first.own first.given second.given second.asked turn first.client gave);
-      kept = kept_then old.kept.pages mid.kept.pages new.kept.pages first.given second.given first.kept second.kept;
+      by_names =
+          asks_then first.left second.left (shown first.was.client) (shown first.is.client) (shown second.is.client) old.kept mid.kept new.kept first.own first.given second.given first.asked second.asked
+          second.honest.honest.stands.valid second.honest.later (λ version at. has_own first.left first.is.client.version version at first.client.of_side) first.gone.moved.outcome
+          (still_after_fault first.left first.is second.is (first.own ++ first.given) second.given second.asked turn first.client gave) first.by_names by_names;
       client = subst (FitsSide second.left second.is.client) whole second.client;
       fits = subst (FitsConvoy second.left new) (set_twice so_far (k - 1) (first.own ++ first.given) (second.own ++ second.given) ∙ ap (set so_far (k - 1)) whole) second.fits;
     }

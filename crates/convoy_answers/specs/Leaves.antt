@@ -1,10 +1,9 @@
 -- What turns over an honest link leave: of the link, of a client, and of a convoy that agreed with the link's side.
 use Rattle.std.specs.Prelude.{◌≡◌, ◌≢◌, ◌⊎◌, ℕ, ◌+◌, ◌-◌, ◌<◌, ◌≤◌, List, [], ◌∷◌, ◌++◌, length, Option, Some, None, slice_get, slice_set}
-use Rattle.std.specs.List.{All, Contains}
 use Rattle.lc_io.specs.Counts.{Rose}
 use Rattle.connection_uri.specs.Base.{BaseParts}
 use Rattle.lc_world.specs.Link.{IsHonestWith, LinkSeen}
-use Rattle.page_json.specs.declared.page.Page.{Page}
+use Rattle.page_cache.specs.Kept.{Kept}
 use Rattle.page_client.specs.Client.{shown}
 use Rattle.page_client.specs.Shown.{Shown, want_of}
 use Rattle.page_client.specs.declared.outcome.Outcome.{Outcome}
@@ -14,12 +13,14 @@ use Rattle.page_client.specs.declared.want.Want.TheVariants as wants
 use Rattle.publisher_side.specs.Side.{IsLater, Side}
 use Rattle.side_replies.specs.Told.{version_at}
 use Rattle.client_answers.specs.Fits.{FitsSide}
+use Rattle.client_answers.specs.Wants.{AreWants}
 use Rattle.convoy.specs.Finish.{HasOutcome}
 use Rattle.convoy.specs.State.{ConvoyState}
 use Rattle.convoy.specs.declared.member.Member.{Member}
 use Rattle.convoy.specs.declared.turn.Turn.{Turn}
 use Rattle.convoy.specs.declared.turn.Turn.TheVariants.{Cached, Exchanged, Finished}
 use Rattle.convoy_answers.specs.Agreement.{FitsConvoy}
+use Rattle.convoy_answers.specs.Names.{AskByNames, Round, asked_of, names_after, names_behind, names_of}
 use Rattle.convoy_answers.specs.Requests.{TellsAsked, TellsRequests, requests_of}
 
 -- A link that was honest with the side is so with a later one, and with the same one where it was quiet, which it is still then. A
@@ -39,13 +40,21 @@ pub record IsNamedBetween (side left : Side) (known version : Option ℕ) : Type
   pub before : IsLater at left
   pub is : version ≡ Some (version_at at known)
 
--- the version after this was given: where that begins with the gate's reply, the one that was meant then, and else as before
+-- the version after this was given: where that begins with the gate's reply, one of which this is so, and else as before
+abbrev pub VersionBy : (Option ℕ → Type 0) → Option ℕ → List Want → Option ℕ → Type 0
+VersionBy IsSo before [] version = version ≡ before
+VersionBy IsSo before (wants.Gate ∷ more) version = IsSo version
+VersionBy IsSo before (wants.Stops ∷ more) version = version ≡ before
+VersionBy IsSo before (wants.Page name ∷ more) version = version ≡ before
+VersionBy IsSo before (wants.Finished ∷ more) version = version ≡ before
+
+-- after a turn: the one that is meant at the side that is left
+abbrev pub VersionThen : Side → Shown → List Want → Option ℕ → Type 0
+VersionThen left old given version = VersionBy (λ (v : Option ℕ). v ≡ Some (version_at left old.query.known)) old.version given version
+
+-- after turns: the one that was meant when the gate replied
 abbrev pub VersionAfter : Side → Side → Shown → List Want → Option ℕ → Type 0
-VersionAfter side left old [] version = version ≡ old.version
-VersionAfter side left old (wants.Gate ∷ more) version = IsNamedBetween side left old.query.known version
-VersionAfter side left old (wants.Stops ∷ more) version = version ≡ old.version
-VersionAfter side left old (wants.Page name ∷ more) version = version ≡ old.version
-VersionAfter side left old (wants.Finished ∷ more) version = version ≡ old.version
+VersionAfter side left old given version = VersionBy (IsNamedBetween side left old.query.known) old.version given version
 
 -- it ended by a fault of the link, with these counts
 pub record HasFault (s : Shown) : Type 0 where
@@ -106,9 +115,29 @@ Gave Finished old new given asked = IsIdle old new given asked
 Gave Cached old new given asked = WasKept old new given asked
 Gave Exchanged old new given asked = WasReplied old new given asked ⊎ HadNoReply old new given asked
 
--- each page that is kept was kept before, or was given meanwhile
-abbrev pub KeepsGiven : List Page → List Page → List Want → Type 0
-KeepsGiven before after given = All (λ (page : Page). Contains before page ⊎ Contains given (wants.Page page.name)) after
+-- no exchange of the client failed
+pub record NoneFailed (was is : Shown) (failed : List Want) : Type 0 where
+  pub none : failed ≡ []
+  pub before : HasFault is → HasFault was
+
+-- its last exchange failed: that was for what it wanted behind all that it was given
+pub record OneFailed (side : Side) (was is : Shown) (all_given failed : List Want) : Type 0 where
+  pub waited : was.outcome ≡ None
+  pub by_fault : HasFault is
+  pub want : Want
+  pub one : failed ≡ want ∷ []
+  pub gate : all_given ≡ [] → want ≡ wants.Gate
+  pub next : (version : ℕ) (all : List Want) → is.version ≡ Some version → AreWants side version is.query all → (more : List Want) × (all ≡ all_given ++ want ∷ more)
+
+-- The names of the kept pages tell what was asked for: of what was given, and of what failed behind it, all but the pages that were kept
+-- then. What failed is not kept.
+pub record AsksByNames (side : Side) (was is : Shown) (before after : Kept) (own given asked : List Want) : Type 0 where
+  pub capacity : after.capacity ≡ before.capacity
+  pub names : names_of after.pages ≡ names_after before.capacity (names_of before.pages) given
+  pub failed : List Want
+  pub are : asked ≡ asked_of before.capacity (names_of before.pages) (given ++ failed)
+  pub not_kept : asked_of before.capacity (names_of after.pages) failed ≡ failed
+  pub how : NoneFailed was is failed ⊎ OneFailed side was is (own ++ given) failed
 
 -- What turns of client k alone leave of a convoy that agreed with the link's side, its clients being given this so far: it agrees with the
 -- side that is left, client k being given these wants besides, and every other client stays as it was.
@@ -126,47 +155,52 @@ pub record StillAgrees (side : Side) (old new : ConvoyState) (so_far : List (Lis
   pub given : List Want
   pub asked : List Want
   pub gone : HasGone old.base side left was is before after given asked
-  pub kept : KeepsGiven old.kept.pages new.kept.pages given
+  pub by_names : AsksByNames left (shown was.client) (shown is.client) old.kept new.kept own given asked
   pub client : FitsSide left is.client (own ++ given)
   pub fits : FitsConvoy left new (slice_set so_far (k - 1) (own ++ given))
 
--- the same of one turn, with what it gave
+-- the same of one turn, with what it gave, and the version at the side that it left
 pub record TurnAgrees (side : Side) (old new : ConvoyState) (so_far : List (List Want)) (k : ℕ) (before after : LinkSeen) (turn : Turn) : Type 0 where
   pub agrees : StillAgrees side old new so_far k before after
   pub gave : Gave turn agrees.was agrees.is agrees.given agrees.asked
+  pub version : VersionThen agrees.left (shown agrees.was.client) agrees.given (shown agrees.is.client).version
 
 -- the same where client k was turned until it had its outcome
 pub record EndAgrees (side : Side) (old new : ConvoyState) (so_far : List (List Want)) (k : ℕ) (before after : LinkSeen) : Type 0 where
   pub agrees : StillAgrees side old new so_far k before after
   pub ended : HasOutcome agrees.is
 
--- The client at a place came to its outcome. What it was given all in all stands at its place now, and at that place what was asked for it, each
--- exchange being counted.
-pub record HasCome (side left : Side) (was : Member) (new : ConvoyState) (so_far now asked : List (List Want)) (place : ℕ) (before after : LinkSeen) : Type 0 where
+-- The client at a place came to its outcome in its round. What it was given all in all stands at its place now, and each exchange is
+-- counted.
+pub record HasCome (side left : Side) (was : Member) (new : ConvoyState) (so_far now : List (List Want)) (rounds : List Round) (place : ℕ) (before after : LinkSeen) : Type 0 where
   pub is : Member
   pub has : slice_get new.members place ≡ Some is
   pub ended : HasOutcome is
   pub own : List Want
   pub own_is : slice_get so_far place ≡ Some own
-  pub given : List Want
-  pub all_is : slice_get now place ≡ Some (own ++ given)
-  pub own_asked : List Want
-  pub asked_is : slice_get asked place ≡ Some own_asked
-  pub count : is.exchanges ≡ was.exchanges + length own_asked
-  pub moved : HasMoved side left (shown was.client) (shown is.client) before after given
-  pub client : FitsSide left is.client (own ++ given)
+  pub round : Round
+  pub round_is : slice_get rounds place ≡ Some round
+  pub all_is : slice_get now place ≡ Some (own ++ round.given)
+  pub count : is.exchanges ≡ was.exchanges + length round.asked
+  pub how : NoneFailed (shown was.client) (shown is.client) round.failed ⊎ OneFailed left (shown was.client) (shown is.client) (own ++ round.given) round.failed
+  pub moved : HasMoved side left (shown was.client) (shown is.client) before after round.given
+  pub client : FitsSide left is.client (own ++ round.given)
 
 -- What rounds of the first n clients leave of a convoy that agreed with the link's side: it agrees with the side that is left, each of these
--- clients came to its outcome, and what was asked for the one after the other is told, where the link tells exchanges.
+-- clients came to its outcome, and what was asked for the one after the other, as the names of the kept pages tell, is told where the link
+-- tells exchanges.
 pub record RoundsAgree (side : Side) (old new : ConvoyState) (so_far : List (List Want)) (n : ℕ) (before after : LinkSeen) : Type 0 where
   pub left : Side
   pub honest : LeavesHonest old.base side left before after
   pub base : new.base ≡ old.base
   pub now : List (List Want)
   pub fits : FitsConvoy left new now
-  pub asked : List (List Want)
-  pub one_each : length asked ≡ n
-  pub told : TellsRequests before.told after.told old.base.authority (requests_of old.base old.members asked)
-  pub came : (place : ℕ) (was : Member) → place < n → slice_get old.members place ≡ Some was → HasCome side left was new so_far now asked place before after
+  pub rounds : List Round
+  pub one_each : length rounds ≡ n
+  pub by_names : AskByNames old.kept.capacity (names_of old.kept.pages) rounds
+  pub capacity : new.kept.capacity ≡ old.kept.capacity
+  pub names : names_of new.kept.pages ≡ names_behind old.kept.capacity (names_of old.kept.pages) rounds
+  pub told : TellsRequests before.told after.told old.base.authority (requests_of old.base old.members rounds)
+  pub came : (place : ℕ) (was : Member) → place < n → slice_get old.members place ≡ Some was → HasCome side left was new so_far now rounds place before after
   pub others : (place : ℕ) → n ≤ place → slice_get new.members place ≡ slice_get old.members place
   pub same : (place : ℕ) → n ≤ place → slice_get now place ≡ slice_get so_far place

@@ -9,6 +9,7 @@ use Rattle.page_client.specs.Client.{shown}
 use Rattle.page_client.specs.Request.{known_at, target_of}
 use Rattle.page_client.specs.declared.want.Want.{Want}
 use Rattle.convoy.specs.declared.member.Member.{Member}
+use Rattle.convoy_answers.specs.Names.{Round}
 
 -- the request of a client of the question for what it wants
 abbrev pub request_of : BaseParts → Query → Want → List ℕ
@@ -21,11 +22,11 @@ pub record TellsRequests (before after : Option (List Entry)) (authority : List 
   pub authorities : All (λ (entry : Entry). entry.authority ≡ authority) entries
   pub is : after ≡ option_map (λ (told : List Entry). told ++ entries) before
 
--- the requests for what clients want, first all that the first one wants, then those of the next, and so on
-abbrev pub requests_of : BaseParts → List Member → List (List Want) → List (List ℕ)
-requests_of base [] asked = []
+-- the requests of clients in their rounds, first those of the first one, then those of the next, and so on
+abbrev pub requests_of : BaseParts → List Member → List Round → List (List ℕ)
+requests_of base [] rounds = []
 requests_of base (member ∷ others) [] = []
-requests_of base (member ∷ others) (wanted ∷ more) = map (request_of base (shown member.client).query) wanted ++ requests_of base others more
+requests_of base (member ∷ others) (round ∷ more) = map (request_of base (shown member.client).query) round.asked ++ requests_of base others more
 
 -- what was asked for a client of the question is told
 abbrev pub TellsAsked : Option (List Entry) → Option (List Entry) → BaseParts → Query → List Want → Type 0

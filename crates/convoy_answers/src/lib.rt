@@ -3,5 +3,7 @@
 #![tactic(auto)]
 
 mod laws;
+mod worked;
 
 pub use laws::{agreement_begins, one_client, turns_keep_agreement};
+pub use worked::worked_names;
