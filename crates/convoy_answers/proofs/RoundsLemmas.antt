@@ -7,6 +7,8 @@ use Rattle.std.proofs.lemmas.Option.{slice_get_within}
 use Rattle.csa_scan.proofs.ListPlacesLemmas.{same_place, slice_get-append, slice_get-last, slice_get-set_other, slice_get-set_same}
 use Rattle.lc_model.specs.declared.page.PageName.{PageName}
 use Rattle.connection_uri.specs.Base.{BaseParts}
+use Rattle.lc_io.specs.Counts.{Rose, RoseBy}
+use Rattle.lc_io.proofs.CountLemmas.{RoseBy-none, RoseBy-then}
 use Rattle.lc_world.specs.Link.{IsHonestWith, LinkSeen}
 use Rattle.page_client.specs.Client.{shown}
 use Rattle.page_client.specs.Shown.{Shown}
@@ -19,7 +21,7 @@ use Rattle.convoy.specs.State.{ConvoyState}
 use Rattle.convoy.specs.declared.member.Member.{Member}
 use Rattle.convoy_answers.specs.Agreement.{FitsConvoy}
 use Rattle.convoy_answers.specs.Leaves.{EndAgrees, HasCome, HasMoved, LeavesHonest, NoneFailed, OneFailed, RoundsAgree, StillAgrees}
-use Rattle.convoy_answers.specs.Names.{Round, asked_of, names_after, names_of}
+use Rattle.convoy_answers.specs.Names.{Round, asked_of, failures_in, names_after, names_of}
 use Rattle.convoy_answers.specs.Requests.{TellsAsked, TellsRequests, request_of, requests_of}
 use Rattle.convoy_answers.proofs.AskedLemmas.{failed_later}
 use Rattle.convoy_answers.proofs.HonestLemmas.{leaves_alone, leaves_then, no_less}
@@ -67,6 +69,20 @@ none_below place lt = omega arith
 
 one_longer : (rounds : List Round) (more : Round) (n : ℕ) → length rounds ≡ n → length (rounds ++ more ∷ []) ≡ suc n
 one_longer rounds more n is = omega (arith, length-append rounds (more ∷ []))
+
+failures_more : (rounds : List Round) (more : Round) → failures_in (rounds ++ more ∷ []) ≡ failures_in rounds + length more.failed
+failures_more [] more = omega arith
+failures_more (round ∷ rounds) more = omega (arith, failures_more rounds more)
+
+-- the count rose where the exchange of a client failed
+rose_by : (side left : Side) (was is : Shown) (a b : LinkSeen) (given all_given failed : List Want) → a.faults ≤ b.faults → HasMoved side left was is a b given →
+    NoneFailed was is failed ⊎ OneFailed left was is all_given failed → RoseBy (length failed) a.faults b.faults
+rose_by side left was is a b given all_given failed not_fallen moved (inl none) = subst (λ (l : List Want). RoseBy (length l) a.faults b.faults) (sym none.none) (RoseBy-none a.faults b.faults not_fallen)
+rose_by side left was is a b given all_given failed not_fallen moved (inr one) =
+    let rose = moved.fault one.by_fault.low one.by_fault.high one.waited one.by_fault.is in
+    subst (λ (l : List Want). RoseBy (length l) a.faults b.faults) (sym one.one) (once a.faults b.faults one.by_fault.low one.by_fault.high rose.from rose.to rose.rose) where
+      once : (a b low high : ℕ) → a ≤ low → high ≤ b → Rose low high → RoseBy 1 a b
+      once a b low high from to rose = omega arith
 
 -- one client more
 module _ (side : Side) (old mid new : ConvoyState) (so_far : List (List Want)) (n : ℕ) (a b c : LinkSeen) (first : RoundsAgree side old mid so_far n a b)
@@ -167,6 +183,10 @@ module _ (side : Side) (old mid new : ConvoyState) (so_far : List (List Want)) (
         second.by_names.names ∙ ap₂ (λ (capacity : ℕ) (names : List PageName). names_after capacity names second.given) first.capacity first.names
         ∙ sym (names_behind-more old.kept.capacity (names_of old.kept.pages) first.rounds round);
     told = tells;
+    faults =
+        subst (λ (n : ℕ). RoseBy n a.faults c.faults) (sym (failures_more first.rounds round))
+        (RoseBy-then (failures_in first.rounds) (length second.by_names.failed) a.faults b.faults c.faults first.faults
+        (rose_by first.left second.left (shown second.was.client) (shown second.is.client) b c second.given (second.own ++ second.given) second.by_names.failed second.honest.not_fallen second.gone.moved second.by_names.how));
     came = λ place was lt had. elim (same_place place n) [
       | inl at ↦ comes was place at had
       | inr not ↦ came_before was place not (first.came place was (below place n lt not) had)
@@ -192,6 +212,7 @@ rounds_agree {X} seen side old new so_far zero before after honest fits rounds =
       capacity = refl;
       names = refl;
       told = no_requests (seen before).told old.base old.members;
+      faults = RoseBy-none (seen before).faults (seen before).faults (no_less (seen before).faults);
       came = λ place was lt had. absurd (none_below place lt);
       others = λ place beyond_it. refl;
       same = λ place beyond_it. refl;

@@ -1,6 +1,6 @@
 -- What turns over an honest link leave: of the link, of a client, and of a convoy that agreed with the link's side.
 use Rattle.std.specs.Prelude.{◌≡◌, ◌≢◌, ◌⊎◌, ℕ, ◌+◌, ◌-◌, ◌<◌, ◌≤◌, List, [], ◌∷◌, ◌++◌, length, Option, Some, None, slice_get, slice_set}
-use Rattle.lc_io.specs.Counts.{Rose}
+use Rattle.lc_io.specs.Counts.{Rose, RoseBy}
 use Rattle.connection_uri.specs.Base.{BaseParts}
 use Rattle.lc_world.specs.Link.{IsHonestWith, LinkSeen}
 use Rattle.page_cache.specs.Kept.{Kept}
@@ -20,7 +20,7 @@ use Rattle.convoy.specs.declared.member.Member.{Member}
 use Rattle.convoy.specs.declared.turn.Turn.{Turn}
 use Rattle.convoy.specs.declared.turn.Turn.TheVariants.{Cached, Exchanged, Finished}
 use Rattle.convoy_answers.specs.Agreement.{FitsConvoy}
-use Rattle.convoy_answers.specs.Names.{AskByNames, Round, asked_of, names_after, names_behind, names_of}
+use Rattle.convoy_answers.specs.Names.{AskByNames, Round, asked_of, failures_in, names_after, names_behind, names_of}
 use Rattle.convoy_answers.specs.Requests.{TellsAsked, TellsRequests, requests_of}
 
 -- A link that was honest with the side is so with a later one, and with the same one where it was quiet, which it is still then. A
@@ -187,8 +187,8 @@ pub record HasCome (side left : Side) (was : Member) (new : ConvoyState) (so_far
   pub client : FitsSide left is.client (own ++ round.given)
 
 -- What rounds of the first n clients leave of a convoy that agreed with the link's side: it agrees with the side that is left, each of these
--- clients came to its outcome, and what was asked for the one after the other, as the names of the kept pages tell, is told where the link
--- tells exchanges.
+-- clients came to its outcome; what was asked for the one after the other, as the names of the kept pages tell, is told where the link
+-- tells exchanges; and the count of the link rose as often as an exchange failed.
 pub record RoundsAgree (side : Side) (old new : ConvoyState) (so_far : List (List Want)) (n : ℕ) (before after : LinkSeen) : Type 0 where
   pub left : Side
   pub honest : LeavesHonest old.base side left before after
@@ -201,6 +201,7 @@ pub record RoundsAgree (side : Side) (old new : ConvoyState) (so_far : List (Lis
   pub capacity : new.kept.capacity ≡ old.kept.capacity
   pub names : names_of new.kept.pages ≡ names_behind old.kept.capacity (names_of old.kept.pages) rounds
   pub told : TellsRequests before.told after.told old.base.authority (requests_of old.base old.members rounds)
+  pub faults : RoseBy (failures_in rounds) before.faults after.faults
   pub came : (place : ℕ) (was : Member) → place < n → slice_get old.members place ≡ Some was → HasCome side left was new so_far now rounds place before after
   pub others : (place : ℕ) → n ≤ place → slice_get new.members place ≡ slice_get old.members place
   pub same : (place : ℕ) → n ≤ place → slice_get now place ≡ slice_get so_far place

@@ -1,5 +1,5 @@
 -- Which wants are asked for, and which are taken from the pages that are kept. The names of these pages alone tell it.
-use Rattle.std.specs.Prelude.{◌≡◌, ℕ, Bool, not, List, [], ◌∷◌, ◌++◌, map, filter, take, if◌then◌else◌}
+use Rattle.std.specs.Prelude.{◌≡◌, ℕ, ◌+◌, Bool, not, List, [], ◌∷◌, ◌++◌, length, map, filter, take, if◌then◌else◌}
 use Rattle.std.specs.List.{list_any}
 use Rattle.lc_model.specs.declared.page.PageName.{PageName}
 use Rattle.page_json.specs.declared.page.Page.{Page}
@@ -62,3 +62,8 @@ abbrev pub AskByNames : ℕ → List PageName → List Round → Type 0
 AskByNames capacity names [] = Unit {0}
 AskByNames capacity names (round ∷ more) =
     (round.asked ≡ asked_of capacity names (round.given ++ round.failed)) × AskByNames capacity (names_after capacity names round.given) more
+
+-- how many exchanges failed in these rounds
+abbrev pub failures_in : List Round → ℕ
+failures_in [] = 0
+failures_in (round ∷ more) = length round.failed + failures_in more
