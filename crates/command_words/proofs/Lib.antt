@@ -1,5 +1,9 @@
+mod DefaultLemmas
 mod FindsLemmas
 mod LineLemmas
+mod MadeLemmas
 mod OneCommandLemmas
 mod OptionLemmas
+mod PublishingLemmas
+mod QuestionLemmas
 mod WordsLemmas

@@ -4,7 +4,7 @@ use Rattle.std.proofs.lemmas.Bool.{leb-true}
 use Rattle.clap.specs.Simple.{App}
 use Rattle.lc_time.specs.Digits.{u32_said}
 use Rattle.command_words.specs.Line.{value_at}
-use Rattle.command_words.specs.Options.{AreOptions, number_said, within}
+use Rattle.command_words.specs.Options.{AreOptions, bounded_said, number_said, within}
 
 by_tests : (low high m n : ℕ) (a b : Bool) → nat_le low m ≡ a → nat_le m high ≡ b → (if a && b then Some m else None) ≡ Some n → (low ≤ n) × (n ≤ high)
 by_tests low high m n true true least most e =
@@ -17,12 +17,16 @@ within_range : (low high n : ℕ) (o : Option ℕ) → option_and_then (within l
 within_range low high n None e = absurd (cc e)
 within_range low high n (Some m) e = by_tests low high m n (nat_le low m) (nat_le m high) refl refl e
 
+-- the number that a text says lies between its bounds
+pub bounded_range : (low high n : ℕ) (text : List ℕ) → bounded_said low high text ≡ Some n → (low ≤ n) × (n ≤ high)
+bounded_range low high n text e = within_range low high n (u32_said text) e
+
 -- the number lies between its bounds, if the default does
 pub number_in_range : (default low high n : ℕ) (value : Option (List ℕ)) → low ≤ default → default ≤ high → number_said default low high value ≡ Some n → (low ≤ n) × (n ≤ high)
 number_in_range default low high n None least most e =
     let same : default ≡ n = cc in
     (subst (λ (k : ℕ). low ≤ k) same least, subst (λ (k : ℕ). k ≤ high) same most)
-number_in_range default low high n (Some text) least most e = within_range low high n (u32_said text) e
+number_in_range default low high n (Some text) least most e = bounded_range low high n text e
 
 -- options have from 1 to 62 days, and changes of up to a day
 pub options_in_range : (a : App) (words : List (List ℕ)) (default_days days : ℕ) (zone : List ℕ) (change : ℕ) → 1 ≤ default_days → default_days ≤ 62 → AreOptions a words default_days days zone change → (1 ≤ days) × (days ≤ 62) × (change ≤ 86_400)

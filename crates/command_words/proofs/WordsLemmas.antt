@@ -6,12 +6,9 @@ use Rattle.std.specs.declared.alloc.Global.{Global}
 use Rattle.clap.specs.Faults.{is_simple_and_free}
 use Rattle.clap.specs.Simple.{App}
 use Rattle.lc_model.specs.declared.date.ServiceDate.{ServiceDate}
-use Rattle.command_words.specs.Line.{ask_line, line, texts_of, value_at}
-use Rattle.lc_model.specs.declared.query.Query.{Query}
-use Rattle.lc_time.specs.Iso.{SaysMoment}
+use Rattle.command_words.specs.Line.{ask_line, line, texts_of}
 use Rattle.lc_time.proofs.DateLemmas.{same_date}
-use Rattle.lc_time.proofs.OneTextLemmas.{one_moment}
-use Rattle.command_words.specs.Ask.{AreAskWords, IsQuestion, SaysAsk, SaysLeave}
+use Rattle.command_words.specs.Ask.{AreAskWords, SaysAsk}
 use Rattle.command_words.specs.Check.{AreCheckWords}
 use Rattle.command_words.specs.Options.{AreOptions}
 use Rattle.command_words.specs.Window.{IsDateAt, IsWindow}
@@ -25,7 +22,7 @@ pub check_is_simple : is_simple_and_free (line (codes "check") (codes "feed" ∷
 unfolding line
 check_is_simple = refl
 
-pub ask_is_simple : is_simple_and_free (line (codes "ask") (codes "feed" ∷ codes "from" ∷ codes "to" ∷ codes "moment" ∷ []) (codes "days" ∷ codes "zone" ∷ codes "change" ∷ codes "horizon" ∷ [])) ≡ true
+pub ask_is_simple : is_simple_and_free (line (codes "ask") (codes "feed" ∷ codes "from" ∷ codes "to" ∷ codes "moment" ∷ []) (codes "days" ∷ codes "zone" ∷ codes "change" ∷ codes "horizon" ∷ codes "known" ∷ codes "base" ∷ codes "base-moment" ∷ codes "cuts" ∷ codes "cache" ∷ codes "update" ∷ [])) ≡ true
 unfolding line
 ask_is_simple = refl
 
@@ -35,10 +32,10 @@ same_check_words words feed feed' first days zone zone' change e f are =
     subst (λ (t : List ℕ). AreCheckWords words feed' first days t change) (sym f)
     (subst (λ (t : List ℕ). AreCheckWords words t first days zone change) (sym e) are)
 
-pub same_ask_words : (words : List (List ℕ)) (feed feed' from to : List ℕ) (leave horizon : ℕ) (first : ServiceDate) (days : ℕ) (zone zone' : List ℕ) (change : ℕ) → feed' ≡ feed → zone' ≡ zone → AreAskWords words feed from to leave horizon first days zone change → AreAskWords words feed' from to leave horizon first days zone' change
-same_ask_words words feed feed' from to leave horizon first days zone zone' change e f are =
-    subst (λ (t : List ℕ). AreAskWords words feed' from to leave horizon first days t change) (sym f)
-    (subst (λ (t : List ℕ). AreAskWords words t from to leave horizon first days zone change) (sym e) are)
+pub same_ask_words : (words : List (List ℕ)) (leave : ℕ) (feed feed' : List ℕ) (first : ServiceDate) (days : ℕ) (zone zone' : List ℕ) (change : ℕ) → feed' ≡ feed → zone' ≡ zone → AreAskWords words leave feed first days zone change → AreAskWords words leave feed' first days zone' change
+same_ask_words words leave feed feed' first days zone zone' change e f are =
+    subst (λ (t : List ℕ). AreAskWords words leave feed' first days t change) (sym f)
+    (subst (λ (t : List ℕ). AreAskWords words leave t first days zone change) (sym e) are)
 
 -- two texts that are one value are one
 pub same_text : (a b : List ℕ) → Some a ≡ Some b → a ≡ b
@@ -56,11 +53,6 @@ one_options a words default_days days days' zone zone' change change' p q =
     let e : Some change ≡ Some change' = sym p.change_said ∙ q.change_said in
     (cc d, same_text zone zone' z, cc e)
 
--- a text says one moment to leave at
-pub one_leave : (text text' : List ℕ) (leave leave' : ℕ) → text ≡ text' → SaysLeave text leave → SaysLeave text' leave' → leave ≡ leave'
-one_leave text text' leave leave' same p q =
-    one_moment text' leave leave' (subst (λ (t : List ℕ). SaysMoment t leave) same p.says) q.says
-
 -- one number of days belongs to one date
 pub one_date_at : (a b : ServiceDate) (m n : ℕ) → m ≡ n → IsDateAt a m → IsDateAt b n → a ≡ b
 one_date_at a b m n same p q =
@@ -68,24 +60,11 @@ one_date_at a b m n same p q =
     same_date a b (p'.year ∙ sym q.year) (p'.month ∙ sym q.month) (p'.day ∙ sym q.day)
 
 -- the words of a question have one window
-pub same_window : (words : List (List ℕ)) (moment : List ℕ) (leave : ℕ) (first : ServiceDate) (days : ℕ) (zone : List ℕ) (change : ℕ) (feed' from' to' : List ℕ) (leave' horizon' : ℕ) (first' : ServiceDate) (days' : ℕ) (zone' : List ℕ) (change' : ℕ) → Some moment ≡ value_at ask_line words (codes "moment") → SaysLeave moment leave → IsDateAt first (leave / 86_400 - 1) → AreOptions ask_line words 3 days zone change → AreAskWords words feed' from' to' leave' horizon' first' days' zone' change' → IsWindow first days
-same_window words moment leave first days zone change feed' from' to' leave' horizon' first' days' zone' change' at says is options are =
-    let leaves = one_leave moment are.moment leave leave' (same_text _ _ (at ∙ are.moment_is)) says are.leave_is in
-    let firsts = one_date_at first' first _ _ (ap (λ (n : ℕ). n / 86_400 - 1) (sym leaves)) are.first_is is in
+pub same_window : (words : List (List ℕ)) (leave : ℕ) (first : ServiceDate) (days : ℕ) (zone : List ℕ) (change : ℕ) (feed' : List ℕ) (first' : ServiceDate) (days' : ℕ) (zone' : List ℕ) (change' : ℕ) → IsDateAt first (leave / 86_400 - 1) → AreOptions ask_line words 3 days zone change → AreAskWords words leave feed' first' days' zone' change' → IsWindow first days
+same_window words leave first days zone change feed' first' days' zone' change' is options are =
+    let firsts = one_date_at first' first _ _ refl are.first_is is in
     let same = one_options ask_line words 3 days' days zone' zone change' change are.options options in
     subst (λ (n : ℕ). IsWindow first n) same.0 (subst (λ (date : ServiceDate). IsWindow date days') firsts are.window)
-
--- the same words ask the same question
-pub same_question : (words : List (List ℕ)) (feed from to : List ℕ) (leave horizon : ℕ) (first : ServiceDate) (days : ℕ) (zone : List ℕ) (change : ℕ) (feed' from' to' : List ℕ) (leave' horizon' : ℕ) (first' : ServiceDate) (days' : ℕ) (zone' : List ℕ) (change' : ℕ) (query : Query) → AreAskWords words feed from to leave horizon first days zone change → AreAskWords words feed' from' to' leave' horizon' first' days' zone' change' → IsQuestion from' to' leave' horizon' query → IsQuestion from to leave horizon query
-same_question words feed from to leave horizon first days zone change feed' from' to' leave' horizon' first' days' zone' change' query p q asks =
-    let leaves = one_leave p.moment q.moment leave leave' (same_text _ _ (sym p.moment_is ∙ q.moment_is)) p.leave_is q.leave_is in
-    let horizons = same_number horizon' horizon (sym q.horizon_said ∙ p.horizon_said) in
-    let froms = same_text from' from (sym q.from_is ∙ p.from_is) in
-    let tos = same_text to' to (sym q.to_is ∙ p.to_is) in
-    subst (λ (t : List ℕ). IsQuestion t to leave horizon query) froms
-    (subst (λ (t : List ℕ). IsQuestion from' t leave horizon query) tos
-    (subst (λ (n : ℕ). IsQuestion from' to' n horizon query) (sym leaves)
-    (subst (λ (n : ℕ). IsQuestion from' to' leave' n query) horizons asks)))
 
 -- a list of words is the first and those behind it
 pub parted : (words : List (String Global)) (name : String Global) → 1 ≤ length words → name ≡ get_or words 0 name → texts_of words ≡ string_bytes name ∷ texts_of (take (length words - 1) (drop 1 words))

@@ -1,8 +1,11 @@
 pub mod Ask
 pub mod Check
+pub mod Client
 pub mod Finds
 pub mod Laws
 pub mod Line
 pub mod Options
+pub mod Publishing
+pub mod Question
 pub mod Window
 pub mod Words

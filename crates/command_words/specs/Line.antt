@@ -62,4 +62,5 @@ check_line =
 unfoldable pub ask_line : App
 ask_line =
     line (codes "ask") (codes "feed" ∷ codes "from" ∷ codes "to" ∷ codes "moment" ∷ [])
-    (codes "days" ∷ codes "zone" ∷ codes "change" ∷ codes "horizon" ∷ [])
+    (codes "days" ∷ codes "zone" ∷ codes "change" ∷ codes "horizon" ∷ codes "known" ∷ codes "base" ∷ codes "base-moment"
+    ∷ codes "cuts" ∷ codes "cache" ∷ codes "update" ∷ [])

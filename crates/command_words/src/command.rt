@@ -1,7 +1,9 @@
 ghost use Rattle.std.specs.Prelude.{◌≤◌};
 ghost use Rattle.command_words.specs.Window.{IsWindow};
 
-use lc_model::{Query, ServiceDate, Text};
+use connection_uri::Base;
+use fragmenter::Cutting;
+use lc_model::{Moment, Query, ServiceDate, Text};
 
 /// What a command line asks for.
 #[derive(Debug, Drop)]
@@ -26,7 +28,7 @@ pub struct Check {
     pub ghost within_a_day: { change ≤ 86_400 },
 }
 
-/// `ask`: a question to the timetable of a feed in a window of dates.
+/// `ask`: a question to the timetable of a feed in a window of dates, which is asked through pages.
 #[derive(Debug, Drop)]
 pub struct Ask {
     pub feed: Text,
@@ -37,8 +39,24 @@ pub struct Ask {
     pub zone: Text,
     /// The seconds of a change of which the feed says none.
     pub change: u32,
+    pub publishing: Publishing,
+    /// How many pages are kept at most.
+    pub cache: u32,
+    /// The name of the file with a realtime message, if one is to be admitted.
+    pub update: Option<Text>,
     pub ghost some_days: { 1 ≤ days },
     pub ghost two_months: { days ≤ 62 },
     pub ghost window: { IsWindow first days },
     pub ghost within_a_day: { change ≤ 86_400 },
+    pub ghost some_pages: { 1 ≤ cache },
+    pub ghost most_pages: { cache ≤ 10_000 },
+}
+
+/// How a timetable is published.
+#[derive(Debug, Drop)]
+pub struct Publishing {
+    pub base: Base,
+    /// The moment from which on the timetable is known, before any message.
+    pub base_moment: Moment,
+    pub cutting: Cutting,
 }

@@ -1,17 +1,21 @@
-//! The words of a command line as a command, or that they are none. It stands on `lc_model`, `lc_time` and `clap`.
+//! The words of a command line as a command, or that they are none. It stands on `lc_model`, `lc_time`, `connection_uri`,
+//! `fragmenter` and `clap`.
 #![tactic(auto)]
 
 mod ask;
 mod check;
+mod client;
 mod command;
 mod laws;
 mod line;
 mod options;
+mod publishing;
+mod question;
 #[cfg(test)]
 mod tests;
 mod window;
 mod words;
 
-pub use command::{Ask, Check, Command};
-pub use laws::{lines_of_check, one_command};
+pub use command::{Ask, Check, Command, Publishing};
+pub use laws::{default_publishing, lines_of_check, one_command};
 pub use words::read_words;

@@ -1,7 +1,7 @@
 ghost use Rattle.std.specs.Prelude.{◌≡◌, ℕ, List, MatchOption, option_map};
 ghost use Rattle.clap.specs.Simple.{App};
 ghost use Rattle.command_words.specs.Line.{HasFound};
-ghost use Rattle.command_words.specs.Options.{AreOptions, number_said, zone_said};
+ghost use Rattle.command_words.specs.Options.{AreOptions, bounded_said, is_name, number_said, text_said, zone_said};
 
 use clap::ArgMatches;
 use lc_time::read_u32;
@@ -33,14 +33,31 @@ pub(crate) fn read_options<'a>(
 pub(crate) fn number(value: Option<&str>, default: u32, low: u32, high: u32) -> Option<u32>
     ensures { result ≡ number_said default low high (option_map (λ s. s.now) value.entry) }
 {
-    let Some(text) = value else {
-        return Some(default);
-    };
-    let number = read_u32(text.as_bytes())?;
+    match value {
+        Some(text) => bounded(text.as_bytes(), low, high),
+        None => Some(default),
+    }
+}
+
+/// The number that a text says, if it lies between these. Linear in the text.
+pub(crate) fn bounded(text: &[u8], low: u32, high: u32) -> Option<u32>
+    ensures { result ≡ bounded_said low high text.now }
+{
+    let number = read_u32(text)?;
     if low <= number && number <= high {
         Some(number)
     } else {
         None
+    }
+}
+
+/// The text that an option says, or its default where it is not there.
+pub(crate) fn text_or<'a>(value: Option<&'a str>, default: &'a str) -> &'a str
+    ensures { result.now ≡ text_said default.entry.now (option_map (λ s. s.now) value.entry) }
+{
+    match value {
+        Some(text) => text,
+        None => default,
     }
 }
 
@@ -51,8 +68,15 @@ fn zone_word<'a>(value: Option<&'a str>) -> Option<&'a str>
     let Some(word) = value else {
         return Some("utc");
     };
-    match word.as_bytes() {
-        [] | [b'-', ..] => None,
-        _ => Some(word),
+    if is_name(word) { Some(word) } else { None }
+}
+
+/// Whether the text is neither empty nor begins with a dash.
+pub(crate) fn is_name(text: &str) -> bool
+    ensures { result ≡ is_name text.now }
+{
+    match text.as_bytes() {
+        [] | [b'-', ..] => false,
+        _ => true,
     }
 }

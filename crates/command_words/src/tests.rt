@@ -1,5 +1,7 @@
 //! Cases of the grammar: options before, between and behind the plain words, and what is no command.
-use crate::{Command, read_words};
+use crate::{Ask, Command, read_words};
+use fragmenter::Cutting;
+use lc_model::Moment;
 use lc_time::date_text;
 use std::alloc::Global;
 use std::test::Fail;
@@ -78,6 +80,9 @@ fn words_of_commands(rt: HostRuntime) -> Result<(), Fail> {
         ("check tiny 20240501 --zone=-x", "none"),
         ("check tiny 20240501 --zone -x", "none"),
         ("check tiny 20240501 --cache 5", "none"),
+        ("check tiny 20240501 --base http://x/", "none"),
+        ("check tiny 20240501 --cuts whole", "none"),
+        ("check tiny 20240501 --update x", "none"),
         ("check tiny 20240501 -d 5", "none"),
         ("check tiny 20240501 -", "none"),
         ("check -- - 20240501", "none"),
@@ -144,5 +149,150 @@ fn words_of_commands(rt: HostRuntime) -> Result<(), Fail> {
 #[test]
 fn no_word_is_no_command(rt: HostRuntime) -> Result<(), Fail> {
     assert_eq!(rt; said(rt.alloc(), &[])?.as_str(), "none");
+    Ok(())
+}
+
+// The words of a question with these options.
+fn asking(alloc: Global, options: &str) -> Result<Vec<String>, Fail> {
+    let words = format!(in alloc; "ask tiny A D 2024-05-01T08:00:00Z {options}")?;
+    words_of(alloc, words.as_str())
+}
+
+// How the timetable is published, as one text.
+fn published(alloc: Global, ask: &Ask) -> Result<String, Fail> {
+    let base = ask.publishing.base.text();
+    let moment = ask.publishing.base_moment.seconds();
+    let (way, number) = way_of(ask.publishing.cutting);
+    Ok(format!(in alloc; "{base} {moment} {way} {number}")?)
+}
+
+fn way_of(cutting: Cutting) -> (&'static str, u32) {
+    match cutting {
+        Cutting::Span(way) => ("span", way.seconds),
+        Cutting::Count(way) => ("count", way.count),
+        Cutting::Whole => ("whole", 0),
+    }
+}
+
+fn publishing_said(alloc: Global, words: &[String]) -> Result<String, Fail> {
+    Ok(match read_words(alloc, words)? {
+        Some(Command::Ask(ask)) => published(alloc, &ask)?,
+        Some(Command::Check(_check)) => String::from_str(alloc, "check")?,
+        None => String::from_str(alloc, "none")?,
+    })
+}
+
+#[test]
+fn options_of_publishing(rt: HostRuntime) -> Result<(), Fail> {
+    let alloc = rt.alloc();
+    for &(options, text) in &[
+        ("--days 3", "http://lc.example/ 0 span 1800"),
+        ("--base http://x", "http://x/ 0 span 1800"),
+        (
+            "--base=http://x:8080/lc/ --cuts whole",
+            "http://x:8080/lc/ 0 whole 0",
+        ),
+        ("--base=", "none"),
+        ("--base https://x/", "none"),
+        ("--base http://x/lc", "none"),
+        ("--base http://x/ --base http://x/", "none"),
+        (
+            "--base-moment 2024-05-01T06:00:00Z",
+            "http://lc.example/ 1714543200 span 1800",
+        ),
+        (
+            "--base-moment=2024-05-01T06:00:00.000Z --base=http://x/",
+            "http://x/ 1714543200 span 1800",
+        ),
+        ("--base-moment=", "none"),
+        ("--base-moment 2024-05-01", "none"),
+        ("--base http://x/ --cuts=span:1", "http://x/ 0 span 1"),
+        (
+            "--base http://x/ --cuts span:0086400",
+            "http://x/ 0 span 86400",
+        ),
+        ("--cuts span:0", "none"),
+        ("--cuts span:86401", "none"),
+        ("--cuts span:", "none"),
+        ("--cuts span", "none"),
+        ("--base http://x/ --cuts count:1", "http://x/ 0 count 1"),
+        (
+            "--base http://x/ --cuts count:1000000",
+            "http://x/ 0 count 1000000",
+        ),
+        ("--cuts count:0", "none"),
+        ("--cuts count:1000001", "none"),
+        ("--cuts count:00000000001", "none"),
+        ("--cuts=", "none"),
+        ("--cuts Whole", "none"),
+        ("--cuts whole:1", "none"),
+        ("--cuts whole --cuts whole", "none"),
+        ("--port 80", "none"),
+    ] {
+        let words = asking(alloc, options)?;
+        assert_eq!(rt;
+            publishing_said(alloc, words.as_slice())?.as_str(),
+            text,
+            "{options}"
+        );
+    }
+    Ok(())
+}
+
+// What the options of a client say, and which moment's knowledge is meant, as one text.
+fn client_of(alloc: Global, ask: &Ask) -> Result<String, Fail> {
+    let update = match &ask.update {
+        Some(name) => name.as_str(),
+        None => "-",
+    };
+    let (known, moment) = known_of(ask.query.known);
+    Ok(format!(in alloc; "{} {update} {known} {moment}", ask.cache)?)
+}
+
+fn known_of(known: Option<Moment>) -> (&'static str, u64) {
+    match known {
+        Some(moment) => ("known", moment.seconds()),
+        None => ("newest", 0),
+    }
+}
+
+fn client_said(alloc: Global, words: &[String]) -> Result<String, Fail> {
+    Ok(match read_words(alloc, words)? {
+        Some(Command::Ask(ask)) => client_of(alloc, &ask)?,
+        Some(Command::Check(_check)) => String::from_str(alloc, "check")?,
+        None => String::from_str(alloc, "none")?,
+    })
+}
+
+#[test]
+fn options_of_a_client(rt: HostRuntime) -> Result<(), Fail> {
+    let alloc = rt.alloc();
+    for &(options, text) in &[
+        ("--days 3", "100 - newest 0"),
+        ("--cache 1", "1 - newest 0"),
+        ("--cache=0010000", "10000 - newest 0"),
+        ("--cache 0", "none"),
+        ("--cache 10001", "none"),
+        ("--cache=", "none"),
+        ("--cache 5 --cache=5", "none"),
+        ("--update d60.pb", "100 d60.pb newest 0"),
+        ("--update=a=b", "100 a=b newest 0"),
+        ("--update=", "none"),
+        ("--update=-x", "none"),
+        ("--update -x", "none"),
+        ("--update x --update x", "none"),
+        ("--known 2024-05-01T06:00:00Z", "100 - known 1714543200"),
+        ("--known=1970-01-01T00:00:00Z --cache 2", "2 - known 0"),
+        ("--known=", "none"),
+        ("--known yesterday", "none"),
+        ("--known", "none"),
+    ] {
+        let words = asking(alloc, options)?;
+        assert_eq!(rt;
+            client_said(alloc, words.as_slice())?.as_str(),
+            text,
+            "{options}"
+        );
+    }
     Ok(())
 }

@@ -1,7 +1,11 @@
-use Rattle.std.proofs.Common.{arith}
-use Rattle.command_words.specs.Line.{ask_line, texts_of}
-use Rattle.command_words.proofs.OptionLemmas.{options_in_range}
-use Rattle.command_words.proofs.WordsLemmas.{ask_is_simple, same_ask_words, same_question}
+use Rattle.std.proofs.Common.{arith, ℕ, List, Option, codes, subst, sym}
+use Rattle.lc_model.specs.declared.query.Query.{Query}
+use Rattle.command_words.specs.Ask.{AreAskWords}
+use Rattle.command_words.specs.Client.{AreClientOptions}
+use Rattle.command_words.specs.Line.{ask_line, texts_of, value_at}
+use Rattle.command_words.proofs.OptionLemmas.{number_in_range, options_in_range}
+use Rattle.command_words.proofs.QuestionLemmas.{one_question}
+use Rattle.command_words.proofs.WordsLemmas.{ask_is_simple, same_ask_words}
 use Rattle.command_words.proofs.ask.read_ask.Goals as goal
 
 pub read_line-requires : goal.read_line-requires
@@ -13,51 +17,54 @@ returns-in_default c = λ ask says.
     let none = rw c.in_default.is at c.in_ok-found.ensures in
     none says.is_line
 
-pub returns-in_default-ask_words : goal.returns-in_default-ask_words
-unfolding ask_line
-returns-in_default-ask_words c = λ ask says.
-    let found = rw c.in-Some.is at c.in_ok-found.ensures in
-    c.in_default-ask_words.ensures (texts_of c.args.words.now) found.1 _ _ _ _ _ _ _ _ _ says.words_are
-
-pub read_question-requires-clause-not_before : goal.read_question-requires-clause-not_before
-unfolding ask_line
-read_question-requires-clause-not_before c =
-    let found = rw c.in-Some.is at c.in_ok-found.ensures in
-    (c.in-Some-ask_words.ensures (texts_of c.args.words.now) found.1).leave_is.not_before
-
-pub read_question-requires-clause-not_after : goal.read_question-requires-clause-not_after
-unfolding ask_line
-read_question-requires-clause-not_after c =
-    let found = rw c.in-Some.is at c.in_ok-found.ensures in
-    (c.in-Some-ask_words.ensures (texts_of c.args.words.now) found.1).leave_is.not_after
-
 pub returns-in_default-2 : goal.returns-in_default-2
 unfolding ask_line
 returns-in_default-2 c = λ ask says.
     let found = rw c.in-Some.is at c.in_ok-found.ensures in
-    let are = c.in-Some-ask_words.ensures (texts_of c.args.words.now) found.1 in
-    let none = rw c.in_default-2.is at c.in_ok-query.ensures in
-    none ask.query (same_question _ _ _ _ _ _ _ _ _ _ _ _ _ _ _ _ _ _ _ _ are says.words_are says.question)
+    let none = rw c.in_default-2.is at (c.in_ok-query.ensures (texts_of c.args.words.now) found.1) in
+    none ask.query says.question
+
+pub returns-in_default-ask_words : goal.returns-in_default-ask_words
+unfolding ask_line
+returns-in_default-ask_words c = λ ask says.
+    let found = rw c.in-Some.is at c.in_ok-found.ensures in
+    let asks = rw c.in-Some-2.is at (c.in_ok-query.ensures (texts_of c.args.words.now) found.1) in
+    let same = one_question _ ask.query c.in-Some-2.query says.question asks in
+    c.in_default-ask_words.ensures (texts_of c.args.words.now) found.1 ask.feed ask.first ask.days ask.zone ask.change
+    (subst (λ (q : Query). AreAskWords (texts_of c.args.words.now) q.leave ask.feed ask.first ask.days ask.zone ask.change) same says.words_are)
+
+pub returns-in_default-client_options : goal.returns-in_default-client_options
+unfolding ask_line
+returns-in_default-client_options c = λ ask says.
+    let found = rw c.in-Some.is at c.in_ok-found.ensures in
+    c.in_default-client_options.ensures ask_line (texts_of c.args.words.now) found.1 ask.cache ask.update says.client
+
+pub returns-in_default-3 : goal.returns-in_default-3
+unfolding ask_line
+returns-in_default-3 c = λ ask says.
+    let found = rw c.in-Some.is at c.in_ok-found.ensures in
+    let none = rw c.in_default-3.is at (c.in_ok-publishing.ensures ask_line (texts_of c.args.words.now) found.1) in
+    none ask.publishing says.publishing
 
 pub invariant_of-result : goal.invariant_of-result
 unfolding ask_line
 invariant_of-result c =
     let found = rw c.in-Some.is at c.in_ok-found.ensures in
     let are = c.in-Some-ask_words.ensures (texts_of c.args.words.now) found.1 in
+    let client = c.in-Some-client_options.ensures ask_line (texts_of c.args.words.now) found.1 in
     let bounds = options_in_range _ _ _ _ _ _ (omega arith) (omega arith) are.options in
-    record { some_days = bounds.0; two_months = bounds.1; window = are.window; within_a_day = bounds.2 }
+    let pages = number_in_range 100 1 10_000 _ (value_at ask_line (texts_of c.args.words.now) (codes "cache")) (omega arith) (omega arith) client.cache_said in
+    record { some_days = bounds.0; two_months = bounds.1; window = are.window; within_a_day = bounds.2; some_pages = pages.0; most_pages = pages.1 }
 
 pub returns : goal.returns
 unfolding ask_line
 returns c =
     let found = rw c.in-Some.is at c.in_ok-found.ensures in
-    let are = c.in-Some-ask_words.ensures (texts_of c.args.words.now) found.1 in
+    let words = texts_of c.args.words.now in
     record {
-      from = _;
-      to = _;
-      leave = _;
-      horizon = _;
       is_line = found.0;
-      words_are = same_ask_words _ _ _ _ _ _ _ _ _ _ _ _ c.in_ok-text_of.ensures c.in_ok-text_of-2.ensures are;
-      question = rw c.in-Some-2.is at c.in_ok-query.ensures;
+      question = rw c.in-Some-2.is at (c.in_ok-query.ensures words found.1);
+      words_are = same_ask_words _ _ _ _ _ _ _ _ _ c.in_ok-text_of.ensures c.in_ok-text_of-2.ensures (c.in-Some-ask_words.ensures words found.1);
+      publishing = rw c.in-Some-3.is at (c.in_ok-publishing.ensures ask_line words found.1);
+      client = subst (λ (name : Option (List ℕ)). AreClientOptions ask_line (texts_of c.args.words.now) c.in-Some-client_options.client.cache name) (sym c.in_ok-copy_of.ensures) (c.in-Some-client_options.ensures ask_line words found.1);
     }

@@ -1,8 +1,8 @@
 -- The text says one moment at most, and that one is tested.
 use Rattle.std.proofs.Common.{◌≡◌, arith, subst, sym}
 use Rattle.lc_time.specs.Iso.{SaysMoment}
-use Rattle.command_words.proofs.ask.read_leave.Goals as goal
-use Rattle.command_words.proofs.ask.read_leave.Goals.{then-seconds-lt-FIRST_LEAVE-via-then-seconds-lt-FIRST_LEAVE, then-seconds-lt-FIRST_LEAVE-via-else-seconds-lt-FIRST_LEAVE+then-seconds-gt-LAST_LEAVE}
+use Rattle.command_words.proofs.question.read_leave.Goals as goal
+use Rattle.command_words.proofs.question.read_leave.Goals.{then-seconds-lt-FIRST_LEAVE-via-then-seconds-lt-FIRST_LEAVE, then-seconds-lt-FIRST_LEAVE-via-else-seconds-lt-FIRST_LEAVE+then-seconds-gt-LAST_LEAVE}
 
 pub returns-in_default : goal.returns-in_default
 returns-in_default c = λ leave says.
