@@ -56,7 +56,7 @@ not_of_key stops list news run e =
       (λ is. record { is_new = is.is_new; news = is.news; last = sym same ∙ is.last; added = is.added; trip_named = is.trip_named; calls = is.calls; two_at_least = is.two_at_least }),
     )
 
-by_bool : (G : Type 0) (b : Bool) → (b ≡ true → G) → (b ≡ false → G) → G
+pub by_bool : (G : Type 0) (b : Bool) → (b ≡ true → G) → (b ≡ false → G) → G
 by_bool G true f g = f refl
 by_bool G false f g = g refl
 
@@ -65,13 +65,13 @@ ties Less e = absurd (cc)
 ties Equal e = refl
 ties Greater e = absurd (cc)
 
-abbrev tie : RunKey → RunKey → Bool
+abbrev pub tie : RunKey → RunKey → Bool
 tie a b = is_eq (key_cmp a b)
 
-same_from_tie : (a b : RunKey) → tie a b ≡ true → a ≡ b
+pub same_from_tie : (a b : RunKey) → tie a b ≡ true → a ≡ b
 same_from_tie a b e = same_keys a b (ties (key_cmp a b) e)
 
-tie_from_same : (a b : RunKey) → a ≡ b → tie a b ≡ true
+pub tie_from_same : (a b : RunKey) → a ≡ b → tie a b ≡ true
 tie_from_same a b e = ap is_eq (subst (λ (k : RunKey). key_cmp a k ≡ Equal) e (tied_itself key_cmp_total a))
 
 -- at the key of the news the map has the run that they make

@@ -3,5 +3,7 @@ pub mod FurtherLemmas
 pub mod KeptLemmas
 pub mod NamedLemmas
 pub mod OutcomeLemmas
+pub mod PlacedLemmas
+pub mod SomeRowsLemmas
 pub mod StoreLemmas
 pub mod VersionLemmas

@@ -1,7 +1,11 @@
--- What a store answers is one value, and cuts do not matter to what it stands for.
+-- What a store answers is one value, there is one at each version, and cuts do not matter to what it stands for.
 use Rattle.std.specs.Prelude.{◌≡◌, ℕ, List}
+use Rattle.std.specs.List.{All}
+use Rattle.lc_model.specs.Call.{InSequence}
+use Rattle.lc_model.specs.Run.{InKeyOrder}
 use Rattle.lc_model.specs.declared.connection.Connection.{Connection}
 use Rattle.lc_model.specs.declared.date.ServiceDate.{ServiceDate}
+use Rattle.lc_model.specs.declared.run.Run.{Run}
 use Rattle.lc_versions.specs.History.{Entry, moments_of, news_at}
 use Rattle.lc_versions.specs.declared.update.Update.{Update}
 use Rattle.version_store.specs.Admission.{IsRefused, IsTaken}
@@ -13,6 +17,12 @@ use Rattle.version_store.specs.declared.admission.AdmitFault.{AdmitFault}
 abbrev pub OneListOfRows : Type 0
 OneListOfRows =
     (store : Stored) (version : ℕ) (a b : List Connection) → AreConnectionsAt store version a → AreConnectionsAt store version b → a ≡ b
+
+-- a version has some list of connections, where the runs stand in order, and the calls of each
+abbrev pub SomeListOfRows : Type 0
+SomeListOfRows =
+    (store : Stored) (version : ℕ) → InKeyOrder store.runs → All (λ (run : Run). InSequence run.calls) store.runs
+    → (list : List Connection) × AreConnectionsAt store version list
 
 -- the news, the versions and the bytes of a history are those without its cuts
 pub record CutsDoNotMatter (history : List Entry) : Type 0 where

@@ -16,5 +16,5 @@ mod tests;
 
 pub use admission::{AdmitFault, Admitted, MOST_BYTES, MOST_MESSAGE_BYTES, MOST_MESSAGES};
 pub use kept::message_date;
-pub use laws::{cuts_do_not_matter, one_list_of_rows, one_outcome};
+pub use laws::{cuts_do_not_matter, one_list_of_rows, one_outcome, some_list_of_rows};
 pub use store::Store;
