@@ -1,5 +1,6 @@
 pub mod Held
 pub mod Inside
+pub mod Laws
 pub mod Place
 pub mod PlaceOf
 pub mod Updated

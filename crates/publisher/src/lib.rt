@@ -5,6 +5,7 @@
 mod answering;
 mod asking;
 mod kept;
+mod laws;
 mod options;
 mod pages;
 mod place;
@@ -13,6 +14,7 @@ mod replying;
 mod responding;
 mod saying;
 
+pub use laws::some_timetable;
 pub use options::Options;
 pub use publisher::Publisher;
 pub use version_store::{AdmitFault, Admitted};
