@@ -13,6 +13,8 @@ mod publisher;
 mod replying;
 mod responding;
 mod saying;
+#[cfg(test)]
+mod tests;
 
 pub use laws::some_timetable;
 pub use options::Options;
