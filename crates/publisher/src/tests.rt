@@ -153,20 +153,28 @@ fn first_wrong<'a>(
     Ok("")
 }
 
-/// Pages by half hours, and messages.
-fn replies() -> &'static str {
+/// Messages.
+fn replies_to_updates() -> &'static str {
     "POST /updates HTTP/1.1\r\nHost: x\r\n\r\n => HTTP/1.1 411 Length Required\r\nContent-Length: 0\r\n\r\n~\
     POST /updates HTTP/1.1\r\nHost: x\r\nContent-Length: 40\r\n\r\ncut => HTTP/1.1 400 Bad Request\r\nContent-Length: 0\r\n\r\n~\
     POST /updates HTTP/1.1\r\nHost: x\r\nContent-Length: 46\r\n\r\nlate => HTTP/1.1 204 No Content\r\n\r\n~\
     POST /updates HTTP/1.1\r\nHost: x\r\nContent-Length: 46\r\n\r\nlate => HTTP/1.1 409 Conflict\r\nContent-Length: 0\r\n\r\n~\
-    GET /updates HTTP/1.1\r\nHost: x\r\n\r\n => HTTP/1.1 405 Method Not Allowed\r\nContent-Length: 0\r\nAllow: POST\r\n\r\n~\
-    GET /connections?departureTime=2024-05-01T08:00:00.000Z HTTP/1.1\r\nHost: lc.example\r\nAccept-Datetime: Wed, 01 May 2024 07:00:00 GMT\r\n\r\n => HTTP/1.1 302 Found\r\nContent-Length: 0\r\nLocation: http://lc.example/memento/connections?version=2024-05-01T07:00:00.000Z&departureTime=2024-05-01T08:00:00.000Z\r\nVary: accept-datetime\r\nLink: <http://lc.example/connections?departureTime=2024-05-01T08:00:00.000Z>; rel=\"original timegate\"\r\n\r\n~\
+    GET /updates HTTP/1.1\r\nHost: x\r\n\r\n => HTTP/1.1 405 Method Not Allowed\r\nContent-Length: 0\r\nAllow: POST\r\n\r\n"
+}
+
+/// The time gate, of pages by half hours.
+fn replies_at_the_gate() -> &'static str {
+    "GET /connections?departureTime=2024-05-01T08:00:00.000Z HTTP/1.1\r\nHost: lc.example\r\nAccept-Datetime: Wed, 01 May 2024 07:00:00 GMT\r\n\r\n => HTTP/1.1 302 Found\r\nContent-Length: 0\r\nLocation: http://lc.example/memento/connections?version=2024-05-01T07:00:00.000Z&departureTime=2024-05-01T08:00:00.000Z\r\nVary: accept-datetime\r\nLink: <http://lc.example/connections?departureTime=2024-05-01T08:00:00.000Z>; rel=\"original timegate\"\r\n\r\n~\
     HEAD /connections?departureTime=2024-05-01T09:30:00Z HTTP/1.1\r\nHost: x\r\nConnection: close\r\n\r\n => HTTP/1.1 302 Found\r\nContent-Length: 0\r\nLocation: http://lc.example/memento/connections?version=2024-05-01T07:00:00.000Z&departureTime=2024-05-01T09:00:00.000Z\r\nVary: accept-datetime\r\nLink: <http://lc.example/connections?departureTime=2024-05-01T09:30:00.000Z>; rel=\"original timegate\"\r\nConnection: close\r\n\r\n~\
     GET /connections HTTP/1.1\r\nHost: x\r\naccept-datetime: Wed, 01 May 2024 05:00:00 GMT\r\n\r\n => HTTP/1.1 302 Found\r\nContent-Length: 0\r\nLocation: http://lc.example/memento/connections?version=2024-05-01T06:00:00.000Z&departureTime=2024-05-01T08:00:00.000Z\r\nVary: accept-datetime\r\nLink: <http://lc.example/connections?departureTime=1970-01-01T00:00:00.000Z>; rel=\"original timegate\"\r\n\r\n~\
     GET /connections HTTP/1.1\r\nHost: x\r\nAccept-Datetime: yesterday\r\n\r\n => HTTP/1.1 400 Bad Request\r\nContent-Length: 0\r\n\r\n~\
     GET /connections?departureTime=8 HTTP/1.1\r\nHost: x\r\n\r\n => HTTP/1.1 400 Bad Request\r\nContent-Length: 0\r\n\r\n~\
-    POST /connections HTTP/1.1\r\nHost: x\r\nContent-Length: 0\r\n\r\n => HTTP/1.1 405 Method Not Allowed\r\nContent-Length: 0\r\nAllow: GET, HEAD\r\n\r\n~\
-    GET /memento/connections HTTP/1.1\r\nHost: x\r\n\r\n => HTTP/1.1 400 Bad Request\r\nContent-Length: 0\r\n\r\n~\
+    POST /connections HTTP/1.1\r\nHost: x\r\nContent-Length: 0\r\n\r\n => HTTP/1.1 405 Method Not Allowed\r\nContent-Length: 0\r\nAllow: GET, HEAD\r\n\r\n"
+}
+
+/// Those pages, and other documents.
+fn replies_of_documents() -> &'static str {
+    "GET /memento/connections HTTP/1.1\r\nHost: x\r\n\r\n => HTTP/1.1 400 Bad Request\r\nContent-Length: 0\r\n\r\n~\
     GET /memento/connections?version=2024-05-01T06:30:00Z HTTP/1.1\r\nHost: x\r\n\r\n => HTTP/1.1 404 Not Found\r\nContent-Length: 0\r\n\r\n~\
     HEAD /memento/connections?version=2024-05-01T06:00:00Z&departureTime=2024-05-01T08:30:00Z HTTP/1.1\r\nHost: x\r\n\r\n => HTTP/1.1 200 OK\r\nContent-Type: application/ld+json\r\nContent-Length: 2844\r\nMemento-Datetime: Wed, 01 May 2024 06:00:00 GMT\r\nLink: <http://lc.example/connections?departureTime=2024-05-01T08:00:00.000Z>; rel=\"original timegate\"\r\n\r\n~\
     GET /memento/connections?version=2024-05-01T07:00:00Z&departureTime=2024-05-01T08:30:00Z HTTP/1.1\r\nHost: x\r\n\r\n => HTTP/1.1 200 OK\r\nContent-Type: application/ld+json\r\nContent-Length: 2847\r\nMemento-Datetime: Wed, 01 May 2024 07:00:00 GMT\r\nLink: <http://lc.example/connections?departureTime=2024-05-01T08:00:00.000Z>; rel=\"original timegate\"\r\n\r\n{\"@context\":...~\
@@ -179,8 +187,14 @@ fn requests_are_answered(rt: HostRuntime) -> Result<(), Fail> {
     let alloc = rt.alloc();
     let half_hours = Cutting::Span(BySpan { seconds: 1800 });
     let mut publisher = publisher(alloc, tiny(), tiny_stops(), half_hours, true)?;
-    let wrong = first_wrong(alloc, &mut publisher, replies())?;
-    assert!(rt; wrong.is_empty(), "{wrong}");
+    for rows in &[
+        replies_to_updates(),
+        replies_at_the_gate(),
+        replies_of_documents(),
+    ] {
+        let wrong = first_wrong(alloc, &mut publisher, *rows)?;
+        assert!(rt; wrong.is_empty(), "{wrong}");
+    }
     Ok(())
 }
 
