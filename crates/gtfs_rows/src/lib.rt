@@ -1,5 +1,5 @@
 //! The rows of a GTFS file: a table read from the bytes of a CSV text, with its columns by name and its fields without
-//! the spaces round them. It stands on `lc_model` and on the records of `csv`.
+//! the spaces round them; and such records of a text without a header. It stands on `lc_model` and on the records of `csv`.
 #![tactic(auto)]
 
 mod fault;
@@ -12,6 +12,7 @@ mod tabulate;
 
 pub use fault::RowFault;
 pub use laws::one_table;
+pub use records::Records;
 pub use rows::Rows;
 pub use tabulate::table;
 

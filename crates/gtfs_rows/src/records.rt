@@ -11,9 +11,10 @@ use lc_model::NoMemory;
 use std::alloc::Global;
 use std::marker::Model;
 
-/// Records of fields, which lie one after the other in one list. A contract sees the list of the records.
+/// The records of a CSV text, each with any number of fields, which lie one after the other in one list. A contract sees the
+/// list of the records.
 #[derive(Drop)]
-pub(crate) struct Records {
+pub struct Records {
     fields: ByteRecord,
     // How many fields there are up to the end of each record.
     ends: Vec<usize>,
@@ -33,7 +34,7 @@ impl Model for Records {
 
 impl Records {
     /// The records of a CSV text, without the spaces at both ends of each field. Linear in the bytes.
-    pub(crate) fn read(alloc: Global, bytes: &[u8]) -> Result<Records, NoMemory>
+    pub fn read(alloc: Global, bytes: &[u8]) -> Result<Records, NoMemory>
         ensures { IfOk result (AreTrimmedRecordsOf bytes.now) }
     {
         let mut reader = ReaderBuilder::new()
@@ -51,14 +52,14 @@ impl Records {
     }
 
     /// How many records there are.
-    pub(crate) fn len(&self) -> usize
+    pub fn len(&self) -> usize
         ensures { result ≡ length self.now }
     {
         self.ends.len()
     }
 
     /// How many fields the record at this place has.
-    pub(crate) fn width(&self, place: usize) -> usize
+    pub fn width(&self, place: usize) -> usize
         requires { place < length self.now }
         ensures { result ≡ length (slice_index_or self.now place []) }
     {
@@ -67,7 +68,7 @@ impl Records {
     }
 
     /// The field at this place of the record at that place.
-    pub(crate) fn field(&self, place: usize, column: usize) -> &[u8]
+    pub fn field(&self, place: usize, column: usize) -> &[u8]
         requires record_there { place < length self.now }
         requires field_there { column < length (slice_index_or self.now place []) }
         ensures { result.now ≡ slice_index_or (slice_index_or self.now place []) column [] }
