@@ -1,0 +1,3 @@
+mod OneRecordLemmas
+mod OneScriptLemmas
+mod RowsLemmas

@@ -1,0 +1,11 @@
+use Rattle.script_text.proofs.OneScriptLemmas.{never_both, only_fault, only_script}
+use Rattle.script_text.proofs.laws.one_script.Goals as goal
+
+pub returns-clause-script : goal.returns-clause-script
+returns-clause-script c = only_script
+
+pub returns-clause-fault : goal.returns-clause-fault
+returns-clause-fault c = only_fault
+
+pub returns-clause-never_both : goal.returns-clause-never_both
+returns-clause-never_both c = never_both

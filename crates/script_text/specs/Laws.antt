@@ -1,0 +1,18 @@
+-- Bytes say one script, or have one fault.
+use Rattle.std.specs.Prelude.{◌≡◌, ℕ, Bool, List}
+use Rattle.script_text.specs.Reading.{HasFault, SaysScript}
+use Rattle.script_text.specs.declared.fault.ScriptFault.{ScriptFault}
+use Rattle.script_text.specs.declared.script.Record.{Record}
+
+-- two scripts of the same bytes are one
+abbrev pub OneScript : Type 0
+OneScript = (bytes : List ℕ) (updates : Bool) (a b : List Record) → SaysScript bytes updates a → SaysScript bytes updates b → a ≡ b
+
+-- two faults of the same bytes are one
+abbrev pub OneFault : Type 0
+OneFault = (bytes : List ℕ) (updates : Bool) (a b : ScriptFault) → HasFault bytes updates a → HasFault bytes updates b → a ≡ b
+
+-- bytes that say a script have no fault
+abbrev pub NeverBoth : Type 0
+NeverBoth =
+    (bytes : List ℕ) (updates : Bool) (script : List Record) (fault : ScriptFault) → SaysScript bytes updates script → HasFault bytes updates fault → ⊥

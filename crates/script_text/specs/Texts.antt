@@ -1,0 +1,9 @@
+-- What a fault is printed as.
+use Rattle.std.specs.Prelude.{ℕ, List, ◌++◌, codes}
+use Rattle.std.specs.Fmt.{decimal}
+use Rattle.script_text.specs.declared.fault.ScriptFault.{ScriptFault}
+use Rattle.script_text.specs.declared.fault.ScriptFault.TheVariants as faults
+
+abbrev pub fault_text : ScriptFault → List ℕ
+fault_text (faults.Wrong row) = codes "row " ++ decimal row ++ codes " is no record"
+fault_text faults.NoMemory = codes "no memory"
