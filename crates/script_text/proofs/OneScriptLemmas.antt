@@ -3,15 +3,15 @@ use Rattle.std.proofs.Common.{◌≡◌, ◌∙◌, ◌⊎◌, ℕ, ◌+◌, ◌
 use Rattle.std.proofs.lemmas.Bool.{cases_order}
 use Rattle.gtfs_rows.specs.Sheet.{AreTrimmedRecordsOf}
 use Rattle.gtfs_rows.specs.Spaces.{without_spaces}
-use Rattle.gtfs_rows.proofs.SheetLemmas.{records_of_are_one}
-use Rattle.script_text.specs.Laws.{NeverBoth, OneFault, OneScript}
+use Rattle.gtfs_rows.proofs.SheetLemmas.{records_of_are_one, some_records}
+use Rattle.script_text.specs.Laws.{NeverBoth, OneFault, OneScript, SomeReading}
 use Rattle.script_text.specs.Reading.{HasFault, HaveFault, IsFirstWrong, SaysScript, row_at}
 use Rattle.script_text.specs.Script.{IsClient, NamesNone, SayRecords, SaysRecord, TurnsAreOfClients, clients_in, clients_of}
 use Rattle.script_text.specs.declared.fault.ScriptFault.{ScriptFault}
 use Rattle.script_text.specs.declared.fault.ScriptFault.TheVariants.{Wrong, NoMemory}
 use Rattle.script_text.specs.declared.script.Record.{Record}
 use Rattle.script_text.proofs.OneRecordLemmas.{one_record}
-use Rattle.script_text.proofs.RowsLemmas.{names_none, say_before, turn_of_client}
+use Rattle.script_text.proofs.RowsLemmas.{names_none, say_before, some_say, turn_of_client}
 
 one_list : (updates : Bool) (clients : ℕ) (rows : List (List (List ℕ))) (a b : List Record) → SayRecords updates clients rows a → SayRecords updates clients rows b → a ≡ b
 one_list updates clients [] [] [] h k = refl
@@ -67,6 +67,19 @@ pub never_both : NeverBoth
 never_both bytes updates script fault p q =
     let same : p.rows ≡ q.rows = one_reading bytes p.rows q.rows p.read q.read in
     never_have updates q.rows script fault (subst (λ (rows : List (List (List ℕ))). SayRecords updates 0 rows script) same p.say) q.have
+
+pub some_reading : SomeReading
+some_reading bytes updates no_script no_fault =
+    let found = some_records bytes in
+    let rows = map (map without_spaces) found.0 in
+    let read : AreTrimmedRecordsOf bytes rows = (found.0, found.1, refl) in
+    let right : (row : ℕ) → ¬ (IsFirstWrong updates rows row) = λ row wrong. no_fault (Wrong row) (record { rows = rows; read = read; have = wrong }) in
+    some_say updates rows right (length rows) (le_refl (length rows)) (λ script say.
+    no_script script (record {
+      rows = rows;
+      read = read;
+      say = subst (λ (r : List (List (List ℕ))). SayRecords updates 0 r script) (take_all (length rows) rows (le_refl (length rows))) say;
+    }))
 
 -- what is said of the answer that was found for the rows of a text
 module _ (bytes : List ℕ) (updates : Bool) (rows : List (List (List ℕ))) (read : AreTrimmedRecordsOf bytes rows) where

@@ -1,7 +1,8 @@
 -- Rows say records one after the other.
-use Rattle.std.proofs.Common.{All, false, ◌≡◌, ◌∙◌, ℕ, zero, suc, ◌+◌, ◌<◌, ◌≤◌, Bool, List, [], ◌∷◌, ◌++◌, add-one, add-zero, add_assoc, ap, arith, get_or, length, subst, sym, take}
+use Rattle.std.proofs.Common.{All, false, ◌≡◌, ◌∙◌, ℕ, zero, suc, ◌+◌, ◌<◌, ◌≤◌, Bool, List, [], ◌∷◌, ◌++◌, add-one, add-zero, add_assoc, ap, arith, get_or, length, refl, subst, sym, take, zero-add}
 use Rattle.std.proofs.lemmas.List.Elements.{All-cons, All-nil}
 use Rattle.std.proofs.lemmas.List.Sums.{sum_by-cons, sum_by_push}
+use Rattle.script_text.specs.Reading.{IsFirstWrong}
 use Rattle.script_text.specs.Script.{IsClient, NamesNone, SayRecords, SaysRecord, clients_in, clients_of}
 use Rattle.script_text.specs.declared.script.Record.{Record}
 use Rattle.script_text.specs.declared.script.Record.TheVariants as records
@@ -41,6 +42,21 @@ say_more updates rows place clients behind items new said inside h p more pushed
       more ∙ count ∙ ap clients_in (sym pushed),
       omega (arith, more, few, h.2),
     )
+
+-- where no row is the first wrong one, the rows up to a place are not without records
+pub some_say : (updates : Bool) (rows : List (List (List ℕ))) → ((row : ℕ) → ¬ (IsFirstWrong updates rows row)) → (place : ℕ) → place ≤ length rows → ((items : List Record) → ¬ (SayRecords updates 0 (take place rows) items)) → ⊥
+some_say updates rows right zero fits none = none [] tt
+some_say updates rows right (suc place) fits none =
+    some_say updates rows right place (omega arith) (λ items say.
+    right (place + 1) (record {
+      place = place;
+      counted = refl;
+      is_there = omega arith;
+      before = items;
+      say = say;
+      says_none = λ said says.
+          none (items ++ said ∷ []) (say_next updates 0 rows place items said (omega arith) say (subst (λ (n : ℕ). SaysRecord updates n (get_or rows place []) said) (sym (zero-add (clients_in items))) says));
+    }))
 
 -- what the row at a place says, and those before it
 pub record SayUpTo (updates : Bool) (clients : ℕ) (rows : List (List (List ℕ))) (place : ℕ) : Type 0 where

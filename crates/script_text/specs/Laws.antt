@@ -16,3 +16,9 @@ OneFault = (bytes : List ℕ) (updates : Bool) (a b : ScriptFault) → HasFault 
 abbrev pub NeverBoth : Type 0
 NeverBoth =
     (bytes : List ℕ) (updates : Bool) (script : List Record) (fault : ScriptFault) → SaysScript bytes updates script → HasFault bytes updates fault → ⊥
+
+-- no bytes are without a script and a fault: not every one is ruled out
+abbrev pub SomeReading : Type 0
+SomeReading =
+    (bytes : List ℕ) (updates : Bool) → ((script : List Record) → ¬ (SaysScript bytes updates script))
+    → ((fault : ScriptFault) → ¬ (HasFault bytes updates fault)) → ⊥

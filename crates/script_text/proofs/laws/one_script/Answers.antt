@@ -1,4 +1,4 @@
-use Rattle.script_text.proofs.OneScriptLemmas.{never_both, only_fault, only_script}
+use Rattle.script_text.proofs.OneScriptLemmas.{never_both, only_fault, only_script, some_reading}
 use Rattle.script_text.proofs.laws.one_script.Goals as goal
 
 pub returns-clause-script : goal.returns-clause-script
@@ -9,3 +9,6 @@ returns-clause-fault c = only_fault
 
 pub returns-clause-never_both : goal.returns-clause-never_both
 returns-clause-never_both c = never_both
+
+pub returns-clause-some : goal.returns-clause-some
+returns-clause-some c = some_reading
