@@ -15,7 +15,7 @@ use Rattle.lc_model.specs.declared.stop.Stop.{Stop}
 use Rattle.lc_versions.specs.Added.{IsFurtherRun}
 use Rattle.lc_versions.specs.Live.{call_at, calls_with, in_range, raised, told_calls}
 use Rattle.lc_versions.specs.Timetable.{AreLiveRuns, IsLiveRun}
-use Rattle.live_calls.specs.Laws.{IsOnTime, LiveWithoutNews, RunsOnTime}
+use Rattle.live_calls.specs.Laws.{IsOnTime, LiveWithoutNews, RunsAreLive, RunsOnTime}
 use Rattle.live_calls.proofs.ForwardLemmas.{AllPairs-head, AllPairs-tail}
 use Rattle.live_calls.proofs.LawLemmas.{one_live_list}
 
@@ -73,7 +73,7 @@ same_run : (a b : Run) → a.key ≡ b.key → a.calls ≡ b.calls → a ≡ b
 same_run a b key calls = ap₂ (λ (k : RunKey) (list : List Call). let run : Run = record { key = k; calls = list } in run) key calls
 
 -- the runs are live runs of their own
-runs_are_live : (runs : List Run) (stops : List Stop) → InKeyOrder runs → All RunsOnTime runs → AreLiveRuns runs stops [] runs
+pub runs_are_live : RunsAreLive
 runs_are_live runs stops order on = record { in_order = order; exactly = λ run. (forth run, back run) } where
   forth : (run : Run) → Contains runs run → IsLiveRun runs [] run ⊎ IsFurtherRun runs stops [] run
   forth run there =

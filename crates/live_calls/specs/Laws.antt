@@ -43,3 +43,7 @@ pub record RunsOnTime (run : Run) : Type 0 where
 -- without news the live runs of a timetable are its runs
 abbrev pub LiveWithoutNews : Type 0
 LiveWithoutNews = (runs : List Run) (stops : List Stop) (live : List Run) → InKeyOrder runs → All RunsOnTime runs → AreLiveRuns runs stops [] live → live ≡ runs
+
+-- and its runs are the live ones
+abbrev pub RunsAreLive : Type 0
+RunsAreLive = (runs : List Run) (stops : List Stop) → InKeyOrder runs → All RunsOnTime runs → AreLiveRuns runs stops [] runs

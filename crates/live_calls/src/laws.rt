@@ -1,4 +1,4 @@
-ghost use Rattle.live_calls.specs.Laws.{CallsGoForward, LiveWithoutNews, OneAddedRun, OneListOfLiveRuns};
+ghost use Rattle.live_calls.specs.Laws.{CallsGoForward, LiveWithoutNews, OneAddedRun, OneListOfLiveRuns, RunsAreLive};
 
 /// A timetable has one list of live runs by its news.
 pub fn one_list_of_live_runs()
@@ -7,7 +7,8 @@ pub fn one_list_of_live_runs()
 
 /// Without news the live runs of a timetable are its runs, where these go forward and are not late.
 pub fn live_without_news()
-    ensures { LiveWithoutNews }
+    ensures live { LiveWithoutNews }
+    ensures runs { RunsAreLive }
 {}
 
 /// The news of an added trip make one run, or none.
