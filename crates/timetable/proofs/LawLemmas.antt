@@ -81,6 +81,7 @@ module _ (one_days : OneListOfDays) (one_runs : OneListOfRuns) where
     one_by scope x y tables a b same p q =
         let runs = one_of_runs scope y tables a.runs b.runs (runs_by_other x y scope tables a.runs same p.runs) q.runs in
         record {
+          zones = subst (λ z. ShowSame z b.zone) (sym p.zone_is) (subst (ShowSame x) (sym q.zone_is) same);
           runs = runs;
           doc =
               documents_are_one a.doc b.doc (p.doc.stops ∙ sym q.doc.stops)

@@ -3,6 +3,7 @@ use Rattle.std.specs.Prelude.{◌≡◌, ℕ, List, Some, Result, Ok, Err}
 use Rattle.lc_io.specs.Folder.{FolderSeen}
 use Rattle.lc_io.specs.declared.file.File.{File}
 use Rattle.lc_time.specs.declared.zone.Zone.{Zone}
+use Rattle.service_days.specs.Laws.{ShowSame}
 use Rattle.service_days.specs.ZoneWord.{SaysZone}
 use Rattle.gtfs_files.specs.declared.fault.FileFault.TheVariants as wrong
 use Rattle.gtfs_feed.specs.Feed.{IsFirstBroken, named_at}
@@ -20,6 +21,7 @@ use Rattle.timetable.specs.declared.timetable.Timetable.{Timetable}
 
 -- Two timetables have the same runs, document and counts. Their zones may be told in two ways, but show the same.
 pub record AreSame (a b : Timetable) : Type 0 where
+  pub zones : ShowSame a.zone b.zone
   pub runs : a.runs ≡ b.runs
   pub doc : a.doc ≡ b.doc
   pub connections : a.connections ≡ b.connections
