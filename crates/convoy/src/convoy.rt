@@ -147,6 +147,16 @@ impl Convoy {
         self.members[k - 1].client.outcome()
     }
 
+    /// How client k ended, for keeps.
+    pub fn into_outcome(self, k: usize) -> Option<Outcome>
+        requires from_one { 1 ≤ k }
+        requires clients { k ≤ length self.members }
+        ensures { IfSome (slice_get self.members (k - 1)) (λ m. result ≡ (shown m.client).outcome) }
+    {
+        let mut members = self.members;
+        members.swap_remove(k - 1).client.into_outcome()
+    }
+
     /// The version that the time gate named to client k; none before.
     pub fn version(&self, k: usize) -> Option<Moment>
         requires from_one { 1 ≤ k }

@@ -80,6 +80,13 @@ impl Client {
         self.outcome.as_ref()
     }
 
+    /// How the client ended, for keeps.
+    pub fn into_outcome(self) -> Option<Outcome>
+        ensures { result ≡ (shown self).outcome }
+    {
+        self.outcome
+    }
+
     /// The version that the time gate named; none before its reply is taken.
     pub fn version(&self) -> Option<Moment>
         ensures { result ≡ (shown self.now).version }
