@@ -24,7 +24,7 @@ pub fn answer_text(alloc: Global, answer: &Answer) -> Result<Vec<u8>, NoMemory>
 }
 
 /// A line for the journey, one for each of its rides, and one for a walk before and a walk after them.
-fn journey_text(alloc: Global, journey: &Journey) -> Result<Vec<u8>, NoMemory>
+pub fn journey_text(alloc: Global, journey: &Journey) -> Result<Vec<u8>, NoMemory>
     requires { arrives_at journey.now < MOMENTS_END }
     ensures { IfOk result (λ text. text.items ≡ journey_text_of journey.now) }
 {

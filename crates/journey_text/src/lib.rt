@@ -9,5 +9,5 @@ mod ride_words;
 mod tests;
 
 pub use answer_reading::read_answer;
-pub use answer_writing::answer_text;
+pub use answer_writing::{answer_text, journey_text};
 pub use laws::answers_differ;
