@@ -1,0 +1,4 @@
+pub mod AdmissionLemmas
+pub mod ClientLemmas
+pub mod OneOutputLemmas
+pub mod SideLemmas

@@ -1,0 +1,6 @@
+pub mod Admission
+pub mod Asked
+pub mod Block
+pub mod Client
+pub mod Laws
+pub mod Publishing

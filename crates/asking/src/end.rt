@@ -1,0 +1,12 @@
+use lc_model::Moment;
+use page_client::Outcome;
+
+/// How a client ended.
+#[derive(Debug, Drop)]
+pub struct ClientEnd {
+    /// The version that the time gate named to it; none where the gate was not asked, or gave no reply that passes.
+    pub version: Option<Moment>,
+    pub outcome: Outcome,
+    /// How many exchanges it made, a failed one too.
+    pub exchanges: u64,
+}

@@ -1,0 +1,16 @@
+//! A question to a publisher of the program itself: the publisher of a timetable with one message, the client that asks it page by
+//! page, and what is printed of both. It stands on `timetable`, `publisher`, `convoy` and `lc_edge`.
+#![tactic(auto)]
+
+mod admission;
+mod block;
+mod client;
+mod end;
+mod laws;
+mod publishing;
+mod question;
+
+pub use admission::MessageFault;
+pub use end::ClientEnd;
+pub use laws::one_output;
+pub use question::{Asked, ask};
