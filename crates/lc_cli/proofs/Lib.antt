@@ -1,8 +1,7 @@
-mod CommandLemmas
-mod OneRunLemmas
-mod OneStatusLemmas
-mod PlanLemmas
-mod RefusalLemmas
-mod TinyLemmas
-mod TopLemmas
-mod WindowLemmas
+pub mod CommandLemmas
+pub mod InputsLemmas
+pub mod OneRunLemmas
+pub mod OneStatusLemmas
+pub mod TinyLemmas
+pub mod TopLemmas
+pub mod WindowLemmas

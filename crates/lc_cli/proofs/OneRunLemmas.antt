@@ -1,25 +1,32 @@
 -- Two runs of one command over the same files print one output.
-use Rattle.std.proofs.Common.{◌≡◌, ◌∙◌, ◌+◌, ◌++◌, List, codes, length, None, Some, ap, subst, sym}
+use Rattle.std.proofs.Common.{◌≡◌, ◌∙◌, ◌+◌, ◌++◌, ℕ, List, codes, length, None, Some, Option, ap, refl, subst, sym}
+use Rattle.asking.specs.Admission.{IsBehind}
+use Rattle.asking.specs.Asked.{IsAsked}
+use Rattle.asking.specs.Laws.{IsFair, OneOutput, PrintOneClient}
+use Rattle.asking.specs.Publishing.{side_with, store_of}
+use Rattle.asking.specs.declared.end.ClientEnd.{ClientEnd}
+use Rattle.command_words.specs.Laws.{OneCommand}
+use Rattle.command_words.specs.Words.{SaysCommand}
+use Rattle.command_words.specs.declared.command.Ask.{Ask}
+use Rattle.command_words.specs.declared.command.Command.{Command}
+use Rattle.command_words.specs.declared.command.Command.TheVariants as commands
+use Rattle.lc_io.specs.Folder.{FolderSeen, bytes_named}
 use Rattle.lc_io.specs.declared.file.File.{File}
 use Rattle.lc_model.specs.declared.doc.StopsDoc.{StopsDoc}
 use Rattle.lc_model.specs.declared.run.Run.{Run}
-use Rattle.lc_model.specs.Journey.{IsAnswer}
-use Rattle.lc_model.specs.Ride.{IsRideAt}
-use Rattle.lc_model.specs.declared.answer.Answer.{Answer}
-use Rattle.lc_model.specs.declared.query.Query.{Query}
-use Rattle.command_words.specs.Laws.{OneCommand}
-use Rattle.command_words.specs.Words.{SaysCommand}
-use Rattle.command_words.specs.declared.command.Command.{Command}
-use Rattle.command_words.specs.declared.command.Command.TheVariants as commands
+use Rattle.lc_world.specs.Link.{LinkSeen}
 use Rattle.timetable.specs.Laws.{AreSame, LoadsTold, OneTimetable}
+use Rattle.timetable.specs.Told.{IsSound}
 use Rattle.timetable.specs.declared.timetable.Timetable.{Timetable}
+use Rattle.version_store.specs.Store.{Stored}
 use Rattle.lc_cli.specs.CheckText.{check_text_of, count_line_of}
-use Rattle.lc_cli.specs.Command.{IsBlockText, IsCommandBlock, Prints, scope_of}
-use Rattle.lc_cli.specs.Laws.{OneAnswer, PrintOne}
-use Rattle.lc_cli.specs.Plan.{AnswersQuestion}
-use Rattle.lc_cli.specs.Top.{IsRight, Past}
+use Rattle.lc_cli.specs.Clear.{HasFairLink, IsToldFile, IsUnhindered}
+use Rattle.lc_cli.specs.Command.{IsAskBlock, IsCheckBlock, Prints, ask_scope, check_scope}
+use Rattle.lc_cli.specs.Laws.{OneRun, PrintOne}
+use Rattle.lc_cli.specs.Top.{HasPrinted, Past}
 use Rattle.lc_cli.specs.declared.block.Block.{Block}
 use Rattle.lc_cli.specs.declared.status.Status.TheVariants.{Done}
+use Rattle.lc_cli.proofs.InputsLemmas.{inputs_told}
 
 -- the counts of timetables that are the same
 same_counts : (a b : Timetable) → AreSame a b → check_text_of a ≡ check_text_of b
@@ -31,35 +38,79 @@ same_counts a b same =
     count_line_of (codes "stops") (stops i) ++ count_line_of (codes "trips") (same.trips i + same.left_out i) ++ count_line_of (codes "left out") (same.left_out i)
     ++ count_line_of (codes "runs") (runs i) ++ count_line_of (codes "connections") (same.connections i) ++ count_line_of (codes "changes") (changes i) ++ codes "ok\n"
 
--- what answers a question of a timetable answers it of one that is the same
-same_answer : (a b : Timetable) (same : AreSame a b) (answer : Answer) (query : Query) → AnswersQuestion a query answer → AnswersQuestion b query answer
-same_answer a b same answer query is =
-    subst (λ (d : StopsDoc). IsAnswer (IsRideAt b.runs) query d answer) same.doc (subst (λ (r : List Run). IsAnswer (IsRideAt r) query a.doc answer) same.runs is)
+-- the told file of a name is one
+one_file : (told : List File) (update : Option (List ℕ)) (a b : Option File) → IsToldFile told update a → IsToldFile told update b → a ≡ b
+one_file told None None None x y = refl
+one_file told None None (Some b) x y = absurd y
+one_file told None (Some a) b x y = absurd x
+one_file told (Some name) None b x y = absurd x
+one_file told (Some name) (Some a) None x y = absurd y
+one_file told (Some name) (Some a) (Some b) x y =
+    let bytes : Some a.bytes ≡ Some b.bytes = sym x.1 ∙ y.1 in
+    let same : a.bytes ≡ b.bytes = cc in
+    let file = λ (n c : List ℕ). let f : Option File = Some (record { name = n; bytes = c }) in f in
+    λ i. file ((x.0 ∙ sym y.0) i) (same i)
 
-module _ (one_command : OneCommand) (one_timetable : OneTimetable) (loads_told : LoadsTold) (one_answer : OneAnswer) where
-  -- blocks of one command over timetables that are the same
-  one_block : (command : Command) (a b : Timetable) (x y : Block) → AreSame a b → x.fault ≡ None → y.fault ≡ None → Prints command a x → Prints command b y
-      → PrintOne command x y
-  one_block (commands.Check check) a b x y same f g p q = p.1 ∙ same_counts a b same ∙ sym q.1
-  one_block (commands.Ask ask) a b x y same f g p q =
-      let says = subst (λ fault. IsBlockText a ask.query fault x.text.items) f p in
-      let says' = subst (λ fault. IsBlockText b ask.query fault y.text.items) g q in
-      record {
-        first = says.1.0;
-        second = says'.1.0;
-        first_is = says.1.2;
-        second_is = says'.1.2;
-        one = one_answer b ask.query says.1.0 says'.1.0 (same_answer a b same says.1.0 ask.query says.1.1) says'.1.1;
-      }
+module _ {X Y : Type 0} (seen : X → LinkSeen) (saw : Y → LinkSeen) (one_timetable : OneTimetable) (loads_told : LoadsTold) (one_output : OneOutput seen saw) where
+  -- timetables that were loaded over the same files are the same
+  same_timetables : (told : List File) (ask : Ask) (old new other later : FolderSeen) (before after from to : LinkSeen) (x y : Block)
+      (a : IsAskBlock ask old new before after x) (b : IsAskBlock ask other later from to y) → old.files ≡ Some told → other.files ≡ Some told → AreSame a.made b.made
+  same_timetables told ask old new other later before after from to x y a b tells tell =
+      one_timetable told (ask_scope ask) a.made b.made (loads_told told (ask_scope ask) old a.inputs.between a.made tells a.inputs.loaded)
+      (loads_told told (ask_scope ask) other b.inputs.between b.made tell b.inputs.loaded)
 
-  -- runs that are done over these words and files print one output
-  pub one_run : (p q : Past) (told : List File) → p.words ≡ q.words → p.folder_before.files ≡ Some told → q.folder_before.files ≡ Some told
-      → (x : IsRight p Done) (y : IsRight q Done)
-      → PrintOne x.1.0 x.0 y.0
-  one_run p q told w e f (x, (command, says, is), none, wrote) (y, (command', says', is'), none', wrote') =
-      let same : command' ≡ command = one_command p.words command' command (subst (λ words. SaysCommand words command') (sym w) says') says in
-      let other = subst (λ (c : Command). IsCommandBlock c q.folder_before q.folder_after y) same is' in
-      one_block command is.made other.made x y
-      (one_timetable told (scope_of command) is.made other.made (loads_told told (scope_of command) p.folder_before p.folder_after is.made e is.loaded)
-      (loads_told told (scope_of command) q.folder_before q.folder_after other.made f other.loaded))
-      none none' is.text other.text
+  -- a fair link is one for what was asked
+  fair_asked : (told : List File) (ask : Ask) (old new : FolderSeen) (before after : LinkSeen) (block : Block) (x : IsAskBlock ask old new before after block) → old.files ≡ Some told
+      → HasFairLink told ask before.clear before.faults after.faults → IsFair x.made ask.publishing x.file before.clear before.faults after.faults
+  fair_asked told ask old new before after block x tells fair = record {
+    was_clear = fair.link.was_clear;
+    no_fault = fair.link.no_fault;
+    short = λ store line behind. fair.short (side_with x.made ask.publishing store) (record {
+      made = x.made;
+      sound = loads_told told (ask_scope ask) old x.inputs.between x.made tells x.inputs.loaded;
+      file = x.file;
+      is_told = inputs_told told (ask_scope ask) ask.update old new x.made x.file tells x.inputs;
+      store = store;
+      line = line;
+      behind = behind;
+      is = refl;
+    });
+  }
+
+  -- what is printed of one question over the same files is one
+  pub one_client : (told : List File) (ask : Ask) (old new other later : FolderSeen) (before after : X) (from to : Y) (x y : Block)
+      (a : IsAskBlock ask old new (seen before) (seen after) x) (b : IsAskBlock ask other later (saw from) (saw to) y) → old.files ≡ Some told → other.files ≡ Some told
+      → HasFairLink told ask (seen before).clear (seen before).faults (seen after).faults → HasFairLink told ask (saw from).clear (saw from).faults (saw to).faults
+      → PrintOneClient x.text.items y.text.items a.end b.end
+  one_client told ask old new other later before after from to x y a b tells tell fair other_fair =
+      let file : b.file ≡ a.file = one_file told ask.update b.file a.file (inputs_told told (ask_scope ask) ask.update other later b.made b.file tell b.inputs)
+      (inputs_told told (ask_scope ask) ask.update old new a.made a.file tells a.inputs) in
+      one_output a.made b.made ask.publishing a.file ask.query before after from to x.text.items y.text.items a.end b.end
+      (same_timetables told ask old new other later (seen before) (seen after) (saw from) (saw to) x y a b tells tell)
+      (fair_asked told ask old new (seen before) (seen after) x a tells fair)
+      (subst (λ f. IsFair b.made ask.publishing f (saw from).clear (saw from).faults (saw to).faults) file (fair_asked told ask other later (saw from) (saw to) y b tell other_fair)) a.asked
+      (subst (λ f. IsAsked b.made ask.publishing f ask.query (saw from) (saw to) y.text.items b.end) file b.asked)
+
+  module _ (one_command : OneCommand) where
+    -- runs that are done over these words and files print one output
+    pub one_run : OneRun seen saw
+    one_run p q told words at to x y = by x.right.command x.right.says x.right.prints other where
+      same : y.right.command ≡ x.right.command
+      same = one_command p.words y.right.command x.right.command (subst (λ w. SaysCommand w y.right.command) (sym words) y.right.says) x.right.says
+
+      other : Prints x.right.command q.folder_before q.folder_after (saw q.link_before) (saw q.link_after) y.block
+      other = subst (λ (c : Command). Prints c q.folder_before q.folder_after (saw q.link_before) (saw q.link_after) y.block) same y.right.prints
+
+      by : (command : Command) → SaysCommand p.words command → Prints command p.folder_before p.folder_after (seen p.link_before) (seen p.link_after) x.block
+          → Prints command q.folder_before q.folder_after (saw q.link_before) (saw q.link_after) y.block → PrintOne command x.block y.block
+      by (commands.Check check) says a b =
+          let made = one_timetable told (check_scope check) a.made b.made (loads_told told (check_scope check) p.folder_before p.folder_after a.made at.tells a.loaded)
+          (loads_told told (check_scope check) q.folder_before q.folder_after b.made to.tells b.loaded) in
+          a.text ∙ same_counts a.made b.made made ∙ sym b.text
+      by (commands.Ask ask) says a b =
+          let fair = at.fair ask says in
+          let other_fair = to.fair ask (subst (λ w. SaysCommand w (commands.Ask ask)) words says) in (
+            a.end,
+            b.end,
+            one_client told ask p.folder_before p.folder_after q.folder_before q.folder_after p.link_before p.link_after q.link_before q.link_after x.block y.block a b at.tells to.tells fair other_fair,
+          )

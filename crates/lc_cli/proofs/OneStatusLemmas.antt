@@ -1,207 +1,367 @@
 -- Two runs of one command over the same files end with one status, memory apart.
-use Rattle.std.proofs.Common.{◌≡◌, ◌∙◌, ◌⊎◌, ℕ, inl, inr, List, None, Some, Option, Result, Ok, Err, ap, subst, sym, refl}
-use Rattle.lc_io.specs.Counts.{Rose}
-use Rattle.lc_io.specs.declared.file.File.{File}
-use Rattle.lc_model.specs.declared.doc.StopsDoc.{StopsDoc}
-use Rattle.lc_model.specs.declared.query.Query.{Query}
-use Rattle.lc_model.specs.declared.stop.Stop.{Stop}
+use Rattle.std.proofs.Common.{◌≡◌, ◌∙◌, ◌⊎◌, ◌<◌, ℕ, inl, inr, List, [], None, Some, Option, Result, Ok, Err, ap, refl, subst, sym}
+use Rattle.asking.specs.Admission.{IsIgnored}
+use Rattle.asking.specs.Publishing.{side_with, store_of}
+use Rattle.asking.specs.Laws.{OneOutput}
+use Rattle.client_replies.specs.Laws.{SayTheSame}
 use Rattle.command_words.specs.Laws.{OneCommand}
 use Rattle.command_words.specs.Words.{SaysCommand}
+use Rattle.command_words.specs.declared.command.Ask.{Ask}
 use Rattle.command_words.specs.declared.command.Command.{Command}
 use Rattle.command_words.specs.declared.command.Command.TheVariants as commands
-use Rattle.gtfs_feed.specs.declared.what.What.{What}
-use Rattle.timetable.specs.Laws.{AreSame, AreSameEnds, IsOfFiles, LoadsTold, OneEnd}
-use Rattle.timetable.specs.Loading.{LoadsSo}
+use Rattle.gtfs_feed.specs.declared.what.What.TheVariants as what
+use Rattle.lc_io.specs.Counts.{Rose}
+use Rattle.lc_io.specs.Folder.{FolderSeen, bytes_named}
+use Rattle.lc_io.specs.declared.file.File.{File}
+use Rattle.lc_io.specs.declared.folder.FolderFail.{FolderFail}
+use Rattle.lc_io.specs.declared.folder.FolderFail.TheVariants.{Absent}
+use Rattle.lc_world.specs.Link.{LinkSeen}
+use Rattle.page_client.specs.declared.fault.QueryFault.{QueryFault}
+use Rattle.page_client.specs.declared.outcome.Outcome.{Outcome}
+use Rattle.page_client.specs.declared.outcome.Outcome.TheVariants as outcomes
+use Rattle.timetable.specs.Laws.{AreSameEnds, IsOfFiles, LoadsTold, OneEnd, OneTimetable}
+use Rattle.timetable.specs.Loading.{Loads, LoadsSo}
 use Rattle.timetable.specs.declared.fault.LoadFault.{LoadFault}
 use Rattle.timetable.specs.declared.fault.LoadFault.TheVariants as fault
+use Rattle.timetable.specs.declared.scope.Scope.{Scope}
 use Rattle.timetable.specs.declared.timetable.Timetable.{Timetable}
-use Rattle.lc_cli.specs.Command.{IsBlockText, IsRightBlock, Prints, scope_of}
-use Rattle.lc_cli.specs.Laws.{DoneIsClear, IsUnhindered, OneStatus}
-use Rattle.lc_cli.specs.Question.{Deserves, IsAskable}
-use Rattle.lc_cli.specs.Top.{IsRight, Past}
+use Rattle.trip_updates.specs.declared.fault.RtFault.{RtFault}
+use Rattle.version_store.specs.Admission.{IsRefused}
+use Rattle.version_store.specs.Laws.{OneOutcome}
+use Rattle.version_store.specs.Store.{Stored}
+use Rattle.version_store.specs.declared.admission.AdmitFault.{AdmitFault}
+use Rattle.version_store.specs.declared.admission.AdmitFault.TheVariants as faults
+use Rattle.lc_cli.specs.Block.{IsBlockEnd, client_status_of}
+use Rattle.lc_cli.specs.Clear.{IsClear, IsToldFile, IsUnhindered}
+use Rattle.lc_cli.specs.Command.{IsRightBlock, IsRightRefusal, Prints, ask_scope, check_scope, scope_of, update_of}
+use Rattle.lc_cli.specs.Inputs.{AsksForUpdate, IsRefusedFor}
+use Rattle.lc_cli.specs.Laws.{DoneIsClear, DoneIsPrinted, OneStatus}
+use Rattle.lc_cli.specs.Refusal.{IsRefusalEnd, status_of}
+use Rattle.lc_cli.specs.Top.{HasPrinted, IsRight, Past}
 use Rattle.lc_cli.specs.declared.block.Block.{Block}
-use Rattle.lc_cli.specs.declared.status.QueryFault.{QueryFault}
-use Rattle.lc_cli.specs.declared.status.QueryFault.TheVariants.{HorizonRange, SameStop, UnknownFrom, UnknownTo}
+use Rattle.lc_cli.specs.declared.refusal.Refusal.{Refusal}
+use Rattle.lc_cli.specs.declared.refusal.Refusal.TheVariants as refused
 use Rattle.lc_cli.specs.declared.status.Status.{Status}
-use Rattle.lc_cli.specs.declared.status.Status.TheVariants.{Done, Usage, FeedBroken, FolderFault, SinkFault, QueryRefused, TooLarge, NoMemory}
+use Rattle.lc_cli.specs.declared.status.Status.TheVariants.{Done, Usage, FeedBroken, UpdateBroken, FolderFault, ScriptWrong, TooLarge, NoMemory}
+use Rattle.lc_cli.proofs.InputsLemmas.{absent_told, bytes_told, inputs_told, still_told}
+use Rattle.lc_cli.proofs.OneRunLemmas.{one_client}
+use Rattle.lc_cli.proofs.TopLemmas.{IsHeardBy, IsNoFault, heard_fine, heard_nothing, no_fault, side_asked}
 
--- a question that may be asked deserves no refusal
-not_both : (stops : List Stop) (query : Query) (f : QueryFault) → IsAskable stops query → Deserves stops query f → ⊥
-not_both stops query HorizonRange ask is = is ask.horizon
-not_both stops query SameStop ask is = ask.not_same is.1
-not_both stops query UnknownFrom ask is = is.1 ask.from_known
-not_both stops query UnknownTo ask is = is.2 ask.to_known
+-- the block was printed whole
+record Whole {X : Type 0} (seen : X → LinkSeen) (p : Past X) (s : Status) : Type 0 where
+  block : Block
+  right : IsRightBlock p.words p.folder_before p.folder_after (seen p.link_before) (seen p.link_after) block
+  status_is : s ≡ client_status_of block.outcome
 
--- a question deserves one refusal
-one_fault : (stops : List Stop) (query : Query) (f g : QueryFault) → Deserves stops query f → Deserves stops query g → f ≡ g
-one_fault stops query HorizonRange HorizonRange p q = refl
-one_fault stops query HorizonRange SameStop p q = absurd (p q.0)
-one_fault stops query HorizonRange UnknownFrom p q = absurd (p q.0.horizon)
-one_fault stops query HorizonRange UnknownTo p q = absurd (p q.0.horizon)
-one_fault stops query SameStop HorizonRange p q = absurd (q p.0)
-one_fault stops query SameStop SameStop p q = refl
-one_fault stops query SameStop UnknownFrom p q = absurd (q.0.not_same p.1)
-one_fault stops query SameStop UnknownTo p q = absurd (q.0.not_same p.1)
-one_fault stops query UnknownFrom HorizonRange p q = absurd (q p.0.horizon)
-one_fault stops query UnknownFrom SameStop p q = absurd (p.0.not_same q.1)
-one_fault stops query UnknownFrom UnknownFrom p q = refl
-one_fault stops query UnknownFrom UnknownTo p q = absurd (p.1 q.1)
-one_fault stops query UnknownTo HorizonRange p q = absurd (q p.0.horizon)
-one_fault stops query UnknownTo SameStop p q = absurd (p.0.not_same q.1)
-one_fault stops query UnknownTo UnknownFrom p q = absurd (q.1 p.1)
-one_fault stops query UnknownTo UnknownTo p q = refl
+-- the words say no command
+record NoCommand {X : Type 0} (p : Past X) (s : Status) : Type 0 where
+  says_none : (command : Command) → SaysCommand p.words command → ⊥
+  status_is : s ≡ Usage
 
-none_some : (f : QueryFault) → None ≡ Some f → ⊥
-none_some f e = cc
+-- the status of a fault of loading
+abbrev status_in : LoadFault → Status
+status_in (fault.Broken rule file row) = FeedBroken rule file row
+status_in (fault.TooLarge kind count) = TooLarge kind count
+status_in (fault.Folder before after) = FolderFault before after
+status_in fault.NoMemory = NoMemory
 
--- the end of the loading of a command that the words say
-record Ends (p : Past) (end : Result Timetable LoadFault) : Type 0 where
+-- the loading ended with this fault of the files
+record LoadFails {X : Type 0} (command : Command) (p : Past X) (s : Status) : Type 0 where
+  found : LoadFault
+  of_files : IsOfFiles (Err found)
+  loads : LoadsSo (scope_of command) p.folder_before p.folder_after (Err found)
+  status_is : s ≡ status_in found
+
+-- what is wrong with the told file of a message: it is absent, or refused for this cause
+abbrev IsToldCause : List File → List ℕ → Option AdmitFault → Type 0
+IsToldCause told name None = bytes_named told name ≡ None
+IsToldCause told name (Some found) =
+    (bytes : List ℕ) × (bytes_named told name ≡ Some bytes) × ((store : Stored) → IsRefused store bytes found) × (IsIgnored found → ⊥)
+
+-- its status
+abbrev status_by : List ℕ → Option AdmitFault → Status
+status_by name None = ScriptWrong 0
+status_by name (Some (faults.TooLong count)) = TooLarge what.Update count
+status_by name (Some (faults.Broken found)) = UpdateBroken name found
+status_by name (Some (faults.NotNewer newest)) = Done
+status_by name (Some (faults.Full messages bytes)) = Done
+status_by name (Some faults.NoMemory) = NoMemory
+
+-- the timetable was loaded, and the message is wrong
+record UpdateFails {X : Type 0} (command : Command) (told : List File) (p : Past X) (s : Status) : Type 0 where
+  between : FolderSeen
+  made : Timetable
+  loaded : Loads (scope_of command) p.folder_before between made
+  name : List ℕ
+  named : update_of command ≡ Some name
+  cause : Option AdmitFault
+  is : IsToldCause told name cause
+  status_is : s ≡ status_by name cause
+
+-- a command is refused by its files
+record IsRefusedByFiles {X : Type 0} (told : List File) (p : Past X) (s : Status) : Type 0 where
   command : Command
   says : SaysCommand p.words command
-  loads : LoadsSo (scope_of command) p.folder_before p.folder_after end
+  by : LoadFails command p s ⊎ UpdateFails command told p s
 
--- of a status that is neither usage, a fault of the folder or the sink, nor want of memory: the end of the loading
-block_ends : (p : Past) (block : Block) (right : IsRightBlock p.words p.folder_before p.folder_after block) → Ends p (Ok right.2.made)
-block_ends p block right = record { command = right.0; says = right.1; loads = right.2.loaded }
+-- how a run ended that nothing hindered, memory apart
+abbrev Ended : {X : Type 0} → (X → LinkSeen) → List File → Past X → Status → Type 0
+Ended seen told p s = Whole seen p s ⊎ NoCommand p s ⊎ IsRefusedByFiles told p s
 
-module _ (one_command : OneCommand) (one_end : OneEnd) (p q : Past) (told : List File) (words : p.words ≡ q.words) (at : IsUnhindered p told) (to : IsUnhindered q told) where
+module _ {X : Type 0} (seen : X → LinkSeen) (p : Past X) (told : List File) (at : IsUnhindered seen p told) (s : Status) where
+  -- what was asked for of the message, and answered so
+  by_update : (command : Command) (result : Result (List ℕ) FolderFail) (x : AsksForUpdate (scope_of command) (update_of command) p.folder_before p.folder_after result)
+      (cause : Option AdmitFault) → IsToldCause told x.name cause → s ≡ status_by x.name cause → UpdateFails command told p s
+  by_update command result x cause is status = record {
+    between = x.between;
+    made = x.made;
+    loaded = x.loaded;
+    name = x.name;
+    named = x.named;
+    cause = cause;
+    is = is;
+    status_is = status;
+  }
+
+  still : (command : Command) (result : Result (List ℕ) FolderFail) (x : AsksForUpdate (scope_of command) (update_of command) p.folder_before p.folder_after result)
+      → x.between.files ≡ Some told
+  still command result x = still_told told p.folder_before x.between at.tells x.kept
+
+  by_refusal : (command : Command) → SaysCommand p.words command → (refusal : Refusal) → s ≡ status_of refusal
+      → IsRefusedFor (scope_of command) (update_of command) p.folder_before p.folder_after refusal → (s ≡ NoMemory) ⊎ Ended seen told p s
+  by_refusal command says refused.Usage status is = absurd is
+  by_refusal command says (refused.Load (fault.Broken rule file row)) status is =
+      inr (inr (inr (record { command = command; says = says; by = inl (record { found = fault.Broken rule file row; of_files = tt; loads = is; status_is = status }) })))
+  by_refusal command says (refused.Load (fault.TooLarge kind count)) status is =
+      inr (inr (inr (record { command = command; says = says; by = inl (record { found = fault.TooLarge kind count; of_files = tt; loads = is; status_is = status }) })))
+  by_refusal command says (refused.Load (fault.Folder before after)) status is =
+      absurd (at.no_folder_fault (subst (λ count. Rose count p.folder_after.faults) is.0 (subst (λ count. Rose before count) is.1 is.2)))
+  by_refusal command says (refused.Load fault.NoMemory) status is = inl status
+  by_refusal command says refused.NoUpdate status is =
+      inr (inr (inr (record {
+        command = command;
+        says = says;
+        by = inr (by_update command (Err Absent) is None (absent_told told is.between p.folder_after is.name (still command (Err Absent) is) is.read) status);
+      })))
+  by_refusal command says (refused.UpdateFolder before after) status is =
+      absurd (at.no_folder_fault (subst (λ count. Rose count p.folder_after.faults) is.before_is (subst (λ count. Rose before count) is.after_is is.rose)))
+  by_refusal command says (refused.LongUpdate count) status is =
+      let bytes = bytes_told told is.asks.between p.folder_after is.asks.name is.bytes (still command (Ok is.bytes) is.asks) is.asks.read in
+      inr (inr (inr (record {
+        command = command;
+        says = says;
+        by = inr (by_update command (Ok is.bytes) is.asks (Some (faults.TooLong count)) (is.bytes, bytes, (λ store. (is.long, is.counted)), (λ ignored. ignored)) status);
+      })))
+  by_refusal command says (refused.BrokenUpdate name found) status is =
+      let bytes = bytes_told told is.asks.between p.folder_after is.asks.name is.bytes (still command (Ok is.bytes) is.asks) is.asks.read in
+      let same : name ≡ is.asks.name = let e : Some name ≡ Some is.asks.name = sym is.named ∙ is.asks.named in cc in
+      inr (inr (inr (record {
+        command = command;
+        says = says;
+        by = inr (by_update command (Ok is.bytes) is.asks (Some (faults.Broken found)) (is.bytes, bytes, (λ store. is.broken), (λ ignored. ignored)) (status ∙ ap (λ n. UpdateBroken n found) same));
+      })))
+
+  ended : IsRight seen p s → (s ≡ NoMemory) ⊎ Ended seen told p s
+  ended (inl x) = by x.end where
+    by : IsBlockEnd x.block p.sink_before p.sink_after s → (s ≡ NoMemory) ⊎ Ended seen told p s
+    by (inl whole) = inr (inl (record { block = x.block; right = x.right; status_is = whole.status_is }))
+    by (inr (inl cut)) = absurd (at.no_sink_fault cut.rose)
+    by (inr (inr cut)) = inl cut.status_is
+  ended (inr x) = by x.end where
+    by : IsRefusalEnd x.refusal p.sink_before p.sink_after s → (s ≡ NoMemory) ⊎ Ended seen told p s
+    by (inr lacks) = inl lacks.status_is
+    by (inl said) = cause x.right where
+      cause : IsRightRefusal p.words p.folder_before p.folder_after x.refusal → (s ≡ NoMemory) ⊎ Ended seen told p s
+      cause (inl usage) = inr (inr (inl (record { says_none = usage.says_none; status_is = said.status_is ∙ ap status_of usage.is })))
+      cause (inr (inl first)) = inl (said.status_is ∙ ap status_of first.is)
+      cause (inr (inr is)) = by_refusal is.command is.says x.refusal said.status_is is.refused
+
+-- outcomes that say the same have one status, where no exchange failed
+one_client_status : (o p : Outcome) → SayTheSame o p → IsNoFault (Some o) → client_status_of (Some o) ≡ client_status_of (Some p)
+one_client_status (outcomes.Found a) (outcomes.Found b) one fine = refl
+one_client_status (outcomes.Found a) outcomes.NoJourney one fine = absurd one
+one_client_status (outcomes.Found a) (outcomes.Refused g) one fine = absurd one
+one_client_status (outcomes.Found a) (outcomes.LinkFault m n) one fine = absurd one
+one_client_status (outcomes.Found a) (outcomes.PeerWrong r g) one fine = absurd one
+one_client_status outcomes.NoJourney (outcomes.Found b) one fine = absurd one
+one_client_status outcomes.NoJourney outcomes.NoJourney one fine = refl
+one_client_status outcomes.NoJourney (outcomes.Refused g) one fine = absurd one
+one_client_status outcomes.NoJourney (outcomes.LinkFault m n) one fine = absurd one
+one_client_status outcomes.NoJourney (outcomes.PeerWrong r g) one fine = absurd one
+one_client_status (outcomes.Refused f) (outcomes.Found b) one fine = absurd one
+one_client_status (outcomes.Refused f) outcomes.NoJourney one fine = absurd one
+one_client_status (outcomes.Refused f) (outcomes.Refused g) one fine = ap (λ (c : QueryFault). client_status_of (Some (outcomes.Refused c))) one
+one_client_status (outcomes.Refused f) (outcomes.LinkFault m n) one fine = absurd one
+one_client_status (outcomes.Refused f) (outcomes.PeerWrong r g) one fine = absurd one
+one_client_status (outcomes.LinkFault k l) p one fine = absurd fine
+one_client_status (outcomes.PeerWrong r f) p one fine = absurd fine
+
+module _ {X Y : Type 0} (seen : X → LinkSeen) (saw : Y → LinkSeen) (one_command : OneCommand) (one_timetable : OneTimetable) (one_end : OneEnd) (loads_told : LoadsTold)
+    (one_outcome : OneOutcome) (one_output : OneOutput seen saw) (p : Past X) (q : Past Y) (told : List File) (words : p.words ≡ q.words) (at : IsUnhindered seen p told)
+    (to : IsUnhindered saw q told) (s t : Status) where
   same_command : (a b : Command) → SaysCommand p.words a → SaysCommand q.words b → b ≡ a
   same_command a b x y = one_command p.words b a (subst (λ w. SaysCommand w b) (sym words) y) x
 
-  same_ends : (x y : Result Timetable LoadFault) → IsOfFiles x → IsOfFiles y → Ends p x → Ends q y → AreSameEnds x y
-  same_ends x y f g a b =
-      let same = same_command a.command b.command a.says b.says in
-      one_end told (scope_of a.command) p.folder_before p.folder_after q.folder_before q.folder_after x y at.tells to.tells f g a.loads
-      (subst (λ (c : Command). LoadsSo (scope_of c) q.folder_before q.folder_after y) same b.loads)
+  -- the ends of the loading of one command
+  one_load : (command : Command) (x y : Result Timetable LoadFault) (new later : FolderSeen) → IsOfFiles x → IsOfFiles y → LoadsSo (scope_of command) p.folder_before new x
+      → LoadsSo (scope_of command) q.folder_before later y → AreSameEnds x y
+  one_load command x y new later f g a b = one_end told (scope_of command) p.folder_before new q.folder_before later x y at.tells to.tells f g a b
 
-  -- what one command prints of timetables that are the same is refused for one cause or none
-  one_cause : (command : Command) (made other : Timetable) (x y : Block) → AreSame made other → Prints command made x → Prints command other y → x.fault ≡ y.fault
-  one_cause (commands.Check check) made other x y same a b = a.0 ∙ sym b.0
-  one_cause (commands.Ask ask) made other x y same a b = causes x.fault y.fault a b where
-    stops : made.doc.stops ≡ other.doc.stops
-    stops = ap (λ (d : StopsDoc). d.stops) same.doc
+  -- what a block was loaded from
+  record Loaded {Z : Type 0} (command : Command) (r : Past Z) : Type 0 where
+    between : FolderSeen
+    made : Timetable
+    loads : Loads (scope_of command) r.folder_before between made
+    heard : IsHeardBy told (update_of command)
 
-    causes : (f g : Option QueryFault) → IsBlockText made ask.query f x.text.items → IsBlockText other ask.query g y.text.items → f ≡ g
-    causes None None m n = refl
-    causes None (Some g) m n = absurd (not_both other.doc.stops ask.query g (subst (λ s. IsAskable s ask.query) stops m.0) n.0)
-    causes (Some f) None m n = absurd (not_both other.doc.stops ask.query f n.0 (subst (λ s. Deserves s ask.query f) stops m.0))
-    causes (Some f) (Some g) m n = ap (λ (h : QueryFault). Some h) (one_fault other.doc.stops ask.query f g (subst (λ s. Deserves s ask.query f) stops m.0) n.0)
+  loaded : {Z : Type 0} (look : Z → LinkSeen) (r : Past Z) (block : Block) → r.folder_before.files ≡ Some told → (command : Command)
+      → Prints command r.folder_before r.folder_after (look r.link_before) (look r.link_after) block → Loaded command r
+  loaded look r block tells (commands.Check check) prints =
+      record { between = r.folder_after; made = prints.made; loads = prints.loaded; heard = heard_nothing told (record { runs = prints.made.runs; stops = prints.made.doc.stops; zone = prints.made.zone; base = 0; history = [] }) }
+  loaded look r block tells (commands.Ask ask) prints = record {
+    between = prints.inputs.between;
+    made = prints.made;
+    loads = prints.inputs.loaded;
+    heard = record {
+      file = prints.file;
+      is_told = inputs_told told (ask_scope ask) ask.update r.folder_before r.folder_after prints.made prints.file tells prints.inputs;
+      old = store_of prints.made ask.publishing.base_moment;
+      new = prints.asked.store;
+      line = prints.asked.line;
+      behind = prints.asked.behind;
+    };
+  }
 
-  same_cause : (x y : Block) → IsRightBlock p.words p.folder_before p.folder_after x → IsRightBlock q.words q.folder_before q.folder_after y → x.fault ≡ y.fault
-  same_cause x y a b =
-      let same = same_command a.0 b.0 a.1 b.1 in
-      one_cause a.0 a.2.made b.2.made x y (same_ends (Ok a.2.made) (Ok b.2.made) tt tt (block_ends p x a) (block_ends q y b)) a.2.text
-      (subst (λ (c : Command). Prints c b.2.made y) same b.2.text)
+  -- a told message that was heard is not wrong
+  heard_or_wrong : (name : List ℕ) (cause : Option AdmitFault) → IsHeardBy told (Some name) → IsToldCause told name cause → ⊥
+  heard_or_wrong name None is none = there is.file is.is_told where
+    there : (file : Option File) → IsToldFile told (Some name) file → ⊥
+    there None told_is = told_is
+    there (Some file) told_is = let e = sym none ∙ told_is.1 in cc
+  heard_or_wrong name (Some found) is (bytes, same, wrong, other) = heard_fine one_outcome told name bytes found is same wrong other
 
-  -- a timetable and a refusal are no ends of one loading
-  not_refused : (x : Block) (f : LoadFault) → IsOfFiles (Err f) → IsRightBlock p.words p.folder_before p.folder_after x → Ends q (Err f) → ⊥
-  not_refused x f g a b = same_ends (Ok a.2.made) (Err f) tt g (block_ends p x a) b
+  -- and a told message is wrong for one cause
+  one_wrong : (name : List ℕ) (store : Stored) (a b : Option AdmitFault) → IsToldCause told name a → IsToldCause told name b → a ≡ b
+  one_wrong name store None None x y = refl
+  one_wrong name store None (Some g) x (bytes, same, wrong, other) = let e = sym x ∙ same in absurd (cc)
+  one_wrong name store (Some f) None (bytes, same, wrong, other) y = let e = sym y ∙ same in absurd (cc)
+  one_wrong name store (Some f) (Some g) (bytes, same, wrong, other) (bytes', same', wrong', other') =
+      let e : Some bytes ≡ Some bytes' = sym same ∙ same' in
+      let bytes_are : bytes ≡ bytes' = cc in
+      ap (λ (c : AdmitFault). Some c) (one_outcome.one_cause store bytes' f g (subst (λ b. IsRefused store b f) bytes_are (wrong store)) (wrong' store))
 
-  refused_not : (y : Block) (f : LoadFault) → IsOfFiles (Err f) → Ends p (Err f) → IsRightBlock q.words q.folder_before q.folder_after y → ⊥
-  refused_not y f g a b = same_ends (Err f) (Ok b.2.made) g tt a (block_ends q y b)
+  -- blocks that were printed whole
+  both_whole : Whole seen p s → Whole saw q t → s ≡ t
+  both_whole x y = x.status_is ∙ by x.right.command x.right.says x.right.prints other ∙ sym y.status_is where
+    other : Prints x.right.command q.folder_before q.folder_after (saw q.link_before) (saw q.link_after) y.block
+    other = subst (λ (c : Command). Prints c q.folder_before q.folder_after (saw q.link_before) (saw q.link_after) y.block) (same_command x.right.command y.right.command x.right.says y.right.says) y.right.prints
 
-  no_folder_p : (before after : ℕ) → IsRight p (FolderFault before after) → ⊥
-  no_folder_p before after right = at.no_folder_fault (subst (λ count. Rose count p.folder_after.faults) right.0.2.0 (subst (λ count. Rose before count) right.0.2.1 right.0.2.2))
+    by : (command : Command) → SaysCommand p.words command → Prints command p.folder_before p.folder_after (seen p.link_before) (seen p.link_after) x.block
+        → Prints command q.folder_before q.folder_after (saw q.link_before) (saw q.link_after) y.block → client_status_of x.block.outcome ≡ client_status_of y.block.outcome
+    by (commands.Check check) says a b = ap client_status_of (a.no_client ∙ sym b.no_client)
+    by (commands.Ask ask) says a b =
+        let one = one_client seen saw one_timetable loads_told one_output told ask p.folder_before p.folder_after q.folder_before q.folder_after p.link_before p.link_after q.link_before q.link_after x.block y.block a b
+        at.tells to.tells (at.fair ask says) (to.fair ask (subst (λ w. SaysCommand w (commands.Ask ask)) words says)) in
+        let fine = subst IsNoFault a.client (no_fault loads_told told ask p.folder_before p.folder_after (seen p.link_before) (seen p.link_after) x.block a at.tells (at.fair ask says)) in
+        ap client_status_of a.client ∙ one_client_status a.end.outcome b.end.outcome one.one.outcome fine ∙ sym (ap client_status_of b.client)
 
-  no_folder_q : (before after : ℕ) → IsRight q (FolderFault before after) → ⊥
-  no_folder_q before after right = to.no_folder_fault (subst (λ count. Rose count q.folder_after.faults) right.0.2.0 (subst (λ count. Rose before count) right.0.2.1 right.0.2.2))
+  -- a block and a refusal by the files are no ends of one command
+  clash : {Z W : Type 0} (r : Past Z) (u : Past W) (v : Status) → r.folder_before.files ≡ Some told → u.folder_before.files ≡ Some told → (command : Command) → Loaded command r
+      → LoadFails command u v ⊎ UpdateFails command told u v → ⊥
+  clash r u v tells tell command x (inl y) =
+      one_end told (scope_of command) r.folder_before x.between u.folder_before u.folder_after (Ok x.made) (Err y.found) tells tell tt y.of_files x.loads y.loads
+  clash r u v tells tell command x (inr y) = heard_or_wrong y.name y.cause (subst (IsHeardBy told) y.named x.heard) y.is
 
-  no_sink_p : (before after : ℕ) → IsRight p (SinkFault before after) → ⊥
-  no_sink_p before after right = at.no_sink_fault (subst (λ count. Rose count p.sink_after.faults) right.0 (subst (λ count. Rose before count) right.1 right.2))
+  whole_refused : (x : Whole seen p s) → IsRefusedByFiles told q t → ⊥
+  whole_refused x y =
+      clash p q t at.tells to.tells x.right.command (loaded seen p x.block at.tells x.right.command x.right.prints)
+      (subst (λ (c : Command). LoadFails c q t ⊎ UpdateFails c told q t) (same_command x.right.command y.command x.right.says y.says) y.by)
 
-  no_sink_q : (before after : ℕ) → IsRight q (SinkFault before after) → ⊥
-  no_sink_q before after right = to.no_sink_fault (subst (λ count. Rose count q.sink_after.faults) right.0 (subst (λ count. Rose before count) right.1 right.2))
+  refused_whole : IsRefusedByFiles told p s → Whole saw q t → ⊥
+  refused_whole x y =
+      clash q p s to.tells at.tells x.command
+      (subst (λ (c : Command). Loaded c q) (same_command x.command y.right.command x.says y.right.says) (loaded saw q y.block to.tells y.right.command y.right.prints)) x.by
 
-  broken_p : (rule : ℕ) (file : List ℕ) (row : ℕ) → IsRight p (FeedBroken rule file row) → Ends p (Err (fault.Broken rule file row))
-  broken_p rule file row right = record { command = right.0.0; says = right.0.1; loads = right.0.2 }
+  -- refusals by the files have one status
+  both_refused : (command : Command) → LoadFails command p s ⊎ UpdateFails command told p s → LoadFails command q t ⊎ UpdateFails command told q t → s ≡ t
+  both_refused command (inl x) (inl y) =
+      x.status_is
+      ∙ ap status_in (one_load command (Err x.found) (Err y.found) p.folder_after q.folder_after x.of_files y.of_files x.loads y.loads)
+      ∙ sym y.status_is
+  both_refused command (inl x) (inr y) =
+      absurd (one_end told (scope_of command) p.folder_before p.folder_after q.folder_before y.between (Err x.found) (Ok y.made) at.tells to.tells x.of_files tt x.loads y.loaded)
+  both_refused command (inr x) (inl y) =
+      absurd (one_end told (scope_of command) p.folder_before x.between q.folder_before q.folder_after (Ok x.made) (Err y.found) at.tells to.tells tt y.of_files x.loaded y.loads)
+  both_refused command (inr x) (inr y) =
+      let name : x.name ≡ y.name = let e : Some x.name ≡ Some y.name = sym x.named ∙ y.named in cc in
+      let cause = one_wrong y.name (store_of x.made 0) x.cause y.cause (subst (λ n. IsToldCause told n x.cause) name x.is) y.is in
+      x.status_is ∙ ap (λ n. status_by n x.cause) name ∙ ap (status_by y.name) cause ∙ sym y.status_is
 
-  broken_q : (rule : ℕ) (file : List ℕ) (row : ℕ) → IsRight q (FeedBroken rule file row) → Ends q (Err (fault.Broken rule file row))
-  broken_q rule file row right = record { command = right.0.0; says = right.0.1; loads = right.0.2 }
+  one_ended : Ended seen told p s → Ended saw told q t → s ≡ t
+  one_ended (inl x) (inl y) = both_whole x y
+  one_ended (inl x) (inr (inl y)) = absurd (y.says_none x.right.command (subst (λ w. SaysCommand w x.right.command) words x.right.says))
+  one_ended (inl x) (inr (inr y)) = absurd (whole_refused x y)
+  one_ended (inr (inl x)) (inl y) = absurd (x.says_none y.right.command (subst (λ w. SaysCommand w y.right.command) (sym words) y.right.says))
+  one_ended (inr (inl x)) (inr (inl y)) = x.status_is ∙ sym y.status_is
+  one_ended (inr (inl x)) (inr (inr y)) = absurd (x.says_none y.command (subst (λ w. SaysCommand w y.command) (sym words) y.says))
+  one_ended (inr (inr x)) (inl y) = absurd (refused_whole x y)
+  one_ended (inr (inr x)) (inr (inl y)) = absurd (y.says_none x.command (subst (λ w. SaysCommand w x.command) words x.says))
+  one_ended (inr (inr x)) (inr (inr y)) =
+      both_refused x.command x.by (subst (λ (c : Command). LoadFails c q t ⊎ UpdateFails c told q t) (same_command x.command y.command x.says y.says) y.by)
 
-  large_p : (what : What) (count : ℕ) → IsRight p (TooLarge what count) → Ends p (Err (fault.TooLarge what count))
-  large_p what count right = record { command = right.0.0; says = right.0.1; loads = right.0.2 }
+  one : IsRight seen p s → IsRight saw q t → (s ≡ t) ⊎ ((s ≡ NoMemory) ⊎ (t ≡ NoMemory))
+  one x y = by (ended seen p told at s x) (ended saw q told to t y) where
+    by : (s ≡ NoMemory) ⊎ Ended seen told p s → (t ≡ NoMemory) ⊎ Ended saw told q t → (s ≡ t) ⊎ ((s ≡ NoMemory) ⊎ (t ≡ NoMemory))
+    by (inl e) other = inr (inl e)
+    by (inr a) (inl e) = inr (inr e)
+    by (inr a) (inr b) = inl (one_ended a b)
 
-  large_q : (what : What) (count : ℕ) → IsRight q (TooLarge what count) → Ends q (Err (fault.TooLarge what count))
-  large_q what count right = record { command = right.0.0; says = right.0.1; loads = right.0.2 }
+pub one_status : {X Y : Type 0} (seen : X → LinkSeen) (saw : Y → LinkSeen) → OneCommand → OneTimetable → OneEnd → LoadsTold → OneOutcome → OneOutput seen saw → OneStatus seen saw
+one_status seen saw one_command one_timetable one_end loads_told one_outcome one_output p q told words at to s t x y =
+    one seen saw one_command one_timetable one_end loads_told one_outcome one_output p q told words at to s t x y
 
-  -- words of a command are none that say none
-  says_p : (command : Command) → SaysCommand p.words command → IsRight q Usage → ⊥
-  says_p command says right = right.0.0 command (subst (λ w. SaysCommand w command) words says)
+-- a run that is done was no refusal
+pub done_is_printed : {X : Type 0} (seen : X → LinkSeen) → DoneIsPrinted seen
+done_is_printed seen p (inl x) = x
+done_is_printed seen p (inr x) = absurd (by x.end) where
+  never : (refusal : Refusal) → Done ≡ status_of refusal → ⊥
+  never refused.Usage e = cc
+  never (refused.Load (fault.Broken rule file row)) e = cc
+  never (refused.Load (fault.TooLarge kind count)) e = cc
+  never (refused.Load (fault.Folder before after)) e = cc
+  never (refused.Load fault.NoMemory) e = cc
+  never refused.NoUpdate e = cc
+  never (refused.UpdateFolder before after) e = cc
+  never (refused.LongUpdate count) e = cc
+  never (refused.BrokenUpdate name found) e = cc
 
-  says_q : (command : Command) → SaysCommand q.words command → IsRight p Usage → ⊥
-  says_q command says right = right.0.0 command (subst (λ w. SaysCommand w command) (sym words) says)
+  by : IsRefusalEnd x.refusal p.sink_before p.sink_after Done → ⊥
+  by (inl said) = never x.refusal said.status_is
+  by (inr lacks) = let e : Done ≡ NoMemory = lacks.status_is in cc
 
-  status_in : LoadFault → Status
-  status_in (fault.Broken rule file row) = FeedBroken rule file row
-  status_in (fault.TooLarge what count) = TooLarge what count
-  status_in (fault.Folder before after) = FolderFault before after
-  status_in fault.NoMemory = NoMemory
-
-  one : (s t : Status) → IsRight p s → IsRight q t → (s ≡ t) ⊎ ((s ≡ NoMemory) ⊎ (t ≡ NoMemory))
-  unfolding status_in
-  one NoMemory t x y = inr (inl refl)
-  one (SinkFault before after) t x y = absurd (no_sink_p before after x)
-  one (FolderFault before after) t x y = absurd (no_folder_p before after x)
-  one Done NoMemory x y = inr (inr refl)
-  one Done (SinkFault before after) x y = absurd (no_sink_q before after y)
-  one Done (FolderFault before after) x y = absurd (no_folder_q before after y)
-  one Done Done x y = inl refl
-  one Done (QueryRefused client f) x y = absurd (none_some f (sym x.2 ∙ same_cause x.0 y.1.0 x.1 y.1.1 ∙ y.1.2))
-  one Done Usage x y = absurd (says_p x.1.0 x.1.1 y)
-  one Done (FeedBroken rule file row) x y = absurd (not_refused x.0 (fault.Broken rule file row) tt x.1 (broken_q rule file row y))
-  one Done (TooLarge what count) x y = absurd (not_refused x.0 (fault.TooLarge what count) tt x.1 (large_q what count y))
-  one (QueryRefused client f) NoMemory x y = inr (inr refl)
-  one (QueryRefused client f) (SinkFault before after) x y = absurd (no_sink_q before after y)
-  one (QueryRefused client f) (FolderFault before after) x y = absurd (no_folder_q before after y)
-  one (QueryRefused client f) Done x y = absurd (none_some f (sym y.2 ∙ sym (same_cause x.1.0 y.0 x.1.1 y.1) ∙ x.1.2))
-  one (QueryRefused client f) (QueryRefused other g) x y =
-      let clients : client ≡ other = x.0 ∙ sym y.0 in
-      let some : Some f ≡ Some g = sym x.1.2 ∙ same_cause x.1.0 y.1.0 x.1.1 y.1.1 ∙ y.1.2 in
-      let faults : f ≡ g = cc in
-      inl (λ i. QueryRefused (clients i) (faults i))
-  one (QueryRefused client f) Usage x y = absurd (says_p x.1.1.0 x.1.1.1 y)
-  one (QueryRefused client f) (FeedBroken rule file row) x y = absurd (not_refused x.1.0 (fault.Broken rule file row) tt x.1.1 (broken_q rule file row y))
-  one (QueryRefused client f) (TooLarge what count) x y = absurd (not_refused x.1.0 (fault.TooLarge what count) tt x.1.1 (large_q what count y))
-  one Usage NoMemory x y = inr (inr refl)
-  one Usage (SinkFault before after) x y = absurd (no_sink_q before after y)
-  one Usage (FolderFault before after) x y = absurd (no_folder_q before after y)
-  one Usage Done x y = absurd (says_q y.1.0 y.1.1 x)
-  one Usage (QueryRefused client f) x y = absurd (says_q y.1.1.0 y.1.1.1 x)
-  one Usage Usage x y = inl refl
-  one Usage (FeedBroken rule file row) x y = absurd (says_q y.0.0 y.0.1 x)
-  one Usage (TooLarge what count) x y = absurd (says_q y.0.0 y.0.1 x)
-  one (FeedBroken rule file row) NoMemory x y = inr (inr refl)
-  one (FeedBroken rule file row) (SinkFault before after) x y = absurd (no_sink_q before after y)
-  one (FeedBroken rule file row) (FolderFault before after) x y = absurd (no_folder_q before after y)
-  one (FeedBroken rule file row) Done x y = absurd (refused_not y.0 (fault.Broken rule file row) tt (broken_p rule file row x) y.1)
-  one (FeedBroken rule file row) (QueryRefused client f) x y = absurd (refused_not y.1.0 (fault.Broken rule file row) tt (broken_p rule file row x) y.1.1)
-  one (FeedBroken rule file row) Usage x y = absurd (says_p x.0.0 x.0.1 y)
-  one (FeedBroken rule file row) (FeedBroken rule' file' row') x y =
-      inl (ap status_in (same_ends (Err (fault.Broken rule file row)) (Err (fault.Broken rule' file' row')) tt tt (broken_p rule file row x) (broken_q rule' file' row' y)))
-  one (FeedBroken rule file row) (TooLarge what count) x y =
-      inl (ap status_in (same_ends (Err (fault.Broken rule file row)) (Err (fault.TooLarge what count)) tt tt (broken_p rule file row x) (large_q what count y)))
-  one (TooLarge what count) NoMemory x y = inr (inr refl)
-  one (TooLarge what count) (SinkFault before after) x y = absurd (no_sink_q before after y)
-  one (TooLarge what count) (FolderFault before after) x y = absurd (no_folder_q before after y)
-  one (TooLarge what count) Done x y = absurd (refused_not y.0 (fault.TooLarge what count) tt (large_p what count x) y.1)
-  one (TooLarge what count) (QueryRefused client f) x y = absurd (refused_not y.1.0 (fault.TooLarge what count) tt (large_p what count x) y.1.1)
-  one (TooLarge what count) Usage x y = absurd (says_p x.0.0 x.0.1 y)
-  one (TooLarge what count) (FeedBroken rule file row) x y =
-      inl (ap status_in (same_ends (Err (fault.TooLarge what count)) (Err (fault.Broken rule file row)) tt tt (large_p what count x) (broken_q rule file row y)))
-  one (TooLarge what count) (TooLarge what' count') x y =
-      inl (ap status_in (same_ends (Err (fault.TooLarge what count)) (Err (fault.TooLarge what' count')) tt tt (large_p what count x) (large_q what' count' y)))
-
-pub one_status : OneCommand → OneEnd → OneStatus
-one_status one_command one_end p q told words at to s t x y = one one_command one_end p q told words at to s t x y
-
-pub done_is_clear : LoadsTold → DoneIsClear
-done_is_clear loads_told p told at right = record {
-  command = right.1.0;
-  says = right.1.1;
-  told = told;
-  tells = at.tells;
-  made = right.1.2.made;
-  sound = loads_told told (scope_of right.1.0) p.folder_before p.folder_after right.1.2.made at.tells right.1.2.loaded;
-  no_folder_fault = at.no_folder_fault;
-  no_sink_fault = at.no_sink_fault;
-}
+pub done_is_clear : {X : Type 0} (seen : X → LinkSeen) → LoadsTold → DoneIsClear seen
+done_is_clear seen loads_told p told at right = by (done_is_printed seen p right) where
+  by : HasPrinted seen p Done → IsClear seen p
+  by x = of x.right.command x.right.says x.right.prints where
+    of : (command : Command) → SaysCommand p.words command → Prints command p.folder_before p.folder_after (seen p.link_before) (seen p.link_after) x.block → IsClear seen p
+    of (commands.Check check) says prints = record {
+      command = commands.Check check;
+      says = says;
+      told = told;
+      unhindered = at;
+      made = prints.made;
+      sound = loads_told told (check_scope check) p.folder_before p.folder_after prints.made at.tells prints.loaded;
+      heard = tt;
+    }
+    of (commands.Ask ask) says prints = record {
+      command = commands.Ask ask;
+      says = says;
+      told = told;
+      unhindered = at;
+      made = prints.made;
+      sound = loads_told told (ask_scope ask) p.folder_before prints.inputs.between prints.made at.tells prints.inputs.loaded;
+      heard = (
+        side_with prints.made ask.publishing prints.asked.store,
+        side_asked loads_told told ask p.folder_before p.folder_after (seen p.link_before) (seen p.link_after) x.block prints at.tells,
+      );
+    }

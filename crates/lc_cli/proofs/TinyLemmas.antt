@@ -11,7 +11,15 @@ use Rattle.std.proofs.lemmas.List.Kept.{AllPairs-cons}
 use Rattle.std.proofs.lemmas.List.Sums.{AllPass-from_list_all}
 use Rattle.std.proofs.lemmas.Option.{slice_get_within, get_or_from_slice_get}
 use Rattle.lc_model.specs.Call.{GoesForward}
-use Rattle.lc_model.specs.Run.{RunsForward}
+use Rattle.lc_model.specs.Laws.{OneArrival, arrival_of}
+use Rattle.lc_model.specs.Run.{InKeyOrder, RunsForward}
+use Rattle.lc_model.specs.RunKey.{key_cmp}
+use Rattle.std.specs.Ordering.{on}
+use Rattle.std.specs.declared.cmp.Ordering.TheVariants.{Less}
+use Rattle.lc_model.specs.declared.moment.TheConstants.{MOMENTS_END}
+use Rattle.lc_versions.specs.Timetable.{AreLiveRuns}
+use Rattle.live_calls.specs.Laws.{IsOnTime, LiveWithoutNews, RunsAreLive, RunsOnTime}
+use Rattle.command_words.specs.declared.command.Publishing.{Publishing}
 use Rattle.lc_model.specs.Change.{change_between, is_same_id}
 use Rattle.lc_model.specs.Journey.{AreRides, GoesOn, IsAnswer, IsJourney, alight_of, arrival_of_rides, arrives_at, board_of, departure_of}
 use Rattle.lc_model.specs.Question.{IsFrom, IsTo, latest_of}
@@ -35,9 +43,7 @@ use Rattle.lc_model.specs.declared.stop.Stop.{Stop}
 use Rattle.lc_model.specs.declared.walk.Walk.{Walk}
 use Rattle.timetable.specs.Tiny.{IsTiny, call, change_at, key_of, moment, run_of, stop_ids, stop_named, tiny_changes, tiny_runs, tiny_stops}
 use Rattle.timetable.specs.declared.timetable.Timetable.{Timetable}
-use Rattle.lc_cli.specs.Plan.{AnswersQuestion}
-use Rattle.lc_cli.specs.Laws.{OneAnswer}
-use Rattle.lc_cli.specs.Tiny.{AnswersTiny, AreJourneyBy, AreRefused, AreTaken, IsMadeOf, MakeJourneys, from_a_to_d, in_place, nine_minutes_late, to_b, to_d_at, to_d_later, worked}
+use Rattle.lc_cli.specs.Tiny.{AnswersNever, AnswersTiny, AreJourneyBy, AreRefused, AreTaken, IsMadeOf, MakeJourneys, from_a_to_d, in_place, nine_minutes_late, to_b, to_d_at, to_d_later, worked}
 
 -- each stop is one of the stops
 each_known : (stops : List Stop) → All (λ (s : Stop). HasStop stops s.id) stops
@@ -222,9 +228,6 @@ best journey made = record {
   is_earliest = λ other goes. subst (λ (v : ℕ). v ≤ arrives_at other) (sym (arrives_with_rides None worked journey made)) (journeys_late other goes);
 }
 
-pub worked_answers : AreTaken None worked
-worked_answers journey made = (tiny, is_tiny, best journey made)
-
 -- the journey by T2 is one too
 pub later_is_journey : AreJourneyBy from_a_to_d nine_minutes_late
 later_is_journey = record {
@@ -246,33 +249,86 @@ none_make_none make = let none = make None None in none.0.not_empty none.1.rides
 abbrev pub the_worked : Journey
 the_worked = (rides_make to_b (to_d_at (moment 8 31) ∷ []) None None).0
 
-pub the_worked_answers : AnswersQuestion tiny from_a_to_d (answers.Journey the_worked)
+the_worked_answers : IsAnswer (IsRideAt runs) from_a_to_d doc (answers.Journey the_worked)
 the_worked_answers = best the_worked (rides_make to_b (to_d_at (moment 8 31) ∷ []) None None).1
 
--- what answers by a timetable of the small feed answers by this one
+-- one run stands before another
+abbrev KeyBefore : Run → Run → Type 0
+KeyBefore a b = on (λ (r : Run). r.key) key_cmp a b ≡ Less
+
+-- the runs stand by their trips
+in_order : InKeyOrder runs
+in_order =
+    AllPairs-cons KeyBefore (run_at 0) (drop 1 runs) (All-cons (KeyBefore (run_at 0)) (run_at 1) (drop 2 runs) refl
+    (All-cons (KeyBefore (run_at 0)) (run_at 2) (drop 3 runs) refl (All-cons (KeyBefore (run_at 0)) (run_at 3) (drop 4 runs) refl
+    (All-cons (KeyBefore (run_at 0)) (run_at 4) [] refl (All-nil (KeyBefore (run_at 0)))))))
+    (AllPairs-cons KeyBefore (run_at 1) (drop 2 runs) (All-cons (KeyBefore (run_at 1)) (run_at 2) (drop 3 runs) refl
+    (All-cons (KeyBefore (run_at 1)) (run_at 3) (drop 4 runs) refl (All-cons (KeyBefore (run_at 1)) (run_at 4) [] refl (All-nil (KeyBefore (run_at 1))))))
+    (AllPairs-cons KeyBefore (run_at 2) (drop 3 runs) (All-cons (KeyBefore (run_at 2)) (run_at 3) (drop 4 runs) refl (All-cons (KeyBefore (run_at 2)) (run_at 4) [] refl (All-nil (KeyBefore (run_at 2)))))
+    (pairs_of_two KeyBefore (run_at 3) (run_at 4) refl)))
+
+-- a call at a moment that is one is on time
+on_time : (stop : List ℕ) (seq arr dep : ℕ) → arr < MOMENTS_END → dep < MOMENTS_END → IsOnTime (call stop seq arr dep)
+on_time stop seq arr dep a d = record { arr = a; dep = d; arr_delay = refl; dep_delay = refl }
+
+-- the calls of the runs are on time
+all_on_time : All (λ (r : Run). All IsOnTime r.calls) runs
+all_on_time =
+    All-cons OnTime (run_at 0) (drop 1 runs) (All-cons IsOnTime (call (codes "A") 1 (moment 8 0) (moment 8 0)) (drop 1 (run_at 0).calls) (on_time (codes "A") 1 (moment 8 0) (moment 8 0) (lit< tt) (lit< tt))
+    (two (codes "B") 2 (moment 8 10) (moment 8 11) (codes "C") 3 (moment 8 30) (lit< tt) (lit< tt) (lit< tt)))
+    (All-cons OnTime (run_at 1) (drop 2 runs) (two (codes "B") 1 (moment 8 20) (moment 8 20) (codes "D") 2 (moment 8 40) (lit< tt) (lit< tt) (lit< tt))
+    (All-cons OnTime (run_at 2) (drop 3 runs) (two (codes "B") 1 (moment 8 12) (moment 8 12) (codes "D") 2 (moment 8 31) (lit< tt) (lit< tt) (lit< tt))
+    (All-cons OnTime (run_at 3) (drop 4 runs) (two (codes "E") 1 (moment 9 0) (moment 9 0) (codes "F") 2 (moment 9 10) (lit< tt) (lit< tt) (lit< tt))
+    (All-cons OnTime (run_at 4) [] (two (codes "E") 1 (moment 10 0) (moment 10 0) (codes "F") 2 (moment 10 10) (lit< tt) (lit< tt) (lit< tt)) (All-nil OnTime))))) where
+      OnTime : Run → Type 0
+      OnTime r = All IsOnTime r.calls
+
+      two : (from : List ℕ) (first arr dep : ℕ) (to : List ℕ) (second last : ℕ) → arr < MOMENTS_END → dep < MOMENTS_END → last < MOMENTS_END → All IsOnTime (call from first arr dep ∷ call to second last last ∷ [])
+      two from first arr dep to second last a d l =
+          All-cons IsOnTime (call from first arr dep) (call to second last last ∷ []) (on_time from first arr dep a d) (All-cons IsOnTime (call to second last last) [] (on_time to second last last l l) (All-nil IsOnTime))
+
+-- so are the runs
+runs_on_time : All RunsOnTime runs
+runs_on_time place run inside = record { forward = forward place run inside; on_time = all_on_time place run inside }
+
+-- the document of each timetable of the small feed is this one
 same_doc : (made : Timetable) → IsTiny made → made.doc ≡ doc
 same_doc made is = documents_are_one made.doc doc is.stops is.changes
 
-pub by_tiny : (answer : Answer) → AnswersTiny from_a_to_d answer → AnswersQuestion tiny from_a_to_d answer
-by_tiny answer (made, is, answers) =
-    subst (λ (d : StopsDoc). IsAnswer (IsRideAt runs) from_a_to_d d answer) (same_doc made is)
-    (subst (λ (r : List Run). IsAnswer (IsRideAt r) from_a_to_d made.doc answer) is.runs answers)
+-- what answers at a version of the small feed's timetable answers by its runs
+pub by_tiny : LiveWithoutNews → (publishing : Publishing) (version : ℕ) (answer : Answer) → AnswersTiny publishing version from_a_to_d answer → IsAnswer (IsRideAt runs) from_a_to_d doc answer
+by_tiny without publishing version answer (made, is, answers) =
+    let live : answers.live ≡ runs = without runs made.doc.stops answers.live in_order runs_on_time (subst (λ (r : List Run). AreLiveRuns r made.doc.stops [] answers.live) is.runs answers.are_live) in
+    subst (λ (d : StopsDoc). IsAnswer (IsRideAt runs) from_a_to_d d answer) (same_doc made is) (subst (λ (r : List Run). IsAnswer (IsRideAt r) from_a_to_d made.doc answer) live answers.is_answer)
 
--- rides that arrive at another moment than those of an answer are no answer
-pub refused_arrival : OneAnswer → (rides : List Ride) → (arrival_of_rides rides ≡ moment 8 31 → ⊥) → AreRefused None rides
-refused_arrival one_answer rides other journey made answered =
-    let one = one_answer tiny from_a_to_d (answers.Journey the_worked) (answers.Journey journey) the_worked_answers (by_tiny (answers.Journey journey) answered) in
-    let same : arrives_at the_worked ≡ arrives_at journey = cc in
-    other (sym (arrives_with_rides None rides journey made) ∙ sym same ∙ arrives_with_rides None worked the_worked (rides_make to_b (to_d_at (moment 8 31) ∷ []) None None).1)
+-- the worked rides are taken at every version
+pub worked_answers : RunsAreLive → AreTaken None worked
+worked_answers are_live journey made publishing version =
+    (tiny, is_tiny, record { live = runs; are_live = are_live runs doc.stops in_order runs_on_time; is_answer = best journey made })
 
--- where a journey may begin there is no walk, be it from the same stop
-pub refused_walk : (seconds : ℕ) → AreRefused (Some (in_place seconds)) worked
-refused_walk seconds journey made answered =
-    let here = by_tiny (answers.Journey journey) answered in
-    let begins : IsWalkBefore from_a_to_d doc (board_of worked) (Some (in_place seconds)) =
-    subst (λ rides. IsWalkBefore from_a_to_d doc (board_of rides) (Some (in_place seconds))) made.rides_are
-    (subst (IsWalkBefore from_a_to_d doc (board_of journey.rides)) made.before_is here.is_journey.begins) in
-    begins.0 (inl refl)
+module _ (without : LiveWithoutNews) (one_arrival : OneArrival) where
+  one_tiny : (publishing : Publishing) (version : ℕ) (answer : Answer) → AnswersTiny publishing version from_a_to_d answer → arrival_of (answers.Journey the_worked) ≡ arrival_of answer
+  one_tiny publishing version answer is = one_arrival runs from_a_to_d doc (answers.Journey the_worked) answer the_worked_answers (by_tiny without publishing version answer is)
+
+  -- there is a journey
+  pub refused_none : AnswersNever from_a_to_d answers.NoJourney
+  refused_none publishing version is = let never = one_tiny publishing version answers.NoJourney is in cc
+
+  -- rides that arrive at another moment than those of an answer are no answer
+  pub refused_arrival : (rides : List Ride) → (arrival_of_rides rides ≡ moment 8 31 → ⊥) → AreRefused None rides
+  refused_arrival rides other journey made publishing version answered =
+      let one = one_tiny publishing version (answers.Journey journey) answered in
+      let same : arrives_at the_worked ≡ arrives_at journey = cc in
+      other (sym (arrives_with_rides None rides journey made) ∙ sym same ∙ arrives_with_rides None worked the_worked (rides_make to_b (to_d_at (moment 8 31) ∷ []) None None).1)
+
+  -- where a journey may begin there is no walk, be it from the same stop
+  pub refused_walk : (seconds : ℕ) → AreRefused (Some (in_place seconds)) worked
+  refused_walk seconds journey made publishing version answered =
+      let here = by_tiny without publishing version (answers.Journey journey) answered in
+      let begins : IsWalkBefore from_a_to_d doc (board_of worked) (Some (in_place seconds)) =
+      subst (λ rides. IsWalkBefore from_a_to_d doc (board_of rides) (Some (in_place seconds))) made.rides_are
+      (subst (IsWalkBefore from_a_to_d doc (board_of journey.rides)) made.before_is here.is_journey.begins) in
+      begins.0 (inl refl)
 
 -- no two arrivals are one
 pub apart : (m n : ℕ) → m < n → m ≡ n → ⊥

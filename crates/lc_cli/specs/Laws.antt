@@ -1,58 +1,40 @@
--- That what is printed of a question is one arrival.
-use Rattle.std.specs.Prelude.{◌≡◌, ◌⊎◌, List, ◌++◌, Some, codes}
-use Rattle.lc_io.specs.Counts.{Rose}
-use Rattle.lc_io.specs.declared.file.File.{File}
-use Rattle.lc_model.specs.Laws.{arrival_of}
-use Rattle.lc_model.specs.declared.answer.Answer.{Answer}
-use Rattle.lc_model.specs.declared.query.Query.{Query}
+-- That what is printed is one, and so is the status.
+use Rattle.std.specs.Prelude.{◌≡◌, ◌⊎◌, List}
+use Rattle.asking.specs.Laws.{PrintOneClient}
+use Rattle.asking.specs.declared.end.ClientEnd.{ClientEnd}
 use Rattle.command_words.specs.declared.command.Command.{Command}
 use Rattle.command_words.specs.declared.command.Command.TheVariants as commands
-use Rattle.timetable.specs.declared.timetable.Timetable.{Timetable}
-use Rattle.journey_text.specs.AnswerText.{answer_text_of}
-use Rattle.lc_cli.specs.Plan.{AnswersQuestion}
-use Rattle.lc_cli.specs.Top.{IsClear, IsRight, Past}
+use Rattle.lc_io.specs.declared.file.File.{File}
+use Rattle.lc_world.specs.Link.{LinkSeen}
+use Rattle.lc_cli.specs.Clear.{IsClear, IsUnhindered}
+use Rattle.lc_cli.specs.Top.{HasPrinted, IsRight, Past}
 use Rattle.lc_cli.specs.declared.block.Block.{Block}
 use Rattle.lc_cli.specs.declared.status.Status.{Status}
 use Rattle.lc_cli.specs.declared.status.Status.TheVariants.{Done, NoMemory}
 
--- the answers to a question of a timetable have one arrival, or there is no journey in any
-abbrev pub OneAnswer : Type 0
-OneAnswer =
-    (made : Timetable) (query : Query) (a b : Answer) → AnswersQuestion made query a → AnswersQuestion made query b
-    → arrival_of a ≡ arrival_of b
-
--- the blocks are the texts of answers that have one arrival, or are both that there is no journey
-pub record PrintOneArrival (x y : Block) : Type 0 where
-  pub first : Answer
-  pub second : Answer
-  pub first_is : x.text.items ≡ codes "client 1\n" ++ answer_text_of first
-  pub second_is : y.text.items ≡ codes "client 1\n" ++ answer_text_of second
-  pub one : arrival_of first ≡ arrival_of second
-
--- the outputs of a command are one: the same counts, or answers of one arrival
+-- the outputs of a command are one: the same counts, or the same line of a message and clients whose ends are one
 abbrev pub PrintOne : Command → Block → Block → Type 0
 PrintOne (commands.Check check) x y = x.text.items ≡ y.text.items
-PrintOne (commands.Ask ask) x y = PrintOneArrival x y
+PrintOne (commands.Ask ask) x y = (first : ClientEnd) × (second : ClientEnd) × PrintOneClient x.text.items y.text.items first second
 
--- runs of the same words over the same files, told before them, that are done print one output
-abbrev pub OneRun : Type 0
-OneRun =
-    (p q : Past) (told : List File) → p.words ≡ q.words → p.folder_before.files ≡ Some told → q.folder_before.files ≡ Some told
-    → (x : IsRight p Done) (y : IsRight q Done) → PrintOne x.1.0 x.0 y.0
+-- a run that is done has printed its output
+abbrev pub DoneIsPrinted : {X : Type 0} → (X → LinkSeen) → Type 0
+DoneIsPrinted {X} seen = (p : Past X) → IsRight seen p Done → HasPrinted seen p Done
 
--- the folder tells these files, and neither count of faults rose
-pub record IsUnhindered (p : Past) (told : List File) : Type 0 where
-  pub tells : p.folder_before.files ≡ Some told
-  pub no_folder_fault : Rose p.folder_before.faults p.folder_after.faults → ⊥
-  pub no_sink_fault : Rose p.sink_before.faults p.sink_after.faults → ⊥
+-- Runs of the same words over the same files, which nothing hindered, print one output where they are done. X and Y are the types of
+-- their links, and `seen` and `saw` what is promised of these.
+abbrev pub OneRun : {X Y : Type 0} → (X → LinkSeen) → (Y → LinkSeen) → Type 0
+OneRun {X} {Y} seen saw =
+    (p : Past X) (q : Past Y) (told : List File) → p.words ≡ q.words → IsUnhindered seen p told → IsUnhindered saw q told
+    → (x : HasPrinted seen p Done) (y : HasPrinted saw q Done) → PrintOne x.right.command x.block y.block
 
--- Runs of the same words over the same files, told before them, end with one status, memory apart: each status comes exactly where
--- it has its cause.
-abbrev pub OneStatus : Type 0
-OneStatus =
-    (p q : Past) (told : List File) → p.words ≡ q.words → IsUnhindered p told → IsUnhindered q told
-    → (s t : Status) → IsRight p s → IsRight q t → (s ≡ t) ⊎ ((s ≡ NoMemory) ⊎ (t ≡ NoMemory))
+-- Runs of the same words over the same files, which nothing hindered, end with one status, memory apart: each status comes exactly
+-- where it has its cause.
+abbrev pub OneStatus : {X Y : Type 0} → (X → LinkSeen) → (Y → LinkSeen) → Type 0
+OneStatus {X} {Y} seen saw =
+    (p : Past X) (q : Past Y) (told : List File) → p.words ≡ q.words → IsUnhindered seen p told → IsUnhindered saw q told
+    → (s t : Status) → IsRight seen p s → IsRight saw q t → (s ≡ t) ⊎ ((s ≡ NoMemory) ⊎ (t ≡ NoMemory))
 
--- each run that is done over told files, where neither count of faults rose, is clear
-abbrev pub DoneIsClear : Type 0
-DoneIsClear = (p : Past) (told : List File) → IsUnhindered p told → IsRight p Done → IsClear p
+-- each run that is done over told files, which nothing hindered, is clear
+abbrev pub DoneIsClear : {X : Type 0} → (X → LinkSeen) → Type 0
+DoneIsClear {X} seen = (p : Past X) (told : List File) → IsUnhindered seen p told → IsRight seen p Done → IsClear seen p

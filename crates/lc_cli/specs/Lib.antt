@@ -1,9 +1,9 @@
 pub mod Block
 pub mod CheckText
+pub mod Clear
 pub mod Command
+pub mod Inputs
 pub mod Laws
-pub mod Plan
-pub mod Question
 pub mod Refusal
 pub mod Status
 pub mod Tiny

@@ -1,6 +1,9 @@
 -- A question of the small feed, a best journey worked out by hand from its timetable, and answers that are wrong.
 use Rattle.std.specs.Prelude.{◌≡◌, ℕ, ◌+◌, List, [], ◌∷◌, Option, None, codes}
 use Rattle.std.proofs.Common.{lit≤}
+use Rattle.asking.specs.Publishing.{side_with, store_of}
+use Rattle.client_answers.specs.Answered.{AnswersAt}
+use Rattle.command_words.specs.declared.command.Publishing.{Publishing}
 use Rattle.lc_model.specs.Journey.{IsJourney}
 use Rattle.lc_model.specs.Ride.{IsRideAt}
 use Rattle.lc_model.specs.declared.answer.Answer.{Answer}
@@ -11,11 +14,19 @@ use Rattle.lc_model.specs.declared.ride.Ride.{Ride}
 use Rattle.lc_model.specs.declared.walk.Walk.{Walk}
 use Rattle.timetable.specs.Tiny.{IsTiny, key_of, moment}
 use Rattle.timetable.specs.declared.timetable.Timetable.{Timetable}
-use Rattle.lc_cli.specs.Plan.{AnswersQuestion}
 
--- the answer is one to the question by the small feed's timetable
-abbrev pub AnswersTiny : Query → Answer → Type 0
-AnswersTiny query answer = (made : Timetable) × IsTiny made × AnswersQuestion made query answer
+-- the answer is one to the question at a version of a publisher of the small feed's timetable, to which no message was admitted
+abbrev pub AnswersTiny : Publishing → ℕ → Query → Answer → Type 0
+AnswersTiny publishing version query answer =
+    (made : Timetable) × IsTiny made × AnswersAt (side_with made publishing (store_of made publishing.base_moment)) version query answer
+
+-- the same however it is published, at every version
+abbrev pub AnswersAlways : Query → Answer → Type 0
+AnswersAlways query answer = (publishing : Publishing) (version : ℕ) → AnswersTiny publishing version query answer
+
+-- and the answer is none, however it is published, at any version
+abbrev pub AnswersNever : Query → Answer → Type 0
+AnswersNever query answer = (publishing : Publishing) (version : ℕ) → AnswersTiny publishing version query answer → ⊥
 
 -- how to get from A to D from 08:00 on
 abbrev pub from_a_to_d : Query
@@ -79,12 +90,12 @@ MakeJourneys rides = (before after : Option Walk) → (journey : Journey) × IsM
 -- with this walk before them and none after, the rides answer the question
 abbrev pub AreTaken : Option Walk → List Ride → Type 0
 AreTaken before rides =
-    (journey : Journey) → IsMadeOf before rides None journey → AnswersTiny from_a_to_d (answers.Journey journey)
+    (journey : Journey) → IsMadeOf before rides None journey → AnswersAlways from_a_to_d (answers.Journey journey)
 
 -- with this walk before them and none after, the rides answer it not
 abbrev pub AreRefused : Option Walk → List Ride → Type 0
 AreRefused before rides =
-    (journey : Journey) → IsMadeOf before rides None journey → AnswersTiny from_a_to_d (answers.Journey journey) → ⊥
+    (journey : Journey) → IsMadeOf before rides None journey → AnswersNever from_a_to_d (answers.Journey journey)
 
 -- with no walks, the rides are a journey by the small feed's timetable, be it a best one or not
 pub record AreJourneyBy (query : Query) (rides : List Ride) : Type 0 where

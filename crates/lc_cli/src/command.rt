@@ -1,144 +1,166 @@
-ghost use Rattle.std.specs.Prelude.{◌≡◌, ◌++◌, codes, None, Some, IfErr, IfOk};
+ghost use Rattle.std.specs.Prelude.{◌≡◌, ◌≢◌, IfErr, IfOk, None, Some};
+ghost use Rattle.asking.specs.Admission.{IsFaulty};
+ghost use Rattle.asking.specs.declared.admission.MessageFault.TheVariants as messages;
 ghost use Rattle.command_words.specs.Line.{texts_of};
+ghost use Rattle.command_words.specs.Words.{SaysCommand};
+ghost use Rattle.command_words.specs.declared.command.Check.{Check as Said};
+ghost use Rattle.command_words.specs.declared.command.Command.TheVariants as commands;
 ghost use Rattle.gtfs_feed.specs.Reading.{Keeps};
+ghost use Rattle.lc_cli.specs.Command.{IsAskBlock, IsCheckBlock, IsRightBlock, IsRightRefusal, ask_scope, check_scope};
+ghost use Rattle.lc_cli.specs.Inputs.{IsMessageRefusal, IsRefusedFor};
+ghost use Rattle.lc_cli.specs.declared.refusal.Refusal.TheVariants.{Load};
 ghost use Rattle.timetable.specs.Scope.{IsWindow};
-ghost use Rattle.journey_text.specs.AnswerText.{ArrivesAtAMoment, answer_text_of};
-ghost use Rattle.lc_cli.specs.Command.{IsBlockText, IsCommandBlock, IsLoadRefusal, IsRightBlock, IsRightRefusal, Prints, refused_line_of, scope_of};
+ghost use Rattle.timetable.specs.declared.fault.LoadFault.TheVariants.{NoMemory as OutOfMemory};
 
 use crate::block::Block;
 use crate::check_text::check_text;
-use crate::plan::plan;
-use crate::question::fault_of;
+use crate::inputs::{Inputs, read_inputs};
 use crate::refusal::Refusal;
-use crate::status::QueryFault;
-use command_words::{Command, read_words};
-use journey_text::answer_text;
-use lc_model::{Answer, NoMemory, PlainData, Query};
-use lc_world::Folder;
+use asking::{Asked, MessageFault};
+use command_words::{Ask, Check, Command, one_command, read_words};
+use lc_model::NoMemory;
+use lc_world::{File, Folder, Link};
 use std::alloc::Global;
-use timetable::{LoadFault, Scope, Timetable, load};
+use timetable::{LoadFault, Scope, load};
 
-/// What the command of these words comes to. Nothing is written yet.
-pub(crate) fn outcome<F: Folder>(
+/// What the command of these words comes to, and the link, as it is left. Nothing is written yet.
+pub(crate) fn outcome<F: Folder, L: Link>(
     alloc: Global,
     words: &[String],
     folder: &mut F,
-) -> Result<Block, Refusal>
-    ensures block { IfOk result (IsRightBlock (texts_of words.now) (F.seen folder.old) (F.seen folder.new)) }
-    ensures refused { IfErr result (IsRightRefusal (texts_of words.now) (F.seen folder.old) (F.seen folder.new)) }
+    link: L,
+) -> (Result<Block, Refusal>, L)
+    ensures block { IfOk result.0 (IsRightBlock (texts_of words.now) (F.seen folder.old) (F.seen folder.new) (L.seen link) (L.seen result.1)) }
+    ensures refused { IfErr result.0 (IsRightRefusal (texts_of words.now) (F.seen folder.old) (F.seen folder.new)) }
     ensures kept { Keeps (F.seen folder.old) (F.seen folder.new) }
+    ensures check_leaves_link { (check : Said) → SaysCommand (texts_of words.now) (commands.Check check) → result.1 ≡ link }
+    ensures refusal_leaves_link { IfErr result.0 (λ refusal. refusal ≢ Load OutOfMemory → result.1 ≡ link) }
 {
+    one_command();
     match read_words(alloc, words) {
-        Ok(Some(command)) => match command_block(alloc, folder, &command) {
-            Ok(block) => Ok(block),
-            Err(fault) => Err(Refusal::Load(fault)),
+        Ok(Some(Command::Check(check))) => match check_block(alloc, folder, check) {
+            Ok(block) => (Ok(block), link),
+            Err(fault) => (Err(Refusal::Load(fault)), link),
         },
-        Ok(None) => Err(Refusal::Usage),
-        Err(NoMemory) => Err(Refusal::from(NoMemory)),
+        Ok(Some(Command::Ask(ask))) => ask_block(alloc, folder, ask, link),
+        Ok(None) => (Err(Refusal::Usage), link),
+        Err(NoMemory) => (Err(Refusal::from(NoMemory)), link),
     }
 }
 
-/// Loads the timetable of the command's feed, and says what is printed of it.
-fn command_block<F: Folder>(
+/// Loads the timetable of a feed, and counts it.
+fn check_block<F: Folder>(alloc: Global, folder: &mut F, check: Check) -> Result<Block, LoadFault>
+    ensures block { IfOk result (IsCheckBlock check (F.seen folder.old) (F.seen folder.new)) }
+    ensures refused { IfErr result (λ fault. IsRefusedFor (check_scope check) None (F.seen folder.old) (F.seen folder.new) (Load fault)) }
+    ensures kept { Keeps (F.seen folder.old) (F.seen folder.new) }
+{
+    let scope = scope_of_check(check);
+    match load(alloc, folder, &scope) {
+        Ok(made) => match check_text(alloc, &made) {
+            Ok(text) => Ok(Block {
+                text,
+                outcome: None,
+            }),
+            Err(NoMemory) => Err(LoadFault::NoMemory),
+        },
+        Err(fault) => Err(fault),
+    }
+}
+
+/// What `check` asks of its feed.
+fn scope_of_check(check: Check) -> Scope
+    ensures scope { result ≡ check_scope check }
+    ensures window { IsWindow result.first result.days }
+{
+    Scope {
+        feed: check.feed,
+        zone: check.zone,
+        first: check.first,
+        days: check.days,
+        change: check.change,
+    }
+}
+
+/// Reads what a question is asked of, and lets a client ask it.
+fn ask_block<F: Folder, L: Link>(
     alloc: Global,
     folder: &mut F,
-    command: &Command,
-) -> Result<Block, LoadFault>
-    ensures block { IfOk result (IsCommandBlock command.now (F.seen folder.old) (F.seen folder.new)) }
-    ensures refused { IfErr result (IsLoadRefusal (scope_of command.now) (F.seen folder.old) (F.seen folder.new)) }
+    ask: Ask,
+    link: L,
+) -> (Result<Block, Refusal>, L)
+    ensures block { IfOk result.0 (IsAskBlock ask (F.seen folder.old) (F.seen folder.new) (L.seen link) (L.seen result.1)) }
+    ensures refused { IfErr result.0 (IsRefusedFor (ask_scope ask) ask.update (F.seen folder.old) (F.seen folder.new)) }
     ensures kept { Keeps (F.seen folder.old) (F.seen folder.new) }
+    ensures refusal_leaves_link { IfErr result.0 (λ refusal. refusal ≢ Load OutOfMemory → result.1 ≡ link) }
 {
-    match scope(alloc, command) {
-        Ok(scope) => match load(alloc, folder, &scope) {
-            Ok(made) => match printed(alloc, command, &made) {
-                Ok(block) => Ok(block),
-                Err(NoMemory) => Err(LoadFault::NoMemory),
-            },
-            Err(fault) => Err(fault),
-        },
-        Err(NoMemory) => Err(LoadFault::NoMemory),
-    }
-}
-
-/// What the command asks of its feed.
-fn scope(alloc: Global, command: &Command) -> Result<Scope, NoMemory>
-    ensures scope { IfOk result (λ scope. scope ≡ scope_of command.now) }
-    ensures window { IfOk result (λ scope. IsWindow scope.first scope.days) }
-{
-    match command {
-        Command::Check(check) => Ok(Scope {
-            feed: check.feed.copy(alloc)?,
-            zone: check.zone.copy(alloc)?,
-            first: check.first,
-            days: check.days,
-            change: check.change,
-        }),
-        Command::Ask(ask) => Ok(Scope {
-            feed: ask.feed.copy(alloc)?,
-            zone: ask.zone.copy(alloc)?,
-            first: ask.first,
-            days: ask.days,
-            change: ask.change,
-        }),
-    }
-}
-
-/// What the command prints of the timetable.
-fn printed(alloc: Global, command: &Command, made: &Timetable) -> Result<Block, NoMemory>
-    ensures { IfOk result (Prints command.now made.now) }
-{
-    match command {
-        Command::Check(_) => Ok(Block {
-            text: check_text(alloc, made)?,
-            fault: None,
-        }),
-        Command::Ask(ask) => client_block(alloc, made, &ask.query),
-    }
-}
-
-/// What is printed of the client that asks the question.
-fn client_block(alloc: Global, made: &Timetable, query: &Query) -> Result<Block, NoMemory>
-    ensures { IfOk result (λ block. IsBlockText made.now query.now block.fault block.text.items) }
-{
-    match fault_of(&made.doc.stops, query) {
-        Some(fault) => refused_block(alloc, fault),
-        None => {
-            let answer = plan(alloc, made, query)?;
-            answered_block(alloc, &answer)
+    let Ask {
+        feed,
+        query,
+        first,
+        days,
+        zone,
+        change,
+        publishing,
+        cache,
+        update,
+        ..
+    } = ask;
+    let scope = Scope {
+        feed,
+        zone,
+        first,
+        days,
+        change,
+    };
+    match read_inputs(alloc, folder, &scope, update) {
+        Ok(Inputs { made, file }) => {
+            let (ended, link) = asking::ask(
+                alloc,
+                made,
+                publishing,
+                &file,
+                query,
+                cache as usize,
+                link,
+            );
+            match ended {
+                Ok(asked) => (Ok(client_block(asked)), link),
+                Err(fault) => (Err(message_refusal(fault, file)), link),
+            }
         }
+        Err(refusal) => (Err(refusal), link),
     }
 }
 
-fn refused_block(alloc: Global, fault: QueryFault) -> Result<Block, NoMemory>
-    ensures fault { IfOk result (λ block. block.fault ≡ Some fault) }
-    ensures text { IfOk result (λ block. block.text.items ≡ codes "client 1\n" ++ refused_line_of fault) }
+/// What is printed of a question.
+fn client_block(asked: Asked) -> Block
+    ensures text { result.text ≡ asked.text }
+    ensures outcome { result.outcome ≡ Some asked.end.outcome }
 {
-    let mut text = Vec::from_slice(alloc, b"client 1\n")?;
-    text.extend_from_slice(refused_line(fault))?;
-    Ok(Block {
+    let Asked { text, end } = asked;
+    Block {
         text,
-        fault: Some(fault),
-    })
+        outcome: Some(end.outcome),
+    }
 }
 
-fn refused_line(fault: QueryFault) -> &'static [u8]
-    ensures { result.now ≡ refused_line_of fault }
+/// Why a file is no message.
+fn message_refusal(fault: MessageFault, file: Option<File>) -> Refusal
+    requires { IsFaulty file fault }
+    ensures refusal { IsMessageRefusal file result }
+    ensures memory { fault ≡ messages.NoMemory → result ≡ Load OutOfMemory }
 {
     match fault {
-        QueryFault::HorizonRange => b"refused horizon\n",
-        QueryFault::SameStop => b"refused same stop\n",
-        QueryFault::UnknownFrom => b"refused unknown from\n",
-        QueryFault::UnknownTo => b"refused unknown to\n",
+        MessageFault::TooLong { bytes } => Refusal::LongUpdate {
+            bytes: bytes as u64,
+        },
+        MessageFault::Broken(fault) => match file {
+            Some(file) => Refusal::BrokenUpdate {
+                name: file.name,
+                fault,
+            },
+            None => unreachable!(),
+        },
+        MessageFault::NoMemory => Refusal::from(NoMemory),
     }
-}
-
-fn answered_block(alloc: Global, answer: &Answer) -> Result<Block, NoMemory>
-    requires { ArrivesAtAMoment answer.now }
-    ensures fault { IfOk result (λ block. block.fault ≡ None) }
-    ensures text { IfOk result (λ block. block.text.items ≡ codes "client 1\n" ++ answer_text_of answer.now) }
-{
-    let mut text = Vec::from_slice(alloc, b"client 1\n")?;
-    let lines = answer_text(alloc, answer)?;
-    text.extend_from_slice(lines.as_slice())?;
-    Ok(Block { text, fault: None })
 }

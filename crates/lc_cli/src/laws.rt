@@ -1,32 +1,30 @@
-ghost use Rattle.lc_cli.specs.Laws.{DoneIsClear, OneAnswer, OneRun, OneStatus};
+ghost use Rattle.lc_cli.specs.Laws.{DoneIsClear, DoneIsPrinted, OneRun, OneStatus};
 
+use asking::one_output;
 use command_words::one_command;
-use lc_model::one_arrival;
+use lc_world::Link;
 use timetable::{one_end, one_timetable};
+use version_store::one_outcome;
 
-/// Whatever answers a question of a timetable arrives at one moment, or all of it is that there is no journey.
-pub fn one_answer()
-    ensures { OneAnswer }
-{
-    one_arrival();
-}
-
-/// Runs of the same words over the same files print the same counts, or answers that arrive at one moment, or that there is no
-/// journey.
-pub fn one_run()
-    ensures { OneRun }
+/// Runs of the same words over the same files, which nothing hindered, print the same counts, or clients with one version, one arrival
+/// and so many exchanges.
+pub fn one_run<L: Link, M: Link>()
+    ensures { OneRun L.seen M.seen }
 {
     one_command();
     one_timetable();
-    one_answer();
+    one_output::<L, M>();
 }
 
-/// Runs of the same words over the same files end with one status, memory apart.
-pub fn one_status()
-    ensures one { OneStatus }
-    ensures clear { DoneIsClear }
+/// Runs of the same words over the same files, which nothing hindered, end with one status, memory apart.
+pub fn one_status<L: Link, M: Link>()
+    ensures one { OneStatus L.seen M.seen }
+    ensures printed { DoneIsPrinted L.seen }
+    ensures clear { DoneIsClear L.seen }
 {
     one_command();
     one_timetable();
     one_end();
+    one_outcome();
+    one_output::<L, M>();
 }

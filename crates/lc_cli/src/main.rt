@@ -1,13 +1,13 @@
-//! The command `lc`: it plans journeys over a timetable. It stands on the words, the timetable of a feed and the scan.
+//! The command `lc`: it checks feeds, and plans journeys over pages that a publisher of the feed gives. It stands on the words, the
+//! timetable of a feed, and `asking`.
 #![tactic(auto)]
 
 mod block;
 mod check_text;
 mod command;
 mod edge;
+mod inputs;
 mod laws;
-mod plan;
-mod question;
 mod refusal;
 mod status;
 #[cfg(test)]
@@ -15,9 +15,10 @@ mod tests;
 mod top;
 mod worked;
 
-use edge::{DirFolder, StdSink, words_of};
+use edge::words_of;
+use lc_edge::{ClosedLink, DirFolder, StdSink};
 use lc_model::NoMemory;
-use lc_world::{ListLink, SureDoor};
+use lc_world::SureDoor;
 use refusal::{Refusal, refuse};
 use status::{Status, code};
 use std::process::ExitCode;
@@ -35,13 +36,17 @@ fn carried_out(rt: &HostRuntime, out: &mut StdSink<HostRuntime>) -> Status {
         Ok(words) => words,
         Err(refusal) => return refuse(alloc, refusal, out),
     };
-    let (Ok(link), Ok(mut door)) = (
-        ListLink::new(Vec::new(alloc)),
-        SureDoor::new(alloc, Vec::new(alloc)),
-    ) else {
+    let Ok(mut door) = SureDoor::new(alloc, Vec::new(alloc)) else {
         return refuse(alloc, Refusal::from(NoMemory), out);
     };
     let mut folder = DirFolder::new(rt);
-    let (status, _) = run(alloc, &words, &mut folder, link, &mut door, out);
+    let (status, _) = run(
+        alloc,
+        &words,
+        &mut folder,
+        ClosedLink::new(),
+        &mut door,
+        out,
+    );
     status
 }

@@ -1,13 +1,14 @@
-ghost use Rattle.std.specs.Prelude.{◌≡◌, ◌++◌, codes, decimal, IfOk, OnOk};
-ghost use Rattle.lc_cli.specs.Refusal.{IsRefusalEnd, error_line_of, feed_line_of, large_line_of, status_of};
+ghost use Rattle.std.specs.Prelude.{◌≡◌, IfNone, IfOk, IfSome};
+ghost use Rattle.lc_cli.specs.Refusal.{HasMadeLine, IsRefusalEnd, error_line_of, feed_line_of, large_line_of, status_of, update_line_of};
 ghost use Rattle.lc_cli.specs.Writing.{NeitherFell, Said};
 
 use crate::status::Status;
 use gtfs_feed::What;
-use lc_model::NoMemory;
+use lc_model::{NoMemory, Text};
 use lc_world::{Sink, SinkFail, put_all};
 use std::alloc::Global;
 use timetable::LoadFault;
+use trip_updates::RtFault;
 
 /// Why a command was not carried out, for a cause that is no client's.
 #[derive(Debug, Drop)]
@@ -16,6 +17,14 @@ pub enum Refusal {
     Usage,
     /// The feed gave no timetable.
     Load(LoadFault),
+    /// The file of the message is absent.
+    NoUpdate,
+    /// It could not be read: the folder's count of faults before the run and after.
+    UpdateFolder { before: u64, after: u64 },
+    /// It has so many bytes, which are too many.
+    LongUpdate { bytes: u64 },
+    /// It is no realtime message.
+    BrokenUpdate { name: Text, fault: RtFault },
 }
 
 impl From<LoadFault> for Refusal {
@@ -41,10 +50,6 @@ impl From<NoMemory> for Refusal {
     }
 }
 
-const USAGE: &[u8] = b"error usage\n";
-
-const FOLDER: &[u8] = b"error folder\n";
-
 const NO_MEMORY: &[u8] = b"error no memory\n";
 
 /// Says the refusal in one line, which is tried once, and ends with its status, whatever becomes of the line; or for want of memory
@@ -53,43 +58,78 @@ pub(crate) fn refuse<S: Sink>(alloc: Global, refusal: Refusal, out: &mut S) -> S
     ensures end { IsRefusalEnd refusal (S.seen out.old) (S.seen out.new) result }
     ensures kept { NeitherFell (S.seen out.old) (S.seen out.new) }
 {
+    match fixed_line(&refusal) {
+        Some(line) => {
+            say(line, out);
+            status(refusal)
+        }
+        None => match made_line(alloc, &refusal) {
+            Ok(line) => {
+                say(line.as_slice(), out);
+                status(refusal)
+            }
+            Err(NoMemory) => {
+                say(NO_MEMORY, out);
+                Status::NoMemory
+            }
+        },
+    }
+}
+
+/// The line of a refusal that names nothing.
+fn fixed_line(refusal: &Refusal) -> Option<&'static [u8]>
+    ensures line { IfSome result (λ line. line.now ≡ error_line_of refusal.now) }
+    ensures made { IfNone result (HasMadeLine refusal.now) }
+{
     match refusal {
-        Refusal::Usage => {
-            say(USAGE, out);
-            Status::Usage
+        Refusal::Usage => Some(b"error usage\n"),
+        Refusal::Load(LoadFault::Folder { .. }) | Refusal::UpdateFolder { .. } => {
+            Some(b"error folder\n")
         }
-        Refusal::Load(LoadFault::Folder { before, after }) => {
-            say(FOLDER, out);
-            Status::FolderFault { before, after }
-        }
-        Refusal::Load(LoadFault::NoMemory) => {
-            say(NO_MEMORY, out);
-            Status::NoMemory
-        }
+        Refusal::Load(LoadFault::NoMemory) => Some(NO_MEMORY),
+        Refusal::NoUpdate => Some(b"error script row 0\n"),
+        Refusal::Load(LoadFault::Broken { .. })
+        | Refusal::Load(LoadFault::TooLarge { .. })
+        | Refusal::LongUpdate { .. }
+        | Refusal::BrokenUpdate { .. } => None,
+    }
+}
+
+/// The line of a refusal that names what it is about.
+fn made_line(alloc: Global, refusal: &Refusal) -> Result<Vec<u8>, NoMemory>
+    requires { HasMadeLine refusal.now }
+    ensures { IfOk result (λ line. line.items ≡ error_line_of refusal.now) }
+{
+    match refusal {
         Refusal::Load(LoadFault::Broken { rule, file, row }) => {
-            match feed_line(alloc, rule, file.as_str(), row) {
-                Ok(line) => {
-                    say(line.as_slice(), out);
-                    Status::FeedBroken { rule, file, row }
-                }
-                Err(NoMemory) => {
-                    say(NO_MEMORY, out);
-                    Status::NoMemory
-                }
-            }
+            feed_line(alloc, *rule, file.as_str(), *row)
         }
-        Refusal::Load(LoadFault::TooLarge { what, count }) => {
-            match large_line(alloc, what, count) {
-                Ok(line) => {
-                    say(line.as_slice(), out);
-                    Status::TooLarge { what, count }
-                }
-                Err(NoMemory) => {
-                    say(NO_MEMORY, out);
-                    Status::NoMemory
-                }
-            }
+        Refusal::Load(LoadFault::TooLarge { what, count }) => large_line(alloc, *what, *count),
+        Refusal::LongUpdate { bytes } => large_line(alloc, What::Update, *bytes),
+        Refusal::BrokenUpdate { name, fault } => update_line(alloc, name.as_str(), *fault),
+        _ => unreachable!(),
+    }
+}
+
+/// The status of a refusal.
+fn status(refusal: Refusal) -> Status
+    ensures { result ≡ status_of refusal }
+{
+    match refusal {
+        Refusal::Usage => Status::Usage,
+        Refusal::Load(LoadFault::Broken { rule, file, row }) => {
+            Status::FeedBroken { rule, file, row }
         }
+        Refusal::Load(LoadFault::TooLarge { what, count }) => Status::TooLarge { what, count },
+        Refusal::Load(LoadFault::Folder { before, after }) => Status::FolderFault { before, after },
+        Refusal::Load(LoadFault::NoMemory) => Status::NoMemory,
+        Refusal::NoUpdate => Status::ScriptWrong { row: 0 },
+        Refusal::UpdateFolder { before, after } => Status::FolderFault { before, after },
+        Refusal::LongUpdate { bytes } => Status::TooLarge {
+            what: What::Update,
+            count: bytes,
+        },
+        Refusal::BrokenUpdate { name, fault } => Status::UpdateBroken { name, fault },
     }
 }
 
@@ -116,5 +156,13 @@ fn large_line(alloc: Global, what: What, count: u64) -> Result<Vec<u8>, NoMemory
     ensures { IfOk result (λ line. line.items ≡ large_line_of what count) }
 {
     let line = format!(in alloc; "error too large {what} {count}\n")?;
+    Ok(line.into_bytes())
+}
+
+/// The line that names the file that is no message, and the fault in it.
+fn update_line(alloc: Global, name: &str, fault: RtFault) -> Result<Vec<u8>, NoMemory>
+    ensures { IfOk result (λ line. line.items ≡ update_line_of name.now fault) }
+{
+    let line = format!(in alloc; "error update {name} {fault}\n")?;
     Ok(line.into_bytes())
 }

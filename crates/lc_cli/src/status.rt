@@ -2,20 +2,9 @@ ghost use Rattle.std.specs.Prelude.{◌≡◌};
 ghost use Rattle.lc_cli.specs.Status.{code_of};
 
 use gtfs_feed::What;
-use lc_model::Text;
-
-/// Why a question is refused.
-#[derive(Clone, Copy, Debug, PartialEq, Eq)]
-pub enum QueryFault {
-    /// Its horizon is not from 1 to 604,800 seconds.
-    HorizonRange,
-    /// It goes from a stop to the same stop.
-    SameStop,
-    /// It begins at a stop that the feed does not have.
-    UnknownFrom,
-    /// It ends at a stop that the feed does not have.
-    UnknownTo,
-}
+use lc_model::{Bytes, Text};
+use page_client::{PeerFault, QueryFault};
+use trip_updates::RtFault;
 
 /// How a run ended.
 #[derive(Debug, Drop)]
@@ -25,16 +14,53 @@ pub enum Status {
     /// The words are none that a command has.
     Usage,
     /// A file of the feed breaks a rule in a row, or as a whole in row 0; by rule 15 the word of the zone says none.
-    FeedBroken { rule: u8, file: Text, row: u64 },
+    FeedBroken {
+        rule: u8,
+        file: Text,
+        row: u64,
+    },
+    /// The file of this name is no realtime message.
+    UpdateBroken {
+        name: Text,
+        fault: RtFault,
+    },
     /// The folder failed: its count of faults before and after.
-    FolderFault { before: u64, after: u64 },
+    FolderFault {
+        before: u64,
+        after: u64,
+    },
     /// The sink failed: its count of faults before and after.
-    SinkFault { before: u64, after: u64 },
-    /// The question of a client, counted from 1, is refused.
-    QueryRefused { client: usize, fault: QueryFault },
+    SinkFault {
+        before: u64,
+        after: u64,
+    },
+    /// An exchange of a client, counted from 1, failed: the link's count of faults before and after.
+    LinkFault {
+        client: usize,
+        before: u64,
+        after: u64,
+    },
+    /// This reply to a client fails a test.
+    PeerWrong {
+        client: usize,
+        reply: Bytes,
+        fault: PeerFault,
+    },
+    /// The question of a client is refused.
+    QueryRefused {
+        client: usize,
+        fault: QueryFault,
+    },
+    /// The file of a message is absent, which is row 0.
+    ScriptWrong {
+        row: u64,
+    },
     NoMemory,
-    /// The feed or its timetable has more of something than is taken: so much of it.
-    TooLarge { what: What, count: u64 },
+    /// The feed, its timetable or a message has more of something than is taken: so much of it.
+    TooLarge {
+        what: What,
+        count: u64,
+    },
 }
 
 /// The exit status of the program.
@@ -45,9 +71,13 @@ pub fn code(status: &Status) -> u8
         Status::Done => 0,
         Status::Usage => 2,
         Status::FeedBroken { .. } => 3,
+        Status::UpdateBroken { .. } => 4,
         Status::FolderFault { .. } => 5,
         Status::SinkFault { .. } => 6,
+        Status::LinkFault { .. } => 7,
+        Status::PeerWrong { .. } => 8,
         Status::QueryRefused { .. } => 9,
+        Status::ScriptWrong { .. } => 11,
         Status::NoMemory => 12,
         Status::TooLarge { .. } => 13,
     }

@@ -1,24 +1,26 @@
-use crate::edge::{DirFolder, StdSink};
 use crate::status::{Status, code};
 use crate::top::run;
-use lc_world::{
-    Folder, FolderFail, ListLink, MemFolder, MemSink, Sink, SureDoor, SureFolder, SureSink, put_all,
-};
+use lc_edge::ClosedLink;
+use lc_model::{Bytes, Text};
+use lc_world::{File, Folder, Link, ListLink, MemFolder, MemSink, SureDoor, SureFolder, SureSink};
 use std::alloc::Global;
 use std::test::Fail;
-use std::{env, fs};
 use tiny_feed::{TINY, file_of, files_of};
 
 const FIRST: &str = "client 1
+version 1970-01-01T00:00:00.000Z
 journey 2 arrives 2024-05-01T08:31:00.000Z
 ride T1 20240501 - 1 1 A 2024-05-01T08:00:00.000Z B 2024-05-01T08:10:00.000Z
 ride T3 20240501 - 1 1 B 2024-05-01T08:12:00.000Z D 2024-05-01T08:31:00.000Z
+exchanges 4
 ";
 
 const LATER: &str = "client 1
+version 1970-01-01T00:00:00.000Z
 journey 2 arrives 2024-05-01T08:40:00.000Z
 ride T1 20240501 - 1 1 A 2024-05-01T08:00:00.000Z B 2024-05-01T08:10:00.000Z
 ride T2 20240501 - 1 1 B 2024-05-01T08:20:00.000Z D 2024-05-01T08:40:00.000Z
+exchanges 4
 ";
 
 const COUNTS: &str = "stops 6\ntrips 5\nleft out 0\nruns 5\nconnections 6\nchanges 6\nok\n";
@@ -31,10 +33,19 @@ fn words_of(alloc: Global, words: &str) -> Result<Vec<String>, Fail> {
     Ok(list)
 }
 
-// The status and the output of words over a folder.
+// The status and the output of words over a folder, where each reply comes as the publisher gave it.
 fn ask<F: Folder>(alloc: Global, folder: &mut F, words: &str) -> Result<(u8, Vec<u8>), Fail> {
+    ask_over(alloc, folder, ClosedLink::new(), words)
+}
+
+// The same over a link.
+fn ask_over<F: Folder, L: Link + Drop>(
+    alloc: Global,
+    folder: &mut F,
+    link: L,
+    words: &str,
+) -> Result<(u8, Vec<u8>), Fail> {
     let words = words_of(alloc, words)?;
-    let link = ListLink::new(Vec::new(alloc))?;
     let mut door = SureDoor::new(alloc, Vec::new(alloc))?;
     let mut out = SureSink::new(alloc)?;
     let (status, _) = run(alloc, words.as_slice(), folder, link, &mut door, &mut out);
@@ -42,30 +53,30 @@ fn ask<F: Folder>(alloc: Global, folder: &mut F, words: &str) -> Result<(u8, Vec
     Ok((code(&status), text))
 }
 
-// What the words come to over the feed Tiny: by hand from its ten minutes at B and its two minutes of change.
+const NONE_OF_4: &str = "client 1\nversion 1970-01-01T00:00:00.000Z\nno journey\nexchanges 4\n";
+
+const NONE_OF_3: &str = "client 1\nversion 1970-01-01T00:00:00.000Z\nno journey\nexchanges 3\n";
+
+// What the words come to over the feed Tiny: by hand from its ten minutes at B and its two minutes of change. A page has half an hour
+// of departures: those of 08:00, 09:00 and 10:00.
 #[test]
 fn words_over_tiny(rt: HostRuntime) -> Result<(), Fail> {
     let alloc = rt.alloc();
     for &(words, status, output) in &[
         ("ask tiny A D 2024-05-01T08:00:00Z", 0, FIRST),
-        ("ask --days=3 tiny A D 2024-05-01T08:00:00Z", 0, FIRST),
-        ("ask tiny -- A D 2024-05-01T08:00:00Z", 0, FIRST),
+        ("ask --days=3 tiny -- A D 2024-05-01T08:00:00Z", 0, FIRST),
         (
             "ask tiny A D 2024-05-01T08:00:01Z",
             0,
-            "client 1\nno journey\n",
+            "client 1\nversion 1970-01-01T00:00:00.000Z\nno journey\nexchanges 5\n",
         ),
-        (
-            "ask tiny A D 2024-05-01T08:00:00Z --days 1",
-            0,
-            "client 1\nno journey\n",
-        ),
+        ("ask tiny A D 2024-05-01T08:00:00Z --days 1", 0, NONE_OF_3),
         ("ask tiny A D 2024-05-01T08:00:00Z --change 121", 0, LATER),
         ("ask tiny A D 2024-05-01T08:00:00Z --horizon 1860", 0, FIRST),
         (
             "ask tiny A D 2024-05-01T08:00:00Z --horizon 1859",
             0,
-            "client 1\nno journey\n",
+            NONE_OF_4,
         ),
         (
             "ask tiny A D 2024-05-01T08:00:00Z --horizon=604800",
@@ -75,12 +86,12 @@ fn words_over_tiny(rt: HostRuntime) -> Result<(), Fail> {
         (
             "ask tiny A D 2024-05-01T08:00:00Z --horizon 0",
             9,
-            "client 1\nrefused horizon\n",
+            "client 1\nrefused horizon\nexchanges 0\n",
         ),
         (
             "ask tiny X X 2024-05-01T08:00:00Z --horizon 604801",
             9,
-            "client 1\nrefused horizon\n",
+            "client 1\nrefused horizon\nexchanges 0\n",
         ),
         (
             "ask tiny A D 2024-05-01T08:00:00Z --horizon 4294967296",
@@ -94,31 +105,40 @@ fn words_over_tiny(rt: HostRuntime) -> Result<(), Fail> {
             "error usage\n",
         ),
         (
+            "ask tiny A D 2024-05-01T08:00:00Z --base http://lc.example/a!b/",
+            2,
+            "error usage\n",
+        ),
+        (
             "ask tiny A D 2024-05-01T08:00:00Z --days 3 --days 3",
             2,
             "error usage\n",
         ),
         ("ask tiny A D 1970-01-10T23:59:59Z", 2, "error usage\n"),
-        ("ask --help", 2, "error usage\n"),
         (
             "ask tiny A A 2024-05-01T08:00:00Z",
             9,
-            "client 1\nrefused same stop\n",
+            "client 1\nrefused same stop\nexchanges 0\n",
         ),
         (
             "ask tiny X D 2024-05-01T08:00:00Z",
             9,
-            "client 1\nrefused unknown from\n",
+            "client 1\nversion 1970-01-01T00:00:00.000Z\nrefused unknown from\nexchanges 2\n",
         ),
         (
             "ask tiny A X 2024-05-01T08:00:00Z",
             9,
-            "client 1\nrefused unknown to\n",
+            "client 1\nversion 1970-01-01T00:00:00.000Z\nrefused unknown to\nexchanges 2\n",
         ),
         (
             "ask none A D 2024-05-01T08:00:00Z",
             3,
             "error feed F1 stops.txt row 0\n",
+        ),
+        (
+            "ask tiny A D 2024-05-01T08:00:00Z --update none.pb",
+            11,
+            "error script row 0\n",
         ),
         ("check tiny 20240501", 0, COUNTS),
         (
@@ -141,6 +161,104 @@ fn words_over_tiny(rt: HostRuntime) -> Result<(), Fail> {
     Ok(())
 }
 
+// How many exchanges a question takes: with a page for each departure, with one page, and with half an hour in each.
+#[test]
+fn exchanges(rt: HostRuntime) -> Result<(), Fail> {
+    let alloc = rt.alloc();
+    for &(cuts, last) in &[
+        ("count:1", "exchanges 7\n"),
+        ("whole", "exchanges 3\n"),
+        ("span:1800", "exchanges 4\n"),
+    ] {
+        let mut folder = SureFolder::new(alloc, files_of(alloc, TINY.as_slice())?)?;
+        let words = format!(in alloc; "ask tiny A D 2024-05-01T08:00:00Z --cuts {cuts}")?;
+        let (_, text) = ask(alloc, &mut folder, words.as_str())?;
+        assert!(rt; text.as_slice().ends_with(last.as_bytes()), "{cuts}");
+    }
+    Ok(())
+}
+
+// A message by protoc: at 07:00 T1 arrives at B a minute late. Its first 40 bytes are cut within the entity.
+const LATE_AT_B: [u8; 46] =
+    *b"\x0a\x0d\x0a\x032.0\x10\x00\x18\xf0\xd0\xc7\xb1\x06\x12\x1d\x0a\x011\x1a\x18\x0a\x0e\x0a\x02T1\x1a\x0820240501\x12\x06\x08\x02\x12\x02\x08<";
+
+// The version that is meant by what is known: without a message, before it, and from it on.
+#[test]
+fn a_message(rt: HostRuntime) -> Result<(), Fail> {
+    let alloc = rt.alloc();
+    let line = "update d60.pb admitted 2024-05-01T07:00:00.000Z passed 0\n";
+    let at_seven = "client 1
+version 2024-05-01T07:00:00.000Z
+journey 2 arrives 2024-05-01T08:40:00.000Z
+ride T1 20240501 - 1 1 A 2024-05-01T08:00:00.000Z B 2024-05-01T08:11:00.000Z
+ride T2 20240501 - 1 1 B 2024-05-01T08:20:00.000Z D 2024-05-01T08:40:00.000Z
+exchanges 4
+";
+    for &(name, words, status, first, rest) in &[
+        (
+            "d60.pb",
+            "d60.pb --known 2024-05-01T06:59:59Z",
+            0,
+            line,
+            FIRST,
+        ),
+        (
+            "d60.pb",
+            "d60.pb --known 2024-05-01T07:00:00Z",
+            0,
+            line,
+            at_seven,
+        ),
+        (
+            "d60.pb",
+            "d60.pb --base-moment 2024-05-01T07:00:00Z --horizon 0",
+            9,
+            "update d60.pb ignored newest 2024-05-01T07:00:00.000Z\n",
+            "client 1\nrefused horizon\nexchanges 0\n",
+        ),
+        ("cut.pb", "cut.pb", 4, "error update cut.pb cut 15\n", ""),
+    ] {
+        let mut files = files_of(alloc, TINY.as_slice())?;
+        let end = if name == "cut.pb" { 40 } else { 46 };
+        files.push(File {
+            name: Text::from_string(String::from_str(alloc, name)?),
+            bytes: Bytes::from_list(LATE_AT_B[..end].to_vec(alloc)?),
+        })?;
+        let mut folder = SureFolder::new(alloc, files)?;
+        let words = format!(in alloc; "ask tiny A D 2024-05-01T08:00:00Z --update {words}")?;
+        let (code, text) = ask(alloc, &mut folder, words.as_str())?;
+        let output = format!(in alloc; "{first}{rest}")?;
+        assert_eq!(rt; code, status, "{words}");
+        assert_eq!(rt; text.as_slice(), output.as_bytes(), "{words}");
+    }
+    Ok(())
+}
+
+// A link that gives another reply than the publisher's.
+#[test]
+fn another_reply(rt: HostRuntime) -> Result<(), Fail> {
+    let alloc = rt.alloc();
+    let mut replies = Vec::new(alloc);
+    replies.push(Bytes::from_list(Vec::from_slice(
+        alloc,
+        b"HTTP/1.1 404 Not Found\r\nContent-Length: 0\r\n\r\n",
+    )?))?;
+    let link = ListLink::new(replies)?;
+    let mut folder = SureFolder::new(alloc, files_of(alloc, TINY.as_slice())?)?;
+    let (code, text) = ask_over(
+        alloc,
+        &mut folder,
+        link,
+        "ask tiny A D 2024-05-01T08:00:00Z",
+    )?;
+    assert_eq!(rt; code, 8);
+    assert_eq!(rt;
+        text.as_slice(),
+        b"client 1\npeer wrong status 404\nexchanges 1\n".as_slice()
+    );
+    Ok(())
+}
+
 // Feeds of other files than Tiny's, or of more: of header lines alone, without trips, a ride over two calls at one moment, services by
 // weekdays, a trip that is left out, changes between stops, and files that break a rule.
 #[test]
@@ -160,7 +278,7 @@ fn other_feeds(rt: HostRuntime) -> Result<(), Fail> {
             "trip_id,arrival_time,departure_time,stop_id,stop_sequence\n",
             a_to_d,
             0,
-            "client 1\nno journey\n",
+            NONE_OF_3,
         ),
         (
             "stop_times.txt",
@@ -172,8 +290,10 @@ T4,09:05:00,09:05:00,C,3
             "ask tiny A C 2024-05-01T09:00:00Z",
             0,
             "client 1
+version 1970-01-01T00:00:00.000Z
 journey 1 arrives 2024-05-01T09:05:00.000Z
 ride T4 20240501 - 1 2 A 2024-05-01T09:00:00.000Z C 2024-05-01T09:05:00.000Z
+exchanges 3
 ",
         ),
         (
@@ -201,7 +321,7 @@ T2,08:40:00,08:40:00,D,2
             "from_stop_id,to_stop_id,transfer_type,min_transfer_time\nB,B,3,121\n",
             a_to_d,
             0,
-            "client 1\nno journey\n",
+            "client 1\nversion 1970-01-01T00:00:00.000Z\nno journey\nexchanges 5\n",
         ),
         (
             "transfers.txt",
@@ -209,9 +329,11 @@ T2,08:40:00,08:40:00,D,2
             "ask tiny A F 2024-05-01T08:00:00Z",
             0,
             "client 1
+version 1970-01-01T00:00:00.000Z
 journey 2 arrives 2024-05-01T09:10:00.000Z
 ride T1 20240501 - 1 1 A 2024-05-01T08:00:00.000Z B 2024-05-01T08:10:00.000Z
 ride T4 20240501 - 1 1 E 2024-05-01T09:00:00.000Z F 2024-05-01T09:10:00.000Z
+exchanges 5
 ",
         ),
         (
@@ -220,9 +342,11 @@ ride T4 20240501 - 1 1 E 2024-05-01T09:00:00.000Z F 2024-05-01T09:10:00.000Z
             "ask tiny B F 2024-05-01T08:55:00Z",
             0,
             "client 1
+version 1970-01-01T00:00:00.000Z
 journey 1 arrives 2024-05-01T09:10:00.000Z
 walk B E 300
 ride T4 20240501 - 1 1 E 2024-05-01T09:00:00.000Z F 2024-05-01T09:10:00.000Z
+exchanges 5
 ",
         ),
         (
@@ -231,8 +355,10 @@ ride T4 20240501 - 1 1 E 2024-05-01T09:00:00.000Z F 2024-05-01T09:10:00.000Z
             "ask tiny A P 2024-05-01T08:00:00Z",
             0,
             "client 1
+version 1970-01-01T00:00:00.000Z
 journey 1 arrives 2024-05-01T08:10:00.000Z
 ride T1 20240501 - 1 1 A 2024-05-01T08:00:00.000Z B 2024-05-01T08:10:00.000Z
+exchanges 3
 ",
         ),
         (
@@ -263,34 +389,6 @@ w,0,0,1,0,0,0,0,20240401,20240531
     Ok(())
 }
 
-// The system's files: one that is there, one that is not, and a folder in the place of a file.
-#[test]
-fn files_of_the_system(rt: HostRuntime) -> Result<(), Fail> {
-    let alloc = rt.alloc();
-    let temporary = env::temp_dir(&rt)?;
-    let place = temporary.to_str().expect(&rt, "a path in UTF-8");
-    let file = format!(in alloc; "{place}/monteneem-edge-test.txt")?;
-    fs::write(&rt, file.as_str(), b"stop_id\nA\n".as_slice())?;
-    let mut folder = DirFolder::new(&rt);
-    let bytes = folder.read(alloc, file.as_str()).expect(&rt, "the file");
-    assert_eq!(rt; bytes.as_slice(), b"stop_id\nA\n".as_slice());
-    fs::remove_file(&rt, file.as_str())?;
-    assert!(rt; matches!(folder.read(alloc, file.as_str()), Err(FolderFail::Absent)));
-    assert_eq!(rt; folder.faults(), 0);
-    assert!(rt; matches!(folder.read(alloc, place), Err(FolderFail::Failed)));
-    assert_eq!(rt; folder.faults(), 1);
-    Ok(())
-}
-
-// The system's standard output takes a line.
-#[test]
-fn standard_output(rt: HostRuntime) {
-    let mut out = StdSink::new(&rt);
-    let line = b"a line of a test\n".as_slice();
-    assert!(rt; put_all(&mut out, line).is_ok());
-    assert_eq!(rt; out.faults(), 0);
-}
-
 // A folder of which the second read fails, and a sink of which the first write does.
 #[test]
 fn faults(rt: HostRuntime) -> Result<(), Fail> {
@@ -302,7 +400,7 @@ fn faults(rt: HostRuntime) -> Result<(), Fail> {
 
     let mut folder = SureFolder::new(alloc, files_of(alloc, TINY.as_slice())?)?;
     let words = words_of(alloc, "ask tiny A D 2024-05-01T08:00:00Z")?;
-    let link = ListLink::new(Vec::new(alloc))?;
+    let link = ClosedLink::new();
     let mut door = SureDoor::new(alloc, Vec::new(alloc))?;
     let mut out = MemSink::new(alloc, vec![in alloc; 1]?)?;
     let (status, _) = run(

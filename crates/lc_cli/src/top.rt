@@ -1,9 +1,12 @@
 ghost use Rattle.std.specs.Prelude.{◌≡◌, ◌⊎◌};
 ghost use Rattle.command_words.specs.Line.{texts_of};
 ghost use Rattle.command_words.specs.Words.{SaysCommand};
+ghost use Rattle.command_words.specs.declared.command.Check.{Check};
 ghost use Rattle.command_words.specs.declared.command.Command.{Command};
+ghost use Rattle.command_words.specs.declared.command.Command.TheVariants as commands;
 ghost use Rattle.gtfs_feed.specs.Reading.{Keeps};
-ghost use Rattle.lc_cli.specs.Top.{IsAnswered, IsClear, IsRight};
+ghost use Rattle.lc_cli.specs.Clear.{IsAnswered, IsClear};
+ghost use Rattle.lc_cli.specs.Top.{IsEarlyRefusal, IsRight};
 ghost use Rattle.lc_cli.specs.Writing.{NeitherFell};
 
 use crate::block::write_block;
@@ -14,12 +17,14 @@ use command_words::one_command;
 use lc_world::{Door, Folder, Link, Sink};
 use std::alloc::Global;
 use timetable::one_timetable;
+use version_store::one_outcome;
 
 /// Runs the command of these words, over a folder, a link, a door and a sink, and gives the link back.
 ///
 /// `check FEED FIRST` reads the GTFS feed of that name in the folder and prints its counts, or the first rule that it breaks.
-/// `ask FEED FROM TO MOMENT` prints a best journey by it from one stop to another that leaves at the moment or later and arrives
-/// within the horizon, a day where `--horizon` does not say it, or that there is none. The link and the door are not used by them.
+/// `ask FEED FROM TO MOMENT` publishes its timetable as pages, with the realtime message of a file where `--update` names one, and lets a
+/// client ask this publisher: it prints a best journey from one stop to another that leaves at the moment or later and arrives within the
+/// horizon, or that there is none, by the timetable as it was known then. Each reply is handed on over the link. The door is not used.
 pub fn run<F: Folder, L: Link, D: Door, S: Sink>(
     alloc: Global,
     words: &[String],
@@ -28,10 +33,12 @@ pub fn run<F: Folder, L: Link, D: Door, S: Sink>(
     door: &mut D,
     out: &mut S,
 ) -> (Status, L)
-    ensures status { IsRight (record {
+    ensures status { IsRight L.seen (record {
       words = texts_of words.now;
       folder_before = F.seen folder.old;
       folder_after = F.seen folder.new;
+      link_before = link;
+      link_after = result.1;
       sink_before = S.seen out.old;
       sink_after = S.seen out.new;
     }) result.0 }
@@ -40,11 +47,14 @@ pub fn run<F: Folder, L: Link, D: Door, S: Sink>(
     ensures usage_only { ((command : Command) → SaysCommand (texts_of words.now) command → ⊥)
         → (result.0 ≡ Status.Usage) ⊎ (result.0 ≡ Status.NoMemory) }
 
-    // Nothing but memory keeps the output from being printed where no rule refuses the feed and no fault is counted.
-    ensures complete { IsClear (record {
+    // Nothing but memory keeps the output from being printed where no rule refuses the feed and the message, no fault is counted, and
+    // a question has a clear link.
+    ensures complete { IsClear L.seen (record {
       words = texts_of words.now;
       folder_before = F.seen folder.old;
       folder_after = F.seen folder.new;
+      link_before = link;
+      link_after = result.1;
       sink_before = S.seen out.old;
       sink_after = S.seen out.new;
     }) → IsAnswered result.0 }
@@ -52,13 +62,18 @@ pub fn run<F: Folder, L: Link, D: Door, S: Sink>(
     // The folder has the same files, and no count has fallen.
     ensures folder { Keeps (F.seen folder.old) (F.seen folder.new) }
     ensures sink { NeitherFell (S.seen out.old) (S.seen out.new) }
-    ensures link { result.1 ≡ link }
     ensures door { door.new ≡ door.old }
+
+    // `check` asks nothing of the link, and nor does what is refused before its client asks.
+    ensures check_leaves_link { (check : Check) → SaysCommand (texts_of words.now) (commands.Check check) → result.1 ≡ link }
+    ensures refusal_leaves_link { IsEarlyRefusal result.0 → result.1 ≡ link }
 {
     one_command();
     one_timetable();
-    match outcome(alloc, words, folder) {
-        Ok(block) => (write_block(&block, out), link),
+    one_outcome();
+    let (came, link) = outcome(alloc, words, folder, link);
+    match came {
+        Ok(block) => (write_block(block, out), link),
         Err(refusal) => (refuse(alloc, refusal, out), link),
     }
 }

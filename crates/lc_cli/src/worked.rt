@@ -1,14 +1,15 @@
 ghost use Rattle.std.specs.Prelude.{ℕ, None, Some, List, [], ◌∷◌};
 ghost use Rattle.lc_model.specs.declared.answer.Answer.TheVariants.{NoJourney};
 ghost use Rattle.lc_model.specs.declared.ride.Ride.{Ride as RideValue};
-ghost use Rattle.lc_cli.specs.Tiny.{AnswersTiny, AreJourneyBy, AreRefused, AreTaken, MakeJourneys, a_second_late, from_a_to_d, in_place, nine_minutes_late, swapped, worked};
+ghost use Rattle.lc_cli.specs.Tiny.{AnswersNever, AreJourneyBy, AreRefused, AreTaken, MakeJourneys, a_second_late, from_a_to_d, in_place, nine_minutes_late, swapped, worked};
 
-use crate::laws::one_answer;
+use lc_model::one_arrival;
+use live_calls::live_without_news;
 
 /// Of the small feed, the worked journey answers its question, and each wrong answer is refused.
 pub fn worked_answer()
     ensures takes { AreTaken None worked }
-    ensures refuses_no_journey { ¬ AnswersTiny from_a_to_d NoJourney }
+    ensures refuses_no_journey { AnswersNever from_a_to_d NoJourney }
     ensures refuses_a_later_arrival { AreRefused None a_second_late }
     ensures refuses_swapped_rides { AreRefused None swapped }
     ensures has_a_later_journey { AreJourneyBy from_a_to_d nine_minutes_late }
@@ -21,5 +22,6 @@ pub fn worked_answer()
     ensures rides_make_journeys { (first : RideValue) (rest : List RideValue) → MakeJourneys (first ∷ rest) }
     ensures no_rides_make_none { ¬ MakeJourneys [] }
 {
-    one_answer();
+    live_without_news();
+    one_arrival();
 }

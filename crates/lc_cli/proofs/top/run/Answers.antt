@@ -1,46 +1,47 @@
-use Rattle.std.proofs.Common.{refl}
+use Rattle.std.proofs.Common.{inl, inr}
 use Rattle.command_words.specs.Line.{texts_of}
 use Rattle.lc_cli.specs.Top.{IsRight, Past}
-use Rattle.lc_cli.proofs.CommandLemmas.{right_block, right_refusal}
-use Rattle.lc_cli.proofs.TopLemmas.{complete, usage_only}
+use Rattle.lc_cli.proofs.TopLemmas.{complete}
 use Rattle.lc_cli.proofs.top.run.Goals as goal
 
-pub returns-in-Ok : goal.returns-in-Ok
-returns-in-Ok g c =
-    let p : Past = record {
-      words = texts_of c.args.words.now;
-      folder_before = g.F.Folder.seen c.args.folder.now;
-      folder_after = g.F.Folder.seen c.outcome.new.folder;
-      sink_before = g.S.Sink.seen c.args.out.now;
-      sink_after = g.S.Sink.seen c.write_block.new.out;
-    } in
-    let right : IsRight p c.write_block.result = right_block p c.in-Ok.block c.write_block.result c.in-Ok.ensures.block c.write_block.ensures.end in
-    record {
-      status = right;
-      usage_only = usage_only p c.write_block.result right;
-      complete = complete c.one_command.ensures c.one_timetable.ensures.not_broken c.one_timetable.ensures.not_too_large p c.write_block.result right;
-      folder = c.outcome.ensures.kept;
-      sink = c.write_block.ensures.kept;
-      link = refl;
-      door = refl;
-    }
+-- the run that came to a block, and the one that was refused
+abbrev printed : (g : _) (c : goal.After-write_block g) → Past g.row.L.Denot
+printed g c = record {
+  words = texts_of c.args.words.now;
+  folder_before = g.F.Folder.seen c.args.folder.now;
+  folder_after = g.F.Folder.seen c.outcome-came.new.folder;
+  link_before = c.args.link;
+  link_after = c.outcome-came.result.1;
+  sink_before = g.S.Sink.seen c.args.out.now;
+  sink_after = g.S.Sink.seen c.write_block.new.out;
+}
 
-pub returns-in-Err : goal.returns-in-Err
-returns-in-Err g c =
-    let p : Past = record {
-      words = texts_of c.args.words.now;
-      folder_before = g.F.Folder.seen c.args.folder.now;
-      folder_after = g.F.Folder.seen c.outcome.new.folder;
-      sink_before = g.S.Sink.seen c.args.out.now;
-      sink_after = g.S.Sink.seen c.refuse.new.out;
-    } in
-    let right : IsRight p c.refuse.result = right_refusal p c.in-Err.refusal c.refuse.result c.in-Err.ensures.refused c.refuse.ensures.end in
-    record {
-      status = right;
-      usage_only = usage_only p c.refuse.result right;
-      complete = complete c.one_command.ensures c.one_timetable.ensures.not_broken c.one_timetable.ensures.not_too_large p c.refuse.result right;
-      folder = c.outcome.ensures.kept;
-      sink = c.refuse.ensures.kept;
-      link = refl;
-      door = refl;
-    }
+abbrev refused : (g : _) (c : goal.After-refuse g) → Past g.row.L.Denot
+refused g c = record {
+  words = texts_of c.args.words.now;
+  folder_before = g.F.Folder.seen c.args.folder.now;
+  folder_after = g.F.Folder.seen c.outcome-came.new.folder;
+  link_before = c.args.link;
+  link_after = c.outcome-came.result.1;
+  sink_before = g.S.Sink.seen c.args.out.now;
+  sink_after = g.S.Sink.seen c.refuse.new.out;
+}
+
+right_block : (g : _) (c : goal.After-write_block g) → IsRight g.L.Link.seen (printed g c) c.write_block.result
+right_block g c = inl (record { block = c.in-Ok.block; right = rw c.in-Ok.is at c.outcome-came.ensures.block; end = c.write_block.ensures.end })
+
+right_refusal : (g : _) (c : goal.After-refuse g) → IsRight g.L.Link.seen (refused g c) c.refuse.result
+right_refusal g c = inr (record { refusal = c.in-Err.refusal; right = rw c.in-Err.is at c.outcome-came.ensures.refused; end = c.refuse.ensures.end })
+
+pub returns-in-Ok-clause-status : goal.returns-in-Ok-clause-status
+returns-in-Ok-clause-status g c = right_block g c
+
+pub returns-in-Ok-clause-complete : goal.returns-in-Ok-clause-complete
+returns-in-Ok-clause-complete g c =
+    complete c.one_command.ensures c.one_timetable.ensures.loads_told c.one_timetable.ensures.not_broken c.one_timetable.ensures.not_too_large c.one_outcome.ensures g.L.Link.seen (printed g c)
+    c.write_block.result (right_block g c)
+
+pub returns-in-Err-clause-complete : goal.returns-in-Err-clause-complete
+returns-in-Err-clause-complete g c =
+    complete c.one_command.ensures c.one_timetable.ensures.loads_told c.one_timetable.ensures.not_broken c.one_timetable.ensures.not_too_large c.one_outcome.ensures g.L.Link.seen (refused g c)
+    c.refuse.result (right_refusal g c)
