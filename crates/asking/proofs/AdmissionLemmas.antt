@@ -1,5 +1,5 @@
 -- What is behind a message is one.
-use Rattle.std.proofs.Common.{◌≡◌, ◌∙◌, ◌⊎◌, ℕ, inl, inr, List, [], ◌∷◌, ◌++◌, None, Some, Option, ap, ap₂, length, refl, subst, sym}
+use Rattle.std.proofs.Common.{◌≡◌, ◌∙◌, ◌⊎◌, ℕ, inl, inr, List, [], ◌∷◌, None, Some, Option, ap, ap₂, length, refl, subst, sym}
 use Rattle.lc_io.specs.declared.file.File.{File}
 use Rattle.lc_versions.specs.History.{Entry}
 use Rattle.lc_versions.specs.declared.update.Update.{Update}
@@ -7,7 +7,6 @@ use Rattle.timetable.specs.declared.timetable.Timetable.{Timetable}
 use Rattle.version_store.specs.Admission.{IsRefused, IsTaken}
 use Rattle.version_store.specs.Laws.{OneOutcome}
 use Rattle.version_store.specs.Store.{Stored, entry_of}
-use Rattle.version_store.specs.declared.admission.Admitted.{Admitted}
 use Rattle.version_store.specs.declared.admission.AdmitFault.{AdmitFault}
 use Rattle.version_store.specs.declared.admission.AdmitFault.TheVariants as faults
 use Rattle.asking.specs.Admission.{IsAdmitted, IsBehind, IsFaultBy, IsFaulty, IsIgnored, IsPassedOver, admitted_line_of, ignored_line_of}

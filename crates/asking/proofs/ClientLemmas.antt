@@ -1,9 +1,9 @@
 -- How a client ended, from what is promised of the convoy in which it was alone.
-use Rattle.std.proofs.Common.{◌≡◌, ◌∙◌, ◌+◌, ◌-◌, ◌<◌, ◌≤◌, ◌⊎◌, ℕ, inl, inr, List, [], ◌∷◌, ◌++◌, Option, Some, None, ap, arith, length, refl, subst, sym}
+use Rattle.std.proofs.Common.{◌≡◌, ◌∙◌, ◌+◌, ◌-◌, ◌<◌, ◌≤◌, ◌⊎◌, ℕ, inl, inr, List, [], ◌∷◌, Option, Some, None, arith, subst, sym}
 use Rattle.std.specs.List.{slice_get}
 use Rattle.std.specs.Option.{IfSome, IsSome}
 use Rattle.client_answers.specs.Answered.{AnswersAt, NeededAt}
-use Rattle.client_answers.specs.Fits.{FitsAt, FitsSide, HasAnswered, HasEnded, HasFailed, IsDenied}
+use Rattle.client_answers.specs.Fits.{FitsAt, HasAnswered, HasEnded, HasFailed, IsDenied}
 use Rattle.client_answers.specs.Wants.{AreWants, HasEnds}
 use Rattle.client_replies.specs.Ends.{EndsBy}
 use Rattle.client_replies.specs.Made.{Made}
@@ -11,7 +11,7 @@ use Rattle.client_replies.specs.Run.{HasAsked, HasRun}
 use Rattle.connection_uri.specs.Base.{BaseParts}
 use Rattle.convoy.specs.State.{ConvoyState}
 use Rattle.convoy.specs.declared.member.Member.{Member}
-use Rattle.convoy_answers.specs.OneClient.{AskedAll, AskedOneMore, IsAlone, version_of}
+use Rattle.convoy_answers.specs.OneClient.{AskedAll, AskedOneMore, IsAlone}
 use Rattle.lc_model.specs.Journey.{arrives_at}
 use Rattle.lc_model.specs.Stop.{HasStop}
 use Rattle.lc_model.specs.declared.answer.Answer.{Answer}

@@ -1,12 +1,9 @@
 -- The ends of clients that asked one question of one side are one.
-use Rattle.std.proofs.Common.{◌≡◌, ◌∙◌, ◌<◌, ◌≤◌, ℕ, List, [], ◌∷◌, ◌++◌, Option, Some, None, ap, ap₂, arith, length, map, refl, subst, sym}
+use Rattle.std.proofs.Common.{◌≡◌, ◌∙◌, ℕ, List, [], ◌∷◌, ◌++◌, Option, Some, ap, arith, length, refl, subst, sym}
 use Rattle.lc_io.specs.Counts.{Rose}
-use Rattle.lc_io.specs.declared.file.File.{File}
 use Rattle.lc_model.specs.Laws.{arrival_of}
-use Rattle.lc_model.specs.Stop.{HasStop}
 use Rattle.lc_model.specs.declared.answer.Answer.{Answer}
 use Rattle.lc_model.specs.declared.answer.Answer.TheVariants as answers
-use Rattle.lc_model.specs.declared.page.PageName.{PageName}
 use Rattle.lc_model.specs.declared.query.Query.{Query}
 use Rattle.lc_versions.specs.History.{Entry}
 use Rattle.lc_time.specs.declared.zone.Zone.{Zone}
@@ -18,7 +15,6 @@ use Rattle.client_answers.specs.Answered.{AnswersAt, NeededAt}
 use Rattle.client_answers.specs.Wants.{wants_of}
 use Rattle.client_replies.specs.Ends.{EndsBy}
 use Rattle.client_replies.specs.Made.{Made}
-use Rattle.command_words.specs.declared.command.Publishing.{Publishing}
 use Rattle.connection_uri.specs.Base.{BaseParts}
 use Rattle.convoy_answers.specs.OneClient.{version_of}
 use Rattle.page_client.specs.declared.fault.QueryFault.{QueryFault}
@@ -26,18 +22,13 @@ use Rattle.page_client.specs.declared.fault.QueryFault.TheVariants.{HorizonRange
 use Rattle.page_client.specs.declared.outcome.Outcome.{Outcome}
 use Rattle.page_client.specs.declared.outcome.Outcome.TheVariants as outcomes
 use Rattle.page_client.specs.declared.want.Want.{Want}
-use Rattle.page_client.specs.Shown.{IsRefusal}
 use Rattle.publisher_side.specs.Side.{Side, date_in}
 use Rattle.side_replies.specs.Told.{version_at}
-use Rattle.timetable.specs.Laws.{AreSame}
-use Rattle.timetable.specs.declared.timetable.Timetable.{Timetable}
 use Rattle.version_store.specs.Laws.{OneOutcome}
-use Rattle.version_store.specs.Store.{Stored}
-use Rattle.asking.specs.Asked.{IsAsked}
 use Rattle.asking.specs.Block.{client_text_of}
 use Rattle.asking.specs.Client.{AsksFor, EndsRight, shown_of}
 use Rattle.client_replies.specs.Laws.{SayTheSame}
-use Rattle.asking.specs.Laws.{AreOneEnd, IsFair, OneOutput, PrintOneClient}
+use Rattle.asking.specs.Laws.{AreOneEnd, OneOutput}
 use Rattle.asking.specs.Publishing.{side_with}
 use Rattle.asking.specs.declared.end.ClientEnd.{ClientEnd}
 use Rattle.asking.proofs.AdmissionLemmas.{of_history, one_behind, store_with}

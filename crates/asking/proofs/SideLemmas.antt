@@ -1,5 +1,5 @@
 -- Sides whose zones show the same dates have the same answers.
-use Rattle.std.proofs.Common.{◌≡◌, ◌∙◌, ℕ, List, Option, Some, None, ap, ap₂, refl, subst, sym}
+use Rattle.std.proofs.Common.{◌≡◌, ℕ, List, ap₂, subst}
 use Rattle.lc_model.specs.declared.answer.Answer.{Answer}
 use Rattle.lc_model.specs.declared.date.ServiceDate.{ServiceDate}
 use Rattle.lc_model.specs.declared.doc.StopsDoc.{StopsDoc}
@@ -16,7 +16,7 @@ use Rattle.command_words.specs.declared.command.Publishing.{Publishing}
 use Rattle.timetable.specs.Laws.{AreSame}
 use Rattle.timetable.specs.declared.timetable.Timetable.{Timetable}
 use Rattle.client_answers.specs.Answered.{AnswersAt, NeededAt}
-use Rattle.client_answers.specs.Fits.{HasAnswered, HasEnded, IsDenied}
+use Rattle.client_answers.specs.Fits.{HasAnswered, IsDenied}
 use Rattle.client_answers.specs.Published.{AreLiveAt, IsPublished, Published}
 use Rattle.page_client.specs.Shown.{Shown}
 use Rattle.page_client.specs.declared.fault.QueryFault.{QueryFault}

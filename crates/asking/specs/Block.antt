@@ -1,5 +1,5 @@
 -- What is printed of a client.
-use Rattle.std.specs.Prelude.{ℕ, ◌≤◌, ◌<◌, List, [], ◌++◌, Option, Some, None, codes, decimal}
+use Rattle.std.specs.Prelude.{ℕ, List, [], ◌++◌, Option, Some, None, codes, decimal}
 use Rattle.journey_text.specs.AnswerText.{ArrivesAtAMoment, answer_text_of}
 use Rattle.lc_model.specs.declared.answer.Answer.TheVariants as answers
 use Rattle.lc_time.specs.Iso.{iso_text_of}

@@ -1,6 +1,5 @@
 -- From what is read and asked to what a command comes to.
-use Rattle.std.proofs.Common.{◌≡◌, ◌∙◌, ◌⊎◌, inl, inr, ℕ, List, None, Some, Option, Result, Ok, Err, IfErr, IfOk, ap, refl, subst, sym}
-use Rattle.asking.specs.Admission.{IsTooLong}
+use Rattle.std.proofs.Common.{◌≡◌, ◌∙◌, inl, inr, ℕ, List, None, Some, Option, Result, Ok, Err, IfErr, IfOk, ap, refl, subst, sym}
 use Rattle.asking.specs.Asked.{IsAsked}
 use Rattle.asking.specs.declared.end.ClientEnd.{ClientEnd}
 use Rattle.command_words.specs.Words.{SaysCommand}
@@ -13,14 +12,12 @@ use Rattle.lc_io.specs.declared.file.File.{File}
 use Rattle.lc_io.specs.declared.folder.FolderFail.{FolderFail}
 use Rattle.lc_io.specs.declared.folder.FolderFail.TheVariants.{Failed}
 use Rattle.lc_world.specs.Link.{LinkSeen}
-use Rattle.timetable.specs.Loading.{Loads, LoadsSo}
+use Rattle.timetable.specs.Loading.{Loads}
 use Rattle.timetable.specs.declared.fault.LoadFault.TheVariants as fault
 use Rattle.timetable.specs.declared.scope.Scope.{Scope}
 use Rattle.timetable.specs.declared.timetable.Timetable.{Timetable}
-use Rattle.trip_updates.specs.declared.fault.RtFault.{RtFault}
-use Rattle.version_store.specs.Admission.{IsBroken}
 use Rattle.lc_cli.specs.Command.{IsAskBlock, IsRightBlock, IsRightRefusal, ask_scope}
-use Rattle.lc_cli.specs.Inputs.{AsksForUpdate, EndsUpdate, FailsAtUpdate, IsBrokenUpdate, IsLongUpdate, IsMessageRefusal, IsNoMessageNamed, IsReadAs, IsRefusedFor, ReadsInputs, ReadsUpdate, RunsOut}
+use Rattle.lc_cli.specs.Inputs.{AsksForUpdate, EndsUpdate, FailsAtUpdate, IsMessageRefusal, IsRefusedFor, ReadsInputs, ReadsUpdate, RunsOut}
 use Rattle.lc_cli.specs.declared.block.Block.{Block}
 use Rattle.lc_cli.specs.declared.refusal.Refusal.{Refusal}
 use Rattle.lc_cli.specs.declared.refusal.Refusal.TheVariants.{Usage, Load, NoUpdate, UpdateFolder, LongUpdate, BrokenUpdate}

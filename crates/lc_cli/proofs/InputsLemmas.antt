@@ -1,15 +1,14 @@
 -- What is read by a command: the ends of the reading, and what they are over told files.
-use Rattle.std.proofs.Common.{◌≡◌, ◌∙◌, ◌⊎◌, ◌<◌, ◌≤◌, ℕ, inl, inr, List, None, Some, Option, Result, Ok, Err, IfSome, ap, arith, length, subst, sym, refl}
+use Rattle.std.proofs.Common.{◌≡◌, ◌∙◌, ◌≤◌, ℕ, List, None, Some, Option, Ok, Err, IfSome, arith, subst, refl}
 use Rattle.lc_io.specs.Counts.{Rose}
 use Rattle.lc_io.specs.Folder.{FolderSeen, bytes_named}
 use Rattle.lc_io.specs.declared.file.File.{File}
-use Rattle.lc_io.specs.declared.folder.FolderFail.TheVariants.{Absent, Failed}
+use Rattle.lc_io.specs.declared.folder.FolderFail.TheVariants.{Absent}
 use Rattle.gtfs_feed.specs.Reading.{Keeps}
 use Rattle.timetable.specs.declared.scope.Scope.{Scope}
 use Rattle.timetable.specs.declared.timetable.Timetable.{Timetable}
-use Rattle.timetable.specs.Loading.{Loads}
 use Rattle.lc_cli.specs.Clear.{IsToldFile}
-use Rattle.lc_cli.specs.Inputs.{AsksForUpdate, IsReadAs, ReadsFile, ReadsInputs, ReadsUpdate}
+use Rattle.lc_cli.specs.Inputs.{ReadsFile, ReadsInputs, ReadsUpdate}
 
 -- a folder that tells files tells them still once the timetable is loaded
 pub still_told : (told : List File) (old new : FolderSeen) → old.files ≡ Some told → Keeps old new → new.files ≡ Some told

@@ -1,31 +1,25 @@
 -- Two runs of one command over the same files print one output.
 use Rattle.std.proofs.Common.{◌≡◌, ◌∙◌, ◌+◌, ◌++◌, ℕ, List, codes, length, None, Some, Option, ap, refl, subst, sym}
-use Rattle.asking.specs.Admission.{IsBehind}
 use Rattle.asking.specs.Asked.{IsAsked}
 use Rattle.asking.specs.Laws.{IsFair, OneOutput, PrintOneClient}
-use Rattle.asking.specs.Publishing.{side_with, store_of}
-use Rattle.asking.specs.declared.end.ClientEnd.{ClientEnd}
+use Rattle.asking.specs.Publishing.{side_with}
 use Rattle.command_words.specs.Laws.{OneCommand}
 use Rattle.command_words.specs.Words.{SaysCommand}
 use Rattle.command_words.specs.declared.command.Ask.{Ask}
 use Rattle.command_words.specs.declared.command.Command.{Command}
 use Rattle.command_words.specs.declared.command.Command.TheVariants as commands
-use Rattle.lc_io.specs.Folder.{FolderSeen, bytes_named}
+use Rattle.lc_io.specs.Folder.{FolderSeen}
 use Rattle.lc_io.specs.declared.file.File.{File}
 use Rattle.lc_model.specs.declared.doc.StopsDoc.{StopsDoc}
 use Rattle.lc_model.specs.declared.run.Run.{Run}
 use Rattle.lc_world.specs.Link.{LinkSeen}
 use Rattle.timetable.specs.Laws.{AreSame, LoadsTold, OneTimetable}
-use Rattle.timetable.specs.Told.{IsSound}
 use Rattle.timetable.specs.declared.timetable.Timetable.{Timetable}
-use Rattle.version_store.specs.Store.{Stored}
 use Rattle.lc_cli.specs.CheckText.{check_text_of, count_line_of}
-use Rattle.lc_cli.specs.Clear.{HasFairLink, IsToldFile, IsUnhindered}
-use Rattle.lc_cli.specs.Command.{IsAskBlock, IsCheckBlock, Prints, ask_scope, check_scope}
+use Rattle.lc_cli.specs.Clear.{HasFairLink, IsToldFile}
+use Rattle.lc_cli.specs.Command.{IsAskBlock, Prints, ask_scope, check_scope}
 use Rattle.lc_cli.specs.Laws.{OneRun, PrintOne}
-use Rattle.lc_cli.specs.Top.{HasPrinted, Past}
 use Rattle.lc_cli.specs.declared.block.Block.{Block}
-use Rattle.lc_cli.specs.declared.status.Status.TheVariants.{Done}
 use Rattle.lc_cli.proofs.InputsLemmas.{inputs_told}
 
 -- the counts of timetables that are the same

@@ -1,12 +1,11 @@
 -- Two runs of one command over the same files end with one status, memory apart.
-use Rattle.std.proofs.Common.{◌≡◌, ◌∙◌, ◌⊎◌, ◌<◌, ℕ, inl, inr, List, [], None, Some, Option, Result, Ok, Err, ap, refl, subst, sym}
+use Rattle.std.proofs.Common.{◌≡◌, ◌∙◌, ◌⊎◌, ℕ, inl, inr, List, [], None, Some, Option, Result, Ok, Err, ap, refl, subst, sym}
 use Rattle.asking.specs.Admission.{IsIgnored}
 use Rattle.asking.specs.Publishing.{side_with, store_of}
 use Rattle.asking.specs.Laws.{OneOutput}
 use Rattle.client_replies.specs.Laws.{SayTheSame}
 use Rattle.command_words.specs.Laws.{OneCommand}
 use Rattle.command_words.specs.Words.{SaysCommand}
-use Rattle.command_words.specs.declared.command.Ask.{Ask}
 use Rattle.command_words.specs.declared.command.Command.{Command}
 use Rattle.command_words.specs.declared.command.Command.TheVariants as commands
 use Rattle.gtfs_feed.specs.declared.what.What.TheVariants as what
@@ -23,9 +22,7 @@ use Rattle.timetable.specs.Laws.{AreSameEnds, IsOfFiles, LoadsTold, OneEnd, OneT
 use Rattle.timetable.specs.Loading.{Loads, LoadsSo}
 use Rattle.timetable.specs.declared.fault.LoadFault.{LoadFault}
 use Rattle.timetable.specs.declared.fault.LoadFault.TheVariants as fault
-use Rattle.timetable.specs.declared.scope.Scope.{Scope}
 use Rattle.timetable.specs.declared.timetable.Timetable.{Timetable}
-use Rattle.trip_updates.specs.declared.fault.RtFault.{RtFault}
 use Rattle.version_store.specs.Admission.{IsRefused}
 use Rattle.version_store.specs.Laws.{OneOutcome}
 use Rattle.version_store.specs.Store.{Stored}

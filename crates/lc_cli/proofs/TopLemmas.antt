@@ -1,9 +1,8 @@
 -- What follows from the cause of a status.
-use Rattle.std.proofs.Common.{◌≡◌, ◌∙◌, ◌⊎◌, ◌<◌, ◌≤◌, ℕ, inl, inr, List, [], None, Some, Option, Result, Ok, Err, ap, arith, length, refl, subst, sym}
+use Rattle.std.proofs.Common.{◌≡◌, ◌∙◌, ◌⊎◌, ℕ, inl, inr, List, [], None, Some, Option, Result, Ok, Err, ap, arith, refl, subst, sym}
 use Rattle.asking.specs.Admission.{IsBehind, IsIgnored}
 use Rattle.asking.specs.Client.{shown_of}
 use Rattle.asking.specs.Publishing.{side_with, store_of}
-use Rattle.asking.specs.declared.end.ClientEnd.{ClientEnd}
 use Rattle.client_answers.specs.Fits.{HasEnded}
 use Rattle.client_replies.specs.Ends.{EndsBy}
 use Rattle.command_words.specs.Laws.{OneCommand}
@@ -16,13 +15,13 @@ use Rattle.lc_io.specs.Folder.{FolderSeen, bytes_named}
 use Rattle.lc_io.specs.declared.file.File.{File}
 use Rattle.lc_io.specs.declared.folder.FolderFail.{FolderFail}
 use Rattle.lc_io.specs.declared.folder.FolderFail.TheVariants.{Absent}
+use Rattle.lc_io.specs.Sink.{SinkSeen}
 use Rattle.lc_world.specs.Link.{LinkSeen}
 use Rattle.page_client.specs.declared.outcome.Outcome.{Outcome}
 use Rattle.page_client.specs.declared.outcome.Outcome.TheVariants as outcomes
 use Rattle.page_client.specs.declared.want.Want.{Want}
 use Rattle.publisher_side.specs.Side.{Side}
 use Rattle.timetable.specs.Laws.{LoadsTold, NotBroken, NotTooLarge}
-use Rattle.timetable.specs.Told.{IsSound}
 use Rattle.timetable.specs.declared.fault.LoadFault.TheVariants as fault
 use Rattle.timetable.specs.declared.scope.Scope.{Scope}
 use Rattle.timetable.specs.declared.timetable.Timetable.{Timetable}
@@ -33,16 +32,16 @@ use Rattle.version_store.specs.Store.{Stored}
 use Rattle.version_store.specs.declared.admission.AdmitFault.{AdmitFault}
 use Rattle.version_store.specs.declared.admission.AdmitFault.TheVariants as faults
 use Rattle.lc_cli.specs.Block.{IsBlockEnd, client_status_of}
-use Rattle.lc_cli.specs.Clear.{HasFairLink, IsAnswered, IsAskedSide, IsClear, IsHeard, IsToldFile, IsUnhindered}
-use Rattle.lc_cli.specs.Command.{IsAskBlock, IsRefusedCommand, IsRightRefusal, Prints, ask_scope, scope_of, update_of}
+use Rattle.lc_cli.specs.Clear.{HasFairLink, IsAnswered, IsAskedSide, IsClear, IsHeard, IsToldFile}
+use Rattle.lc_cli.specs.Command.{IsAskBlock, IsRightRefusal, Prints, ask_scope, scope_of, update_of}
 use Rattle.lc_cli.specs.Inputs.{AsksForUpdate, IsBrokenUpdate, IsLongUpdate, IsRefusedFor}
-use Rattle.lc_cli.specs.Refusal.{HasMadeLine, IsRefusalEnd, status_of}
-use Rattle.lc_cli.specs.Top.{HasPrinted, IsRight, Past, WasRefused}
+use Rattle.lc_cli.specs.Refusal.{IsRefusalEnd, status_of}
+use Rattle.lc_cli.specs.Top.{IsEarlyRefusal, IsRight, Past}
 use Rattle.lc_cli.specs.declared.block.Block.{Block}
 use Rattle.lc_cli.specs.declared.refusal.Refusal.{Refusal}
 use Rattle.lc_cli.specs.declared.refusal.Refusal.TheVariants as refused
 use Rattle.lc_cli.specs.declared.status.Status.{Status}
-use Rattle.lc_cli.specs.declared.status.Status.TheVariants.{Done, Usage, FeedBroken, UpdateBroken, FolderFault, SinkFault, LinkFault, PeerWrong, QueryRefused, ScriptWrong, TooLarge, NoMemory}
+use Rattle.lc_cli.specs.declared.status.Status.TheVariants.{Usage, NoMemory}
 use Rattle.lc_cli.proofs.InputsLemmas.{absent_told, bytes_told, inputs_told, still_told}
 
 -- every other status has a command that the words say
@@ -231,3 +230,21 @@ module _ (one_command : OneCommand) (loads_told : LoadsTold) (not_broken : NotBr
       either : (status_of x.refusal ≡ NoMemory) ⊎ ⊥ → IsAnswered status
       either (inl e) = memory x.refusal e end
       either (inr contrary) = absurd contrary
+
+-- a block that was printed, or cut in the sink, ends in no early refusal
+pub not_early : (block : Block) (before after : SinkSeen) (status : Status) → IsBlockEnd block before after status → IsEarlyRefusal status → ⊥
+not_early block before after status (inl whole) early = of_client block.outcome (subst IsEarlyRefusal whole.status_is early) where
+  of_client : (outcome : Option Outcome) → IsEarlyRefusal (client_status_of outcome) → ⊥
+  of_client None is = is
+  of_client (Some (outcomes.Found journey)) is = is
+  of_client (Some outcomes.NoJourney) is = is
+  of_client (Some (outcomes.Refused fault)) is = is
+  of_client (Some (outcomes.LinkFault count later)) is = is
+  of_client (Some (outcomes.PeerWrong reply fault)) is = is
+not_early block before after status (inr (inl cut)) early = subst IsEarlyRefusal cut.status_is early
+not_early block before after status (inr (inr cut)) early = subst IsEarlyRefusal cut.status_is early
+
+-- an early refusal is not for want of memory
+pub not_memory : (refusal : Refusal) (before after : SinkSeen) (status : Status) → IsRefusalEnd refusal before after status → IsEarlyRefusal status → refusal ≡ refused.Load fault.NoMemory → ⊥
+not_memory refusal before after status (inl said) early is = subst IsEarlyRefusal (said.status_is ∙ ap status_of is) early
+not_memory refusal before after status (inr lacks) early is = subst IsEarlyRefusal lacks.status_is early

@@ -1,5 +1,5 @@
 -- When nothing but memory keeps the output from being printed, and it is one.
-use Rattle.std.specs.Prelude.{◌≡◌, ◌⊎◌, ℕ, List, [], ◌++◌, Option, Some, None}
+use Rattle.std.specs.Prelude.{◌≡◌, ℕ, List, Option, Some, None}
 use Rattle.asking.specs.Admission.{IsBehind}
 use Rattle.asking.specs.Publishing.{side_with, store_of}
 use Rattle.command_words.specs.Words.{SaysCommand}

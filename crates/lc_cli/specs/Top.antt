@@ -1,5 +1,5 @@
 -- What a run comes to: its status, with the cause, and what it leaves in the sink.
-use Rattle.std.specs.Prelude.{◌≡◌, ◌⊎◌, ℕ, List, Some, None}
+use Rattle.std.specs.Prelude.{◌⊎◌, ℕ, List}
 use Rattle.lc_io.specs.Folder.{FolderSeen}
 use Rattle.lc_io.specs.Sink.{SinkSeen}
 use Rattle.lc_world.specs.Link.{LinkSeen}

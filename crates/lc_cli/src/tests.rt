@@ -161,6 +161,35 @@ fn words_over_tiny(rt: HostRuntime) -> Result<(), Fail> {
     Ok(())
 }
 
+// A feed of header lines alone has no stops.
+#[test]
+fn header_lines(rt: HostRuntime) -> Result<(), Fail> {
+    let alloc = rt.alloc();
+    let files = files_of(
+        alloc,
+        &[
+            ("tiny/stops.txt", "stop_id\n"),
+            ("tiny/trips.txt", "trip_id,service_id\n"),
+            (
+                "tiny/stop_times.txt",
+                "trip_id,arrival_time,departure_time,stop_id,stop_sequence\n",
+            ),
+            (
+                "tiny/calendar_dates.txt",
+                "service_id,date,exception_type\n",
+            ),
+        ],
+    )?;
+    let mut folder = SureFolder::new(alloc, files)?;
+    let (code, text) = ask(alloc, &mut folder, "ask tiny A D 2024-05-01T08:00:00Z")?;
+    assert_eq!(rt; code, 9);
+    assert_eq!(rt;
+        text.as_slice(),
+        b"client 1\nversion 1970-01-01T00:00:00.000Z\nrefused unknown from\nexchanges 2\n".as_slice()
+    );
+    Ok(())
+}
+
 // How many exchanges a question takes: with a page for each departure, with one page, and with half an hour in each.
 #[test]
 fn exchanges(rt: HostRuntime) -> Result<(), Fail> {
@@ -194,9 +223,10 @@ ride T1 20240501 - 1 1 A 2024-05-01T08:00:00.000Z B 2024-05-01T08:11:00.000Z
 ride T2 20240501 - 1 1 B 2024-05-01T08:20:00.000Z D 2024-05-01T08:40:00.000Z
 exchanges 4
 ";
-    for &(name, words, status, first, rest) in &[
+    for &(name, end, words, status, first, rest) in &[
         (
             "d60.pb",
+            46,
             "d60.pb --known 2024-05-01T06:59:59Z",
             0,
             line,
@@ -204,6 +234,7 @@ exchanges 4
         ),
         (
             "d60.pb",
+            49,
             "d60.pb --known 2024-05-01T07:00:00Z",
             0,
             line,
@@ -211,18 +242,26 @@ exchanges 4
         ),
         (
             "d60.pb",
+            46,
             "d60.pb --base-moment 2024-05-01T07:00:00Z --horizon 0",
             9,
             "update d60.pb ignored newest 2024-05-01T07:00:00.000Z\n",
             "client 1\nrefused horizon\nexchanges 0\n",
         ),
-        ("cut.pb", "cut.pb", 4, "error update cut.pb cut 15\n", ""),
+        (
+            "cut.pb",
+            40,
+            "cut.pb",
+            4,
+            "error update cut.pb cut 15\n",
+            "",
+        ),
     ] {
+        let front = LATE_AT_B.get(..end).expect(&rt, "a front of the message");
         let mut files = files_of(alloc, TINY.as_slice())?;
-        let end = if name == "cut.pb" { 40 } else { 46 };
         files.push(File {
             name: Text::from_string(String::from_str(alloc, name)?),
-            bytes: Bytes::from_list(LATE_AT_B[..end].to_vec(alloc)?),
+            bytes: Bytes::from_list(front.to_vec(alloc)?),
         })?;
         let mut folder = SureFolder::new(alloc, files)?;
         let words = format!(in alloc; "ask tiny A D 2024-05-01T08:00:00Z --update {words}")?;

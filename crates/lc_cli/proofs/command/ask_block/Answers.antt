@@ -1,4 +1,3 @@
-use Rattle.std.proofs.Common.{Some, subst}
 use Rattle.lc_cli.proofs.CommandLemmas.{ask_block_of, message_refused}
 use Rattle.lc_cli.proofs.WindowLemmas.{window_said}
 use Rattle.lc_cli.proofs.command.ask_block.Goals as goal

@@ -1,5 +1,5 @@
 use Rattle.std.proofs.Common.{Err, inr, subst, sym}
-use Rattle.lc_io.specs.declared.folder.FolderFail.TheVariants.{Absent, Failed, NoMemory}
+use Rattle.lc_io.specs.declared.folder.FolderFail.TheVariants.{Absent, NoMemory}
 use Rattle.lc_cli.specs.Inputs.{EndsUpdate, IsRefusedFor}
 use Rattle.lc_cli.proofs.CommandLemmas.{asks_for, fails_at}
 use Rattle.lc_cli.proofs.inputs.read_inputs.Goals as goal

@@ -1,7 +1,7 @@
-use Rattle.std.proofs.Common.{inl, inr}
+use Rattle.std.proofs.Common.{inl, inr, refl}
 use Rattle.command_words.specs.Line.{texts_of}
 use Rattle.lc_cli.specs.Top.{IsRight, Past}
-use Rattle.lc_cli.proofs.TopLemmas.{complete}
+use Rattle.lc_cli.proofs.TopLemmas.{complete, not_early, not_memory, usage_only}
 use Rattle.lc_cli.proofs.top.run.Goals as goal
 
 -- the run that came to a block, and the one that was refused
@@ -33,15 +33,31 @@ right_block g c = inl (record { block = c.in-Ok.block; right = rw c.in-Ok.is at 
 right_refusal : (g : _) (c : goal.After-refuse g) → IsRight g.L.Link.seen (refused g c) c.refuse.result
 right_refusal g c = inr (record { refusal = c.in-Err.refusal; right = rw c.in-Err.is at c.outcome-came.ensures.refused; end = c.refuse.ensures.end })
 
-pub returns-in-Ok-clause-status : goal.returns-in-Ok-clause-status
-returns-in-Ok-clause-status g c = right_block g c
+pub returns-in-Ok : goal.returns-in-Ok
+returns-in-Ok g c = record {
+  status = right_block g c;
+  usage_only = usage_only g.L.Link.seen (printed g c) c.write_block.result (right_block g c);
+  complete =
+      complete c.one_command.ensures c.one_timetable.ensures.loads_told c.one_timetable.ensures.not_broken c.one_timetable.ensures.not_too_large c.one_outcome.ensures g.L.Link.seen
+      (printed g c) c.write_block.result (right_block g c);
+  folder = c.outcome-came.ensures.kept;
+  sink = c.write_block.ensures.kept;
+  door = refl;
+  check_leaves_link = c.outcome-came.ensures.check_leaves_link;
+  refusal_leaves_link = λ early. absurd (not_early c.in-Ok.block (g.S.Sink.seen c.args.out.now) (g.S.Sink.seen c.write_block.new.out) c.write_block.result c.write_block.ensures.end early);
+}
 
-pub returns-in-Ok-clause-complete : goal.returns-in-Ok-clause-complete
-returns-in-Ok-clause-complete g c =
-    complete c.one_command.ensures c.one_timetable.ensures.loads_told c.one_timetable.ensures.not_broken c.one_timetable.ensures.not_too_large c.one_outcome.ensures g.L.Link.seen (printed g c)
-    c.write_block.result (right_block g c)
-
-pub returns-in-Err-clause-complete : goal.returns-in-Err-clause-complete
-returns-in-Err-clause-complete g c =
-    complete c.one_command.ensures c.one_timetable.ensures.loads_told c.one_timetable.ensures.not_broken c.one_timetable.ensures.not_too_large c.one_outcome.ensures g.L.Link.seen (refused g c)
-    c.refuse.result (right_refusal g c)
+pub returns-in-Err : goal.returns-in-Err
+returns-in-Err g c = record {
+  status = right_refusal g c;
+  usage_only = usage_only g.L.Link.seen (refused g c) c.refuse.result (right_refusal g c);
+  complete =
+      complete c.one_command.ensures c.one_timetable.ensures.loads_told c.one_timetable.ensures.not_broken c.one_timetable.ensures.not_too_large c.one_outcome.ensures g.L.Link.seen
+      (refused g c) c.refuse.result (right_refusal g c);
+  folder = c.outcome-came.ensures.kept;
+  sink = c.refuse.ensures.kept;
+  door = refl;
+  check_leaves_link = c.outcome-came.ensures.check_leaves_link;
+  refusal_leaves_link = λ early. (rw c.in-Err.is at c.outcome-came.ensures.refusal_leaves_link)
+      (not_memory c.in-Err.refusal (g.S.Sink.seen c.args.out.now) (g.S.Sink.seen c.refuse.new.out) c.refuse.result c.refuse.ensures.end early);
+}
