@@ -1,11 +1,13 @@
 -- Words say one command at most.
 use Rattle.std.proofs.Common.{◌≡◌, ◌∙◌, ℕ, ◌/◌, ◌-◌, ◌≤◌, List, [], ◌∷◌, Option, ap, sym}
 use Rattle.std.proofs.Props.{props}
+use Rattle.clap.specs.Simple.{App}
 use Rattle.lc_model.specs.declared.date.ServiceDate.{ServiceDate}
 use Rattle.lc_model.specs.declared.query.Query.{Query}
 use Rattle.lc_time.proofs.OneTextLemmas.{one_date}
 use Rattle.command_words.specs.Ask.{SaysAsk}
 use Rattle.command_words.specs.Check.{SaysCheck}
+use Rattle.command_words.specs.FeedWindow.{SaysFeedWindow}
 use Rattle.command_words.specs.Laws.{OneCommand}
 use Rattle.command_words.specs.Line.{ask_line, check_line}
 use Rattle.command_words.specs.Window.{IsWindow}
@@ -35,30 +37,34 @@ same_check a b feed first days zone change =
     (λ i. (first i, days i, change i))
     ∙ (λ i. check_of (feed i) (zone i) (b.first, b.days, b.change) ranges)
 
--- what holds of the first date, the days, the change and the cache of a question's command
-abbrev AskRanges : ServiceDate × ℕ × ℕ × ℕ → Type 0
-AskRanges s = (1 ≤ s.1) × (s.1 ≤ 62) × IsWindow s.0 s.1 × (s.2 ≤ 86_400) × (1 ≤ s.3) × (s.3 ≤ 10_000)
+-- what holds of the first date, the days, the change and the cache of a command with pages
+abbrev PagesRanges : ServiceDate × ℕ × ℕ × ℕ → Type 0
+PagesRanges s = (1 ≤ s.1) × (s.1 ≤ 62) × IsWindow s.0 s.1 × (s.2 ≤ 86_400) × (1 ≤ s.3) × (s.3 ≤ 10_000)
 
-ask_ranges_prop : (s : ServiceDate × ℕ × ℕ × ℕ) → IsProp (AskRanges s)
-ask_ranges_prop s = hlevel props
+pages_ranges_prop : (s : ServiceDate × ℕ × ℕ × ℕ) → IsProp (PagesRanges s)
+pages_ranges_prop s = hlevel props
 
-abbrev ask_of : (feed zone : List ℕ) (query : Query) (publishing : Publishing) (update : Option (List ℕ)) (s : ServiceDate × ℕ × ℕ × ℕ) → AskRanges s → Ask
+abbrev ask_of : (feed zone : List ℕ) (query : Query) (publishing : Publishing) (update : Option (List ℕ)) (s : ServiceDate × ℕ × ℕ × ℕ) → PagesRanges s → Ask
 ask_of feed zone query publishing update s r = record { feed = feed; query = query; first = s.0; days = s.1; zone = zone; change = s.2; publishing = publishing; cache = s.3; update = update; some_days = r.0; two_months = r.1; window = r.2; within_a_day = r.3; some_pages = r.4; most_pages = r.5 }
 
 same_ask : (a b : Ask) → a.feed ≡ b.feed → a.query ≡ b.query → a.first ≡ b.first → a.days ≡ b.days → a.zone ≡ b.zone → a.change ≡ b.change → a.publishing ≡ b.publishing → a.cache ≡ b.cache → a.update ≡ b.update → a ≡ b
 same_ask a b feed query first days zone change publishing cache update =
-    let ranges : AskRanges (b.first, b.days, b.change, b.cache) = (b.some_days, b.two_months, b.window, b.within_a_day, b.some_pages, b.most_pages) in
-    same_made AskRanges ask_ranges_prop (ask_of a.feed a.zone a.query a.publishing a.update) (a.first, a.days, a.change, a.cache) (b.first, b.days, b.change, b.cache)
+    let ranges : PagesRanges (b.first, b.days, b.change, b.cache) = (b.some_days, b.two_months, b.window, b.within_a_day, b.some_pages, b.most_pages) in
+    same_made PagesRanges pages_ranges_prop (ask_of a.feed a.zone a.query a.publishing a.update) (a.first, a.days, a.change, a.cache) (b.first, b.days, b.change, b.cache)
     (a.some_days, a.two_months, a.window, a.within_a_day, a.some_pages, a.most_pages) ranges
     (λ i. (first i, days i, change i, cache i))
     ∙ (λ i. ask_of (feed i) (zone i) (query i) (publishing i) (update i) (b.first, b.days, b.change, b.cache) ranges)
 
+-- words say one feed and one window of it
+one_feed_window : (a : App) (words : List (List ℕ)) (feed feed' : List ℕ) (first first' : ServiceDate) (days days' : ℕ) (zone zone' : List ℕ) (change change' : ℕ) → SaysFeedWindow a words feed first days zone change → SaysFeedWindow a words feed' first' days' zone' change' → (feed ≡ feed') × (first ≡ first') × (days ≡ days') × (zone ≡ zone') × (change ≡ change')
+one_feed_window a words feed feed' first first' days days' zone zone' change change' p q =
+    let options = one_options a words 7 days days' zone zone' change change' p.options q.options in
+    (same_text _ _ (sym p.feed_is ∙ q.feed_is), one_date first first' (same_text _ _ (sym p.first_is ∙ q.first_is)), options.0, options.1, options.2)
+
 one_check : (words : List (List ℕ)) (a b : Check) → SaysCheck words a → SaysCheck words b → a ≡ b
 one_check words a b x y =
-    let p = x.words_are in
-    let q = y.words_are in
-    let options = one_options check_line words 7 a.days b.days a.zone b.zone a.change b.change p.options q.options in
-    same_check a b (same_text _ _ (sym p.feed_is ∙ q.feed_is)) (one_date a.first b.first (same_text _ _ (sym p.first_is ∙ q.first_is))) options.0 options.1 options.2
+    let one = one_feed_window check_line words a.feed b.feed a.first b.first a.days b.days a.zone b.zone a.change b.change x.feed_window y.feed_window in
+    same_check a b one.0 one.1 one.2 one.3 one.4
 
 one_ask : (words : List (List ℕ)) (a b : Ask) → SaysAsk words a → SaysAsk words b → a ≡ b
 one_ask words a b x y =
@@ -69,7 +75,7 @@ one_ask words a b x y =
     let first = one_date_at a.first b.first _ _ (ap (λ (query : Query). query.leave / 86_400 - 1) query) p.first_is q.first_is in
     same_ask a b (same_text _ _ (sym p.feed_is ∙ q.feed_is)) query first options.0 options.1 options.2
     (one_publishing ask_line words a.publishing b.publishing x.publishing y.publishing)
-    (same_number a.cache b.cache (sym x.client.cache_said ∙ y.client.cache_said)) (sym x.client.update_is ∙ y.client.update_is)
+    (same_number a.cache b.cache (sym x.cache_is ∙ y.cache_is)) (sym x.update.is ∙ y.update.is)
 
 pub only_command : OneCommand
 only_command [] a b x y = absurd x

@@ -9,7 +9,7 @@ use Rattle.lc_model.specs.declared.date.ServiceDate.{ServiceDate}
 use Rattle.command_words.specs.Line.{ask_line, line, texts_of}
 use Rattle.lc_time.proofs.DateLemmas.{same_date}
 use Rattle.command_words.specs.Ask.{AreAskWords, SaysAsk}
-use Rattle.command_words.specs.Check.{AreCheckWords}
+use Rattle.command_words.specs.FeedWindow.{SaysFeedWindow}
 use Rattle.command_words.specs.Options.{AreOptions}
 use Rattle.command_words.specs.Window.{IsDateAt, IsWindow}
 use Rattle.command_words.specs.Words.{SaysCommand}
@@ -17,7 +17,7 @@ use Rattle.command_words.specs.declared.command.Ask.{Ask}
 use Rattle.command_words.specs.declared.command.Command.{Command}
 use Rattle.command_words.specs.declared.command.Command.TheVariants as command
 
--- both lines are simple ones
+-- the lines are simple ones
 pub check_is_simple : is_simple_and_free (line (codes "check") (codes "feed" ∷ codes "first" ∷ []) (codes "days" ∷ codes "zone" ∷ codes "change" ∷ [])) ≡ true
 unfolding line
 check_is_simple = refl
@@ -27,10 +27,10 @@ unfolding line
 ask_is_simple = refl
 
 -- the same words, said by copies of their texts
-pub same_check_words : (words : List (List ℕ)) (feed feed' : List ℕ) (first : ServiceDate) (days : ℕ) (zone zone' : List ℕ) (change : ℕ) → feed' ≡ feed → zone' ≡ zone → AreCheckWords words feed first days zone change → AreCheckWords words feed' first days zone' change
-same_check_words words feed feed' first days zone zone' change e f are =
-    subst (λ (t : List ℕ). AreCheckWords words feed' first days t change) (sym f)
-    (subst (λ (t : List ℕ). AreCheckWords words t first days zone change) (sym e) are)
+pub same_feed_window : (a : App) (words : List (List ℕ)) (feed feed' : List ℕ) (first : ServiceDate) (days : ℕ) (zone zone' : List ℕ) (change : ℕ) → feed' ≡ feed → zone' ≡ zone → SaysFeedWindow a words feed first days zone change → SaysFeedWindow a words feed' first days zone' change
+same_feed_window a words feed feed' first days zone zone' change e f says =
+    subst (λ (t : List ℕ). SaysFeedWindow a words feed' first days t change) (sym f)
+    (subst (λ (t : List ℕ). SaysFeedWindow a words t first days zone change) (sym e) says)
 
 pub same_ask_words : (words : List (List ℕ)) (leave : ℕ) (feed feed' : List ℕ) (first : ServiceDate) (days : ℕ) (zone zone' : List ℕ) (change : ℕ) → feed' ≡ feed → zone' ≡ zone → AreAskWords words leave feed first days zone change → AreAskWords words leave feed' first days zone' change
 same_ask_words words leave feed feed' first days zone zone' change e f are =

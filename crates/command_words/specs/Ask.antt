@@ -1,11 +1,12 @@
 -- The words of `ask`.
 use Rattle.std.specs.Prelude.{◌≡◌, ℕ, ◌/◌, ◌-◌, List, codes, Some}
 use Rattle.lc_model.specs.declared.date.ServiceDate.{ServiceDate}
-use Rattle.command_words.specs.Client.{AreClientOptions}
+use Rattle.command_words.specs.Cache.{cache_said}
 use Rattle.command_words.specs.Line.{IsLine, ask_line, value_at}
 use Rattle.command_words.specs.Options.{AreOptions}
 use Rattle.command_words.specs.Publishing.{SaysPublishing}
 use Rattle.command_words.specs.Question.{AsksQuestion}
+use Rattle.command_words.specs.Update.{SaysUpdate}
 use Rattle.command_words.specs.Window.{IsDateAt, IsWindow}
 use Rattle.command_words.specs.declared.command.Ask.{Ask}
 
@@ -23,4 +24,5 @@ pub record SaysAsk (words : List (List ℕ)) (ask : Ask) : Type 0 where
   pub question : AsksQuestion words ask.query
   pub words_are : AreAskWords words ask.query.leave ask.feed ask.first ask.days ask.zone ask.change
   pub publishing : SaysPublishing ask_line words ask.publishing
-  pub client : AreClientOptions ask_line words ask.cache ask.update
+  pub cache_is : cache_said ask_line words ≡ Some ask.cache
+  pub update : SaysUpdate ask_line words ask.update

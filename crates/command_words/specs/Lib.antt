@@ -1,11 +1,13 @@
 pub mod Ask
+pub mod Cache
 pub mod Check
-pub mod Client
+pub mod FeedWindow
 pub mod Finds
 pub mod Laws
 pub mod Line
 pub mod Options
 pub mod Publishing
 pub mod Question
+pub mod Update
 pub mod Window
 pub mod Words

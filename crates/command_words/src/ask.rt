@@ -5,14 +5,16 @@ ghost use Rattle.command_words.specs.Line.{HasFound, ask_line, texts_of};
 ghost use Rattle.command_words.specs.declared.command.Ask.{Ask as Asked};
 
 use crate::Ask;
-use crate::client::client_options;
+use crate::cache::read_cache;
+use crate::feed_window::FeedWindow;
 use crate::line::{read_line, text_of};
-use crate::options::{WindowOptions, read_options};
+use crate::options::read_options;
 use crate::publishing::read_publishing;
 use crate::question::read_question;
+use crate::update::read_update;
 use crate::window::{date_before, is_window};
 use clap::ArgMatches;
-use lc_model::{Moment, NoMemory, ServiceDate, Text};
+use lc_model::{Moment, NoMemory, Text};
 use std::alloc::Global;
 
 /// The plain words of `ask` in their order, and its options.
@@ -31,14 +33,6 @@ static OPTIONS: [&str; 10] = [
     "update",
 ];
 
-/// The feed and its window that were found in the words of `ask`.
-#[derive(Clone, Copy)]
-struct AskWords<'a> {
-    feed: &'a str,
-    first: ServiceDate,
-    options: WindowOptions<'a>,
-}
-
 /// What the words behind `ask` say. None exactly where they say no such command.
 pub(crate) fn read_ask(alloc: Global, words: &[String]) -> Result<Option<Ask>, NoMemory>
     ensures { IfOk result (λ ask. MatchOption ask ((ask : Asked) → SaysAsk (texts_of words.now) ask → ⊥)
@@ -53,7 +47,10 @@ pub(crate) fn read_ask(alloc: Global, words: &[String]) -> Result<Option<Ask>, N
     let Some(said) = ask_words(&found, query.leave) else {
         return Ok(None);
     };
-    let Some(client) = client_options(&found) else {
+    let Some(cache) = read_cache(&found) else {
+        return Ok(None);
+    };
+    let Some(update) = read_update(&found) else {
         return Ok(None);
     };
     let Some(publishing) = read_publishing(alloc, &found)? else {
@@ -67,13 +64,13 @@ pub(crate) fn read_ask(alloc: Global, words: &[String]) -> Result<Option<Ask>, N
         zone: text_of(alloc, said.options.zone)?,
         change: said.options.change,
         publishing,
-        cache: client.cache,
-        update: copy_of(alloc, client.update)?,
+        cache,
+        update: copy_of(alloc, update)?,
     }))
 }
 
 /// The feed and its window that were found, if they are said rightly.
-fn ask_words<'a>(found: &ArgMatches<'a>, leave: Moment) -> Option<AskWords<'a>>
+fn ask_words<'a>(found: &ArgMatches<'a>, leave: Moment) -> Option<FeedWindow<'a>>
     requires { 86_400 ≤ leave }
     ensures { (words : List (List ℕ)) → HasFound ask_line words found.now → MatchOption result
         ((feed : List ℕ) (first : Date) (days : ℕ) (zone : List ℕ) (change : ℕ)
@@ -86,7 +83,7 @@ fn ask_words<'a>(found: &ArgMatches<'a>, leave: Moment) -> Option<AskWords<'a>>
     };
     let first = date_before(leave);
     if is_window(first, options.days) {
-        Some(AskWords {
+        Some(FeedWindow {
             feed,
             first,
             options,

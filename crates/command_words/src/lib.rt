@@ -3,9 +3,10 @@
 #![tactic(auto)]
 
 mod ask;
+mod cache;
 mod check;
-mod client;
 mod command;
+mod feed_window;
 mod laws;
 mod line;
 mod options;
@@ -13,6 +14,7 @@ mod publishing;
 mod question;
 #[cfg(test)]
 mod tests;
+mod update;
 mod window;
 mod words;
 
