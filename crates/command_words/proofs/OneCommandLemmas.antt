@@ -9,12 +9,14 @@ use Rattle.command_words.specs.Ask.{SaysAsk}
 use Rattle.command_words.specs.Check.{SaysCheck}
 use Rattle.command_words.specs.FeedWindow.{SaysFeedWindow}
 use Rattle.command_words.specs.Laws.{OneCommand}
-use Rattle.command_words.specs.Line.{ask_line, check_line}
+use Rattle.command_words.specs.Line.{ask_line, check_line, replay_line}
+use Rattle.command_words.specs.Replay.{SaysReplay}
 use Rattle.command_words.specs.Window.{IsWindow}
 use Rattle.command_words.specs.declared.command.Ask.{Ask}
 use Rattle.command_words.specs.declared.command.Check.{Check}
 use Rattle.command_words.specs.declared.command.Command.TheVariants as command
 use Rattle.command_words.specs.declared.command.Publishing.{Publishing}
+use Rattle.command_words.specs.declared.command.Replay.{Replay}
 use Rattle.command_words.proofs.MadeLemmas.{same_made}
 use Rattle.command_words.proofs.PublishingLemmas.{one_publishing}
 use Rattle.command_words.proofs.QuestionLemmas.{one_question}
@@ -55,6 +57,17 @@ same_ask a b feed query first days zone change publishing cache update =
     (λ i. (first i, days i, change i, cache i))
     ∙ (λ i. ask_of (feed i) (zone i) (query i) (publishing i) (update i) (b.first, b.days, b.change, b.cache) ranges)
 
+abbrev replay_of : (feed zone : List ℕ) (publishing : Publishing) (script : List ℕ) (s : ServiceDate × ℕ × ℕ × ℕ) → PagesRanges s → Replay
+replay_of feed zone publishing script s r = record { feed = feed; first = s.0; days = s.1; zone = zone; change = s.2; publishing = publishing; cache = s.3; script = script; some_days = r.0; two_months = r.1; window = r.2; within_a_day = r.3; some_pages = r.4; most_pages = r.5 }
+
+same_replay : (a b : Replay) → a.feed ≡ b.feed → a.first ≡ b.first → a.days ≡ b.days → a.zone ≡ b.zone → a.change ≡ b.change → a.publishing ≡ b.publishing → a.cache ≡ b.cache → a.script ≡ b.script → a ≡ b
+same_replay a b feed first days zone change publishing cache script =
+    let ranges : PagesRanges (b.first, b.days, b.change, b.cache) = (b.some_days, b.two_months, b.window, b.within_a_day, b.some_pages, b.most_pages) in
+    same_made PagesRanges pages_ranges_prop (replay_of a.feed a.zone a.publishing a.script) (a.first, a.days, a.change, a.cache) (b.first, b.days, b.change, b.cache)
+    (a.some_days, a.two_months, a.window, a.within_a_day, a.some_pages, a.most_pages) ranges
+    (λ i. (first i, days i, change i, cache i))
+    ∙ (λ i. replay_of (feed i) (zone i) (publishing i) (script i) (b.first, b.days, b.change, b.cache) ranges)
+
 -- words say one feed and one window of it
 one_feed_window : (a : App) (words : List (List ℕ)) (feed feed' : List ℕ) (first first' : ServiceDate) (days days' : ℕ) (zone zone' : List ℕ) (change change' : ℕ) → SaysFeedWindow a words feed first days zone change → SaysFeedWindow a words feed' first' days' zone' change' → (feed ≡ feed') × (first ≡ first') × (days ≡ days') × (zone ≡ zone') × (change ≡ change')
 one_feed_window a words feed feed' first first' days days' zone zone' change change' p q =
@@ -77,9 +90,21 @@ one_ask words a b x y =
     (one_publishing ask_line words a.publishing b.publishing x.publishing y.publishing)
     (same_number a.cache b.cache (sym x.cache_is ∙ y.cache_is)) (sym x.update.is ∙ y.update.is)
 
+one_replay : (words : List (List ℕ)) (a b : Replay) → SaysReplay words a → SaysReplay words b → a ≡ b
+one_replay words a b x y =
+    let one = one_feed_window replay_line words a.feed b.feed a.first b.first a.days b.days a.zone b.zone a.change b.change x.feed_window y.feed_window in
+    same_replay a b one.0 one.1 one.2 one.3 one.4
+    (one_publishing replay_line words a.publishing b.publishing x.publishing y.publishing)
+    (same_number a.cache b.cache (sym x.cache_is ∙ y.cache_is)) (same_text a.script b.script (sym x.script_is ∙ y.script_is))
+
 pub only_command : OneCommand
 only_command [] a b x y = absurd x
 only_command (name ∷ words) (command.Check a) (command.Check b) x y = ap (λ (check : Check). command.Check check) (one_check words a b x.1 y.1)
 only_command (name ∷ words) (command.Ask a) (command.Ask b) x y = ap (λ (ask : Ask). command.Ask ask) (one_ask words a b x.1 y.1)
+only_command (name ∷ words) (command.Replay a) (command.Replay b) x y = ap (λ (replay : Replay). command.Replay replay) (one_replay words a b x.1 y.1)
 only_command (name ∷ words) (command.Check a) (command.Ask b) x y = absurd (cc (sym x.0 ∙ y.0))
+only_command (name ∷ words) (command.Check a) (command.Replay b) x y = absurd (cc (sym x.0 ∙ y.0))
 only_command (name ∷ words) (command.Ask a) (command.Check b) x y = absurd (cc (sym x.0 ∙ y.0))
+only_command (name ∷ words) (command.Ask a) (command.Replay b) x y = absurd (cc (sym x.0 ∙ y.0))
+only_command (name ∷ words) (command.Replay a) (command.Check b) x y = absurd (cc (sym x.0 ∙ y.0))
+only_command (name ∷ words) (command.Replay a) (command.Ask b) x y = absurd (cc (sym x.0 ∙ y.0))

@@ -26,6 +26,10 @@ pub ask_is_simple : is_simple_and_free (line (codes "ask") (codes "feed" ∷ cod
 unfolding line
 ask_is_simple = refl
 
+pub replay_is_simple : is_simple_and_free (line (codes "replay") (codes "feed" ∷ codes "first" ∷ codes "script" ∷ []) (codes "days" ∷ codes "zone" ∷ codes "change" ∷ codes "base" ∷ codes "base-moment" ∷ codes "cuts" ∷ codes "cache" ∷ [])) ≡ true
+unfolding line
+replay_is_simple = refl
+
 -- the same words, said by copies of their texts
 pub same_feed_window : (a : App) (words : List (List ℕ)) (feed feed' : List ℕ) (first : ServiceDate) (days : ℕ) (zone zone' : List ℕ) (change : ℕ) → feed' ≡ feed → zone' ≡ zone → SaysFeedWindow a words feed first days zone change → SaysFeedWindow a words feed' first days zone' change
 same_feed_window a words feed feed' first days zone zone' change e f says =
@@ -81,3 +85,4 @@ no_ask texts rest name parts is none said says = asked rest name is none said (s
     asked : (rest : List (List ℕ)) (name : List ℕ) → name ≡ codes "ask" → ((ask : Ask) → SaysAsk rest ask → ⊥) → (said : Command) → SaysCommand (name ∷ rest) said → ⊥
     asked rest name is none (command.Check check) says = absurd (cc (sym is ∙ says.0))
     asked rest name is none (command.Ask ask) says = none ask says.1
+    asked rest name is none (command.Replay replay) says = absurd (cc (sym is ∙ says.0))

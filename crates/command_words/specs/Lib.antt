@@ -8,6 +8,7 @@ pub mod Line
 pub mod Options
 pub mod Publishing
 pub mod Question
+pub mod Replay
 pub mod Update
 pub mod Window
 pub mod Words

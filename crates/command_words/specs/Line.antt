@@ -64,3 +64,9 @@ ask_line =
     line (codes "ask") (codes "feed" ∷ codes "from" ∷ codes "to" ∷ codes "moment" ∷ [])
     (codes "days" ∷ codes "zone" ∷ codes "change" ∷ codes "horizon" ∷ codes "known" ∷ codes "base" ∷ codes "base-moment"
     ∷ codes "cuts" ∷ codes "cache" ∷ codes "update" ∷ [])
+
+-- the line of `replay FEED FIRST SCRIPT` with its options
+unfoldable pub replay_line : App
+replay_line =
+    line (codes "replay") (codes "feed" ∷ codes "first" ∷ codes "script" ∷ [])
+    (codes "days" ∷ codes "zone" ∷ codes "change" ∷ codes "base" ∷ codes "base-moment" ∷ codes "cuts" ∷ codes "cache" ∷ [])

@@ -2,6 +2,7 @@
 use Rattle.std.specs.Prelude.{◌≡◌, ℕ, List, [], ◌∷◌, codes}
 use Rattle.command_words.specs.Ask.{SaysAsk}
 use Rattle.command_words.specs.Check.{SaysCheck}
+use Rattle.command_words.specs.Replay.{SaysReplay}
 use Rattle.command_words.specs.declared.command.Command.{Command}
 use Rattle.command_words.specs.declared.command.Command.TheVariants as command
 
@@ -10,3 +11,4 @@ abbrev pub SaysCommand : List (List ℕ) → Command → Type 0
 SaysCommand [] said = ⊥
 SaysCommand (name ∷ words) (command.Check check) = (name ≡ codes "check") × SaysCheck words check
 SaysCommand (name ∷ words) (command.Ask ask) = (name ≡ codes "ask") × SaysAsk words ask
+SaysCommand (name ∷ words) (command.Replay replay) = (name ≡ codes "replay") × SaysReplay words replay

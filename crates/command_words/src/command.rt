@@ -10,6 +10,7 @@ use lc_model::{Moment, Query, ServiceDate, Text};
 pub enum Command {
     Check(Check),
     Ask(Ask),
+    Replay(Replay),
 }
 
 /// `check`: the timetable of a feed in a window of dates.
@@ -44,6 +45,30 @@ pub struct Ask {
     pub cache: u32,
     /// The name of the file with a realtime message, if one is to be admitted.
     pub update: Option<Text>,
+    pub ghost some_days: { 1 ≤ days },
+    pub ghost two_months: { days ≤ 62 },
+    pub ghost window: { IsWindow first days },
+    pub ghost within_a_day: { change ≤ 86_400 },
+    pub ghost some_pages: { 1 ≤ cache },
+    pub ghost most_pages: { cache ≤ 10_000 },
+}
+
+/// `replay`: a script of clients, messages and turns over the timetable of a feed in a window of dates, which is asked through
+/// pages.
+#[derive(Debug, Drop)]
+pub struct Replay {
+    pub feed: Text,
+    pub first: ServiceDate,
+    pub days: u32,
+    /// The word of a zone, as it was said.
+    pub zone: Text,
+    /// The seconds of a change of which the feed says none.
+    pub change: u32,
+    pub publishing: Publishing,
+    /// How many pages are kept at most.
+    pub cache: u32,
+    /// The name of the file with the script.
+    pub script: Text,
     pub ghost some_days: { 1 ≤ days },
     pub ghost two_months: { days ≤ 62 },
     pub ghost window: { IsWindow first days },

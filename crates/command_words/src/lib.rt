@@ -12,12 +12,13 @@ mod line;
 mod options;
 mod publishing;
 mod question;
+mod replay;
 #[cfg(test)]
 mod tests;
 mod update;
 mod window;
 mod words;
 
-pub use command::{Ask, Check, Command, Publishing};
+pub use command::{Ask, Check, Command, Publishing, Replay};
 pub use laws::{default_publishing, lines_of_check, one_command};
 pub use words::read_words;

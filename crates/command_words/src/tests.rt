@@ -1,5 +1,5 @@
 //! Cases of the grammar: options before, between and behind the plain words, and what is no command.
-use crate::{Ask, Command, read_words};
+use crate::{Ask, Command, Publishing, Replay, read_words};
 use fragmenter::Cutting;
 use lc_model::Moment;
 use lc_time::date_text;
@@ -39,8 +39,26 @@ fn said(alloc: Global, words: &[String]) -> Result<String, Fail> {
                 ask.change
             )?
         }
+        Some(Command::Replay(replay)) => replayed(alloc, &replay)?,
         None => String::from_str(alloc, "none")?,
     })
+}
+
+// The command `replay`, as one text.
+fn replayed(alloc: Global, replay: &Replay) -> Result<String, Fail> {
+    let (feed, zone, script) = (
+        replay.feed.as_str(),
+        replay.zone.as_str(),
+        replay.script.as_str(),
+    );
+    let date = date_text(replay.first);
+    let first = std::str::from_utf8(&date).unwrap_or("?");
+    let publishing = published(alloc, &replay.publishing)?;
+    let publishing = publishing.as_str();
+    Ok(format!(in alloc;
+        "replay {feed} {first} {script} {} {zone} {} {publishing} {}",
+        replay.days, replay.change, replay.cache
+    )?)
 }
 
 const ASKED: &str = "ask tiny A D 1714550400 86400 20240430 3 utc 120";
@@ -146,6 +164,75 @@ fn words_of_commands(rt: HostRuntime) -> Result<(), Fail> {
     Ok(())
 }
 
+const REPLAYED: &str = "replay tiny 20240501 s.csv 7 utc 120 http://lc.example/ 0 span 1800 100";
+
+#[test]
+fn words_of_replay(rt: HostRuntime) -> Result<(), Fail> {
+    let alloc = rt.alloc();
+    for &(words, command) in &[
+        ("replay tiny 20240501 s.csv", REPLAYED),
+        ("replay -- tiny 20240501 s.csv", REPLAYED),
+        (
+            "replay tiny --days 7 20240501 --cache=100 s.csv --change=0120",
+            REPLAYED,
+        ),
+        (
+            "replay --days=3 tiny 20240501 s.csv",
+            "replay tiny 20240501 s.csv 3 utc 120 http://lc.example/ 0 span 1800 100",
+        ),
+        (
+            "replay tiny 20240501 s.csv --zone=file:x --change 60 --base http://x/lc/ --base-moment 2024-05-01T06:00:00Z --cuts count:4",
+            "replay tiny 20240501 s.csv 7 file:x 60 http://x/lc/ 1714543200 count 4 100",
+        ),
+        (
+            "replay --cache 1 --cuts=whole tiny 20240501 s.csv",
+            "replay tiny 20240501 s.csv 7 utc 120 http://lc.example/ 0 whole 0 1",
+        ),
+        (
+            "replay --cache 10000 -- tiny 20240501 -s",
+            "replay tiny 20240501 -s 7 utc 120 http://lc.example/ 0 span 1800 10000",
+        ),
+        (
+            "replay tiny 99991210 s.csv --days 6",
+            "replay tiny 99991210 s.csv 6 utc 120 http://lc.example/ 0 span 1800 100",
+        ),
+        (
+            "replay tiny 20240501 ",
+            "replay tiny 20240501  7 utc 120 http://lc.example/ 0 span 1800 100",
+        ),
+        ("replay tiny 20240501", "none"),
+        ("replay tiny 20240501 --cache 5", "none"),
+        ("replay tiny 20240501 s.csv x", "none"),
+        ("replay tiny s.csv 20240501", "none"),
+        ("replay tiny 20240501 -s", "none"),
+        ("replay tiny 20240501 -", "none"),
+        ("replay tiny 20240501 -- -", "none"),
+        ("replay tiny 99991210 s.csv", "none"),
+        ("replay tiny 20240501 s.csv --days 3 --days=3", "none"),
+        ("replay tiny 20240501 s.csv --days 63", "none"),
+        ("replay tiny 20240501 s.csv --change 86401", "none"),
+        ("replay tiny 20240501 s.csv --zone=-x", "none"),
+        ("replay tiny 20240501 s.csv --base x", "none"),
+        ("replay tiny 20240501 s.csv --cuts span:0", "none"),
+        ("replay tiny 20240501 s.csv --base-moment yesterday", "none"),
+        ("replay tiny 20240501 s.csv --cache 0", "none"),
+        ("replay tiny 20240501 s.csv --cache 10001", "none"),
+        ("replay tiny 20240501 s.csv --cache", "none"),
+        ("replay tiny 20240501 s.csv --update d60.pb", "none"),
+        (
+            "replay tiny 20240501 s.csv --known 2024-05-01T06:00:00Z",
+            "none",
+        ),
+        ("replay tiny 20240501 s.csv --horizon=60", "none"),
+        ("replay tiny 20240501 s.csv --script s.csv", "none"),
+        ("replay --help", "none"),
+    ] {
+        let list = words_of(alloc, words)?;
+        assert_eq!(rt; said(alloc, list.as_slice())?.as_str(), command, "{words}");
+    }
+    Ok(())
+}
+
 #[test]
 fn no_word_is_no_command(rt: HostRuntime) -> Result<(), Fail> {
     assert_eq!(rt; said(rt.alloc(), &[])?.as_str(), "none");
@@ -159,10 +246,10 @@ fn asking(alloc: Global, options: &str) -> Result<Vec<String>, Fail> {
 }
 
 // How the timetable is published, as one text.
-fn published(alloc: Global, ask: &Ask) -> Result<String, Fail> {
-    let base = ask.publishing.base.text();
-    let moment = ask.publishing.base_moment.seconds();
-    let (way, number) = way_of(ask.publishing.cutting);
+fn published(alloc: Global, publishing: &Publishing) -> Result<String, Fail> {
+    let base = publishing.base.text();
+    let moment = publishing.base_moment.seconds();
+    let (way, number) = way_of(publishing.cutting);
     Ok(format!(in alloc; "{base} {moment} {way} {number}")?)
 }
 
@@ -176,8 +263,9 @@ fn way_of(cutting: Cutting) -> (&'static str, u32) {
 
 fn publishing_said(alloc: Global, words: &[String]) -> Result<String, Fail> {
     Ok(match read_words(alloc, words)? {
-        Some(Command::Ask(ask)) => published(alloc, &ask)?,
+        Some(Command::Ask(ask)) => published(alloc, &ask.publishing)?,
         Some(Command::Check(_check)) => String::from_str(alloc, "check")?,
+        Some(Command::Replay(_replay)) => String::from_str(alloc, "replay")?,
         None => String::from_str(alloc, "none")?,
     })
 }
@@ -260,6 +348,7 @@ fn client_said(alloc: Global, words: &[String]) -> Result<String, Fail> {
     Ok(match read_words(alloc, words)? {
         Some(Command::Ask(ask)) => client_of(alloc, &ask)?,
         Some(Command::Check(_check)) => String::from_str(alloc, "check")?,
+        Some(Command::Replay(_replay)) => String::from_str(alloc, "replay")?,
         None => String::from_str(alloc, "none")?,
     })
 }

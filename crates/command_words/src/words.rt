@@ -6,6 +6,7 @@ ghost use Rattle.command_words.specs.declared.command.Command.{Command as Said};
 use crate::Command;
 use crate::ask::read_ask;
 use crate::check::read_check;
+use crate::replay::read_replay;
 use lc_model::NoMemory;
 use std::alloc::Global;
 
@@ -25,6 +26,10 @@ pub fn read_words(alloc: Global, words: &[String]) -> Result<Option<Command>, No
         },
         "ask" => match read_ask(alloc, rest)? {
             Some(ask) => Ok(Some(Command::Ask(ask))),
+            None => Ok(None),
+        },
+        "replay" => match read_replay(alloc, rest)? {
+            Some(replay) => Ok(Some(Command::Replay(replay))),
             None => Ok(None),
         },
         _ => Ok(None),
