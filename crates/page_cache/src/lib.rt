@@ -3,5 +3,7 @@
 #![tactic(auto)]
 
 mod cache;
+#[cfg(test)]
+mod tests;
 
 pub use cache::{MOST_PAGES, PageCache};
