@@ -5,6 +5,8 @@ mod convoy;
 mod exchange;
 mod member;
 mod steps;
+#[cfg(test)]
+mod tests;
 mod turn;
 mod turning;
 
