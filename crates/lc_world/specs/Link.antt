@@ -7,6 +7,8 @@ use Rattle.publisher_side.specs.Reply.{IsReply}
 use Rattle.publisher_side.specs.Short.{StandsUnder}
 use Rattle.publisher_side.specs.Side.{IsLater, Side}
 use Rattle.lc_world.specs.declared.entry.Entry.{Entry}
+use Rattle.lc_world.specs.declared.entry.ToldReply.{ToldReply}
+use Rattle.lc_world.specs.declared.entry.ToldReply.TheVariants as told_replies
 use Rattle.lc_world.specs.declared.link.LinkFail.{LinkFail}
 use Rattle.lc_world.specs.declared.link.LinkFail.TheVariants.{Failed, NoMemory}
 
@@ -61,10 +63,15 @@ abbrev pub Exchanges : {T : Type 0} → LinkSeen → LinkSeen → BaseParts → 
 Exchanges before after base side request reply result =
     StaysHonest base side (before.quiet base) after.side (after.honest base) (after.quiet base) request reply result
 
--- One exchange more is told, where exchanges are told: with its reply where there was one and replies are told, and else without.
+-- what is told of the reply that was given, or that there was none
+abbrev pub told_of : Option (List ℕ) → ToldReply
+told_of None = told_replies.Failed
+told_of (Some reply) = told_replies.Reply reply
+
+-- One exchange more is told, where exchanges are told: with the reply that was given, or that it failed, unless the link hides replies.
 pub record TellsMore (before after : Option (List Entry)) (authority request : List ℕ) (given : Option (List ℕ)) : Type 0 where
-  pub reply : Option (List ℕ)
-  pub is_given : (reply ≡ None) ⊎ (reply ≡ given)
+  pub reply : ToldReply
+  pub is_given : (reply ≡ told_replies.Hidden) ⊎ (reply ≡ told_of given)
   pub is : after ≡ option_map (λ (told : List Entry). told ++ record { authority = authority; request = request; reply = reply } ∷ []) before
 
 -- an exchange is told by how it ended; after want of memory it may not be

@@ -1,11 +1,21 @@
 use lc_model::{Bytes, Text};
 
+/// What a link tells of the reply to an exchange.
+#[derive(Debug, Drop)]
+pub enum ToldReply {
+    /// It does not tell whether there was one.
+    Hidden,
+    /// There was none: the exchange failed.
+    Failed,
+    /// There was this one.
+    Reply(Bytes),
+}
+
 /// An exchange that a link tells.
 #[derive(Debug, Drop)]
 pub struct Entry {
     /// Who was asked, as `host:port`.
     pub authority: Text,
     pub request: Bytes,
-    /// The reply, where there was one and the link tells it.
-    pub reply: Option<Bytes>,
+    pub reply: ToldReply,
 }

@@ -13,7 +13,7 @@ mod sure_door;
 mod tests;
 
 pub use door::{Door, DoorFail, Next};
-pub use entry::Entry;
+pub use entry::{Entry, ToldReply};
 pub use lc_io::{
     File, Folder, FolderFail, MemFolder, MemSink, Sink, SinkFail, SureFolder, SureSink, put_all,
 };

@@ -4,7 +4,7 @@ ghost use Rattle.lc_world.specs.Link.{Tells};
 ghost use Rattle.lc_world.specs.ListLink.{Fails, Gives, IsUsedUp, Keeps, entry_of};
 ghost use Rattle.lc_world.specs.declared.link.LinkFail.TheVariants.{Failed, NoMemory as OutOfMemory};
 
-use crate::{Entry, Link, LinkFail};
+use crate::{Entry, Link, LinkFail, ToldReply};
 use lc_model::{Bytes, NoMemory, Text};
 use std::alloc::Global;
 use std::marker::Model;
@@ -65,7 +65,7 @@ impl ListLink {
         alloc: Global,
         authority: &str,
         request: &[u8],
-        reply: Option<Bytes>,
+        reply: ToldReply,
     ) -> Result<(), NoMemory>
         ensures ok { OnOk result (self.new ≡ record self.old { told = self.old.told ++ entry_of authority.now request.now reply ∷ [] }) }
         ensures err { OnErr result (self.new ≡ self.old) }
@@ -95,7 +95,7 @@ impl ListLink {
             return Ok(false);
         }
         let given = Bytes::from_list(reply.as_slice().to_vec(alloc)?);
-        self.tell(alloc, authority, request, Some(given))?;
+        self.tell(alloc, authority, request, ToldReply::Reply(given))?;
         self.given = self.given.saturating_add(1);
         Ok(true)
     }
@@ -116,7 +116,7 @@ impl ListLink {
         if self.give_next(alloc, authority, request, reply)? {
             return Ok(());
         }
-        self.tell(alloc, authority, request, None)?;
+        self.tell(alloc, authority, request, ToldReply::Failed)?;
         self.faults = self.faults.saturating_add(1);
         Err(LinkFail::Failed)
     }
@@ -138,7 +138,7 @@ impl ListLink {
             return Ok(());
         }
         let answer = Bytes::from_list(reply.as_slice().to_vec(alloc)?);
-        self.tell(alloc, authority, request, Some(answer))
+        self.tell(alloc, authority, request, ToldReply::Reply(answer))
     }
 }
 

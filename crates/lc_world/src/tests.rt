@@ -7,9 +7,13 @@ fn bytes(alloc: Global, text: &str) -> Result<Bytes, Fail> {
     Ok(Bytes::from_list(Vec::from_slice(alloc, text.as_bytes())?))
 }
 
-/// What a reply of an entry is.
-fn reply_of(entry: &Entry) -> Option<&[u8]> {
-    entry.reply.as_ref().map(|reply| reply.as_slice())
+/// The reply of an entry, in a word where there is none.
+fn reply_of(entry: &Entry) -> &[u8] {
+    match &entry.reply {
+        ToldReply::Hidden => b"hidden",
+        ToldReply::Failed => b"failed",
+        ToldReply::Reply(reply) => reply.as_slice(),
+    }
 }
 
 // A list of two replies: asked, handed on, and used up. What was replied is told, also an answer that is left as it is.
@@ -33,16 +37,16 @@ fn links(rt: HostRuntime) -> Result<(), Fail> {
     );
     assert_eq!(rt; link.faults(), 1);
     let told = [
-        ("lc.example", "GET 1", Some("one")),
-        ("lc.example", "GET 2", Some("two")),
-        ("lc.example:80", "GET 3", Some("two!")),
-        ("lc.example", "GET 4", None),
+        ("lc.example", "GET 1", "one"),
+        ("lc.example", "GET 2", "two"),
+        ("lc.example:80", "GET 3", "two!"),
+        ("lc.example", "GET 4", "failed"),
     ];
     assert_eq!(rt; link.told().len(), told.len());
     for (entry, (authority, request, reply)) in link.told().iter().zip(&told) {
         assert_eq!(rt; entry.authority.as_str(), *authority);
         assert_eq!(rt; entry.request.as_slice(), request.as_bytes());
-        assert_eq!(rt; reply_of(entry), reply.map(|reply| reply.as_bytes()));
+        assert_eq!(rt; reply_of(entry), reply.as_bytes());
     }
     Ok(())
 }
