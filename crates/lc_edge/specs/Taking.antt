@@ -1,7 +1,8 @@
 -- Exchanges that are told without their replies.
-use Rattle.std.specs.Prelude.{ℕ, List, None}
+use Rattle.std.specs.Prelude.{ℕ, List}
 use Rattle.lc_world.specs.declared.entry.Entry.{Entry}
+use Rattle.lc_world.specs.declared.entry.ToldReply.TheVariants.{Hidden}
 
 -- an exchange of which only the request is told
 abbrev pub asked_entry : List ℕ → List ℕ → Entry
-asked_entry authority request = record { authority = authority; request = request; reply = None }
+asked_entry authority request = record { authority = authority; request = request; reply = Hidden }

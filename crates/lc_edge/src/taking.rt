@@ -5,7 +5,7 @@ ghost use Rattle.lc_edge.specs.Taking.{asked_entry};
 
 use http_text::{Taken, take_request};
 use lc_model::{Bytes, NoMemory, Text};
-use lc_world::Entry;
+use lc_world::{Entry, ToldReply};
 use std::alloc::Global;
 
 /// Whether the bytes are one whole request. Linear in their first 16,384 bytes.
@@ -35,7 +35,7 @@ pub(crate) fn tell(
     let entry = Entry {
         authority: Text::from_string(String::from_str(alloc, authority)?),
         request: Bytes::from_list(request.to_vec(alloc)?),
-        reply: None,
+        reply: ToldReply::Hidden,
     };
     told.push(entry)?;
     Ok(())

@@ -3,7 +3,7 @@ use connection_uri::Base;
 use fragmenter::Whole;
 use lc_model::{Bytes, Changes, Moment, Runs, Stops, StopsDoc};
 use lc_time::Zone;
-use lc_world::{Folder, FolderFail, Link, LinkFail, ListLink, Sink, put_all};
+use lc_world::{Folder, FolderFail, Link, LinkFail, ListLink, Sink, ToldReply, put_all};
 use publisher::{Options, Publisher};
 use std::alloc::Global;
 use std::test::Fail;
@@ -101,9 +101,12 @@ fn home_links(rt: HostRuntime) -> Result<(), Fail> {
     }
     assert!(rt; link.publisher().newest().seconds() == 0 && link.faults() == 0);
     let outer = link.into_outer();
-    let told = outer.told().last().and_then(|entry| entry.reply.as_ref());
-    let told = told.map(|reply| reply.as_slice());
-    assert!(rt; outer.told().len() == 2 && told == Some(reply.as_slice()));
+    let entry = outer.told().last().ok_or("an entry")?;
+    let told = match &entry.reply {
+        ToldReply::Reply(told) => told.as_slice() == reply.as_slice(),
+        _ => false,
+    };
+    assert!(rt; outer.told().len() == 2 && told);
     Ok(())
 }
 
