@@ -3,3 +3,4 @@ pub mod MadeLemmas
 pub mod OneEndLemmas
 pub mod RunLemmas
 pub mod StepLemmas
+pub mod ToldLemmas

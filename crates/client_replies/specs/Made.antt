@@ -2,7 +2,9 @@
 use Rattle.std.specs.Prelude.{◌≡◌, ◌⊎◌, ℕ, List, [], ◌∷◌, ◌++◌, Option, Some, None, option_map}
 use Rattle.lc_model.specs.declared.query.Query.{Query}
 use Rattle.connection_uri.specs.Base.{BaseParts}
+use Rattle.lc_world.specs.Link.{told_of}
 use Rattle.lc_world.specs.declared.entry.Entry.{Entry}
+use Rattle.lc_world.specs.declared.entry.ToldReply.TheVariants.{Hidden}
 use Rattle.page_client.specs.Request.{Asks, known_at, target_of}
 use Rattle.page_client.specs.declared.want.Want.{Want}
 
@@ -19,11 +21,12 @@ reply_to want reply = record { want = want; got = Some reply }
 abbrev pub failure_of : Want → Made
 failure_of want = record { want = want; got = None }
 
--- The entry tells the exchange: whom it asked, by the request for what was wanted, and with the reply that was got, or without one.
+-- The entry tells the exchange: whom it asked, by the request for what was wanted, and with the reply that was got, or that it failed,
+-- unless it hides that.
 pub record IsEntryOf (base : BaseParts) (query : Query) (made : Made) (entry : Entry) : Type 0 where
   pub authority : entry.authority ≡ base.authority
   pub asks : Asks base (target_of base query made.want) (known_at query made.want) entry.request
-  pub reply : (entry.reply ≡ None) ⊎ (entry.reply ≡ made.got)
+  pub reply : (entry.reply ≡ Hidden) ⊎ (entry.reply ≡ told_of made.got)
 
 -- there is one entry for each exchange, in their order
 abbrev pub AreEntriesOf : BaseParts → Query → List Made → List Entry → Type 0

@@ -1,4 +1,4 @@
-ghost use Rattle.client_replies.specs.Laws.{OneEnd};
+ghost use Rattle.client_replies.specs.Laws.{GotIsTold, OneEnd, OneToldEnd};
 ghost use Rattle.client_replies.specs.Run.{EndsByItsReplies};
 
 use lc_world::Link;
@@ -14,4 +14,11 @@ pub fn alone_over_any_link<L: Link>()
 /// that there is none, or its refusal, or the reply that fails a test and the test, or that the last exchange failed.
 pub fn one_end()
     ensures { OneEnd }
+{}
+
+/// Where a link tells exchanges and hides none of their replies, what a client got is told, failures too, and so by what is told it
+/// ended in one way.
+pub fn one_told_end<L: Link>()
+    ensures got { GotIsTold }
+    ensures end { OneToldEnd L.seen }
 {}

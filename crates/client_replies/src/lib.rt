@@ -4,4 +4,4 @@
 
 mod laws;
 
-pub use laws::{alone_over_any_link, one_end};
+pub use laws::{alone_over_any_link, one_end, one_told_end};
