@@ -81,9 +81,10 @@ impl<G: Fragmenter + Drop> Publisher<G> {
         &self.options.base
     }
 
-    /// The side for which a publisher stands is valid. A law: the call does nothing.
+    /// The side for which a publisher stands is valid, and its store and its document have the same stops. A law: the call does nothing.
     pub fn side_is_valid(&self)
-        ensures { IsValidSide (side_of G.cuts_of self.now) }
+        ensures valid { IsValidSide (side_of G.cuts_of self.now) }
+        ensures stops { self.now.store.stops ≡ self.now.doc.stops }
     {
         self.cutting.cuts_lawfully();
         doc_is_valid(&self.doc);

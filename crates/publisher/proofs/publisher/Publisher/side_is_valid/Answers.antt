@@ -1,10 +1,13 @@
-use Rattle.std.proofs.Common.{subst}
+use Rattle.std.proofs.Common.{◌≡◌, subst}
 use Rattle.publisher.specs.Held.{side_of}
 use Rattle.publisher_side.specs.Side.{IsValidSide}
 use Rattle.publisher.proofs.publisher.Publisher.side_is_valid.Goals as goal
 
-pub returns : goal.returns
-returns g c =
+pub returns-clause-stops : goal.returns-clause-stops
+returns-clause-stops g c = subst (λ held. held.store.stops ≡ held.doc.stops) c.self.view_is c.self.invariant.stops
+
+pub returns-clause-valid : goal.returns-clause-valid
+returns-clause-valid g c =
     let cuts_of = g.G.Fragmenter.cuts_of in
     subst (λ held. IsValidSide (side_of cuts_of held)) c.self.view_is
     (record {
