@@ -157,6 +157,13 @@ impl Convoy {
         members.swap_remove(k - 1).client.into_outcome()
     }
 
+    /// The clients, in the order of their numbers, for keeps.
+    pub fn into_members(self) -> Vec<Member>
+        ensures { result.items ≡ self.members }
+    {
+        self.members
+    }
+
     /// The version that the time gate named to client k; none before.
     pub fn version(&self, k: usize) -> Option<Moment>
         requires from_one { 1 ≤ k }

@@ -11,4 +11,5 @@ mod turn;
 mod turning;
 
 pub use convoy::Convoy;
+pub use member::Member;
 pub use turn::Turn;
