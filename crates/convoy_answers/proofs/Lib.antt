@@ -1,13 +1,13 @@
-mod AloneLemmas
+pub mod AloneLemmas
 mod AskedLemmas
 pub mod BeginLemmas
 mod HonestLemmas
 mod MemberLemmas
-mod NamedLemmas
+pub mod NamedLemmas
 mod NamesLemmas
 mod NoFaultLemmas
 pub mod OneClientLemmas
-mod PlaceLemmas
+pub mod PlaceLemmas
 mod RequestLemmas
 pub mod RoundsLemmas
 pub mod TurnLemmas

@@ -14,7 +14,7 @@ abbrev pub NoGate : List Want → Type 0
 NoGate given = (more : List Want) → given ≡ wants.Gate ∷ more → ⊥
 
 -- behind other things the version is as it was
-kept_version : (side left : Side) (old : Shown) (given : List Want) (version : Option ℕ) → NoGate given → VersionAfter side left old given version → version ≡ old.version
+pub kept_version : (side left : Side) (old : Shown) (given : List Want) (version : Option ℕ) → NoGate given → VersionAfter side left old given version → version ≡ old.version
 kept_version side left old [] version no_gate after = after
 kept_version side left old (wants.Gate ∷ more) version no_gate after = absurd (no_gate more refl)
 kept_version side left old (wants.Stops ∷ more) version no_gate after = after

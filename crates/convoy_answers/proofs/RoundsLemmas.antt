@@ -116,6 +116,8 @@ module _ (side : Side) (old mid new : ConvoyState) (so_far : List (List Want)) (
         all_is =
             subst (λ (i : ℕ). slice_get now i ≡ Some (second.own ++ second.given)) (sym index)
             (slice_get-set_same first.now (suc n - 1) (second.own ++ second.given) within);
+        idle = λ some. second.idle (subst HasOutcome (sym same) some);
+        gate_once = second.gate_once;
         count = subst (λ (m : Member). second.is.exchanges ≡ m.exchanges + length second.asked) same second.gone.count;
         moved =
             moved_wider side first.left second.left second.left (shown was.client) (shown second.is.client) a b c c second.given first.honest.later (later_itself second.left)
@@ -141,6 +143,8 @@ module _ (side : Side) (old mid new : ConvoyState) (so_far : List (List Want)) (
     round = came.round;
     round_is = slice_get-append first.rounds (round ∷ []) place came.round came.round_is;
     all_is = slice_get-set_other first.now (suc n - 1) (second.own ++ second.given) place (not_last place n not) ∙ came.all_is;
+    idle = came.idle;
+    gate_once = came.gate_once;
     count = came.count;
     how = how_later came.how;
     moved =

@@ -1,7 +1,8 @@
 -- A turn, and turns one after the other, keep a convoy in agreement with the side that is left.
-use Rattle.std.proofs.Common.{◌≡◌, ◌≢◌, ℕ, ◌+◌, ◌-◌, ◌≤◌, inl, inr, List, [], ◌∷◌, ◌++◌, length, Option, Some, None, refl, ap, sym, subst, ◌∙◌, arith}
+use Rattle.std.proofs.Common.{◌≡◌, ◌≢◌, ℕ, ◌+◌, ◌-◌, ◌≤◌, inl, inr, List, [], ◌∷◌, ◌++◌, length, Option, Some, None, refl, ap, ap₂, sym, subst, ◌∙◌, arith}
 use Rattle.std.specs.Prelude.{set}
 use Rattle.std.specs.List.{All, slice_get}
+use Rattle.std.specs.Option.{IsSome}
 use Rattle.std.proofs.lemmas.List.{append-nil, append_assoc, length-append}
 use Rattle.std.proofs.lemmas.Option.{slice_get_within}
 use Rattle.csa_scan.proofs.ListPlacesLemmas.{slice_get-set_other, slice_get-set_same}
@@ -22,7 +23,7 @@ use Rattle.publisher_side.specs.Side.{Side}
 use Rattle.client_answers.specs.Fits.{FitsAt, FitsSide}
 use Rattle.client_answers.specs.Published.{IsOwnPage}
 use Rattle.client_answers.proofs.FitsLemmas.{has_own}
-use Rattle.convoy.specs.Finish.{IsStep, Step, TurnsOf}
+use Rattle.convoy.specs.Finish.{HasOutcome, IsStep, Step, TurnsOf}
 use Rattle.convoy.specs.State.{ConvoyState}
 use Rattle.convoy.specs.Turn.{Turned}
 use Rattle.convoy.specs.declared.member.Member.{Member}
@@ -53,42 +54,22 @@ member_agrees {X} seen base side was is own kept after_kept before after Cached 
 member_agrees seen base side was is own kept after_kept before after Exchanged honest fits pages turned idle =
     exchanged_agrees base side was is own kept after_kept (seen before) (seen after) honest fits pages turned.had_none turned.one_more turned.asks
 
-pub turn_agrees :
-    {X : Type 0} (seen : X → LinkSeen) (side : Side) (old new : ConvoyState) (so_far : List (List Want)) (k : ℕ) (before after : X) (turn : Turn) → IsHonestWith (seen before) old.base side →
-    FitsConvoy side old so_far → IsStep seen k old new before after turn → TurnAgrees side old new so_far k (seen before) (seen after) turn
-turn_agrees seen side old new so_far k before after turn honest fits step =
-    let t = step.turned in
-    let at : StandsAt side t.was so_far (k - 1) = at_place side old.members so_far (k - 1) t.was fits.clients t.had in
-    let m = member_agrees seen old.base side t.was t.is at.own old.kept new.kept before after turn honest at.fits fits.pages t.turned step.idle in
-    let within = slice_get_within old.members (k - 1) t.was t.had in
-    let clients = all_later side m.left old.members so_far m.honest.honest.stands.valid m.honest.later fits.clients in
-    record {
-      agrees = record {
-        left = m.left;
-        honest = m.honest;
-        base = t.base;
-        was = t.was;
-        had = t.had;
-        is = t.is;
-        has = ap (λ (members : List Member). slice_get members (k - 1)) t.members ∙ slice_get-set_same old.members (k - 1) t.is within;
-        others = λ j other. ap (λ (members : List Member). slice_get members j) t.members ∙ slice_get-set_other old.members (k - 1) t.is j other;
-        own = at.own;
-        own_is = at.is;
-        given = m.given;
-        asked = m.asked;
-        gone = m.gone;
-        by_names = m.by_names;
-        client = m.client;
-        fits = record {
-          clients =
-              subst (λ (members : List Member). AllFit m.left members (set so_far (k - 1) (at.own ++ m.given))) (sym t.members)
-              (set_place m.left old.members so_far (k - 1) t.is (at.own ++ m.given) clients m.client);
-          pages = m.pages;
-        };
-      };
-      gave = m.gave;
-      version = m.version;
-    }
+-- who has an outcome does not lack one
+no_outcome : (outcome : Option Outcome) → IsSome outcome → outcome ≡ None → ⊥
+no_outcome None is e = cc
+no_outcome (Some o) is e = cc
+
+-- a client that had its outcome was given nothing at its turn
+idle_turn : (base : BaseParts) (was is : Member) (kept after_kept : Kept) (before after : LinkSeen) (turn : Turn) (given asked : List Want) → Turned base was is kept after_kept before after turn →
+    Gave turn was is given asked → HasOutcome was → given ≡ []
+idle_turn base was is kept after_kept before after Finished given asked turned idle some = idle.none_given
+idle_turn base was is kept after_kept before after Cached given asked turned gave some = absurd (no_outcome (shown was.client).outcome some turned.had_none)
+idle_turn base was is kept after_kept before after Exchanged given asked turned gave some = absurd (no_outcome (shown was.client).outcome some turned.had_none)
+
+-- an outcome stays one
+outcome_stays : (was is : Option Outcome) → ((ended : Outcome) → was ≡ Some ended → is ≡ Some ended) → IsSome was → IsSome is
+outcome_stays None is stays some = absurd (no_outcome None some refl)
+outcome_stays (Some ended) is stays some = subst IsSome (sym (stays ended refl)) some
 
 -- who waits for the gate was given nothing
 nothing_before_gate : (side : Side) (client : Client) (given : List Want) (phase : Phase) → FitsAt side client given phase → want_of phase ≡ wants.Gate → given ≡ []
@@ -115,6 +96,56 @@ gave_no_gate side was is own first given asked Cached fits kept some more begins
 gave_no_gate side was is own first given asked Exchanged fits (inl replied) some more begins =
     no_gate_then given more (want_of was.client.phase) replied.is_given (λ gate. some (some_or_none own first (nothing_before_gate side was.client (own ++ first) was.client.phase fits.fits gate))) begins
 gave_no_gate side was is own first given asked Exchanged fits (inr failed) some more begins = no_gate_of_none given more failed.none_given begins
+
+-- and nor does what is behind the other where neither does
+no_gate_of_both : (first second : List Want) → NoGate first → NoGate second → NoGate (first ++ second)
+no_gate_of_both [] second no_first no_second more begins = no_second more begins
+no_gate_of_both (want ∷ first) second no_first no_second more begins =
+    let same : want ≡ wants.Gate = cc in
+    no_first first (ap (λ (w : Want). w ∷ first) same)
+
+some_of_both : (first second : List Want) → first ≢ [] → first ++ second ≢ []
+some_of_both [] second some none = some refl
+some_of_both (want ∷ first) second some none = cc
+
+pub turn_agrees :
+    {X : Type 0} (seen : X → LinkSeen) (side : Side) (old new : ConvoyState) (so_far : List (List Want)) (k : ℕ) (before after : X) (turn : Turn) → IsHonestWith (seen before) old.base side →
+    FitsConvoy side old so_far → IsStep seen k old new before after turn → TurnAgrees side old new so_far k (seen before) (seen after) turn
+turn_agrees seen side old new so_far k before after turn honest fits step =
+    let t = step.turned in
+    let at : StandsAt side t.was so_far (k - 1) = at_place side old.members so_far (k - 1) t.was fits.clients t.had in
+    let m = member_agrees seen old.base side t.was t.is at.own old.kept new.kept before after turn honest at.fits fits.pages t.turned step.idle in
+    let within = slice_get_within old.members (k - 1) t.was t.had in
+    let clients = all_later side m.left old.members so_far m.honest.honest.stands.valid m.honest.later fits.clients in
+    record {
+      agrees = record {
+        left = m.left;
+        honest = m.honest;
+        base = t.base;
+        was = t.was;
+        had = t.had;
+        is = t.is;
+        has = ap (λ (members : List Member). slice_get members (k - 1)) t.members ∙ slice_get-set_same old.members (k - 1) t.is within;
+        others = λ j other. ap (λ (members : List Member). slice_get members j) t.members ∙ slice_get-set_other old.members (k - 1) t.is j other;
+        own = at.own;
+        own_is = at.is;
+        given = m.given;
+        asked = m.asked;
+        gate_once = gave_no_gate side t.was t.is [] at.own m.given m.asked turn at.fits m.gave;
+        idle = idle_turn old.base t.was t.is old.kept new.kept (seen before) (seen after) turn m.given m.asked t.turned m.gave;
+        gone = m.gone;
+        by_names = m.by_names;
+        client = m.client;
+        fits = record {
+          clients =
+              subst (λ (members : List Member). AllFit m.left members (set so_far (k - 1) (at.own ++ m.given))) (sym t.members)
+              (set_place m.left old.members so_far (k - 1) t.is (at.own ++ m.given) clients m.client);
+          pages = m.pages;
+        };
+      };
+      gave = m.gave;
+      version = m.version;
+    }
 
 -- the rise of a count is seen from further away
 pub rose_wider : (a b c d low high : ℕ) → a ≤ b → c ≤ d → RoseWithin b c low high → RoseWithin a d low high
@@ -176,6 +207,8 @@ nothing_yet side convoy so_far k link member honest fits has =
       own_is = at.is;
       given = [];
       asked = [];
+      idle = λ some. refl;
+      gate_once = λ some more begins. no_gate_of_none [] more refl begins;
       gone = record {
         moved = record {
           query = refl;
@@ -220,6 +253,9 @@ still_after_fault side was is own given asked Exchanged fits (inr failed) fault 
 pub one_at : {X : Type 0} (xs : List X) (place : ℕ) (x y : X) → slice_get xs place ≡ Some x → slice_get xs place ≡ Some y → x ≡ y
 one_at xs place x y one two = cc
 
+none_of_both : (first second : List Want) → first ≡ [] → second ≡ [] → first ++ second ≡ []
+none_of_both first second none none_again = ap₂ (λ (x y : List Want). x ++ y) none none_again
+
 -- one turn more
 pub one_turn_more :
     (side : Side) (old mid new : ConvoyState) (so_far : List (List Want)) (k : ℕ) (a b c : LinkSeen) (turn : Turn) (first : StillAgrees side old mid so_far k a b) →
@@ -252,6 +288,11 @@ one_turn_more side old mid new so_far k a b c turn first turned =
       own_is = first.own_is;
       given = first.given ++ second.given;
       asked = first.asked ++ second.asked;
+      idle = λ some.
+          none_of_both first.given second.given (first.idle some)
+          (second.idle (subst HasOutcome (sym same) (outcome_stays (shown first.was.client).outcome (shown first.is.client).outcome first.gone.moved.outcome some)));
+      gate_once = λ some.
+          no_gate_of_both first.given second.given (first.gate_once some) (second.gate_once (λ none. some_of_both first.own first.given some (sym own ∙ none)));
       gone = gone_then old.base side first.left second.left first.was first.is second.is a b c first.given second.given first.asked second.asked first.honest leaves first.gone goes
           (gave_no_gate first.left first.is second.is first.own first.given second.given second.asked turn first.client gave);
       by_names =

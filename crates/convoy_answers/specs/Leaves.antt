@@ -140,7 +140,8 @@ pub record AsksByNames (side : Side) (was is : Shown) (before after : Kept) (own
   pub how : NoneFailed was is failed ⊎ OneFailed side was is (own ++ given) failed
 
 -- What turns of client k alone leave of a convoy that agreed with the link's side, its clients being given this so far: it agrees with the
--- side that is left, client k being given these wants besides, and every other client stays as it was.
+-- side that is left, client k being given these wants besides, and every other client stays as it was. It is given nothing where it had
+-- its outcome, and the gate's reply only where it was given nothing before.
 pub record StillAgrees (side : Side) (old new : ConvoyState) (so_far : List (List Want)) (k : ℕ) (before after : LinkSeen) : Type 0 where
   pub left : Side
   pub honest : LeavesHonest old.base side left before after
@@ -154,6 +155,8 @@ pub record StillAgrees (side : Side) (old new : ConvoyState) (so_far : List (Lis
   pub own_is : slice_get so_far (k - 1) ≡ Some own
   pub given : List Want
   pub asked : List Want
+  pub idle : HasOutcome was → given ≡ []
+  pub gate_once : own ≢ [] → (more : List Want) → given ≢ wants.Gate ∷ more
   pub gone : HasGone old.base side left was is before after given asked
   pub by_names : AsksByNames left (shown was.client) (shown is.client) old.kept new.kept own given asked
   pub client : FitsSide left is.client (own ++ given)
@@ -170,8 +173,8 @@ pub record EndAgrees (side : Side) (old new : ConvoyState) (so_far : List (List 
   pub agrees : StillAgrees side old new so_far k before after
   pub ended : HasOutcome agrees.is
 
--- The client at a place came to its outcome in its round. What it was given all in all stands at its place now, and each exchange is
--- counted.
+-- The client at a place came to its outcome in its round. It is given nothing there if it had one before, and the gate's reply only if it
+-- was given nothing before. What it was given all in all stands at its place now, and each exchange is counted.
 pub record HasCome (side left : Side) (was : Member) (new : ConvoyState) (so_far now : List (List Want)) (rounds : List Round) (place : ℕ) (before after : LinkSeen) : Type 0 where
   pub is : Member
   pub has : slice_get new.members place ≡ Some is
@@ -181,6 +184,8 @@ pub record HasCome (side left : Side) (was : Member) (new : ConvoyState) (so_far
   pub round : Round
   pub round_is : slice_get rounds place ≡ Some round
   pub all_is : slice_get now place ≡ Some (own ++ round.given)
+  pub idle : HasOutcome was → round.given ≡ []
+  pub gate_once : own ≢ [] → (more : List Want) → round.given ≢ wants.Gate ∷ more
   pub count : is.exchanges ≡ was.exchanges + length round.asked
   pub how : NoneFailed (shown was.client) (shown is.client) round.failed ⊎ OneFailed left (shown was.client) (shown is.client) (own ++ round.given) round.failed
   pub moved : HasMoved side left (shown was.client) (shown is.client) before after round.given
