@@ -57,7 +57,7 @@ no_outcome None is e = cc
 no_outcome (Some o) is e = cc
 
 -- a client that has its outcome is at its end
-at_end : (side : Side) (client : Client) (given : List Want) (phase : Phase) → IsSome client.outcome → FitsAt side client given phase → HasEnded side (shown client) given client.outcome
+pub at_end : (side : Side) (client : Client) (given : List Want) (phase : Phase) → IsSome client.outcome → FitsAt side client given phase → HasEnded side (shown client) given client.outcome
 at_end side client given phases.Gate some fits = absurd (no_outcome client.outcome some fits.no_outcome)
 at_end side client given (phases.Stops first) some fits = absurd (no_outcome client.outcome some fits.no_outcome)
 at_end side client given (phases.Page name) some fits = absurd (no_outcome client.outcome some fits.no_outcome)
@@ -106,7 +106,7 @@ module _ (side : Side) (s t : Shown) (given : List Want) (query : s.query ≡ t.
     by v w e is = subst (HasFailed side t given) e is
 
   -- how a client ended, of what else shows the same question and version
-  same_end : (outcome : Outcome) → HasEnded side s given (Some outcome) → HasEnded side t given (Some outcome)
+  pub same_end : (outcome : Outcome) → HasEnded side s given (Some outcome) → HasEnded side t given (Some outcome)
   same_end (outcomes.Found journey) is = same_answered (answers.Journey journey) is
   same_end outcomes.NoJourney is = same_answered answers.NoJourney is
   same_end (outcomes.Refused fault) is = same_denied fault is

@@ -47,7 +47,7 @@ pub(crate) fn admit(
 }
 
 /// The same of a file that is there.
-fn give(
+pub fn give(
     alloc: Global,
     publisher: &mut Publisher<Cutting>,
     file: &File,

@@ -10,7 +10,9 @@ mod laws;
 mod publishing;
 mod question;
 
-pub use admission::MessageFault;
+pub use admission::{MessageFault, give};
+pub use block::client_text;
 pub use end::ClientEnd;
 pub use laws::one_output;
+pub use publishing::{copy_of, publisher_of};
 pub use question::{Asked, ask};

@@ -11,7 +11,7 @@ use std::alloc::Global;
 use timetable::Timetable;
 
 /// The publisher of a timetable, to which no message was admitted. It takes none from its clients.
-pub(crate) fn publisher_of(
+pub fn publisher_of(
     alloc: Global,
     made: Timetable,
     publishing: Publishing,
@@ -37,7 +37,7 @@ pub(crate) fn publisher_of(
 }
 
 /// The same base again.
-pub(crate) fn copy_of(alloc: Global, base: &Base) -> Result<Base, NoMemory>
+pub fn copy_of(alloc: Global, base: &Base) -> Result<Base, NoMemory>
     ensures { IfOk result (λ copy. copy ≡ base.now) }
 {
     bases_are_read();
