@@ -1,0 +1,13 @@
+mod BeginsLemmas
+mod CausedClientLemmas
+mod CausedCourseLemmas
+mod CausedEndsLemmas
+mod EventLemmas
+mod FinishesClientLemmas
+mod FinishesLemmas
+mod FinishesListLemmas
+mod HearsLemmas
+mod PlayedTo
+mod PlaysLemmas
+mod TurnsClientLemmas
+mod TurnsLemmas

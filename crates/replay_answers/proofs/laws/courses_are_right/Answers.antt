@@ -1,0 +1,15 @@
+use Rattle.client_answers.proofs.WantsLemmas.{wants_stay}
+use Rattle.replay_answers.proofs.FinishesLemmas.{finishes}
+use Rattle.replay_answers.proofs.PlaysLemmas.{plays_right}
+use Rattle.replay_answers.proofs.TurnsLemmas.{turns}
+use Rattle.replay_answers.proofs.laws.courses_are_right.Goals as goal
+
+pub returns : goal.returns
+returns g c =
+    let seen = g.L.Link.seen in
+    let agree = c.agreement_begins.ensures in
+    let keeps = c.turns_keep_agreement.ensures in
+    plays_right seen agree.none agree.added agree.later wants_stay
+    (λ made publishing cache start. turns seen made publishing cache (seen start) keeps.turn)
+    (λ made publishing all cache played ended start behind after lines ends of_clients played_to rounds have_ended.
+    finishes seen made publishing cache all played ended (seen start) behind after lines ends played_to rounds have_ended keeps.rounds)

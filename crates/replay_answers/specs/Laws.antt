@@ -1,0 +1,54 @@
+-- What courses come to that were played over a link. X is the type of the link, and `seen` what is promised of it.
+use Rattle.std.specs.Prelude.{◌≡◌, ◌≤◌, ℕ, ◌+◌, List, Some, length, slice_get}
+use Rattle.std.specs.List.{All}
+use Rattle.command_words.specs.declared.command.Publishing.{Publishing}
+use Rattle.connection_uri.specs.Base.{BaseParts}
+use Rattle.convoy.specs.Finish.{Rounds}
+use Rattle.convoy.specs.State.{ConvoyState, begun}
+use Rattle.lc_model.specs.declared.query.Query.{Query}
+use Rattle.lc_world.specs.Link.{LinkSeen}
+use Rattle.publisher_side.specs.Side.{IsValidSide}
+use Rattle.timetable.specs.declared.timetable.Timetable.{Timetable}
+use Rattle.asking.specs.Block.{IsPrintable}
+use Rattle.asking.specs.Publishing.{side_with, store_of}
+use Rattle.asking.specs.declared.end.ClientEnd.{ClientEnd}
+use Rattle.replay_course.specs.Caused.{IsCaused}
+use Rattle.replay_course.specs.Events.{TurnsAreOfClients, questions_in}
+use Rattle.replay_course.specs.Played.{HaveEndedSo, Plays}
+use Rattle.replay_course.specs.Right.{ArePlayedRight}
+use Rattle.replay_course.specs.Versions.{AreShort, HaveLines}
+use Rattle.replay_course.specs.declared.event.Event.{Event}
+
+-- the link has the publisher of the timetable at its other end, which has heard nothing, and is quiet with it
+pub record IsQuietAt (made : Timetable) (publishing : Publishing) (link : LinkSeen) : Type 0 where
+  pub tells : link.side ≡ Some (side_with made publishing (store_of made publishing.base_moment))
+  pub valid : IsValidSide (side_with made publishing (store_of made publishing.base_moment))
+  pub honest : link.honest publishing.base
+  pub quiet : link.quiet publishing.base
+
+-- a course that was played over a quiet link was played rightly
+abbrev pub PlaysRight : {X : Type 0} → (X → LinkSeen) → Type 0
+PlaysRight {X} seen =
+    (made : Timetable) (publishing : Publishing) (all : List Event) (cache : ℕ) (played ended : ConvoyState) (start behind after : X) (lines : List ℕ) (ends : List ClientEnd)
+    → TurnsAreOfClients all → IsQuietAt made publishing (seen start) → AreShort made publishing all
+    → Plays seen all (begun publishing.base cache) played start behind lines → Rounds seen (length played.members) played ended behind after
+    → HaveEndedSo ended.members ends
+    → ArePlayedRight made publishing all cache (seen start).told (seen after).told (seen start).faults (seen after).faults lines ends
+
+-- Each message has its line. There is one end for each question, which has its cause and can be printed. A clear link is clear still, and
+-- its count has not fallen.
+pub record ArePlayedCaused (base : BaseParts) (all : List Event) (before after : LinkSeen) (lines : List ℕ) (ends : List ClientEnd) : Type 0 where
+  pub have_lines : HaveLines all lines
+  pub one_each : length ends ≡ length (questions_in all)
+  pub caused : (place : ℕ) (query : Query) (end : ClientEnd) → slice_get (questions_in all) place ≡ Some query → slice_get ends place ≡ Some end
+      → IsCaused base query before.faults after.faults end.outcome
+  pub printable : All (λ (end : ClientEnd). IsPrintable end.outcome) ends
+  pub clear : before.clear → after.clear
+  pub not_fallen : before.faults ≤ after.faults
+
+-- and so of a course over any link
+abbrev pub PlaysCaused : {X : Type 0} → (X → LinkSeen) → Type 0
+PlaysCaused {X} seen =
+    (base : BaseParts) (all : List Event) (cache : ℕ) (played ended : ConvoyState) (start behind after : X) (lines : List ℕ) (ends : List ClientEnd)
+    → Plays seen all (begun base cache) played start behind lines → Rounds seen (length played.members) played ended behind after
+    → HaveEndedSo ended.members ends → ArePlayedCaused base all (seen start) (seen after) lines ends
