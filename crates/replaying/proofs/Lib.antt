@@ -1,0 +1,5 @@
+mod EndsLemmas
+mod HearingLemmas
+mod PlayedLemmas
+mod ReplayedLemmas
+mod TextLemmas

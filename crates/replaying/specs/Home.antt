@@ -1,0 +1,20 @@
+-- Links to a publisher of a timetable, at home.
+use Rattle.std.specs.Prelude.{Some}
+use Rattle.connection_uri.specs.Base.{BaseParts}
+use Rattle.fragmenter.specs.Cutting.{chosen_cuts}
+use Rattle.fragmenter.specs.declared.cutting.Cutting.{Cutting}
+use Rattle.lc_edge.specs.HomeLink.{HomeLinkState}
+use Rattle.lc_world.specs.Link.{LinkSeen}
+use Rattle.publisher.specs.Held.{side_of}
+
+-- what a link at home is seen to be, by what the outer one is seen to be: it tells the side of its publisher, and is honest where the outer
+-- one is clear
+abbrev pub home_seen : {L : Type 0} → (L → LinkSeen) → HomeLinkState Cutting L → LinkSeen
+home_seen {L} seen home = record {
+  side = Some (side_of chosen_cuts home.local.publisher);
+  told = (seen home.outer).told;
+  honest = λ (base : BaseParts). (seen home.outer).clear;
+  quiet = λ (base : BaseParts). (seen home.outer).clear;
+  clear = (seen home.outer).clear;
+  faults = (seen home.outer).faults;
+}
