@@ -1,6 +1,5 @@
 -- What is read by a command: the ends of the reading, and what they are over told files.
-use Rattle.std.proofs.Common.{◌≡◌, ◌∙◌, ◌≤◌, ℕ, List, None, Some, Option, Ok, Err, IfSome, arith, subst, refl}
-use Rattle.lc_io.specs.Counts.{Rose}
+use Rattle.std.proofs.Common.{◌≡◌, ◌∙◌, ℕ, List, None, Some, Option, Ok, Err, IfSome, subst, refl}
 use Rattle.lc_io.specs.Folder.{FolderSeen, bytes_named}
 use Rattle.lc_io.specs.declared.file.File.{File}
 use Rattle.lc_io.specs.declared.folder.FolderFail.TheVariants.{Absent}
@@ -8,7 +7,7 @@ use Rattle.gtfs_feed.specs.Reading.{Keeps}
 use Rattle.timetable.specs.declared.scope.Scope.{Scope}
 use Rattle.timetable.specs.declared.timetable.Timetable.{Timetable}
 use Rattle.lc_cli.specs.Clear.{IsToldFile}
-use Rattle.lc_cli.specs.Inputs.{ReadsFile, ReadsInputs, ReadsUpdate}
+use Rattle.command_inputs.specs.Inputs.{ReadsFile, ReadsInputs, ReadsUpdate}
 
 -- a folder that tells files tells them still once the timetable is loaded
 pub still_told : (told : List File) (old new : FolderSeen) → old.files ≡ Some told → Keeps old new → new.files ≡ Some told
@@ -32,7 +31,3 @@ pub inputs_told : (told : List File) (scope : Scope) (update : Option (List ℕ)
     → ReadsInputs scope update old new made file → IsToldFile told update file
 inputs_told told scope update old new made file tells read =
     file_told told update read.between new file (still_told told old read.between tells read.kept) read.read
-
--- a count that rose after it had not fallen rose
-pub rose_later : (before between after : ℕ) → before ≤ between → Rose between after → Rose before after
-rose_later before between after not_fallen rose = omega (arith, not_fallen, rose)

@@ -1,7 +1,9 @@
 pub mod CommandLemmas
+pub mod CompleteLemmas
 pub mod InputsLemmas
 pub mod OneRunLemmas
 pub mod OneStatusLemmas
+pub mod ReplayLemmas
 pub mod TinyLemmas
 pub mod TopLemmas
 pub mod WindowLemmas

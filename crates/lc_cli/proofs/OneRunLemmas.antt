@@ -88,7 +88,7 @@ module _ {X Y : Type 0} (seen : X → LinkSeen) (saw : Y → LinkSeen) (one_time
   module _ (one_command : OneCommand) where
     -- runs that are done over these words and files print one output
     pub one_run : OneRun seen saw
-    one_run p q told words at to x y = by x.right.command x.right.says x.right.prints other where
+    one_run p q told words none at to x y = by x.right.command x.right.says x.right.prints other where
       same : y.right.command ≡ x.right.command
       same = one_command p.words y.right.command x.right.command (subst (λ w. SaysCommand w y.right.command) (sym words) y.right.says) x.right.says
 
@@ -101,6 +101,7 @@ module _ {X Y : Type 0} (seen : X → LinkSeen) (saw : Y → LinkSeen) (one_time
           let made = one_timetable told (check_scope check) a.made b.made (loads_told told (check_scope check) p.folder_before p.folder_after a.made at.tells a.loaded)
           (loads_told told (check_scope check) q.folder_before q.folder_after b.made to.tells b.loaded) in
           a.text ∙ same_counts a.made b.made made ∙ sym b.text
+      by (commands.Replay replay) says a b = absurd (none replay says)
       by (commands.Ask ask) says a b =
           let fair = at.fair ask says in
           let other_fair = to.fair ask (subst (λ w. SaysCommand w (commands.Ask ask)) words says) in (

@@ -1,5 +1,6 @@
 -- Two runs of one command over the same files end with one status, memory apart.
 use Rattle.std.proofs.Common.{◌≡◌, ◌∙◌, ◌⊎◌, ℕ, inl, inr, List, [], None, Some, Option, Result, Ok, Err, ap, refl, subst, sym}
+use Rattle.std.specs.Option.{unwrap_or}
 use Rattle.asking.specs.Admission.{IsIgnored}
 use Rattle.asking.specs.Publishing.{side_with, store_of}
 use Rattle.asking.specs.Laws.{OneOutput}
@@ -28,27 +29,51 @@ use Rattle.version_store.specs.Laws.{OneOutcome}
 use Rattle.version_store.specs.Store.{Stored}
 use Rattle.version_store.specs.declared.admission.AdmitFault.{AdmitFault}
 use Rattle.version_store.specs.declared.admission.AdmitFault.TheVariants as faults
-use Rattle.lc_cli.specs.Block.{IsBlockEnd, client_status_of}
+use Rattle.lc_cli.specs.Block.{IsBlockEnd, client_status_of, failed_status_of}
 use Rattle.lc_cli.specs.Clear.{IsClear, IsToldFile, IsUnhindered}
-use Rattle.lc_cli.specs.Command.{IsRightBlock, IsRightRefusal, Prints, ask_scope, check_scope, scope_of, update_of}
-use Rattle.lc_cli.specs.Inputs.{AsksForUpdate, IsRefusedFor}
-use Rattle.lc_cli.specs.Laws.{DoneIsClear, DoneIsPrinted, OneStatus}
+use Rattle.lc_cli.specs.Command.{IsRefusedAs, IsRightBlock, IsRightRefusal, Prints, ask_scope, check_scope, scope_of}
+use Rattle.command_inputs.specs.Inputs.{AsksForUpdate, IsRefusedFor}
+use Rattle.lc_cli.specs.Laws.{DoneIsClear, DoneIsPrinted, OneStatus, SaysNoCourse}
 use Rattle.lc_cli.specs.Refusal.{IsRefusalEnd, status_of}
 use Rattle.lc_cli.specs.Top.{HasPrinted, IsRight, Past}
 use Rattle.lc_cli.specs.declared.block.Block.{Block}
-use Rattle.lc_cli.specs.declared.refusal.Refusal.{Refusal}
-use Rattle.lc_cli.specs.declared.refusal.Refusal.TheVariants as refused
+use Rattle.command_inputs.specs.declared.refusal.Refusal.{Refusal}
+use Rattle.command_inputs.specs.declared.refusal.Refusal.TheVariants as refused
 use Rattle.lc_cli.specs.declared.status.Status.{Status}
 use Rattle.lc_cli.specs.declared.status.Status.TheVariants.{Done, Usage, FeedBroken, UpdateBroken, FolderFault, ScriptWrong, TooLarge, NoMemory}
 use Rattle.lc_cli.proofs.InputsLemmas.{absent_told, bytes_told, inputs_told, still_told}
 use Rattle.lc_cli.proofs.OneRunLemmas.{one_client}
-use Rattle.lc_cli.proofs.TopLemmas.{IsHeardBy, IsNoFault, heard_fine, heard_nothing, no_fault, side_asked}
+use Rattle.lc_cli.proofs.ReplayLemmas.{course_told}
+use Rattle.lc_cli.proofs.TopLemmas.{AreNoFaults, IsHeardBy, IsNoFault, heard_fine, heard_nothing, no_fault, side_asked}
 
 -- the block was printed whole
 record Whole {X : Type 0} (seen : X → LinkSeen) (p : Past X) (s : Status) : Type 0 where
   block : Block
   right : IsRightBlock p.words p.folder_before p.folder_after (seen p.link_before) (seen p.link_after) block
-  status_is : s ≡ client_status_of block.outcome
+  status_is : s ≡ client_status_of 1 block.ends.items
+
+-- the name of the file with a message, if the command has one
+abbrev update_of : Command → Option (List ℕ)
+update_of (commands.Check check) = None
+update_of (commands.Ask ask) = ask.update
+update_of (commands.Replay replay) = None
+
+-- the command plays no course
+abbrev IsNoCourse : Command → Type 0
+IsNoCourse (commands.Check check) = Unit {0}
+IsNoCourse (commands.Ask ask) = Unit {0}
+IsNoCourse (commands.Replay replay) = ⊥
+
+said_no_course : (words : List (List ℕ)) (command : Command) → SaysNoCourse words → SaysCommand words command → IsNoCourse command
+said_no_course words (commands.Check check) none says = tt
+said_no_course words (commands.Ask ask) none says = tt
+said_no_course words (commands.Replay replay) none says = none replay says
+
+-- such a command is refused for its feed or its message
+refused_for : (command : Command) (old new : FolderSeen) (refusal : Refusal) → IsNoCourse command → IsRefusedAs command old new refusal → IsRefusedFor (scope_of command) (update_of command) old new refusal
+refused_for (commands.Check check) old new refusal none is = is
+refused_for (commands.Ask ask) old new refusal none is = is
+refused_for (commands.Replay replay) old new refusal none is = absurd none
 
 -- the words say no command
 record NoCommand {X : Type 0} (p : Past X) (s : Status) : Type 0 where
@@ -99,13 +124,14 @@ record UpdateFails {X : Type 0} (command : Command) (told : List File) (p : Past
 record IsRefusedByFiles {X : Type 0} (told : List File) (p : Past X) (s : Status) : Type 0 where
   command : Command
   says : SaysCommand p.words command
+  no_course : IsNoCourse command
   by : LoadFails command p s ⊎ UpdateFails command told p s
 
 -- how a run ended that nothing hindered, memory apart
 abbrev Ended : {X : Type 0} → (X → LinkSeen) → List File → Past X → Status → Type 0
 Ended seen told p s = Whole seen p s ⊎ NoCommand p s ⊎ IsRefusedByFiles told p s
 
-module _ {X : Type 0} (seen : X → LinkSeen) (p : Past X) (told : List File) (at : IsUnhindered seen p told) (s : Status) where
+module _ {X : Type 0} (seen : X → LinkSeen) (p : Past X) (told : List File) (at : IsUnhindered seen p told) (none : SaysNoCourse p.words) (s : Status) where
   -- what was asked for of the message, and answered so
   by_update : (command : Command) (result : Result (List ℕ) FolderFail) (x : AsksForUpdate (scope_of command) (update_of command) p.folder_before p.folder_after result)
       (cause : Option AdmitFault) → IsToldCause told x.name cause → s ≡ status_by x.name cause → UpdateFails command told p s
@@ -128,25 +154,28 @@ module _ {X : Type 0} (seen : X → LinkSeen) (p : Past X) (told : List File) (a
       → IsRefusedFor (scope_of command) (update_of command) p.folder_before p.folder_after refusal → (s ≡ NoMemory) ⊎ Ended seen told p s
   by_refusal command says refused.Usage status is = absurd is
   by_refusal command says (refused.Load (fault.Broken rule file row)) status is =
-      inr (inr (inr (record { command = command; says = says; by = inl (record { found = fault.Broken rule file row; of_files = tt; loads = is; status_is = status }) })))
+      inr (inr (inr (record { command = command; says = says; no_course = said_no_course p.words command none says; by = inl (record { found = fault.Broken rule file row; of_files = tt; loads = is; status_is = status }) })))
   by_refusal command says (refused.Load (fault.TooLarge kind count)) status is =
-      inr (inr (inr (record { command = command; says = says; by = inl (record { found = fault.TooLarge kind count; of_files = tt; loads = is; status_is = status }) })))
+      inr (inr (inr (record { command = command; says = says; no_course = said_no_course p.words command none says; by = inl (record { found = fault.TooLarge kind count; of_files = tt; loads = is; status_is = status }) })))
   by_refusal command says (refused.Load (fault.Folder before after)) status is =
       absurd (at.no_folder_fault (subst (λ count. Rose count p.folder_after.faults) is.0 (subst (λ count. Rose before count) is.1 is.2)))
   by_refusal command says (refused.Load fault.NoMemory) status is = inl status
-  by_refusal command says refused.NoUpdate status is =
+  by_refusal command says (refused.Script row) status is =
       inr (inr (inr (record {
         command = command;
         says = says;
-        by = inr (by_update command (Err Absent) is None (absent_told told is.between p.folder_after is.name (still command (Err Absent) is) is.read) status);
+        no_course = said_no_course p.words command none says;
+        by = inr (by_update command (Err Absent) is.asks None (absent_told told is.asks.between p.folder_after is.asks.name (still command (Err Absent) is.asks) is.asks.read)
+            (status ∙ ap (λ r. ScriptWrong r) is.row_is));
       })))
-  by_refusal command says (refused.UpdateFolder before after) status is =
+  by_refusal command says (refused.Folder before after) status is =
       absurd (at.no_folder_fault (subst (λ count. Rose count p.folder_after.faults) is.before_is (subst (λ count. Rose before count) is.after_is is.rose)))
   by_refusal command says (refused.LongUpdate count) status is =
       let bytes = bytes_told told is.asks.between p.folder_after is.asks.name is.bytes (still command (Ok is.bytes) is.asks) is.asks.read in
       inr (inr (inr (record {
         command = command;
         says = says;
+        no_course = said_no_course p.words command none says;
         by = inr (by_update command (Ok is.bytes) is.asks (Some (faults.TooLong count)) (is.bytes, bytes, (λ store. (is.long, is.counted)), (λ ignored. ignored)) status);
       })))
   by_refusal command says (refused.BrokenUpdate name found) status is =
@@ -155,6 +184,7 @@ module _ {X : Type 0} (seen : X → LinkSeen) (p : Past X) (told : List File) (a
       inr (inr (inr (record {
         command = command;
         says = says;
+        no_course = said_no_course p.words command none says;
         by = inr (by_update command (Ok is.bytes) is.asks (Some (faults.Broken found)) (is.bytes, bytes, (λ store. is.broken), (λ ignored. ignored)) (status ∙ ap (λ n. UpdateBroken n found) same));
       })))
 
@@ -171,10 +201,11 @@ module _ {X : Type 0} (seen : X → LinkSeen) (p : Past X) (told : List File) (a
       cause : IsRightRefusal p.words p.folder_before p.folder_after x.refusal → (s ≡ NoMemory) ⊎ Ended seen told p s
       cause (inl usage) = inr (inr (inl (record { says_none = usage.says_none; status_is = said.status_is ∙ ap status_of usage.is })))
       cause (inr (inl first)) = inl (said.status_is ∙ ap status_of first.is)
-      cause (inr (inr is)) = by_refusal is.command is.says x.refusal said.status_is is.refused
+      cause (inr (inr is)) = by_refusal is.command is.says x.refusal said.status_is
+          (refused_for is.command p.folder_before p.folder_after x.refusal (said_no_course p.words is.command none is.says) is.refused)
 
 -- outcomes that say the same have one status, where no exchange failed
-one_client_status : (o p : Outcome) → SayTheSame o p → IsNoFault (Some o) → client_status_of (Some o) ≡ client_status_of (Some p)
+one_client_status : (o p : Outcome) → SayTheSame o p → IsNoFault o → failed_status_of 1 o ≡ failed_status_of 1 p
 one_client_status (outcomes.Found a) (outcomes.Found b) one fine = refl
 one_client_status (outcomes.Found a) outcomes.NoJourney one fine = absurd one
 one_client_status (outcomes.Found a) (outcomes.Refused g) one fine = absurd one
@@ -187,15 +218,15 @@ one_client_status outcomes.NoJourney (outcomes.LinkFault m n) one fine = absurd 
 one_client_status outcomes.NoJourney (outcomes.PeerWrong r g) one fine = absurd one
 one_client_status (outcomes.Refused f) (outcomes.Found b) one fine = absurd one
 one_client_status (outcomes.Refused f) outcomes.NoJourney one fine = absurd one
-one_client_status (outcomes.Refused f) (outcomes.Refused g) one fine = ap (λ (c : QueryFault). client_status_of (Some (outcomes.Refused c))) one
+one_client_status (outcomes.Refused f) (outcomes.Refused g) one fine = ap (λ (c : QueryFault). failed_status_of 1 (outcomes.Refused c)) one
 one_client_status (outcomes.Refused f) (outcomes.LinkFault m n) one fine = absurd one
 one_client_status (outcomes.Refused f) (outcomes.PeerWrong r g) one fine = absurd one
 one_client_status (outcomes.LinkFault k l) p one fine = absurd fine
 one_client_status (outcomes.PeerWrong r f) p one fine = absurd fine
 
 module _ {X Y : Type 0} (seen : X → LinkSeen) (saw : Y → LinkSeen) (one_command : OneCommand) (one_timetable : OneTimetable) (one_end : OneEnd) (loads_told : LoadsTold)
-    (one_outcome : OneOutcome) (one_output : OneOutput seen saw) (p : Past X) (q : Past Y) (told : List File) (words : p.words ≡ q.words) (at : IsUnhindered seen p told)
-    (to : IsUnhindered saw q told) (s t : Status) where
+    (one_outcome : OneOutcome) (one_output : OneOutput seen saw) (p : Past X) (q : Past Y) (told : List File) (words : p.words ≡ q.words) (none : SaysNoCourse p.words)
+    (at : IsUnhindered seen p told) (to : IsUnhindered saw q told) (s t : Status) where
   same_command : (a b : Command) → SaysCommand p.words a → SaysCommand q.words b → b ≡ a
   same_command a b x y = one_command p.words b a (subst (λ w. SaysCommand w b) (sym words) y) x
 
@@ -211,11 +242,12 @@ module _ {X Y : Type 0} (seen : X → LinkSeen) (saw : Y → LinkSeen) (one_comm
     loads : Loads (scope_of command) r.folder_before between made
     heard : IsHeardBy told (update_of command)
 
-  loaded : {Z : Type 0} (look : Z → LinkSeen) (r : Past Z) (block : Block) → r.folder_before.files ≡ Some told → (command : Command)
+  loaded : {Z : Type 0} (look : Z → LinkSeen) (r : Past Z) (block : Block) → r.folder_before.files ≡ Some told → (command : Command) → IsNoCourse command
       → Prints command r.folder_before r.folder_after (look r.link_before) (look r.link_after) block → Loaded command r
-  loaded look r block tells (commands.Check check) prints =
+  loaded look r block tells (commands.Replay replay) course prints = absurd course
+  loaded look r block tells (commands.Check check) course prints =
       record { between = r.folder_after; made = prints.made; loads = prints.loaded; heard = heard_nothing told (record { runs = prints.made.runs; stops = prints.made.doc.stops; zone = prints.made.zone; base = 0; history = [] }) }
-  loaded look r block tells (commands.Ask ask) prints = record {
+  loaded look r block tells (commands.Ask ask) course prints = record {
     between = prints.inputs.between;
     made = prints.made;
     loads = prints.inputs.loaded;
@@ -254,13 +286,14 @@ module _ {X Y : Type 0} (seen : X → LinkSeen) (saw : Y → LinkSeen) (one_comm
     other = subst (λ (c : Command). Prints c q.folder_before q.folder_after (saw q.link_before) (saw q.link_after) y.block) (same_command x.right.command y.right.command x.right.says y.right.says) y.right.prints
 
     by : (command : Command) → SaysCommand p.words command → Prints command p.folder_before p.folder_after (seen p.link_before) (seen p.link_after) x.block
-        → Prints command q.folder_before q.folder_after (saw q.link_before) (saw q.link_after) y.block → client_status_of x.block.outcome ≡ client_status_of y.block.outcome
-    by (commands.Check check) says a b = ap client_status_of (a.no_client ∙ sym b.no_client)
+        → Prints command q.folder_before q.folder_after (saw q.link_before) (saw q.link_after) y.block → client_status_of 1 x.block.ends.items ≡ client_status_of 1 y.block.ends.items
+    by (commands.Check check) says a b = ap (client_status_of 1) (a.no_client ∙ sym b.no_client)
+    by (commands.Replay replay) says a b = absurd (none replay says)
     by (commands.Ask ask) says a b =
         let one = one_client seen saw one_timetable loads_told one_output told ask p.folder_before p.folder_after q.folder_before q.folder_after p.link_before p.link_after q.link_before q.link_after x.block y.block a b
         at.tells to.tells (at.fair ask says) (to.fair ask (subst (λ w. SaysCommand w (commands.Ask ask)) words says)) in
-        let fine = subst IsNoFault a.client (no_fault loads_told told ask p.folder_before p.folder_after (seen p.link_before) (seen p.link_after) x.block a at.tells (at.fair ask says)) in
-        ap client_status_of a.client ∙ one_client_status a.end.outcome b.end.outcome one.one.outcome fine ∙ sym (ap client_status_of b.client)
+        let fine = subst AreNoFaults a.client (no_fault loads_told told ask p.folder_before p.folder_after (seen p.link_before) (seen p.link_after) x.block a at.tells (at.fair ask says)) in
+        ap (client_status_of 1) a.client ∙ ap (λ (f : Option Status). unwrap_or f Done) (one_client_status a.end.outcome b.end.outcome one.one.outcome fine.0) ∙ sym (ap (client_status_of 1) b.client)
 
   -- a block and a refusal by the files are no ends of one command
   clash : {Z W : Type 0} (r : Past Z) (u : Past W) (v : Status) → r.folder_before.files ≡ Some told → u.folder_before.files ≡ Some told → (command : Command) → Loaded command r
@@ -271,13 +304,13 @@ module _ {X Y : Type 0} (seen : X → LinkSeen) (saw : Y → LinkSeen) (one_comm
 
   whole_refused : (x : Whole seen p s) → IsRefusedByFiles told q t → ⊥
   whole_refused x y =
-      clash p q t at.tells to.tells x.right.command (loaded seen p x.block at.tells x.right.command x.right.prints)
+      clash p q t at.tells to.tells x.right.command (loaded seen p x.block at.tells x.right.command (said_no_course p.words x.right.command none x.right.says) x.right.prints)
       (subst (λ (c : Command). LoadFails c q t ⊎ UpdateFails c told q t) (same_command x.right.command y.command x.right.says y.says) y.by)
 
   refused_whole : IsRefusedByFiles told p s → Whole saw q t → ⊥
   refused_whole x y =
       clash q p s to.tells at.tells x.command
-      (subst (λ (c : Command). Loaded c q) (same_command x.command y.right.command x.says y.right.says) (loaded saw q y.block to.tells y.right.command y.right.prints)) x.by
+      (subst (λ (c : Command). Loaded c q) (same_command x.command y.right.command x.says y.right.says) (loaded saw q y.block to.tells y.right.command (said_no_course q.words y.right.command (subst SaysNoCourse words none) y.right.says) y.right.prints)) x.by
 
   -- refusals by the files have one status
   both_refused : (command : Command) → LoadFails command p s ⊎ UpdateFails command told p s → LoadFails command q t ⊎ UpdateFails command told q t → s ≡ t
@@ -307,15 +340,15 @@ module _ {X Y : Type 0} (seen : X → LinkSeen) (saw : Y → LinkSeen) (one_comm
       both_refused x.command x.by (subst (λ (c : Command). LoadFails c q t ⊎ UpdateFails c told q t) (same_command x.command y.command x.says y.says) y.by)
 
   one : IsRight seen p s → IsRight saw q t → (s ≡ t) ⊎ ((s ≡ NoMemory) ⊎ (t ≡ NoMemory))
-  one x y = by (ended seen p told at s x) (ended saw q told to t y) where
+  one x y = by (ended seen p told at none s x) (ended saw q told to (subst SaysNoCourse words none) t y) where
     by : (s ≡ NoMemory) ⊎ Ended seen told p s → (t ≡ NoMemory) ⊎ Ended saw told q t → (s ≡ t) ⊎ ((s ≡ NoMemory) ⊎ (t ≡ NoMemory))
     by (inl e) other = inr (inl e)
     by (inr a) (inl e) = inr (inr e)
     by (inr a) (inr b) = inl (one_ended a b)
 
 pub one_status : {X Y : Type 0} (seen : X → LinkSeen) (saw : Y → LinkSeen) → OneCommand → OneTimetable → OneEnd → LoadsTold → OneOutcome → OneOutput seen saw → OneStatus seen saw
-one_status seen saw one_command one_timetable one_end loads_told one_outcome one_output p q told words at to s t x y =
-    one seen saw one_command one_timetable one_end loads_told one_outcome one_output p q told words at to s t x y
+one_status seen saw one_command one_timetable one_end loads_told one_outcome one_output p q told words none at to s t x y =
+    one seen saw one_command one_timetable one_end loads_told one_outcome one_output p q told words none at to s t x y
 
 -- a run that is done was no refusal
 pub done_is_printed : {X : Type 0} (seen : X → LinkSeen) → DoneIsPrinted seen
@@ -327,8 +360,8 @@ done_is_printed seen p (inr x) = absurd (by x.end) where
   never (refused.Load (fault.TooLarge kind count)) e = cc
   never (refused.Load (fault.Folder before after)) e = cc
   never (refused.Load fault.NoMemory) e = cc
-  never refused.NoUpdate e = cc
-  never (refused.UpdateFolder before after) e = cc
+  never (refused.Script row) e = cc
+  never (refused.Folder before after) e = cc
   never (refused.LongUpdate count) e = cc
   never (refused.BrokenUpdate name found) e = cc
 
@@ -350,6 +383,9 @@ done_is_clear seen loads_told p told at right = by (done_is_printed seen p right
       sound = loads_told told (check_scope check) p.folder_before p.folder_after prints.made at.tells prints.loaded;
       heard = tt;
     }
+    of (commands.Replay replay) says prints =
+        let course = course_told loads_told told replay p.folder_before p.folder_after prints.made prints.all at.tells prints.inputs in
+        record { command = commands.Replay replay; says = says; told = told; unhindered = at; made = prints.made; sound = course.sound; heard = (prints.made, prints.all, course) }
     of (commands.Ask ask) says prints = record {
       command = commands.Ask ask;
       says = says;

@@ -1,5 +1,6 @@
 -- How a run ends that has a block to print.
-use Rattle.std.specs.Prelude.{◌≡◌, ◌⊎◌, Option, Some, None}
+use Rattle.std.specs.Prelude.{◌≡◌, ◌⊎◌, ◌+◌, ℕ, List, [], ◌∷◌, Option, Some, None, unwrap_or}
+use Rattle.asking.specs.declared.end.ClientEnd.{ClientEnd}
 use Rattle.lc_io.specs.Counts.{Rose}
 use Rattle.lc_io.specs.Sink.{SinkSeen}
 use Rattle.page_client.specs.declared.outcome.Outcome.{Outcome}
@@ -9,18 +10,22 @@ use Rattle.lc_cli.specs.declared.block.Block.{Block}
 use Rattle.lc_cli.specs.declared.status.Status.{Status}
 use Rattle.lc_cli.specs.declared.status.Status.TheVariants.{Done, SinkFault, LinkFault, PeerWrong, QueryRefused, NoMemory}
 
--- the status of the first client, and of none
-abbrev pub client_status_of : Option Outcome → Status
-client_status_of None = Done
-client_status_of (Some (outcomes.Found journey)) = Done
-client_status_of (Some outcomes.NoJourney) = Done
-client_status_of (Some (outcomes.Refused fault)) = QueryRefused 1 fault
-client_status_of (Some (outcomes.LinkFault before after)) = LinkFault 1 before after
-client_status_of (Some (outcomes.PeerWrong reply fault)) = PeerWrong 1 reply fault
+-- the status of client k, where it has no answer
+abbrev pub failed_status_of : ℕ → Outcome → Option Status
+failed_status_of k (outcomes.Found journey) = None
+failed_status_of k outcomes.NoJourney = None
+failed_status_of k (outcomes.Refused fault) = Some (QueryRefused k fault)
+failed_status_of k (outcomes.LinkFault before after) = Some (LinkFault k before after)
+failed_status_of k (outcomes.PeerWrong reply fault) = Some (PeerWrong k reply fault)
 
--- the block was written whole, and the status is its client's
+-- the status of the first client without an answer, among clients from number k on, and of none
+abbrev pub client_status_of : ℕ → List ClientEnd → Status
+client_status_of k [] = Done
+client_status_of k (end ∷ more) = unwrap_or (failed_status_of k end.outcome) (client_status_of (k + 1) more)
+
+-- the block was written whole, and the status is its clients'
 pub record IsWrittenWhole (block : Block) (before after : SinkSeen) (status : Status) : Type 0 where
-  pub status_is : status ≡ client_status_of block.outcome
+  pub status_is : status ≡ client_status_of 1 block.ends.items
   pub wrote : Wrote before after block.text.items
 
 -- the sink failed, which it counted, and a front of the block was written

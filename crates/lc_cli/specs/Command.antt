@@ -1,47 +1,50 @@
 -- What a command comes to before anything is written: a text to print, or a refusal. Each has its cause.
-use Rattle.std.specs.Prelude.{◌≡◌, ◌⊎◌, ℕ, List, Option, Some, None}
+use Rattle.std.specs.Prelude.{◌≡◌, ◌⊎◌, ℕ, List, [], ◌∷◌, Option, None}
 use Rattle.asking.specs.Asked.{IsAsked}
 use Rattle.asking.specs.declared.end.ClientEnd.{ClientEnd}
 use Rattle.command_words.specs.Words.{SaysCommand}
 use Rattle.command_words.specs.declared.command.Ask.{Ask}
 use Rattle.command_words.specs.declared.command.Check.{Check}
+use Rattle.command_words.specs.declared.command.Replay.{Replay}
 use Rattle.command_words.specs.declared.command.Command.{Command}
 use Rattle.command_words.specs.declared.command.Command.TheVariants as commands
 use Rattle.lc_io.specs.Folder.{FolderSeen}
 use Rattle.lc_io.specs.declared.file.File.{File}
 use Rattle.lc_world.specs.Link.{LinkSeen}
+use Rattle.replay_course.specs.Replayed.{IsReplayed}
+use Rattle.replay_course.specs.declared.event.Event.{Event}
 use Rattle.timetable.specs.Loading.{Loads}
 use Rattle.timetable.specs.declared.fault.LoadFault.TheVariants as fault
 use Rattle.timetable.specs.declared.scope.Scope.{Scope}
 use Rattle.timetable.specs.declared.timetable.Timetable.{Timetable}
 use Rattle.lc_cli.specs.CheckText.{check_text_of}
-use Rattle.lc_cli.specs.Inputs.{IsRefusedFor, ReadsInputs}
+use Rattle.command_inputs.specs.Inputs.{IsRefusedFor, ReadsInputs}
+use Rattle.command_inputs.specs.Script.{IsReplayRefused, ReadsReplay}
 use Rattle.lc_cli.specs.declared.block.Block.{Block}
-use Rattle.lc_cli.specs.declared.refusal.Refusal.{Refusal}
-use Rattle.lc_cli.specs.declared.refusal.Refusal.TheVariants.{Usage, Load}
+use Rattle.command_inputs.specs.declared.refusal.Refusal.{Refusal}
+use Rattle.command_inputs.specs.declared.refusal.Refusal.TheVariants.{Usage, Load}
 
--- what the two commands ask of their feed
+-- what each command asks of its feed
 abbrev pub check_scope : Check → Scope
 check_scope check = record { feed = check.feed; zone = check.zone; first = check.first; days = check.days; change = check.change }
 
 abbrev pub ask_scope : Ask → Scope
 ask_scope ask = record { feed = ask.feed; zone = ask.zone; first = ask.first; days = ask.days; change = ask.change }
 
+abbrev pub replay_scope : Replay → Scope
+replay_scope replay = record { feed = replay.feed; zone = replay.zone; first = replay.first; days = replay.days; change = replay.change }
+
 abbrev pub scope_of : Command → Scope
 scope_of (commands.Check check) = check_scope check
 scope_of (commands.Ask ask) = ask_scope ask
-
--- the name of the file with a message, if the command has one
-abbrev pub update_of : Command → Option (List ℕ)
-update_of (commands.Check check) = None
-update_of (commands.Ask ask) = ask.update
+scope_of (commands.Replay replay) = replay_scope replay
 
 -- the timetable of the command's feed was loaded, and what is printed are its counts
 pub record IsCheckBlock (check : Check) (old new : FolderSeen) (block : Block) : Type 0 where
   pub made : Timetable
   pub loaded : Loads (check_scope check) old new made
   pub text : block.text.items ≡ check_text_of made
-  pub no_client : block.outcome ≡ None
+  pub no_client : block.ends.items ≡ []
 
 -- A publisher of the timetable was given the message and was asked the question, over the link. What is printed are the line of
 -- the message and those of the client.
@@ -51,12 +54,21 @@ pub record IsAskBlock (ask : Ask) (old new : FolderSeen) (before after : LinkSee
   pub inputs : ReadsInputs (ask_scope ask) ask.update old new made file
   pub end : ClientEnd
   pub asked : IsAsked made ask.publishing file ask.query before after block.text.items end
-  pub client : block.outcome ≡ Some end.outcome
+  pub client : block.ends.items ≡ end ∷ []
+
+-- A publisher of the timetable was told the messages of the script, and was asked its questions, over the link. What is printed are the lines of
+-- the messages and those of the clients.
+pub record IsReplayBlock (replay : Replay) (old new : FolderSeen) (before after : LinkSeen) (block : Block) : Type 0 where
+  pub made : Timetable
+  pub all : List Event
+  pub inputs : ReadsReplay (replay_scope replay) replay.script old new made all
+  pub replayed : IsReplayed made replay.publishing all replay.cache before after block.text.items block.ends.items
 
 -- what the command prints
 abbrev pub Prints : Command → FolderSeen → FolderSeen → LinkSeen → LinkSeen → Block → Type 0
 Prints (commands.Check check) old new before after block = IsCheckBlock check old new block
 Prints (commands.Ask ask) old new before after block = IsAskBlock ask old new before after block
+Prints (commands.Replay replay) old new before after block = IsReplayBlock replay old new before after block
 
 -- the words say a command, and the block is what it prints
 pub record IsRightBlock (words : List (List ℕ)) (old new : FolderSeen) (before after : LinkSeen) (block : Block) : Type 0 where
@@ -64,11 +76,17 @@ pub record IsRightBlock (words : List (List ℕ)) (old new : FolderSeen) (before
   pub says : SaysCommand words command
   pub prints : Prints command old new before after block
 
+-- why a command is refused
+abbrev pub IsRefusedAs : Command → FolderSeen → FolderSeen → Refusal → Type 0
+IsRefusedAs (commands.Check check) old new refusal = IsRefusedFor (check_scope check) None old new refusal
+IsRefusedAs (commands.Ask ask) old new refusal = IsRefusedFor (ask_scope ask) ask.update old new refusal
+IsRefusedAs (commands.Replay replay) old new refusal = IsReplayRefused (replay_scope replay) replay.script old new refusal
+
 -- the words say a command, which is refused for this
 pub record IsRefusedCommand (words : List (List ℕ)) (old new : FolderSeen) (refusal : Refusal) : Type 0 where
   pub command : Command
   pub says : SaysCommand words command
-  pub refused : IsRefusedFor (scope_of command) (update_of command) old new refusal
+  pub refused : IsRefusedAs command old new refusal
 
 -- the words say no command, and the folder was asked for nothing
 pub record IsUsage (words : List (List ℕ)) (old new : FolderSeen) (refusal : Refusal) : Type 0 where

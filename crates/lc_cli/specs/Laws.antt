@@ -1,7 +1,9 @@
 -- That what is printed is one, and so is the status.
-use Rattle.std.specs.Prelude.{◌≡◌, ◌⊎◌, List}
+use Rattle.std.specs.Prelude.{◌≡◌, ◌⊎◌, ℕ, List}
 use Rattle.asking.specs.Laws.{PrintOneClient}
 use Rattle.asking.specs.declared.end.ClientEnd.{ClientEnd}
+use Rattle.command_words.specs.Words.{SaysCommand}
+use Rattle.command_words.specs.declared.command.Replay.{Replay}
 use Rattle.command_words.specs.declared.command.Command.{Command}
 use Rattle.command_words.specs.declared.command.Command.TheVariants as commands
 use Rattle.lc_io.specs.declared.file.File.{File}
@@ -15,24 +17,29 @@ use Rattle.lc_cli.specs.declared.status.Status.TheVariants.{Done, NoMemory}
 -- the outputs of a command are one: the same counts, or the same line of a message and clients whose ends are one
 abbrev pub PrintOne : Command → Block → Block → Type 0
 PrintOne (commands.Check check) x y = x.text.items ≡ y.text.items
+PrintOne (commands.Replay replay) x y = ⊥
 PrintOne (commands.Ask ask) x y = (first : ClientEnd) × (second : ClientEnd) × PrintOneClient x.text.items y.text.items first second
+
+-- the words do not say a course
+abbrev pub SaysNoCourse : List (List ℕ) → Type 0
+SaysNoCourse words = (replay : Replay) → SaysCommand words (commands.Replay replay) → ⊥
 
 -- a run that is done has printed its output
 abbrev pub DoneIsPrinted : {X : Type 0} → (X → LinkSeen) → Type 0
 DoneIsPrinted {X} seen = (p : Past X) → IsRight seen p Done → HasPrinted seen p Done
 
--- Runs of the same words over the same files, which nothing hindered, print one output where they are done. X and Y are the types of
+-- Runs of the same words, which say no course, over the same files, which nothing hindered, print one output where they are done. X and Y are the types of
 -- their links, and `seen` and `saw` what is promised of these.
 abbrev pub OneRun : {X Y : Type 0} → (X → LinkSeen) → (Y → LinkSeen) → Type 0
 OneRun {X} {Y} seen saw =
-    (p : Past X) (q : Past Y) (told : List File) → p.words ≡ q.words → IsUnhindered seen p told → IsUnhindered saw q told
+    (p : Past X) (q : Past Y) (told : List File) → p.words ≡ q.words → SaysNoCourse p.words → IsUnhindered seen p told → IsUnhindered saw q told
     → (x : HasPrinted seen p Done) (y : HasPrinted saw q Done) → PrintOne x.right.command x.block y.block
 
--- Runs of the same words over the same files, which nothing hindered, end with one status, memory apart: each status comes exactly
--- where it has its cause.
+-- Runs of the same words, which say no course, over the same files, which nothing hindered, end with one status, memory apart: each status
+-- comes exactly where it has its cause.
 abbrev pub OneStatus : {X Y : Type 0} → (X → LinkSeen) → (Y → LinkSeen) → Type 0
 OneStatus {X} {Y} seen saw =
-    (p : Past X) (q : Past Y) (told : List File) → p.words ≡ q.words → IsUnhindered seen p told → IsUnhindered saw q told
+    (p : Past X) (q : Past Y) (told : List File) → p.words ≡ q.words → SaysNoCourse p.words → IsUnhindered seen p told → IsUnhindered saw q told
     → (s t : Status) → IsRight seen p s → IsRight saw q t → (s ≡ t) ⊎ ((s ≡ NoMemory) ⊎ (t ≡ NoMemory))
 
 -- each run that is done over told files, which nothing hindered, is clear

@@ -2,7 +2,6 @@ pub mod Block
 pub mod CheckText
 pub mod Clear
 pub mod Command
-pub mod Inputs
 pub mod Laws
 pub mod Refusal
 pub mod Status

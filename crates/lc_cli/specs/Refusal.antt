@@ -8,8 +8,8 @@ use Rattle.timetable.specs.declared.fault.LoadFault.TheVariants as fault
 use Rattle.trip_updates.specs.Texts as messages
 use Rattle.trip_updates.specs.declared.fault.RtFault.{RtFault}
 use Rattle.lc_cli.specs.Writing.{Said}
-use Rattle.lc_cli.specs.declared.refusal.Refusal.{Refusal}
-use Rattle.lc_cli.specs.declared.refusal.Refusal.TheVariants as refused
+use Rattle.command_inputs.specs.declared.refusal.Refusal.{Refusal}
+use Rattle.command_inputs.specs.declared.refusal.Refusal.TheVariants as refused
 use Rattle.lc_cli.specs.declared.status.Status.{Status}
 use Rattle.lc_cli.specs.declared.status.Status.TheVariants.{Usage, FeedBroken, UpdateBroken, FolderFault, ScriptWrong, TooLarge, NoMemory}
 
@@ -26,9 +26,9 @@ large_line_of what count = codes "error too large " ++ what_text what ++ codes "
 abbrev pub update_line_of : List ℕ → RtFault → List ℕ
 update_line_of name fault = codes "error update " ++ name ++ codes " " ++ messages.fault_text fault ++ codes "\n"
 
--- the line of an absent file of a message
-abbrev pub script_line : List ℕ
-script_line = codes "error script row 0\n"
+-- `error script row {row}`
+abbrev pub script_line_of : ℕ → List ℕ
+script_line_of row = codes "error script row " ++ decimal row ++ codes "\n"
 
 -- the line of want of memory
 abbrev pub no_memory_line : List ℕ
@@ -41,8 +41,8 @@ error_line_of (refused.Load (fault.Broken rule file row)) = feed_line_of rule fi
 error_line_of (refused.Load (fault.TooLarge what count)) = large_line_of what count
 error_line_of (refused.Load (fault.Folder before after)) = codes "error folder\n"
 error_line_of (refused.Load fault.NoMemory) = no_memory_line
-error_line_of refused.NoUpdate = script_line
-error_line_of (refused.UpdateFolder before after) = codes "error folder\n"
+error_line_of (refused.Script row) = script_line_of row
+error_line_of (refused.Folder before after) = codes "error folder\n"
 error_line_of (refused.LongUpdate bytes) = large_line_of what.Update bytes
 error_line_of (refused.BrokenUpdate name fault) = update_line_of name fault
 
@@ -53,8 +53,8 @@ status_of (refused.Load (fault.Broken rule file row)) = FeedBroken rule file row
 status_of (refused.Load (fault.TooLarge what count)) = TooLarge what count
 status_of (refused.Load (fault.Folder before after)) = FolderFault before after
 status_of (refused.Load fault.NoMemory) = NoMemory
-status_of refused.NoUpdate = ScriptWrong 0
-status_of (refused.UpdateFolder before after) = FolderFault before after
+status_of (refused.Script row) = ScriptWrong row
+status_of (refused.Folder before after) = FolderFault before after
 status_of (refused.LongUpdate bytes) = TooLarge what.Update bytes
 status_of (refused.BrokenUpdate name fault) = UpdateBroken name fault
 
@@ -65,8 +65,8 @@ HasMadeLine (refused.Load (fault.Broken rule file row)) = Unit {0}
 HasMadeLine (refused.Load (fault.TooLarge what count)) = Unit {0}
 HasMadeLine (refused.Load (fault.Folder before after)) = ⊥
 HasMadeLine (refused.Load fault.NoMemory) = ⊥
-HasMadeLine refused.NoUpdate = ⊥
-HasMadeLine (refused.UpdateFolder before after) = ⊥
+HasMadeLine (refused.Script row) = Unit {0}
+HasMadeLine (refused.Folder before after) = ⊥
 HasMadeLine (refused.LongUpdate bytes) = Unit {0}
 HasMadeLine (refused.BrokenUpdate name fault) = Unit {0}
 

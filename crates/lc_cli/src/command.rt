@@ -1,4 +1,4 @@
-ghost use Rattle.std.specs.Prelude.{◌≡◌, ◌≢◌, IfErr, IfOk, None, Some};
+ghost use Rattle.std.specs.Prelude.{◌≡◌, ◌≢◌, [], ◌∷◌, IfErr, IfOk, None};
 ghost use Rattle.asking.specs.Admission.{IsFaulty};
 ghost use Rattle.asking.specs.declared.admission.MessageFault.TheVariants as messages;
 ghost use Rattle.command_words.specs.Line.{texts_of};
@@ -6,20 +6,21 @@ ghost use Rattle.command_words.specs.Words.{SaysCommand};
 ghost use Rattle.command_words.specs.declared.command.Check.{Check as Said};
 ghost use Rattle.command_words.specs.declared.command.Command.TheVariants as commands;
 ghost use Rattle.gtfs_feed.specs.Reading.{Keeps};
-ghost use Rattle.lc_cli.specs.Command.{IsAskBlock, IsCheckBlock, IsRightBlock, IsRightRefusal, ask_scope, check_scope};
-ghost use Rattle.lc_cli.specs.Inputs.{IsMessageRefusal, IsRefusedFor};
-ghost use Rattle.lc_cli.specs.declared.refusal.Refusal.TheVariants.{Load};
+ghost use Rattle.lc_cli.specs.Command.{IsAskBlock, IsCheckBlock, IsReplayBlock, IsRightBlock, IsRightRefusal, ask_scope, check_scope, replay_scope};
+ghost use Rattle.command_inputs.specs.Inputs.{IsMessageRefusal, IsRefusedFor};
+ghost use Rattle.command_inputs.specs.Script.{IsReplayRefused};
+ghost use Rattle.command_inputs.specs.declared.refusal.Refusal.TheVariants.{Load};
 ghost use Rattle.timetable.specs.Scope.{IsWindow};
 ghost use Rattle.timetable.specs.declared.fault.LoadFault.TheVariants.{NoMemory as OutOfMemory};
 
 use crate::block::Block;
 use crate::check_text::check_text;
-use crate::inputs::{Inputs, read_inputs};
-use crate::refusal::Refusal;
 use asking::{Asked, MessageFault};
-use command_words::{Ask, Check, Command, one_command, read_words};
+use command_inputs::{Inputs, Refusal, ReplayInputs, read_inputs, read_replay};
+use command_words::{Ask, Check, Command, Replay, one_command, read_words};
 use lc_model::NoMemory;
 use lc_world::{File, Folder, Link};
+use replaying::Replayed;
 use std::alloc::Global;
 use timetable::{LoadFault, Scope, load};
 
@@ -43,6 +44,7 @@ pub(crate) fn outcome<F: Folder, L: Link>(
             Err(fault) => (Err(Refusal::Load(fault)), link),
         },
         Ok(Some(Command::Ask(ask))) => ask_block(alloc, folder, ask, link),
+        Ok(Some(Command::Replay(replay))) => replay_block(alloc, folder, replay, link),
         Ok(None) => (Err(Refusal::Usage), link),
         Err(NoMemory) => (Err(Refusal::from(NoMemory)), link),
     }
@@ -59,7 +61,7 @@ fn check_block<F: Folder>(alloc: Global, folder: &mut F, check: Check) -> Result
         Ok(made) => match check_text(alloc, &made) {
             Ok(text) => Ok(Block {
                 text,
-                outcome: None,
+                ends: Vec::new(alloc),
             }),
             Err(NoMemory) => Err(LoadFault::NoMemory),
         },
@@ -124,7 +126,10 @@ fn ask_block<F: Folder, L: Link>(
                 link,
             );
             match ended {
-                Ok(asked) => (Ok(client_block(asked)), link),
+                Ok(asked) => match client_block(alloc, asked) {
+                    Ok(block) => (Ok(block), link),
+                    Err(NoMemory) => (Err(Refusal::from(NoMemory)), link),
+                },
                 Err(fault) => (Err(message_refusal(fault, file)), link),
             }
         }
@@ -133,15 +138,74 @@ fn ask_block<F: Folder, L: Link>(
 }
 
 /// What is printed of a question.
-fn client_block(asked: Asked) -> Block
-    ensures text { result.text ≡ asked.text }
-    ensures outcome { result.outcome ≡ Some asked.end.outcome }
+fn client_block(alloc: Global, asked: Asked) -> Result<Block, NoMemory>
+    ensures text { IfOk result (λ block. block.text ≡ asked.text) }
+    ensures ends { IfOk result (λ block. block.ends.items ≡ asked.end ∷ []) }
 {
     let Asked { text, end } = asked;
-    Block {
-        text,
-        outcome: Some(end.outcome),
+    let mut ends = Vec::new(alloc);
+    match ends.push(end) {
+        Ok(()) => Ok(Block { text, ends }),
+        Err(_) => Err(NoMemory),
     }
+}
+
+/// Reads what a course is played from, and plays it.
+fn replay_block<F: Folder, L: Link>(
+    alloc: Global,
+    folder: &mut F,
+    replay: Replay,
+    link: L,
+) -> (Result<Block, Refusal>, L)
+    ensures block { IfOk result.0 (IsReplayBlock replay (F.seen folder.old) (F.seen folder.new) (L.seen link) (L.seen result.1)) }
+    ensures refused { IfErr result.0 (IsReplayRefused (replay_scope replay) replay.script (F.seen folder.old) (F.seen folder.new)) }
+    ensures kept { Keeps (F.seen folder.old) (F.seen folder.new) }
+    ensures refusal_leaves_link { IfErr result.0 (λ refusal. refusal ≢ Load OutOfMemory → result.1 ≡ link) }
+{
+    let Replay {
+        feed,
+        first,
+        days,
+        zone,
+        change,
+        publishing,
+        cache,
+        script,
+        ..
+    } = replay;
+    let scope = Scope {
+        feed,
+        zone,
+        first,
+        days,
+        change,
+    };
+    match read_replay(alloc, folder, &scope, script) {
+        Ok(ReplayInputs { made, events }) => {
+            let (played, link) = replaying::replay(
+                alloc,
+                made,
+                publishing,
+                events,
+                cache as usize,
+                link,
+            );
+            match played {
+                Ok(replayed) => (Ok(course_block(replayed)), link),
+                Err(NoMemory) => (Err(Refusal::from(NoMemory)), link),
+            }
+        }
+        Err(refusal) => (Err(refusal), link),
+    }
+}
+
+/// What is printed of a course.
+fn course_block(replayed: Replayed) -> Block
+    ensures text { result.text ≡ replayed.text }
+    ensures ends { result.ends ≡ replayed.ends }
+{
+    let Replayed { text, ends } = replayed;
+    Block { text, ends }
 }
 
 /// Why a file is no message.

@@ -1,54 +1,15 @@
 ghost use Rattle.std.specs.Prelude.{◌≡◌, IfNone, IfOk, IfSome};
-ghost use Rattle.lc_cli.specs.Refusal.{HasMadeLine, IsRefusalEnd, error_line_of, feed_line_of, large_line_of, status_of, update_line_of};
+ghost use Rattle.lc_cli.specs.Refusal.{HasMadeLine, IsRefusalEnd, error_line_of, feed_line_of, large_line_of, script_line_of, status_of, update_line_of};
 ghost use Rattle.lc_cli.specs.Writing.{NeitherFell, Said};
 
 use crate::status::Status;
+use command_inputs::Refusal;
 use gtfs_feed::What;
-use lc_model::{NoMemory, Text};
+use lc_model::NoMemory;
 use lc_world::{Sink, SinkFail, put_all};
 use std::alloc::Global;
 use timetable::LoadFault;
 use trip_updates::RtFault;
-
-/// Why a command was not carried out, for a cause that is no client's.
-#[derive(Debug, Drop)]
-pub enum Refusal {
-    /// The words are none that a command has.
-    Usage,
-    /// The feed gave no timetable.
-    Load(LoadFault),
-    /// The file of the message is absent.
-    NoUpdate,
-    /// It could not be read: the folder's count of faults before the run and after.
-    UpdateFolder { before: u64, after: u64 },
-    /// It has so many bytes, which are too many.
-    LongUpdate { bytes: u64 },
-    /// It is no realtime message.
-    BrokenUpdate { name: Text, fault: RtFault },
-}
-
-impl From<LoadFault> for Refusal {
-    ghost use Rattle.std.specs.Prelude.{◌≡◌};
-    ghost use Rattle.lc_cli.specs.declared.refusal.Refusal.TheVariants.{Load};
-
-    ghost from_gives = { λ fault refusal. refusal ≡ Load fault };
-
-    fn from(fault: LoadFault) -> Refusal {
-        Refusal::Load(fault)
-    }
-}
-
-impl From<NoMemory> for Refusal {
-    ghost use Rattle.std.specs.Prelude.{◌≡◌};
-    ghost use Rattle.timetable.specs.declared.fault.LoadFault.TheVariants.{NoMemory as no_memory};
-    ghost use Rattle.lc_cli.specs.declared.refusal.Refusal.TheVariants.{Load};
-
-    ghost from_gives = { λ _ refusal. refusal ≡ Load no_memory };
-
-    fn from(_: NoMemory) -> Refusal {
-        Refusal::Load(LoadFault::NoMemory)
-    }
-}
 
 const NO_MEMORY: &[u8] = b"error no memory\n";
 
@@ -83,13 +44,11 @@ fn fixed_line(refusal: &Refusal) -> Option<&'static [u8]>
 {
     match refusal {
         Refusal::Usage => Some(b"error usage\n"),
-        Refusal::Load(LoadFault::Folder { .. }) | Refusal::UpdateFolder { .. } => {
-            Some(b"error folder\n")
-        }
+        Refusal::Load(LoadFault::Folder { .. }) | Refusal::Folder { .. } => Some(b"error folder\n"),
         Refusal::Load(LoadFault::NoMemory) => Some(NO_MEMORY),
-        Refusal::NoUpdate => Some(b"error script row 0\n"),
         Refusal::Load(LoadFault::Broken { .. })
         | Refusal::Load(LoadFault::TooLarge { .. })
+        | Refusal::Script { .. }
         | Refusal::LongUpdate { .. }
         | Refusal::BrokenUpdate { .. } => None,
     }
@@ -105,6 +64,7 @@ fn made_line(alloc: Global, refusal: &Refusal) -> Result<Vec<u8>, NoMemory>
             feed_line(alloc, *rule, file.as_str(), *row)
         }
         Refusal::Load(LoadFault::TooLarge { what, count }) => large_line(alloc, *what, *count),
+        Refusal::Script { row } => script_line(alloc, *row),
         Refusal::LongUpdate { bytes } => large_line(alloc, What::Update, *bytes),
         Refusal::BrokenUpdate { name, fault } => update_line(alloc, name.as_str(), *fault),
         _ => unreachable!(),
@@ -123,8 +83,8 @@ fn status(refusal: Refusal) -> Status
         Refusal::Load(LoadFault::TooLarge { what, count }) => Status::TooLarge { what, count },
         Refusal::Load(LoadFault::Folder { before, after }) => Status::FolderFault { before, after },
         Refusal::Load(LoadFault::NoMemory) => Status::NoMemory,
-        Refusal::NoUpdate => Status::ScriptWrong { row: 0 },
-        Refusal::UpdateFolder { before, after } => Status::FolderFault { before, after },
+        Refusal::Script { row } => Status::ScriptWrong { row },
+        Refusal::Folder { before, after } => Status::FolderFault { before, after },
         Refusal::LongUpdate { bytes } => Status::TooLarge {
             what: What::Update,
             count: bytes,
@@ -156,6 +116,14 @@ fn large_line(alloc: Global, what: What, count: u64) -> Result<Vec<u8>, NoMemory
     ensures { IfOk result (λ line. line.items ≡ large_line_of what count) }
 {
     let line = format!(in alloc; "error too large {what} {count}\n")?;
+    Ok(line.into_bytes())
+}
+
+/// The line that names the row of a script.
+fn script_line(alloc: Global, row: u64) -> Result<Vec<u8>, NoMemory>
+    ensures { IfOk result (λ line. line.items ≡ script_line_of row) }
+{
+    let line = format!(in alloc; "error script row {row}\n")?;
     Ok(line.into_bytes())
 }
 

@@ -1,6 +1,6 @@
 use crate::status::{Status, code};
 use crate::top::run;
-use lc_edge::ClosedLink;
+use lc_edge::{ClosedLink, FaultyLink};
 use lc_model::{Bytes, Text};
 use lc_world::{File, Folder, Link, ListLink, MemFolder, MemSink, SureDoor, SureFolder, SureSink};
 use std::alloc::Global;
@@ -211,6 +211,14 @@ fn exchanges(rt: HostRuntime) -> Result<(), Fail> {
 const LATE_AT_B: [u8; 46] =
     *b"\x0a\x0d\x0a\x032.0\x10\x00\x18\xf0\xd0\xc7\xb1\x06\x12\x1d\x0a\x011\x1a\x18\x0a\x0e\x0a\x02T1\x1a\x0820240501\x12\x06\x08\x02\x12\x02\x08<";
 
+// A file of these bytes.
+fn bytes_file(alloc: Global, name: &str, bytes: &[u8]) -> Result<File, Fail> {
+    Ok(File {
+        name: Text::from_string(String::from_str(alloc, name)?),
+        bytes: Bytes::from_list(bytes.to_vec(alloc)?),
+    })
+}
+
 // The version that is meant by what is known: without a message, before it, and from it on.
 #[test]
 fn a_message(rt: HostRuntime) -> Result<(), Fail> {
@@ -259,10 +267,7 @@ exchanges 4
     ] {
         let front = LATE_AT_B.get(..end).expect(&rt, "a front of the message");
         let mut files = files_of(alloc, TINY.as_slice())?;
-        files.push(File {
-            name: Text::from_string(String::from_str(alloc, name)?),
-            bytes: Bytes::from_list(front.to_vec(alloc)?),
-        })?;
+        files.push(bytes_file(alloc, name, front)?)?;
         let mut folder = SureFolder::new(alloc, files)?;
         let words = format!(in alloc; "ask tiny A D 2024-05-01T08:00:00Z --update {words}")?;
         let (code, text) = ask(alloc, &mut folder, words.as_str())?;
@@ -270,6 +275,112 @@ exchanges 4
         assert_eq!(rt; code, status, "{words}");
         assert_eq!(rt; text.as_slice(), output.as_bytes(), "{words}");
     }
+    Ok(())
+}
+
+// By that message, which is known from 07:00 on.
+const AT_SEVEN: &str = "version 2024-05-01T07:00:00.000Z
+journey 2 arrives 2024-05-01T08:40:00.000Z
+ride T1 20240501 - 1 1 A 2024-05-01T08:00:00.000Z B 2024-05-01T08:11:00.000Z
+ride T2 20240501 - 1 1 B 2024-05-01T08:20:00.000Z D 2024-05-01T08:40:00.000Z
+exchanges 4
+";
+
+// And by one of 07:10, which deletes it: T1 is in time again.
+const DELETED: [u8; 22] =
+    *b"\x0a\x0d\x0a\x032.0\x10\x01\x18\xc8\xd5\xc7\xb1\x06\x12\x05\x0a\x011\x10\x01";
+
+const AT_TEN_PAST: &str = "version 2024-05-01T07:10:00.000Z
+journey 2 arrives 2024-05-01T08:31:00.000Z
+ride T1 20240501 - 1 1 A 2024-05-01T08:00:00.000Z B 2024-05-01T08:10:00.000Z
+ride T3 20240501 - 1 1 B 2024-05-01T08:12:00.000Z D 2024-05-01T08:31:00.000Z
+exchanges 4
+";
+
+// What the rows of a script come to, where each reply comes as the publisher gave it.
+#[test]
+fn scripts(rt: HostRuntime) -> Result<(), Fail> {
+    let alloc = rt.alloc();
+    let line = "update d60.pb admitted 2024-05-01T07:00:00.000Z passed 0\n";
+    let deleted = "update del.pb admitted 2024-05-01T07:10:00.000Z passed 0\nclient 1\n";
+    for &(script, status, [first, second, third, fourth]) in &[
+        (
+            "ask,A,D,2024-05-01T08:00:00Z\nturn,1\nupdate,d60.pb\nask,A,D,2024-05-01T08:00:00Z\n",
+            0,
+            [line, FIRST, "client 2\n", AT_SEVEN],
+        ),
+        (
+            "update,d60.pb\nupdate,del.pb\nask,A,D,2024-05-01T08:00:00Z\n",
+            0,
+            [line, deleted, AT_TEN_PAST, ""],
+        ),
+        (
+            "update,d60.pb\nupdate,del.pb\nask,A,D,2024-05-01T08:00:00Z,2024-05-01T07:09:59Z\n",
+            0,
+            [line, deleted, AT_SEVEN, ""],
+        ),
+        (
+            "update,d60.pb\nupdate,d60.pb\n",
+            0,
+            [
+                line,
+                "update d60.pb ignored newest 2024-05-01T07:00:00.000Z\n",
+                "",
+                "",
+            ],
+        ),
+        (
+            "ask,A,A,2024-05-01T08:00:00Z\nask,X,D,2024-05-01T08:00:00Z\n",
+            9,
+            [
+                "client 1\nrefused same stop\nexchanges 0\n",
+                "client 2\nversion 1970-01-01T00:00:00.000Z\nrefused unknown from\nexchanges 2\n",
+                "",
+                "",
+            ],
+        ),
+        ("turn,1\n", 11, ["error script row 1\n", "", "", ""]),
+        (
+            "update,d60.pb\nupdate,none.pb\n",
+            11,
+            ["error script row 2\n", "", "", ""],
+        ),
+        (
+            "update,cut.pb\n",
+            4,
+            ["error update cut.pb cut 15\n", "", "", ""],
+        ),
+    ] {
+        let mut files = files_of(alloc, TINY.as_slice())?;
+        let front = LATE_AT_B.get(..40).expect(&rt, "a front of the message");
+        files.push(bytes_file(alloc, "d60.pb", LATE_AT_B.as_slice())?)?;
+        files.push(bytes_file(alloc, "del.pb", DELETED.as_slice())?)?;
+        files.push(bytes_file(alloc, "cut.pb", front)?)?;
+        files.push(file_of(alloc, "s.csv", script)?)?;
+        let mut folder = SureFolder::new(alloc, files)?;
+        let (code, text) = ask(alloc, &mut folder, "replay tiny 20240501 s.csv")?;
+        let output = format!(in alloc; "{first}{second}{third}{fourth}")?;
+        assert_eq!(rt; code, status, "{script}");
+        assert_eq!(rt; text.as_slice(), output.as_bytes(), "{script}");
+    }
+    Ok(())
+}
+
+// The third exchange fails: it ends the client that made it, and the other one has its answer; the status is that of the first.
+#[test]
+fn a_failing_exchange(rt: HostRuntime) -> Result<(), Fail> {
+    let alloc = rt.alloc();
+    let mut files = files_of(alloc, TINY.as_slice())?;
+    let script = "ask,A,D,2024-05-01T08:00:00Z\nask,A,A,2024-05-01T08:00:00Z\n";
+    files.push(file_of(alloc, "s.csv", script)?)?;
+    let mut folder = SureFolder::new(alloc, files)?;
+    let link = FaultyLink::new(ClosedLink::new(), vec![in alloc; 3]?);
+    let (code, text) = ask_over(alloc, &mut folder, link, "replay tiny 20240501 s.csv")?;
+    assert_eq!(rt; code, 7);
+    assert_eq!(rt;
+        text.as_slice(),
+        b"client 1\nversion 1970-01-01T00:00:00.000Z\nlink fault 0 1\nexchanges 3\nclient 2\nrefused same stop\nexchanges 0\n".as_slice()
+    );
     Ok(())
 }
 

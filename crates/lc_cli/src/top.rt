@@ -15,6 +15,7 @@ use crate::refusal::refuse;
 use crate::status::Status;
 use command_words::one_command;
 use lc_world::{Door, Folder, Link, Sink};
+use script_text::one_script;
 use std::alloc::Global;
 use timetable::one_timetable;
 use version_store::one_outcome;
@@ -24,7 +25,9 @@ use version_store::one_outcome;
 /// `check FEED FIRST` reads the GTFS feed of that name in the folder and prints its counts, or the first rule that it breaks.
 /// `ask FEED FROM TO MOMENT` publishes its timetable as pages, with the realtime message of a file where `--update` names one, and lets a
 /// client ask this publisher: it prints a best journey from one stop to another that leaves at the moment or later and arrives within the
-/// horizon, or that there is none, by the timetable as it was known then. Each reply is handed on over the link. The door is not used.
+/// horizon, or that there is none, by the timetable as it was known then. Each reply is handed on over the link.
+/// `replay FEED FIRST SCRIPT` plays the day of a script to such a publisher: messages come in between the exchanges of many clients that share a
+/// cache of pages, and each client's answer is best by the timetable as it was known when it first asked. The door is not used.
 pub fn run<F: Folder, L: Link, D: Door, S: Sink>(
     alloc: Global,
     words: &[String],
@@ -47,8 +50,8 @@ pub fn run<F: Folder, L: Link, D: Door, S: Sink>(
     ensures usage_only { ((command : Command) → SaysCommand (texts_of words.now) command → ⊥)
         → (result.0 ≡ Status.Usage) ⊎ (result.0 ≡ Status.NoMemory) }
 
-    // Nothing but memory keeps the output from being printed where no rule refuses the feed and the message, no fault is counted, and
-    // a question has a clear link.
+    // Nothing but memory keeps the output from being printed where no rule refuses the feed, the script and the messages, no fault is
+    // counted, and a question or a course has a clear link.
     ensures complete { IsClear L.seen (record {
       words = texts_of words.now;
       folder_before = F.seen folder.old;
@@ -71,6 +74,7 @@ pub fn run<F: Folder, L: Link, D: Door, S: Sink>(
     one_command();
     one_timetable();
     one_outcome();
+    one_script();
     let (came, link) = outcome(alloc, words, folder, link);
     match came {
         Ok(block) => (write_block(block, out), link),

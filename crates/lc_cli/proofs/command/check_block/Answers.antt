@@ -1,4 +1,4 @@
-use Rattle.std.proofs.Common.{refl, subst}
+use Rattle.std.proofs.Common.{subst}
 use Rattle.timetable.specs.Loading.{Loads}
 use Rattle.timetable.specs.declared.scope.Scope.{Scope}
 use Rattle.lc_cli.proofs.command.check_block.Goals as goal
@@ -11,5 +11,5 @@ returns-in-Ok-check_text-clause-block g c =
       made = c.in-Ok.made;
       loaded = subst (λ (scope : Scope). Loads scope old new c.in-Ok.made) c.scope_of_check-scope.ensures.scope c.in-Ok.ensures.ends;
       text = c.in-Ok-check_text.ensures;
-      no_client = refl;
+      no_client = c.new.ensures.items;
     }

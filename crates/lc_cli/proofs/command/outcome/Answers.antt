@@ -20,9 +20,19 @@ returns-in-Err-check_block-clause-refused g c = inr (inr (record {
 pub returns-in-Ok-Some-Ask-clause-block : goal.returns-in-Ok-Some-Ask-clause-block
 returns-in-Ok-Some-Ask-clause-block g c =
     let says = rw c.in-Ok-Some-Ask.field-0-0-is at (rw c.in-Ok-Some-Ask.field-0-is at c.in-Ok-Some-Ask.ensures) in
-    said_blocks _ _ _ _ _ c.in-Ok-Some-Ask.ask c.ask_block.result.0 says c.ask_block.ensures.block
+    said_blocks _ _ _ _ _ (commands.Ask c.in-Ok-Some-Ask.ask) c.ask_block.result.0 says c.ask_block.ensures.block
 
 pub returns-in-Ok-Some-Ask-clause-refused : goal.returns-in-Ok-Some-Ask-clause-refused
 returns-in-Ok-Some-Ask-clause-refused g c =
     let says = rw c.in-Ok-Some-Ask.field-0-0-is at (rw c.in-Ok-Some-Ask.field-0-is at c.in-Ok-Some-Ask.ensures) in
-    said_refusals _ _ _ c.in-Ok-Some-Ask.ask c.ask_block.result.0 says c.ask_block.ensures.refused
+    said_refusals _ _ _ (commands.Ask c.in-Ok-Some-Ask.ask) c.ask_block.result.0 says c.ask_block.ensures.refused
+
+pub returns-in-Ok-Some-Replay-clause-block : goal.returns-in-Ok-Some-Replay-clause-block
+returns-in-Ok-Some-Replay-clause-block g c =
+    let says = rw c.in-Ok-Some-Replay.field-0-0-is at (rw c.in-Ok-Some-Replay.field-0-is at c.in-Ok-Some-Replay.ensures) in
+    said_blocks _ _ _ _ _ (commands.Replay c.in-Ok-Some-Replay.replay) c.replay_block.result.0 says c.replay_block.ensures.block
+
+pub returns-in-Ok-Some-Replay-clause-refused : goal.returns-in-Ok-Some-Replay-clause-refused
+returns-in-Ok-Some-Replay-clause-refused g c =
+    let says = rw c.in-Ok-Some-Replay.field-0-0-is at (rw c.in-Ok-Some-Replay.field-0-is at c.in-Ok-Some-Replay.ensures) in
+    said_refusals _ _ _ (commands.Replay c.in-Ok-Some-Replay.replay) c.replay_block.result.0 says c.replay_block.ensures.refused

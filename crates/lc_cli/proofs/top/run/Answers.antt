@@ -1,7 +1,8 @@
 use Rattle.std.proofs.Common.{inl, inr, refl}
 use Rattle.command_words.specs.Line.{texts_of}
 use Rattle.lc_cli.specs.Top.{IsRight, Past}
-use Rattle.lc_cli.proofs.TopLemmas.{complete, not_early, not_memory, usage_only}
+use Rattle.lc_cli.proofs.CompleteLemmas.{complete}
+use Rattle.lc_cli.proofs.TopLemmas.{not_early, not_memory, usage_only}
 use Rattle.lc_cli.proofs.top.run.Goals as goal
 
 -- the run that came to a block, and the one that was refused
@@ -38,7 +39,8 @@ returns-in-Ok g c = record {
   status = right_block g c;
   usage_only = usage_only g.L.Link.seen (printed g c) c.write_block.result (right_block g c);
   complete =
-      complete c.one_command.ensures c.one_timetable.ensures.loads_told c.one_timetable.ensures.not_broken c.one_timetable.ensures.not_too_large c.one_outcome.ensures g.L.Link.seen
+      complete c.one_command.ensures c.one_timetable.ensures.loads_told c.one_timetable.ensures.not_broken c.one_timetable.ensures.not_too_large c.one_outcome.ensures c.one_script.ensures.script
+      c.one_script.ensures.never_both g.L.Link.seen
       (printed g c) c.write_block.result (right_block g c);
   folder = c.outcome-came.ensures.kept;
   sink = c.write_block.ensures.kept;
@@ -52,7 +54,8 @@ returns-in-Err g c = record {
   status = right_refusal g c;
   usage_only = usage_only g.L.Link.seen (refused g c) c.refuse.result (right_refusal g c);
   complete =
-      complete c.one_command.ensures c.one_timetable.ensures.loads_told c.one_timetable.ensures.not_broken c.one_timetable.ensures.not_too_large c.one_outcome.ensures g.L.Link.seen
+      complete c.one_command.ensures c.one_timetable.ensures.loads_told c.one_timetable.ensures.not_broken c.one_timetable.ensures.not_too_large c.one_outcome.ensures c.one_script.ensures.script
+      c.one_script.ensures.never_both g.L.Link.seen
       (refused g c) c.refuse.result (right_refusal g c);
   folder = c.outcome-came.ensures.kept;
   sink = c.refuse.ensures.kept;

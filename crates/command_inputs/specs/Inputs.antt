@@ -14,8 +14,8 @@ use Rattle.timetable.specs.declared.scope.Scope.{Scope}
 use Rattle.timetable.specs.declared.timetable.Timetable.{Timetable}
 use Rattle.trip_updates.specs.declared.fault.RtFault.{RtFault}
 use Rattle.version_store.specs.Admission.{IsBroken}
-use Rattle.lc_cli.specs.declared.refusal.Refusal.{Refusal}
-use Rattle.lc_cli.specs.declared.refusal.Refusal.TheVariants.{Usage, Load, NoUpdate, UpdateFolder, LongUpdate, BrokenUpdate}
+use Rattle.command_inputs.specs.declared.refusal.Refusal.{Refusal}
+use Rattle.command_inputs.specs.declared.refusal.Refusal.TheVariants.{Usage, Load, Script, Folder, LongUpdate, BrokenUpdate}
 
 -- the folder was asked for this file, once, and answered so
 pub record ReadsFile (old new : FolderSeen) (name : List ℕ) (result : Result (List ℕ) FolderFail) : Type 0 where
@@ -61,6 +61,11 @@ pub record AsksForUpdate (scope : Scope) (update : Option (List ℕ)) (old new :
   pub named : update ≡ Some name
   pub read : ReadsFile between new name result
 
+-- the file is absent, which is told as row 0
+pub record LacksUpdate (scope : Scope) (update : Option (List ℕ)) (old new : FolderSeen) (row : ℕ) : Type 0 where
+  pub asks : AsksForUpdate scope update old new (Err Absent)
+  pub row_is : row ≡ 0
+
 -- the file could not be read, and the folder's count rose
 pub record FailsAtUpdate (scope : Scope) (update : Option (List ℕ)) (old new : FolderSeen) (before after : ℕ) : Type 0 where
   pub asks : AsksForUpdate scope update old new (Err Failed)
@@ -95,8 +100,8 @@ IsRefusedFor scope update old new (Load (fault.Broken rule file row)) = LoadsSo 
 IsRefusedFor scope update old new (Load (fault.TooLarge what count)) = LoadsSo scope old new (Err (fault.TooLarge what count))
 IsRefusedFor scope update old new (Load (fault.Folder before after)) = LoadsSo scope old new (Err (fault.Folder before after))
 IsRefusedFor scope update old new (Load fault.NoMemory) = RunsOut scope update old new
-IsRefusedFor scope update old new NoUpdate = AsksForUpdate scope update old new (Err Absent)
-IsRefusedFor scope update old new (UpdateFolder before after) = FailsAtUpdate scope update old new before after
+IsRefusedFor scope update old new (Script row) = LacksUpdate scope update old new row
+IsRefusedFor scope update old new (Folder before after) = FailsAtUpdate scope update old new before after
 IsRefusedFor scope update old new (LongUpdate count) = IsLongUpdate scope update old new count
 IsRefusedFor scope update old new (BrokenUpdate name fault) = IsBrokenUpdate scope update old new name fault
 
@@ -114,7 +119,7 @@ IsMessageRefusal file (Load (fault.Broken rule name row)) = ⊥
 IsMessageRefusal file (Load (fault.TooLarge what count)) = ⊥
 IsMessageRefusal file (Load (fault.Folder before after)) = ⊥
 IsMessageRefusal file (Load fault.NoMemory) = Unit {0}
-IsMessageRefusal file NoUpdate = ⊥
-IsMessageRefusal file (UpdateFolder before after) = ⊥
+IsMessageRefusal file (Script row) = ⊥
+IsMessageRefusal file (Folder before after) = ⊥
 IsMessageRefusal file (LongUpdate count) = IsTooLong file count
 IsMessageRefusal file (BrokenUpdate name fault) = IsNoMessageNamed file name fault

@@ -1,9 +1,9 @@
 ghost use Rattle.std.specs.Prelude.{IfErr, IfOk};
 ghost use Rattle.gtfs_feed.specs.Reading.{Keeps};
-ghost use Rattle.lc_cli.specs.Inputs.{EndsUpdate, IsRefusedFor, ReadsInputs};
+ghost use Rattle.command_inputs.specs.Inputs.{EndsUpdate, IsRefusedFor, ReadsInputs};
 ghost use Rattle.timetable.specs.Scope.{IsWindow};
 
-use crate::refusal::Refusal;
+use crate::Refusal;
 use lc_model::{Bytes, NoMemory, Text};
 use lc_world::{File, Folder, FolderFail};
 use std::alloc::Global;
@@ -11,13 +11,13 @@ use timetable::{Scope, Timetable, load};
 
 /// What a question is asked of: the timetable of its feed, and the file of a message, if there is one.
 #[derive(Debug, Drop)]
-pub(crate) struct Inputs {
-    pub(crate) made: Timetable,
-    pub(crate) file: Option<File>,
+pub struct Inputs {
+    pub made: Timetable,
+    pub file: Option<File>,
 }
 
 /// Loads the timetable, and then reads the file of the message, if there is one.
-pub(crate) fn read_inputs<F: Folder>(
+pub fn read_inputs<F: Folder>(
     alloc: Global,
     folder: &mut F,
     scope: &Scope,
@@ -32,10 +32,10 @@ pub(crate) fn read_inputs<F: Folder>(
     match load(alloc, folder, scope) {
         Ok(made) => match read_update(alloc, folder, update) {
             Ok(file) => Ok(Inputs { made, file }),
-            Err(FolderFail::Absent) => Err(Refusal::NoUpdate),
+            Err(FolderFail::Absent) => Err(Refusal::Script { row: 0 }),
             Err(FolderFail::Failed) => {
                 let after = folder.faults();
-                Err(Refusal::UpdateFolder { before, after })
+                Err(Refusal::Folder { before, after })
             }
             Err(FolderFail::NoMemory) => Err(Refusal::from(NoMemory)),
         },

@@ -1,13 +1,14 @@
-use Rattle.std.proofs.Common.{Err, inr, subst, sym}
+use Rattle.std.proofs.Common.{Err, inr, refl, subst, sym}
 use Rattle.lc_io.specs.declared.folder.FolderFail.TheVariants.{Absent, NoMemory}
-use Rattle.lc_cli.specs.Inputs.{EndsUpdate, IsRefusedFor}
-use Rattle.lc_cli.proofs.CommandLemmas.{asks_for, fails_at}
-use Rattle.lc_cli.proofs.inputs.read_inputs.Goals as goal
+use Rattle.command_inputs.specs.Inputs.{EndsUpdate, IsRefusedFor}
+use Rattle.command_inputs.proofs.InputsLemmas.{asks_for, fails_at}
+use Rattle.command_inputs.proofs.inputs.read_inputs.Goals as goal
 
 pub returns-in-Err-Absent-clause-refused : goal.returns-in-Err-Absent-clause-refused
 returns-in-Err-Absent-clause-refused g c =
-    asks_for c.args.scope.now c.args.update _ _ _ c.in-Ok.made c.in-Ok.ensures.ends c.in-Ok.ensures.counts Absent
-    (subst (λ f. EndsUpdate c.args.update (g.F.Folder.seen c.load.new.folder) (g.F.Folder.seen c.read_update.new.folder) (Err f)) c.in-Err-Absent.field-0-is c.in-Err-Absent.ensures.ends)
+    let asks = asks_for c.args.scope.now c.args.update _ _ _ c.in-Ok.made c.in-Ok.ensures.ends c.in-Ok.ensures.counts Absent
+    (subst (λ f. EndsUpdate c.args.update (g.F.Folder.seen c.load.new.folder) (g.F.Folder.seen c.read_update.new.folder) (Err f)) c.in-Err-Absent.field-0-is c.in-Err-Absent.ensures.ends) in
+    record { asks = asks; row_is = refl }
 
 pub returns-in-Err-Failed-clause-refused : goal.returns-in-Err-Failed-clause-refused
 returns-in-Err-Failed-clause-refused g c =

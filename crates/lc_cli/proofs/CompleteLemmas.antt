@@ -1,0 +1,98 @@
+-- Nothing but memory keeps the output from being printed, where nothing hinders a command.
+use Rattle.std.proofs.Common.{◌≡◌, ◌∙◌, ◌⊎◌, ℕ, inl, inr, List, None, Option, Some, ap, refl, subst, sym}
+use Rattle.asking.specs.Publishing.{store_of}
+use Rattle.command_inputs.specs.Inputs.{IsRefusedFor}
+use Rattle.command_inputs.specs.declared.refusal.Refusal.{Refusal}
+use Rattle.command_inputs.specs.declared.refusal.Refusal.TheVariants as refused
+use Rattle.command_words.specs.Laws.{OneCommand}
+use Rattle.command_words.specs.Words.{SaysCommand}
+use Rattle.command_words.specs.declared.command.Command.{Command}
+use Rattle.command_words.specs.declared.command.Command.TheVariants as commands
+use Rattle.lc_io.specs.Counts.{Rose}
+use Rattle.lc_io.specs.Folder.{FolderSeen}
+use Rattle.lc_io.specs.declared.file.File.{File}
+use Rattle.lc_world.specs.Link.{LinkSeen}
+use Rattle.script_text.specs.Laws.{NeverBoth, OneScript}
+use Rattle.timetable.specs.Told.{IsSound}
+use Rattle.timetable.specs.Laws.{LoadsTold, NotBroken, NotTooLarge}
+use Rattle.timetable.specs.declared.fault.LoadFault.TheVariants as fault
+use Rattle.timetable.specs.declared.scope.Scope.{Scope}
+use Rattle.timetable.specs.declared.timetable.Timetable.{Timetable}
+use Rattle.version_store.specs.Laws.{OneOutcome}
+use Rattle.lc_cli.specs.Block.{IsBlockEnd, client_status_of}
+use Rattle.lc_cli.specs.Clear.{IsAnswered, IsClear, IsHeard}
+use Rattle.lc_cli.specs.Command.{IsRefusedAs, IsRightRefusal, Prints, ask_scope, check_scope, scope_of}
+use Rattle.lc_cli.specs.Refusal.{IsRefusalEnd, status_of}
+use Rattle.lc_cli.specs.Top.{IsRight, Past}
+use Rattle.lc_cli.specs.declared.status.Status.{Status}
+use Rattle.lc_cli.specs.declared.status.Status.TheVariants.{NoMemory}
+use Rattle.lc_cli.proofs.ReplayLemmas.{course_fine, never_refused}
+use Rattle.lc_cli.proofs.TopLemmas.{AreNoFaults, IsHeardBy, answered, heard, heard_nothing, no_fault, not_absent, not_broken_update, not_long}
+
+-- a command without a script whose feed and message are fine is refused for memory alone
+module _ (not_broken : NotBroken) (not_too_large : NotTooLarge) (one_outcome : OneOutcome) (told : List File) (scope : Scope) (update : Option (List ℕ)) (old new : FolderSeen)
+    (made : Timetable) (tells : old.files ≡ Some told) (sound : IsSound told scope made) (heard_is : IsHeardBy told update) (no_fault_is : Rose old.faults new.faults → ⊥) where
+  never : (refusal : Refusal) → IsRefusedFor scope update old new refusal → (status_of refusal ≡ NoMemory) ⊎ ⊥
+  never refused.Usage is = inr is
+  never (refused.Load (fault.Broken rule file row)) is = inr (not_broken told scope old new made rule file row tells sound is)
+  never (refused.Load (fault.TooLarge what count)) is = inr (not_too_large told scope old new made what count tells sound is)
+  never (refused.Load (fault.Folder before after)) is = inr (no_fault_is (subst (λ count. Rose count new.faults) is.0 (subst (λ count. Rose before count) is.1 is.2)))
+  never (refused.Load fault.NoMemory) is = inl refl
+  never (refused.Script row) is = inr (not_absent one_outcome told scope update old new tells heard_is is.asks)
+  never (refused.Folder before after) is = inr (no_fault_is (subst (λ count. Rose count new.faults) is.before_is (subst (λ count. Rose before count) is.after_is is.rose)))
+  never (refused.LongUpdate count) is = inr (not_long one_outcome told scope update old new tells heard_is count is)
+  never (refused.BrokenUpdate name found) is = inr (not_broken_update one_outcome told scope update old new tells heard_is name found is)
+
+-- the run ended with what is answered, or for want of memory
+by_status : (status other : Status) → status ≡ other → IsAnswered other → IsAnswered status
+by_status status other is fine = subst IsAnswered (sym is) fine
+
+module _ (one_command : OneCommand) (loads_told : LoadsTold) (not_broken : NotBroken) (not_too_large : NotTooLarge) (one_outcome : OneOutcome) (one_script : OneScript)
+    (never_both : NeverBoth) where
+  -- nothing but memory keeps the output from being printed
+  pub complete : {X : Type 0} (seen : X → LinkSeen) (p : Past X) (status : Status) → IsRight seen p status → IsClear seen p → IsAnswered status
+  complete seen p status (inl x) clear = by x.end where
+    same : x.right.command ≡ clear.command
+    same = one_command p.words x.right.command clear.command x.right.says clear.says
+
+    fine : (command : Command) → SaysCommand p.words command → Prints command p.folder_before p.folder_after (seen p.link_before) (seen p.link_after) x.block → AreNoFaults x.block.ends.items
+    fine (commands.Check check) says prints = subst AreNoFaults (sym prints.no_client) tt
+    fine (commands.Ask ask) says prints =
+        no_fault loads_told clear.told ask p.folder_before p.folder_after (seen p.link_before) (seen p.link_after) x.block prints clear.unhindered.tells (clear.unhindered.fair ask says)
+    fine (commands.Replay replay) says prints =
+        course_fine loads_told clear.told replay p.folder_before p.folder_after (seen p.link_before) (seen p.link_after) x.block prints clear.unhindered.tells
+        (clear.unhindered.fair_course replay says)
+
+    by : IsBlockEnd x.block p.sink_before p.sink_after status → IsAnswered status
+    by (inl whole) = by_status status (client_status_of 1 x.block.ends.items) whole.status_is (answered 1 x.block.ends.items (fine x.right.command x.right.says x.right.prints))
+    by (inr (inl cut)) = absurd (clear.unhindered.no_sink_fault cut.rose)
+    by (inr (inr cut)) = by_status status NoMemory cut.status_is tt
+  complete seen p status (inr x) clear = by x.right x.end where
+    memory : (refusal : Refusal) → status_of refusal ≡ NoMemory → IsRefusalEnd refusal p.sink_before p.sink_after status → IsAnswered status
+    memory refusal is (inl said) = by_status status NoMemory (said.status_is ∙ is) tt
+    memory refusal is (inr lacks) = by_status status NoMemory lacks.status_is tt
+
+    -- whatever the command is, it is refused for memory alone
+    never_as : (command : Command) → IsSound clear.told (scope_of command) clear.made → IsHeard clear.told command → IsRefusedAs command p.folder_before p.folder_after x.refusal
+        → (status_of x.refusal ≡ NoMemory) ⊎ ⊥
+    never_as (commands.Check check) sound is refused_is =
+        never not_broken not_too_large one_outcome clear.told (check_scope check) None p.folder_before p.folder_after clear.made clear.unhindered.tells sound
+        (heard_nothing clear.told (store_of clear.made 0)) clear.unhindered.no_folder_fault x.refusal refused_is
+    never_as (commands.Ask ask) sound is refused_is =
+        never not_broken not_too_large one_outcome clear.told (ask_scope ask) ask.update p.folder_before p.folder_after clear.made clear.unhindered.tells sound
+        (heard clear.told ask is) clear.unhindered.no_folder_fault x.refusal refused_is
+    never_as (commands.Replay replay) sound (made, all, course) refused_is =
+        never_refused one_script never_both not_broken not_too_large clear.told replay p.folder_before p.folder_after clear.unhindered.tells made all course
+        clear.unhindered.no_folder_fault x.refusal refused_is
+
+    by : IsRightRefusal p.words p.folder_before p.folder_after x.refusal → IsRefusalEnd x.refusal p.sink_before p.sink_after status → IsAnswered status
+    by (inl usage) end = absurd (usage.says_none clear.command clear.says)
+    by (inr (inl first)) end = memory x.refusal (ap status_of first.is) end
+    by (inr (inr is)) end =
+        either (never_as clear.command clear.sound clear.heard (subst (λ (c : Command). IsRefusedAs c p.folder_before p.folder_after x.refusal) same is.refused)) where
+          same : is.command ≡ clear.command
+          same = one_command p.words is.command clear.command is.says clear.says
+
+          either : (status_of x.refusal ≡ NoMemory) ⊎ ⊥ → IsAnswered status
+          either (inl e) = memory x.refusal e end
+          either (inr contrary) = absurd contrary

@@ -1,0 +1,12 @@
+use Rattle.lc_cli.proofs.CommandLemmas.{replay_block_of}
+use Rattle.lc_cli.proofs.WindowLemmas.{window_said}
+use Rattle.lc_cli.proofs.command.replay_block.Goals as goal
+
+pub read_replay-requires : goal.read_replay-requires
+read_replay-requires g c = window_said c.args.replay.first c.args.replay.days c.args.replay.window
+
+pub returns-in-Ok-played-clause-block : goal.returns-in-Ok-played-clause-block
+returns-in-Ok-played-clause-block g c =
+    replay_block_of c.args.replay (g.F.Folder.seen c.args.folder.now) (g.F.Folder.seen c.read_replay.new.folder) (g.L.Link.seen c.args.link) (g.L.Link.seen c.replay-played.result.1)
+    c.in-Ok.field-0.made c.in-Ok.field-0.events.items c.in-Ok.ensures.read c.in-Ok-played.replayed.text c.in-Ok-played.replayed.ends c.course_block.result c.course_block.ensures.text c.course_block.ensures.ends
+    (rw c.in-Ok-played.is at c.replay-played.ensures)
