@@ -13,13 +13,13 @@ ROUNDS=${ROUNDS:-3}
 # Of ten rows nine have a connection to the next.
 ROWS=${ROWS:-111110}
 # Clients and messages of each script.
-set -- 25,20 50,20 100,20 100,10 100,40
+set -- 25-20 50-20 100-20 100-10 100-40
 
 [ -x "$LC" ] || { echo "replay.sh: no program at $LC" >&2; exit 1; }
 
 for script in "$@"; do
     python3 "$bench/make_feed.py" "$ROWS" "$work/$script"
-    python3 "$bench/make_script.py" "$ROWS" "${script%,*}" "${script#*,}" "$work/$script"
+    python3 "$bench/make_script.py" "$ROWS" "${script%-*}" "${script#*-}" "$work/$script"
 done
 
 python3 - "$LC" "$work" "$ROUNDS" "$@" <<'PYTHON'
@@ -29,7 +29,7 @@ import sys
 lc, feeds = sys.argv[1:3]
 rounds, scripts = int(sys.argv[3]), sys.argv[4:]
 MOST = 2.3  # Twice the clients, or twice the messages, take at most so many times.
-BESIDE = "100,20"  # The script whose questions are put by `ask` too.
+BESIDE = "100-20"  # The script whose questions are put by `ask` too.
 
 
 def once(words):
@@ -67,14 +67,14 @@ print("| clients | messages | beside the reading of the feed | to half of the cl
 print("|--------:|---------:|-------------------------------:|-----------------------:|------------------------:|")
 worst = 0.0
 for script in scripts:
-    clients, messages = map(int, script.split(","))
+    clients, messages = map(int, script.split("-"))
     growth = []
-    for half in (f"{clients // 2},{messages}", f"{clients},{messages // 2}"):
+    for half in (f"{clients // 2}-{messages}", f"{clients}-{messages // 2}"):
         growth.append(cost[script] / cost[half] if half in cost else None)
     worst = max([worst, *(ratio for ratio in growth if ratio is not None)])
     shown = [f"{ratio:.2f}" if ratio is not None else "-" for ratio in growth]
     print(f"| {clients:7} | {messages:8} | {cost[script] / read:30.2f} | {shown[0]:>22} | {shown[1]:>23} |")
-print(f"\nThe questions of {BESIDE.replace(',', ' clients and ')} messages, put by `ask` one by one, take {asked / least[BESIDE]:.1f} times as long as the replay.")
+print(f"\nThe questions of {BESIDE.replace('-', ' clients and ')} messages, put by `ask` one by one, take {asked / least[BESIDE]:.1f} times as long as the replay.")
 if worst > MOST:
     sys.exit(f"replay.sh: twice as much took {worst:.2f} times")
 PYTHON

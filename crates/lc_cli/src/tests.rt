@@ -384,27 +384,43 @@ fn a_failing_exchange(rt: HostRuntime) -> Result<(), Fail> {
     Ok(())
 }
 
-// A link that gives another reply than the publisher's.
+// A link that gives another reply than the publisher's, so often.
+fn not_found(alloc: Global, times: usize) -> Result<ListLink, Fail> {
+    let mut replies = Vec::new(alloc);
+    for _ in 0..times {
+        replies.push(Bytes::from_list(Vec::from_slice(
+            alloc,
+            b"HTTP/1.1 404 Not Found\r\nContent-Length: 0\r\n\r\n",
+        )?))?;
+    }
+    Ok(ListLink::new(replies)?)
+}
+
+// Each client prints what such a reply says, and not what the publisher has.
 #[test]
 fn another_reply(rt: HostRuntime) -> Result<(), Fail> {
     let alloc = rt.alloc();
-    let mut replies = Vec::new(alloc);
-    replies.push(Bytes::from_list(Vec::from_slice(
-        alloc,
-        b"HTTP/1.1 404 Not Found\r\nContent-Length: 0\r\n\r\n",
-    )?))?;
-    let link = ListLink::new(replies)?;
+    let link = not_found(alloc, 1)?;
     let mut folder = SureFolder::new(alloc, files_of(alloc, TINY.as_slice())?)?;
-    let (code, text) = ask_over(
-        alloc,
-        &mut folder,
-        link,
-        "ask tiny A D 2024-05-01T08:00:00Z",
-    )?;
+    let words = "ask tiny A D 2024-05-01T08:00:00Z";
+    let (code, text) = ask_over(alloc, &mut folder, link, words)?;
     assert_eq!(rt; code, 8);
     assert_eq!(rt;
         text.as_slice(),
         b"client 1\npeer wrong status 404\nexchanges 1\n".as_slice()
+    );
+
+    let mut files = files_of(alloc, TINY.as_slice())?;
+    let script = "ask,A,D,2024-05-01T08:00:00Z\nturn,1\nask,A,D,2024-05-01T08:00:00Z\n";
+    files.push(file_of(alloc, "s.csv", script)?)?;
+    let mut folder = SureFolder::new(alloc, files)?;
+    let link = not_found(alloc, 2)?;
+    let words = "replay tiny 20240501 s.csv";
+    let (code, text) = ask_over(alloc, &mut folder, link, words)?;
+    assert_eq!(rt; code, 8);
+    assert_eq!(rt;
+        text.as_slice(),
+        b"client 1\npeer wrong status 404\nexchanges 1\nclient 2\npeer wrong status 404\nexchanges 1\n".as_slice()
     );
     Ok(())
 }
