@@ -1,7 +1,7 @@
 #!/bin/sh
 # What `ask` takes beside the reading of the feed, that of publishing and of following pages, for each connection of the version and each
-# page that is asked. Prints a table, and fails where that grows more than twofold from 10,000 connections to 1,000,000. See
-# docs/PERFORMANCE.md.
+# reply that is made of them, those with a page and the gate's. Prints a table, and fails where that grows more than twofold from 10,000
+# connections to 1,000,000. See docs/PERFORMANCE.md.
 #
 #   bench/ask_pages.sh
 #
@@ -28,7 +28,7 @@ import sys
 lc, feeds = sys.argv[1:3]
 rounds, days = int(sys.argv[3]), sys.argv[4]
 sizes = [int(word) for word in sys.argv[5:]]
-MOST = 2.0  # From the smallest feed on, a connection of a page takes at most so many times.
+MOST = 2.0  # From the smallest feed on, a connection of a reply takes at most so many times.
 MOMENT = "2024-05-02T06:00:00Z"
 
 
@@ -50,10 +50,10 @@ def once(words):
 
 asks = {rows: [lc, "ask", f"{feeds}/{rows}", "s00000", last_stop(rows), MOMENT, "--days", days] for rows in sizes}
 reads = {rows: [lc, "check", f"{feeds}/{rows}", "20240501", "--days", days] for rows in sizes}
-pages = {}
+replies = {}
 for rows in sizes:
     output = subprocess.run(asks[rows], capture_output=True, check=True, text=True).stdout
-    pages[rows] = int(output.split()[-1]) - 2  # The gate and the stops document are asked too.
+    replies[rows] = int(output.split()[-1]) - 1  # The stops document is asked for too, and has no connections.
 
 # The feeds take turns, so that what else the machine does meets all of them.
 least = {rows: (float("inf"), float("inf")) for rows in sizes}
@@ -62,15 +62,15 @@ for _ in range(rounds):
         least[rows] = tuple(map(min, least[rows], (once(asks[rows]), once(reads[rows]))))
 
 connections = {rows: rows * 9 // 10 * int(days) for rows in sizes}
-cost = {rows: (least[rows][0] - least[rows][1]) / (connections[rows] * pages[rows]) for rows in sizes}
+cost = {rows: (least[rows][0] - least[rows][1]) / (connections[rows] * replies[rows]) for rows in sizes}
 if min(cost.values()) <= 0:
     sys.exit("ask_pages.sh: a question took no longer than reading its feed; raise ROUNDS")
 
-print("| connections | pages | `ask` to `check` | a connection of a page, to the first row |")
-print("|------------:|------:|-----------------:|------------------------------------------:|")
+print("| connections | replies | `ask` to `check` | a connection of a reply, to the first row |")
+print("|------------:|--------:|-----------------:|-------------------------------------------:|")
 for rows in sizes:
     ratio = least[rows][0] / least[rows][1]
-    print(f"| {connections[rows]:11,} | {pages[rows]:5} | {ratio:16.2f} | {cost[rows] / cost[sizes[0]]:41.2f} |")
+    print(f"| {connections[rows]:11,} | {replies[rows]:7} | {ratio:16.2f} | {cost[rows] / cost[sizes[0]]:42.2f} |")
 if max(cost.values()) > MOST * cost[sizes[0]]:
-    sys.exit(f"ask_pages.sh: a connection of a page took more than {MOST} times")
+    sys.exit(f"ask_pages.sh: a connection of a reply took more than {MOST} times")
 PYTHON
