@@ -1,16 +1,11 @@
 pub mod ConnectionLemmas
-pub mod DecisionsLemmas
-pub mod EachLemmas
-pub mod JsonLemmas
+pub mod LinksLemmas
 pub mod MembersLemmas
 pub mod OneResultLemmas
 pub mod PageLemmas
-pub mod ReadingLemmas
-pub mod ReadingsLemmas
 pub mod SaysDecidedLemmas
 pub mod SaysLemmas
 pub mod SomeResultLemmas
 pub mod StopsLemmas
-pub mod TokensLemmas
 pub mod Utf8Lemmas
 pub mod ValidResultLemmas

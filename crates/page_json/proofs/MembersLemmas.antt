@@ -1,6 +1,6 @@
 -- Members that are written are read as what they were written for.
 use Rattle.std.proofs.Common.{◌≡◌, ℕ, ◌<◌, ◌^◌, ℤ, pos, negsuc, List, Bool, true, false, not, Some, Ok, codes, refl, arith, lt-ltb}
-use Rattle.std.specs.Str.{IsUtf8, bytes_eq}
+use Rattle.std.specs.Str.{bytes_eq}
 use Rattle.lc_model.specs.Text.{IsIdText}
 use Rattle.lc_model.specs.declared.key.RunKey.{RunKey}
 use Rattle.lc_model.specs.declared.page.PageName.{PageName}
@@ -12,21 +12,15 @@ use Rattle.connection_uri.specs.Name.{name_of}
 use Rattle.connection_uri.specs.Page.{page_url_of}
 use Rattle.serde_json.specs.Data.{Data, number}
 use Rattle.serde_json.specs.Find.{as_i64, of_integer}
-use Rattle.serde_json.specs.Read.{read}
-use Rattle.page_json.specs.Members.{said_at, text_of}
-use Rattle.page_json.specs.PageReading.{json_in}
-use Rattle.page_json.specs.Reading.{what_is_said}
+use Rattle.json_members.specs.Members.{said_at, text_of}
 use Rattle.page_json.specs.Says.{SaysName, SaysPage, SaysStop}
 use Rattle.page_json.specs.Sound.{IsDelay, IsMoment, IsSoundName}
 use Rattle.page_json.specs.Tree.{allowed_text}
 use Rattle.page_json.specs.Urls.{stop_url_of}
-use Rattle.page_json.proofs.JsonLemmas.{IsWritable}
-use Rattle.page_json.proofs.ReadingLemmas.{Reads, reads_after, reads_said}
+use Rattle.json_members.proofs.JsonLemmas.{IsWritable}
+use Rattle.json_members.proofs.ReadingLemmas.{Reads}
 use Rattle.page_json.proofs.SaysLemmas.{one_name, one_page, one_stop}
-
--- the text of a member that is there says this alone
-reads_said_at : {X : Type 0} (Says : List ℕ → X → Type 0) (key : List ℕ) (tree : Data) (text : List ℕ) (x : X) → text_of key tree ≡ Ok text → Says text x → ((y : X) → Says text y → y ≡ x) → Reads (said_at Says key tree) x
-reads_said_at Says key tree text x e says alone = reads_after (text_of key tree) text (what_is_said Says key) x e (reads_said Says key text x says alone)
+use Rattle.json_members.proofs.MembersLemmas.{reads_said_at}
 
 pub reads_stop : (base : BaseParts) (key : List ℕ) (tree : Data) (stop : List ℕ) → text_of key tree ≡ Ok (stop_url_of base stop) → IsIdText stop → Reads (said_at (SaysStop base) key tree) stop
 reads_stop base key tree stop e is =
@@ -66,7 +60,3 @@ delay_writable (negsuc n) h = h
 pub allowed_read : (allowed : Bool) → not (bytes_eq (allowed_text allowed) (codes "gtfs:NotAvailable")) ≡ allowed
 allowed_read true = refl
 allowed_read false = refl
-
--- bytes that are JSON are read as that JSON
-pub reads_json : (bytes : List ℕ) (tree : Data) → IsUtf8 bytes → read bytes ≡ Some tree → Reads (json_in bytes) tree
-reads_json bytes tree utf8 e = record { is = (utf8, e) }

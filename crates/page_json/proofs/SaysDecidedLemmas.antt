@@ -1,6 +1,5 @@
 -- Of each text it can be found out what it says, or that it says nothing.
-use Rattle.std.proofs.Common.{◌≡◌, ◌≢◌, ◌∙◌, ℕ, ◌+◌, ◌-◌, ◌^◌, ◌<◌, ◌⊎◌, inl, inr, ⊎_elim, List, [], ◌∷◌, ◌++◌, Option, Some, None, codes, decimal, ap, refl, sym, subst, arith}
-use Rattle.std.specs.Char.{IsAsciiDigit}
+use Rattle.std.proofs.Common.{◌≡◌, ◌≢◌, ◌∙◌, ℕ, ◌^◌, ◌<◌, List, [], ◌∷◌, ◌++◌, Option, Some, None, codes, decimal, ap, refl, sym, subst}
 use Rattle.std.specs.Option.{ForSome}
 use Rattle.lc_model.specs.Text.{IsIdText}
 use Rattle.lc_model.specs.declared.date.ServiceDate.{ServiceDate}
@@ -8,7 +7,7 @@ use Rattle.lc_model.specs.declared.key.RunKey.{RunKey}
 use Rattle.lc_model.specs.declared.page.PageName.{PageName}
 use Rattle.lc_time.specs.Clock.{start_text_of}
 use Rattle.lc_time.specs.Date.{date_said, date_text_of}
-use Rattle.lc_time.specs.Iso.{IsFraction, SaysMoment, iso_text_of, second_text_of}
+use Rattle.lc_time.specs.Iso.{iso_text_of}
 use Rattle.lc_time.proofs.SaidLemmas.{dates_said}
 use Rattle.percent_encoding.specs.Percent.{percent_decode}
 use Rattle.connection_uri.specs.Base.{BaseParts}
@@ -18,66 +17,9 @@ use Rattle.connection_uri.proofs.EncodingLemmas.{decoded_id}
 use Rattle.connection_uri.proofs.NameLemmas.{name_is}
 use Rattle.connection_uri.proofs.PageLemmas.{page_url_is}
 use Rattle.page_json.specs.Says.{SaysLink, SaysName, SaysPage, SaysStop}
-use Rattle.page_json.proofs.DecisionsLemmas.{Readable, behind, both, joined, numbers, same_number, same_text, turn, utf8}
+use Rattle.json_members.proofs.DecisionsLemmas.{Readable, behind, both, joined, numbers, same_number, same_text, turn, utf8}
 use Rattle.page_json.proofs.SaysLemmas.{one_page}
-
--- a text says something, or it is known that it says nothing
-abbrev pub SaysOrNot : {X : Type 0} → (List ℕ → X → Type 0) → Type 0
-SaysOrNot {X} Says = (text : List ℕ) → Dec ((x : X) × Says text x)
-
-abbrev Below : ℕ → Type 0
-Below bound = (k : ℕ) × (k < bound)
-
--- ---- moments
-
-exact : (front : List ℕ) → Readable (λ (u : Unit {0}). front)
-exact front text = turn (λ e. (tt, e)) (λ h. h.1) (same_text text front)
-
-abbrev Digit : Type 0
-Digit = (byte : ℕ) × IsAsciiDigit byte
-
-digits : Readable (λ (d : Digit). d.0 ∷ [])
-digits text =
-    turn (λ h. let small = h.0.1 in ((48 + h.0.0, (omega arith, omega arith)), h.1))
-    (λ h.
-    let low = h.0.1.0 in
-    let high = h.0.1.1 in
-    let same : h.0.0 ≡ 48 + (h.0.0 - 48) = omega arith in
-    ((h.0.0 - 48, omega arith), h.1 ∙ ap (λ (b : ℕ). b ∷ []) same))
-    (numbers (λ k. (48 + k) ∷ []) 10 text)
-
-fraction : (rest : List ℕ) → Dec (IsFraction rest)
-fraction rest =
-    turn
-    (λ h. record {
-      tenths = h.0.0.0;
-      hundredths = h.0.1.0.0;
-      thousandths = h.0.1.1.0.0;
-      tenths_digit = h.0.0.1;
-      hundredths_digit = h.0.1.0.1;
-      thousandths_digit = h.0.1.1.0.1;
-      written = h.1;
-    })
-    (λ (f : IsFraction rest). (((f.tenths, f.tenths_digit), ((f.hundredths, f.hundredths_digit), ((f.thousandths, f.thousandths_digit), tt))), f.written))
-    (behind (codes ".") _ (joined _ _ digits (joined _ _ digits (joined _ _ digits (exact (codes "Z"))))) rest)
-
-abbrev IsEnd : List ℕ → Type 0
-IsEnd rest = (rest ≡ codes "Z") ⊎ IsFraction rest
-
-end : (rest : List ℕ) → Dec (IsEnd rest)
-end rest = elim (same_text rest (codes "Z")) [
-  | yes e ↦ yes (inl e)
-  | no not ↦ elim (fraction rest) [ yes f ↦ yes (inr f) | no none ↦ no (λ is. ⊎_elim not none is) ]
-]
-
-ends : Readable (λ (r : (rest : List ℕ) × IsEnd rest). r.0)
-ends text = turn (λ is. ((text, is), refl)) (λ h. subst IsEnd (sym h.1) h.0.1) (end text)
-
-pub moments : SaysOrNot SaysMoment
-moments text =
-    turn (λ h. (h.0.0.0, record { rest = h.0.1.0; in_range = h.0.0.1; written = h.1; ended = h.0.1.1 }))
-    (λ h. (((h.0, h.1.in_range), (h.1.rest, h.1.ended)), h.1.written))
-    (joined (λ (m : Below 253_402_128_000). second_text_of m.0) _ (numbers second_text_of 253_402_128_000) ends text)
+use Rattle.json_members.proofs.MomentDecidedLemmas.{Below, SaysOrNot}
 
 -- ---- stops
 

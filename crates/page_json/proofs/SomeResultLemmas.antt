@@ -1,5 +1,5 @@
--- Readings have a result.
-use Rattle.std.proofs.Common.{◌≡◌, ℕ, ◌≤◌, List, [], ◌∷◌, codes, Option, Some, None, Result, Ok, Err, refl, option_and_then, arith}
+-- The readings of pages and of stops documents have a result.
+use Rattle.std.proofs.Common.{◌≡◌, ℕ, ◌≤◌, List, [], ◌∷◌, codes, Option, Some, None, Ok, refl, option_and_then, arith}
 use Rattle.std.specs.List.{All}
 use Rattle.std.specs.Option.{IfSome}
 use Rattle.std.specs.Ordering.{on}
@@ -13,91 +13,26 @@ use Rattle.lc_model.specs.Text.{id_cmp}
 use Rattle.lc_model.specs.declared.change.Change.{Change}
 use Rattle.lc_model.specs.declared.stop.Stop.{Stop}
 use Rattle.lc_time.specs.Iso.{SaysMoment}
-use Rattle.lc_time.proofs.OneTextLemmas.{one_moment}
 use Rattle.connection_uri.specs.Base.{BaseParts}
-use Rattle.serde_json.specs.Data.{Data, Items, no_items, item}
-use Rattle.serde_json.specs.Find.{as_number, as_str, as_u64, get}
-use Rattle.serde_json.specs.Read.{read}
+use Rattle.serde_json.specs.Data.{Data}
+use Rattle.serde_json.specs.Find.{as_number, as_u64, get}
 use Rattle.lc_model.specs.Disorder.{first_disorder}
-use Rattle.page_json.specs.Disorder.{unless_disorder}
-use Rattle.page_json.specs.Members.{formed, needed, said_at, said_if, said_in, text_of}
-use Rattle.page_json.specs.PageReading.{connection_in, end_at, joined, json_in, page_in, page_of_bytes, unless_early}
-use Rattle.page_json.specs.Reading.{Reading, HasResult, after, each_in, exactly, what_is_said, ◌>>=◌}
+use Rattle.json_members.specs.Disorder.{unless_disorder}
+use Rattle.json_members.specs.Members.{formed, needed}
+use Rattle.json_members.specs.JsonReading.{json_in}
+use Rattle.page_json.specs.PageReading.{connection_in, end_at, joined, page_in, page_of_bytes, unless_early}
+use Rattle.json_members.specs.Reading.{HasResult}
 use Rattle.page_json.specs.Says.{SaysLink, SaysName, SaysPage, SaysStop}
-use Rattle.page_json.specs.StopsReading.{AreParents, as_seconds, change_in, changes_in, doc_in, doc_of_bytes, if_stop, seconds_from, stop_at, stop_in, stops_in, with_parents}
-use Rattle.page_json.specs.declared.fault.PageFault.{PageFault}
-use Rattle.page_json.specs.declared.fault.PageFault.TheVariants.{BadMember, NotJson}
-use Rattle.page_json.proofs.DecisionsLemmas as decided
-use Rattle.page_json.proofs.DecisionsLemmas.{if_some, same_text, utf8}
-use Rattle.page_json.proofs.SaysDecidedLemmas.{SaysOrNot, links, moments, names, pages, stops}
+use Rattle.json_members.specs.Values.{as_seconds, seconds_from}
+use Rattle.page_json.specs.StopsReading.{AreParents, change_in, changes_in, doc_in, doc_of_bytes, if_stop, stop_at, stop_in, stops_in, with_parents}
+use Rattle.json_members.specs.declared.fault.PageFault.TheVariants.{BadMember}
+use Rattle.json_members.proofs.DecisionsLemmas as decided
+use Rattle.json_members.proofs.DecisionsLemmas.{if_some, same_text, utf8}
+use Rattle.page_json.proofs.SaysDecidedLemmas.{links, names, pages, stops}
 use Rattle.page_json.proofs.SaysLemmas.{one_link, one_name, one_page, one_stop}
-
--- the reading has a result, and what it gives is so
-pub record HasSome {X : Type 0} (P : X → Type 0) (reading : Reading X) : Type 0 where
-  pub result : Result X PageFault
-  pub has : reading result
-  pub is : IfOk result P
-
-pub has_result : {X : Type 0} (P : X → Type 0) (reading : Reading X) → HasSome P reading → HasResult reading
-has_result P reading some = (some.result, some.has)
-
--- anything
-abbrev Any : {X : Type 0} → X → Type 0
-Any {X} x = Unit {0}
-
-any : {X : Type 0} (result : Result X PageFault) → IfOk result Any
-any (Ok x) = tt
-any (Err fault) = tt
-
-some_exactly : {X : Type 0} (P : X → Type 0) (answer : Result X PageFault) → IfOk answer P → HasSome P (exactly answer)
-some_exactly P answer is = record { result = answer; has = refl; is = is }
-
-some_value : {X : Type 0} (answer : Result X PageFault) → HasSome Any (exactly answer)
-some_value answer = some_exactly Any answer (any answer)
-
-some_after : {A B : Type 0} (P : A → Type 0) (Q : B → Type 0) (first : Result A PageFault) (next : A → Reading B) → IfOk first P → ((x : A) → P x → HasSome Q (next x)) → HasSome Q (after first next)
-some_after P Q (Ok x) next is some = some x is
-some_after P Q (Err fault) next is some = some_exactly Q (Err fault) tt
-
-some_then : {A B : Type 0} (P : A → Type 0) (Q : B → Type 0) (first : Reading A) (next : A → Reading B) → HasSome P first → ((x : A) → P x → HasSome Q (next x)) → HasSome Q (first >>= next)
-some_then P Q first next some each =
-    let then' = some_after P Q some.result next some.is each in
-    record { result = then'.result; has = (some.result, some.has, then'.has); is = then'.is }
-
--- a fact holds, or else the fault is there
-by_fact : {X : Type 0} (P : X → Type 0) (reading : Reading X) (x : X) (fault : PageFault) → Dec (P x) → (P x → reading (Ok x)) → ((P x → ⊥) → reading (Err fault)) → HasSome P reading
-by_fact P reading x fault (yes fact) given none = record { result = Ok x; has = given fact; is = fact }
-by_fact P reading x fault (no not) given none = record { result = Err fault; has = none not; is = tt }
-
--- a text says one thing, or it is known that it says none
-record Tells {X : Type 0} (Says : List ℕ → X → Type 0) : Type 0 where
-  one : (text : List ℕ) (x y : X) → Says text x → Says text y → x ≡ y
-  some : SaysOrNot Says
-
-some_said : {X : Type 0} (Says : List ℕ → X → Type 0) (key : List ℕ) → Tells Says → (text : List ℕ) → Any text → HasSome Any (what_is_said Says key text)
-some_said Says key tells text _ = elim (tells.some text) [
-  | yes said ↦ record { result = Ok said.0; has = (said.1, λ y other. tells.one text y said.0 other said.1); is = tt }
-  | no none ↦ record { result = Err (BadMember key); has = (refl, λ y says. none (y, says)); is = tt }
-]
-
-some_said_at : {X : Type 0} (Says : List ℕ → X → Type 0) (key : List ℕ) (tree : Data) → Tells Says → HasSome Any (said_at Says key tree)
-some_said_at Says key tree tells = some_after Any Any (text_of key tree) (what_is_said Says key) (any _) (some_said Says key tells)
-
-some_said_if : {X : Type 0} (Says : List ℕ → X → Type 0) (key : List ℕ) (d : Option Data) → Tells Says → HasSome Any (said_if Says key d)
-some_said_if Says key None tells = some_value (Ok None)
-some_said_if Says key (Some d) tells =
-    some_then Any Any (said_in Says key d) _ (some_after Any Any (formed key (as_str d)) (what_is_said Says key) (any _) (some_said Says key tells)) (λ x _. some_value (Ok (Some x)))
-
-some_each : {X : Type 0} (P : X → Type 0) (inner : Data → Reading X) → ((d : Data) → HasSome P (inner d)) → (items : Items) → HasSome (All P) (each_in inner items)
-unfolding each_in
-some_each P inner some no_items = some_exactly (All P) (Ok []) (All-nil P)
-some_each P inner some (item d ds) =
-    some_then P (All P) (inner d) _ (some d) (λ x is. some_then (All P) (All P) (each_in inner ds) _ (some_each P inner some ds) (λ xs are. some_exactly (All P) (Ok (x ∷ xs)) (All-cons P x xs is are)))
+use Rattle.json_members.proofs.SomeReadingLemmas.{Any, HasSome, Tells, by_fact, has_result, if_ordered, some_each, some_exactly, some_json, some_said_at, some_said_if, some_then, some_value, tell_moment}
 
 -- ---- pages
-
-tell_moment : Tells SaysMoment
-tell_moment = record { one = one_moment; some = moments }
 
 tell_stop : (base : BaseParts) → Tells (SaysStop base)
 tell_stop base = record { one = one_stop base; some = stops base }
@@ -133,16 +68,6 @@ some_page base tree =
     some_then Any Any _ _ (some_said_if (SaysLink base name.version) (codes "hydra:previous") (get (codes "hydra:previous") tree) (tell_link base name.version)) (λ previous _.
     some_value (unless_disorder (first_disorder departure_cmp list) (record { name = name; next = next; previous = previous; list = list }))))))))
 
-some_json : (bytes : List ℕ) → HasSome Any (json_in bytes)
-some_json bytes = of_read (read bytes) refl
-  where
-    of_read : (o : Option Data) → read bytes ≡ o → HasSome Any (json_in bytes)
-    of_read None e = record { result = Err NotJson; has = (refl, λ _. e); is = tt }
-    of_read (Some tree) e = elim (utf8 bytes) [
-      | yes text ↦ record { result = Ok tree; has = (text, e); is = tt }
-      | no not ↦ record { result = Err NotJson; has = (refl, λ text. absurd (not text)); is = tt }
-    ]
-
 -- no bytes are without a page or a first fault
 pub some_page_of_bytes : (base : BaseParts) (bytes : List ℕ) → HasResult (page_of_bytes base bytes)
 unfolding page_of_bytes
@@ -160,11 +85,6 @@ are_parents stops =
 some_stop : (tree : Data) → HasSome Any (stop_in tree)
 unfolding stop_in
 some_stop tree = some_then Any Any _ _ (some_value _) (λ o _. some_then Any Any _ _ (some_value _) (λ id _. some_then Any Any _ _ (some_value _) (λ name _. some_then Any Any _ _ (some_value _) (λ parent _. some_value _))))
-
--- what is not in order is not given
-if_ordered : {X : Type 0} (P : X → Type 0) (place : Option ℕ) (x : X) → P x → IfOk (unless_disorder place x) P
-if_ordered P None x is = is
-if_ordered P (Some place) x is = tt
 
 some_stops : (tree : Data) → HasSome AreParents (stops_in tree)
 unfolding stops_in

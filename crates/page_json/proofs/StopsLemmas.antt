@@ -22,17 +22,18 @@ use Rattle.serde_json.specs.Find.{get}
 use Rattle.serde_json.specs.Read.{read}
 use Rattle.serde_json.specs.View.{items_of}
 use Rattle.lc_model.specs.Disorder.{first_disorder}
-use Rattle.page_json.specs.Disorder.{unless_disorder}
-use Rattle.page_json.specs.Members.{formed, needed}
+use Rattle.json_members.specs.Disorder.{unless_disorder}
+use Rattle.json_members.specs.Members.{formed, needed}
 use Rattle.page_json.specs.Sound.{IsSoundChange, IsSoundDoc, IsSoundStop}
-use Rattle.page_json.specs.StopsReading.{AreParents, as_id, change_in, changes_in, doc_in, doc_of_bytes, id_from, if_stop, is_change, is_doc, seconds_from, stop_at, stop_in, stops_in, with_parents}
+use Rattle.json_members.specs.Values.{as_id, id_from, seconds_from}
+use Rattle.page_json.specs.StopsReading.{AreParents, change_in, changes_in, doc_in, doc_of_bytes, if_stop, is_change, is_doc, stop_at, stop_in, stops_in, with_parents}
 use Rattle.page_json.specs.Tree.{change_tree, stop_tree, stops_text_of, stops_tree}
 use Rattle.page_json.specs.Valid.{IsValidDoc}
-use Rattle.page_json.proofs.JsonLemmas.{AreWritable, IsWritable, read_compact}
+use Rattle.json_members.proofs.JsonLemmas.{AreWritable, IsWritable, read_compact}
 use Rattle.lc_model.specs.Totals.{change_cmp_total, stop_cmp_total}
 use Rattle.lc_model.proofs.DisordersLemmas.{no_disorder}
-use Rattle.page_json.proofs.MembersLemmas.{reads_json}
-use Rattle.page_json.proofs.ReadingLemmas.{Reads, reads_each, reads_exactly, reads_exactly_by, reads_then}
+use Rattle.json_members.proofs.MembersLemmas.{reads_json}
+use Rattle.json_members.proofs.ReadingLemmas.{Reads, reads_each, reads_exactly, reads_exactly_by, reads_then}
 
 id_read : (id : List ℕ) → IsIdText id → id_from id ≡ Some id
 id_read [] is = absurd (is.0 refl)

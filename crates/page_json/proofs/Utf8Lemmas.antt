@@ -1,16 +1,13 @@
 -- What is written of a page and of a stops document is UTF-8.
-use Rattle.std.proofs.Common.{◌≡◌, ℕ, suc, ◌^◌, ◌<◌, ℤ, pos, negsuc, Bool, true, false, List, [], ◌∷◌, ◌++◌, map, codes, decimal, All, IsAscii, Option, Some, None, refl, arith}
+use Rattle.std.proofs.Common.{◌≡◌, ℕ, suc, ◌^◌, ◌<◌, ℤ, pos, negsuc, Bool, true, false, List, codes, decimal, Option, Some, None, refl, arith}
 use Rattle.std.specs.Option.{ForSome, IfSome}
 use Rattle.std.specs.Str.{IsUtf8}
 use Rattle.std.proofs.lemmas.Fmt.{IsAscii-decimal}
-use Rattle.std.proofs.lemmas.List.Elements.{All-head, All-tail}
-use Rattle.std.proofs.lemmas.Str.{IsUtf8-append, IsUtf8-from_ascii, IsUtf8-nil}
-use Rattle.json.specs.Print.{escape_byte, quoted}
-use Rattle.json.proofs.Printed.Utf8.{IsUtf8-are_ascii, IsUtf8-quoted, are_ascii}
-use Rattle.serde_json.specs.Data.{Data, Items, Members, array, item, member, no_items, no_members, object, string}
+use Rattle.json.specs.Print.{escape_byte}
+use Rattle.json.proofs.Printed.Utf8.{are_ascii}
+use Rattle.serde_json.specs.Data.{Members, no_members}
 use Rattle.serde_json.specs.Find.{of_integer}
-use Rattle.serde_json.specs.View.{items_of}
-use Rattle.serde_json.specs.Written.{comma_if, compact_text, items_text, members_text, number_text}
+use Rattle.serde_json.specs.Written.{compact_text, number_text}
 use Rattle.lc_model.specs.Text.{IsIdText}
 use Rattle.lc_model.specs.declared.change.Change.{Change}
 use Rattle.lc_model.specs.declared.connection.Connection.{Connection}
@@ -32,69 +29,10 @@ use Rattle.connection_uri.proofs.BaseLemmas.{bases_are_read}
 use Rattle.connection_uri.proofs.ByteLemmas.{text_bytes}
 use Rattle.connection_uri.proofs.EncodingLemmas.{encoded_ascii}
 use Rattle.page_json.specs.Sound.{IsDelay, IsSoundChange, IsSoundConnection, IsSoundDoc, IsSoundName, IsSoundPage, IsSoundStop}
-use Rattle.page_json.specs.Tree.{allowed_text, change_tree, connection_tree, context_tree, link_at, mapping_tree, page_text_of, page_tree, parent_at, search_tree, stop_tree, stops_text_of, stops_tree, text_at}
+use Rattle.page_json.specs.Tree.{allowed_text, change_tree, connection_tree, context_tree, link_at, mapping_tree, page_text_of, page_tree, parent_at, search_tree, stop_tree, stops_text_of, stops_tree}
 use Rattle.page_json.specs.Urls.{stop_url_of, trip_url_of}
 use Rattle.page_json.specs.declared.page.Page.{Page}
-
--- ---- texts one behind the other
-
--- the bytes are UTF-8
-record Text (bytes : List ℕ) : Type 0 where
-  utf8 : IsUtf8 bytes
-
-both : {a b : List ℕ} → Text a → Text b → Text (a ++ b)
-both {a} {b} h k = record { utf8 = IsUtf8-append a b h.utf8 k.utf8 }
-
-plain : (bytes : List ℕ) → are_ascii bytes ≡ true → Text bytes
-plain bytes e = record { utf8 = IsUtf8-are_ascii bytes e }
-
-from_ascii : (bytes : List ℕ) → IsAscii bytes → Text bytes
-from_ascii bytes is = record { utf8 = IsUtf8-from_ascii bytes is }
-
--- ---- trees
-
-begun : (byte : ℕ) (rest : List ℕ) → are_ascii (byte ∷ []) ≡ true → Text rest → Text (byte ∷ rest)
-begun byte rest e h = record { utf8 = IsUtf8-append (byte ∷ []) rest (IsUtf8-are_ascii (byte ∷ []) e) h.utf8 }
-
-comma : (later : Bool) → Text (comma_if later)
-comma true = plain (44 ∷ []) refl
-comma false = record { utf8 = IsUtf8-nil }
-
-in_quotes : (bytes : List ℕ) → Text bytes → Text (quoted bytes)
-in_quotes bytes h = record { utf8 = IsUtf8-quoted bytes h.utf8 }
-
--- the text of the tree is UTF-8
-record Tree (d : Data) : Type 0 where
-  text : Text (compact_text d)
-
--- and that of members and of items, whatever stands before them
-record Fields (ms : Members) : Type 0 where
-  text : (later : Bool) → Text (members_text later ms)
-
-record Rows (ds : Items) : Type 0 where
-  text : (later : Bool) → Text (items_text later ds)
-
-no_field : Fields no_members
-no_field = record { text = λ later. plain (125 ∷ []) refl }
-
-field : (key : List ℕ) (d : Data) (ms : Members) → are_ascii key ≡ true → Tree d → Fields ms → Fields (member key d ms)
-field key d ms e h rest =
-    record { text = λ later. both (comma later) (both (in_quotes key (plain key e)) (begun 58 (compact_text d ++ members_text true ms) refl (both h.text (rest.text true)))) }
-
-text_field : (key text : List ℕ) (ms : Members) → are_ascii key ≡ true → Text text → Fields ms → Fields (text_at key text ms)
-text_field key text ms e h rest = field key (string text) ms e (record { text = in_quotes text h }) rest
-
-an_object : (ms : Members) → Fields ms → Tree (object ms)
-an_object ms h = record { text = begun 123 (members_text false ms) refl (h.text false) }
-
-an_array : (ds : Items) → Rows ds → Tree (array ds)
-an_array ds h = record { text = begun 91 (items_text false ds) refl (h.text false) }
-
-rows : {X : Type 0} (tree_of : X → Data) (P : X → Type 0) → ((x : X) → P x → Tree (tree_of x)) → (xs : List X) → All P xs → Rows (items_of (map tree_of xs))
-rows tree_of P one [] all = record { text = λ later. plain (93 ∷ []) refl }
-rows tree_of P one (x ∷ xs) all =
-    let rest = rows tree_of P one xs (All-tail P x xs all) in
-    record { text = λ later. both (comma later) (both (one x (All-head P x xs all)).text (rest.text true)) }
+use Rattle.json_members.proofs.WrittenUtf8Lemmas.{Fields, Text, Tree, an_array, an_object, begun, both, field, from_ascii, no_field, plain, rows, text_field}
 
 -- ---- the texts in them
 

@@ -1,10 +1,9 @@
--- What a reading gives is valid.
-use Rattle.std.proofs.Common.{◌≡◌, ℕ, ◌≤◌, Bool, true, false, cond, leb, List, [], ◌∷◌, codes, Option, Some, None, Result, Ok, Err, refl, sym, subst}
+-- What the readings of pages and of stops documents give is valid.
+use Rattle.std.proofs.Common.{◌≡◌, ℕ, ◌≤◌, Bool, true, false, cond, leb, List, codes, Option, Some, None, Result, Ok, Err, refl, sym, subst}
 use Rattle.std.specs.List.{All}
 use Rattle.std.specs.Ordering.{on}
 use Rattle.std.specs.Result.{IfOk}
 use Rattle.std.proofs.lemmas.Bool.{leb-true}
-use Rattle.std.proofs.lemmas.List.Elements.{All-nil, All-cons}
 use Rattle.lc_model.specs.Connection.{departure_cmp}
 use Rattle.lc_model.specs.Change.{change_cmp, InChangeOrder}
 use Rattle.lc_model.specs.Disorder.{first_disorder}
@@ -19,57 +18,20 @@ use Rattle.lc_model.specs.declared.page.PageName.{PageName}
 use Rattle.lc_model.specs.declared.stop.Stop.{Stop}
 use Rattle.lc_model.proofs.DisordersLemmas.{strict_without_disorder}
 use Rattle.connection_uri.specs.Base.{BaseParts}
-use Rattle.serde_json.specs.Data.{Data, Items, no_items, item}
+use Rattle.serde_json.specs.Data.{Data}
 use Rattle.serde_json.specs.Find.{as_str, get}
-use Rattle.page_json.specs.Disorder.{unless_disorder}
-use Rattle.page_json.specs.Members.{formed, said_if, said_in}
-use Rattle.page_json.specs.PageReading.{connection_in, joined, json_in, page_in, page_of_bytes, unless_early}
-use Rattle.page_json.specs.Reading.{Reading, Meets, after, each_in, exactly, ◌>>=◌}
+use Rattle.json_members.specs.Members.{formed, said_if, said_in}
+use Rattle.json_members.specs.JsonReading.{json_in}
+use Rattle.page_json.specs.PageReading.{connection_in, joined, page_in, page_of_bytes, unless_early}
+use Rattle.json_members.specs.Reading.{Meets}
 use Rattle.page_json.specs.Says.{SaysLink}
 use Rattle.page_json.specs.StopsReading.{AreParents, change_in, changes_in, doc_in, doc_of_bytes, is_doc, stop_at, stops_in, with_parents}
 use Rattle.page_json.specs.Valid.{IsOfVersion, IsValidDoc, IsValidPage}
-use Rattle.page_json.specs.declared.fault.PageFault.{PageFault}
-use Rattle.page_json.specs.declared.fault.PageFault.TheVariants.{BadMember}
+use Rattle.json_members.specs.declared.fault.PageFault.{PageFault}
+use Rattle.json_members.specs.declared.fault.PageFault.TheVariants.{BadMember}
 use Rattle.page_json.specs.declared.page.Page.{Page}
 use Rattle.page_json.proofs.SomeResultLemmas.{HasEnds, closed}
-
--- what the reading gives is so
-pub record Gives {X : Type 0} (P : X → Type 0) (reading : Reading X) : Type 0 where
-  pub so : (x : X) → reading (Ok x) → P x
-
--- anything
-abbrev Any : {X : Type 0} → X → Type 0
-Any {X} x = Unit {0}
-
-any : {X : Type 0} (reading : Reading X) → Gives Any reading
-any reading = record { so = λ x h. tt }
-
-gives_exactly : {X : Type 0} (P : X → Type 0) (answer : Result X PageFault) → IfOk answer P → Gives P (exactly answer)
-gives_exactly P answer is = record { so = λ x e. subst (λ (r : Result _ PageFault). IfOk r P) (sym e) is }
-
-not_given : {X : Type 0} (x : X) (fault : PageFault) → ◌≡◌ {A = Result X PageFault} (Ok x) (Err fault) → ⊥
-not_given x fault e = cc
-
-gives_after : {A B : Type 0} (P : A → Type 0) (Q : B → Type 0) (first : Result A PageFault) (next : A → Reading B) → IfOk first P → ((x : A) → P x → Gives Q (next x)) → Gives Q (after first next)
-gives_after P Q (Ok x) next is each = each x is
-gives_after P Q (Err fault) next is each = record { so = λ y e. absurd (not_given y fault e) }
-
-gives_then : {A B : Type 0} (P : A → Type 0) (Q : B → Type 0) (first : Reading A) (next : A → Reading B) → Gives P first → ((x : A) → P x → Gives Q (next x)) → Gives Q (first >>= next)
-gives_then {A} {B} P Q first next is each = record { so = λ y (r, h, k). go r y h k } where
-  go : (r : Result A PageFault) (y : B) → first r → after r next (Ok y) → Q y
-  go (Ok x) y h k = (each x (is.so x h)).so y k
-  go (Err fault) y h k = absurd (not_given y fault k)
-
-gives_each : {X : Type 0} (P : X → Type 0) (inner : Data → Reading X) → ((d : Data) → Gives P (inner d)) → (items : Items) → Gives (All P) (each_in inner items)
-unfolding each_in
-gives_each P inner is no_items = gives_exactly (All P) (Ok []) (All-nil P)
-gives_each P inner is (item d ds) =
-    gives_then P (All P) (inner d) _ (is d) (λ x one. gives_then (All P) (All P) (each_in inner ds) _ (gives_each P inner is ds) (λ xs all. gives_exactly (All P) (Ok (x ∷ xs)) (All-cons P x xs one all)))
-
--- what is not in order is not given
-if_ordered : {X : Type 0} (P : X → Type 0) (place : Option ℕ) (x : X) → (place ≡ None → P x) → IfOk (unless_disorder place x) P
-if_ordered P None x is = is refl
-if_ordered P (Some place) x is = tt
+use Rattle.json_members.proofs.GivesLemmas.{Any, Gives, any, gives_after, gives_each, gives_exactly, gives_then, if_ordered}
 
 -- ---- pages
 

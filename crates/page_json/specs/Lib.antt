@@ -1,12 +1,7 @@
-pub mod Disorder
-pub mod Members
 pub mod PageReading
-pub mod Reading
 pub mod Says
 pub mod Sound
 pub mod StopsReading
-pub mod Texts
-pub mod Tokens
 pub mod Tree
 pub mod Urls
 pub mod Valid

@@ -1,6 +1,6 @@
 -- What the JSON of a page says, or its first fault.
-use Rattle.std.specs.Prelude.{◌≡◌, ℕ, List, Bool, true, not, codes, nat_le, Option, Some, None, option_and_then, Result, Ok, Err, if◌then◌else◌}
-use Rattle.std.specs.Str.{IsUtf8, bytes_eq}
+use Rattle.std.specs.Prelude.{ℕ, List, Bool, true, not, codes, nat_le, Option, Some, None, option_and_then, Result, Ok, Err, if◌then◌else◌}
+use Rattle.std.specs.Str.{bytes_eq}
 use Rattle.lc_model.specs.Connection.{departure_cmp}
 use Rattle.lc_model.specs.declared.connection.Connection.{Connection}
 use Rattle.lc_model.specs.declared.key.RunKey.{RunKey}
@@ -8,16 +8,16 @@ use Rattle.lc_time.specs.Iso.{SaysMoment}
 use Rattle.connection_uri.specs.Base.{BaseParts}
 use Rattle.serde_json.specs.Data.{Data}
 use Rattle.serde_json.specs.Find.{as_str, get}
-use Rattle.serde_json.specs.Read.{read}
 use Rattle.lc_model.specs.Disorder.{first_disorder}
-use Rattle.page_json.specs.Disorder.{unless_disorder}
-use Rattle.page_json.specs.Members.{delay_of, list_of, object_under, said_at, said_if_there}
-use Rattle.page_json.specs.Reading.{Reading, each_in, exactly, gives, ◌>>=◌}
+use Rattle.json_members.specs.Disorder.{unless_disorder}
+use Rattle.json_members.specs.Members.{delay_of, list_of, object_under, said_at, said_if_there}
+use Rattle.json_members.specs.Reading.{Reading, each_in, exactly, gives, ◌>>=◌}
 use Rattle.page_json.specs.Says.{SaysLink, SaysName, SaysPage, SaysStop}
 use Rattle.page_json.specs.declared.connection_reading.End.{End}
-use Rattle.page_json.specs.declared.fault.PageFault.{PageFault}
-use Rattle.page_json.specs.declared.fault.PageFault.TheVariants.{BadMember, NotJson}
+use Rattle.json_members.specs.declared.fault.PageFault.{PageFault}
+use Rattle.json_members.specs.declared.fault.PageFault.TheVariants.{BadMember}
 use Rattle.page_json.specs.declared.page.Page.{Page}
+use Rattle.json_members.specs.JsonReading.{json_in}
 
 -- the delay, the stop and the moment of an arrival or a departure, by their members
 unfoldable pub end_at : BaseParts → List ℕ → List ℕ → List ℕ → Data → Reading End
@@ -76,11 +76,6 @@ page_in base tree = do
   previous ← said_if_there (SaysLink base name.version) (codes "hydra:previous") tree
   exactly (unless_disorder (first_disorder departure_cmp list)
       (record { name = name; next = next; previous = previous; list = list }))
-
--- the JSON that the bytes are (RFC 8259; of members of one name the last counts), if they are any
-abbrev pub json_in : List ℕ → Reading Data
-json_in bytes (Ok tree) = IsUtf8 bytes × (read bytes ≡ Some tree)
-json_in bytes (Err fault) = (fault ≡ NotJson) × (IsUtf8 bytes → read bytes ≡ None)
 
 -- the page that the bytes are
 unfoldable pub page_of_bytes : BaseParts → List ℕ → Reading Page

@@ -1,5 +1,5 @@
 -- What the JSON of the stops document says, or its first fault.
-use Rattle.std.specs.Prelude.{◌≡◌, ℕ, ◌^◌, ◌&&◌, List, [], ◌∷◌, codes, nat_le, nat_lt, Option, Some, None, option_and_then, option_map, Result, Ok, Err, if◌then◌else◌}
+use Rattle.std.specs.Prelude.{◌≡◌, ℕ, List, codes, Ok, Err}
 use Rattle.std.specs.List.{All}
 use Rattle.std.specs.Option.{IfSome}
 use Rattle.std.specs.Ordering.{on}
@@ -10,33 +10,14 @@ use Rattle.lc_model.specs.declared.change.Change.{Change}
 use Rattle.lc_model.specs.declared.doc.StopsDoc.{StopsDoc}
 use Rattle.lc_model.specs.declared.stop.Stop.{Stop}
 use Rattle.serde_json.specs.Data.{Data}
-use Rattle.serde_json.specs.Find.{as_number, as_str, as_u64, get}
+use Rattle.serde_json.specs.Find.{get}
 use Rattle.lc_model.specs.Disorder.{first_disorder}
-use Rattle.page_json.specs.Disorder.{unless_disorder}
-use Rattle.page_json.specs.Members.{formed, list_of, needed, object_under}
-use Rattle.page_json.specs.PageReading.{json_in}
-use Rattle.page_json.specs.Reading.{Reading, each_in, exactly, gives, ◌>>=◌}
-use Rattle.page_json.specs.declared.fault.PageFault.{PageFault}
-use Rattle.page_json.specs.declared.fault.PageFault.TheVariants.{BadMember}
-
--- a text that is not empty
-abbrev pub id_from : List ℕ → Option (List ℕ)
-id_from [] = None
-id_from (first ∷ rest) = Some (first ∷ rest)
-
--- the id that a value is
-abbrev pub as_id : Data → Option (List ℕ)
-as_id d = option_and_then id_from (as_str d)
-
--- the text of a member, or the empty one where it is missing
-abbrev pub text_if : List ℕ → Option Data → Result (List ℕ) PageFault
-text_if key None = Ok []
-text_if key (Some d) = formed key (as_str d)
-
--- the id of a member, if it is there
-abbrev pub id_if : List ℕ → Option Data → Result (Option (List ℕ)) PageFault
-id_if key None = Ok None
-id_if key (Some d) = formed key (option_map Some (as_id d))
+use Rattle.json_members.specs.Disorder.{unless_disorder}
+use Rattle.json_members.specs.Members.{list_of, needed, object_under}
+use Rattle.json_members.specs.JsonReading.{json_in}
+use Rattle.json_members.specs.Reading.{Reading, each_in, exactly, gives, ◌>>=◌}
+use Rattle.json_members.specs.declared.fault.PageFault.TheVariants.{BadMember}
+use Rattle.json_members.specs.Values.{as_id, as_seconds, id_if, text_if}
 
 -- a stop, its members in the order of their bytes
 unfoldable pub stop_in : Data → Reading Stop
@@ -74,13 +55,6 @@ unfoldable pub stop_at : List Stop → List ℕ → Data → Reading (List ℕ)
 stop_at stops key tree = do
   id ← exactly (needed as_id key (get key tree))
   if_stop stops key id
-
--- from one second to as many as 32 bits can count
-abbrev pub seconds_from : ℕ → Option ℕ
-seconds_from n = if nat_le 1 n && nat_lt n (2 ^ 32) then Some n else None
-
-abbrev pub as_seconds : Data → Option ℕ
-as_seconds d = option_and_then seconds_from (option_and_then as_u64 (as_number d))
 
 -- the change of these stops and seconds
 abbrev pub is_change : List ℕ → ℕ → List ℕ → Reading Change

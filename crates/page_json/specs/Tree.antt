@@ -1,6 +1,6 @@
 -- The JSON of a page and of the stops document (Linked Connections 1.0, Hydra, JSON-LD 1.1). Members stand in the order
 -- of their bytes.
-use Rattle.std.specs.Prelude.{ℕ, List, ◌++◌, Bool, codes, Option, Some, None, map, true, if◌then◌else◌}
+use Rattle.std.specs.Prelude.{ℕ, List, ◌++◌, Bool, codes, Option, Some, None, true, if◌then◌else◌}
 use Rattle.lc_model.specs.declared.change.Change.{Change}
 use Rattle.lc_model.specs.declared.connection.Connection.{Connection}
 use Rattle.lc_model.specs.declared.doc.StopsDoc.{StopsDoc}
@@ -10,20 +10,12 @@ use Rattle.lc_time.specs.Iso.{iso_text_of}
 use Rattle.connection_uri.specs.Base.{BaseParts}
 use Rattle.connection_uri.specs.Name.{name_of}
 use Rattle.connection_uri.specs.Page.{page_url_of}
-use Rattle.serde_json.specs.Data.{Data, number, string, array, object, boolean, unsigned, Items, Members, no_members, member}
+use Rattle.serde_json.specs.Data.{Data, number, array, object, boolean, unsigned, Members, no_members, member}
 use Rattle.serde_json.specs.Find.{of_integer}
-use Rattle.serde_json.specs.View.{items_of}
 use Rattle.serde_json.specs.Written.{compact_text}
 use Rattle.page_json.specs.Urls.{stop_url_of, trip_url_of}
 use Rattle.page_json.specs.declared.page.Page.{Page}
-
--- a member whose value is a text, before others
-abbrev pub text_at : List ℕ → List ℕ → Members → Members
-text_at key text rest = member key (string text) rest
-
--- the items of a list
-abbrev pub items_from : {X : Type 0} → (X → Data) → List X → Items
-items_from tree_of list = items_of (map tree_of list)
+use Rattle.json_members.specs.MemberWriting.{items_from, text_at}
 
 -- whether one may board or alight (GTFS vocabulary: PickupType and DropOffType)
 abbrev pub allowed_text : Bool → List ℕ

@@ -1,16 +1,12 @@
-ghost use Rattle.std.specs.Prelude.{◌≡◌, ◌≢◌, ◌≤◌, All, Ok, Err, IfOk, IfErr, IfSome};
+ghost use Rattle.std.specs.Prelude.{◌≢◌, All, Ok, Err, IfOk, IfErr};
 ghost use Rattle.lc_model.specs.Stop.{HasStop};
 ghost use Rattle.lc_model.specs.declared.change.Change.{Change as Told};
-ghost use Rattle.serde_json.specs.Find.{get};
 ghost use Rattle.serde_json.specs.View.{items_view, view};
-ghost use Rattle.page_json.specs.Members.{formed, needed};
-ghost use Rattle.page_json.specs.Reading.{Meets, each_in, exactly};
-ghost use Rattle.page_json.specs.StopsReading.{as_seconds, change_in, if_stop, seconds_from, stop_at};
-ghost use Rattle.page_json.specs.declared.fault.PageFault.TheVariants.{NoMemory as OutOfMemory};
+ghost use Rattle.json_members.specs.Reading.{Meets, each_in};
+ghost use Rattle.page_json.specs.StopsReading.{change_in, if_stop, stop_at};
+ghost use Rattle.json_members.specs.declared.fault.PageFault.TheVariants.{NoMemory as OutOfMemory};
 
-use crate::PageFault;
-use crate::members::{bad_member, no_member, object_under, or_bad};
-use crate::stop_reading::id_at;
+use json_members::{PageFault, bad_member, id_at, object_under, seconds_at};
 use lc_model::{Change, Id, Stops};
 use serde_json::Value;
 use std::alloc::Global;
@@ -61,37 +57,5 @@ fn if_stop(alloc: Global, stops: &Stops, id: Id, key: &str) -> Result<Id, PageFa
         Ok(id)
     } else {
         Err(bad_member(alloc, key))
-    }
-}
-
-/// The seconds of a change, at least one.
-fn seconds_at(alloc: Global, value: &Value, key: &str) -> Result<u32, PageFault>
-    ensures said { Meets (exactly (needed as_seconds key.now (get key.now (view value.now)))) result }
-    ensures positive { IfOk result (λ n. 1 ≤ n) }
-{
-    match value.get(key) {
-        Some(member) => seconds_under(alloc, member, key),
-        None => Err(no_member(alloc, key)),
-    }
-}
-
-fn seconds_under(alloc: Global, member: &Value, key: &str) -> Result<u32, PageFault>
-    ensures said { Meets (exactly (formed key.now (as_seconds (view member.now)))) result }
-    ensures positive { IfOk result (λ n. 1 ≤ n) }
-{
-    match member.as_u64() {
-        Some(seconds) => or_bad(alloc, seconds_from(seconds), key),
-        None => Err(bad_member(alloc, key)),
-    }
-}
-
-fn seconds_from(seconds: u64) -> Option<u32>
-    ensures said { result ≡ seconds_from seconds }
-    ensures positive { IfSome result (λ n. 1 ≤ n) }
-{
-    if 1 <= seconds && seconds < 1 << 32 {
-        Some(seconds as u32)
-    } else {
-        None
     }
 }

@@ -2,19 +2,16 @@ ghost use Rattle.std.specs.Prelude.{◌≡◌, ◌≢◌, ◌≤◌, ℕ, List, 
 ghost use Rattle.lc_model.specs.Connection.{NoneArrivesEarly};
 ghost use Rattle.lc_model.specs.declared.connection.Connection.{Connection as Told};
 ghost use Rattle.lc_model.specs.declared.key.RunKey.{RunKey as Key};
-ghost use Rattle.lc_time.specs.Iso.{SaysMoment};
 ghost use Rattle.serde_json.specs.View.{items_view, view};
-ghost use Rattle.page_json.specs.Members.{said_at};
-ghost use Rattle.page_json.specs.PageReading.{connection_in, end_at, joined, unless_early};
-ghost use Rattle.page_json.specs.Reading.{Meets, each_in, exactly};
+ghost use Rattle.json_members.specs.Members.{said_at};
+ghost use Rattle.page_json.specs.PageReading.{allows, connection_in, end_at, joined, unless_early};
+ghost use Rattle.json_members.specs.Reading.{Meets, each_in, exactly};
 ghost use Rattle.page_json.specs.Says.{SaysName, SaysStop};
 
-use crate::PageFault;
-use crate::members::{allows, bad_member, delay_at, needed_text, object_under, or_bad};
 use crate::urls::read_stop_url;
 use connection_uri::{Base, read_name};
+use json_members::{PageFault, bad_member, delay_at, moment_at, needed_text, object_under, or_bad};
 use lc_model::{Connection, Connections, Id, Moment, NoMemory, RunKey};
-use lc_time::read_iso;
 use serde_json::Value;
 use std::alloc::Global;
 
@@ -54,14 +51,6 @@ fn stop_at(alloc: Global, base: &Base, value: &Value, key: &str) -> Result<Id, P
     let text = needed_text(alloc, value, key)?;
     let read = read_stop_url(alloc, base, text.as_bytes())?;
     or_bad(alloc, read, key)
-}
-
-/// The moment that a member says.
-fn moment_at(alloc: Global, value: &Value, key: &str) -> Result<Moment, PageFault>
-    ensures { Meets (said_at SaysMoment key.now (view value.now)) result }
-{
-    let text = needed_text(alloc, value, key)?;
-    or_bad(alloc, read_iso(text.as_bytes()), key)
 }
 
 /// An arrival or a departure, by the names of its members.
@@ -138,6 +127,16 @@ fn joined(
         dep_delay: departure.delay,
         arr_delay: arrival.delay,
     })
+}
+
+/// Whether the member allows to board or to alight.
+fn allows(value: &Value, key: &str) -> bool
+    ensures { result ≡ allows key.now (view value.now) }
+{
+    match value.get(key).and_then(Value::as_str) {
+        Some(text) => text != "gtfs:NotAvailable",
+        None => true,
+    }
 }
 
 /// The connections of a list, none of which arrives before it departs. Linear in the list.

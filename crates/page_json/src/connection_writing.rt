@@ -4,18 +4,17 @@ ghost use Rattle.lc_time.specs.Iso.{iso_text_of};
 ghost use Rattle.serde_json.specs.Data.{array, member, no_members, number};
 ghost use Rattle.serde_json.specs.Find.{of_integer};
 ghost use Rattle.page_json.specs.Sound.{IsSoundConnection};
-ghost use Rattle.page_json.specs.Tokens.{Appends, member_tokens, tokens_of};
-ghost use Rattle.page_json.specs.Tree.{allowed_text, connection_tree, items_from, text_at};
+ghost use Rattle.json_members.specs.Tokens.{Appends, member_tokens, tokens_of};
+ghost use Rattle.json_members.specs.MemberWriting.{items_from, text_at};
+ghost use Rattle.page_json.specs.Tree.{allowed_text, connection_tree};
 ghost use Rattle.page_json.specs.Urls.{stop_url_of, trip_url_of};
 
-use crate::member_writing::{write_number, write_text};
 use crate::sound::sound_connection;
 use crate::urls::{stop_url, trip_url};
 use connection_uri::{Base, name};
 use json::Writer;
-use lc_model::{Connection, Id, Moment, NoMemory, RunKey};
-use lc_time::iso_text;
-use percent_encoding::ascii_str;
+use json_members::{write_moment, write_number, write_text};
+use lc_model::{Connection, Id, NoMemory, RunKey};
 use std::alloc::Global;
 
 /// Writes the list of connections, in order.
@@ -129,15 +128,6 @@ fn write_stop_url(
 {
     let url = stop_url(alloc, base, stop)?;
     write_text(out, key, url.as_str())?;
-    Ok(())
-}
-
-fn write_moment(out: &mut Writer, key: &str, moment: Moment) -> Result<(), NoMemory>
-    ensures { OnOk result
-        (Appends out.old out.new (member_tokens (text_at key.now (iso_text_of moment) no_members))) }
-{
-    let text = iso_text(moment);
-    write_text(out, key, ascii_str(&text))?;
     Ok(())
 }
 

@@ -1,16 +1,13 @@
 //! The pages of connections and the stops document as JSON, each with its exact text, read back, and with the first fault
-//! of every other text. It stands on `lc_model`, on `lc_time`, on `connection_uri`, on `json` and on `serde_json`.
+//! of every other text. It hands on the fault of `json_members`, and stands on it, on `lc_model`, on `lc_time`, on
+//! `connection_uri`, on `json` and on `serde_json`.
 #![tactic(auto)]
 
 mod change_reading;
 mod connection_reading;
 mod connection_writing;
-mod fault;
-mod json_reading;
 mod known;
 mod laws;
-mod member_writing;
-mod members;
 mod page;
 mod page_reading;
 mod page_writing;
@@ -22,7 +19,7 @@ mod stops_writing;
 mod tests;
 mod urls;
 
-pub use fault::PageFault;
+pub use json_members::PageFault;
 pub use laws::{one_reading, readings_are_valid, some_reading};
 pub use page::Page;
 pub use page_reading::read_page;

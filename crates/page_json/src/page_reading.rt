@@ -3,19 +3,20 @@ ghost use Rattle.lc_model.specs.Connection.{InDepartureOrder, NoneArrivesEarly, 
 ghost use Rattle.lc_model.specs.declared.page.PageName.{PageName as Named};
 ghost use Rattle.serde_json.specs.View.{view};
 ghost use Rattle.lc_model.specs.Disorder.{first_disorder};
-ghost use Rattle.page_json.specs.Disorder.{unless_disorder};
-ghost use Rattle.page_json.specs.Members.{said_at, said_if_there, said_in};
+ghost use Rattle.json_members.specs.Disorder.{unless_disorder};
+ghost use Rattle.json_members.specs.Members.{said_at, said_if_there, said_in};
 ghost use Rattle.page_json.specs.PageReading.{page_in, page_of_bytes};
-ghost use Rattle.page_json.specs.Reading.{Meets, exactly, gives};
+ghost use Rattle.json_members.specs.Reading.{Meets, exactly, gives};
 ghost use Rattle.page_json.specs.Says.{SaysLink, SaysPage};
 ghost use Rattle.page_json.specs.Valid.{IsOfVersion, IsValidPage};
 ghost use Rattle.page_json.specs.declared.page.Page.{Page as Told};
 
+use crate::Page;
 use crate::connection_reading::connections_in;
-use crate::json_reading::json_in;
-use crate::members::{needed_list, needed_text, object_under, or_bad, text_under};
-use crate::{Page, PageFault};
 use connection_uri::{Base, read_page_url};
+use json_members::{
+    PageFault, json_in, needed_list, needed_text, object_under, or_bad, text_under,
+};
 use lc_model::{Moment, PageName, first_disorder};
 use serde_json::Value;
 use std::alloc::Global;

@@ -4,16 +4,17 @@ ghost use Rattle.connection_uri.specs.Page.{page_url_of};
 ghost use Rattle.serde_json.specs.Data.{member, no_members};
 ghost use Rattle.page_json.specs.PageReading.{page_of_bytes};
 ghost use Rattle.page_json.specs.Sound.{IsSoundPage};
-ghost use Rattle.page_json.specs.Tokens.{Appends, member_tokens, tokens_of};
-ghost use Rattle.page_json.specs.Tree.{context_tree, iri_tree, link_at, mapping_tree, page_text_of, page_tree, search_tree, text_at, typed_tree, with_connection_terms};
+ghost use Rattle.json_members.specs.Tokens.{Appends, member_tokens, tokens_of};
+ghost use Rattle.json_members.specs.MemberWriting.{text_at};
+ghost use Rattle.page_json.specs.Tree.{context_tree, iri_tree, link_at, mapping_tree, page_text_of, page_tree, search_tree, typed_tree, with_connection_terms};
 ghost use Rattle.page_json.specs.Valid.{IsValidPage};
 
 use crate::Page;
 use crate::connection_writing::write_connections;
-use crate::member_writing::write_text;
 use crate::sound::{sound_link, sound_name};
 use connection_uri::{Base, page_url};
 use json::Writer;
+use json_members::write_text;
 use lc_model::{NoMemory, PageName};
 use std::alloc::Global;
 

@@ -3,14 +3,15 @@ ghost use Rattle.std.specs.Str.{IsUtf8};
 ghost use Rattle.serde_json.specs.Data.{array};
 ghost use Rattle.page_json.specs.Sound.{IsSoundChange, IsSoundDoc, IsSoundStop};
 ghost use Rattle.page_json.specs.StopsReading.{doc_of_bytes};
-ghost use Rattle.page_json.specs.Tokens.{Appends, member_tokens, tokens_of};
-ghost use Rattle.page_json.specs.Tree.{change_tree, items_from, parent_at, stop_tree, stops_text_of, stops_tree};
+ghost use Rattle.json_members.specs.Tokens.{Appends, member_tokens, tokens_of};
+ghost use Rattle.json_members.specs.MemberWriting.{items_from};
+ghost use Rattle.page_json.specs.Tree.{change_tree, parent_at, stop_tree, stops_text_of, stops_tree};
 ghost use Rattle.page_json.specs.Valid.{IsValidDoc};
 
-use crate::member_writing::write_text;
 use crate::sound::{sound_change, sound_stop};
 use connection_uri::Base;
 use json::Writer;
+use json_members::write_text;
 use lc_model::{Change, Id, NoMemory, Stop, StopsDoc};
 use std::alloc::Global;
 

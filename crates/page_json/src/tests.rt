@@ -91,24 +91,6 @@ fn documents_and_their_first_faults(rt: HostRuntime) -> Result<(), Fail> {
     Ok(())
 }
 
-// A text of JSON nests 127 levels deep at most.
-#[test]
-fn levels_of_nesting(rt: HostRuntime) -> Result<(), Fail> {
-    let alloc = rt.alloc();
-    for &(levels, said) in &[(126, "0 stops 0 changes"), (127, "not JSON")] {
-        let mut text = String::from_str(alloc, "{\"changes\":[],\"stops\":[],\"x\":")?;
-        for _ in 0..levels {
-            text.push_str("[")?;
-        }
-        for _ in 0..levels {
-            text.push_str("]")?;
-        }
-        text.push_str("}")?;
-        assert!(rt; document_said(alloc, text.as_bytes())?.as_str() == said);
-    }
-    Ok(())
-}
-
 #[test]
 fn what_a_connection_says(rt: HostRuntime) -> Result<(), Fail> {
     let alloc = rt.alloc();

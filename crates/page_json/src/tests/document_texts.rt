@@ -5,7 +5,7 @@ pub const STOPS: &str =
     "{\"@id\":\"http://lc.example/stops\",\"changes\":[{\"from\":\"A\",\"seconds\":120,\"to\":\"B\"},{\"from\":\"A\",\"seconds\":4294967295,\"to\":\"京\"},{\"from\":\"B\",\"seconds\":1,\"to\":\"A\"}],\"stops\":[{\"id\":\"A\",\"name\":\"Alpha\",\"parent\":\"P\"},{\"id\":\"B\",\"name\":\"quote \\\" backslash \\\\ tab\\t bell\\u0007 line\\n del\x7f é ü 😀\"},{\"id\":\"P\",\"name\":\"\"},{\"id\":\"京\",\"name\":\"xxxxxxxxxxxxxxxxxxxxxxxxxxxxxxxxxxxxxxxxxxxxxxxxxxxxxxxxxxxxxxxxxxxxxxxxxxxxxxxxxxxxxxxxxxxxxxxxxxxxxxxxxxxxxxxxxxxxxxxxxxxxxxxxxxxxxxxxxxxxxxxxxxxxxxxxxxxxxxxxxxxxxxxxxxxxxxxxxxxxxxxxxxxxxxxxxxxxxxxxxxxxxxxxxxxxxxxxxxxxxxxxxxxxxxxxxxxxxxxxxxxxxxxxxxxxxxxxxxxxxxxxxxxxxxxxxxxxxxxxxxxxxxxxxxxxxxxxxxxx\"}]}";
 
 // Texts and what is read of them: the counts of stops and of changes, or the first fault.
-pub const DOCUMENTS: [(&str, &str); 48] = [
+pub const DOCUMENTS: [(&str, &str); 44] = [
     ("", "not JSON"),
     ("[1", "not JSON"),
     ("[]", "bad member stops"),
@@ -149,19 +149,5 @@ pub const DOCUMENTS: [(&str, &str); 48] = [
     (
         "{\"stops\":[{\"id\":\"\\ud83d\\uDE00\"}],\"changes\":[{\"from\":\"😀\",\"seconds\":1,\"to\":\"😀\"}]}",
         "1 stops 1 changes",
-    ),
-    // Half a surrogate pair is no text, and a number above all floats none, also in a member that is passed over.
-    (
-        "{\"stops\":[],\"changes\":[],\"x\":\"\\ud83d\"}",
-        "not JSON",
-    ),
-    (
-        "{\"stops\":[],\"changes\":[],\"x\":\"\\ude00\"}",
-        "not JSON",
-    ),
-    ("{\"stops\":[],\"changes\":[],\"x\":1e400}", "not JSON"),
-    (
-        "{\"stops\":[],\"changes\":[],\"x\":1e-400}",
-        "0 stops 0 changes",
     ),
 ];

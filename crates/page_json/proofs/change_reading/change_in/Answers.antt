@@ -2,7 +2,7 @@
 use Rattle.std.proofs.Common.{Ok, Err, refl, sym}
 use Rattle.serde_json.specs.View.{view}
 use Rattle.page_json.specs.StopsReading.{change_in}
-use Rattle.page_json.proofs.ReadingsLemmas.{meets_err}
+use Rattle.json_members.proofs.ReadingsLemmas.{meets_err}
 use Rattle.page_json.proofs.change_reading.change_in.Goals as goal
 
 pub returns-clause-said : goal.returns-clause-said

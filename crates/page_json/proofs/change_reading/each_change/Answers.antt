@@ -6,9 +6,9 @@ use Rattle.lc_model.specs.Stop.{HasStop}
 use Rattle.lc_model.specs.declared.change.Change.{Change}
 use Rattle.serde_json.specs.View.{items_view}
 use Rattle.page_json.specs.StopsReading.{change_in}
-use Rattle.page_json.specs.Reading.{each_in}
-use Rattle.page_json.proofs.EachLemmas.{AreReadTo, all_read, fault_read, nothing_read, one_more_read}
-use Rattle.page_json.proofs.ReadingsLemmas.{err_handed_on}
+use Rattle.json_members.specs.Reading.{each_in}
+use Rattle.json_members.proofs.EachLemmas.{AreReadTo, all_read, fault_read, nothing_read, one_more_read}
+use Rattle.json_members.proofs.ReadingsLemmas.{err_handed_on}
 use Rattle.page_json.proofs.change_reading.each_change.Goals as goal
 
 pub loop-value-init : goal.loop-value-init

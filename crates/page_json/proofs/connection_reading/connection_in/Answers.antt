@@ -2,8 +2,8 @@
 use Rattle.std.proofs.Common.{Ok, Err, refl, sym}
 use Rattle.serde_json.specs.View.{view}
 use Rattle.page_json.specs.PageReading.{connection_in, joined, unless_early}
-use Rattle.page_json.specs.Reading.{exactly}
-use Rattle.page_json.proofs.ReadingsLemmas.{meets_err, meets_last}
+use Rattle.json_members.specs.Reading.{exactly}
+use Rattle.json_members.proofs.ReadingsLemmas.{meets_err, meets_last}
 use Rattle.page_json.proofs.connection_reading.connection_in.Goals as goal
 
 pub returns-clause-said : goal.returns-clause-said

@@ -2,9 +2,9 @@
 use Rattle.std.proofs.Common.{Ok, ap, codes, sym, ◌∙◌}
 use Rattle.page_json.specs.Says.{SaysName}
 use Rattle.serde_json.specs.View.{view}
-use Rattle.page_json.specs.Members.{text_of}
-use Rattle.page_json.specs.Reading.{what_is_said}
-use Rattle.page_json.proofs.ReadingsLemmas.{after_ok, said_from}
+use Rattle.json_members.specs.Members.{text_of}
+use Rattle.json_members.specs.Reading.{what_is_said}
+use Rattle.json_members.proofs.ReadingsLemmas.{after_ok, said_from}
 use Rattle.page_json.proofs.connection_reading.name_at.Goals as goal
 
 pub returns : goal.returns

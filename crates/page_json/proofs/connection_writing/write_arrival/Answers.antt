@@ -1,7 +1,7 @@
 -- The members follow each other.
 use Rattle.std.proofs.Common.{SFits, rules, w64}
 use Rattle.std.proofs.lemmas.Int.{to_z-of_z}
-use Rattle.page_json.proofs.TokensLemmas.{counts, ◌>>◌}
+use Rattle.json_members.proofs.TokensLemmas.{counts, ◌>>◌}
 use Rattle.page_json.proofs.connection_writing.write_arrival.Goals as goal
 
 pub returns : goal.returns

@@ -1,6 +1,6 @@
 -- The members follow each other.
 use Rattle.page_json.specs.Tree.{connection_tree}
-use Rattle.page_json.proofs.TokensLemmas.{one, ◌>>◌}
+use Rattle.json_members.proofs.TokensLemmas.{one, ◌>>◌}
 use Rattle.page_json.proofs.connection_writing.write_connection.Goals as goal
 
 pub returns-clause-tokens : goal.returns-clause-tokens

@@ -4,7 +4,7 @@ use Rattle.std.proofs.lemmas.List.{take_all}
 use Rattle.std.proofs.lemmas.List.Elements.{All-more}
 use Rattle.page_json.specs.Sound.{IsSoundConnection}
 use Rattle.page_json.specs.Tree.{connection_tree}
-use Rattle.page_json.proofs.TokensLemmas.{all_written, one, one_more_written, ◌>>◌}
+use Rattle.json_members.proofs.TokensLemmas.{all_written, one, one_more_written, ◌>>◌}
 use Rattle.page_json.proofs.connection_writing.write_connections.Goals as goal
 
 pub loop-connection-preserved : goal.loop-connection-preserved

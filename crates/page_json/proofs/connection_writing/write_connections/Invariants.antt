@@ -2,7 +2,7 @@
 use Rattle.std.proofs.Common.{All, take}
 use Rattle.page_json.specs.Sound.{IsSoundConnection}
 use Rattle.page_json.specs.Tree.{connection_tree}
-use Rattle.page_json.proofs.TokensLemmas.{AreWrittenTo}
+use Rattle.json_members.proofs.TokensLemmas.{AreWrittenTo}
 use Rattle.page_json.proofs.connection_writing.write_connections.Given as goal
 
 abbrev pub invariant-loop-connection : goal.invariant-loop-connection

@@ -1,6 +1,6 @@
 -- The text is the run's URL.
 use Rattle.std.proofs.Common.{◌∙◌}
-use Rattle.page_json.proofs.TokensLemmas.{says}
+use Rattle.json_members.proofs.TokensLemmas.{says}
 use Rattle.page_json.proofs.connection_writing.write_trip.Goals as goal
 
 pub returns : goal.returns

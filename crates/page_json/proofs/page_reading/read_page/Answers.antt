@@ -2,8 +2,9 @@
 use Rattle.std.proofs.Common.{Ok, Err, refl}
 use Rattle.serde_json.specs.View.{view}
 use Rattle.page_json.specs.PageReading.{page_in, page_of_bytes}
-use Rattle.page_json.proofs.OneResultLemmas.{meets_one, one_page_of_bytes}
-use Rattle.page_json.proofs.ReadingsLemmas.{meets_err, meets_last}
+use Rattle.json_members.proofs.OneReadingLemmas.{meets_one}
+use Rattle.page_json.proofs.OneResultLemmas.{one_page_of_bytes}
+use Rattle.json_members.proofs.ReadingsLemmas.{meets_err, meets_last}
 use Rattle.page_json.proofs.page_reading.read_page.Goals as goal
 
 pub returns-clause-said : goal.returns-clause-said

@@ -1,10 +1,10 @@
 -- What was written is the text of the page's tree.
 use Rattle.std.proofs.Common.{sym, subst, ◌∙◌}
 use Rattle.std.specs.Str.{IsUtf8}
-use Rattle.page_json.specs.Tokens.{tokens_of}
+use Rattle.json_members.specs.Tokens.{tokens_of}
 use Rattle.page_json.specs.Tree.{page_text_of, page_tree}
 use Rattle.page_json.proofs.PageLemmas.{reads_page_text}
-use Rattle.page_json.proofs.TokensLemmas.{behind_nothing, text_is}
+use Rattle.json_members.proofs.TokensLemmas.{behind_nothing, text_is}
 use Rattle.page_json.proofs.page_writing.page_text.Goals as goal
 
 pub returns-clause-text : goal.returns-clause-text

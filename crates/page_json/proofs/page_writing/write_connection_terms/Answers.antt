@@ -1,5 +1,5 @@
 -- The members follow each other.
-use Rattle.page_json.proofs.TokensLemmas.{◌>>◌}
+use Rattle.json_members.proofs.TokensLemmas.{◌>>◌}
 use Rattle.page_json.proofs.page_writing.write_connection_terms.Goals as goal
 
 pub returns : goal.returns

@@ -1,6 +1,6 @@
 -- The members follow each other.
 use Rattle.page_json.specs.Tree.{context_tree}
-use Rattle.page_json.proofs.TokensLemmas.{one, ◌>>◌}
+use Rattle.json_members.proofs.TokensLemmas.{one, ◌>>◌}
 use Rattle.page_json.proofs.page_writing.write_context.Goals as goal
 
 pub returns : goal.returns

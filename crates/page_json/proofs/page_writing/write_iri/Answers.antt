@@ -1,5 +1,5 @@
 -- The members follow each other.
-use Rattle.page_json.proofs.TokensLemmas.{one, ◌>>◌}
+use Rattle.json_members.proofs.TokensLemmas.{one, ◌>>◌}
 use Rattle.page_json.proofs.page_writing.write_iri.Goals as goal
 
 pub returns : goal.returns

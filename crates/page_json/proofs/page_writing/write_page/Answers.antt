@@ -2,7 +2,8 @@
 use Rattle.std.proofs.Common.{codes}
 use Rattle.serde_json.specs.Data.{member, no_members}
 use Rattle.page_json.specs.Tree.{search_tree}
-use Rattle.page_json.proofs.TokensLemmas.{links_before, one, ◌>>◌}
+use Rattle.page_json.proofs.LinksLemmas.{links_before}
+use Rattle.json_members.proofs.TokensLemmas.{one, ◌>>◌}
 use Rattle.page_json.proofs.page_writing.write_page.Goals as goal
 
 pub returns-clause-tokens : goal.returns-clause-tokens

@@ -2,15 +2,15 @@
 use Rattle.std.proofs.Common.{List, ◌≡◌, Ok, Err, refl, subst, sym}
 use Rattle.serde_json.specs.View.{items_view, view}
 use Rattle.lc_model.specs.Disorder.{first_disorder}
-use Rattle.page_json.specs.Disorder.{unless_disorder}
-use Rattle.page_json.specs.Reading.{exactly}
+use Rattle.json_members.specs.Disorder.{unless_disorder}
+use Rattle.json_members.specs.Reading.{exactly}
 use Rattle.std.proofs.lemmas.Result.{IfOk-weaker}
 use Rattle.std.specs.List.{All}
 use Rattle.lc_model.specs.Change.{change_cmp}
 use Rattle.lc_model.specs.Stop.{HasStop}
 use Rattle.lc_model.specs.declared.change.Change.{Change}
 use Rattle.page_json.specs.StopsReading.{changes_in}
-use Rattle.page_json.proofs.ReadingsLemmas.{meets_err, meets_last}
+use Rattle.json_members.proofs.ReadingsLemmas.{meets_err, meets_last}
 use Rattle.page_json.proofs.stops_reading.changes_in.Goals as goal
 
 pub returns-clause-said : goal.returns-clause-said

@@ -2,7 +2,7 @@
 use Rattle.std.proofs.Common.{Ok, Err, refl, sym}
 use Rattle.serde_json.specs.View.{view}
 use Rattle.page_json.specs.StopsReading.{doc_in}
-use Rattle.page_json.proofs.ReadingsLemmas.{meets_err}
+use Rattle.json_members.proofs.ReadingsLemmas.{meets_err}
 use Rattle.page_json.proofs.stops_reading.doc_in.Goals as goal
 
 pub returns : goal.returns

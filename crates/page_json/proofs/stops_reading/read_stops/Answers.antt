@@ -2,8 +2,9 @@
 use Rattle.std.proofs.Common.{Ok, Err, refl}
 use Rattle.serde_json.specs.View.{view}
 use Rattle.page_json.specs.StopsReading.{doc_in, doc_of_bytes}
-use Rattle.page_json.proofs.OneResultLemmas.{meets_one, one_doc_of_bytes}
-use Rattle.page_json.proofs.ReadingsLemmas.{meets_err, meets_last}
+use Rattle.json_members.proofs.OneReadingLemmas.{meets_one}
+use Rattle.page_json.proofs.OneResultLemmas.{one_doc_of_bytes}
+use Rattle.json_members.proofs.ReadingsLemmas.{meets_err, meets_last}
 use Rattle.page_json.proofs.ValidResultLemmas.{valid_where_met}
 use Rattle.page_json.proofs.stops_reading.read_stops.Goals as goal
 

@@ -2,14 +2,13 @@
 use Rattle.std.proofs.Common.{Ok, Err, refl, subst, sym}
 use Rattle.serde_json.specs.View.{items_view, view}
 use Rattle.lc_model.specs.Disorder.{first_disorder}
-use Rattle.page_json.specs.Disorder.{unless_disorder}
-use Rattle.page_json.specs.Reading.{exactly}
-use Rattle.page_json.specs.StopsReading.{AreParents}
+use Rattle.json_members.specs.Disorder.{unless_disorder}
+use Rattle.json_members.specs.Reading.{exactly}
+use Rattle.page_json.specs.StopsReading.{AreParents, stops_in}
 use Rattle.std.specs.Ordering.{on}
 use Rattle.lc_model.specs.Text.{id_cmp}
 use Rattle.lc_model.specs.declared.stop.Stop.{Stop}
-use Rattle.page_json.specs.StopsReading.{stops_in}
-use Rattle.page_json.proofs.ReadingsLemmas.{meets_err, meets_last}
+use Rattle.json_members.proofs.ReadingsLemmas.{meets_err, meets_last}
 use Rattle.page_json.proofs.stops_reading.stops_in.Goals as goal
 
 pub returns-clause-said : goal.returns-clause-said

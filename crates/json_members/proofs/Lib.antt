@@ -1,0 +1,12 @@
+pub mod DecisionsLemmas
+pub mod EachLemmas
+pub mod GivesLemmas
+pub mod JsonLemmas
+pub mod MembersLemmas
+pub mod MomentDecidedLemmas
+pub mod OneReadingLemmas
+pub mod ReadingLemmas
+pub mod ReadingsLemmas
+pub mod SomeReadingLemmas
+pub mod TokensLemmas
+pub mod WrittenUtf8Lemmas

@@ -1,0 +1,19 @@
+//! Members of JSON objects as they are read, step by step: lists, texts, ids, numbers and moments, or the first fault; and
+//! texts, numbers and moments as they are written. It stands on `lc_model`, on `lc_time`, on `json` and on `serde_json`.
+#![tactic(auto)]
+
+mod fault;
+mod json_reading;
+mod member_writing;
+mod members;
+#[cfg(test)]
+mod tests;
+mod values;
+
+pub use fault::PageFault;
+pub use json_reading::json_in;
+pub use member_writing::{write_moment, write_number, write_text};
+pub use members::{
+    bad_member, delay_at, needed_list, needed_text, no_member, object_under, or_bad, text_under,
+};
+pub use values::{id_at, id_if_there, moment_at, seconds_at, text_if_there};
