@@ -38,14 +38,15 @@ pub record Adds (old : ConvoyState) (query : Query) (new : ConvoyState) : Type 0
   pub none_made : member.exchanges ≡ 0
   pub is : new ≡ record old { members = old.members ++ member ∷ [] }
 
--- Client k had its turn: it has become this one, with fewer exchanges left unless it had its outcome before, every other stays
--- as it is, and so does the base.
+-- Client k had its turn: it has become this one, with fewer exchanges left unless it had its outcome before, and waits or has its outcome;
+-- every other stays as it is, and so does the base.
 pub record IsTurn (old new : ConvoyState) (k : ℕ) (before after : LinkSeen) (turn : Turn) : Type 0 where
   pub was : Member
   pub had : slice_get old.members (k - 1) ≡ Some was
   pub is : Member
   pub turned : Turned old.base was is old.kept new.kept before after turn
   pub fewer : turn ≢ Finished → exchanges_left (shown is.client) < exchanges_left (shown was.client)
+  pub decided : IsDecided (shown is.client)
   pub members : new.members ≡ slice_set old.members (k - 1) is
   pub base : new.base ≡ old.base
   pub spent : new.spent ≡ old.spent

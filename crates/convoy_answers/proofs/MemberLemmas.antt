@@ -83,7 +83,7 @@ module _ (base : BaseParts) (side : Side) (was is : Member) (own : List Want) (k
           count = none_more was.exchanges;
           told = tells_nothing link.told base (shown was.client).query;
         };
-        gave = record { same = refl; none_given = refl; none_asked = refl };
+        gave = record { had = f.had; same = refl; none_given = refl; none_asked = refl };
         version = refl;
         by_names = asks_nothing side (shown was.client) kept own;
         client = subst (FitsSide side was.client) (sym (append-nil own)) fits;

@@ -84,6 +84,7 @@ pub record HasGone (base : BaseParts) (side left : Side) (old new : Member) (bef
 
 -- nothing was given or asked: it had its outcome
 pub record IsIdle (old new : Member) (given asked : List Want) : Type 0 where
+  pub had : HasOutcome old
   pub same : new ≡ old
   pub none_given : given ≡ []
   pub none_asked : asked ≡ []

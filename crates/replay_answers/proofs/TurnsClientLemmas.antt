@@ -123,13 +123,13 @@ was_failed side was is own given failed fits waited none_given by_fault (inr one
     record { waited = one.waited; none_given = none_given; failed_then = one }
 
 -- what came of a turn
-pub came_of : (side : Side) (was is : Member) (own given failed asked : List Want) (turn : Turn) → FitsSide side was.client own → (turn ≡ Finished → IsSome (shown was.client).outcome) →
+pub came_of : (side : Side) (was is : Member) (own given failed asked : List Want) (turn : Turn) → FitsSide side was.client own →
     Gave turn was is given asked → NoneFailed (shown was.client) (shown is.client) failed ⊎ OneFailed side (shown was.client) (shown is.client) (own ++ given) failed →
     CameOf side was is own given failed asked
-came_of side was is own given failed asked Finished fits had gave how = inl (rested side was is own given failed asked (had refl) gave.same gave.none_given gave.none_asked how)
-came_of side was is own given failed asked Cached fits had gave how = inr (inl (was_given side was is own given failed fits gave.waited gave.is_given gave.no_fault how))
-came_of side was is own given failed asked Exchanged fits had (inl gave) how = inr (inl (was_given side was is own given failed fits gave.waited gave.is_given gave.no_fault how))
-came_of side was is own given failed asked Exchanged fits had (inr gave) how = inr (inr (was_failed side was is own given failed fits gave.waited gave.none_given gave.by_fault how))
+came_of side was is own given failed asked Finished fits gave how = inl (rested side was is own given failed asked gave.had gave.same gave.none_given gave.none_asked how)
+came_of side was is own given failed asked Cached fits gave how = inr (inl (was_given side was is own given failed fits gave.waited gave.is_given gave.no_fault how))
+came_of side was is own given failed asked Exchanged fits (inl gave) how = inr (inl (was_given side was is own given failed fits gave.waited gave.is_given gave.no_fault how))
+came_of side was is own given failed asked Exchanged fits (inr gave) how = inr (inr (was_failed side was is own given failed fits gave.waited gave.none_given gave.by_fault how))
 
 -- one round more
 given_more : (rounds : List Round) (more : Round) → given_in (rounds ++ more ∷ []) ≡ given_in rounds ++ more.given

@@ -2,7 +2,6 @@
 use Rattle.std.proofs.Common.{◌≡◌, ◌⊎◌, ℕ, zero, suc, ◌+◌, ◌-◌, ◌<◌, ◌≤◌, inl, inr, Bool, true, false, List, [], ◌∷◌, ◌++◌, length, map, Some, refl, ap, ap₂, sym, subst, ◌∙◌, arith}
 use Rattle.std.specs.Prelude.{◌==◌, if◌then◌else◌, set}
 use Rattle.std.specs.List.{slice_get}
-use Rattle.std.specs.Option.{IsSome}
 use Rattle.std.proofs.lemmas.Bool.{false≢true}
 use Rattle.std.proofs.lemmas.List.{length-append, length-set}
 use Rattle.std.proofs.lemmas.Option.{slice_get_within}
@@ -11,10 +10,8 @@ use Rattle.command_words.specs.declared.command.Publishing.{Publishing}
 use Rattle.connection_uri.specs.Base.{BaseParts}
 use Rattle.convoy.specs.Finish.{IsStep}
 use Rattle.convoy.specs.State.{ConvoyState}
-use Rattle.convoy.specs.Turn.{Turned}
 use Rattle.convoy.specs.declared.member.Member.{Member}
 use Rattle.convoy.specs.declared.turn.Turn.{Turn}
-use Rattle.convoy.specs.declared.turn.Turn.TheVariants.{Finished}
 use Rattle.convoy_answers.specs.Agreement.{AllFit, FitsConvoy}
 use Rattle.convoy_answers.specs.Laws.{TurnKeepsAgreement}
 use Rattle.convoy_answers.specs.Leaves.{HasMoved, NoneFailed, OneFailed, TurnAgrees, VersionThen}
@@ -149,12 +146,6 @@ module _ {X : Type 0} (seen : X → LinkSeen) (made : Timetable) (publishing : P
       (behind_one client (length (questions_in done)) is_client)
       (p.members (client - 1) asks.0 turned.agrees.was turned.agrees.own asks.1 turned.agrees.had turned.agrees.own_is)
 
-  had : (kind : Turn) → turn ≡ kind → kind ≡ Finished → IsSome (shown turned.agrees.was.client).outcome
-  had kind is finished =
-      let t = step.turned in
-      let rested = subst (Turned old.base t.was t.is old.kept new.kept (seen before) (seen after)) (is ∙ finished) t.turned in
-      subst (λ (m : Member). IsSome (shown m.client).outcome) (one_there old.members (client - 1) t.was turned.agrees.was t.had turned.agrees.had) rested.had
-
   version : VersionThen (side_with made publishing p.store) (shown turned.agrees.was.client) turned.agrees.given (shown turned.agrees.is.client).version
   version = subst (λ (at : Side). VersionThen at (shown turned.agrees.was.client) turned.agrees.given (shown turned.agrees.is.client).version) same_side turned.version
 
@@ -162,7 +153,7 @@ module _ {X : Type 0} (seen : X → LinkSeen) (made : Timetable) (publishing : P
   came =
       came_of (side_with made publishing p.store) turned.agrees.was turned.agrees.is turned.agrees.own turned.agrees.given turned.agrees.by_names.failed turned.agrees.asked turn
       (fits_at (side_with made publishing p.store) old.members p.given (client - 1) turned.agrees.was turned.agrees.own p.fits.clients turned.agrees.had turned.agrees.own_is)
-      (λ finished. had turn refl finished) turned.gave
+      turned.gave
       (subst (λ (at : Side). NoneFailed (shown turned.agrees.was.client) (shown turned.agrees.is.client) turned.agrees.by_names.failed ⊎ OneFailed at (shown turned.agrees.was.client) (shown turned.agrees.is.client) (turned.agrees.own ++ turned.agrees.given) turned.agrees.by_names.failed)
       same_side turned.agrees.by_names.how)
 

@@ -22,6 +22,7 @@ returns-in-Ok-clause-turned g c =
       is = c.turned.new.member;
       turned = c.in-Ok.ensures.turned;
       fewer = c.in-Ok.ensures.fewer;
+      decided = c.in-Ok.ensures.decided;
       members = refl;
       base = refl;
       spent = refl;
