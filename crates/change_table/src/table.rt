@@ -16,7 +16,7 @@ use crate::origin::{Origin, origin_at};
 use crate::partners::partners;
 use crate::rows::sorted_rows;
 use crate::rule::seconds_by;
-use gtfs_files::{Transfer, Transfers};
+use gtfs_calendars::{Transfer, Transfers};
 use lc_model::{Change, Changes, PlainData, Stop, Stops};
 use std::alloc::Global;
 

@@ -1,5 +1,5 @@
 use crate::{ChangeFault, MOST_CHANGES, changes};
-use gtfs_files::{Transfer, Transfers};
+use gtfs_calendars::{Transfer, Transfers};
 use lc_model::{Id, Stop, Stops, Text};
 use std::alloc::Global;
 use std::process::Abort;

@@ -2,23 +2,23 @@
 use Rattle.std.proofs.Common.{◌≡◌, ◌∙◌, ℕ, ◌+◌, List, Option, Some, None, length, ap, subst, arith}
 use Rattle.std.proofs.Props.{props}
 use Rattle.lc_model.specs.declared.stop.Stop.{Stop}
-use Rattle.gtfs_files.proofs.ReadLaws.{dates_are_one, frequencies_are_one, transfers_are_one, weekly_are_one}
-use Rattle.gtfs_files.proofs.StopLaws.{stops_are_one}
-use Rattle.gtfs_files.proofs.StopTimeLaws.{stop_times_are_one}
-use Rattle.gtfs_files.proofs.TripLaws.{trips_are_one}
-use Rattle.gtfs_files.specs.Calendar.{AreWeekly}
-use Rattle.gtfs_files.specs.CalendarDates.{AreDates}
-use Rattle.gtfs_files.specs.Frequencies.{AreFrequencies}
-use Rattle.gtfs_files.specs.Stops.{AreStopsOf, HaveKnownParents}
-use Rattle.gtfs_files.specs.StopTimes.{AreStopTimesOf}
-use Rattle.gtfs_files.specs.Transfers.{AreTransfers}
-use Rattle.gtfs_files.specs.Trips.{AreTripsOf}
-use Rattle.gtfs_files.specs.declared.calendar.Weekly.{Weekly}
-use Rattle.gtfs_files.specs.declared.calendar_dates.DateRow.{DateRow}
-use Rattle.gtfs_files.specs.declared.frequency.Frequency.{Frequency}
-use Rattle.gtfs_files.specs.declared.stop_times.StopTime.{StopTime}
-use Rattle.gtfs_files.specs.declared.transfer.Transfer.{Transfer}
-use Rattle.gtfs_files.specs.declared.trip_rows.TripRow.{TripRow}
+use Rattle.gtfs_fields.specs.declared.trip_rows.TripRow.{TripRow}
+use Rattle.gtfs_trips.proofs.StopLaws.{stops_are_one}
+use Rattle.gtfs_trips.proofs.StopTimeLaws.{stop_times_are_one}
+use Rattle.gtfs_trips.proofs.TripLaws.{trips_are_one}
+use Rattle.gtfs_trips.specs.Stops.{AreStopsOf, HaveKnownParents}
+use Rattle.gtfs_trips.specs.StopTimes.{AreStopTimesOf}
+use Rattle.gtfs_trips.specs.Trips.{AreTripsOf}
+use Rattle.gtfs_trips.specs.declared.stop_times.StopTime.{StopTime}
+use Rattle.gtfs_calendars.proofs.ReadLaws.{dates_are_one, frequencies_are_one, transfers_are_one, weekly_are_one}
+use Rattle.gtfs_calendars.specs.Calendar.{AreWeekly}
+use Rattle.gtfs_calendars.specs.CalendarDates.{AreDates}
+use Rattle.gtfs_calendars.specs.Frequencies.{AreFrequencies}
+use Rattle.gtfs_calendars.specs.Transfers.{AreTransfers}
+use Rattle.gtfs_calendars.specs.declared.calendar.Weekly.{Weekly}
+use Rattle.gtfs_calendars.specs.declared.calendar_dates.DateRow.{DateRow}
+use Rattle.gtfs_calendars.specs.declared.frequency.Frequency.{Frequency}
+use Rattle.gtfs_calendars.specs.declared.transfer.Transfer.{Transfer}
 use Rattle.gtfs_feed.specs.Feed.{FrequenciesAre, Holds, StopTimesAre, TransfersAre}
 use Rattle.gtfs_feed.specs.Laws.{OneTables}
 use Rattle.gtfs_feed.specs.declared.feed_file.FeedFile.TheVariants as file

@@ -4,11 +4,11 @@ use Rattle.std.specs.Prelude.{is_none, MatchOption}
 use Rattle.lc_io.specs.Counts.{Rose}
 use Rattle.lc_io.specs.Folder.{FolderSeen}
 use Rattle.gtfs_rows.specs.Sheet.{Sheet}
-use Rattle.gtfs_files.specs.AnyLength.{IsFirstFault}
-use Rattle.gtfs_files.specs.StopTimes.{IsStopTimesFault}
-use Rattle.gtfs_files.specs.Table.{IsFileFault}
-use Rattle.gtfs_files.specs.declared.fault.FileFault.TheVariants as wrong
-use Rattle.gtfs_files.specs.declared.trip_rows.TripRow.{TripRow}
+use Rattle.gtfs_fields.specs.AnyLength.{IsFirstFault}
+use Rattle.gtfs_fields.specs.Table.{IsFileFault}
+use Rattle.gtfs_fields.specs.declared.fault.FileFault.TheVariants as wrong
+use Rattle.gtfs_fields.specs.declared.trip_rows.TripRow.{TripRow}
+use Rattle.gtfs_trips.specs.StopTimes.{IsStopTimesFault}
 use Rattle.lc_model.specs.declared.stop.Stop.{Stop}
 use Rattle.gtfs_feed.specs.Feed.{Holds, IsAbsence, IsFaultAt, IsFirstBroken, named_at, what_of}
 use Rattle.gtfs_feed.specs.Files.{Found}

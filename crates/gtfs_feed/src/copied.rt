@@ -1,6 +1,6 @@
 ghost use Rattle.std.specs.Prelude.{◌≡◌, IfOk};
 
-use gtfs_files::{TripRow, TripRows};
+use gtfs_fields::{TripRow, TripRows};
 use lc_model::{NoMemory, PlainData};
 use std::alloc::Global;
 

@@ -9,7 +9,8 @@ use crate::steps::{
     feed_weekly,
 };
 use crate::{FeedFault, FeedFile, Tables, What};
-use gtfs_files::{FileFault, WeeklyList};
+use gtfs_calendars::WeeklyList;
+use gtfs_fields::FileFault;
 use lc_io::Folder;
 use std::alloc::Global;
 

@@ -4,10 +4,12 @@ ghost use Rattle.gtfs_feed.specs.Steps.{HasDates, HasFrequencies, HasStops, HasT
 use crate::FeedFile;
 use crate::copied::copied_trips;
 use crate::end::{End, absent, end_of};
-use gtfs_files::{
-    DateRows, Frequencies, TimedTrips, Transfers, TripRows, WeeklyList, read_calendar,
-    read_calendar_dates, read_frequencies, read_stop_times, read_stops, read_transfers, read_trips,
+use gtfs_calendars::{
+    DateRows, Frequencies, Transfers, WeeklyList, read_calendar, read_calendar_dates,
+    read_frequencies, read_transfers,
 };
+use gtfs_fields::TripRows;
+use gtfs_trips::{TimedTrips, read_stop_times, read_stops, read_trips};
 use lc_model::Stops;
 use std::alloc::Global;
 

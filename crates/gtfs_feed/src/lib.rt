@@ -1,5 +1,5 @@
 //! The tables of a GTFS feed in a folder, or the first rule or limit that it breaks, with file and row. It stands on
-//! `gtfs_files` and `lc_io`.
+//! `gtfs_trips`, `gtfs_calendars` and `lc_io`.
 #![tactic(auto)]
 
 mod copied;

@@ -7,7 +7,9 @@ use crate::judge::{
     judge_weekly,
 };
 use crate::look::look;
-use gtfs_files::{DateRows, Frequencies, TimedTrips, Transfers, TripRows, WeeklyList};
+use gtfs_calendars::{DateRows, Frequencies, Transfers, WeeklyList};
+use gtfs_fields::TripRows;
+use gtfs_trips::TimedTrips;
 use lc_io::Folder;
 use lc_model::Stops;
 use std::alloc::Global;

@@ -1,6 +1,8 @@
-ghost use Rattle.gtfs_files.specs.Stops.{HaveKnownParents};
+ghost use Rattle.gtfs_trips.specs.Stops.{HaveKnownParents};
 
-use gtfs_files::{DateRows, Frequencies, StopTimes, Transfers, TripRows, WeeklyList};
+use gtfs_calendars::{DateRows, Frequencies, Transfers, WeeklyList};
+use gtfs_fields::TripRows;
+use gtfs_trips::StopTimes;
 use lc_model::Stops;
 
 /// The tables of a feed.

@@ -1,5 +1,5 @@
 //! Zones as words, the moments from which service days are counted, the date that a zone's clock shows at a moment, and
-//! the dates of services. It stands on `lc_time`, on the typed rows of `gtfs_files` and on the zones of `jiff`.
+//! the dates of services. It stands on `lc_time`, on the typed rows of `gtfs_calendars` and on the zones of `jiff`.
 #![tactic(auto)]
 
 mod clock;

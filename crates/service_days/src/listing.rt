@@ -1,8 +1,8 @@
 ghost use Rattle.std.specs.Prelude.{◌≡◌, ◌↔◌, Any, IfOk, IsTrue, OnOk};
 ghost use Rattle.std.specs.List.{Contains};
 ghost use Rattle.std.specs.List.Sorted.{IsSorted};
-ghost use Rattle.gtfs_files.specs.declared.calendar.Weekly.{Weekly as ToldWeekly};
-ghost use Rattle.gtfs_files.specs.declared.calendar_dates.DateRow.{DateRow as ToldRow};
+ghost use Rattle.gtfs_calendars.specs.declared.calendar.Weekly.{Weekly as ToldWeekly};
+ghost use Rattle.gtfs_calendars.specs.declared.calendar_dates.DateRow.{DateRow as ToldRow};
 ghost use Rattle.lc_model.specs.declared.date.ServiceDate.{ServiceDate as ToldDate};
 ghost use Rattle.service_days.specs.Days.{IsRemoved, day_cmp};
 ghost use Rattle.service_days.specs.Listing.{Gains, IsAddedBy, IsKept, IsRegularBy, IsRegularOn, IsRemovedBy};
@@ -10,7 +10,7 @@ ghost use Rattle.service_days.specs.declared.service_day.ServiceDay.{ServiceDay 
 
 use crate::ServiceDay;
 use crate::window::{is_in_window, runs_weekly};
-use gtfs_files::{DateRow, Weekly};
+use gtfs_calendars::{DateRow, Weekly};
 use lc_model::{Id, NoMemory, PlainData, ServiceDate};
 use std::alloc::Global;
 use std::cmp::Ordering;

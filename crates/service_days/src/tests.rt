@@ -1,6 +1,6 @@
 //! Values from outside: dates and moments that Python's `zoneinfo` gives, the GTFS Schedule Reference, and calendars.
 use crate::{ServiceDay, Zone, ZoneFault, anchor, civil_date, days, read_zone, zone_file};
-use gtfs_files::{DateRow, Weekly};
+use gtfs_calendars::{DateRow, Weekly};
 use lc_model::{Id, Moment, ServiceDate};
 use lc_time::{date_text, iso_text, read_date, read_iso};
 use std::alloc::Global;

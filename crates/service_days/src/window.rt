@@ -6,7 +6,7 @@ ghost use Rattle.service_days.specs.Days.{IsInWindow, RunsWeekly, day_number, we
 ghost use Rattle.service_days.specs.Listing.{Gains};
 
 use crate::clock::{library_date, service_date};
-use gtfs_files::Weekly;
+use gtfs_calendars::Weekly;
 use jiff_core::civil::Date;
 use lc_model::{NoMemory, ServiceDate};
 use std::alloc::Global;

@@ -8,8 +8,8 @@ use Rattle.lc_time.specs.declared.zone.Zone.{Zone}
 use Rattle.service_days.specs.Laws.{OneListOfDays, OneZone}
 use Rattle.service_days.specs.ZoneWord.{IsWrong, SaysZone, file_named}
 use Rattle.gtfs_feed.specs.Feed.{AreTables, IsFirstBroken, named_at, what_of}
-use Rattle.gtfs_files.specs.declared.fault.FileFault.{FileFault}
-use Rattle.gtfs_files.specs.declared.fault.FileFault.TheVariants as wrong
+use Rattle.gtfs_fields.specs.declared.fault.FileFault.{FileFault}
+use Rattle.gtfs_fields.specs.declared.fault.FileFault.TheVariants as wrong
 use Rattle.gtfs_feed.specs.Files.{Found, files_of, name_of}
 use Rattle.gtfs_feed.specs.Laws.{NeverBoth, OneFirst, OneTables}
 use Rattle.gtfs_feed.specs.declared.feed_file.FeedFile.{FeedFile}

@@ -5,7 +5,7 @@ use Rattle.lc_io.specs.declared.file.File.{File}
 use Rattle.lc_time.specs.declared.zone.Zone.{Zone}
 use Rattle.service_days.specs.Laws.{ShowSame}
 use Rattle.service_days.specs.ZoneWord.{SaysZone}
-use Rattle.gtfs_files.specs.declared.fault.FileFault.TheVariants as wrong
+use Rattle.gtfs_fields.specs.declared.fault.FileFault.TheVariants as wrong
 use Rattle.gtfs_feed.specs.Feed.{IsFirstBroken, named_at}
 use Rattle.gtfs_feed.specs.Files.{files_of, name_of}
 use Rattle.gtfs_feed.specs.declared.feed_file.FeedFile.{FeedFile}

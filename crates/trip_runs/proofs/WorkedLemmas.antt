@@ -1,6 +1,6 @@
 -- The values worked out by hand are those of the definitions.
 use Rattle.std.proofs.Common.{◌≡◌, ◌≢◌, ℕ, ◌+◌, ◌*◌, ◌<◌, List, Some, ap, arith, codes, get_or, length, lit<, refl, subst, suc, sym, zero}
-use Rattle.gtfs_files.specs.declared.frequency.Frequency.{Frequency}
+use Rattle.gtfs_calendars.specs.declared.frequency.Frequency.{Frequency}
 use Rattle.trip_runs.specs.Starts.{IsStartOf, StartsTrip}
 use Rattle.trip_runs.specs.Worked.{WorkedStarts, WorkedTimes, each_20_minutes}
 

@@ -1,9 +1,9 @@
 ghost use Rattle.std.specs.Prelude.{◌≡◌, ◌+◌, ◌<◌, ◌≤◌, ◌++◌, IfOk, OnOk, length, vec_len};
-ghost use Rattle.gtfs_files.specs.Timely.{AreTimelyRows};
+ghost use Rattle.gtfs_trips.specs.Timely.{AreTimelyRows};
 ghost use Rattle.trip_runs.specs.BlankTimes.{time_between};
 ghost use Rattle.trip_runs.specs.Stays.{AreStaysTo, NoneLater, blank_after, blank_stays, first_arrival, stay_said, stays_upto};
 
-use gtfs_files::StopTime;
+use gtfs_trips::StopTime;
 use lc_model::NoMemory;
 use std::alloc::Global;
 

@@ -1,6 +1,7 @@
 //! Values worked out by hand, from the GTFS Schedule Reference and from calendars.
 use crate::{LoadFault, are_plannable, connections, is_plannable, runs};
-use gtfs_files::{read_calendar_dates, read_frequencies, read_stop_times, read_stops, read_trips};
+use gtfs_calendars::{read_calendar_dates, read_frequencies};
+use gtfs_trips::{read_stop_times, read_stops, read_trips};
 use lc_model::{Call, Connections, Run, Runs};
 use lc_time::{iso_text, read_date};
 use service_days::{days, read_zone};

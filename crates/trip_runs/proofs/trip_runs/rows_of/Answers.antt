@@ -1,8 +1,8 @@
 use Rattle.std.proofs.Common.{subst, sym}
 use Rattle.std.specs.Ordering.{nat_cmp, on}
 use Rattle.lc_model.proofs.RangesLemmas.{sorted_by_key}
-use Rattle.gtfs_files.specs.Timely.{AreTimelyRows}
-use Rattle.gtfs_files.specs.declared.stop_times.StopTime.{StopTime}
+use Rattle.gtfs_trips.specs.Timely.{AreTimelyRows}
+use Rattle.gtfs_trips.specs.declared.stop_times.StopTime.{StopTime}
 use Rattle.trip_runs.specs.TripRuns.{RiseInSequence}
 use Rattle.trip_runs.proofs.CallLemmas.{rise_in_rows}
 use Rattle.trip_runs.proofs.trip_runs.rows_of.Goals as goal

@@ -1,0 +1,24 @@
+use Rattle.std.proofs.Common.{◌≡◌, ◌⊎◌, ◌++◌, [], ◌∷◌, arith, length, rules}
+use Rattle.gtfs_fields.specs.Table.{IsRowFault}
+use Rattle.gtfs_fields.specs.declared.fault.FileFault.TheVariants.{NoMemory}
+use Rattle.gtfs_fields.proofs.ExitFacts.{passed_on, wants_memory}
+use Rattle.gtfs_fields.proofs.SaidFacts.{read_more, told_first}
+use Rattle.gtfs_calendars.specs.Calendar.{calendar_rule, weekly_said}
+use Rattle.gtfs_calendars.proofs.calendar_file.weekly_rows.Goals as goal
+
+pub returns-in_err-weekly-clause-fault : goal.returns-in_err-weekly-clause-fault
+returns-in_err-weekly-clause-fault c =
+    let rule = calendar_rule c.args.rows.now in
+    let count = length c.args.rows.now.rows in
+    passed_on (λ fault. (fault ≡ NoMemory) ⊎ IsRowFault rule count fault) c.from_residual-in_err-weekly.result c.in_err-weekly.field-0.0 c.from_residual-in_err-weekly.ensures.1
+    (told_first rule count c.rows.place c.in_err-weekly.field-0.0 (omega arith) c.rows.invariant.unbroken c.in_err-weekly.ensures)
+
+pub returns-in_err-push-clause-fault : goal.returns-in_err-push-clause-fault
+returns-in_err-push-clause-fault c =
+    wants_memory (IsRowFault (calendar_rule c.args.rows.now) (length c.args.rows.now.rows)) c.from_residual-in_err-push.result c.from_residual-in_err-push.ensures.1
+
+pub rows-preserved : goal.rows-preserved
+rows-preserved c =
+    let sheet = c.args.rows.now in
+    let pushed : c.push.new.self.items ≡ c.rows.list.items ++ c.in_ok-weekly.weekly ∷ [] = search rules in
+    rw pushed (read_more (calendar_rule sheet) (weekly_said sheet) sheet.rows c.rows.place c.rows.list.items c.in_ok-weekly.weekly [] (omega arith) c.rows.invariant c.in_ok-weekly.ensures)

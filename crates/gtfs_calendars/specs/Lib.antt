@@ -1,0 +1,10 @@
+pub mod Calendar
+pub mod CalendarColumns
+pub mod CalendarDates
+pub mod CalendarDatesColumns
+pub mod Frequencies
+pub mod FrequencyColumns
+pub mod Laws
+pub mod Spans
+pub mod TransferColumns
+pub mod Transfers

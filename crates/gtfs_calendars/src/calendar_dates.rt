@@ -1,0 +1,47 @@
+ghost use Rattle.std.specs.Prelude.{◌≡◌};
+ghost use Rattle.gtfs_calendars.specs.CalendarDates.{HaveOneRowADate};
+
+use lc_model::{Id, ServiceDate};
+use std::marker::Model;
+
+/// A row of calendar_dates.txt: a service is added on a date, or taken away.
+#[derive(Debug, Drop)]
+pub struct DateRow {
+    pub service: Id,
+    pub date: ServiceDate,
+    pub added: bool,
+}
+
+/// The dates of the services of a feed, in the order of the file. No two rows are of one service and date.
+#[derive(Debug, Drop)]
+pub struct DateRows {
+    items: Vec<DateRow>,
+}
+
+impl Model for DateRows {
+    ghost use Rattle.std.specs.Prelude.{List};
+    ghost use Rattle.gtfs_calendars.specs.CalendarDates.{HaveOneRowADate};
+    ghost use Rattle.gtfs_calendars.specs.declared.calendar_dates.DateRow.{DateRow};
+
+    ghost Value = { List DateRow };
+
+    ghost view = { λ d. d.items.items };
+
+    ghost invariant = { λ d. HaveOneRowADate d.items.items };
+}
+
+impl DateRows {
+    pub fn from_list(list: Vec<DateRow>) -> DateRows
+        requires { HaveOneRowADate list.items }
+        ensures { result ≡ list.items }
+    {
+        DateRows { items: list }
+    }
+
+    pub fn as_slice(&self) -> &[DateRow]
+        ensures value { result.now ≡ self.now }
+        ensures one_row_a_date { HaveOneRowADate result.now }
+    {
+        self.items.as_slice()
+    }
+}

@@ -1,0 +1,15 @@
+-- What is known of a fault that is passed on.
+use Rattle.std.proofs.Common.{◌≡◌, ◌⊎◌, Result, Ok, Err, IfErr, inl, subst, sym}
+use Rattle.std.specs.Result.{IsErrAnd}
+use Rattle.gtfs_fields.specs.declared.fault.FileFault.{FileFault}
+use Rattle.gtfs_fields.specs.declared.fault.FileFault.TheVariants.{NoMemory}
+
+-- a fault that is passed on as it is
+pub passed_on : {X : Type 0} (P : FileFault → Type 0) (r : Result X FileFault) (fault : FileFault) → IsErrAnd r (λ told. told ≡ fault) → P fault → IfErr r P
+passed_on P (Ok x) fault is h = tt
+passed_on P (Err told) fault is h = subst P (sym is) h
+
+-- want of memory that is passed on
+pub wants_memory : {X : Type 0} (P : FileFault → Type 0) (r : Result X FileFault) → IsErrAnd r (λ told. told ≡ NoMemory) → IfErr r (λ told. (told ≡ NoMemory) ⊎ P told)
+wants_memory P (Ok x) is = tt
+wants_memory P (Err told) is = inl is

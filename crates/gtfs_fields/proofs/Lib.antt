@@ -1,0 +1,9 @@
+pub mod AnyLengthLaws
+pub mod ExitFacts
+pub mod Listed
+pub mod PlaceFacts
+pub mod RuleFacts
+pub mod Said
+pub mod SaidFacts
+pub mod SaidItems
+pub mod TableLaws

@@ -1,0 +1,12 @@
+pub mod AnyLength
+pub mod Columns
+pub mod Fields
+pub mod Laws
+pub mod PairPlaces
+pub mod Places
+pub mod Rules
+pub mod Table
+pub mod TextPlaces
+pub mod Texts
+pub mod Times
+pub mod TripRows

@@ -1,0 +1,21 @@
+//! What the files of a GTFS feed share: the rows of a table, what their fields say, the first rule that is broken, and the
+//! trips that several files name. It stands on `gtfs_rows` and `lc_time`.
+#![tactic(auto)]
+
+pub mod columns;
+mod fault;
+pub mod fields;
+pub mod file_rows;
+pub mod first_rule;
+pub mod ids;
+mod keyed;
+pub mod known;
+pub mod pair_places;
+pub mod places;
+pub mod table_rows;
+pub mod text_places;
+pub mod times;
+mod trip_rows;
+
+pub use fault::FileFault;
+pub use trip_rows::{TripRow, TripRows};

@@ -1,0 +1,53 @@
+ghost use Rattle.std.specs.Prelude.{◌≡◌};
+ghost use Rattle.gtfs_fields.specs.TripRows.{HaveOneRowATrip};
+
+use lc_model::Id;
+use std::marker::Model;
+
+/// A row of trips.txt: a trip and the service on whose dates it runs.
+#[derive(Debug, Drop)]
+pub struct TripRow {
+    pub trip: Id,
+    pub service: Id,
+}
+
+/// The trips of a feed, in the order of the file. No two have one id.
+#[derive(Debug, Drop)]
+pub struct TripRows {
+    items: Vec<TripRow>,
+}
+
+impl Model for TripRows {
+    ghost use Rattle.std.specs.Prelude.{List};
+    ghost use Rattle.gtfs_fields.specs.TripRows.{HaveOneRowATrip};
+    ghost use Rattle.gtfs_fields.specs.declared.trip_rows.TripRow.{TripRow};
+
+    ghost Value = { List TripRow };
+
+    ghost view = { λ t. t.items.items };
+
+    ghost invariant = { λ t. HaveOneRowATrip t.items.items };
+}
+
+impl TripRows {
+    pub fn from_list(list: Vec<TripRow>) -> TripRows
+        requires { HaveOneRowATrip list.items }
+        ensures { result ≡ list.items }
+    {
+        TripRows { items: list }
+    }
+
+    pub fn as_slice(&self) -> &[TripRow]
+        ensures value { result.now ≡ self.now }
+        ensures one_row_a_trip { HaveOneRowATrip result.now }
+    {
+        self.items.as_slice()
+    }
+
+    pub fn into_list(self) -> Vec<TripRow>
+        ensures value { result.items ≡ self }
+        ensures one_row_a_trip { HaveOneRowATrip result.items }
+    {
+        self.items
+    }
+}

@@ -1,0 +1,14 @@
+pub mod KeptFacts
+pub mod KeyFacts
+pub mod Keys
+pub mod LeftFacts
+pub mod SoundLemmas
+pub mod StopFacts
+pub mod StopLaws
+pub mod StopTimeLaws
+pub mod StopTimeRuleFacts
+pub mod TimedFacts
+pub mod TimelyLemmas
+pub mod TripFacts
+pub mod TripLaws
+pub mod VisitFacts

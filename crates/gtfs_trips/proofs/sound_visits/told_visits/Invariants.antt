@@ -1,0 +1,11 @@
+use Rattle.std.proofs.Common.{◌≡◌, ℕ, ◌<◌, map}
+use Rattle.std.specs.List.{range_with_len}
+use Rattle.gtfs_trips.specs.SoundRows.{IsSoundAlone}
+use Rattle.gtfs_trips.specs.Visits.{visit_at}
+use Rattle.gtfs_trips.proofs.sound_visits.told_visits.Given as goal
+
+abbrev pub invariant-rows : goal.invariant-rows
+invariant-rows l = record {
+  said : l.visits.items ≡ map (visit_at l.rows) (range_with_len 0 l.place);
+  sound : (place : ℕ) → place < l.place → IsSoundAlone l.stops l.trips l.rows place;
+}

@@ -1,0 +1,16 @@
+pub mod KeyPlaces
+pub mod Laws
+pub mod LeftOut
+pub mod OnTime
+pub mod SoundRows
+pub mod StopColumns
+pub mod StopTimeColumns
+pub mod StopTimeOrder
+pub mod StopTimeRows
+pub mod StopTimes
+pub mod Stops
+pub mod Timely
+pub mod Timing
+pub mod TripColumns
+pub mod Trips
+pub mod Visits

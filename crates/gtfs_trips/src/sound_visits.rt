@@ -1,0 +1,248 @@
+ghost use Rattle.std.specs.Prelude.{◌≡◌, ◌==◌, ◌<◌, ◌&&◌, ◌||◌, not, IfOk, IfSome, None, Some, false, if◌then◌else◌, length, map};
+ghost use Rattle.std.specs.Bool.{OnTrue};
+ghost use Rattle.std.specs.List.{HoldsAt};
+ghost use Rattle.lc_time.specs.Clock.{gtfs_time_said};
+ghost use Rattle.gtfs_fields.specs.Places.{is_unknown};
+ghost use Rattle.gtfs_fields.specs.Times.{is_wrong_time as wrong_time};
+ghost use Rattle.gtfs_fields.specs.TextPlaces.{HavePlaces};
+ghost use Rattle.gtfs_trips.specs.SoundRows.{AreNeighboursApart, AreSoundAlone, AreSoundVisits, HaveIds, SaysVisit};
+ghost use Rattle.gtfs_trips.specs.StopTimeColumns.{AreStopTimeColumns};
+ghost use Rattle.gtfs_trips.specs.StopTimeRows.{ids_of_stops};
+ghost use Rattle.gtfs_trips.specs.Visits.{visits_of_rows};
+
+use crate::stop_time_rows::StopTimeColumns;
+use crate::visits::{Visit, allows, by_trip, compare};
+use gtfs_fields::TripRow;
+use gtfs_fields::columns::text;
+use gtfs_fields::known::places_of_ids;
+use gtfs_fields::text_places::place_of_text;
+use gtfs_fields::times::read_time;
+use gtfs_rows::Rows;
+use lc_model::{Id, Keyed, NoMemory, PlainData, Stop};
+use lc_time::read_u32;
+use std::alloc::Global;
+use std::collections::BTreeMap;
+
+/// Where the ids of stops and of trips stand.
+#[derive(Drop)]
+pub(crate) struct Ids<'a> {
+    stops: BTreeMap<&'a [u8], usize>,
+    trips: BTreeMap<&'a [u8], usize>,
+}
+
+/// What a row says, and where its trip stands.
+#[derive(Drop)]
+pub(crate) struct Told {
+    visit: Visit,
+    trip: usize,
+}
+
+/// The visits of the rows, by trip and sequence, where no row breaks a rule; none where a row may break one. The ids of the
+/// visits are those of the stops and the trips, and whether a trip and a number stand twice shows once the visits are
+/// sorted. Of n rows, stops and trips: n log n.
+pub(crate) fn sound_visits(
+    alloc: Global,
+    rows: &Rows,
+    columns: StopTimeColumns,
+    stops: &[Stop],
+    trips: &[TripRow],
+) -> Result<Option<Vec<Visit>>, NoMemory>
+    requires { AreStopTimeColumns rows.now columns }
+    ensures { IfOk result (λ found. IfSome found (λ visits. AreSoundVisits stops.now trips.now rows.now visits.items)) }
+{
+    let Some(visits) = told_visits(alloc, rows, columns, stops, trips)? else {
+        return Ok(None);
+    };
+    let sorted = by_trip(visits)?;
+    Ok(if_apart(sorted))
+}
+
+// These visits, if no two that stand side by side have one trip and one number.
+fn if_apart(visits: Vec<Visit>) -> Option<Vec<Visit>>
+    ensures same { IfSome result (λ same. same.items ≡ visits.items) }
+    ensures apart { IfSome result (λ _. AreNeighboursApart visits.items) }
+{
+    if are_apart(visits.as_slice()) {
+        Some(visits)
+    } else {
+        None
+    }
+}
+
+// Whether no two visits that stand side by side have one trip and one number. Linear in the visits.
+fn are_apart(visits: &[Visit]) -> bool
+    ensures { OnTrue result (AreNeighboursApart visits.now) }
+{
+    'visits: for place in 1..visits.len() {
+        if compare(&visits[place - 1], &visits[place]).is_eq() {
+            return false;
+        }
+    }
+    true
+}
+
+// The visits of the rows, in their order, if none of the rows breaks a rule by itself.
+fn told_visits<'a>(
+    alloc: Global,
+    rows: &'a Rows,
+    columns: StopTimeColumns,
+    stops: &'a [Stop],
+    trips: &'a [TripRow],
+) -> Result<Option<Vec<Visit>>, NoMemory>
+    requires { AreStopTimeColumns rows.now columns }
+    ensures said { IfOk result (λ told. IfSome told (λ visits. visits.items ≡ visits_of_rows rows.now)) }
+    ensures sound { IfOk result (λ told. IfSome told (λ _. AreSoundAlone stops.now trips.now rows.now)) }
+{
+    let ids = ids_of(alloc, stops, trips)?;
+    let mut visits = Vec::with_capacity(alloc, rows.len())?;
+    let mut near = 0;
+    'rows: for place in 0..rows.len() {
+        let Some(told) = told_visit(alloc, rows, columns, stops, trips, &ids, near, place)? else {
+            return Ok(None);
+        };
+        near = told.trip;
+        visits.push(told.visit)?;
+    }
+    Ok(Some(visits))
+}
+
+fn ids_of<'a>(alloc: Global, stops: &'a [Stop], trips: &'a [TripRow]) -> Result<Ids<'a>, NoMemory>
+    ensures { IfOk result (HaveIds stops.now trips.now) }
+{
+    Ok(Ids {
+        stops: places_of_ids(alloc, stops)?,
+        trips: places_of_ids(alloc, trips)?,
+    })
+}
+
+// What the row at this place says, if it breaks no rule by itself. Its trip may be the one at the place `near`.
+fn told_visit<'a>(
+    alloc: Global,
+    rows: &'a Rows,
+    columns: StopTimeColumns,
+    stops: &[Stop],
+    trips: &[TripRow],
+    ids: &Ids<'a>,
+    near: usize,
+    place: usize,
+) -> Result<Option<Told>, NoMemory>
+    requires there { place < length rows.now.rows }
+    requires columns { AreStopTimeColumns rows.now columns }
+    requires ids { HaveIds stops.now trips.now ids.now }
+    ensures { IfOk result (λ told. IfSome told (λ t. SaysVisit stops.now trips.now rows.now place t.visit)) }
+{
+    // There are fewer rows than `usize` counts.
+    let _count = rows.len();
+    let trip_id = text(rows, place, columns.trip);
+    let stop_id = text(rows, place, columns.stop);
+    let (arr_text, dep_text) = (
+        text(rows, place, columns.arr),
+        text(rows, place, columns.dep),
+    );
+    let (arr, dep) = (read_time(arr_text), read_time(dep_text));
+    if trip_id.is_empty() || has_unread_time(stop_id, arr_text, arr, dep_text, dep) {
+        return Ok(None);
+    }
+    let Some(trip) = place_near(&ids.trips, trips, trip_id, near) else {
+        return Ok(None);
+    };
+    let Some(seq) = read_u32(text(rows, place, columns.seq)) else {
+        return Ok(None);
+    };
+    let Some(stop) = stop_said(alloc, &ids.stops, stops, stop_id)? else {
+        return Ok(None);
+    };
+    let visit = Visit {
+        trip: trips[trip].trip.copy(alloc)?,
+        stop,
+        seq,
+        arr,
+        dep,
+        board: allows(text(rows, place, columns.pickup)),
+        alight: allows(text(rows, place, columns.drop_off)),
+        row: (place + 1) as u64,
+    };
+    Ok(Some(Told { visit, trip }))
+}
+
+// The stop that a row names, where it names one, if it names none that is not known.
+fn stop_said<'a>(
+    alloc: Global,
+    places: &BTreeMap<&'a [u8], usize>,
+    stops: &[Stop],
+    text: &'a [u8],
+) -> Result<Option<Option<Id>>, NoMemory>
+    requires { HavePlaces (ids_of_stops stops.now) places.now }
+    ensures value { IfOk result (λ told. IfSome told (λ id. id ≡ (if length text.now == 0 then None else Some text.now))) }
+    ensures known { IfOk result (λ told. IfSome told (λ _. is_unknown (ids_of_stops stops.now) text.now ≡ false)) }
+{
+    if text.is_empty() {
+        return Ok(Some(None));
+    }
+    match place_of_key(places, stops, text) {
+        Some(place) => Ok(Some(Some(stops[place].id.copy(alloc)?))),
+        None => Ok(None),
+    }
+}
+
+// The place of an item with this key, if there is one. The item at the place `near` is looked at first.
+fn place_near<'a, T: Keyed>(
+    places: &BTreeMap<&'a [u8], usize>,
+    items: &[T],
+    key: &'a [u8],
+    near: usize,
+) -> Option<usize>
+    requires { HavePlaces (map T.key items.now) places.now }
+    ensures within { IfSome result (λ place. place < length items.now) }
+    ensures same { IfSome result (HoldsAt (λ x. T.key x ≡ key.now) items.now) }
+{
+    if has_key(items, near, key) {
+        return Some(near);
+    }
+    place_of_key(places, items, key)
+}
+
+// Whether the item at this place has this key.
+fn has_key<T: Keyed>(items: &[T], place: usize, key: &[u8]) -> bool
+    ensures within { OnTrue result (place < length items.now) }
+    ensures same { OnTrue result (HoldsAt (λ x. T.key x ≡ key.now) items.now place) }
+{
+    place < items.len() && items[place].key().bytes() == key
+}
+
+// The place of an item with this key, if there is one. Takes the logarithm of the items.
+fn place_of_key<'a, T: Keyed>(
+    places: &BTreeMap<&'a [u8], usize>,
+    items: &[T],
+    key: &'a [u8],
+) -> Option<usize>
+    requires { HavePlaces (map T.key items.now) places.now }
+    ensures within { IfSome result (λ place. place < length items.now) }
+    ensures same { IfSome result (HoldsAt (λ x. T.key x ≡ key.now) items.now) }
+{
+    let _items = items;
+    place_of_text(places, key)
+}
+
+// Whether a row with a stop has a time that is unreadable, where this is what its texts say.
+fn has_unread_time(
+    stop: &[u8],
+    arr_text: &[u8],
+    arr: Option<u32>,
+    dep_text: &[u8],
+    dep: Option<u32>,
+) -> bool
+    requires arr { arr ≡ gtfs_time_said arr_text.now }
+    requires dep { dep ≡ gtfs_time_said dep_text.now }
+    ensures { result ≡ (not (length stop.now == 0) && (wrong_time arr_text.now || wrong_time dep_text.now)) }
+{
+    !stop.is_empty() && (is_unread(arr_text, arr) || is_unread(dep_text, dep))
+}
+
+// Whether a text that is not empty says no time.
+fn is_unread(text: &[u8], time: Option<u32>) -> bool
+    requires { time ≡ gtfs_time_said text.now }
+    ensures { result ≡ wrong_time text.now }
+{
+    !text.is_empty() && time.is_none()
+}

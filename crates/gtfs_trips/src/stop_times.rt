@@ -1,0 +1,57 @@
+ghost use Rattle.std.specs.Prelude.{◌≡◌};
+ghost use Rattle.gtfs_trips.specs.StopTimeOrder.{InTripOrder};
+ghost use Rattle.gtfs_trips.specs.Timely.{AreTimely};
+
+use lc_model::Id;
+use std::marker::Model;
+
+/// A row of stop_times.txt: when a trip arrives at a stop and departs, in seconds of the service day, where the row says
+/// so, and whether one may board and alight.
+#[derive(Debug, Drop)]
+pub struct StopTime {
+    pub trip: Id,
+    pub stop: Id,
+    pub seq: u32,
+    pub arr: Option<u32>,
+    pub dep: Option<u32>,
+    pub board: bool,
+    pub alight: bool,
+}
+
+/// The stop times of a feed, strictly ordered by trip and sequence. The first and the last of a trip have a time, and none
+/// is earlier than one before it.
+#[derive(Debug, Drop)]
+pub struct StopTimes {
+    items: Vec<StopTime>,
+}
+
+impl Model for StopTimes {
+    ghost use Rattle.std.specs.Prelude.{List};
+    ghost use Rattle.gtfs_trips.specs.declared.stop_times.StopTime.{StopTime};
+    ghost use Rattle.gtfs_trips.specs.StopTimeOrder.{InTripOrder};
+    ghost use Rattle.gtfs_trips.specs.Timely.{AreTimely};
+
+    ghost Value = { List StopTime };
+
+    ghost view = { λ t. t.items.items };
+
+    ghost invariant = { λ t. InTripOrder t.items.items × AreTimely t.items.items };
+}
+
+impl StopTimes {
+    pub fn from_list(list: Vec<StopTime>) -> StopTimes
+        requires in_order { InTripOrder list.items }
+        requires timely { AreTimely list.items }
+        ensures { result ≡ list.items }
+    {
+        StopTimes { items: list }
+    }
+
+    pub fn as_slice(&self) -> &[StopTime]
+        ensures value { result.now ≡ self.now }
+        ensures in_order { InTripOrder result.now }
+        ensures timely { AreTimely result.now }
+    {
+        self.items.as_slice()
+    }
+}
