@@ -1,7 +1,9 @@
 -- The pages that a client read, with one page more.
-use Rattle.std.proofs.Common.{◌≡◌, ℕ, ◌<◌, ◌≤◌, List, [], ◌∷◌, ◌++◌, Bool, true, false, not, ◌&&◌, ◌==◌, Option, Some, None, Result, Ok, Err, refl, ap, ap₂, sym, subst, ◌∙◌, append-nil, arith, if◌then◌else◌}
+use Rattle.std.proofs.Common.{◌≡◌, ℕ, ◌<◌, ◌≤◌, List, [], ◌∷◌, ◌++◌, Bool, true, false, not, ◌&&◌, ◌==◌, Option, Some, None, Result, Ok, Err, refl, ap, ap₂, sym, subst, ◌∙◌, append-nil, append_assoc, arith, if◌then◌else◌}
+use Rattle.std.specs.List.{All}
 use Rattle.std.proofs.lemmas.Bool.Decides.{nat_tests}
 use Rattle.std.proofs.lemmas.List.Concat.{flat_map-append}
+use Rattle.std.proofs.lemmas.List.Elements.{All-cons, All-nil, All-push, All-weaker}
 use Rattle.lc_model.specs.declared.connection.Connection.{Connection}
 use Rattle.lc_model.specs.declared.doc.StopsDoc.{StopsDoc}
 use Rattle.lc_model.specs.declared.page.PageName.{PageName}
@@ -17,9 +19,11 @@ use Rattle.page_client.specs.Course.{IsOver}
 use Rattle.page_client.specs.Page.{IsPageReply, advances, begins_at, is_asked, is_of_version, is_on_from, tested_body}
 use Rattle.page_client.specs.Replied.{body_of}
 use Rattle.page_client.specs.declared.fault.PeerFault.TheVariants.{Advance, Identity}
+use Rattle.page_client.specs.declared.want.Want.{Want}
+use Rattle.page_client.specs.declared.want.Want.TheVariants as wants
 use Rattle.page_client.proofs.OrderLemmas.{LeadsOn, leads_on, spans}
-use Rattle.client_replies.specs.Course.{GoesOnAfterEach, IsSentRight, Reads, ReadsPages, connections_in, link_behind}
-use Rattle.client_replies.specs.Made.{Made}
+use Rattle.client_replies.specs.Course.{GoesOnAfterEach, HasComeTo, IsReading, IsSentRight, Reads, ReadsPages, connections_in, link_behind}
+use Rattle.client_replies.specs.Made.{Made, reply_to}
 
 -- the connections, with one page more
 pub connections_more : (pages : List Page) (page : Page) → connections_in pages ++ page.list ≡ connections_in (pages ++ page ∷ [])
@@ -142,3 +146,102 @@ links_later name next page taken links =
     let above : on.last < next.departs = on.above in
     let here : page.name.departs < next.departs = omega arith in
     subst (λ (n : PageName). n.departs < next.departs) taken.named here
+
+-- no link leads to a page from none
+none_links : (more : List Made) (pages : List Page) (name : PageName) (base : BaseParts) → ReadsPages base None more pages → link_behind None pages ≡ Some name → ⊥
+none_links [] [] name base reads links = cc
+none_links [] (page ∷ pages) name base reads links = reads
+none_links (made ∷ more) [] name base reads links = reads
+none_links (made ∷ more) (page ∷ pages) name base reads links = reads
+
+-- it was not for this page, nor for a later one
+abbrev pub IsForEarlier : PageName → Made → Type 0
+IsForEarlier name made = (earlier : PageName) → made.want ≡ wants.Page earlier → earlier.departs < name.departs
+
+-- if it was for a page, those before were for none that departs as late
+abbrev pub IsNew : List Made → Made → Type 0
+IsNew front made = (name : PageName) → made.want ≡ wants.Page name → All (IsForEarlier name) front
+
+-- and so of each of these
+abbrev pub AreNew : List Made → List Made → Type 0
+AreNew front [] = Unit {0}
+AreNew front (made ∷ more) = IsNew front made × AreNew (front ++ made ∷ []) more
+
+pub new_more : (front made : List Made) (last : Made) → AreNew front made → IsNew (front ++ made) last → AreNew front (made ++ last ∷ [])
+new_more front [] last are is = (subst (λ (l : List Made). IsNew l last) (append-nil front) is, tt)
+new_more front (m ∷ made) last are is = (are.0, new_more (front ++ m ∷ []) made last are.1 (subst (λ (l : List Made). IsNew l last) (sym (append_assoc front (m ∷ []) made)) is))
+
+-- pages that were read by their links up to this one are new
+record ReadNew (front made : List Made) (name : PageName) : Type 0 where
+  are : AreNew front made
+  behind : All (IsForEarlier name) (front ++ made)
+
+same_name : (a b : PageName) → wants.Page a ≡ wants.Page b → a ≡ b
+same_name a b same = cc
+
+-- a page, and those behind it
+module _ (base : BaseParts) (first name : PageName) (front : List Made) (made : Made) (more : List Made) (page : Page) (pages : List Page) (read : Reads base first made page) (reads : ReadsPages base page.next more pages)
+    (links : link_behind page.next pages ≡ Some name) (before : All (IsForEarlier first) front)
+    (rest : (next : PageName) → ReadsPages base (Some next) more pages → link_behind (Some next) pages ≡ Some name → All (IsForEarlier next) (front ++ made ∷ []) → ReadNew (front ++ made ∷ []) more name) where
+  its_name : (other : PageName) → made.want ≡ wants.Page other → first ≡ other
+  its_name other wanted = same_name first other (sym (ap (λ (m : Made). m.want) read.is) ∙ wanted)
+
+  by_next : (next : Option PageName) → page.next ≡ next → ReadNew front (made ∷ more) name
+  by_next None is =
+      absurd
+      (none_links more pages name base (subst (λ (n : Option PageName). ReadsPages base n more pages) is reads) (subst (λ (n : Option PageName). link_behind n pages ≡ Some name) is links))
+  by_next (Some next) is =
+      let on : first.departs < next.departs = links_later first next page (is_taken base first read.reply page read.says) is in
+      let own : IsForEarlier next made = λ other wanted. subst (λ (n : PageName). n.departs < next.departs) (its_name other wanted) on in
+      let all : All (IsForEarlier next) front = All-weaker (IsForEarlier first) (IsForEarlier next) (λ m earlier other wanted. (let lower = earlier other wanted in omega arith)) front before in
+      let behind = rest next (subst (λ (n : Option PageName). ReadsPages base n more pages) is reads) (subst (λ (n : Option PageName). link_behind n pages ≡ Some name) is links)
+      (All-push (IsForEarlier next) front made all own) in
+      record {
+        are = (λ other wanted. subst (λ (n : PageName). All (IsForEarlier n) front) (its_name other wanted) before, behind.are);
+        behind = subst (All (IsForEarlier name)) (append_assoc front (made ∷ []) more) behind.behind;
+      }
+
+  behind_one : ReadNew front (made ∷ more) name
+  behind_one = by_next page.next refl
+
+read_new : (base : BaseParts) (first name : PageName) (front made : List Made) (pages : List Page) → ReadsPages base (Some first) made pages → link_behind (Some first) pages ≡ Some name → All (IsForEarlier first) front →
+    ReadNew front made name
+read_new base first name front [] [] reads links before =
+    let same : first ≡ name = cc in
+    record { are = tt; behind = subst (All (IsForEarlier name)) (sym (append-nil front)) (subst (λ (n : PageName). All (IsForEarlier n) front) same before) }
+read_new base first name front [] (page ∷ pages) reads links before = absurd reads
+read_new base first name front (made ∷ more) [] reads links before = absurd reads
+read_new base first name front (made ∷ more) (page ∷ pages) (read, reads) links before =
+    behind_one base first name front made more page pages read reads links before (λ next onward links_on earlier. read_new base next name (front ++ made ∷ []) more pages onward links_on earlier)
+
+not_gate : (name : PageName) → wants.Gate ≡ wants.Page name → ⊥
+not_gate name same = cc
+
+not_stops : (name : PageName) → wants.Stops ≡ wants.Page name → ⊥
+not_stops name same = cc
+
+-- whatever a client has come to want is new, and so was all that it met
+pub record HasComeNew (made : List Made) (want : Want) : Type 0 where
+  pub are : AreNew [] made
+  pub is : (name : PageName) → want ≡ wants.Page name → All (IsForEarlier name) made
+
+come_reading : (base : BaseParts) (query : Query) (version : Option ℕ) (made : List Made) (name : PageName) → IsReading base query version made name → HasComeNew made (wants.Page name)
+come_reading base query version made name came =
+    let gate : Made = reply_to wants.Gate came.gate in
+    let stops : Made = reply_to wants.Stops came.stops in
+    let front : List Made = gate ∷ stops ∷ [] in
+    let not_for : (n : PageName) → All (IsForEarlier n) front = λ n.
+    All-cons (IsForEarlier n) gate (stops ∷ []) (λ earlier wanted. absurd (not_gate earlier wanted))
+    (All-cons (IsForEarlier n) stops [] (λ earlier wanted. absurd (not_stops earlier wanted)) (All-nil (IsForEarlier n))) in
+    let pages : ReadNew front came.for_pages name = read_new base came.first name front came.for_pages came.pages came.reads came.links (not_for came.first) in
+    record {
+      are = subst (AreNew []) (sym came.was_made) (λ n wanted. absurd (not_gate n wanted), (λ n wanted. absurd (not_stops n wanted), pages.are));
+      is = λ n same. subst (All (IsForEarlier n)) (sym came.was_made) (subst (λ (x : PageName). All (IsForEarlier x) (front ++ came.for_pages)) (same_name name n same) pages.behind);
+    }
+
+pub come_new : (base : BaseParts) (query : Query) (version : Option ℕ) (made : List Made) (want : Want) → HasComeTo base query version made want → HasComeNew made want
+come_new base query version made wants.Gate came = record { are = subst (AreNew []) (sym came.nothing_made) tt; is = λ name same. absurd (not_gate name same) }
+come_new base query version made wants.Stops came =
+    record { are = subst (AreNew []) (sym came.was_made) (λ name wanted. absurd (not_gate name wanted), tt); is = λ name same. absurd (not_stops name same) }
+come_new base query version made (wants.Page name) came = come_reading base query version made name came
+come_new base query version made wants.Finished came = absurd came

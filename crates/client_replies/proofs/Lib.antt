@@ -1,5 +1,8 @@
+pub mod AloneLemmas
+pub mod ClientsLemmas
 pub mod CourseLemmas
 pub mod MadeLemmas
+pub mod MetLemmas
 pub mod OneEndLemmas
 pub mod RunLemmas
 pub mod StepLemmas

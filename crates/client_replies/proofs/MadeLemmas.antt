@@ -16,16 +16,16 @@ entries_more base query (m ∷ made) [] one entry are is = absurd are
 entries_more base query (m ∷ made) (e ∷ entries) one entry are is = (are.0, entries_more base query made entries one entry are.1 is)
 
 -- an exchange is told so, whether it was replied to or failed
-told_by : (before after : Option (List Entry)) (authority request : List ℕ) (got : Got) → Tells before after authority request (bytes_of got) (result_of got) → TellsMore before after authority request got
+pub told_by : (before after : Option (List Entry)) (authority request : List ℕ) (got : Got) → Tells before after authority request (bytes_of got) (result_of got) → TellsMore before after authority request got
 told_by before after authority request (Some reply) tells = tells
 told_by before after authority request None tells = tells
 
-grows : (told : Option (List Entry)) (entries : List Entry) (entry : Entry) →
+pub grows : (told : Option (List Entry)) (entries : List Entry) (entry : Entry) →
     option_map (λ (t : List Entry). t ++ entry ∷ []) (option_map (λ (t : List Entry). t ++ entries) told) ≡ option_map (λ (t : List Entry). t ++ (entries ++ entry ∷ [])) told
 grows None entries entry = refl
 grows (Some told) entries entry = ap Some (append_assoc told entries (entry ∷ []))
 
-stays : (told : Option (List Entry)) → told ≡ option_map (λ (t : List Entry). t ++ []) told
+pub stays : (told : Option (List Entry)) → told ≡ option_map (λ (t : List Entry). t ++ []) told
 stays None = refl
 stays (Some told) = ap Some (sym (append-nil told))
 

@@ -1,5 +1,5 @@
 -- That how a client ended is one for the replies that it got, and these are those that a link tells.
-use Rattle.std.specs.Prelude.{◌≡◌, ℕ, List, ◌++◌, map, Option, Some}
+use Rattle.std.specs.Prelude.{◌≡◌, ℕ, List, [], ◌∷◌, ◌++◌, length, map, Option, Some}
 use Rattle.std.specs.List.{All}
 use Rattle.lc_model.specs.Journey.{arrives_at}
 use Rattle.lc_model.specs.declared.query.Query.{Query}
@@ -10,7 +10,8 @@ use Rattle.lc_world.specs.declared.entry.ToldReply.TheVariants.{Hidden}
 use Rattle.page_client.specs.declared.outcome.Outcome.{Outcome}
 use Rattle.page_client.specs.declared.outcome.Outcome.TheVariants as outcomes
 use Rattle.client_replies.specs.Ends.{EndsBy}
-use Rattle.client_replies.specs.Made.{AreEntriesOf, Made}
+use Rattle.client_replies.specs.Made.{AreEntriesOf, Made, TellsAll}
+use Rattle.client_replies.specs.Met.{AreMet, Met, exchanges_by, met_by}
 use Rattle.client_replies.specs.Run.{HasAsked}
 
 -- The outcomes say the same: journeys that arrive at one moment, or that there is none, or one refusal, or that the link failed, or one
@@ -57,3 +58,10 @@ OneToldEnd {X} seen =
     → (seen before).told ≡ Some told → (seen after).told ≡ Some (told ++ entries) → All TellsReply entries
     → (asked_a : HasAsked base query (seen before) (seen after) version_a exchanges_a a) (asked_b : HasAsked base query (seen before) (seen after) version_b exchanges_b b)
     → IsOneEnd asked_a.made asked_b.made version_a version_b a b
+
+-- who is alone among the clients met all by exchanges of its own: they are counted, and told where the link tells exchanges
+abbrev pub AloneAsksAll : Type 0
+AloneAsksAll =
+    (base : BaseParts) (query : Query) (before after : Option (List Entry)) (faults now_faults : ℕ) (version : Option ℕ) (all : List Met) (outcome : Outcome)
+    → AreMet base (query ∷ []) before after faults now_faults all → EndsBy base query faults now_faults version (met_by 1 all) outcome
+    → (exchanges_by 1 all ≡ length (met_by 1 all)) × TellsAll base query (met_by 1 all) before after

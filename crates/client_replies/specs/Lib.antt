@@ -2,4 +2,5 @@ pub mod Course
 pub mod Ends
 pub mod Laws
 pub mod Made
+pub mod Met
 pub mod Run

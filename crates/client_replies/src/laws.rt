@@ -1,4 +1,4 @@
-ghost use Rattle.client_replies.specs.Laws.{GotIsTold, OneEnd, OneToldEnd};
+ghost use Rattle.client_replies.specs.Laws.{AloneAsksAll, GotIsTold, OneEnd, OneToldEnd};
 ghost use Rattle.client_replies.specs.Run.{EndsByItsReplies};
 
 use lc_world::Link;
@@ -21,4 +21,10 @@ pub fn one_end()
 pub fn one_told_end<L: Link>()
     ensures got { GotIsTold }
     ensures end { OneToldEnd L.seen }
+{}
+
+/// Whoever is alone among the clients never comes to want a page twice, and so met all by exchanges of its own, which are told: it has
+/// asked as a client that asks alone.
+pub fn alone_asks_all()
+    ensures { AloneAsksAll }
 {}

@@ -1,7 +1,7 @@
-//! What a client that asks alone has read, over any link, and how it ended by that: a definition with its law. It stands on `convoy` and
-//! the crates below it.
+//! What clients have read, over any link, those that take turns and one that asks alone, and how each ended by that: definitions with their
+//! laws. It stands on `convoy` and the crates below it.
 #![tactic(auto)]
 
 mod laws;
 
-pub use laws::{alone_over_any_link, one_end, one_told_end};
+pub use laws::{alone_asks_all, alone_over_any_link, one_end, one_told_end};
