@@ -1,6 +1,6 @@
 ghost use Rattle.std.specs.Prelude.{◌≡◌, Some};
 ghost use Rattle.change_table.specs.Texts.{fault_text};
-ghost use Rattle.change_table.specs.declared.fault.ChangeFault.TheVariants.{NoMemory as want_of_memory};
+ghost use Rattle.change_table.specs.declared.fault.ChangeFault.TheVariants.{NoMemory as OutOfMemory};
 
 use lc_model::NoMemory;
 use std::alloc::{AllocError, AllocFailed};
@@ -33,7 +33,7 @@ impl fmt::Display for ChangeFault {
 impl Error for ChangeFault {}
 
 impl From<NoMemory> for ChangeFault {
-    ghost from_gives = { λ _ fault. fault ≡ want_of_memory };
+    ghost from_gives = { λ _ fault. fault ≡ OutOfMemory };
 
     fn from(_: NoMemory) -> ChangeFault {
         ChangeFault::NoMemory
@@ -41,7 +41,7 @@ impl From<NoMemory> for ChangeFault {
 }
 
 impl<T: Drop> From<AllocFailed<T>> for ChangeFault {
-    ghost from_gives = { λ _ fault. fault ≡ want_of_memory };
+    ghost from_gives = { λ _ fault. fault ≡ OutOfMemory };
 
     fn from(_: AllocFailed<T>) -> ChangeFault {
         ChangeFault::NoMemory

@@ -34,10 +34,10 @@ impl From<LoadFault> for Refusal {
 
 impl From<NoMemory> for Refusal {
     ghost use Rattle.std.specs.Prelude.{◌≡◌};
-    ghost use Rattle.timetable.specs.declared.fault.LoadFault.TheVariants.{NoMemory as no_memory};
+    ghost use Rattle.timetable.specs.declared.fault.LoadFault.TheVariants.{NoMemory as OutOfMemory};
     ghost use Rattle.command_inputs.specs.declared.refusal.Refusal.TheVariants.{Load};
 
-    ghost from_gives = { λ _ refusal. refusal ≡ Load no_memory };
+    ghost from_gives = { λ _ refusal. refusal ≡ Load OutOfMemory };
 
     fn from(_: NoMemory) -> Refusal {
         Refusal::Load(LoadFault::NoMemory)
@@ -46,10 +46,10 @@ impl From<NoMemory> for Refusal {
 
 impl<T: Drop> From<AllocFailed<T>> for Refusal {
     ghost use Rattle.std.specs.Prelude.{◌≡◌};
-    ghost use Rattle.timetable.specs.declared.fault.LoadFault.TheVariants.{NoMemory as no_memory};
+    ghost use Rattle.timetable.specs.declared.fault.LoadFault.TheVariants.{NoMemory as OutOfMemory};
     ghost use Rattle.command_inputs.specs.declared.refusal.Refusal.TheVariants.{Load};
 
-    ghost from_gives = { λ _ refusal. refusal ≡ Load no_memory };
+    ghost from_gives = { λ _ refusal. refusal ≡ Load OutOfMemory };
 
     fn from(_: AllocFailed<T>) -> Refusal {
         Refusal::Load(LoadFault::NoMemory)

@@ -1,6 +1,6 @@
 ghost use Rattle.std.specs.Prelude.{◌≡◌, Some};
 ghost use Rattle.gtfs_fields.specs.Texts.{fault_text};
-ghost use Rattle.gtfs_fields.specs.declared.fault.FileFault.TheVariants.{NoMemory as want_of_memory};
+ghost use Rattle.gtfs_fields.specs.declared.fault.FileFault.TheVariants.{NoMemory as OutOfMemory};
 
 use lc_model::NoMemory;
 use std::alloc::{AllocError, AllocFailed};
@@ -37,7 +37,7 @@ impl fmt::Display for FileFault {
 impl Error for FileFault {}
 
 impl From<NoMemory> for FileFault {
-    ghost from_gives = { λ _ fault. fault ≡ want_of_memory };
+    ghost from_gives = { λ _ fault. fault ≡ OutOfMemory };
 
     fn from(_: NoMemory) -> FileFault {
         FileFault::NoMemory
@@ -45,7 +45,7 @@ impl From<NoMemory> for FileFault {
 }
 
 impl From<AllocError> for FileFault {
-    ghost from_gives = { λ _ fault. fault ≡ want_of_memory };
+    ghost from_gives = { λ _ fault. fault ≡ OutOfMemory };
 
     fn from(_: AllocError) -> FileFault {
         FileFault::NoMemory
@@ -53,7 +53,7 @@ impl From<AllocError> for FileFault {
 }
 
 impl<T: Drop> From<AllocFailed<T>> for FileFault {
-    ghost from_gives = { λ _ fault. fault ≡ want_of_memory };
+    ghost from_gives = { λ _ fault. fault ≡ OutOfMemory };
 
     fn from(_: AllocFailed<T>) -> FileFault {
         FileFault::NoMemory

@@ -1,6 +1,6 @@
 ghost use Rattle.std.specs.Prelude.{◌≡◌, Some};
 ghost use Rattle.trip_runs.specs.Texts.{fault_text};
-ghost use Rattle.trip_runs.specs.declared.load_fault.LoadFault.TheVariants.{NoMemory as want_of_memory};
+ghost use Rattle.trip_runs.specs.declared.load_fault.LoadFault.TheVariants.{NoMemory as OutOfMemory};
 
 use lc_model::NoMemory;
 use std::alloc::{AllocError, AllocFailed};
@@ -35,7 +35,7 @@ impl fmt::Display for LoadFault {
 impl Error for LoadFault {}
 
 impl From<NoMemory> for LoadFault {
-    ghost from_gives = { λ _ fault. fault ≡ want_of_memory };
+    ghost from_gives = { λ _ fault. fault ≡ OutOfMemory };
 
     fn from(_: NoMemory) -> LoadFault {
         LoadFault::NoMemory
@@ -43,7 +43,7 @@ impl From<NoMemory> for LoadFault {
 }
 
 impl From<AllocError> for LoadFault {
-    ghost from_gives = { λ _ fault. fault ≡ want_of_memory };
+    ghost from_gives = { λ _ fault. fault ≡ OutOfMemory };
 
     fn from(_: AllocError) -> LoadFault {
         LoadFault::NoMemory
@@ -51,7 +51,7 @@ impl From<AllocError> for LoadFault {
 }
 
 impl<T: Drop> From<AllocFailed<T>> for LoadFault {
-    ghost from_gives = { λ _ fault. fault ≡ want_of_memory };
+    ghost from_gives = { λ _ fault. fault ≡ OutOfMemory };
 
     fn from(_: AllocFailed<T>) -> LoadFault {
         LoadFault::NoMemory

@@ -1,6 +1,6 @@
 ghost use Rattle.std.specs.Prelude.{◌≡◌, Some};
 ghost use Rattle.version_store.specs.Texts.{fault_text};
-ghost use Rattle.version_store.specs.declared.admission.AdmitFault.TheVariants.{NoMemory as want_of_memory};
+ghost use Rattle.version_store.specs.declared.admission.AdmitFault.TheVariants.{NoMemory as OutOfMemory};
 
 use lc_model::{Moment, NoMemory};
 use lc_time::iso_text;
@@ -60,7 +60,7 @@ impl fmt::Display for AdmitFault {
 impl Error for AdmitFault {}
 
 impl From<NoMemory> for AdmitFault {
-    ghost from_gives = { λ _ fault. fault ≡ want_of_memory };
+    ghost from_gives = { λ _ fault. fault ≡ OutOfMemory };
 
     fn from(_: NoMemory) -> AdmitFault {
         AdmitFault::NoMemory
@@ -68,7 +68,7 @@ impl From<NoMemory> for AdmitFault {
 }
 
 impl<T: Drop> From<AllocFailed<T>> for AdmitFault {
-    ghost from_gives = { λ _ fault. fault ≡ want_of_memory };
+    ghost from_gives = { λ _ fault. fault ≡ OutOfMemory };
 
     fn from(_: AllocFailed<T>) -> AdmitFault {
         AdmitFault::NoMemory
