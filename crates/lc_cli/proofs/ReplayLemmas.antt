@@ -5,6 +5,8 @@ use Rattle.asking.specs.Client.{shown_of}
 use Rattle.asking.specs.Publishing.{side_with}
 use Rattle.asking.specs.declared.end.ClientEnd.{ClientEnd}
 use Rattle.client_answers.specs.Fits.{HasEnded}
+use Rattle.client_replies.specs.Ends.{EndsBy}
+use Rattle.client_replies.specs.Made.{Made}
 use Rattle.command_inputs.specs.Script.{IsEventOf, IsRefusedAt, IsReplayRefused, ReadsEvents, ReadsReplay, StopsAtRecord}
 use Rattle.command_inputs.specs.declared.refusal.Refusal.{Refusal}
 use Rattle.command_inputs.specs.declared.refusal.Refusal.TheVariants as refused
@@ -19,7 +21,6 @@ use Rattle.page_client.specs.declared.outcome.Outcome.{Outcome}
 use Rattle.page_client.specs.declared.outcome.Outcome.TheVariants as outcomes
 use Rattle.page_client.specs.declared.want.Want.{Want}
 use Rattle.publisher_side.specs.Side.{Side}
-use Rattle.replay_course.specs.Caused.{IsCaused}
 use Rattle.replay_course.specs.Events.{questions_in}
 use Rattle.replay_course.specs.Replayed.{IsReplayed}
 use Rattle.replay_course.specs.declared.event.Event.{Event}
@@ -96,13 +97,13 @@ no_faults_at [] at = tt
 no_faults_at (end ∷ more) at = (at 0 end refl, no_faults_at more (λ place other is. at (suc place) other is))
 
 -- over a link in whose exchanges no fault was counted a client that ended rightly has no fault
-no_fault_of : (side : Side) (given : List Want) (query : Query) (end : ClientEnd) (base : _) (before after : ℕ) (outcome : Outcome) → IsCaused base query before after outcome
+no_fault_of : (side : Side) (given : List Want) (query : Query) (end : ClientEnd) (base : _) (before after : ℕ) (version : Option ℕ) (made : List Made) (outcome : Outcome) → EndsBy base query before after version made outcome
     → HasEnded side (shown_of query end) given (Some outcome) → (Rose before after → ⊥) → IsNoFault outcome
-no_fault_of side given query end base before after (outcomes.Found journey) caused ended no_fault = tt
-no_fault_of side given query end base before after outcomes.NoJourney caused ended no_fault = tt
-no_fault_of side given query end base before after (outcomes.Refused found) caused ended no_fault = tt
-no_fault_of side given query end base before after (outcomes.LinkFault low high) caused ended no_fault = absurd (no_fault (omega (arith, caused.from, caused.to, caused.rose)))
-no_fault_of side given query end base before after (outcomes.PeerWrong reply found) caused ended no_fault = absurd ended
+no_fault_of side given query end base before after version made (outcomes.Found journey) ends ended no_fault = tt
+no_fault_of side given query end base before after version made outcomes.NoJourney ends ended no_fault = tt
+no_fault_of side given query end base before after version made (outcomes.Refused found) ends ended no_fault = tt
+no_fault_of side given query end base before after version made (outcomes.LinkFault low high) ends ended no_fault = absurd (no_fault (omega (arith, ends.from, ends.up_to, ends.rose)))
+no_fault_of side given query end base before after version made (outcomes.PeerWrong reply found) ends ended no_fault = absurd ended
 
 module _ (loads_told : LoadsTold) where
   -- the course that was played is the one of the told files
@@ -126,7 +127,7 @@ module _ (loads_told : LoadsTold) where
       no_faults_at block.ends.items (λ place end is.
       let query = some_at block.ends.items (questions_in x.all) place end x.replayed.one_each is in
       let ends = right.clients place query.0 end query.1 is in
-      no_fault_of _ _ query.0 end replay.publishing.base before.faults after.faults end.outcome (x.replayed.caused place query.0 end query.1 is) ends.ended fair.link.no_fault)
+      no_fault_of _ _ query.0 end replay.publishing.base before.faults after.faults end.version _ end.outcome (x.replayed.caused.clients place query.0 end query.1 is).ends ends.ended fair.link.no_fault)
 
 module _ (one_script : OneScript) (never_both : NeverBoth) (not_broken : NotBroken) (not_too_large : NotTooLarge) (told : List File) (replay : Replay) (old new : FolderSeen)
     (tells : old.files ≡ Some told) (made : Timetable) (all : List Event) (course : IsToldCourse told replay made all) (no_fault : Rose old.faults new.faults → ⊥) where

@@ -1,5 +1,4 @@
 mod BeginsLemmas
-mod CausedClientLemmas
 mod CausedCourseLemmas
 mod CausedEndsLemmas
 mod EventLemmas

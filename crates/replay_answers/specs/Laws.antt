@@ -1,18 +1,17 @@
 -- What courses come to that were played over a link. X is the type of the link, and `seen` what is promised of it.
-use Rattle.std.specs.Prelude.{◌≡◌, ◌≤◌, ℕ, ◌+◌, List, Some, length, slice_get}
+use Rattle.std.specs.Prelude.{◌≡◌, ◌≤◌, ℕ, List, Some, length}
 use Rattle.std.specs.List.{All}
 use Rattle.command_words.specs.declared.command.Publishing.{Publishing}
 use Rattle.connection_uri.specs.Base.{BaseParts}
 use Rattle.convoy.specs.Finish.{Rounds}
 use Rattle.convoy.specs.State.{ConvoyState, begun}
-use Rattle.lc_model.specs.declared.query.Query.{Query}
 use Rattle.lc_world.specs.Link.{LinkSeen}
 use Rattle.publisher_side.specs.Side.{IsValidSide}
 use Rattle.timetable.specs.declared.timetable.Timetable.{Timetable}
 use Rattle.asking.specs.Block.{IsPrintable}
 use Rattle.asking.specs.Publishing.{side_with, store_of}
 use Rattle.asking.specs.declared.end.ClientEnd.{ClientEnd}
-use Rattle.replay_course.specs.Caused.{IsCaused}
+use Rattle.replay_course.specs.Caused.{AreCaused}
 use Rattle.replay_course.specs.Events.{TurnsAreOfClients, questions_in}
 use Rattle.replay_course.specs.Played.{HaveEndedSo, Plays}
 use Rattle.replay_course.specs.Right.{ArePlayedRight}
@@ -40,8 +39,7 @@ PlaysRight {X} seen =
 pub record ArePlayedCaused (base : BaseParts) (all : List Event) (before after : LinkSeen) (lines : List ℕ) (ends : List ClientEnd) : Type 0 where
   pub have_lines : HaveLines all lines
   pub one_each : length ends ≡ length (questions_in all)
-  pub caused : (place : ℕ) (query : Query) (end : ClientEnd) → slice_get (questions_in all) place ≡ Some query → slice_get ends place ≡ Some end
-      → IsCaused base query before.faults after.faults end.outcome
+  pub caused : AreCaused base all before.told after.told before.faults after.faults ends
   pub printable : All (λ (end : ClientEnd). IsPrintable end.outcome) ends
   pub clear : before.clear → after.clear
   pub not_fallen : before.faults ≤ after.faults
@@ -50,5 +48,5 @@ pub record ArePlayedCaused (base : BaseParts) (all : List Event) (before after :
 abbrev pub PlaysCaused : {X : Type 0} → (X → LinkSeen) → Type 0
 PlaysCaused {X} seen =
     (base : BaseParts) (all : List Event) (cache : ℕ) (played ended : ConvoyState) (start behind after : X) (lines : List ℕ) (ends : List ClientEnd)
-    → Plays seen all (begun base cache) played start behind lines → Rounds seen (length played.members) played ended behind after
+    → TurnsAreOfClients all → Plays seen all (begun base cache) played start behind lines → Rounds seen (length played.members) played ended behind after
     → HaveEndedSo ended.members ends → ArePlayedCaused base all (seen start) (seen after) lines ends

@@ -1,74 +1,45 @@
--- That how a client ended has its cause, whatever the link is.
-use Rattle.std.specs.Prelude.{◌≡◌, ◌⊎◌, ◌≤◌, ℕ, true, List, Option, Some, None, Ok, Err}
+-- That how each client ended has its cause, whatever the link is: the replies that were got in its turns.
+use Rattle.std.specs.Prelude.{◌≡◌, ◌≢◌, ◌⊎◌, ◌≤◌, ℕ, ◌+◌, List, [], ◌∷◌, Option, Some, slice_get}
+use Rattle.std.specs.List.{All}
+use Rattle.asking.specs.declared.end.ClientEnd.{ClientEnd}
+use Rattle.client_replies.specs.Ends.{EndsBy}
+use Rattle.client_replies.specs.Met.{AreMet, Met, exchanges_by, met_by}
 use Rattle.connection_uri.specs.Base.{BaseParts}
-use Rattle.convoy_answers.specs.Leaves.{RoseWithin}
-use Rattle.lc_model.specs.Journey.{arrives_at}
-use Rattle.lc_model.specs.Question.{latest_of}
-use Rattle.lc_model.specs.Stop.{HasStop}
-use Rattle.lc_model.specs.declared.doc.StopsDoc.{StopsDoc}
-use Rattle.lc_model.specs.declared.journey.Journey.{Journey}
-use Rattle.lc_model.specs.declared.page.PageName.{PageName}
 use Rattle.lc_model.specs.declared.query.Query.{Query}
-use Rattle.client_replies.specs.Ends.{FailsTest}
-use Rattle.page_client.specs.Gate.{IsGateReply}
-use Rattle.page_client.specs.Shown.{IsRefusal, is_off}
-use Rattle.page_client.specs.Stops.{IsStopsReply}
-use Rattle.page_client.specs.declared.fault.PeerFault.{PeerFault}
-use Rattle.page_client.specs.declared.fault.PeerFault.TheVariants.{GateWrong}
-use Rattle.page_client.specs.declared.fault.QueryFault.{QueryFault}
-use Rattle.page_client.specs.declared.fault.QueryFault.TheVariants.{HorizonRange, SameStop, UnknownFrom, UnknownTo}
-use Rattle.page_client.specs.declared.outcome.Outcome.{Outcome}
-use Rattle.page_client.specs.declared.outcome.Outcome.TheVariants as outcomes
-use Rattle.page_client.specs.declared.want.Want.{Want}
-use Rattle.page_json.specs.declared.page.Page.{Page}
+use Rattle.lc_world.specs.declared.entry.Entry.{Entry}
+use Rattle.replay_course.specs.Events.{questions_in, turns_in}
+use Rattle.replay_course.specs.declared.event.Event.{Event}
 
--- the question was accepted, and the journey arrives within its horizon
-pub record IsInTime (query : Query) (journey : Journey) : Type 0 where
-  pub accepted : IsRefusal query None
-  pub in_time : arrives_at journey ≤ latest_of query
+-- none of them is of the client
+abbrev pub NoneIsOf : ℕ → List Met → Type 0
+NoneIsOf client all = All (λ (met : Met). met.client ≢ client) all
 
--- a reply with a stops document was read that lacks the stop where the question begins
-pub record ReadsNoFrom (query : Query) : Type 0 where
-  pub accepted : IsRefusal query None
-  pub reply : List ℕ
-  pub doc : StopsDoc
-  pub says : IsStopsReply reply (Ok doc)
-  pub no_from : HasStop doc.stops query.from → ⊥
+-- the numbers of their clients never fall
+abbrev pub AreByNumber : List Met → Type 0
+AreByNumber [] = Unit {0}
+AreByNumber (met ∷ more) = All (λ (later : Met). met.client ≤ later.client) more × AreByNumber more
 
--- or one that lacks the stop where it ends
-pub record ReadsNoTo (query : Query) : Type 0 where
-  pub accepted : IsRefusal query None
-  pub reply : List ℕ
-  pub doc : StopsDoc
-  pub says : IsStopsReply reply (Ok doc)
-  pub from : HasStop doc.stops query.from
-  pub no_to : HasStop doc.stops query.to → ⊥
+-- the first of them is of the client, and these are the rest
+pub record BeginWith (client : ℕ) (all rest : List Met) : Type 0 where
+  pub first : Met
+  pub is : all ≡ first ∷ rest
+  pub own : first.client ≡ client
 
--- why the question was refused
-abbrev pub IsRefusedFor : Query → QueryFault → Type 0
-IsRefusedFor query HorizonRange = IsRefusal query (Some HorizonRange)
-IsRefusedFor query SameStop = IsRefusal query (Some SameStop)
-IsRefusedFor query UnknownFrom = ReadsNoFrom query
-IsRefusedFor query UnknownTo = ReadsNoTo query
+-- All this was met in turns of these clients, one after the other, and behind them. In each turn its client met one want, or else it met
+-- none any more; behind the last turn each client met what it still wanted, client 1 first.
+abbrev pub AreMetInTurns : List ℕ → List Met → Type 0
+AreMetInTurns [] all = AreByNumber all
+AreMetInTurns (client ∷ turns) all = ((rest : List Met) × BeginWith client all rest × AreMetInTurns turns rest) ⊎ (NoneIsOf client all × AreMetInTurns turns all)
 
--- the reply fails the test in the place of something that the client may want
-pub record FailsSome (base : BaseParts) (query : Query) (reply : List ℕ) (fault : PeerFault) : Type 0 where
-  pub want : Want
-  pub fails : FailsTest base query want reply fault
+-- the client of this number ended by the replies to what it met, and its exchanges are counted
+pub record EndsByMet (base : BaseParts) (query : Query) (faults now_faults : ℕ) (number : ℕ) (met : List Met) (end : ClientEnd) : Type 0 where
+  pub ends : EndsBy base query faults now_faults end.version (met_by number met) end.outcome
+  pub exchanges : end.exchanges ≡ exchanges_by number met
 
--- the reply is that of the gate, which sent to a page that is not the one for the moment at which the question leaves
-pub record IsSentWrong (base : BaseParts) (query : Query) (reply : List ℕ) (fault : PeerFault) : Type 0 where
-  pub first : PageName
-  pub sends : IsGateReply base query.leave reply (Ok first)
-  pub page : Page
-  pub is_page : page.name ≡ first
-  pub off : is_off query.leave page ≡ true
-  pub fault_is : fault ≡ GateWrong page
-
--- the cause of an outcome, where the link's count of faults went from the one to the other
-abbrev pub IsCaused : BaseParts → Query → ℕ → ℕ → Outcome → Type 0
-IsCaused base query before after (outcomes.Found journey) = IsInTime query journey
-IsCaused base query before after outcomes.NoJourney = IsRefusal query None
-IsCaused base query before after (outcomes.Refused fault) = IsRefusedFor query fault
-IsCaused base query before after (outcomes.LinkFault low high) = RoseWithin before after low high
-IsCaused base query before after (outcomes.PeerWrong reply fault) = FailsSome base query reply fault ⊎ IsSentWrong base query reply fault
+-- The clients of a course ended so over a link that told these exchanges, and had these counts of faults.
+pub record AreCaused (base : BaseParts) (all : List Event) (told now_told : Option (List Entry)) (faults now_faults : ℕ) (ends : List ClientEnd) : Type 0 where
+  pub met : List Met
+  pub in_turns : AreMetInTurns (turns_in all) met
+  pub by_replies : AreMet base (questions_in all) told now_told faults now_faults met
+  pub clients : (place : ℕ) (query : Query) (end : ClientEnd) → slice_get (questions_in all) place ≡ Some query → slice_get ends place ≡ Some end
+      → EndsByMet base query faults now_faults (place + 1) met end

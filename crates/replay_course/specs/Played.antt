@@ -1,6 +1,6 @@
 -- What was done in a course: clients asked, the publisher behind the link was given messages, and clients had turns. X is the type of the
 -- link, and `seen` what is promised of it.
-use Rattle.std.specs.Prelude.{◌≡◌, ℕ, List, [], ◌∷◌, ◌++◌, Option, Some, None}
+use Rattle.std.specs.Prelude.{◌≡◌, ℕ, List, [], ◌∷◌, ◌++◌, Some}
 use Rattle.connection_uri.specs.Base.{BaseParts}
 use Rattle.convoy.specs.Finish.{IsStep}
 use Rattle.convoy.specs.State.{Adds, ConvoyState}

@@ -32,7 +32,7 @@ module _ {L : Type 0} (seen : L → LinkSeen) (plays_right : PlaysRight (home_se
 
   replayed : IsReplayed made publishing all cache (seen before.outer) (seen after.outer) text ends
   replayed =
-      let caused = plays_caused publishing.base all cache x.played x.ended before x.behind after x.lines ends x.plays x.rounds x.have_ended in
+      let caused = plays_caused publishing.base all cache x.played x.ended before x.behind after x.lines ends turns x.plays x.rounds x.have_ended in
       record {
         lines = x.lines;
         have_lines = caused.have_lines;

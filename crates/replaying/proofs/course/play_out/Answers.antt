@@ -13,7 +13,7 @@ text_of-requires g c =
     let plays = subst (λ (s : ConvoyState). Plays (home_seen g.L.Link.seen) c.args.events.items s c.play.new.convoy c.args.home.now c.play.new.home c.in_ok-lines.lines.items) c.in_ok-convoy.ensures
     c.in_ok-lines.ensures in
     let caused = c.courses_are_caused.ensures c.args.base c.args.events.items c.args.cache c.play.new.convoy c.finish.new.self c.args.home.now c.play.new.home c.finish.new.link
-    c.in_ok-lines.lines.items c.in_ok-ends.ends.items plays c.in_ok-finish.ensures.rounds c.in_ok-ends.ensures in
+    c.in_ok-lines.lines.items c.in_ok-ends.ends.items c.requires.turns plays c.in_ok-finish.ensures.rounds c.in_ok-ends.ensures in
     subst (λ (ends : List ClientEnd). All (λ (end : ClientEnd). IsPrintable end.outcome) ends) (sym c.as_slice.ensures.value) caused.printable
 
 pub returns : goal.returns
