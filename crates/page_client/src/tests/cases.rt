@@ -18,7 +18,8 @@ A D 28800 3: seconds => no journey, 6"
 
 /// The tests of a reply in their order: each is failed by replies that pass those before it, alone and beside a later one.
 pub fn faults() -> &'static str {
-    "A D 28800 86400: long => peer wrong reply, 1
+    "A D 28800 86400: long/012345678 => peer wrong reply, 1
+A D 28800 86400: long/0123456789 => peer wrong reply, 1
 A D 28800 86400: gate/08:00:00 cut => peer wrong reply, 2
 A D 28800 86400: gate/08:00:00 stops gone => peer wrong reply, 3
 A D 28800 86400: fine/08:00:00 => peer wrong status 200, 1

@@ -137,12 +137,13 @@ fn put_parts(text: &mut String, parts: &str) -> Result<(), NoMemory> {
     put(text, &["]}"])
 }
 
-fn put_long(text: &mut String) -> Result<(), NoMemory> {
-    put(text, &["HTTP/1.1 200 OK\r\nx: "])?;
-    for _ in 0..1_700 {
+/// A head of the gate that does not end: of 16,375 bytes and those of `rest`.
+fn put_long(text: &mut String, rest: &str) -> Result<(), NoMemory> {
+    put(text, &["HTTP/1.1 302 Found\r\nVia: "])?;
+    for _ in 0..1_635 {
         put(text, &["0123456789"])?;
     }
-    Ok(())
+    put(text, &[rest])
 }
 
 /// The text before the first slash, and the text behind it.
@@ -182,7 +183,7 @@ pub fn reply(alloc: Global, word: &str) -> Result<Vec<u8>, NoMemory> {
             put(&mut text, &["HTTP/1.1 200 OK\r\n\r\n{"])?;
             put_parts(&mut text, parts)?;
         }
-        _ => put_long(&mut text)?,
+        _ => put_long(&mut text, parts)?,
     }
     Ok(text.into_bytes())
 }
