@@ -28,7 +28,8 @@ fn tiny_stops() -> &'static str {
     r#"{"changes":[],"stops":[{"id":"A"},{"id":"B"},{"id":"C"},{"id":"D"},{"id":"E"},{"id":"F"}]}"#
 }
 
-/// A message of 07:00:00 by which T1 arrives at its second call 60 seconds late, or its first 40 bytes.
+/// A message of 07:00:00 by which T1 arrives at its second call 60 seconds late, or its first 40 bytes; or by which it leaves out
+/// that call.
 fn message(word: &str) -> &'static [u8] {
     match word {
         "late" => {
@@ -36,6 +37,9 @@ fn message(word: &str) -> &'static [u8] {
         }
         "cut" => {
             b"\x0a\x0d\x0a\x032.0\x10\x00\x18\xf0\xd0\xc7\xb1\x06\x12\x1d\x0a\x011\x1a\x18\x0a\x0e\x0a\x02T1\x1a\x0820240501\x12\x06"
+        }
+        "skipped" => {
+            b"\x0a\x0d\x0a\x032.0\x10\x00\x18\xf0\xd0\xc7\xb1\x06\x12\x1b\x0a\x011\x1a\x16\x0a\x0e\x0a\x02T1\x1a\x0820240501\x12\x04\x08\x02\x28\x01"
         }
         _ => b"",
     }
@@ -220,6 +224,25 @@ fn pages_are_cut(rt: HostRuntime) -> Result<(), Fail> {
     let mut whole = publisher(alloc, tiny(), tiny_stops(), Cutting::Whole, false)?;
     let wrong = first_wrong(alloc, &mut whole, replies_whole())?;
     assert!(rt; wrong.is_empty(), "{wrong}");
+    Ok(())
+}
+
+/// The connections of the trip T1 where it leaves out its second stop: one, named by the call that it departs from.
+fn graph_over_a_stop() -> &'static str {
+    r#","@graph":[{"@id":"http://lc.example/connections/T1/20240501/-/1","@type":"Connection","arrivalDelay":0,"arrivalStop":"http://lc.example/stops/C","arrivalTime":"2024-05-01T08:30:00.000Z","departureDelay":0,"departureStop":"http://lc.example/stops/A","departureTime":"2024-05-01T08:00:00.000Z","gtfs:dropOffType":"gtfs:Regular","gtfs:pickupType":"gtfs:Regular","gtfs:trip":"http://lc.example/trips/T1/20240501/-"}],"@id":"#
+}
+
+#[test]
+fn a_stop_is_left_out(rt: HostRuntime) -> Result<(), Fail> {
+    let alloc = rt.alloc();
+    let trip = "T1 A/28800/28800 B/29400/29460 C/30600/30600";
+    let mut alone = publisher(alloc, trip, tiny_stops(), Cutting::Whole, false)?;
+    alone.admit(alloc, message("skipped"))?;
+    let head = "GET /memento/connections?version=2024-05-01T07:00:00Z HTTP/1.1\r\nHost: x";
+    let asked = request(alloc, head, b"")?;
+    let sent = reply(alloc, &mut alone, asked.as_slice())?;
+    let text = std::str::from_utf8(sent.as_slice()).map_err(|_| "a text")?;
+    assert!(rt; text.contains(graph_over_a_stop()));
     Ok(())
 }
 

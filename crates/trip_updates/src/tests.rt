@@ -204,8 +204,8 @@ fn differential_messages(rt: HostRuntime) -> Result<(), Fail> {
         b"\x0a\x0d\x0a\x032.0\x10\x01\x18\xf0\xd0\xc7\xb1\x06",
     )?;
     assert_eq!(rt;
-        (counts(&empty), empty.full),
-        ((1_714_546_800, 0, 0), false)
+        (counts(&empty), empty.full, empty.entities.as_slice().len()),
+        ((1_714_546_800, 0, 0), false, 0)
     );
     Ok(())
 }

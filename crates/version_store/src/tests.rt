@@ -18,6 +18,10 @@ const LATE: &[u8] =
 const LONGER: &[u8] =
     b"\x0a\x0d\x0a\x032.0\x10\x00\x18\xf0\xd0\xc7\xb1\x06\x12\x1d\x0a\x011\x1a\x18\x0a\x0e\x0a\x02T1\x1a\x0820240501\x12\x06\x08\x02\x12\x02\x08\x3c\xca\x3e\x00";
 
+/// A full message of 07:00:00 whose entity 1 has T1 leave out its stop of sequence 2.
+const SKIPPED: &[u8] =
+    b"\x0a\x0d\x0a\x032.0\x10\x00\x18\xf0\xd0\xc7\xb1\x06\x12\x1b\x0a\x011\x1a\x16\x0a\x0e\x0a\x02T1\x1a\x0820240501\x12\x04\x08\x02\x28\x01";
+
 /// A differential message of 07:10:00 that deletes entity 1.
 const DELETED: &[u8] =
     b"\x0a\x0d\x0a\x032.0\x10\x01\x18\xc8\xd5\xc7\xb1\x06\x12\x05\x0a\x011\x10\x01";
@@ -34,7 +38,11 @@ const ALL_CANCELED: &[u8] =
 const ADDED: &[u8] =
     b"\x0a\x0d\x0a\x032.0\x10\x00\x18\xf8\xde\xc7\xb1\x06\x12\x3e\x0a\x013\x1a\x39\x0a\x10\x0a\x02X1\x1a\x0820240501\x20\x01\x12\x0b\x1a\x06\x10\xac\xef\xc7\xb1\x06\x22\x01A\x12\x0b\x12\x06\x10\x84\xf4\xc7\xb1\x06\x22\x01Q\x12\x0b\x12\x06\x10\xdc\xf8\xc7\xb1\x06\x22\x01D";
 
-/// The same with T1, which the timetable has, and without Q.
+/// The same without Q.
+const DIRECT: &[u8] =
+    b"\x0a\x0d\x0a\x032.0\x10\x00\x18\xf8\xde\xc7\xb1\x06\x12\x31\x0a\x013\x1a\x2c\x0a\x10\x0a\x02X1\x1a\x0820240501\x20\x01\x12\x0b\x1a\x06\x10\xac\xef\xc7\xb1\x06\x22\x01A\x12\x0b\x12\x06\x10\xdc\xf8\xc7\xb1\x06\x22\x01D";
+
+/// That with T1, which the timetable has.
 const KNOWN: &[u8] =
     b"\x0a\x0d\x0a\x032.0\x10\x00\x18\xf8\xde\xc7\xb1\x06\x12\x31\x0a\x013\x1a\x2c\x0a\x10\x0a\x02T1\x1a\x0820240501\x20\x01\x12\x0b\x1a\x06\x10\xac\xef\xc7\xb1\x06\x22\x01A\x12\x0b\x12\x06\x10\xdc\xf8\xc7\xb1\x06\x22\x01D";
 
@@ -56,7 +64,7 @@ const TRIPS: [(&str, &[Served]); 3] = [
 
 /// The messages, in their order; the second of the day at which the version is known, or the newest; what became of each
 /// message; and the rows of the version from 08:00 on.
-const HISTORIES: [(&[&[u8]], Option<u32>, &str, &str); 10] = [
+const HISTORIES: [(&[&[u8]], Option<u32>, &str, &str); 14] = [
     (&[], None, "", ON_TIME),
     (
         &[LATE, LATE],
@@ -65,6 +73,18 @@ const HISTORIES: [(&[&[u8]], Option<u32>, &str, &str); 10] = [
         "T1/1 28800 29460; T1/2 29520 30660; T3/1 29520 30660; T2/1 30000 31200; ",
     ),
     (&[LATE], Some(25_199), "25200 0; ", ON_TIME),
+    (
+        &[LATE],
+        Some(25_200),
+        "25200 0; ",
+        "T1/1 28800 29460; T1/2 29520 30660; T3/1 29520 30660; T2/1 30000 31200; ",
+    ),
+    (
+        &[SKIPPED],
+        None,
+        "25200 0; ",
+        "T1/1 28800 30600; T3/1 29520 30660; T2/1 30000 31200; ",
+    ),
     (&[LATE, DELETED], None, "25200 0; 25800 0; ", ON_TIME),
     (
         &[LONGER, DELETED],
@@ -90,6 +110,13 @@ const HISTORIES: [(&[&[u8]], Option<u32>, &str, &str); 10] = [
         "27000 0; ",
         "T1/1 28800 29400; X1/1 29100 30300; T1/2 29460 30600; T3/1 29520 30660; T2/1 30000 31200; ",
     ),
+    (
+        &[DIRECT],
+        None,
+        "27000 0; ",
+        "T1/1 28800 29400; X1/1 29100 30300; T1/2 29460 30600; T3/1 29520 30660; T2/1 30000 31200; ",
+    ),
+    (&[DIRECT], Some(26_999), "27000 0; ", ON_TIME),
     (&[KNOWN], None, "27000 0; ", ON_TIME),
     (&[b""], None, "missing header; ", ON_TIME),
 ];
@@ -215,10 +242,14 @@ fn histories(rt: HostRuntime) -> Result<(), Fail> {
     Ok(())
 }
 
-/// The versions, and the departures of the newest, behind a message that is late and one that has been cut.
+/// The versions, and the departures of the newest, behind a message, the same again and its front: they are those of the first.
 fn versions(alloc: Global) -> Result<String, Fail> {
     let mut store = store(alloc)?;
-    let mut text = admitted(alloc, &mut store, &[LATE, LATE.get(..40).ok_or("bytes")?])?;
+    let mut text = admitted(
+        alloc,
+        &mut store,
+        &[LATE, LATE, LATE.get(..40).ok_or("bytes")?],
+    )?;
     for version in store.versions() {
         write!(text, "{}; ", second(*version))?;
     }
@@ -238,7 +269,7 @@ fn versions_and_departures(rt: HostRuntime) -> Result<(), Fail> {
     let text = versions(rt.alloc())?;
     assert_eq!(rt;
         text.as_str(),
-        "25200 0; cut 15; 21600; 25200; 28800 29520 29520 30000 on 1"
+        "25200 0; ignored newest 2024-05-01T07:00:00.000Z; cut 15; 21600; 25200; 28800 29520 29520 30000 on 1"
     );
     Ok(())
 }
