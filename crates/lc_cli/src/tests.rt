@@ -1,11 +1,16 @@
+mod cases;
+
 use crate::status::{Status, code};
+use crate::tests::cases::{MESSAGES, asked, played};
 use crate::top::run;
 use lc_edge::{ClosedLink, FaultyLink};
-use lc_model::{Bytes, Text};
-use lc_world::{File, Folder, Link, ListLink, MemFolder, MemSink, SureDoor, SureFolder, SureSink};
+use lc_model::{Bytes, PlainData, Text};
+use lc_world::{
+    File, Folder, Link, ListLink, MemFolder, MemSink, SureDoor, SureFolder, SureSink, ToldReply,
+};
 use std::alloc::Global;
 use std::test::Fail;
-use tiny_feed::{TINY, file_of, files_of};
+use tiny_feed::{CALENDAR_DATES, STOPS, TINY, file_of, files_of};
 
 const FIRST: &str = "client 1
 version 1970-01-01T00:00:00.000Z
@@ -35,22 +40,23 @@ fn words_of(alloc: Global, words: &str) -> Result<Vec<String>, Fail> {
 
 // The status and the output of words over a folder, where each reply comes as the publisher gave it.
 fn ask<F: Folder>(alloc: Global, folder: &mut F, words: &str) -> Result<(u8, Vec<u8>), Fail> {
-    ask_over(alloc, folder, ClosedLink::new(), words)
+    let (code, text, _) = ask_over(alloc, folder, ClosedLink::new(), words)?;
+    Ok((code, text))
 }
 
-// The same over a link.
+// The same over a link, which is given back.
 fn ask_over<F: Folder, L: Link + Drop>(
     alloc: Global,
     folder: &mut F,
     link: L,
     words: &str,
-) -> Result<(u8, Vec<u8>), Fail> {
+) -> Result<(u8, Vec<u8>, L), Fail> {
     let words = words_of(alloc, words)?;
     let mut door = SureDoor::new(alloc, Vec::new(alloc))?;
     let mut out = SureSink::new(alloc)?;
-    let (status, _) = run(alloc, words.as_slice(), folder, link, &mut door, &mut out);
+    let (status, link) = run(alloc, words.as_slice(), folder, link, &mut door, &mut out);
     let text = Vec::from_slice(alloc, out.written())?;
-    Ok((code(&status), text))
+    Ok((code(&status), text, link))
 }
 
 const NONE_OF_4: &str = "client 1\nversion 1970-01-01T00:00:00.000Z\nno journey\nexchanges 4\n";
@@ -207,10 +213,6 @@ fn exchanges(rt: HostRuntime) -> Result<(), Fail> {
     Ok(())
 }
 
-// A message by protoc: at 07:00 T1 arrives at B a minute late. Its first 40 bytes are cut within the entity.
-const LATE_AT_B: [u8; 46] =
-    *b"\x0a\x0d\x0a\x032.0\x10\x00\x18\xf0\xd0\xc7\xb1\x06\x12\x1d\x0a\x011\x1a\x18\x0a\x0e\x0a\x02T1\x1a\x0820240501\x12\x06\x08\x02\x12\x02\x08<";
-
 // A file of these bytes.
 fn bytes_file(alloc: Global, name: &str, bytes: &[u8]) -> Result<File, Fail> {
     Ok(File {
@@ -219,149 +221,36 @@ fn bytes_file(alloc: Global, name: &str, bytes: &[u8]) -> Result<File, Fail> {
     })
 }
 
-// The version that is meant by what is known: without a message, before it, and from it on.
-#[test]
-fn a_message(rt: HostRuntime) -> Result<(), Fail> {
-    let alloc = rt.alloc();
-    let line = "update d60.pb admitted 2024-05-01T07:00:00.000Z passed 0\n";
-    let at_seven = "client 1
-version 2024-05-01T07:00:00.000Z
-journey 2 arrives 2024-05-01T08:40:00.000Z
-ride T1 20240501 - 1 1 A 2024-05-01T08:00:00.000Z B 2024-05-01T08:11:00.000Z
-ride T2 20240501 - 1 1 B 2024-05-01T08:20:00.000Z D 2024-05-01T08:40:00.000Z
-exchanges 4
-";
-    for &(name, end, words, status, first, rest) in &[
-        (
-            "d60.pb",
-            46,
-            "d60.pb --known 2024-05-01T06:59:59Z",
-            0,
-            line,
-            FIRST,
-        ),
-        (
-            "d60.pb",
-            46,
-            "d60.pb --known 2024-05-01T07:00:00Z",
-            0,
-            line,
-            at_seven,
-        ),
-        (
-            "d60.pb",
-            46,
-            "d60.pb --base-moment 2024-05-01T07:00:00Z --horizon 0",
-            9,
-            "update d60.pb ignored newest 2024-05-01T07:00:00.000Z\n",
-            "client 1\nrefused horizon\nexchanges 0\n",
-        ),
-        (
-            "cut.pb",
-            40,
-            "cut.pb",
-            4,
-            "error update cut.pb cut 15\n",
-            "",
-        ),
-    ] {
-        let front = LATE_AT_B.get(..end).expect(&rt, "a front of the message");
-        let mut files = files_of(alloc, TINY.as_slice())?;
-        files.push(bytes_file(alloc, name, front)?)?;
-        let mut folder = SureFolder::new(alloc, files)?;
-        let words = format!(in alloc; "ask tiny A D 2024-05-01T08:00:00Z --update {words}")?;
-        let (code, text) = ask(alloc, &mut folder, words.as_str())?;
-        let output = format!(in alloc; "{first}{rest}")?;
-        assert_eq!(rt; code, status, "{words}");
-        assert_eq!(rt; text.as_slice(), output.as_bytes(), "{words}");
+// A folder of the feed, the messages and a script.
+fn folder_of(alloc: Global, script: &str) -> Result<SureFolder, Fail> {
+    let mut files = files_of(alloc, TINY.as_slice())?;
+    for &(name, bytes) in &MESSAGES {
+        files.push(bytes_file(alloc, name, bytes)?)?;
     }
-    Ok(())
+    files.push(file_of(alloc, "s.csv", script)?)?;
+    Ok(SureFolder::new(alloc, files)?)
 }
 
-// By that message, which is known from 07:00 on.
-const AT_SEVEN: &str = "version 2024-05-01T07:00:00.000Z
-journey 2 arrives 2024-05-01T08:40:00.000Z
-ride T1 20240501 - 1 1 A 2024-05-01T08:00:00.000Z B 2024-05-01T08:11:00.000Z
-ride T2 20240501 - 1 1 B 2024-05-01T08:20:00.000Z D 2024-05-01T08:40:00.000Z
-exchanges 4
-";
+// Whether the words of a case come to its status and its output.
+fn is_said(alloc: Global, case: &str) -> Result<bool, Fail> {
+    let (given, wanted) = case.split_once("=> ").ok_or("a status")?;
+    let (words, script) = given.split_once('\n').ok_or("words")?;
+    let mut folder = folder_of(alloc, script)?;
+    let (code, text) = ask(alloc, &mut folder, words)?;
+    let wanted = format!(in alloc; "{wanted}\n")?;
+    let mut said = format!(in alloc; "{code}\n")?.into_bytes();
+    said.extend_from_slice(text.as_slice())?;
+    Ok(said.as_slice() == wanted.as_bytes())
+}
 
-// And by one of 07:10, which deletes it: T1 is in time again.
-const DELETED: [u8; 22] =
-    *b"\x0a\x0d\x0a\x032.0\x10\x01\x18\xc8\xd5\xc7\xb1\x06\x12\x05\x0a\x011\x10\x01";
-
-const AT_TEN_PAST: &str = "version 2024-05-01T07:10:00.000Z
-journey 2 arrives 2024-05-01T08:31:00.000Z
-ride T1 20240501 - 1 1 A 2024-05-01T08:00:00.000Z B 2024-05-01T08:10:00.000Z
-ride T3 20240501 - 1 1 B 2024-05-01T08:12:00.000Z D 2024-05-01T08:31:00.000Z
-exchanges 4
-";
-
-// What the rows of a script come to, where each reply comes as the publisher gave it.
+// What questions and scripts come to with messages, where each reply comes as the publisher gave it.
 #[test]
-fn scripts(rt: HostRuntime) -> Result<(), Fail> {
-    let alloc = rt.alloc();
-    let line = "update d60.pb admitted 2024-05-01T07:00:00.000Z passed 0\n";
-    let deleted = "update del.pb admitted 2024-05-01T07:10:00.000Z passed 0\nclient 1\n";
-    for &(script, status, [first, second, third, fourth]) in &[
-        (
-            "ask,A,D,2024-05-01T08:00:00Z\nturn,1\nupdate,d60.pb\nask,A,D,2024-05-01T08:00:00Z\n",
-            0,
-            [line, FIRST, "client 2\n", AT_SEVEN],
-        ),
-        (
-            "update,d60.pb\nupdate,del.pb\nask,A,D,2024-05-01T08:00:00Z\n",
-            0,
-            [line, deleted, AT_TEN_PAST, ""],
-        ),
-        (
-            "update,d60.pb\nupdate,del.pb\nask,A,D,2024-05-01T08:00:00Z,2024-05-01T07:09:59Z\n",
-            0,
-            [line, deleted, AT_SEVEN, ""],
-        ),
-        (
-            "update,d60.pb\nupdate,d60.pb\n",
-            0,
-            [
-                line,
-                "update d60.pb ignored newest 2024-05-01T07:00:00.000Z\n",
-                "",
-                "",
-            ],
-        ),
-        (
-            "ask,A,A,2024-05-01T08:00:00Z\nask,X,D,2024-05-01T08:00:00Z\n",
-            9,
-            [
-                "client 1\nrefused same stop\nexchanges 0\n",
-                "client 2\nversion 1970-01-01T00:00:00.000Z\nrefused unknown from\nexchanges 2\n",
-                "",
-                "",
-            ],
-        ),
-        ("turn,1\n", 11, ["error script row 1\n", "", "", ""]),
-        (
-            "update,d60.pb\nupdate,none.pb\n",
-            11,
-            ["error script row 2\n", "", "", ""],
-        ),
-        (
-            "update,cut.pb\n",
-            4,
-            ["error update cut.pb cut 15\n", "", "", ""],
-        ),
-    ] {
-        let mut files = files_of(alloc, TINY.as_slice())?;
-        let front = LATE_AT_B.get(..40).expect(&rt, "a front of the message");
-        files.push(bytes_file(alloc, "d60.pb", LATE_AT_B.as_slice())?)?;
-        files.push(bytes_file(alloc, "del.pb", DELETED.as_slice())?)?;
-        files.push(bytes_file(alloc, "cut.pb", front)?)?;
-        files.push(file_of(alloc, "s.csv", script)?)?;
-        let mut folder = SureFolder::new(alloc, files)?;
-        let (code, text) = ask(alloc, &mut folder, "replay tiny 20240501 s.csv")?;
-        let output = format!(in alloc; "{first}{second}{third}{fourth}")?;
-        assert_eq!(rt; code, status, "{script}");
-        assert_eq!(rt; text.as_slice(), output.as_bytes(), "{script}");
+fn messages(rt: HostRuntime) -> Result<(), Fail> {
+    for cases in [asked(), played()] {
+        for case in cases.split("\n\n") {
+            let is_said = is_said(rt.alloc(), case)?;
+            assert!(rt; is_said, "{case}");
+        }
     }
     Ok(())
 }
@@ -370,16 +259,25 @@ fn scripts(rt: HostRuntime) -> Result<(), Fail> {
 #[test]
 fn a_failing_exchange(rt: HostRuntime) -> Result<(), Fail> {
     let alloc = rt.alloc();
-    let mut files = files_of(alloc, TINY.as_slice())?;
-    let script = "ask,A,D,2024-05-01T08:00:00Z\nask,A,A,2024-05-01T08:00:00Z\n";
-    files.push(file_of(alloc, "s.csv", script)?)?;
-    let mut folder = SureFolder::new(alloc, files)?;
+    let script = "ask,A,D,2024-05-01T08:00:00Z\nask,A,D,2024-05-01T08:00:00Z\n";
+    let mut folder = folder_of(alloc, script)?;
     let link = FaultyLink::new(ClosedLink::new(), vec![in alloc; 3]?);
-    let (code, text) = ask_over(alloc, &mut folder, link, "replay tiny 20240501 s.csv")?;
+    let (code, text, _) = ask_over(alloc, &mut folder, link, "replay tiny 20240501 s.csv")?;
     assert_eq!(rt; code, 7);
     assert_eq!(rt;
         text.as_slice(),
-        b"client 1\nversion 1970-01-01T00:00:00.000Z\nlink fault 0 1\nexchanges 3\nclient 2\nrefused same stop\nexchanges 0\n".as_slice()
+        b"client 1
+version 1970-01-01T00:00:00.000Z
+link fault 0 1
+exchanges 3
+client 2
+version 1970-01-01T00:00:00.000Z
+journey 2 arrives 2024-05-01T08:31:00.000Z
+ride T1 20240501 - 1 1 A 2024-05-01T08:00:00.000Z B 2024-05-01T08:10:00.000Z
+ride T3 20240501 - 1 1 B 2024-05-01T08:12:00.000Z D 2024-05-01T08:31:00.000Z
+exchanges 4
+"
+            .as_slice()
     );
     Ok(())
 }
@@ -401,27 +299,78 @@ fn not_found(alloc: Global, times: usize) -> Result<ListLink, Fail> {
 fn another_reply(rt: HostRuntime) -> Result<(), Fail> {
     let alloc = rt.alloc();
     let link = not_found(alloc, 1)?;
-    let mut folder = SureFolder::new(alloc, files_of(alloc, TINY.as_slice())?)?;
+    let mut folder = folder_of(alloc, "")?;
     let words = "ask tiny A D 2024-05-01T08:00:00Z";
-    let (code, text) = ask_over(alloc, &mut folder, link, words)?;
+    let (code, text, _) = ask_over(alloc, &mut folder, link, words)?;
     assert_eq!(rt; code, 8);
     assert_eq!(rt;
         text.as_slice(),
         b"client 1\npeer wrong status 404\nexchanges 1\n".as_slice()
     );
 
-    let mut files = files_of(alloc, TINY.as_slice())?;
-    let script = "ask,A,D,2024-05-01T08:00:00Z\nturn,1\nask,A,D,2024-05-01T08:00:00Z\n";
-    files.push(file_of(alloc, "s.csv", script)?)?;
-    let mut folder = SureFolder::new(alloc, files)?;
+    let script =
+        "ask,A,D,2024-05-01T08:00:00Z\nturn,1\nupdate,d60.pb\nask,A,D,2024-05-01T08:00:00Z\n";
+    let mut folder = folder_of(alloc, script)?;
     let link = not_found(alloc, 2)?;
     let words = "replay tiny 20240501 s.csv";
-    let (code, text) = ask_over(alloc, &mut folder, link, words)?;
+    let (code, text, _) = ask_over(alloc, &mut folder, link, words)?;
     assert_eq!(rt; code, 8);
     assert_eq!(rt;
         text.as_slice(),
-        b"client 1\npeer wrong status 404\nexchanges 1\nclient 2\npeer wrong status 404\nexchanges 1\n".as_slice()
+        b"update d60.pb admitted 2024-05-01T07:00:00.000Z passed 0\nclient 1\npeer wrong status 404\nexchanges 1\nclient 2\npeer wrong status 404\nexchanges 1\n".as_slice()
     );
+    Ok(())
+}
+
+// The feed without the trip T3.
+const WITHOUT_T3: [(&str, &str); 4] = [
+    ("tiny/stops.txt", STOPS),
+    (
+        "tiny/trips.txt",
+        "route_id,service_id,trip_id\nr,w,T1\nr,w,T2\nr,w,T4\nr,w,T5\n",
+    ),
+    (
+        "tiny/stop_times.txt",
+        "trip_id,arrival_time,departure_time,stop_id,stop_sequence
+T1,08:00:00,08:00:00,A,1
+T1,08:10:00,08:11:00,B,2
+T1,08:30:00,08:30:00,C,3
+T2,08:20:00,08:20:00,B,1
+T2,08:40:00,08:40:00,D,2
+T4,09:00:00,09:00:00,E,1
+T4,09:10:00,09:10:00,F,2
+T5,10:00:00,10:00:00,E,1
+T5,10:10:00,10:10:00,F,2
+",
+    ),
+    ("tiny/calendar_dates.txt", CALENDAR_DATES),
+];
+
+// A link that gives the replies that another one told.
+fn told_again(alloc: Global, link: &ListLink) -> Result<ListLink, Fail> {
+    let mut replies = Vec::new(alloc);
+    for entry in link.told() {
+        if let ToldReply::Reply(reply) = &entry.reply {
+            replies.push(reply.copy(alloc)?)?;
+        }
+    }
+    Ok(ListLink::new(replies)?)
+}
+
+// The replies that a publisher of the feed without T3 gave, over a feed that has it: the journey is that of the replies.
+#[test]
+fn replies_of_another_feed(rt: HostRuntime) -> Result<(), Fail> {
+    let alloc = rt.alloc();
+    let words = "ask tiny A D 2024-05-01T08:00:00Z";
+    let mut folder = SureFolder::new(alloc, files_of(alloc, WITHOUT_T3.as_slice())?)?;
+    let link = ListLink::new(Vec::new(alloc))?;
+    let (code, text, link) = ask_over(alloc, &mut folder, link, words)?;
+    assert!(rt; code == 0 && text.as_slice() == LATER.as_bytes());
+
+    let link = told_again(alloc, &link)?;
+    let mut folder = SureFolder::new(alloc, files_of(alloc, TINY.as_slice())?)?;
+    let (code, text, _) = ask_over(alloc, &mut folder, link, words)?;
+    assert!(rt; code == 0 && text.as_slice() == LATER.as_bytes());
     Ok(())
 }
 
