@@ -10,7 +10,7 @@ use Rattle.page_cache.specs.Kept.{Kept, has_name, is_same, page_named, with_put,
 use Rattle.page_cache.proofs.KeptLemmas.{named}
 use Rattle.page_client.specs.declared.want.Want.{Want}
 use Rattle.page_client.specs.declared.want.Want.TheVariants as wants
-use Rattle.convoy_answers.specs.Names.{AskByNames, Round, names_behind, asked_for, asked_of, is_among, names_after, names_of, names_then, names_with, others}
+use Rattle.convoy_answers.specs.Names.{AskByNames, IsByNames, Round, names_behind, asked_for, asked_of, is_among, names_after, names_of, names_then, names_with, others}
 
 -- the names behind wants and further wants
 pub names_after-append : (capacity : ℕ) (names : List PageName) (first second : List Want) → names_after capacity names (first ++ second) ≡ names_after capacity (names_after capacity names first) second
@@ -85,7 +85,7 @@ names_behind-more capacity names [] more = refl
 names_behind-more capacity names (round ∷ rounds) more = names_behind-more capacity (names_after capacity names round.given) rounds more
 
 pub ask_by_names-more : (capacity : ℕ) (names : List PageName) (rounds : List Round) (more : Round) → AskByNames capacity names rounds →
-    more.asked ≡ asked_of capacity (names_behind capacity names rounds) (more.given ++ more.failed) → AskByNames capacity names (rounds ++ more ∷ [])
+    IsByNames capacity (names_behind capacity names rounds) more → AskByNames capacity names (rounds ++ more ∷ [])
 ask_by_names-more capacity names [] more all is = (is, tt)
 ask_by_names-more capacity names (round ∷ rounds) more all is = (all.0, ask_by_names-more capacity (names_after capacity names round.given) rounds more all.1 is)
 

@@ -21,7 +21,7 @@ use Rattle.convoy.specs.State.{ConvoyState}
 use Rattle.convoy.specs.declared.member.Member.{Member}
 use Rattle.convoy_answers.specs.Agreement.{FitsConvoy}
 use Rattle.convoy_answers.specs.Leaves.{EndAgrees, HasCome, HasMoved, LeavesHonest, NoneFailed, OneFailed, RoundsAgree, StillAgrees}
-use Rattle.convoy_answers.specs.Names.{Round, asked_of, failures_in, names_after, names_of}
+use Rattle.convoy_answers.specs.Names.{Round, asked_of, failures_in, names_after, names_behind, names_of}
 use Rattle.convoy_answers.specs.Requests.{TellsAsked, TellsRequests, request_of, requests_of}
 use Rattle.convoy_answers.proofs.AskedLemmas.{failed_later}
 use Rattle.convoy_answers.proofs.HonestLemmas.{leaves_alone, leaves_then, no_less}
@@ -170,6 +170,10 @@ module _ (side : Side) (old mid new : ConvoyState) (so_far : List (List Want)) (
       subst (TellsRequests a.told c.told old.base.authority) (sym (requests_more old.base old.members first.rounds second.was round was_there))
       (requests_then a.told b.told c.told old.base.authority (requests_of old.base old.members first.rounds) (map (request_of old.base (shown second.was.client).query) second.asked) first.told told)
 
+  -- the names of the pages that are kept then
+  names_then : names_of new.kept.pages ≡ names_after old.kept.capacity (names_behind old.kept.capacity (names_of old.kept.pages) first.rounds) second.given
+  names_then = second.by_names.names ∙ ap₂ (λ (capacity : ℕ) (names : List PageName). names_after capacity names second.given) first.capacity first.names
+
   one_round_more : RoundsAgree side old new so_far (suc n) a c
   one_round_more = record {
     left = second.left;
@@ -181,11 +185,13 @@ module _ (side : Side) (old mid new : ConvoyState) (so_far : List (List Want)) (
     one_each = one_longer first.rounds round n first.one_each;
     by_names =
         ask_by_names-more old.kept.capacity (names_of old.kept.pages) first.rounds round first.by_names
-        (second.by_names.are ∙ ap₂ (λ (capacity : ℕ) (names : List PageName). asked_of capacity names (second.given ++ second.by_names.failed)) first.capacity first.names);
+        (record {
+          asked = second.by_names.are ∙ ap₂ (λ (capacity : ℕ) (names : List PageName). asked_of capacity names (second.given ++ second.by_names.failed)) first.capacity first.names;
+          not_kept =
+              ap₂ (λ (capacity : ℕ) (names : List PageName). asked_of capacity names second.by_names.failed) (sym first.capacity) (sym names_then) ∙ second.by_names.not_kept;
+        });
     capacity = second.by_names.capacity ∙ first.capacity;
-    names =
-        second.by_names.names ∙ ap₂ (λ (capacity : ℕ) (names : List PageName). names_after capacity names second.given) first.capacity first.names
-        ∙ sym (names_behind-more old.kept.capacity (names_of old.kept.pages) first.rounds round);
+    names = names_then ∙ sym (names_behind-more old.kept.capacity (names_of old.kept.pages) first.rounds round);
     told = tells;
     faults =
         subst (λ (n : ℕ). RoseBy n a.faults c.faults) (sym (failures_more first.rounds round))

@@ -57,11 +57,16 @@ abbrev pub names_behind : ℕ → List PageName → List Round → List PageName
 names_behind capacity names [] = names
 names_behind capacity names (round ∷ more) = names_behind capacity (names_after capacity names round.given) more
 
--- in each round the names of the pages that were kept then tell what was asked for
+-- The names of the pages that were kept tell what was asked for in the round: all that was given or failed, but the pages that were kept
+-- then. What failed was not kept.
+pub record IsByNames (capacity : ℕ) (names : List PageName) (round : Round) : Type 0 where
+  pub asked : round.asked ≡ asked_of capacity names (round.given ++ round.failed)
+  pub not_kept : asked_of capacity (names_after capacity names round.given) round.failed ≡ round.failed
+
+-- and so in each round, by the names then
 abbrev pub AskByNames : ℕ → List PageName → List Round → Type 0
 AskByNames capacity names [] = Unit {0}
-AskByNames capacity names (round ∷ more) =
-    (round.asked ≡ asked_of capacity names (round.given ++ round.failed)) × AskByNames capacity (names_after capacity names round.given) more
+AskByNames capacity names (round ∷ more) = IsByNames capacity names round × AskByNames capacity (names_after capacity names round.given) more
 
 -- how many exchanges failed in these rounds
 abbrev pub failures_in : List Round → ℕ

@@ -15,7 +15,7 @@ use Rattle.convoy.specs.declared.turn.Turn.{Turn}
 use Rattle.convoy_answers.specs.Agreement.{AllFit, FitsConvoy}
 use Rattle.convoy_answers.specs.Laws.{TurnKeepsAgreement}
 use Rattle.convoy_answers.specs.Leaves.{HasMoved, NoneFailed, OneFailed, TurnAgrees, VersionThen}
-use Rattle.convoy_answers.specs.Names.{Round, asked_of, failures_in, names_after}
+use Rattle.convoy_answers.specs.Names.{Round, asked_of, failures_in, names_after, names_behind, names_of}
 use Rattle.convoy_answers.specs.Requests.{TellsAsked, TellsRequests, request_of}
 use Rattle.client_answers.specs.Fits.{FitsSide}
 use Rattle.lc_io.specs.Counts.{Rose, RoseBy}
@@ -253,6 +253,10 @@ module _ {X : Type 0} (seen : X → LinkSeen) (made : Timetable) (publishing : P
         quiet = turned.agrees.honest.quiet quiet;
       })
 
+  -- the names of the pages that are kept then
+  names_then : names_of new.kept.pages ≡ names_after cache (names_behind cache [] p.rounds) turned.agrees.given
+  names_then = turned.agrees.by_names.names ∙ ap₂ (λ (capacity : ℕ) (names : List PageName). names_after capacity names turned.agrees.given) p.capacity p.names
+
   pub played : IsPlayedTo made publishing cache then_done new start (seen after) lines
   played = record {
     store = p.store;
@@ -268,13 +272,16 @@ module _ {X : Type 0} (seen : X → LinkSeen) (made : Timetable) (publishing : P
     one_each = one_longer ∙ sym (ap length (turns_in-append done (events.Turn client ∷ [])));
     by_names =
         ask_by_names-append cache [] p.rounds (round ∷ []) p.by_names (
-          turned.agrees.by_names.are
-              ∙ ap₂ (λ (capacity : ℕ) (names : List PageName). asked_of capacity names (turned.agrees.given ++ turned.agrees.by_names.failed)) p.capacity p.names,
+          record {
+            asked = turned.agrees.by_names.are
+                ∙ ap₂ (λ (capacity : ℕ) (names : List PageName). asked_of capacity names (turned.agrees.given ++ turned.agrees.by_names.failed)) p.capacity p.names;
+            not_kept =
+                ap₂ (λ (capacity : ℕ) (names : List PageName). asked_of capacity names turned.agrees.by_names.failed) (sym p.capacity) (sym names_then)
+                ∙ turned.agrees.by_names.not_kept;
+          },
           tt,
         );
-    names =
-        turned.agrees.by_names.names ∙ ap₂ (λ (capacity : ℕ) (names : List PageName). names_after capacity names turned.agrees.given) p.capacity p.names
-        ∙ sym (names_behind-append cache [] p.rounds (round ∷ []));
+    names = names_then ∙ sym (names_behind-append cache [] p.rounds (round ∷ []));
     tells = tells;
     rose = rose;
     members = members;
