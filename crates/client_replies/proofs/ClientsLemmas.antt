@@ -1,5 +1,5 @@
 -- The clients of a convoy over any link: what each of their turns meets, and the link meanwhile.
-use Rattle.std.proofs.Common.{◌≡◌, ◌∙◌, ◌⊎◌, ◌+◌, ◌-◌, ◌<◌, ◌≤◌, ℕ, suc, inl, inr, true, false, List, [], ◌∷◌, ◌++◌, Option, Some, None, Result, Ok, Err, ap, append-nil, arith, is_none, length, length-append, length-set, refl, subst, sym}
+use Rattle.std.proofs.Common.{◌≡◌, ◌∙◌, ◌⊎◌, ◌+◌, ◌-◌, ◌<◌, ◌≤◌, ℕ, suc, inl, inr, Bool, true, false, List, [], ◌∷◌, ◌++◌, Option, Some, None, Result, Ok, Err, ap, append-nil, arith, cond, is_none, length, length-append, length-set, refl, subst, sym}
 use Rattle.std.specs.Prelude.{IsSome}
 use Rattle.std.specs.List.{All, slice_get, slice_set}
 use Rattle.std.proofs.lemmas.List.Elements.{All-nil, All-push, All-weaker}
@@ -8,13 +8,13 @@ use Rattle.connection_uri.specs.Base.{BaseParts}
 use Rattle.convoy.specs.Exchange.{Got, IsExchange}
 use Rattle.convoy.specs.Finish.{HasOutcome, IsStep}
 use Rattle.convoy.specs.State.{Adds, ConvoyState, begun}
-use Rattle.convoy.specs.Steps.{AfterPage as AfterPageSaid, TakesAsked, kept_after}
+use Rattle.convoy.specs.Steps.{AfterPage as AfterPageSaid, Takes, TakesAsked, TakesGate, TakesStops, kept_after}
 use Rattle.convoy.specs.Turn.{Asks as AsksOne, IsCached, IsExchanged, IsFinished, Turned}
 use Rattle.convoy.specs.declared.member.Member.{Member}
 use Rattle.convoy.specs.declared.turn.Turn.{Turn}
 use Rattle.convoy.specs.declared.turn.Turn.TheVariants.{Cached, Exchanged, Finished}
 use Rattle.csa_scan.proofs.ListPlacesLemmas.{item_within, push_cases, same_place, slice_get-append, slice_get-last, slice_get-set_other, slice_get-set_same}
-use Rattle.lc_io.proofs.CountLemmas.{RoseBy-later, RoseBy-none, RoseBy-then}
+use Rattle.lc_io.proofs.CountLemmas.{RoseBy-none}
 use Rattle.lc_io.specs.Counts.{RoseBy}
 use Rattle.lc_model.specs.declared.page.PageName.{PageName}
 use Rattle.lc_model.specs.declared.query.Query.{Query}
@@ -39,10 +39,10 @@ use Rattle.page_client.specs.declared.want.Want.{Want}
 use Rattle.page_client.specs.declared.want.Want.TheVariants as wants
 use Rattle.page_json.specs.declared.page.Page.{Page}
 use Rattle.client_replies.specs.Ends.{EndsBy}
-use Rattle.client_replies.specs.Made.{Made, reply_to}
-use Rattle.client_replies.specs.Met.{AreMet, IsByOneOf, Met, TellsMet, WasKept, asked_in, exchanges_by, failures_in, is_by, met_by}
-use Rattle.client_replies.proofs.CourseLemmas.{is_taken}
-use Rattle.client_replies.proofs.MetLemmas.{asked_more, by_other, exchange_more, exchanges_none_by, exchanges_of_other, failure_more, met_by_other, met_by_own, met_none_by, no_exchange_more, no_failure_more, not_asked_more, take_kept_more, tells_met_more, tells_met_none, tells_with_more}
+use Rattle.client_replies.specs.Made.{Made, failure_of, reply_to}
+use Rattle.client_replies.specs.Met.{AreMet, HasFailedBetween, IsByOneOf, Met, TellsMet, WasKept, asked_in, exchanges_by, failures_in, is_by, met_by}
+use Rattle.client_replies.proofs.CourseLemmas.{is_taken, stands_last}
+use Rattle.client_replies.proofs.MetLemmas.{along_later, along_more, asked_more, by_other, exchange_more, exchanges_none_by, exchanges_of_other, met_by_other, met_by_own, met_none_by, no_exchange_more, not_asked_more, take_kept_more, tells_met_more, tells_met_none, tells_with_more}
 use Rattle.client_replies.proofs.StepLemmas.{At, AtEnd, AtGate, AtPage, AtStops, Moves, Spans, exchange_of, gate_asked, page_asked, page_taken, stops_asked}
 
 -- a clear link is clear still, and its count has not fallen
@@ -60,11 +60,12 @@ grown_then a b c one two = record {
 }
 
 -- The client of this number stands somewhere by what it met, over a link whose count went from the one to the other, and each exchange
--- of its own is counted.
+-- of its own is counted, and is the one that failed where it ended by a fault.
 pub record IsClientSo (base : BaseParts) (query : Query) (before now : ℕ) (member : Member) (number : ℕ) (all : List Met) : Type 0 where
   pub question : (shown member.client).query ≡ query
   pub at : At base before now member.client (met_by number all) (shown member.client) (shown member.client).phase
   pub counted : member.exchanges ≡ exchanges_by number all
+  pub fault : (low high : ℕ) → (shown member.client).outcome ≡ Some (outcomes.LinkFault low high) → HasFailedBetween number low high all
 
 -- the page is said by the reply of an exchange
 pub record IsSaid (base : BaseParts) (all : List Met) (page : Page) : Type 0 where
@@ -120,6 +121,19 @@ so_later base query before now later member number all le so = record {
   question = so.question;
   at = at_later base before now later member.client (met_by number all) (shown member.client).phase le so.at;
   counted = so.counted;
+  fault = so.fault;
+}
+
+-- what failed has failed still
+failed_more : (client low high : ℕ) (all more : List Met) → HasFailedBetween client low high all → HasFailedBetween client low high (all ++ more)
+failed_more client low high all more failed = record {
+  place = failed.place;
+  exchange = failed.exchange;
+  there = slice_get-append all more failed.place failed.exchange failed.there;
+  own = failed.own;
+  failed = failed.failed;
+  low_is = failed.low_is;
+  high_is = failed.high_is;
 }
 
 -- and while others meet what they want
@@ -129,6 +143,7 @@ so_beside base query before now member number all one other so = record {
   question = so.question;
   at = subst (λ (made : List Made). At base before now member.client made (shown member.client) (shown member.client).phase) (sym (met_by_other number all one other)) so.at;
   counted = so.counted ∙ sym (exchanges_of_other number all one other);
+  fault = λ low high is. failed_more number low high all (one ∷ []) (so.fault low high is);
 }
 
 -- what a reply said is said still
@@ -160,7 +175,7 @@ are_begun base cache link = record {
     by_clients = All-nil (IsByOneOf 0);
     kept = tt;
     told = tells_met_none base [] link.told;
-    rose = RoseBy-none link.faults link.faults (let same : link.faults ≤ link.faults = omega arith in same);
+    counted = (let same : link.faults ≤ link.faults = omega arith in same);
   };
   grown = grown_not link;
 }
@@ -175,12 +190,17 @@ module _ (base : BaseParts) (query : Query) (before now : ℕ) (member : Member)
   by_refusal (Some UnknownFrom) is = absurd is
   by_refusal (Some UnknownTo) is = absurd is
 
+  no_fault_yet : (refusal : Option QueryFault) (low high : ℕ) → first_outcome refusal ≡ Some (outcomes.LinkFault low high) → ⊥
+  no_fault_yet None low high is = cc
+  no_fault_yet (Some fault) low high is = cc
+
   so_begun : Begins query (shown member.client) → member.exchanges ≡ 0 → IsClientSo base query before now member number all
   so_begun b none_made = record {
     question = ap (λ (s : Shown). s.query) b.is;
     at = subst (λ (made : List Made). At base before now member.client made (shown member.client) (shown member.client).phase) (sym nothing)
     (subst (λ (s : Shown). At base before now member.client [] s s.phase) (sym b.is) (by_refusal b.refusal b.is_refusal));
     counted = none_made ∙ sym uncounted;
+    fault = λ low high is. absurd (no_fault_yet b.refusal low high (sym (ap (λ (s : Shown). s.outcome) b.is) ∙ is));
   }
 
 none_by : (all : List Met) (n : ℕ) → All (IsByOneOf n) all → All (λ (met : Met). is_by (suc n) met ≡ false) all
@@ -229,7 +249,7 @@ module _ (base : BaseParts) (questions : List Query) (first now : LinkSeen) (old
       (λ met one. record { from_one = one.from_one; at_most = (let at_most = one.at_most in omega (arith, one_question_more)) }) all so.met.by_clients;
       kept = so.met.kept;
       told = tells_with_more base questions (query ∷ []) (asked_in all) first.told now.told so.met.told;
-      rose = so.met.rose;
+      counted = so.met.counted;
     };
     grown = so.grown;
   }
@@ -246,13 +266,22 @@ are_later base questions first now later convoy all so grown told = record {
     by_clients = so.met.by_clients;
     kept = so.met.kept;
     told = subst (TellsMet base questions (asked_in all) first.told) (sym told) so.met.told;
-    rose = RoseBy-later (failures_in all) first.faults now.faults later.faults so.met.rose grown.not_fallen;
+    counted = along_later first.faults now.faults later.faults all so.met.counted grown.not_fallen;
   };
   grown = grown_then first now later so.grown grown;
 }
 
 not_both : true ≡ false → ⊥
 not_both same = cc
+
+some_is_none : (reply : List ℕ) → Some reply ≡ None → ⊥
+some_is_none reply same = cc
+
+same_counts : (a b c d : ℕ) → Some (outcomes.LinkFault a b) ≡ Some (outcomes.LinkFault c d) → (a ≡ c) × (b ≡ d)
+same_counts a b c d same = (cc, cc)
+
+no_less : (n : ℕ) → n ≤ n
+no_less n = omega arith
 
 -- who wants the gate waits for it
 waits_at_gate : (phase : Phase) → want_of phase ≡ wants.Gate → phase ≡ phases.Gate
@@ -271,6 +300,27 @@ waits_for_stops phases.Gate is = absurd (cc)
 waits_for_stops (phases.Stops first) is = record { first = first; is = refl }
 waits_for_stops (phases.Page name) is = absurd (cc)
 waits_for_stops phases.Finished is = absurd (cc)
+
+-- who has an outcome has ended
+pub not_yet : (outcome : Option Outcome) → outcome ≡ None → IsSome outcome → ⊥
+not_yet outcome none some = let nothing : IsSome {T = Outcome} None = subst (λ (o : Option Outcome). IsSome o) none some in cc
+
+pub has_ended : (base : BaseParts) (before now : ℕ) (client : Client) (made : List Made) (s : Shown) (phase : Phase) → At base before now client made s phase → IsSome s.outcome → AtEnd base before now s made
+has_ended base before now client made s phases.Gate at some = absurd (not_yet s.outcome at.none some)
+has_ended base before now client made s (phases.Stops first) at some = absurd (not_yet s.outcome at.none some)
+has_ended base before now client made s (phases.Page name) at some = absurd (not_yet s.outcome at.none some)
+has_ended base before now client made s phases.Finished at some = at
+
+-- who ended by a fault of the link had it in what it met last
+failed_last : (base : BaseParts) (before now : ℕ) (client : Client) (so_far : List Made) (last : Made) (low high : ℕ) → At base before now client (so_far ++ last ∷ []) (shown client) (shown client).phase →
+    (shown client).outcome ≡ Some (outcomes.LinkFault low high) → last.got ≡ None
+failed_last base before now client so_far last low high at is =
+    let some : IsSome (shown client).outcome = subst (λ (o : Option Outcome). IsSome o) (sym is) refl in
+    let e : AtEnd base before now (shown client) (so_far ++ last ∷ []) = has_ended base before now client (so_far ++ last ∷ []) (shown client) (shown client).phase at some in
+    let same : e.outcome ≡ outcomes.LinkFault low high = (let both : Some e.outcome ≡ Some (outcomes.LinkFault low high) = sym e.ended ∙ is in cc) in
+    let ends : EndsBy base (shown client).query before now (shown client).version (so_far ++ last ∷ []) (outcomes.LinkFault low high) =
+    subst (EndsBy base (shown client).query before now (shown client).version (so_far ++ last ∷ [])) same e.ends in
+    ap (λ (m : Made). m.got) (stands_last so_far ends.earlier last (failure_of ends.want) ends.was_made).1
 
 -- the client, which waited, met one of its wants
 pub record MeetsOne (k : ℕ) (was : Member) (more : List Met) : Type 0 where
@@ -346,6 +396,7 @@ module _ (base : BaseParts) (questions : List Query) (query : Query) (first link
   -- with one more
   module _ (one : Met) (own : one.client ≡ k) (waited : (shown was.client).outcome ≡ None)
       (moves : Moves base first.faults after.faults was.client is.client (met_by k all ++ one.made ∷ [])) (counted : is.exchanges ≡ exchanges_by k (all ++ one ∷ []))
+      (fault : (low high : ℕ) → (shown is.client).outcome ≡ Some (outcomes.LinkFault low high) → HasFailedBetween k low high (all ++ one ∷ []))
       (said : All (IsSaid base (all ++ one ∷ [])) new.kept.pages) (met : AreMet base questions first.told after.told first.faults after.faults (all ++ one ∷ [])) where
     meets_one : Meets base questions first after new k was is all
     meets_one =
@@ -353,6 +404,7 @@ module _ (base : BaseParts) (questions : List Query) (query : Query) (first link
           question = moves.query ∙ it_was.question;
           at = subst (λ (made : List Made). At base first.faults after.faults is.client made (shown is.client) (shown is.client).phase) (sym (met_by_own k all one own)) moves.at;
           counted = counted;
+          fault = fault;
         } in
         record {
           more = one ∷ [];
@@ -366,21 +418,33 @@ module _ (base : BaseParts) (questions : List Query) (query : Query) (first link
 
   -- one exchange was made
   module _ (want : Want) (got : Got) (wanted : want_of (shown was.client).phase ≡ want) (x : IsExchange base (shown was.client) link after got) (waited : (shown was.client).outcome ≡ None)
-      (one_more : is.exchanges ≡ was.exchanges + 1)
+      (one_more : is.exchanges ≡ was.exchanges + 1) (ends : got ≡ None → (shown is.client).outcome ≡ Some (outcomes.LinkFault link.faults after.faults))
       (moves : Moves base first.faults after.faults was.client is.client (met_by k all ++ exchange_of want got ∷ [])) where
     abbrev one : Met
-    one = record { client = k; made = exchange_of want got; asked = true }
+    one = record { client = k; made = exchange_of want got; asked = true; low = link.faults; high = after.faults }
 
-    rose_by : (g : Got) → got ≡ g → RoseBy (failures_in (all ++ one ∷ [])) first.faults after.faults
+    -- the count rose where it failed
+    rose_by : (g : Got) → got ≡ g → RoseBy (failures_in (one ∷ [])) link.faults after.faults
     rose_by None is =
-        let failed : is_none one.made.got ≡ true = ap (λ (g : Got). is_none g) is in
         let fault : IsExchange base (shown was.client) link after None = subst (IsExchange base (shown was.client) link after) is x in
-        subst (λ (n : ℕ). RoseBy n first.faults after.faults) (sym (failure_more all one failed))
-        (RoseBy-then (failures_in all) 1 first.faults link.faults after.faults so.met.rose (fault.faults.rose refl))
+        subst (λ (b : Bool). RoseBy (length (cond b (one ∷ []) [])) link.faults after.faults) (sym (ap (λ (g : Got). is_none g) is)) (fault.faults.rose refl)
     rose_by (Some reply) is =
-        let replied : is_none one.made.got ≡ false = ap (λ (g : Got). is_none g) is in
-        subst (λ (n : ℕ). RoseBy n first.faults after.faults) (sym (no_failure_more all one replied))
-        (RoseBy-later (failures_in all) first.faults link.faults after.faults so.met.rose x.faults.not_fallen)
+        subst (λ (b : Bool). RoseBy (length (cond b (one ∷ []) [])) link.faults after.faults) (sym (ap (λ (g : Got). is_none g) is)) (RoseBy-none link.faults after.faults x.faults.not_fallen)
+
+    -- and that is the fault by which it ended
+    failed_now : (low high : ℕ) → (shown is.client).outcome ≡ Some (outcomes.LinkFault low high) → HasFailedBetween k low high (all ++ one ∷ [])
+    failed_now low high some =
+        let failed : got ≡ None = failed_last base first.faults after.faults is.client (met_by k all) one.made low high moves.at some in
+        let same : Some (outcomes.LinkFault link.faults after.faults) ≡ Some (outcomes.LinkFault low high) = sym (ends failed) ∙ some in
+        record {
+          place = length all;
+          exchange = one;
+          there = slice_get-last all one;
+          own = refl;
+          failed = failed;
+          low_is = (same_counts link.faults after.faults low high same).0;
+          high_is = (same_counts link.faults after.faults low high same).1;
+        }
 
     exchange_met : AreMet base questions first.told after.told first.faults after.faults (all ++ one ∷ [])
     exchange_met =
@@ -392,14 +456,14 @@ module _ (base : BaseParts) (questions : List Query) (query : Query) (first link
           kept = take_kept_more base [] all one so.met.kept (λ none. absurd (not_both none));
           told = subst (λ (l : List Met). TellsMet base questions l first.told after.told) (sym (asked_more all one refl))
           (tells_met_more base questions query (asked_in all) one x.request first.told link.told after.told so.met.told asks asked x.told);
-          rose = rose_by got refl;
+          counted = along_more first.faults link.faults after.faults all one so.met.counted (no_less link.faults) (rose_by got refl) (no_less after.faults);
         }
 
     exchange_counted : is.exchanges ≡ exchanges_by k (all ++ one ∷ [])
     exchange_counted = one_more ∙ ap (λ (n : ℕ). n + 1) it_was.counted ∙ sym (exchange_more k all one refl refl)
 
     pub exchanged : All (IsSaid base (all ++ one ∷ [])) new.kept.pages → Meets base questions first after new k was is all
-    exchanged said = meets_one one refl waited moves exchange_counted said exchange_met
+    exchanged said = meets_one one refl waited moves exchange_counted failed_now said exchange_met
 
     -- where the cache is as it was
     pub exchanged_beside : new.kept ≡ old.kept → Meets base questions first after new k was is all
@@ -408,7 +472,7 @@ module _ (base : BaseParts) (questions : List Query) (query : Query) (first link
   -- the cache behind a page that was asked for
   module _ (name : PageName) (got : Got) where
     abbrev page_one : Met
-    page_one = record { client = k; made = exchange_of (wants.Page name) got; asked = true }
+    page_one = record { client = k; made = exchange_of (wants.Page name) got; asked = true; low = link.faults; high = after.faults }
 
     still_said : All (IsSaid base (all ++ page_one ∷ [])) old.kept.pages
     still_said = said_more base all (page_one ∷ []) old.kept.pages so.said
@@ -443,6 +507,16 @@ module _ (base : BaseParts) (questions : List Query) (query : Query) (first link
     page_said None is (ended, same) = as_it_was same
     page_said (Some reply) is takes = by_said reply takes.said is takes.says takes.after_page
 
+  -- it ends by a fault of the link where there is no reply
+  ends_by : (takes : List ℕ → Type 0) (got : Got) → Takes was.client is.client link.faults after.faults takes got → got ≡ None → (shown is.client).outcome ≡ Some (outcomes.LinkFault link.faults after.faults)
+  ends_by takes None t none = ap (λ (s : Shown). s.outcome) t
+  ends_by takes (Some reply) t none = absurd (some_is_none reply none)
+
+  ends_by_page : (name : PageName) (got : Got) → TakesAsked base name was.client is.client old.kept new.kept link.faults after.faults got → got ≡ None →
+      (shown is.client).outcome ≡ Some (outcomes.LinkFault link.faults after.faults)
+  ends_by_page name None (ended, same) none = ap (λ (s : Shown). s.outcome) ended
+  ends_by_page name (Some reply) t none = absurd (some_is_none reply none)
+
   spans : (got : Got) → IsExchange base (shown was.client) link after got → Spans first.faults link.faults after.faults got
   spans got x = record { from = so.grown.not_fallen; cause = x.faults }
 
@@ -451,16 +525,16 @@ module _ (base : BaseParts) (questions : List Query) (query : Query) (first link
     by : AsksOne base was.client is.client old.kept new.kept link after → Meets base questions first after new k was is all
     by (inl (asks, same)) =
         let at : AtGate base (shown was.client) (met_by k all) = it_waited phases.Gate (waits_at_gate (shown was.client).phase asks.wants) in
-        exchanged_beside wants.Gate asks.got asks.wants asks.exchange t.had_none t.one_more
+        exchanged_beside wants.Gate asks.got asks.wants asks.exchange t.had_none t.one_more (ends_by (TakesGate base was.client is.client) asks.got asks.takes)
         (gate_asked base first.faults link.faults after.faults was.client is.client (met_by k all) at asks.got (spans asks.got asks.exchange) asks.takes) same
     by (inr (inl (asks, same))) =
         let phase = waits_for_stops (shown was.client).phase asks.wants in
         let at : AtStops base (shown was.client) (met_by k all) phase.first = it_waited (phases.Stops phase.first) phase.is in
-        exchanged_beside wants.Stops asks.got asks.wants asks.exchange t.had_none t.one_more
+        exchanged_beside wants.Stops asks.got asks.wants asks.exchange t.had_none t.one_more (ends_by (TakesStops was.client is.client) asks.got asks.takes)
         (stops_asked base first.faults link.faults after.faults was.client is.client (met_by k all) phase.first phase.is at asks.got (spans asks.got asks.exchange) asks.takes) same
     by (inr (inr asks)) =
         let at : AtPage base (shown was.client) was.client (met_by k all) asks.name = it_waited (phases.Page asks.name) (waits_for (shown was.client).phase asks.name asks.wants) in
-        exchanged (wants.Page asks.name) asks.got asks.wants asks.exchange t.had_none t.one_more
+        exchanged (wants.Page asks.name) asks.got asks.wants asks.exchange t.had_none t.one_more (ends_by_page asks.name asks.got asks.takes)
         (page_asked base first.faults link.faults after.faults was.client is.client old.kept new.kept (met_by k all) asks.name at asks.got (spans asks.got asks.exchange) asks.takes)
         (page_said asks.name asks.got asks.got refl asks.takes)
 
@@ -490,7 +564,7 @@ module _ (base : BaseParts) (questions : List Query) (query : Query) (first link
       let said : IsSaid base all h.page = found (IsSaid base all) (has_name h.name) old.kept.pages h.page so.said h.holds in
       let says : IsPageReply base h.name said.reply (Ok h.page) = subst (λ (n : PageName). IsPageReply base n said.reply (Ok h.page)) same said.says in
       let made : Made = reply_to (wants.Page h.name) said.reply in
-      let one : Met = record { client = k; made = made; asked = false } in
+      let one : Met = record { client = k; made = made; asked = false; low = link.faults; high = link.faults } in
       let was_kept : WasKept base all made = record {
         name = h.name;
         reply = said.reply;
@@ -507,11 +581,12 @@ module _ (base : BaseParts) (questions : List Query) (query : Query) (first link
         by_clients = All-push (IsByOneOf (length questions)) all one so.met.by_clients (record { from_one = from_one; at_most = by_one_of });
         kept = take_kept_more base [] all one so.met.kept (λ none. was_kept);
         told = subst (λ (l : List Met). TellsMet base questions l first.told link.told) (sym (not_asked_more all one refl)) so.met.told;
-        rose = subst (λ (n : ℕ). RoseBy n first.faults link.faults) (sym (no_failure_more all one refl)) so.met.rose;
+        counted = along_more first.faults link.faults link.faults all one so.met.counted (no_less link.faults) (RoseBy-none link.faults link.faults (no_less link.faults)) (no_less link.faults);
       } in
-      meets_one one refl t.had_none
-      (page_taken base first.faults after.faults was.client is.client (met_by k all) h.name at said.reply h.page says h.takes)
+      let moves = page_taken base first.faults after.faults was.client is.client (met_by k all) h.name at said.reply h.page says h.takes in
+      meets_one one refl t.had_none moves
       (t.same_count ∙ it_was.counted ∙ sym (no_exchange_more k all one refl))
+      (λ low high some. absurd (some_is_none said.reply (failed_last base first.faults after.faults is.client (met_by k all) made low high moves.at some)))
       (subst (λ (kept : Kept). All (IsSaid base (all ++ one ∷ [])) kept.pages) (sym h.used)
       (All-with_used (IsSaid base (all ++ one ∷ [])) old.kept.pages h.name (said_more base all (one ∷ []) old.kept.pages so.said)))
       (subst (λ (n : ℕ). AreMet base questions first.told after.told first.faults n (all ++ one ∷ [])) (sym faults)
@@ -554,13 +629,3 @@ module _ {X : Type 0} (seen : X → LinkSeen) (base : BaseParts) (questions : Li
   turn_meets turn step =
       let s = step.turned in
       by_turn turn step (subst (λ (b : BaseParts). Turned b s.was s.is old.kept new.kept (seen link) (seen after) turn) so.base_is s.turned)
-
--- who has an outcome has ended
-pub not_yet : (outcome : Option Outcome) → outcome ≡ None → IsSome outcome → ⊥
-not_yet outcome none some = let nothing : IsSome {T = Outcome} None = subst (λ (o : Option Outcome). IsSome o) none some in cc
-
-pub has_ended : (base : BaseParts) (before now : ℕ) (client : Client) (made : List Made) (s : Shown) (phase : Phase) → At base before now client made s phase → IsSome s.outcome → AtEnd base before now s made
-has_ended base before now client made s phases.Gate at some = absurd (not_yet s.outcome at.none some)
-has_ended base before now client made s (phases.Stops first) at some = absurd (not_yet s.outcome at.none some)
-has_ended base before now client made s (phases.Page name) at some = absurd (not_yet s.outcome at.none some)
-has_ended base before now client made s phases.Finished at some = at

@@ -1,16 +1,17 @@
 -- What was met, with one more.
-use Rattle.std.proofs.Common.{◌≡◌, ◌==◌, ◌&&◌, ◌+◌, ◌-◌, ℕ, Bool, true, false, List, [], ◌∷◌, ◌++◌, Option, Some, is_none, ap, ap₂, append-nil, append_assoc, eq-eqb, eqb-true, filter, length, length-append, map, option_map, refl, subst, sym, ◌∙◌, cond}
+use Rattle.std.proofs.Common.{◌≡◌, ◌==◌, ◌&&◌, ◌+◌, ◌-◌, ◌≤◌, ℕ, Bool, true, false, List, [], ◌∷◌, ◌++◌, Option, Some, ap, ap₂, append-nil, append_assoc, arith, eq-eqb, eqb-true, filter, length, length-append, map, option_map, refl, subst, sym, ◌∙◌, cond}
 use Rattle.std.specs.List.{All, slice_get}
 use Rattle.std.proofs.lemmas.List.{map-append}
 use Rattle.std.proofs.lemmas.List.Elements.{All-head, All-tail, filter-append}
 use Rattle.connection_uri.specs.Base.{BaseParts}
 use Rattle.convoy.specs.Exchange.{bytes_of, result_of}
 use Rattle.csa_scan.proofs.ListPlacesLemmas.{slice_get-append}
+use Rattle.lc_io.specs.Counts.{RoseBy}
 use Rattle.lc_model.specs.declared.query.Query.{Query}
 use Rattle.lc_world.specs.Link.{Tells, TellsMore}
 use Rattle.lc_world.specs.declared.entry.Entry.{Entry}
 use Rattle.page_client.specs.Request.{Asks, known_at, target_of}
-use Rattle.client_replies.specs.Met.{AreToldOf, IsToldOf, Met, TakeKept, TellsMet, WasKept, asked_in, exchanges_by, failures_in, is_by, met_by}
+use Rattle.client_replies.specs.Met.{AreToldOf, CountAlong, IsToldOf, Met, TakeKept, TellsMet, WasKept, asked_in, exchanges_by, failures_in, is_by, met_by}
 use Rattle.client_replies.proofs.MadeLemmas.{grows, stays, told_by}
 
 -- one more passes a filter, or is left out
@@ -80,14 +81,15 @@ module _ (all : List Met) (met : Met) where
   pub not_asked_more : met.asked ≡ false → asked_in (all ++ met ∷ []) ≡ asked_in all
   not_asked_more none = filter_without (λ (m : Met). m.asked) all met none
 
-  -- which failed, or was replied to
-  pub failure_more : is_none met.made.got ≡ true → failures_in (all ++ met ∷ []) ≡ failures_in all + 1
-  failure_more failed =
-      let fails : Met → Bool = λ m. is_none m.made.got in
-      ap (λ (l : List Met). length l) (filter_with fails all met failed) ∙ length-append (filter fails all) (met ∷ [])
+-- the count goes on
+pub along_more : (faults now later : ℕ) (all : List Met) (met : Met) → CountAlong faults now all → now ≤ met.low → RoseBy (failures_in (met ∷ [])) met.low met.high → met.high ≤ later →
+    CountAlong faults later (all ++ met ∷ [])
+along_more faults now later [] met along from rose to = ((let before : faults ≤ now = along in let here : faults ≤ met.low = omega arith in here), rose, to)
+along_more faults now later (m ∷ all) met along from rose to = (along.0, along.1, along_more m.high now later all met along.2 from rose to)
 
-  pub no_failure_more : is_none met.made.got ≡ false → failures_in (all ++ met ∷ []) ≡ failures_in all
-  no_failure_more replied = ap (λ (l : List Met). length l) (filter_without (λ (m : Met). is_none m.made.got) all met replied)
+pub along_later : (faults now later : ℕ) (all : List Met) → CountAlong faults now all → now ≤ later → CountAlong faults later all
+along_later faults now later [] along to = (let before : faults ≤ now = along in let here : faults ≤ later = omega arith in here)
+along_later faults now later (m ∷ all) along to = (along.0, along.1, along_later m.high now later all along.2 to)
 
 -- one more that was kept, if it was met without an exchange
 pub take_kept_more : (base : BaseParts) (before all : List Met) (met : Met) → TakeKept base before all → (met.asked ≡ false → WasKept base (before ++ all) met.made) → TakeKept base before (all ++ met ∷ [])

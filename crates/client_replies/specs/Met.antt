@@ -1,5 +1,5 @@
 -- What the clients of a convoy met in their turns, whoever replied: what each wanted, and by which reply it went on.
-use Rattle.std.specs.Prelude.{◌≡◌, ◌==◌, ◌&&◌, ◌-◌, ◌≤◌, ℕ, Bool, true, false, List, [], ◌∷◌, ◌++◌, length, map, filter, is_none, Option, Some, Ok, option_map, slice_get}
+use Rattle.std.specs.Prelude.{◌≡◌, ◌==◌, ◌&&◌, ◌-◌, ◌≤◌, ℕ, Bool, true, false, List, [], ◌∷◌, ◌++◌, length, map, filter, is_none, Option, Some, None, Ok, option_map, slice_get}
 use Rattle.std.specs.List.{All}
 use Rattle.lc_io.specs.Counts.{RoseBy}
 use Rattle.lc_model.specs.declared.page.PageName.{PageName}
@@ -12,11 +12,13 @@ use Rattle.page_json.specs.declared.page.Page.{Page}
 use Rattle.client_replies.specs.Made.{IsEntryOf, Made, reply_to}
 
 -- A client met one of its wants: by an exchange of its own, which gave this reply or failed, or else by a page that was kept, which this
--- reply said. Clients are numbered from 1.
+-- reply said; and the link's count of faults was this before it and that behind it. Clients are numbered from 1.
 pub record Met : Type 0 where
   pub client : ℕ
   pub made : Made
   pub asked : Bool
+  pub low : ℕ
+  pub high : ℕ
 
 -- it is one of the client
 abbrev pub is_by : ℕ → Met → Bool
@@ -37,6 +39,21 @@ asked_in all = filter (λ (met : Met). met.asked) all
 -- how many of them failed
 abbrev pub failures_in : List Met → ℕ
 failures_in all = length (filter (λ (met : Met). is_none met.made.got) all)
+
+-- The count of a link's faults went along all this from the one to the other, and each exchange that failed raised it.
+abbrev pub CountAlong : ℕ → ℕ → List Met → Type 0
+CountAlong faults now [] = faults ≤ now
+CountAlong faults now (met ∷ more) = (faults ≤ met.low) × RoseBy (failures_in (met ∷ [])) met.low met.high × CountAlong met.high now more
+
+-- an exchange of the client failed, in which the count went from the one to the other
+pub record HasFailedBetween (client low high : ℕ) (all : List Met) : Type 0 where
+  pub place : ℕ
+  pub exchange : Met
+  pub there : slice_get all place ≡ Some exchange
+  pub own : exchange.client ≡ client
+  pub failed : exchange.made.got ≡ None
+  pub low_is : exchange.low ≡ low
+  pub high_is : exchange.high ≡ high
 
 -- It is one of a client among so many.
 pub record IsByOneOf (clients : ℕ) (met : Met) : Type 0 where
@@ -80,10 +97,10 @@ pub record TellsMet (base : BaseParts) (questions : List Query) (exchanges : Lis
   pub are : AreToldOf base questions exchanges entries
   pub is : after ≡ option_map (λ (told : List Entry). told ++ entries) before
 
--- The clients of these questions met all this over a link, between these counts of its faults: each exchange is one of them, is told
--- where the link tells exchanges, and raised the count where it failed.
+-- The clients of these questions met all this over a link: each exchange is told, where the link tells exchanges, and its count of faults
+-- went from the one to the other.
 pub record AreMet (base : BaseParts) (questions : List Query) (before after : Option (List Entry)) (faults now_faults : ℕ) (all : List Met) : Type 0 where
   pub by_clients : All (IsByOneOf (length questions)) all
   pub kept : TakeKept base [] all
   pub told : TellsMet base questions (asked_in all) before after
-  pub rose : RoseBy (failures_in all) faults now_faults
+  pub counted : CountAlong faults now_faults all

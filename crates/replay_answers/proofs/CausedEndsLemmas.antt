@@ -107,6 +107,7 @@ module _ (base : BaseParts) (questions : List Query) (first now : LinkSeen) (con
         (subst (λ (v : Option ℕ). EndsBy base (shown at.member.client).query first.faults now.faults v so_far end.outcome) (sym at.ended.version)
         (subst (EndsBy base (shown at.member.client).query first.faults now.faults (shown at.member.client).version so_far) same e.ends));
         exchanges = at.ended.exchanges ∙ client.counted;
+        fault = λ low high is. client.fault low high (at.ended.outcome ∙ ap Some is);
       })
 
   printable_at : (place : ℕ) (end : ClientEnd) → slice_get ends place ≡ Some end → IsPrintable end.outcome

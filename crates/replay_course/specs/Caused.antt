@@ -3,10 +3,11 @@ use Rattle.std.specs.Prelude.{◌≡◌, ◌≢◌, ◌⊎◌, ◌≤◌, ℕ, �
 use Rattle.std.specs.List.{All}
 use Rattle.asking.specs.declared.end.ClientEnd.{ClientEnd}
 use Rattle.client_replies.specs.Ends.{EndsBy}
-use Rattle.client_replies.specs.Met.{AreMet, Met, exchanges_by, met_by}
+use Rattle.client_replies.specs.Met.{AreMet, HasFailedBetween, Met, exchanges_by, met_by}
 use Rattle.connection_uri.specs.Base.{BaseParts}
 use Rattle.lc_model.specs.declared.query.Query.{Query}
 use Rattle.lc_world.specs.declared.entry.Entry.{Entry}
+use Rattle.page_client.specs.declared.outcome.Outcome.TheVariants.{LinkFault}
 use Rattle.replay_course.specs.Events.{questions_in, turns_in}
 use Rattle.replay_course.specs.declared.event.Event.{Event}
 
@@ -31,10 +32,12 @@ abbrev pub AreMetInTurns : List ℕ → List Met → Type 0
 AreMetInTurns [] all = AreByNumber all
 AreMetInTurns (client ∷ turns) all = ((rest : List Met) × BeginWith client all rest × AreMetInTurns turns rest) ⊎ (NoneIsOf client all × AreMetInTurns turns all)
 
--- the client of this number ended by the replies to what it met, and its exchanges are counted
+-- The client of this number ended by the replies to what it met, and its exchanges are counted. The counts of a fault of the link are those
+-- before and behind the exchange of its own that failed.
 pub record EndsByMet (base : BaseParts) (query : Query) (faults now_faults : ℕ) (number : ℕ) (met : List Met) (end : ClientEnd) : Type 0 where
   pub ends : EndsBy base query faults now_faults end.version (met_by number met) end.outcome
   pub exchanges : end.exchanges ≡ exchanges_by number met
+  pub fault : (low high : ℕ) → end.outcome ≡ LinkFault low high → HasFailedBetween number low high met
 
 -- The clients of a course ended so over a link that told these exchanges, and had these counts of faults.
 pub record AreCaused (base : BaseParts) (all : List Event) (told now_told : Option (List Entry)) (faults now_faults : ℕ) (ends : List ClientEnd) : Type 0 where
