@@ -21,15 +21,15 @@ pub record Past (X : Type 0) : Type 0 where
   pub sink_before : SinkSeen
   pub sink_after : SinkSeen
 
--- The command has something to print: the counts of the feed's timetable, or the lines of the client that asked. It was written
--- whole, and the status is Done, or that of the client: its question was refused, an exchange of it failed, or a reply to it failed
--- a test. Or the sink failed or ran out of memory, which it counted, and a front of it was written.
+-- The command has something to print: the counts of the feed's timetable, or the lines of messages and of the clients that asked. It was
+-- written whole, and the status is Done, or that of the first client that has no answer: its question was refused, an exchange of it failed,
+-- or a reply to it failed a test. Or the sink failed or ran out of memory, which it counted, and a front of it was written.
 pub record HasPrinted {X : Type 0} (seen : X → LinkSeen) (p : Past X) (status : Status) : Type 0 where
   pub block : Block
   pub right : IsRightBlock p.words p.folder_before p.folder_after (seen p.link_before) (seen p.link_after) block
   pub end : IsBlockEnd block p.sink_before p.sink_after status
 
--- There is a cause why nothing is printed but an error line: the words, the feed, the folder, the message, or memory. That line
+-- There is a cause why nothing is printed but an error line: the words, the feed, the folder, a message, the script, or memory. That line
 -- was written whole, or a front of it, where the sink counted a fault or a want of memory; the status is that of the cause.
 pub record WasRefused {X : Type 0} (p : Past X) (status : Status) : Type 0 where
   pub refusal : Refusal

@@ -78,7 +78,7 @@ begins_without_failure side query (Some fault) = refl
 
 -- and has met nothing
 met_nothing : (outcome : Option Outcome) → HasMet [] outcome
-met_nothing outcome = record { ones = []; idle = []; are = refl; each = All-nil IsOne; none = All-nil IsIdle; ended = inl refl }
+met_nothing outcome = record { ones = []; idle = []; are = refl; each = All-nil IsOne; none = All-nil IsIdle; ended = inl refl; at_last = tt }
 
 -- the last of a list that grew
 last_is : {X : Type 0} (xs : List X) (x y : X) (place : ℕ) → place ≡ length xs → slice_get (xs ++ x ∷ []) place ≡ Some y → y ≡ x

@@ -34,9 +34,10 @@ use Rattle.version_store.specs.Store.{Stored}
 use Rattle.replay_course.specs.Events.{before_turn_of}
 use Rattle.replay_course.specs.Played.{HasEndedSo}
 use Rattle.replay_course.specs.Right.{EndsSo, FailsWith}
-use Rattle.replay_course.specs.Turns.{IsIdle, IsOne, TakeOneEach, asked_in, failed_in, given_in}
+use Rattle.replay_course.specs.Turns.{EndByFailure, IsIdle, IsOne, TakeOneEach, asked_in, failed_in, given_in}
 use Rattle.replay_course.specs.Versions.{HasHeard, IsMeant}
 use Rattle.replay_course.specs.declared.event.Event.{Event}
+use Rattle.replay_answers.proofs.FailureLemmas.{fails_idle, fails_last}
 use Rattle.replay_answers.proofs.EventLemmas.{asked_in-append, failed_in-append, given_in-append}
 use Rattle.replay_answers.proofs.FinishesListLemmas.{ones_and_idle, ones_and_last}
 use Rattle.replay_answers.proofs.PlayedTo.{HasFailedSo, HasMet, IsMemberSo}
@@ -228,6 +229,14 @@ module _ (made : Timetable) (publishing : Publishing) (all : List Event) (store 
         ap (λ (l : List Round). l ++ came.round ∷ []) m.met.are ∙ append_assoc m.met.ones m.met.idle (came.round ∷ []) in
         subst TakeOneEach (sym are) (ones_and_idle m.met.ones m.met.idle came.round m.met.each m.met.none (was_idle some))
 
+  -- and none behind an exchange that failed
+  at_last : EndByFailure (mine ++ came.round ∷ [])
+  at_last = by_outcome (shown was.client).outcome refl m.failed where
+    by_outcome : (outcome : Option Outcome) → (shown was.client).outcome ≡ outcome → HasFailedSo side query (shown was.client).version (given_in mine) (failed_in mine) outcome →
+        EndByFailure (mine ++ came.round ∷ [])
+    by_outcome None waits none = fails_last mine came.round none
+    by_outcome (Some outcome) had so_failed = fails_idle mine came.round m.met.at_last (was_idle (subst IsSome (sym had) refl))
+
   -- and what was asked for in vain is right
   failed_now : (shown was.client).outcome ≡ None → failed_in (mine ++ came.round ∷ []) ≡ came.round.failed →
       NoneFailed (shown was.client) (shown came.is.client) came.round.failed ⊎ OneFailed side (shown was.client) (shown came.is.client) (came.own ++ came.round.given) came.round.failed →
@@ -270,4 +279,4 @@ module _ (made : Timetable) (publishing : Publishing) (all : List Event) (store 
         (subst (λ (l : List Want). FailsWith side query (shown was.client).version (given_in mine) l outcome) (sym vain) so_failed)))
 
   pub ends_so : EndsSo made publishing all side client query (mine ++ came.round ∷ []) end
-  ends_so = record { ended = ended; meant = meant; exchanges = exchanges; each = each; failed = failed }
+  ends_so = record { ended = ended; meant = meant; exchanges = exchanges; each = each; at_last = at_last; failed = failed }

@@ -2,6 +2,7 @@ mod BeginsLemmas
 mod CausedCourseLemmas
 mod CausedEndsLemmas
 mod EventLemmas
+mod FailureLemmas
 mod FinishesClientLemmas
 mod FinishesLemmas
 mod FinishesListLemmas

@@ -20,7 +20,7 @@ use Rattle.version_store.specs.Store.{Stored}
 use Rattle.asking.specs.Publishing.{side_with, store_of}
 use Rattle.replay_course.specs.Events.{questions_in, turns_in}
 use Rattle.replay_course.specs.Right.{FailsWith}
-use Rattle.replay_course.specs.Turns.{IsIdle, IsOne, asked_in, failed_in, given_in, requests_in, rounds_of}
+use Rattle.replay_course.specs.Turns.{EndByFailure, IsIdle, IsOne, asked_in, failed_in, given_in, requests_in, rounds_of}
 use Rattle.replay_course.specs.Versions.{HasHeard, IsMeant}
 use Rattle.replay_course.specs.declared.event.Event.{Event}
 
@@ -29,7 +29,7 @@ abbrev pub HasFailedSo : Side → Query → Option ℕ → List Want → List Wa
 HasFailedSo side query version given failed None = failed ≡ []
 HasFailedSo side query version given failed (Some outcome) = FailsWith side query version given failed outcome
 
--- it met one want in each turn up to its end, and none behind it
+-- it met one want in each turn up to its end, and none behind it, nor behind an exchange that failed
 pub record HasMet (rounds : List Round) (outcome : Option Outcome) : Type 0 where
   pub ones : List Round
   pub idle : List Round
@@ -37,6 +37,7 @@ pub record HasMet (rounds : List Round) (outcome : Option Outcome) : Type 0 wher
   pub each : All IsOne ones
   pub none : All IsIdle idle
   pub ended : (idle ≡ []) ⊎ IsSome outcome
+  pub at_last : EndByFailure rounds
 
 -- the client of the question, with this number, behind these turns of its own
 pub record IsMemberSo (made : Timetable) (publishing : Publishing) (done : List Event) (side : Side) (client : ℕ) (query : Query) (member : Member) (given : List Want) (rounds : List Round) : Type 0 where

@@ -34,6 +34,7 @@ use Rattle.replay_course.specs.Events.{before_turn_of}
 use Rattle.replay_course.specs.Turns.{IsIdle, IsOne, asked_in, failed_in, given_in}
 use Rattle.replay_course.specs.Versions.{HasHeard, IsMeant}
 use Rattle.replay_course.specs.declared.event.Event.{Event}
+use Rattle.replay_answers.proofs.FailureLemmas.{fails_idle, fails_last, front_nil}
 use Rattle.replay_answers.proofs.PlayedTo.{HasFailedSo, HasMet, IsMemberSo}
 
 -- who waits has no outcome
@@ -140,11 +141,6 @@ failed_more rounds more = flat_map-append (λ (round : Round). round.failed) rou
 
 asked_more : (rounds : List Round) (more : Round) → asked_in (rounds ++ more ∷ []) ≡ asked_in rounds ++ more.asked
 asked_more rounds more = flat_map-append (λ (round : Round). round.asked) rounds (more ∷ []) ∙ ap (λ (l : List Want). asked_in rounds ++ l) (append-nil more.asked)
-
--- no list of wants begins with one where nothing stands behind it
-front_nil : (xs ys : List Want) → xs ++ ys ≡ [] → xs ≡ []
-front_nil [] ys is = refl
-front_nil (x ∷ xs) ys is = absurd (cc)
 
 -- a client that waits is not at its end: it met one want in each of its turns
 all_ones : (rounds : List Round) (outcome : Option Outcome) (met : HasMet rounds outcome) → outcome ≡ None → rounds ≡ met.ones
@@ -283,6 +279,7 @@ module _ (made : Timetable) (publishing : Publishing) (done then_done : List Eve
     each = All-append IsOne m.met.ones (round ∷ []) m.met.each (All-cons IsOne round [] (record { want = want; is = one }) (All-nil IsOne));
     none = All-nil IsIdle;
     ended = inl refl;
+    at_last = fails_last rounds round (none_failed_yet waits);
   }
 
   pub met : HasMet more (shown is.client).outcome
@@ -296,6 +293,7 @@ module _ (made : Timetable) (publishing : Publishing) (done then_done : List Eve
       none =
           All-append IsIdle m.met.idle (round ∷ []) m.met.none (All-cons IsIdle round [] (ap₂ (λ (x y : List Want). x ++ y) r.none_given r.none_failed) (All-nil IsIdle));
       ended = inr (subst (λ (member : Member). IsSome (shown member.client).outcome) (sym r.same) r.had);
+      at_last = fails_idle rounds round m.met.at_last (ap₂ (λ (x y : List Want). x ++ y) r.none_given r.none_failed);
     }
     by (inr (inl g)) = met_one g.waited g.want (ap₂ (λ (x y : List Want). x ++ y) g.is_given g.none_failed)
     by (inr (inr f)) = met_one f.waited f.failed_then.want (ap₂ (λ (x y : List Want). x ++ y) f.none_given f.failed_then.one)

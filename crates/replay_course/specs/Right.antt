@@ -19,7 +19,7 @@ use Rattle.asking.specs.Client.{shown_of}
 use Rattle.asking.specs.Publishing.{side_with, store_of}
 use Rattle.asking.specs.declared.end.ClientEnd.{ClientEnd}
 use Rattle.replay_course.specs.Events.{questions_in}
-use Rattle.replay_course.specs.Turns.{TakeOneEach, asked_in, failed_in, given_in, order_of, requests_in, rounds_of}
+use Rattle.replay_course.specs.Turns.{EndByFailure, TakeOneEach, asked_in, failed_in, given_in, order_of, requests_in, rounds_of}
 use Rattle.replay_course.specs.Versions.{HasHeard, IsMeant}
 use Rattle.replay_course.specs.declared.event.Event.{Event}
 
@@ -39,13 +39,14 @@ FailsWith side query version given failed (outcomes.LinkFault before after) = Fa
 FailsWith side query version given failed (outcomes.PeerWrong reply fault) = failed ≡ []
 
 -- The client of the question ended so, in these turns: it was given exactly its wants, has a best journey by the timetable of its version, or
--- no journey where there is none; the version is the one that it meant when it first asked; it met one want a turn; and each exchange
--- of its own is counted.
+-- no journey where there is none; the version is the one that it meant when it first asked; it met one want a turn, and none behind an
+-- exchange that failed; and each exchange of its own is counted.
 pub record EndsSo (made : Timetable) (publishing : Publishing) (all : List Event) (side : Side) (client : ℕ) (query : Query) (rounds : List Round) (end : ClientEnd) : Type 0 where
   pub ended : HasEnded side (shown_of query end) (given_in rounds) (Some end.outcome)
   pub meant : IsMeant made publishing all client query (given_in rounds) end.version
   pub exchanges : end.exchanges ≡ length (asked_in rounds)
   pub each : TakeOneEach rounds
+  pub at_last : EndByFailure rounds
   pub failed : FailsWith side query end.version (given_in rounds) (failed_in rounds) end.outcome
 
 -- The course was played rightly: the lines are those of its messages; in each turn the names of the pages that are kept tell what was asked

@@ -49,6 +49,11 @@ TakeOneEach [] = ⊥
 TakeOneEach (last ∷ []) = Unit {0}
 TakeOneEach (round ∷ next ∷ more) = (IsOne round × TakeOneEach (next ∷ more)) ⊎ All IsIdle (round ∷ next ∷ more)
 
+-- behind a turn in which an exchange failed nothing was wanted any more
+abbrev pub EndByFailure : List Round → Type 0
+EndByFailure [] = Unit {0}
+EndByFailure (round ∷ more) = ((round.failed ≡ []) ⊎ All IsIdle more) × EndByFailure more
+
 -- the requests of one who asked this in a turn
 abbrev pub requests_by : BaseParts → Option Query → Round → List (List ℕ)
 requests_by base None round = []
