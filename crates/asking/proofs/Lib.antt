@@ -1,4 +1,5 @@
 pub mod AdmissionLemmas
 pub mod ClientLemmas
+pub mod OneAnswerLemmas
 pub mod OneOutputLemmas
 pub mod SideLemmas

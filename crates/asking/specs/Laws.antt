@@ -6,6 +6,8 @@ use Rattle.lc_io.specs.Counts.{Rose}
 use Rattle.lc_io.specs.declared.file.File.{File}
 use Rattle.lc_model.specs.declared.query.Query.{Query}
 use Rattle.lc_world.specs.Link.{LinkSeen}
+use Rattle.page_client.specs.declared.outcome.Outcome.{Outcome}
+use Rattle.page_client.specs.declared.outcome.Outcome.TheVariants as outcomes
 use Rattle.publisher_side.specs.Short.{IsShort}
 use Rattle.timetable.specs.Laws.{AreSame}
 use Rattle.timetable.specs.declared.timetable.Timetable.{Timetable}
@@ -15,6 +17,14 @@ use Rattle.asking.specs.Asked.{IsAsked}
 use Rattle.asking.specs.Block.{client_text_of}
 use Rattle.asking.specs.Publishing.{side_with, store_of}
 use Rattle.asking.specs.declared.end.ClientEnd.{ClientEnd}
+
+-- the client ended by no fault of its link
+abbrev pub IsNoLinkFault : Outcome → Type 0
+IsNoLinkFault (outcomes.Found journey) = Unit {0}
+IsNoLinkFault outcomes.NoJourney = Unit {0}
+IsNoLinkFault (outcomes.Refused fault) = Unit {0}
+IsNoLinkFault (outcomes.LinkFault before after) = ⊥
+IsNoLinkFault (outcomes.PeerWrong reply fault) = Unit {0}
 
 -- the ends of two clients are one: the same version, outcomes that say the same, and so many exchanges
 pub record AreOneEnd (a b : ClientEnd) : Type 0 where
