@@ -7,6 +7,9 @@ mod FinishesClientLemmas
 mod FinishesLemmas
 mod FinishesListLemmas
 mod HearsLemmas
+mod OneCourseLemmas
+mod OneHeardLemmas
+mod OneRoundsLemmas
 mod PlayedTo
 mod PlaysLemmas
 mod TurnsClientLemmas

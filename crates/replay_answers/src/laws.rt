@@ -1,8 +1,10 @@
 ghost use Rattle.replay_answers.specs.Laws.{PlaysCaused, PlaysRight};
+ghost use Rattle.replay_course.specs.Laws.{OneCourse};
 
-use client_answers::steps_keep_agreement;
+use client_answers::{one_answer, steps_keep_agreement};
 use convoy_answers::{agreement_begins, turns_keep_agreement};
 use lc_world::Link;
+use version_store::one_outcome;
 
 /// A course that was played to its end over a quiet link was played rightly: each client ended with a best journey by the timetable of the
 /// version that it meant when it first asked, or with none where there is none.
@@ -18,3 +20,12 @@ pub fn courses_are_right<L: Link>()
 pub fn courses_are_caused<L: Link>()
     ensures { PlaysCaused L.seen }
 {}
+
+/// Two plays of one course, in which no exchange failed, come to the same: one line for each message, and for each client one version, one
+/// arrival or one refusal, and so many exchanges. Nothing but the way of a journey is left open.
+pub fn one_course()
+    ensures { OneCourse }
+{
+    one_answer();
+    one_outcome();
+}
