@@ -1,6 +1,8 @@
 pub mod CommandLemmas
 pub mod CompleteLemmas
+pub mod CourseRefusalLemmas
 pub mod InputsLemmas
+pub mod OneReplayLemmas
 pub mod OneRunLemmas
 pub mod OneStatusLemmas
 pub mod ReplayLemmas

@@ -13,6 +13,8 @@ use Rattle.lc_io.specs.declared.file.File.{File}
 use Rattle.lc_model.specs.declared.doc.StopsDoc.{StopsDoc}
 use Rattle.lc_model.specs.declared.run.Run.{Run}
 use Rattle.lc_world.specs.Link.{LinkSeen}
+use Rattle.replay_course.specs.Laws.{OneCourse}
+use Rattle.script_text.specs.Laws.{OneScript}
 use Rattle.timetable.specs.Laws.{AreSame, LoadsTold, OneTimetable}
 use Rattle.timetable.specs.declared.timetable.Timetable.{Timetable}
 use Rattle.lc_cli.specs.CheckText.{check_text_of, count_line_of}
@@ -21,6 +23,7 @@ use Rattle.lc_cli.specs.Command.{IsAskBlock, Prints, ask_scope, check_scope}
 use Rattle.lc_cli.specs.Laws.{OneRun, PrintOne}
 use Rattle.lc_cli.specs.declared.block.Block.{Block}
 use Rattle.lc_cli.proofs.InputsLemmas.{inputs_told}
+use Rattle.lc_cli.proofs.OneReplayLemmas.{one_replay}
 
 -- the counts of timetables that are the same
 same_counts : (a b : Timetable) → AreSame a b → check_text_of a ≡ check_text_of b
@@ -85,10 +88,10 @@ module _ {X Y : Type 0} (seen : X → LinkSeen) (saw : Y → LinkSeen) (one_time
       (subst (λ f. IsFair b.made ask.publishing f (saw from).clear (saw from).faults (saw to).faults) file (fair_asked told ask other later (saw from) (saw to) y b tell other_fair)) a.asked
       (subst (λ f. IsAsked b.made ask.publishing f ask.query (saw from) (saw to) y.text.items b.end) file b.asked)
 
-  module _ (one_command : OneCommand) where
-    -- runs that are done over these words and files print one output
+  module _ (one_command : OneCommand) (one_script : OneScript) (one_course : OneCourse) where
+    -- runs over these words and files that print something print one output
     pub one_run : OneRun seen saw
-    one_run p q told words none at to x y = by x.right.command x.right.says x.right.prints other where
+    one_run p q told words at to s t x y = by x.right.command x.right.says x.right.prints other where
       same : y.right.command ≡ x.right.command
       same = one_command p.words y.right.command x.right.command (subst (λ w. SaysCommand w y.right.command) (sym words) y.right.says) x.right.says
 
@@ -101,7 +104,10 @@ module _ {X Y : Type 0} (seen : X → LinkSeen) (saw : Y → LinkSeen) (one_time
           let made = one_timetable told (check_scope check) a.made b.made (loads_told told (check_scope check) p.folder_before p.folder_after a.made at.tells a.loaded)
           (loads_told told (check_scope check) q.folder_before q.folder_after b.made to.tells b.loaded) in
           a.text ∙ same_counts a.made b.made made ∙ sym b.text
-      by (commands.Replay replay) says a b = absurd (none replay says)
+      by (commands.Replay replay) says a b =
+          one_replay loads_told one_timetable one_script one_course told replay p.folder_before p.folder_after q.folder_before q.folder_after (seen p.link_before) (seen p.link_after)
+          (saw q.link_before) (saw q.link_after) x.block y.block a b at.tells to.tells (at.fair_course replay says)
+          (to.fair_course replay (subst (λ w. SaysCommand w (commands.Replay replay)) words says))
       by (commands.Ask ask) says a b =
           let fair = at.fair ask says in
           let other_fair = to.fair ask (subst (λ w. SaysCommand w (commands.Ask ask)) words says) in (

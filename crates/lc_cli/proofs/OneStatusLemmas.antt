@@ -1,17 +1,18 @@
 -- Two runs of one command over the same files end with one status, memory apart.
-use Rattle.std.proofs.Common.{◌≡◌, ◌∙◌, ◌⊎◌, ℕ, inl, inr, List, [], None, Some, Option, Result, Ok, Err, ap, refl, subst, sym}
+use Rattle.std.proofs.Common.{◌≡◌, ◌∙◌, ◌⊎◌, ◌+◌, ◌∷◌, ℕ, inl, inr, List, [], None, Some, Option, Result, Ok, Err, ap, ap₂, refl, subst, sym}
+use Rattle.std.specs.List.{AllZip}
 use Rattle.std.specs.Option.{unwrap_or}
-use Rattle.asking.specs.Admission.{IsIgnored}
 use Rattle.asking.specs.Publishing.{side_with, store_of}
-use Rattle.asking.specs.Laws.{OneOutput}
+use Rattle.asking.specs.Laws.{AreOneEnd, OneOutput}
+use Rattle.asking.specs.declared.end.ClientEnd.{ClientEnd}
 use Rattle.client_replies.specs.Laws.{SayTheSame}
 use Rattle.command_words.specs.Laws.{OneCommand}
 use Rattle.command_words.specs.Words.{SaysCommand}
 use Rattle.command_words.specs.declared.command.Command.{Command}
 use Rattle.command_words.specs.declared.command.Command.TheVariants as commands
-use Rattle.gtfs_feed.specs.declared.what.What.TheVariants as what
+use Rattle.command_words.specs.declared.command.Replay.{Replay}
 use Rattle.lc_io.specs.Counts.{Rose}
-use Rattle.lc_io.specs.Folder.{FolderSeen, bytes_named}
+use Rattle.lc_io.specs.Folder.{FolderSeen}
 use Rattle.lc_io.specs.declared.file.File.{File}
 use Rattle.lc_io.specs.declared.folder.FolderFail.{FolderFail}
 use Rattle.lc_io.specs.declared.folder.FolderFail.TheVariants.{Absent}
@@ -19,31 +20,34 @@ use Rattle.lc_world.specs.Link.{LinkSeen}
 use Rattle.page_client.specs.declared.fault.QueryFault.{QueryFault}
 use Rattle.page_client.specs.declared.outcome.Outcome.{Outcome}
 use Rattle.page_client.specs.declared.outcome.Outcome.TheVariants as outcomes
+use Rattle.replay_course.specs.Laws.{OneCourse}
+use Rattle.replay_course.specs.declared.event.Event.{Event}
+use Rattle.script_text.specs.Laws.{NeverBoth, OneFault, OneScript}
 use Rattle.timetable.specs.Laws.{AreSameEnds, IsOfFiles, LoadsTold, OneEnd, OneTimetable}
 use Rattle.timetable.specs.Loading.{Loads, LoadsSo}
 use Rattle.timetable.specs.declared.fault.LoadFault.{LoadFault}
 use Rattle.timetable.specs.declared.fault.LoadFault.TheVariants as fault
 use Rattle.timetable.specs.declared.timetable.Timetable.{Timetable}
-use Rattle.version_store.specs.Admission.{IsRefused}
 use Rattle.version_store.specs.Laws.{OneOutcome}
-use Rattle.version_store.specs.Store.{Stored}
 use Rattle.version_store.specs.declared.admission.AdmitFault.{AdmitFault}
 use Rattle.version_store.specs.declared.admission.AdmitFault.TheVariants as faults
 use Rattle.lc_cli.specs.Block.{IsBlockEnd, client_status_of, failed_status_of}
-use Rattle.lc_cli.specs.Clear.{IsClear, IsToldFile, IsUnhindered}
+use Rattle.lc_cli.specs.Clear.{IsClear, IsToldCourse, IsToldFile, IsUnhindered}
 use Rattle.lc_cli.specs.Command.{IsRefusedAs, IsRightBlock, IsRightRefusal, Prints, ask_scope, check_scope, scope_of}
 use Rattle.command_inputs.specs.Inputs.{AsksForUpdate, IsRefusedFor}
-use Rattle.lc_cli.specs.Laws.{DoneIsClear, DoneIsPrinted, OneStatus, SaysNoCourse}
+use Rattle.lc_cli.specs.Laws.{DoneIsClear, DoneIsPrinted, OneStatus}
 use Rattle.lc_cli.specs.Refusal.{IsRefusalEnd, status_of}
 use Rattle.lc_cli.specs.Top.{HasPrinted, IsRight, Past}
 use Rattle.lc_cli.specs.declared.block.Block.{Block}
 use Rattle.command_inputs.specs.declared.refusal.Refusal.{Refusal}
 use Rattle.command_inputs.specs.declared.refusal.Refusal.TheVariants as refused
 use Rattle.lc_cli.specs.declared.status.Status.{Status}
-use Rattle.lc_cli.specs.declared.status.Status.TheVariants.{Done, Usage, FeedBroken, UpdateBroken, FolderFault, ScriptWrong, TooLarge, NoMemory}
+use Rattle.lc_cli.specs.declared.status.Status.TheVariants.{Done, NoMemory, ScriptWrong, UpdateBroken, Usage}
+use Rattle.lc_cli.proofs.CourseRefusalLemmas.{HasLoaded, IsCourseRefused, IsToldCause, course_refused, not_refused, one_course_refusal, one_wrong, status_by, status_in}
 use Rattle.lc_cli.proofs.InputsLemmas.{absent_told, bytes_told, inputs_told, still_told}
+use Rattle.lc_cli.proofs.OneReplayLemmas.{one_replay}
 use Rattle.lc_cli.proofs.OneRunLemmas.{one_client}
-use Rattle.lc_cli.proofs.ReplayLemmas.{course_told}
+use Rattle.lc_cli.proofs.ReplayLemmas.{course_fine, course_told}
 use Rattle.lc_cli.proofs.TopLemmas.{AreNoFaults, IsHeardBy, IsNoFault, heard_fine, heard_nothing, no_fault, side_asked}
 
 -- the block was printed whole
@@ -58,34 +62,10 @@ update_of (commands.Check check) = None
 update_of (commands.Ask ask) = ask.update
 update_of (commands.Replay replay) = None
 
--- the command plays no course
-abbrev IsNoCourse : Command → Type 0
-IsNoCourse (commands.Check check) = Unit {0}
-IsNoCourse (commands.Ask ask) = Unit {0}
-IsNoCourse (commands.Replay replay) = ⊥
-
-said_no_course : (words : List (List ℕ)) (command : Command) → SaysNoCourse words → SaysCommand words command → IsNoCourse command
-said_no_course words (commands.Check check) none says = tt
-said_no_course words (commands.Ask ask) none says = tt
-said_no_course words (commands.Replay replay) none says = none replay says
-
--- such a command is refused for its feed or its message
-refused_for : (command : Command) (old new : FolderSeen) (refusal : Refusal) → IsNoCourse command → IsRefusedAs command old new refusal → IsRefusedFor (scope_of command) (update_of command) old new refusal
-refused_for (commands.Check check) old new refusal none is = is
-refused_for (commands.Ask ask) old new refusal none is = is
-refused_for (commands.Replay replay) old new refusal none is = absurd none
-
 -- the words say no command
 record NoCommand {X : Type 0} (p : Past X) (s : Status) : Type 0 where
   says_none : (command : Command) → SaysCommand p.words command → ⊥
   status_is : s ≡ Usage
-
--- the status of a fault of loading
-abbrev status_in : LoadFault → Status
-status_in (fault.Broken rule file row) = FeedBroken rule file row
-status_in (fault.TooLarge kind count) = TooLarge kind count
-status_in (fault.Folder before after) = FolderFault before after
-status_in fault.NoMemory = NoMemory
 
 -- the loading ended with this fault of the files
 record LoadFails {X : Type 0} (command : Command) (p : Past X) (s : Status) : Type 0 where
@@ -93,21 +73,6 @@ record LoadFails {X : Type 0} (command : Command) (p : Past X) (s : Status) : Ty
   of_files : IsOfFiles (Err found)
   loads : LoadsSo (scope_of command) p.folder_before p.folder_after (Err found)
   status_is : s ≡ status_in found
-
--- what is wrong with the told file of a message: it is absent, or refused for this cause
-abbrev IsToldCause : List File → List ℕ → Option AdmitFault → Type 0
-IsToldCause told name None = bytes_named told name ≡ None
-IsToldCause told name (Some found) =
-    (bytes : List ℕ) × (bytes_named told name ≡ Some bytes) × ((store : Stored) → IsRefused store bytes found) × (IsIgnored found → ⊥)
-
--- its status
-abbrev status_by : List ℕ → Option AdmitFault → Status
-status_by name None = ScriptWrong 0
-status_by name (Some (faults.TooLong count)) = TooLarge what.Update count
-status_by name (Some (faults.Broken found)) = UpdateBroken name found
-status_by name (Some (faults.NotNewer newest)) = Done
-status_by name (Some (faults.Full messages bytes)) = Done
-status_by name (Some faults.NoMemory) = NoMemory
 
 -- the timetable was loaded, and the message is wrong
 record UpdateFails {X : Type 0} (command : Command) (told : List File) (p : Past X) (s : Status) : Type 0 where
@@ -118,23 +83,28 @@ record UpdateFails {X : Type 0} (command : Command) (told : List File) (p : Past
   named : update_of command ≡ Some name
   cause : Option AdmitFault
   is : IsToldCause told name cause
-  status_is : s ≡ status_by name cause
+  status_is : s ≡ status_by 0 name cause
+
+-- what the files refuse: the feed or the message of a command, or its course
+abbrev IsRefusedSo : {X : Type 0} → List File → Past X → Status → Command → Type 0
+IsRefusedSo told p s (commands.Check check) = LoadFails (commands.Check check) p s ⊎ UpdateFails (commands.Check check) told p s
+IsRefusedSo told p s (commands.Ask ask) = LoadFails (commands.Ask ask) p s ⊎ UpdateFails (commands.Ask ask) told p s
+IsRefusedSo told p s (commands.Replay replay) = IsCourseRefused told replay s
 
 -- a command is refused by its files
 record IsRefusedByFiles {X : Type 0} (told : List File) (p : Past X) (s : Status) : Type 0 where
   command : Command
   says : SaysCommand p.words command
-  no_course : IsNoCourse command
-  by : LoadFails command p s ⊎ UpdateFails command told p s
+  by : IsRefusedSo told p s command
 
 -- how a run ended that nothing hindered, memory apart
 abbrev Ended : {X : Type 0} → (X → LinkSeen) → List File → Past X → Status → Type 0
 Ended seen told p s = Whole seen p s ⊎ NoCommand p s ⊎ IsRefusedByFiles told p s
 
-module _ {X : Type 0} (seen : X → LinkSeen) (p : Past X) (told : List File) (at : IsUnhindered seen p told) (none : SaysNoCourse p.words) (s : Status) where
+module _ {X : Type 0} (seen : X → LinkSeen) (p : Past X) (told : List File) (at : IsUnhindered seen p told) (s : Status) where
   -- what was asked for of the message, and answered so
   by_update : (command : Command) (result : Result (List ℕ) FolderFail) (x : AsksForUpdate (scope_of command) (update_of command) p.folder_before p.folder_after result)
-      (cause : Option AdmitFault) → IsToldCause told x.name cause → s ≡ status_by x.name cause → UpdateFails command told p s
+      (cause : Option AdmitFault) → IsToldCause told x.name cause → s ≡ status_by 0 x.name cause → UpdateFails command told p s
   by_update command result x cause is status = record {
     between = x.between;
     made = x.made;
@@ -150,43 +120,36 @@ module _ {X : Type 0} (seen : X → LinkSeen) (p : Past X) (told : List File) (a
       → x.between.files ≡ Some told
   still command result x = still_told told p.folder_before x.between at.tells x.kept
 
-  by_refusal : (command : Command) → SaysCommand p.words command → (refusal : Refusal) → s ≡ status_of refusal
-      → IsRefusedFor (scope_of command) (update_of command) p.folder_before p.folder_after refusal → (s ≡ NoMemory) ⊎ Ended seen told p s
-  by_refusal command says refused.Usage status is = absurd is
-  by_refusal command says (refused.Load (fault.Broken rule file row)) status is =
-      inr (inr (inr (record { command = command; says = says; no_course = said_no_course p.words command none says; by = inl (record { found = fault.Broken rule file row; of_files = tt; loads = is; status_is = status }) })))
-  by_refusal command says (refused.Load (fault.TooLarge kind count)) status is =
-      inr (inr (inr (record { command = command; says = says; no_course = said_no_course p.words command none says; by = inl (record { found = fault.TooLarge kind count; of_files = tt; loads = is; status_is = status }) })))
-  by_refusal command says (refused.Load (fault.Folder before after)) status is =
+  by_refusal : (command : Command) (refusal : Refusal) → s ≡ status_of refusal → IsRefusedFor (scope_of command) (update_of command) p.folder_before p.folder_after refusal
+      → (s ≡ NoMemory) ⊎ (LoadFails command p s ⊎ UpdateFails command told p s)
+  by_refusal command refused.Usage status is = absurd is
+  by_refusal command (refused.Load (fault.Broken rule file row)) status is = inr (inl (record { found = fault.Broken rule file row; of_files = tt; loads = is; status_is = status }))
+  by_refusal command (refused.Load (fault.TooLarge kind count)) status is = inr (inl (record { found = fault.TooLarge kind count; of_files = tt; loads = is; status_is = status }))
+  by_refusal command (refused.Load (fault.Folder before after)) status is =
       absurd (at.no_folder_fault (subst (λ count. Rose count p.folder_after.faults) is.0 (subst (λ count. Rose before count) is.1 is.2)))
-  by_refusal command says (refused.Load fault.NoMemory) status is = inl status
-  by_refusal command says (refused.Script row) status is =
-      inr (inr (inr (record {
-        command = command;
-        says = says;
-        no_course = said_no_course p.words command none says;
-        by = inr (by_update command (Err Absent) is.asks None (absent_told told is.asks.between p.folder_after is.asks.name (still command (Err Absent) is.asks) is.asks.read)
-            (status ∙ ap (λ r. ScriptWrong r) is.row_is));
-      })))
-  by_refusal command says (refused.Folder before after) status is =
+  by_refusal command (refused.Load fault.NoMemory) status is = inl status
+  by_refusal command (refused.Script row) status is =
+      inr (inr (by_update command (Err Absent) is.asks None (absent_told told is.asks.between p.folder_after is.asks.name (still command (Err Absent) is.asks) is.asks.read)
+      (status ∙ ap (λ r. ScriptWrong r) is.row_is)))
+  by_refusal command (refused.Folder before after) status is =
       absurd (at.no_folder_fault (subst (λ count. Rose count p.folder_after.faults) is.before_is (subst (λ count. Rose before count) is.after_is is.rose)))
-  by_refusal command says (refused.LongUpdate count) status is =
+  by_refusal command (refused.LongUpdate count) status is =
       let bytes = bytes_told told is.asks.between p.folder_after is.asks.name is.bytes (still command (Ok is.bytes) is.asks) is.asks.read in
-      inr (inr (inr (record {
-        command = command;
-        says = says;
-        no_course = said_no_course p.words command none says;
-        by = inr (by_update command (Ok is.bytes) is.asks (Some (faults.TooLong count)) (is.bytes, bytes, (λ store. (is.long, is.counted)), (λ ignored. ignored)) status);
-      })))
-  by_refusal command says (refused.BrokenUpdate name found) status is =
+      inr (inr (by_update command (Ok is.bytes) is.asks (Some (faults.TooLong count)) (is.bytes, bytes, (λ store. (is.long, is.counted)), (λ ignored. ignored)) status))
+  by_refusal command (refused.BrokenUpdate name found) status is =
       let bytes = bytes_told told is.asks.between p.folder_after is.asks.name is.bytes (still command (Ok is.bytes) is.asks) is.asks.read in
       let same : name ≡ is.asks.name = let e : Some name ≡ Some is.asks.name = sym is.named ∙ is.asks.named in cc in
-      inr (inr (inr (record {
-        command = command;
-        says = says;
-        no_course = said_no_course p.words command none says;
-        by = inr (by_update command (Ok is.bytes) is.asks (Some (faults.Broken found)) (is.bytes, bytes, (λ store. is.broken), (λ ignored. ignored)) (status ∙ ap (λ n. UpdateBroken n found) same));
-      })))
+      inr (inr (by_update command (Ok is.bytes) is.asks (Some (faults.Broken found)) (is.bytes, bytes, (λ store. is.broken), (λ ignored. ignored))
+      (status ∙ ap (λ n. UpdateBroken n found) same)))
+
+  refused_so : (command : Command) (refusal : Refusal) → s ≡ status_of refusal → IsRefusedAs command p.folder_before p.folder_after refusal → (s ≡ NoMemory) ⊎ IsRefusedSo told p s command
+  refused_so (commands.Check check) refusal status is = by_refusal (commands.Check check) refusal status is
+  refused_so (commands.Ask ask) refusal status is = by_refusal (commands.Ask ask) refusal status is
+  refused_so (commands.Replay replay) refusal status is = course_refused told replay p.folder_before p.folder_after at.tells at.no_folder_fault s refusal is status
+
+  by_command : (command : Command) → SaysCommand p.words command → (s ≡ NoMemory) ⊎ IsRefusedSo told p s command → (s ≡ NoMemory) ⊎ Ended seen told p s
+  by_command command says (inl memory) = inl memory
+  by_command command says (inr by) = inr (inr (inr (record { command = command; says = says; by = by })))
 
   ended : IsRight seen p s → (s ≡ NoMemory) ⊎ Ended seen told p s
   ended (inl x) = by x.end where
@@ -201,32 +164,39 @@ module _ {X : Type 0} (seen : X → LinkSeen) (p : Past X) (told : List File) (a
       cause : IsRightRefusal p.words p.folder_before p.folder_after x.refusal → (s ≡ NoMemory) ⊎ Ended seen told p s
       cause (inl usage) = inr (inr (inl (record { says_none = usage.says_none; status_is = said.status_is ∙ ap status_of usage.is })))
       cause (inr (inl first)) = inl (said.status_is ∙ ap status_of first.is)
-      cause (inr (inr is)) = by_refusal is.command is.says x.refusal said.status_is
-          (refused_for is.command p.folder_before p.folder_after x.refusal (said_no_course p.words is.command none is.says) is.refused)
+      cause (inr (inr is)) = by_command is.command is.says (refused_so is.command x.refusal said.status_is is.refused)
 
 -- outcomes that say the same have one status, where no exchange failed
-one_client_status : (o p : Outcome) → SayTheSame o p → IsNoFault o → failed_status_of 1 o ≡ failed_status_of 1 p
-one_client_status (outcomes.Found a) (outcomes.Found b) one fine = refl
-one_client_status (outcomes.Found a) outcomes.NoJourney one fine = absurd one
-one_client_status (outcomes.Found a) (outcomes.Refused g) one fine = absurd one
-one_client_status (outcomes.Found a) (outcomes.LinkFault m n) one fine = absurd one
-one_client_status (outcomes.Found a) (outcomes.PeerWrong r g) one fine = absurd one
-one_client_status outcomes.NoJourney (outcomes.Found b) one fine = absurd one
-one_client_status outcomes.NoJourney outcomes.NoJourney one fine = refl
-one_client_status outcomes.NoJourney (outcomes.Refused g) one fine = absurd one
-one_client_status outcomes.NoJourney (outcomes.LinkFault m n) one fine = absurd one
-one_client_status outcomes.NoJourney (outcomes.PeerWrong r g) one fine = absurd one
-one_client_status (outcomes.Refused f) (outcomes.Found b) one fine = absurd one
-one_client_status (outcomes.Refused f) outcomes.NoJourney one fine = absurd one
-one_client_status (outcomes.Refused f) (outcomes.Refused g) one fine = ap (λ (c : QueryFault). failed_status_of 1 (outcomes.Refused c)) one
-one_client_status (outcomes.Refused f) (outcomes.LinkFault m n) one fine = absurd one
-one_client_status (outcomes.Refused f) (outcomes.PeerWrong r g) one fine = absurd one
-one_client_status (outcomes.LinkFault k l) p one fine = absurd fine
-one_client_status (outcomes.PeerWrong r f) p one fine = absurd fine
+one_client_status : (client : ℕ) (o p : Outcome) → SayTheSame o p → IsNoFault o → failed_status_of client o ≡ failed_status_of client p
+one_client_status client (outcomes.Found a) (outcomes.Found b) one fine = refl
+one_client_status client (outcomes.Found a) outcomes.NoJourney one fine = absurd one
+one_client_status client (outcomes.Found a) (outcomes.Refused g) one fine = absurd one
+one_client_status client (outcomes.Found a) (outcomes.LinkFault m n) one fine = absurd one
+one_client_status client (outcomes.Found a) (outcomes.PeerWrong r g) one fine = absurd one
+one_client_status client outcomes.NoJourney (outcomes.Found b) one fine = absurd one
+one_client_status client outcomes.NoJourney outcomes.NoJourney one fine = refl
+one_client_status client outcomes.NoJourney (outcomes.Refused g) one fine = absurd one
+one_client_status client outcomes.NoJourney (outcomes.LinkFault m n) one fine = absurd one
+one_client_status client outcomes.NoJourney (outcomes.PeerWrong r g) one fine = absurd one
+one_client_status client (outcomes.Refused f) (outcomes.Found b) one fine = absurd one
+one_client_status client (outcomes.Refused f) outcomes.NoJourney one fine = absurd one
+one_client_status client (outcomes.Refused f) (outcomes.Refused g) one fine = ap (λ (c : QueryFault). failed_status_of client (outcomes.Refused c)) one
+one_client_status client (outcomes.Refused f) (outcomes.LinkFault m n) one fine = absurd one
+one_client_status client (outcomes.Refused f) (outcomes.PeerWrong r g) one fine = absurd one
+one_client_status client (outcomes.LinkFault k l) p one fine = absurd fine
+one_client_status client (outcomes.PeerWrong r f) p one fine = absurd fine
+
+-- clients whose ends are one have one status
+one_clients_status : (k : ℕ) (a b : List ClientEnd) → AllZip AreOneEnd a b → AreNoFaults a → client_status_of k a ≡ client_status_of k b
+one_clients_status k [] [] one fine = refl
+one_clients_status k [] (e ∷ b) one fine = absurd one
+one_clients_status k (d ∷ a) [] one fine = absurd one
+one_clients_status k (d ∷ a) (e ∷ b) one fine =
+    ap₂ (λ (first : Option Status) (rest : Status). unwrap_or first rest) (one_client_status k d.outcome e.outcome one.0.outcome fine.0) (one_clients_status (k + 1) a b one.1 fine.1)
 
 module _ {X Y : Type 0} (seen : X → LinkSeen) (saw : Y → LinkSeen) (one_command : OneCommand) (one_timetable : OneTimetable) (one_end : OneEnd) (loads_told : LoadsTold)
-    (one_outcome : OneOutcome) (one_output : OneOutput seen saw) (p : Past X) (q : Past Y) (told : List File) (words : p.words ≡ q.words) (none : SaysNoCourse p.words)
-    (at : IsUnhindered seen p told) (to : IsUnhindered saw q told) (s t : Status) where
+    (one_outcome : OneOutcome) (one_output : OneOutput seen saw) (one_script : OneScript) (one_fault : OneFault) (never_both : NeverBoth) (one_course : OneCourse) (p : Past X) (q : Past Y)
+    (told : List File) (words : p.words ≡ q.words) (at : IsUnhindered seen p told) (to : IsUnhindered saw q told) (s t : Status) where
   same_command : (a b : Command) → SaysCommand p.words a → SaysCommand q.words b → b ≡ a
   same_command a b x y = one_command p.words b a (subst (λ w. SaysCommand w b) (sym words) y) x
 
@@ -242,12 +212,35 @@ module _ {X Y : Type 0} (seen : X → LinkSeen) (saw : Y → LinkSeen) (one_comm
     loads : Loads (scope_of command) r.folder_before between made
     heard : IsHeardBy told (update_of command)
 
-  loaded : {Z : Type 0} (look : Z → LinkSeen) (r : Past Z) (block : Block) → r.folder_before.files ≡ Some told → (command : Command) → IsNoCourse command
-      → Prints command r.folder_before r.folder_after (look r.link_before) (look r.link_after) block → Loaded command r
-  loaded look r block tells (commands.Replay replay) course prints = absurd course
-  loaded look r block tells (commands.Check check) course prints =
+  -- a course that was played over the told files
+  record PlayedTold (replay : Replay) : Type 0 where
+    made : Timetable
+    all : List Event
+    course : IsToldCourse told replay made all
+    loaded : HasLoaded told replay
+
+  abbrev LoadedSo : {Z : Type 0} → Past Z → Command → Type 0
+  LoadedSo r (commands.Check check) = Loaded (commands.Check check) r
+  LoadedSo r (commands.Ask ask) = Loaded (commands.Ask ask) r
+  LoadedSo r (commands.Replay replay) = PlayedTold replay
+
+  loaded : {Z : Type 0} (look : Z → LinkSeen) (r : Past Z) (block : Block) → r.folder_before.files ≡ Some told → (command : Command)
+      → Prints command r.folder_before r.folder_after (look r.link_before) (look r.link_after) block → LoadedSo r command
+  loaded look r block tells (commands.Replay replay) prints = record {
+    made = prints.made;
+    all = prints.all;
+    course = course_told loads_told told replay r.folder_before r.folder_after prints.made prints.all tells prints.inputs;
+    loaded = record {
+      old = prints.inputs.has.between;
+      new = prints.inputs.between;
+      tells = still_told told r.folder_before prints.inputs.has.between tells prints.inputs.has.script.kept;
+      made = prints.inputs.has.made;
+      loads = prints.inputs.has.loaded;
+    };
+  }
+  loaded look r block tells (commands.Check check) prints =
       record { between = r.folder_after; made = prints.made; loads = prints.loaded; heard = heard_nothing told (record { runs = prints.made.runs; stops = prints.made.doc.stops; zone = prints.made.zone; base = 0; history = [] }) }
-  loaded look r block tells (commands.Ask ask) course prints = record {
+  loaded look r block tells (commands.Ask ask) prints = record {
     between = prints.inputs.between;
     made = prints.made;
     loads = prints.inputs.loaded;
@@ -269,16 +262,6 @@ module _ {X Y : Type 0} (seen : X → LinkSeen) (saw : Y → LinkSeen) (one_comm
     there (Some file) told_is = let e = sym none ∙ told_is.1 in cc
   heard_or_wrong name (Some found) is (bytes, same, wrong, other) = heard_fine one_outcome told name bytes found is same wrong other
 
-  -- and a told message is wrong for one cause
-  one_wrong : (name : List ℕ) (store : Stored) (a b : Option AdmitFault) → IsToldCause told name a → IsToldCause told name b → a ≡ b
-  one_wrong name store None None x y = refl
-  one_wrong name store None (Some g) x (bytes, same, wrong, other) = let e = sym x ∙ same in absurd (cc)
-  one_wrong name store (Some f) None (bytes, same, wrong, other) y = let e = sym y ∙ same in absurd (cc)
-  one_wrong name store (Some f) (Some g) (bytes, same, wrong, other) (bytes', same', wrong', other') =
-      let e : Some bytes ≡ Some bytes' = sym same ∙ same' in
-      let bytes_are : bytes ≡ bytes' = cc in
-      ap (λ (c : AdmitFault). Some c) (one_outcome.one_cause store bytes' f g (subst (λ b. IsRefused store b f) bytes_are (wrong store)) (wrong' store))
-
   -- blocks that were printed whole
   both_whole : Whole seen p s → Whole saw q t → s ≡ t
   both_whole x y = x.status_is ∙ by x.right.command x.right.says x.right.prints other ∙ sym y.status_is where
@@ -288,44 +271,61 @@ module _ {X Y : Type 0} (seen : X → LinkSeen) (saw : Y → LinkSeen) (one_comm
     by : (command : Command) → SaysCommand p.words command → Prints command p.folder_before p.folder_after (seen p.link_before) (seen p.link_after) x.block
         → Prints command q.folder_before q.folder_after (saw q.link_before) (saw q.link_after) y.block → client_status_of 1 x.block.ends.items ≡ client_status_of 1 y.block.ends.items
     by (commands.Check check) says a b = ap (client_status_of 1) (a.no_client ∙ sym b.no_client)
-    by (commands.Replay replay) says a b = absurd (none replay says)
+    by (commands.Replay replay) says a b =
+        let fair = at.fair_course replay says in
+        let one = one_replay loads_told one_timetable one_script one_course told replay p.folder_before p.folder_after q.folder_before q.folder_after (seen p.link_before) (seen p.link_after)
+        (saw q.link_before) (saw q.link_after) x.block y.block a b at.tells to.tells fair (to.fair_course replay (subst (λ w. SaysCommand w (commands.Replay replay)) words says)) in
+        one_clients_status 1 x.block.ends.items y.block.ends.items one.one_each
+        (course_fine loads_told told replay p.folder_before p.folder_after (seen p.link_before) (seen p.link_after) x.block a at.tells fair)
     by (commands.Ask ask) says a b =
         let one = one_client seen saw one_timetable loads_told one_output told ask p.folder_before p.folder_after q.folder_before q.folder_after p.link_before p.link_after q.link_before q.link_after x.block y.block a b
         at.tells to.tells (at.fair ask says) (to.fair ask (subst (λ w. SaysCommand w (commands.Ask ask)) words says)) in
         let fine = subst AreNoFaults a.client (no_fault loads_told told ask p.folder_before p.folder_after (seen p.link_before) (seen p.link_after) x.block a at.tells (at.fair ask says)) in
-        ap (client_status_of 1) a.client ∙ ap (λ (f : Option Status). unwrap_or f Done) (one_client_status a.end.outcome b.end.outcome one.one.outcome fine.0) ∙ sym (ap (client_status_of 1) b.client)
+        ap (client_status_of 1) a.client ∙ ap (λ (f : Option Status). unwrap_or f Done) (one_client_status 1 a.end.outcome b.end.outcome one.one.outcome fine.0) ∙ sym (ap (client_status_of 1) b.client)
 
   -- a block and a refusal by the files are no ends of one command
-  clash : {Z W : Type 0} (r : Past Z) (u : Past W) (v : Status) → r.folder_before.files ≡ Some told → u.folder_before.files ≡ Some told → (command : Command) → Loaded command r
+  clash_loaded : {Z W : Type 0} (r : Past Z) (u : Past W) (v : Status) → r.folder_before.files ≡ Some told → u.folder_before.files ≡ Some told → (command : Command) → Loaded command r
       → LoadFails command u v ⊎ UpdateFails command told u v → ⊥
-  clash r u v tells tell command x (inl y) =
+  clash_loaded r u v tells tell command x (inl y) =
       one_end told (scope_of command) r.folder_before x.between u.folder_before u.folder_after (Ok x.made) (Err y.found) tells tell tt y.of_files x.loads y.loads
-  clash r u v tells tell command x (inr y) = heard_or_wrong y.name y.cause (subst (IsHeardBy told) y.named x.heard) y.is
+  clash_loaded r u v tells tell command x (inr y) = heard_or_wrong y.name y.cause (subst (IsHeardBy told) y.named x.heard) y.is
+
+  clash : {Z W : Type 0} (r : Past Z) (u : Past W) (v : Status) → r.folder_before.files ≡ Some told → u.folder_before.files ≡ Some told → (command : Command) → LoadedSo r command
+      → IsRefusedSo told u v command → ⊥
+  clash r u v tells tell (commands.Check check) x y = clash_loaded r u v tells tell (commands.Check check) x y
+  clash r u v tells tell (commands.Ask ask) x y = clash_loaded r u v tells tell (commands.Ask ask) x y
+  clash r u v tells tell (commands.Replay replay) x y =
+      not_refused one_outcome one_end one_script one_fault never_both told replay x.made x.all v x.course x.loaded y
 
   whole_refused : (x : Whole seen p s) → IsRefusedByFiles told q t → ⊥
   whole_refused x y =
-      clash p q t at.tells to.tells x.right.command (loaded seen p x.block at.tells x.right.command (said_no_course p.words x.right.command none x.right.says) x.right.prints)
-      (subst (λ (c : Command). LoadFails c q t ⊎ UpdateFails c told q t) (same_command x.right.command y.command x.right.says y.says) y.by)
+      clash p q t at.tells to.tells x.right.command (loaded seen p x.block at.tells x.right.command x.right.prints)
+      (subst (IsRefusedSo told q t) (same_command x.right.command y.command x.right.says y.says) y.by)
 
   refused_whole : IsRefusedByFiles told p s → Whole saw q t → ⊥
   refused_whole x y =
       clash q p s to.tells at.tells x.command
-      (subst (λ (c : Command). Loaded c q) (same_command x.command y.right.command x.says y.right.says) (loaded saw q y.block to.tells y.right.command (said_no_course q.words y.right.command (subst SaysNoCourse words none) y.right.says) y.right.prints)) x.by
+      (subst (λ (c : Command). LoadedSo q c) (same_command x.command y.right.command x.says y.right.says) (loaded saw q y.block to.tells y.right.command y.right.prints)) x.by
 
   -- refusals by the files have one status
-  both_refused : (command : Command) → LoadFails command p s ⊎ UpdateFails command told p s → LoadFails command q t ⊎ UpdateFails command told q t → s ≡ t
-  both_refused command (inl x) (inl y) =
+  both_fail : (command : Command) → LoadFails command p s ⊎ UpdateFails command told p s → LoadFails command q t ⊎ UpdateFails command told q t → s ≡ t
+  both_fail command (inl x) (inl y) =
       x.status_is
       ∙ ap status_in (one_load command (Err x.found) (Err y.found) p.folder_after q.folder_after x.of_files y.of_files x.loads y.loads)
       ∙ sym y.status_is
-  both_refused command (inl x) (inr y) =
+  both_fail command (inl x) (inr y) =
       absurd (one_end told (scope_of command) p.folder_before p.folder_after q.folder_before y.between (Err x.found) (Ok y.made) at.tells to.tells x.of_files tt x.loads y.loaded)
-  both_refused command (inr x) (inl y) =
+  both_fail command (inr x) (inl y) =
       absurd (one_end told (scope_of command) p.folder_before x.between q.folder_before q.folder_after (Ok x.made) (Err y.found) at.tells to.tells tt y.of_files x.loaded y.loads)
-  both_refused command (inr x) (inr y) =
+  both_fail command (inr x) (inr y) =
       let name : x.name ≡ y.name = let e : Some x.name ≡ Some y.name = sym x.named ∙ y.named in cc in
-      let cause = one_wrong y.name (store_of x.made 0) x.cause y.cause (subst (λ n. IsToldCause told n x.cause) name x.is) y.is in
-      x.status_is ∙ ap (λ n. status_by n x.cause) name ∙ ap (status_by y.name) cause ∙ sym y.status_is
+      let cause = one_wrong one_outcome told y.name (store_of x.made 0) x.cause y.cause (subst (λ n. IsToldCause told n x.cause) name x.is) y.is in
+      x.status_is ∙ ap (λ n. status_by 0 n x.cause) name ∙ ap (status_by 0 y.name) cause ∙ sym y.status_is
+
+  both_refused : (command : Command) → IsRefusedSo told p s command → IsRefusedSo told q t command → s ≡ t
+  both_refused (commands.Check check) x y = both_fail (commands.Check check) x y
+  both_refused (commands.Ask ask) x y = both_fail (commands.Ask ask) x y
+  both_refused (commands.Replay replay) x y = one_course_refusal one_outcome one_end one_script one_fault never_both told replay s t x y
 
   one_ended : Ended seen told p s → Ended saw told q t → s ≡ t
   one_ended (inl x) (inl y) = both_whole x y
@@ -337,18 +337,19 @@ module _ {X Y : Type 0} (seen : X → LinkSeen) (saw : Y → LinkSeen) (one_comm
   one_ended (inr (inr x)) (inl y) = absurd (refused_whole x y)
   one_ended (inr (inr x)) (inr (inl y)) = absurd (y.says_none x.command (subst (λ w. SaysCommand w x.command) words x.says))
   one_ended (inr (inr x)) (inr (inr y)) =
-      both_refused x.command x.by (subst (λ (c : Command). LoadFails c q t ⊎ UpdateFails c told q t) (same_command x.command y.command x.says y.says) y.by)
+      both_refused x.command x.by (subst (IsRefusedSo told q t) (same_command x.command y.command x.says y.says) y.by)
 
   one : IsRight seen p s → IsRight saw q t → (s ≡ t) ⊎ ((s ≡ NoMemory) ⊎ (t ≡ NoMemory))
-  one x y = by (ended seen p told at none s x) (ended saw q told to (subst SaysNoCourse words none) t y) where
+  one x y = by (ended seen p told at s x) (ended saw q told to t y) where
     by : (s ≡ NoMemory) ⊎ Ended seen told p s → (t ≡ NoMemory) ⊎ Ended saw told q t → (s ≡ t) ⊎ ((s ≡ NoMemory) ⊎ (t ≡ NoMemory))
     by (inl e) other = inr (inl e)
     by (inr a) (inl e) = inr (inr e)
     by (inr a) (inr b) = inl (one_ended a b)
 
-pub one_status : {X Y : Type 0} (seen : X → LinkSeen) (saw : Y → LinkSeen) → OneCommand → OneTimetable → OneEnd → LoadsTold → OneOutcome → OneOutput seen saw → OneStatus seen saw
-one_status seen saw one_command one_timetable one_end loads_told one_outcome one_output p q told words none at to s t x y =
-    one seen saw one_command one_timetable one_end loads_told one_outcome one_output p q told words none at to s t x y
+pub one_status : {X Y : Type 0} (seen : X → LinkSeen) (saw : Y → LinkSeen) → OneCommand → OneTimetable → OneEnd → LoadsTold → OneOutcome → OneOutput seen saw → OneScript → OneFault → NeverBoth
+    → OneCourse → OneStatus seen saw
+one_status seen saw one_command one_timetable one_end loads_told one_outcome one_output one_script one_fault never_both one_course p q told words at to s t x y =
+    one seen saw one_command one_timetable one_end loads_told one_outcome one_output one_script one_fault never_both one_course p q told words at to s t x y
 
 -- a run that is done was no refusal
 pub done_is_printed : {X : Type 0} (seen : X → LinkSeen) → DoneIsPrinted seen

@@ -59,7 +59,7 @@ told_event told (records.Turn client) old new (events.Ask asked) tells is = absu
 told_event told (records.Turn client) old new (events.Message message) tells is = absurd is
 told_event told (records.Turn client) old new (events.Turn turned) tells is = (is.0, subst (λ (f : FolderSeen). f.files ≡ Some told) (sym is.1) tells)
 
-told_events : (told : List File) (script : List Record) (old new : FolderSeen) (all : List Event) → old.files ≡ Some told → ReadsEvents script old new all → AreToldEvents told script all
+pub told_events : (told : List File) (script : List Record) (old new : FolderSeen) (all : List Event) → old.files ≡ Some told → ReadsEvents script old new all → AreToldEvents told script all
 told_events told [] old new [] tells read = tt
 told_events told [] old new (event ∷ all) tells read = absurd read
 told_events told (said ∷ script) old new [] tells read = absurd read
@@ -68,14 +68,14 @@ told_events told (said ∷ script) old new (event ∷ all) tells (between, is, m
     (first.0, told_events told script between new all first.1 more)
 
 -- each record of a told course is an event
-told_at : (told : List File) (before behind : List Record) (said : Record) (all : List Event) → AreToldEvents told (before ++ said ∷ behind) all → (event : Event) × IsToldEvent told said event
+pub told_at : (told : List File) (before behind : List Record) (said : Record) (all : List Event) → AreToldEvents told (before ++ said ∷ behind) all → (event : Event) × IsToldEvent told said event
 told_at told [] behind said [] are = absurd are
 told_at told [] behind said (event ∷ all) are = (event, are.0)
 told_at told (first ∷ before) behind said [] are = absurd are
 told_at told (first ∷ before) behind said (event ∷ all) are = told_at told before behind said all are.1
 
 -- a told message that a record names
-told_message : (told : List File) (said : Record) (name : List ℕ) (event : Event) → said ≡ records.Update name → IsToldEvent told said event → (message : Message) × (bytes_named told name ≡ Some message.file.bytes)
+pub told_message : (told : List File) (said : Record) (name : List ℕ) (event : Event) → said ≡ records.Update name → IsToldEvent told said event → (message : Message) × (bytes_named told name ≡ Some message.file.bytes)
 told_message told said name event is are = by event (subst (λ (r : Record). IsToldEvent told r event) is are) where
   by : (event : Event) → IsToldEvent told (records.Update name) event → (message : Message) × (bytes_named told name ≡ Some message.file.bytes)
   by (events.Ask asked) are = absurd are

@@ -1,45 +1,48 @@
 -- That what is printed is one, and so is the status.
-use Rattle.std.specs.Prelude.{◌≡◌, ◌⊎◌, ℕ, List}
-use Rattle.asking.specs.Laws.{PrintOneClient}
+use Rattle.std.specs.Prelude.{◌≡◌, ◌⊎◌, ℕ, List, ◌++◌}
+use Rattle.std.specs.List.{AllZip}
+use Rattle.asking.specs.Laws.{AreOneEnd, PrintOneClient}
 use Rattle.asking.specs.declared.end.ClientEnd.{ClientEnd}
-use Rattle.command_words.specs.Words.{SaysCommand}
-use Rattle.command_words.specs.declared.command.Replay.{Replay}
 use Rattle.command_words.specs.declared.command.Command.{Command}
 use Rattle.command_words.specs.declared.command.Command.TheVariants as commands
 use Rattle.lc_io.specs.declared.file.File.{File}
 use Rattle.lc_world.specs.Link.{LinkSeen}
+use Rattle.replay_course.specs.Replayed.{clients_text_of}
 use Rattle.lc_cli.specs.Clear.{IsClear, IsUnhindered}
 use Rattle.lc_cli.specs.Top.{HasPrinted, IsRight, Past}
 use Rattle.lc_cli.specs.declared.block.Block.{Block}
 use Rattle.lc_cli.specs.declared.status.Status.{Status}
 use Rattle.lc_cli.specs.declared.status.Status.TheVariants.{Done, NoMemory}
 
--- the outputs of a command are one: the same counts, or the same line of a message and clients whose ends are one
+-- the outputs of two plays of a course are one: the same lines of the messages, and those of as many clients whose ends are one
+pub record PrintOneCourse (x y : Block) : Type 0 where
+  pub lines : List ℕ
+  pub first_is : x.text.items ≡ lines ++ clients_text_of 1 x.ends.items
+  pub second_is : y.text.items ≡ lines ++ clients_text_of 1 y.ends.items
+  pub one_each : AllZip AreOneEnd x.ends.items y.ends.items
+
+-- the outputs of a command are one: the same counts, or the same lines of messages and clients whose ends are one
 abbrev pub PrintOne : Command → Block → Block → Type 0
 PrintOne (commands.Check check) x y = x.text.items ≡ y.text.items
-PrintOne (commands.Replay replay) x y = ⊥
+PrintOne (commands.Replay replay) x y = PrintOneCourse x y
 PrintOne (commands.Ask ask) x y = (first : ClientEnd) × (second : ClientEnd) × PrintOneClient x.text.items y.text.items first second
-
--- the words do not say a course
-abbrev pub SaysNoCourse : List (List ℕ) → Type 0
-SaysNoCourse words = (replay : Replay) → SaysCommand words (commands.Replay replay) → ⊥
 
 -- a run that is done has printed its output
 abbrev pub DoneIsPrinted : {X : Type 0} → (X → LinkSeen) → Type 0
 DoneIsPrinted {X} seen = (p : Past X) → IsRight seen p Done → HasPrinted seen p Done
 
--- Runs of the same words, which say no course, over the same files, which nothing hindered, print one output where they are done. X and Y are the types of
--- their links, and `seen` and `saw` what is promised of these.
+-- Runs of the same words over the same files, which nothing hindered, print one output where they have one to print. X and Y are the types of their
+-- links, and `seen` and `saw` what is promised of these.
 abbrev pub OneRun : {X Y : Type 0} → (X → LinkSeen) → (Y → LinkSeen) → Type 0
 OneRun {X} {Y} seen saw =
-    (p : Past X) (q : Past Y) (told : List File) → p.words ≡ q.words → SaysNoCourse p.words → IsUnhindered seen p told → IsUnhindered saw q told
-    → (x : HasPrinted seen p Done) (y : HasPrinted saw q Done) → PrintOne x.right.command x.block y.block
+    (p : Past X) (q : Past Y) (told : List File) → p.words ≡ q.words → IsUnhindered seen p told → IsUnhindered saw q told
+    → (s t : Status) (x : HasPrinted seen p s) (y : HasPrinted saw q t) → PrintOne x.right.command x.block y.block
 
--- Runs of the same words, which say no course, over the same files, which nothing hindered, end with one status, memory apart: each status
--- comes exactly where it has its cause.
+-- Runs of the same words over the same files, which nothing hindered, end with one status, memory apart: each status comes exactly where it has
+-- its cause.
 abbrev pub OneStatus : {X Y : Type 0} → (X → LinkSeen) → (Y → LinkSeen) → Type 0
 OneStatus {X} {Y} seen saw =
-    (p : Past X) (q : Past Y) (told : List File) → p.words ≡ q.words → SaysNoCourse p.words → IsUnhindered seen p told → IsUnhindered saw q told
+    (p : Past X) (q : Past Y) (told : List File) → p.words ≡ q.words → IsUnhindered seen p told → IsUnhindered saw q told
     → (s t : Status) → IsRight seen p s → IsRight saw q t → (s ≡ t) ⊎ ((s ≡ NoMemory) ⊎ (t ≡ NoMemory))
 
 -- each run that is done over told files, which nothing hindered, is clear

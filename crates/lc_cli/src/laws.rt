@@ -3,16 +3,20 @@ ghost use Rattle.lc_cli.specs.Laws.{DoneIsClear, DoneIsPrinted, OneRun, OneStatu
 use asking::one_output;
 use command_words::one_command;
 use lc_world::Link;
+use replay_answers::one_course;
+use script_text::one_script;
 use timetable::{one_end, one_timetable};
 use version_store::one_outcome;
 
-/// Runs of the same words over the same files, which nothing hindered, print the same counts, or clients with one version, one arrival
-/// and so many exchanges.
+/// Runs of the same words over the same files, which nothing hindered, print the same counts, or the same lines of messages and clients with one
+/// version, one arrival and so many exchanges.
 pub fn one_run<L: Link, M: Link>()
     ensures { OneRun L.seen M.seen }
 {
     one_command();
     one_timetable();
+    one_script();
+    one_course();
     one_output::<L, M>();
 }
 
@@ -26,5 +30,7 @@ pub fn one_status<L: Link, M: Link>()
     one_timetable();
     one_end();
     one_outcome();
+    one_script();
+    one_course();
     one_output::<L, M>();
 }
