@@ -46,12 +46,12 @@ counted_alone all are asked =
     let own : Met → Bool = λ met. is_by 1 met && met.asked in
     let pass : All (λ (met : Met). own met ≡ true) all = each all are asked in
     ap (λ (l : List Met). length l) (filter_all own all pass) ∙ sym (length-map all (λ (met : Met). met.made)) ∙ ap (λ (l : List Made). length l) (sym (met_alone all are)) where
-  each : (all : List Met) → All (IsByOneOf 1) all → All IsAsked all → All (λ (met : Met). (is_by 1 met && met.asked) ≡ true) all
-  each [] are asked = All-nil (λ (met : Met). (is_by 1 met && met.asked) ≡ true)
-  each (met ∷ all) are asked =
-      All-cons (λ (m : Met). (is_by 1 m && m.asked) ≡ true) met all
-      (ap₂ (λ (a b : Bool). a && b) (eq-eqb met.client 1 (is_first met (All-head (IsByOneOf 1) met all are))) (All-head IsAsked met all asked))
-      (each all (All-tail (IsByOneOf 1) met all are) (All-tail IsAsked met all asked))
+      each : (all : List Met) → All (IsByOneOf 1) all → All IsAsked all → All (λ (met : Met). (is_by 1 met && met.asked) ≡ true) all
+      each [] are asked = All-nil (λ (met : Met). (is_by 1 met && met.asked) ≡ true)
+      each (met ∷ all) are asked =
+          All-cons (λ (m : Met). (is_by 1 m && m.asked) ≡ true) met all
+          (ap₂ (λ (a b : Bool). a && b) (eq-eqb met.client 1 (is_first met (All-head (IsByOneOf 1) met all are))) (All-head IsAsked met all asked))
+          (each all (All-tail (IsByOneOf 1) met all are) (All-tail IsAsked met all asked))
 
 -- its exchanges are told
 told_alone : (base : BaseParts) (query : Query) (all : List Met) (entries : List Entry) → All (IsByOneOf 1) all → AreToldOf base (query ∷ []) all entries →
@@ -71,7 +71,7 @@ tells_alone : (base : BaseParts) (query : Query) (all : List Met) (before after 
 tells_alone base query all before after are asked tells = record {
   entries = tells.entries;
   are = subst (λ (l : List Made). AreEntriesOf base query l tells.entries) (sym (met_alone all are))
-  (told_alone base query all tells.entries are (subst (λ (l : List Met). AreToldOf base (query ∷ []) l tells.entries) (filter_all (λ (met : Met). met.asked) all asked) tells.are));
+      (told_alone base query all tells.entries are (subst (λ (l : List Met). AreToldOf base (query ∷ []) l tells.entries) (filter_all (λ (met : Met). met.asked) all asked) tells.are));
   is = tells.is;
 }
 

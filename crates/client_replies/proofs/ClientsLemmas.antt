@@ -198,7 +198,7 @@ module _ (base : BaseParts) (query : Query) (before now : ℕ) (member : Member)
   so_begun b none_made = record {
     question = ap (λ (s : Shown). s.query) b.is;
     at = subst (λ (made : List Made). At base before now member.client made (shown member.client) (shown member.client).phase) (sym nothing)
-    (subst (λ (s : Shown). At base before now member.client [] s s.phase) (sym b.is) (by_refusal b.refusal b.is_refusal));
+        (subst (λ (s : Shown). At base before now member.client [] s s.phase) (sym b.is) (by_refusal b.refusal b.is_refusal));
     counted = none_made ∙ sym uncounted;
     fault = λ low high is. absurd (no_fault_yet b.refusal low high (sym (ap (λ (s : Shown). s.outcome) b.is) ∙ is));
   }
@@ -246,7 +246,7 @@ module _ (base : BaseParts) (questions : List Query) (first now : LinkSeen) (old
     said = subst (λ (c : ConvoyState). All (IsSaid base all) c.kept.pages) (sym adds.is) so.said;
     met = record {
       by_clients = All-weaker (IsByOneOf (length questions)) (IsByOneOf (length (questions ++ query ∷ [])))
-      (λ met one. record { from_one = one.from_one; at_most = (let at_most = one.at_most in omega (arith, one_question_more)) }) all so.met.by_clients;
+          (λ met one. record { from_one = one.from_one; at_most = (let at_most = one.at_most in omega (arith, one_question_more)) }) all so.met.by_clients;
       kept = so.met.kept;
       told = tells_with_more base questions (query ∷ []) (asked_in all) first.told now.told so.met.told;
       counted = so.met.counted;
@@ -455,7 +455,7 @@ module _ (base : BaseParts) (questions : List Query) (query : Query) (first link
           by_clients = All-push (IsByOneOf (length questions)) all one so.met.by_clients (record { from_one = from_one; at_most = by_one_of });
           kept = take_kept_more base [] all one so.met.kept (λ none. absurd (not_both none));
           told = subst (λ (l : List Met). TellsMet base questions l first.told after.told) (sym (asked_more all one refl))
-          (tells_met_more base questions query (asked_in all) one x.request first.told link.told after.told so.met.told asks asked x.told);
+              (tells_met_more base questions query (asked_in all) one x.request first.told link.told after.told so.met.told asks asked x.told);
           counted = along_more first.faults link.faults after.faults all one so.met.counted (no_less link.faults) (rose_by got refl) (no_less after.faults);
         }
 
@@ -548,10 +548,10 @@ module _ (base : BaseParts) (questions : List Query) (query : Query) (first link
       record {
         more = [];
         so = with_more [] now (λ number q m other before. subst (λ (l : List Met). IsClientSo base q first.faults link.faults m number l) (sym (append-nil all)) before)
-        (subst (λ (l : List Met). All (IsSaid base l) new.kept.pages) (sym (append-nil all)) (subst (λ (kept : Kept). All (IsSaid base all) kept.pages) (sym t.cache) so.said))
-        (subst (AreMet base questions first.told after.told first.faults after.faults) (sym (append-nil all))
-        (subst (λ (n : ℕ). AreMet base questions first.told after.told first.faults n all) (sym faults)
-        (subst (λ (entries : Option (List Entry)). AreMet base questions first.told entries first.faults link.faults all) (sym told) so.met)));
+            (subst (λ (l : List Met). All (IsSaid base l) new.kept.pages) (sym (append-nil all)) (subst (λ (kept : Kept). All (IsSaid base all) kept.pages) (sym t.cache) so.said))
+            (subst (AreMet base questions first.told after.told first.faults after.faults) (sym (append-nil all))
+            (subst (λ (n : ℕ). AreMet base questions first.told after.told first.faults n all) (sym faults)
+            (subst (λ (entries : Option (List Entry)). AreMet base questions first.told entries first.faults link.faults all) (sym told) so.met)));
         how = inr (record { none = refl; had = t.had; has = subst HasOutcome (sym t.member) t.had });
       }
 

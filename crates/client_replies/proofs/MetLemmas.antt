@@ -45,9 +45,9 @@ module _ (client : ℕ) (all : List Met) (met : Met) where
   no_exchange_more none =
       let own : Met → Bool = λ m. is_by client m && m.asked in
       ap (λ (l : List Met). length l) (filter_without own all met (ap (λ (b : Bool). is_by client met && b) none ∙ never (is_by client met))) where
-    never : (b : Bool) → (b && false) ≡ false
-    never true = refl
-    never false = refl
+        never : (b : Bool) → (b && false) ≡ false
+        never true = refl
+        never false = refl
 
   -- of another
   pub met_by_other : (met.client ≡ client → ⊥) → met_by client (all ++ met ∷ []) ≡ met_by client all

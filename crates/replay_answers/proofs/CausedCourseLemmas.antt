@@ -60,9 +60,9 @@ goes_asked : (old new : ConvoyState) (query : Query) → Adds old query new → 
 goes_asked old new query adds = record {
   none = λ place member is has. none_of_none (suc place);
   keeps = λ place member is has. record {
-      member = member;
-      is = ap (λ (c : ConvoyState). slice_get c.members place) adds.is ∙ slice_get-append old.members (adds.member ∷ []) place member is;
-      has = has;
+    member = member;
+    is = ap (λ (c : ConvoyState). slice_get c.members place) adds.is ∙ slice_get-append old.members (adds.member ∷ []) place member is;
+    has = has;
   };
 }
 
@@ -170,7 +170,7 @@ module _ {X : Type 0} (seen : X → LinkSeen) (base : BaseParts) (first : LinkSe
       record {
         more = [];
         so = subst (AreSo base (questions ++ []) first (seen after) new) (sym (append-nil all))
-        (subst (λ (l : List Query). AreSo base l first (seen after) new all) (sym (append-nil questions)) (are_same questions old new link after all so same same_link));
+            (subst (λ (l : List Query). AreSo base l first (seen after) new all) (sym (append-nil questions)) (are_same questions old new link after all so same same_link));
         goes = subst (λ (c : ConvoyState). Goes old c []) (sym same) (goes_not old);
         in_turns = λ tail by_number none. by_number;
       }
@@ -241,10 +241,11 @@ module _ {X : Type 0} (seen : X → LinkSeen) (base : BaseParts) (first : LinkSe
   by_number_then : (n : ℕ) (more own : List Met) → AreByNumber more → All (λ (met : Met). met.client ≤ n) more → All (λ (met : Met). met.client ≡ suc n) own → AreByNumber (more ++ own)
   by_number_then n [] own by_number up_to are = own_by_number (suc n) own are
   by_number_then n (met ∷ more) own (first, by_number) up_to are =
-      let here : met.client ≤ n = All-head (λ (m : Met). m.client ≤ n) met more up_to in
-      (All-append (λ (m : Met). met.client ≤ m.client) more own first
-      (All-weaker (λ (m : Met). m.client ≡ suc n) (λ (m : Met). met.client ≤ m.client) (λ m same. omega (arith, here, same)) own are),
-      by_number_then n more own by_number (All-tail (λ (m : Met). m.client ≤ n) met more up_to) are)
+      let here : met.client ≤ n = All-head (λ (m : Met). m.client ≤ n) met more up_to in (
+        All-append (λ (m : Met). met.client ≤ m.client) more own first
+            (All-weaker (λ (m : Met). m.client ≡ suc n) (λ (m : Met). met.client ≤ m.client) (λ m same. omega (arith, here, same)) own are),
+        by_number_then n more own by_number (All-tail (λ (m : Met). m.client ≤ n) met more up_to) are,
+      )
 
   pub had_rounds : (questions : List Query) (n : ℕ) (old new : ConvoyState) (link after : X) (all : List Met) → AreSo base questions first (seen link) old all → Rounds seen n old new link after →
       HadRounds questions n old new (seen after) all
@@ -264,7 +265,7 @@ module _ {X : Type 0} (seen : X → LinkSeen) (base : BaseParts) (first : LinkSe
         so = subst (AreSo base questions first (seen after) new) (append_assoc all before.more last.more) last.so;
         goes = goes_then old convoy new before.more last.more before.goes last.goes;
         up_to = All-append (λ (met : Met). met.client ≤ suc n) before.more last.more
-        (All-weaker (λ (met : Met). met.client ≤ n) (λ (met : Met). met.client ≤ suc n) (λ met le. omega arith) before.more before.up_to)
-        (All-weaker (λ (met : Met). met.client ≡ suc n) (λ (met : Met). met.client ≤ suc n) (λ met same. omega (arith, same)) last.more last.own);
+            (All-weaker (λ (met : Met). met.client ≤ n) (λ (met : Met). met.client ≤ suc n) (λ met le. omega arith) before.more before.up_to)
+            (All-weaker (λ (met : Met). met.client ≡ suc n) (λ (met : Met). met.client ≤ suc n) (λ met same. omega (arith, same)) last.more last.own);
         by_number = by_number_then n before.more last.more before.by_number before.up_to last.own;
       }

@@ -104,8 +104,8 @@ module _ (base : BaseParts) (questions : List Query) (first now : LinkSeen) (con
       subst (λ (n : ℕ). EndsByMet base query first.faults now.faults n met end) number
       (record {
         ends = subst (λ (q : Query). EndsBy base q first.faults now.faults end.version so_far end.outcome) client.question
-        (subst (λ (v : Option ℕ). EndsBy base (shown at.member.client).query first.faults now.faults v so_far end.outcome) (sym at.ended.version)
-        (subst (EndsBy base (shown at.member.client).query first.faults now.faults (shown at.member.client).version so_far) same e.ends));
+            (subst (λ (v : Option ℕ). EndsBy base (shown at.member.client).query first.faults now.faults v so_far end.outcome) (sym at.ended.version)
+            (subst (EndsBy base (shown at.member.client).query first.faults now.faults (shown at.member.client).version so_far) same e.ends));
         exchanges = at.ended.exchanges ∙ client.counted;
         fault = λ low high is. client.fault low high (at.ended.outcome ∙ ap Some is);
       })
