@@ -4,6 +4,7 @@ pub mod KeptLemmas
 pub mod NamedLemmas
 pub mod OutcomeLemmas
 pub mod PlacedLemmas
+pub mod RowLemmas
 pub mod SomeRowsLemmas
 pub mod StoreLemmas
 pub mod VersionLemmas

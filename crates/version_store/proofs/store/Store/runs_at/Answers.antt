@@ -5,17 +5,15 @@ use Rattle.lc_versions.specs.News.{TripSaid}
 use Rattle.lc_versions.specs.Timetable.{AreLiveRuns}
 use Rattle.version_store.specs.Dates.{date_in}
 use Rattle.version_store.specs.Kept.{entry_said, news_said}
-use Rattle.version_store.specs.Rows.{AreConnectionsAt}
-use Rattle.version_store.specs.Store.{Stored}
+use Rattle.version_store.specs.Store.{AreRunsAt, Stored}
 use Rattle.version_store.specs.declared.store.Admission.{Admission}
-use Rattle.version_store.proofs.store.Store.connections_at.Goals as goal
+use Rattle.version_store.proofs.store.Store.runs_at.Goals as goal
 
 pub returns-clause-are : goal.returns-clause-are
 returns-clause-are c =
     let inside = c.self.inside in
     let version = c.args.version in
     let news = ap (map news_said) c.as_slice-2.ensures.value ∙ c.in_ok-news.ensures ∙ ap (λ (v : List Admission). news_at (date_in inside.zone) (map entry_said v) version) c.as_slice.ensures.value in
-    let are_runs = subst (λ (v : List TripSaid). AreLiveRuns inside.runs inside.stops v c.in_ok-live.live) news c.in_ok-live.ensures.live in
-    IfOk-weaker c.sorted_connections.result _ _
-    (λ list are. subst (λ (s : Stored). AreConnectionsAt s version list.items) c.self.view_is (record { live = c.in_ok-live.live; are_runs = are_runs; are_connections = are }))
-    c.sorted_connections.ensures.are
+    IfOk-weaker c.live_runs.result _ _
+    (λ live are. subst (λ (s : Stored). AreRunsAt s version live) c.self.view_is (subst (λ (v : List TripSaid). AreLiveRuns inside.runs inside.stops v live) news are))
+    c.live_runs.ensures.live
