@@ -1,6 +1,5 @@
 ghost use Rattle.std.specs.Prelude.{◌≡◌, IfOk};
-ghost use Rattle.lc_model.specs.Call.{GoesForward};
-ghost use Rattle.lc_model.specs.Connection.{connection_between, connections_of_calls};
+ghost use Rattle.lc_model.specs.Connection.{NoneArrivesEarly, connection_between, connections_of_calls};
 
 use lc_model::{Call, Calls, Connection, Connections, NoMemory, PlainData, Run, RunKey};
 use std::alloc::Global;
@@ -41,9 +40,10 @@ fn connections_of_calls(
     Ok(connections)
 }
 
-/// The connections of a run with these live calls: from each to the next. Linear in the calls.
+/// The connections of a run with these live calls: from each to the next, none of which arrives before the one before it departs. Linear in
+/// the calls.
 pub fn connections(alloc: Global, run: &Run, calls: &Calls) -> Result<Connections, NoMemory>
-    requires { GoesForward calls.now }
+    requires { NoneArrivesEarly (connections_of_calls run.now.key calls.now) }
     ensures { IfOk result (λ list. list ≡ connections_of_calls run.now.key calls.now) }
 {
     let list = connections_of_calls(alloc, &run.key, calls.as_slice())?;

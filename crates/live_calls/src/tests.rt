@@ -113,6 +113,7 @@ fn put_calls(text: &mut String, calls: &[Call]) -> Result<(), Fail> {
 }
 
 /// The live calls of T1 and its connections under news, or without.
+#[tactic(auto, using(crate::proofs::ConnectionLemmas::calls_forward))]
 fn live_said(alloc: Global, run: &Run, news: Option<&TripNews>) -> Result<String, Fail> {
     let mut text = String::new(alloc);
     let calls = live(alloc, run, news)?;

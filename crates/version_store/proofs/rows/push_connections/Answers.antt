@@ -1,5 +1,9 @@
+use Rattle.live_calls.proofs.ConnectionLemmas.{calls_forward}
 use Rattle.version_store.proofs.RowLemmas.{departing_more}
 use Rattle.version_store.proofs.rows.push_connections.Goals as goal
+
+pub connections-requires : goal.connections-requires
+connections-requires c = calls_forward c.args.run.now.key c.args.run.now.calls c.requires.along
 
 pub connections-preserved : goal.connections-preserved
 connections-preserved c =
