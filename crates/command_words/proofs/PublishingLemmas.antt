@@ -5,9 +5,7 @@ use Rattle.std.proofs.lemmas.List.{append_cancel_left}
 use Rattle.clap.specs.Simple.{App}
 use Rattle.connection_uri.specs.Base.{BaseParts, base_of}
 use Rattle.fragmenter.specs.declared.by_count.ByCount.{ByCount}
-use Rattle.fragmenter.specs.declared.by_count.TheConstants.{MOST_CONNECTIONS}
 use Rattle.fragmenter.specs.declared.by_span.BySpan.{BySpan}
-use Rattle.fragmenter.specs.declared.by_span.TheConstants.{LONGEST_SPAN}
 use Rattle.fragmenter.specs.declared.cutting.Cutting.{Cutting}
 use Rattle.fragmenter.specs.declared.cutting.Cutting.TheVariants as ways
 use Rattle.lc_time.proofs.OneTextLemmas.{one_moment}
@@ -30,19 +28,19 @@ UpTo most n = (1 ≤ n) × (n ≤ most)
 up_to_prop : (most n : ℕ) → IsProp (UpTo most n)
 up_to_prop most n = hlevel props
 
-abbrev span_of : (seconds : ℕ) → UpTo LONGEST_SPAN seconds → BySpan
+abbrev span_of : (seconds : ℕ) → UpTo 86_400 seconds → BySpan
 span_of seconds is = record { seconds = seconds; at_least = is.0; at_most = is.1 }
 
 same_span : (a b : BySpan) → a.seconds ≡ b.seconds → a ≡ b
 same_span a b same =
-    same_made (UpTo LONGEST_SPAN) (up_to_prop LONGEST_SPAN) span_of a.seconds b.seconds (a.at_least, a.at_most) (b.at_least, b.at_most) same
+    same_made (UpTo 86_400) (up_to_prop 86_400) span_of a.seconds b.seconds (a.at_least, a.at_most) (b.at_least, b.at_most) same
 
-abbrev count_of : (count : ℕ) → UpTo MOST_CONNECTIONS count → ByCount
+abbrev count_of : (count : ℕ) → UpTo 1_000_000 count → ByCount
 count_of count is = record { count = count; at_least = is.0; at_most = is.1 }
 
 same_count : (a b : ByCount) → a.count ≡ b.count → a ≡ b
 same_count a b same =
-    same_made (UpTo MOST_CONNECTIONS) (up_to_prop MOST_CONNECTIONS) count_of a.count b.count (a.at_least, a.at_most) (b.at_least, b.at_most) same
+    same_made (UpTo 1_000_000) (up_to_prop 1_000_000) count_of a.count b.count (a.at_least, a.at_most) (b.at_least, b.at_most) same
 
 -- texts that begin with other letters are others
 not_whole_span : (rest : List ℕ) → codes "whole" ≡ codes "span:" ++ rest → ⊥

@@ -4,8 +4,6 @@ use Rattle.url.specs.Parts.{Parts}
 use Rattle.clap.specs.Simple.{App}
 use Rattle.lc_time.specs.Iso.{SaysMoment}
 use Rattle.connection_uri.specs.Base.{BaseParts, ReadsAsBase, base_of}
-use Rattle.fragmenter.specs.declared.by_count.TheConstants.{MOST_CONNECTIONS}
-use Rattle.fragmenter.specs.declared.by_span.TheConstants.{LONGEST_SPAN}
 use Rattle.fragmenter.specs.declared.cutting.Cutting.{Cutting}
 use Rattle.fragmenter.specs.declared.cutting.Cutting.TheVariants as ways
 use Rattle.command_words.specs.Line.{value_at}
@@ -29,8 +27,8 @@ pub record SaysBehind (front : List ℕ) (low high : ℕ) (text : List ℕ) (num
 -- The text says a way to cut: `whole`, `span:` and up to a day of seconds, or `count:` and up to 1,000,000 connections.
 abbrev pub SaysCutting : List ℕ → Cutting → Type 0
 SaysCutting text ways.Whole = text ≡ codes "whole"
-SaysCutting text (ways.Span way) = SaysBehind (codes "span:") 1 LONGEST_SPAN text way.seconds
-SaysCutting text (ways.Count way) = SaysBehind (codes "count:") 1 MOST_CONNECTIONS text way.count
+SaysCutting text (ways.Span way) = SaysBehind (codes "span:") 1 86_400 text way.seconds
+SaysCutting text (ways.Count way) = SaysBehind (codes "count:") 1 1_000_000 text way.count
 
 -- `--base`, `--base-moment` and `--cuts`, with these texts where they are not there
 pub record SaysPublishing (a : App) (words : List (List ℕ)) (publishing : Publishing) : Type 0 where

@@ -1,6 +1,5 @@
 ghost use Rattle.std.specs.Prelude.{◌≡◌, ◌≤◌, ◌+◌, ◌^◌, ◌++◌, [], ◌∷◌, IfOk, OnOk, if◌then◌else◌};
 ghost use Rattle.fragmenter.specs.Ways.{count_begins, count_cuts};
-ghost use Rattle.fragmenter.specs.declared.by_count.TheConstants.{MOST_CONNECTIONS};
 
 use crate::Fragmenter;
 use lc_model::{Moment, NoMemory};
@@ -14,7 +13,7 @@ pub const MOST_CONNECTIONS: u32 = 1_000_000;
 pub struct ByCount {
     pub count: u32,
     pub ghost at_least: { 1 ≤ count },
-    pub ghost at_most: { count ≤ MOST_CONNECTIONS },
+    pub ghost at_most: { count ≤ 1_000_000 },
 }
 
 impl ByCount {

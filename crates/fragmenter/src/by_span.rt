@@ -1,6 +1,5 @@
 ghost use Rattle.std.specs.Prelude.{◌≡◌, ◌≤◌, ◌++◌, [], ◌∷◌, OnOk, if◌then◌else◌};
 ghost use Rattle.fragmenter.specs.Ways.{span_begins, span_cuts};
-ghost use Rattle.fragmenter.specs.declared.by_span.TheConstants.{LONGEST_SPAN};
 
 use crate::Fragmenter;
 use lc_model::{Moment, NoMemory};
@@ -14,7 +13,7 @@ pub const LONGEST_SPAN: u32 = 86_400;
 pub struct BySpan {
     pub seconds: u32,
     pub ghost at_least: { 1 ≤ seconds },
-    pub ghost at_most: { seconds ≤ LONGEST_SPAN },
+    pub ghost at_most: { seconds ≤ 86_400 },
 }
 
 impl BySpan {
