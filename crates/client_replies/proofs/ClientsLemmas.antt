@@ -40,9 +40,9 @@ use Rattle.page_client.specs.declared.want.Want.TheVariants as wants
 use Rattle.page_json.specs.declared.page.Page.{Page}
 use Rattle.client_replies.specs.Ends.{EndsBy}
 use Rattle.client_replies.specs.Made.{Made, failure_of, reply_to}
-use Rattle.client_replies.specs.Met.{AreMet, HasFailedBetween, IsByOneOf, Met, TellsMet, WasKept, asked_in, exchanges_by, failures_in, is_by, met_by}
+use Rattle.client_replies.specs.Met.{AreMet, CountAlong, HasFailedBetween, IsByOneOf, Met, TellsMet, WasKept, asked_in, exchanges_by, failures_in, is_by, met_by}
 use Rattle.client_replies.proofs.CourseLemmas.{is_taken, stands_last}
-use Rattle.client_replies.proofs.MetLemmas.{along_later, along_more, asked_more, by_other, exchange_more, exchanges_none_by, exchanges_of_other, met_by_other, met_by_own, met_none_by, no_exchange_more, not_asked_more, take_kept_more, tells_met_more, tells_met_none, tells_with_more}
+use Rattle.client_replies.proofs.MetLemmas.{along_more, asked_more, by_other, exchange_more, exchanges_none_by, exchanges_of_other, met_by_other, met_by_own, met_none_by, no_exchange_more, not_asked_more, take_kept_more, tells_met_more, tells_met_none, tells_with_more}
 use Rattle.client_replies.proofs.StepLemmas.{At, AtEnd, AtGate, AtPage, AtStops, Moves, Spans, exchange_of, gate_asked, page_asked, page_taken, stops_asked}
 
 -- a clear link is clear still, and its count has not fallen
@@ -175,7 +175,7 @@ are_begun base cache link = record {
     by_clients = All-nil (IsByOneOf 0);
     kept = tt;
     told = tells_met_none base [] link.told;
-    counted = (let same : link.faults ≤ link.faults = omega arith in same);
+    counted = refl;
   };
   grown = grown_not link;
 }
@@ -254,10 +254,10 @@ module _ (base : BaseParts) (questions : List Query) (first now : LinkSeen) (old
     grown = so.grown;
   }
 
--- the link has grown, and told nothing more
-pub are_later : (base : BaseParts) (questions : List Query) (first now later : LinkSeen) (convoy : ConvoyState) (all : List Met) → AreSo base questions first now convoy all → HasGrown now later → later.told ≡ now.told →
+-- the link has grown, told nothing more, and counted no fault more
+pub are_later : (base : BaseParts) (questions : List Query) (first now later : LinkSeen) (convoy : ConvoyState) (all : List Met) → AreSo base questions first now convoy all → HasGrown now later → later.told ≡ now.told → later.faults ≡ now.faults →
     AreSo base questions first later convoy all
-are_later base questions first now later convoy all so grown told = record {
+are_later base questions first now later convoy all so grown told same_faults = record {
   base_is = so.base_is;
   clients = so.clients;
   members = λ place query member asks is. so_later base query first.faults now.faults later.faults member (suc place) all grown.not_fallen (so.members place query member asks is);
@@ -266,7 +266,7 @@ are_later base questions first now later convoy all so grown told = record {
     by_clients = so.met.by_clients;
     kept = so.met.kept;
     told = subst (TellsMet base questions (asked_in all) first.told) (sym told) so.met.told;
-    counted = along_later first.faults now.faults later.faults all so.met.counted grown.not_fallen;
+    counted = subst (λ (n : ℕ). CountAlong first.faults n all) (sym same_faults) so.met.counted;
   };
   grown = grown_then first now later so.grown grown;
 }
@@ -456,7 +456,7 @@ module _ (base : BaseParts) (questions : List Query) (query : Query) (first link
           kept = take_kept_more base [] all one so.met.kept (λ none. absurd (not_both none));
           told = subst (λ (l : List Met). TellsMet base questions l first.told after.told) (sym (asked_more all one refl))
               (tells_met_more base questions query (asked_in all) one x.request first.told link.told after.told so.met.told asks asked x.told);
-          counted = along_more first.faults link.faults after.faults all one so.met.counted (no_less link.faults) (rose_by got refl) (no_less after.faults);
+          counted = along_more first.faults link.faults after.faults all one so.met.counted refl (rose_by got refl) refl;
         }
 
     exchange_counted : is.exchanges ≡ exchanges_by k (all ++ one ∷ [])
@@ -581,7 +581,7 @@ module _ (base : BaseParts) (questions : List Query) (query : Query) (first link
         by_clients = All-push (IsByOneOf (length questions)) all one so.met.by_clients (record { from_one = from_one; at_most = by_one_of });
         kept = take_kept_more base [] all one so.met.kept (λ none. was_kept);
         told = subst (λ (l : List Met). TellsMet base questions l first.told link.told) (sym (not_asked_more all one refl)) so.met.told;
-        counted = along_more first.faults link.faults link.faults all one so.met.counted (no_less link.faults) (RoseBy-none link.faults link.faults (no_less link.faults)) (no_less link.faults);
+        counted = along_more first.faults link.faults link.faults all one so.met.counted refl (RoseBy-none link.faults link.faults (no_less link.faults)) refl;
       } in
       let moves = page_taken base first.faults after.faults was.client is.client (met_by k all) h.name at said.reply h.page says h.takes in
       meets_one one refl t.had_none moves

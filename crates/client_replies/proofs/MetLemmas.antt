@@ -82,14 +82,10 @@ module _ (all : List Met) (met : Met) where
   not_asked_more none = filter_without (λ (m : Met). m.asked) all met none
 
 -- the count goes on
-pub along_more : (faults now later : ℕ) (all : List Met) (met : Met) → CountAlong faults now all → now ≤ met.low → RoseBy (failures_in (met ∷ [])) met.low met.high → met.high ≤ later →
+pub along_more : (faults now later : ℕ) (all : List Met) (met : Met) → CountAlong faults now all → met.low ≡ now → RoseBy (failures_in (met ∷ [])) met.low met.high → met.high ≡ later →
     CountAlong faults later (all ++ met ∷ [])
-along_more faults now later [] met along from rose to = ((let before : faults ≤ now = along in let here : faults ≤ met.low = omega arith in here), rose, to)
+along_more faults now later [] met along from rose to = (from ∙ sym along, rose, to)
 along_more faults now later (m ∷ all) met along from rose to = (along.0, along.1, along_more m.high now later all met along.2 from rose to)
-
-pub along_later : (faults now later : ℕ) (all : List Met) → CountAlong faults now all → now ≤ later → CountAlong faults later all
-along_later faults now later [] along to = (let before : faults ≤ now = along in let here : faults ≤ later = omega arith in here)
-along_later faults now later (m ∷ all) along to = (along.0, along.1, along_later m.high now later all along.2 to)
 
 -- one more that was kept, if it was met without an exchange
 pub take_kept_more : (base : BaseParts) (before all : List Met) (met : Met) → TakeKept base before all → (met.asked ≡ false → WasKept base (before ++ all) met.made) → TakeKept base before (all ++ met ∷ [])
