@@ -6,3 +6,4 @@ pub mod LiveLemmas
 pub mod LiveRunsLemmas
 pub mod NamingLemmas
 pub mod OnTimeLemmas
+pub mod PlacesLemmas

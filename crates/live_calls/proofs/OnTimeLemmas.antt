@@ -1,20 +1,17 @@
 -- Without news a run that goes forward and is not late has its own calls as its live ones.
-use Rattle.std.proofs.Common.{◌≡◌, ◌⊎◌, inl, inr, ◌∙◌, ℕ, suc, ◌+◌, ◌-◌, ◌<◌, ◌≤◌, min, max, ℤ, pos, List, [], ◌∷◌, length, get_or, Option, Some, None, refl, sym, ap, ap₂, subst, arith}
-use Rattle.std.specs.Prelude.{◌+ℤ◌, ◌-ℤ◌, ◌↔◌}
+use Rattle.std.proofs.Common.{◌≡◌, ◌⊎◌, inl, inr, ◌∙◌, ℕ, suc, ◌<◌, ◌≤◌, max, ℤ, pos, List, [], ◌∷◌, Some, None, refl, sym, ap, ap₂, subst, arith}
+use Rattle.std.specs.Prelude.{◌+ℤ◌, ◌-ℤ◌}
 use Rattle.std.specs.List.{All, Contains}
 use Rattle.std.proofs.lemmas.Int.{ints}
-use Rattle.std.proofs.lemmas.List.{get_or_default}
-use Rattle.std.proofs.lemmas.List.Elements.{All-head, All-tail, All-weaker}
+use Rattle.std.proofs.lemmas.List.Elements.{All-head, All-tail}
 use Rattle.lc_model.specs.Call.{GoesForward}
-use Rattle.lc_model.specs.Run.{InKeyOrder}
 use Rattle.lc_model.specs.declared.call.Call.{Call}
 use Rattle.lc_model.specs.declared.key.RunKey.{RunKey}
 use Rattle.lc_model.specs.declared.moment.TheConstants.{MOMENTS_END}
 use Rattle.lc_model.specs.declared.run.Run.{Run}
-use Rattle.lc_model.specs.declared.stop.Stop.{Stop}
 use Rattle.lc_versions.specs.Added.{IsFurtherRun}
 use Rattle.lc_versions.specs.Live.{call_at, calls_with, in_range, raised, told_calls}
-use Rattle.lc_versions.specs.Timetable.{AreLiveRuns, IsLiveRun}
+use Rattle.lc_versions.specs.Timetable.{IsLiveRun}
 use Rattle.live_calls.specs.Laws.{IsOnTime, LiveWithoutNews, RunsAreLive, RunsOnTime}
 use Rattle.live_calls.proofs.ForwardLemmas.{AllPairs-head, AllPairs-tail}
 use Rattle.live_calls.proofs.LawLemmas.{one_live_list}

@@ -99,8 +99,8 @@ fn live_list(alloc: Global, calls: &[Call], news: Option<&TripNews>) -> Result<V
     }
 }
 
-/// The live calls of a run with the news that name it, or without. It takes the time of the calls and of the news; news
-/// that name a stop and no sequence take the calls from the last named one on, and the others their logarithm.
+/// The live calls of a run with the news that name it, or without. It takes the time of the calls, of a sort of them where there are news of
+/// stops, and for each of these the logarithm of the calls.
 pub fn live(alloc: Global, run: &Run, news: Option<&TripNews>) -> Result<Calls, NoMemory>
     ensures live { IfOk result (λ calls. calls ≡ live_calls_of run.now.calls (option_copied news.entry)) }
     ensures forward { IfOk result GoesForward }
