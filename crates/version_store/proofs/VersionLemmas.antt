@@ -1,5 +1,5 @@
 -- The version that a walk over the versions names, and the newest one.
-use Rattle.std.proofs.Common.{◌≡◌, ℕ, ◌<◌, ◌≤◌, List, [], ◌∷◌, ◌++◌, length, get_or, filter, Bool, true, false, if◌then◌else◌, Option, None, Result, Ok, Err, refl, sym, ap, ◌∙◌, subst, arith, ⊎_elim}
+use Rattle.std.proofs.Common.{◌≡◌, ℕ, ◌-◌, ◌<◌, ◌≤◌, List, [], ◌∷◌, ◌++◌, length, get_or, filter, Bool, true, false, if◌then◌else◌, Option, Result, Ok, Err, refl, sym, ap, ◌∙◌, subst, arith, ⊎_elim}
 use Rattle.std.specs.Prelude.{IsTrue, is_ok}
 use Rattle.std.specs.List.{AllPairs, Contains}
 use Rattle.std.specs.List.Sorted.{IsBinarySearchResult, IsSearchInRange}
@@ -22,13 +22,15 @@ pub meant_then : (known : Option ℕ) (named version : ℕ) (rest : List ℕ) �
     last_of (if is_by known version then version else named) (filter (is_by known) rest) ≡ last_of named (filter (is_by known) (version ∷ rest))
 meant_then known named version rest = step named version (filter (is_by known) rest) (is_by known version)
 
-all_meant : (later : List ℕ) → filter (is_by None) later ≡ later
-all_meant [] = refl
-all_meant (next ∷ rest) = ap (λ v. next ∷ v) (all_meant rest)
+last_there : (first : ℕ) (rest : List ℕ) (d : ℕ) → get_or (first ∷ rest) (length rest) d ≡ last_of first rest
+last_there first [] d = refl
+last_there first (next ∷ rest) d = last_there next rest d
 
--- where no moment is given the newest version is meant
-pub newest_named : (base : ℕ) (later : List ℕ) → last_of base (filter (is_by None) later) ≡ last_of base later
-newest_named base later = ap (last_of base) (all_meant later)
+-- the last of the versions is the newest
+pub newest_last : (versions : List ℕ) (base : ℕ) (later : List ℕ) (version : ℕ) → versions ≡ base ∷ later → version ≡ get_or versions (length versions - 1) version → version ≡ last_of base later
+newest_last versions base later version is at =
+    let place : length (base ∷ later) - 1 ≡ length later = omega arith in
+    at ∙ ap (λ (l : List ℕ). get_or l (length l - 1) version) is ∙ ap (λ (n : ℕ). get_or (base ∷ later) n version) place ∙ last_there base later version
 
 never_falls : (versions : List ℕ) → AllPairs (λ (x y : ℕ). x < y) versions → (i j : ℕ) → i ≤ j → j < length versions → get_or versions i 0 ≤ get_or versions j 0
 never_falls versions rising i j le lt =

@@ -72,11 +72,14 @@ impl Store {
         self.versions.as_slice()
     }
 
-    /// The newest version. Linear in the versions.
+    /// The newest version.
     pub fn newest(&self) -> Moment
         ensures { result ≡ newest_of self.now }
     {
-        self.named(None)
+        match self.versions.as_slice().last() {
+            Some(version) => *version,
+            None => self.base,
+        }
     }
 
     /// Whether there is a version of this moment. Takes the logarithm of the versions.

@@ -1,7 +1,12 @@
-use Rattle.std.proofs.Common.{◌∙◌}
+use Rattle.std.proofs.Common.{◌∙◌, ap}
 use Rattle.lc_versions.specs.History.{moments_of}
-use Rattle.version_store.proofs.VersionLemmas.{newest_named}
+use Rattle.version_store.specs.Inside.{stored_of}
+use Rattle.version_store.specs.Store.{newest_of}
+use Rattle.version_store.proofs.VersionLemmas.{newest_last}
 use Rattle.version_store.proofs.store.Store.newest.Goals as goal
 
-pub returns : goal.returns
-returns c = c.named.ensures ∙ newest_named c.args.self.now.base (moments_of c.args.self.now.history)
+pub returns-in-Some : goal.returns-in-Some
+returns-in-Some c =
+    let inside = c.self.inside in
+    newest_last c.as_slice.result.now inside.base (moments_of (stored_of inside).history) c.in-Some.version.now (c.as_slice.ensures.value ∙ c.self.invariant.versions) c.in-Some.ensures.item.1
+    ∙ ap newest_of c.self.view_is
