@@ -1,17 +1,31 @@
--- The last call at each stop.
-use Rattle.std.specs.Prelude.{◌≡◌, ◌<◌, ℕ, List, false, Option, Some, None, slice_index_or}
-use Rattle.std.specs.Borrow.{Bor}
-use Rattle.std.specs.BTreeMap.{BTreeMap, get}
-use Rattle.std.specs.Cmp.Lexicographic.{slice_cmp}
-use Rattle.std.specs.Ordering.{nat_cmp}
-use Rattle.lc_model.specs.Change.{is_same_id}
+-- The places of calls in the order of their stops.
+use Rattle.std.specs.Prelude.{◌≡◌, ◌<◌, ℕ, Bool, List, length, slice_index_or}
+use Rattle.std.specs.List.{All, Any}
+use Rattle.std.specs.List.Sorted.{IsSorted}
+use Rattle.std.specs.Ordering.{is_lt, nat_cmp, on, then_cmp}
+use Rattle.std.specs.declared.cmp.Ordering.{Ordering}
+use Rattle.lc_model.specs.Text.{id_cmp}
 use Rattle.lc_model.specs.declared.call.Call.{Call}
+use Rattle.live_calls.specs.declared.naming.StopPlace.{StopPlace}
 
--- of the first so many calls none is at the stop, or none behind this place
-abbrev pub NoneBehind : List Call → ℕ → List ℕ → Option ℕ → Type 0
-NoneBehind calls count stop None = (k : ℕ) (d : Call) → k < count → is_same_id (slice_index_or calls k d).stop stop ≡ false
-NoneBehind calls count stop (Some last) = (k : ℕ) (d : Call) → last < k → k < count → is_same_id (slice_index_or calls k d).stop stop ≡ false
+-- by the stop, then by the place
+abbrev pub place_cmp : StopPlace → StopPlace → Ordering
+place_cmp = then_cmp (on (λ p. p.stop.now) id_cmp) (on (λ p. p.place) nat_cmp)
 
--- the map has a place for each stop of the first so many calls, and no call behind it is at that stop
-abbrev pub AreLastPlaces : List Call → ℕ → BTreeMap (Bor (List ℕ)) ℕ → Type 0
-AreLastPlaces calls count places = (stop : Bor (List ℕ)) → NoneBehind calls count stop.now (get (λ x y. slice_cmp nat_cmp x.now y.now) places stop)
+-- the one comes before the other
+abbrev pub is_before : StopPlace → StopPlace → Bool
+is_before p q = is_lt (place_cmp p q)
+
+-- a call stands at the place, and the stop is its
+abbrev pub IsOfCall : List Call → StopPlace → Type 0
+IsOfCall calls p = (p.place < length calls) × ((d : Call) → p.stop.now ≡ (slice_index_or calls p.place d).stop)
+
+-- places of calls, among them those of the first so many
+pub record ArePlaces (calls : List Call) (count : ℕ) (places : List StopPlace) : Type 0 where
+  pub each : (k : ℕ) → k < count → Any (λ p. p.place ≡ k) places
+  pub only : All (IsOfCall calls) places
+
+-- the places of all calls, sorted
+pub record AreSortedPlaces (calls : List Call) (places : List StopPlace) : Type 0 where
+  pub of_calls : ArePlaces calls (length calls) places
+  pub sorted : IsSorted place_cmp places

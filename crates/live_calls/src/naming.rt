@@ -1,20 +1,17 @@
-ghost use Rattle.std.specs.Prelude.{◌≡◌, ◌∷◌, ◌≤◌, ◌<◌, ◌+◌, ◌==◌, ℕ, IfOk, IfSome, List, drop, length, None, true, option_map, slice_index_or, vec_len};
-ghost use Rattle.std.specs.BTreeMap.{get};
-ghost use Rattle.std.specs.Cmp.Lexicographic.{slice_cmp};
+ghost use Rattle.std.specs.Prelude.{◌≡◌, ◌∷◌, ◌≤◌, ◌<◌, ◌+◌, ◌==◌, ℕ, IfOk, IfSome, List, drop, length, false, None, option_map, slice_index_or, true, vec_len};
+ghost use Rattle.std.specs.List.Sorted.{IsPartitionPoint, IsSorted};
 ghost use Rattle.std.specs.Option.{option_copied};
-ghost use Rattle.std.specs.Ordering.{nat_cmp};
 ghost use Rattle.lc_model.specs.Call.{InSequence};
 ghost use Rattle.lc_model.specs.Change.{is_same_id};
 ghost use Rattle.lc_model.specs.declared.call.Call.{Call as ToldCall};
 ghost use Rattle.lc_versions.specs.Naming.{named_by, namings, news_at_place, place_of};
 ghost use Rattle.lc_versions.specs.News.{StopSaid};
-ghost use Rattle.live_calls.specs.Places.{AreLastPlaces};
+ghost use Rattle.live_calls.specs.Places.{ArePlaces, AreSortedPlaces, is_before, place_cmp};
 ghost use Rattle.live_calls.specs.Walk.{last_news};
 
 use lc_model::{Call, NoMemory};
 use lc_versions::StopNews;
 use std::alloc::Global;
-use std::collections::BTreeMap;
 
 /// The place of the call of this sequence. Takes the logarithm of the calls.
 fn place_of_sequence(calls: &[Call], seq: u32) -> Option<usize>
@@ -25,93 +22,64 @@ fn place_of_sequence(calls: &[Call], seq: u32) -> Option<usize>
     calls.binary_search_by(|call| call.seq.cmp(&seq)).ok()
 }
 
-fn is_at(call: &Call, stop: &[u8]) -> bool
-    ensures { result ≡ is_same_id call.now.stop stop.now }
-{
-    call.stop.bytes() == stop
-}
-
-/// The place of the first call at this stop. Linear in the calls.
-fn place_of_stop(calls: &[Call], stop: &[u8]) -> Option<usize>
-    ensures place { result ≡ place_of (λ (c : ToldCall). is_same_id c.stop stop.now) calls.now }
-    ensures inside { IfSome result (λ place. place < length calls.now) }
-{
-    'calls: for (place, call) in calls.iter().enumerate() {
-        if is_at(call, stop) {
-            return Some(place);
-        }
-    }
-    None
-}
-
-/// The place of the last call at each stop. Takes the time of a sort of the calls.
-fn last_places<'a>(alloc: Global, calls: &'a [Call]) -> Result<BTreeMap<&'a [u8], usize>, NoMemory>
-    ensures { IfOk result (AreLastPlaces calls.now (length calls.now)) }
-{
-    let mut last = BTreeMap::new(alloc);
-    'calls: for (place, call) in calls.iter().enumerate() {
-        last.insert(call.stop.bytes(), place)?;
-    }
-    Ok(last)
-}
-
-/// The place of the last call at this stop, if there is one. Takes the logarithm of the calls.
-fn last_place<'a>(last: &BTreeMap<&'a [u8], usize>, stop: &'a [u8]) -> Option<usize>
-    ensures { result ≡ get (λ x y. slice_cmp nat_cmp x.now y.now) last.now stop.entry }
-{
-    last.get(&stop).copied()
-}
-
-/// Whether no call at this stop stands at the place `next` or behind it. Takes the logarithm of the calls.
-fn is_behind_last<'a>(last: &BTreeMap<&'a [u8], usize>, next: usize, stop: &'a [u8]) -> bool
-    ensures { (calls : List ToldCall) → AreLastPlaces calls (length calls) last.now → result ≡ true
-        → place_of (λ (c : ToldCall). is_same_id c.stop stop.now) (drop next calls) ≡ None }
-{
-    match last_place(last, stop) {
-        Some(place) => place < next,
-        None => true,
-    }
-}
-
-/// The place of the first call at this stop from the place `next` on. Linear in the calls from there to that place; where there is none
-/// it takes the logarithm of the calls.
-fn next_place_of_stop<'a>(
-    calls: &[Call],
-    last: &BTreeMap<&'a [u8], usize>,
-    next: usize,
+/// The place of a call and its stop, ordered by the stop and then by the place.
+#[derive(Clone, Copy, PartialEq, Eq, PartialOrd, Ord)]
+struct StopPlace<'a> {
     stop: &'a [u8],
-) -> Option<usize>
-    requires next { next ≤ length calls.now }
-    requires last { AreLastPlaces calls.now (length calls.now) last.now }
-    ensures place { result ≡ option_map (λ place. next + place)
-        (place_of (λ (c : ToldCall). is_same_id c.stop stop.now) (drop next calls.now)) }
-    ensures inside { IfSome result (λ place. place < length calls.now) }
+    place: usize,
+}
+
+/// The places of the calls in the order of their stops. Takes the time of a sort of the calls.
+fn stop_places<'a>(alloc: Global, calls: &'a [Call]) -> Result<Vec<StopPlace<'a>>, NoMemory>
+    ensures { IfOk result (λ places. AreSortedPlaces calls.now places.items) }
 {
-    if is_behind_last(last, next, stop) {
-        return None;
+    let mut places = Vec::with_capacity(alloc, calls.len())?;
+    'calls: for (place, call) in calls.iter().enumerate() {
+        let stop = call.stop.bytes();
+        places.push(StopPlace { stop, place })?;
     }
-    match place_of_stop(&calls[next..], stop) {
-        Some(place) => Some(next + place),
-        None => None,
+    places.sort()?;
+    Ok(places)
+}
+
+/// How many of the places stand before the asked one. Takes the logarithm of the places.
+fn places_before<'a>(places: &[StopPlace<'a>], asked: StopPlace<'a>) -> usize
+    requires { IsSorted place_cmp places.now }
+    ensures bound { result ≤ length places.now }
+    ensures point { IsPartitionPoint (λ p. is_before p asked.entry ≡ true) (λ p. is_before p asked.entry ≡ false) places.now result }
+{
+    places.partition_point(|place| *place < asked)
+}
+
+/// The place of the first call at this stop from the place `next` on. Takes the logarithm of the calls.
+fn next_place_of_stop<'a>(places: &[StopPlace<'a>], next: usize, stop: &'a [u8]) -> Option<usize>
+    requires { IsSorted place_cmp places.now }
+    ensures place { (calls : List ToldCall) → ArePlaces calls (length calls) places.now → result ≡ option_map (λ place. next + place)
+        (place_of (λ (c : ToldCall). is_same_id c.stop stop.now) (drop next calls)) }
+    ensures inside { (calls : List ToldCall) → ArePlaces calls (length calls) places.now → IfSome result (λ place. place < length calls) }
+{
+    let at = places_before(places, StopPlace { stop, place: next });
+    match places.get(at) {
+        Some(found) if found.stop == stop => Some(found.place),
+        _ => None,
     }
 }
 
 /// The place of the call that the news name, of which a stop is looked for from the place `next` on.
 fn named_place<'a>(
     calls: &[Call],
-    last: &BTreeMap<&'a [u8], usize>,
+    places: &[StopPlace<'a>],
     next: usize,
     news: &'a StopNews,
 ) -> Option<usize>
     requires in_sequence { InSequence calls.now }
-    requires last { AreLastPlaces calls.now (length calls.now) last.now }
-    requires next { next ≤ length calls.now }
+    requires places { AreSortedPlaces calls.now places.now }
     ensures place { result ≡ named_by calls.now next news.now.seq news.now.stop }
     ensures inside { IfSome result (λ place. place < length calls.now) }
 {
     match (news.seq(), news.stop()) {
         (Some(seq), _) => place_of_sequence(calls, seq),
-        (None, Some(stop)) => next_place_of_stop(calls, last, next, stop),
+        (None, Some(stop)) => next_place_of_stop(places, next, stop),
         (None, None) => None,
     }
 }
@@ -119,13 +87,13 @@ fn named_place<'a>(
 /// Puts the news beside the call that they name, in the place of those that named it before, and gives the place behind it.
 fn put_news<'a>(
     calls: &[Call],
-    last: &BTreeMap<&'a [u8], usize>,
+    places: &[StopPlace<'a>],
     named: &mut [Option<&'a StopNews>],
     next: usize,
     news: &'a StopNews,
 ) -> usize
     requires in_sequence { InSequence calls.now }
-    requires last { AreLastPlaces calls.now (length calls.now) last.now }
+    requires places { AreSortedPlaces calls.now places.now }
     requires next { next ≤ length calls.now }
     requires one_each { length named.old ≡ length calls.now }
     ensures next { result ≤ length calls.now }
@@ -133,7 +101,7 @@ fn put_news<'a>(
         last_news (option_copied (slice_index_or named.new k None)) (namings calls.now result rest) k
         ≡ last_news (option_copied (slice_index_or named.old k None)) (namings calls.now next (news.now ∷ rest)) k }
 {
-    match named_place(calls, last, next, news) {
+    match named_place(calls, places, next, news) {
         Some(place) => {
             named[place] = Some(news);
             place + 1
@@ -142,8 +110,8 @@ fn put_news<'a>(
     }
 }
 
-/// For each of the calls the last of the news that name it. Takes the time of a sort of the calls, of the logarithm of the calls for each of
-/// the news, and of one walk over the calls.
+/// For each of the calls the last of the news that name it. Takes the time of the calls, of a sort of them where there are news, and for
+/// each of these the logarithm of the calls.
 pub(crate) fn named_news<'a>(
     alloc: Global,
     calls: &'a [Call],
@@ -158,10 +126,10 @@ pub(crate) fn named_news<'a>(
     if stops.is_empty() {
         return Ok(named);
     }
-    let last = last_places(alloc, calls)?;
+    let places = stop_places(alloc, calls)?;
     let mut next = 0;
     'news: for news in stops {
-        next = put_news(calls, &last, &mut named, next, news);
+        next = put_news(calls, &places, &mut named, next, news);
     }
     Ok(named)
 }

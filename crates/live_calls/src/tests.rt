@@ -183,6 +183,46 @@ fn calls_under_news(rt: HostRuntime) -> Result<(), Fail> {
     Ok(())
 }
 
+/// A trip that serves B twice: A 08:00, B 08:10, C 08:20, B 08:30.
+const LOOP: [Added; 4] = [
+    ("A", None, Some(28_800)),
+    ("B", Some(29_400), None),
+    ("C", Some(30_000), None),
+    ("B", Some(30_600), None),
+];
+
+/// By sequence or stop, with the delay of the arrival: B, which is its first call; B, now its second; A by its sequence; and B,
+/// now its first call again.
+const BY_STOP: [(Option<u32>, Option<&str>, i32); 4] = [
+    (None, Some("B"), 60),
+    (None, Some("B"), 120),
+    (Some(1), None, 0),
+    (None, Some("B"), 180),
+];
+
+#[test]
+fn calls_named_by_stop(rt: HostRuntime) -> Result<(), Fail> {
+    let alloc = rt.alloc();
+    let run = added(alloc, "T1", &LOOP)?.ok_or("a run")?;
+    let mut list = Vec::new(alloc);
+    for &(seq, stop, delay) in &BY_STOP {
+        let stop = match stop {
+            Some(id) => Some(bytes(alloc, id)?),
+            None => None,
+        };
+        let arr = late(Some(delay));
+        list.push(StopNews::new(alloc, seq, stop, Relation::Scheduled, arr, None)?)?;
+    }
+    let news = news(alloc, "T1", TripKind::Scheduled, list)?;
+    let text = live_said(alloc, &run, Some(&news))?;
+    assert!(rt;
+        text.as_str()
+            == "A 1 28800 28800 0 0; B 2 29580 29580 180 180; C 3 30180 30180 180 180; B 4 30720 30720 120 120; A 28800 B 29580. B 29580 C 30180. C 30180 B 30720. ",
+        "{text}"
+    );
+    Ok(())
+}
+
 /// From A to D; the same over a stop that is unknown, which is left out, so that the second call has the sequence 3; one stop
 /// alone; and a trip without a name.
 const ADDED: [(&str, &[Added], &str); 4] = [
