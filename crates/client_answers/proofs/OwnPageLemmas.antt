@@ -15,7 +15,7 @@ use Rattle.page_laws.specs.Chain.{ArePagesOf, along_next, along_previous, names_
 use Rattle.page_laws.specs.Rides.{pages_on}
 use Rattle.page_laws.proofs.ChainLemmas.{by_or_not, links_part, next_goes_on, next_stays, previous_stays}
 use Rattle.page_laws.proofs.NameLemmas.{cuts_name_neighbours}
-use Rattle.page_laws.proofs.RowLemmas.{found_by_name, row}
+use Rattle.page_laws.proofs.RowLemmas.{found_by_name, is_where_next_begins, row}
 use Rattle.page_client.specs.Shown.{is_early, is_late, is_off, wrong_gate}
 use Rattle.page_client.specs.declared.fault.PeerFault.TheVariants.{GateWrong}
 use Rattle.page_client.specs.declared.outcome.Outcome.TheVariants.{PeerWrong}
@@ -23,18 +23,9 @@ use Rattle.publisher_side.specs.PageAt.{linked, named, previous_cut}
 use Rattle.publisher_side.specs.Response.{IsPageOf}
 use Rattle.publisher_side.specs.Side.{IsValidSide, Side}
 use Rattle.publisher_side.proofs.PageLemmas.{never_falls}
-use Rattle.client_answers.specs.Laws.{IsAmong}
-use Rattle.client_answers.specs.Published.{IsPublished, Published}
+use Rattle.client_answers.specs.Laws.{IsAmong, LinksLeadAlong}
+use Rattle.client_answers.specs.Published.{IsPublished, Published, between}
 use Rattle.client_answers.proofs.PublishedLemmas.{one_published, pages_are_among}
-
--- a page between those before it and those behind it, as it is published
-abbrev pub between : ℕ → List CutPage → CutPage → List CutPage → Page
-between version before page behind = record {
-  name = named version page.departs;
-  next = option_map (named version) (first_of (names_of behind));
-  previous = option_map (named version) (last_or None (names_of before));
-  list = page.connections;
-}
 
 linked_between : (version : ℕ) (list : List Connection) (first : CutPage) (rest before : List CutPage) (page : CutPage) (behind : List CutPage) (pages : ArePagesOf list first rest) →
     first ∷ rest ≡ before ++ page ∷ behind → linked version pages.cuts page ≡ between version before page behind
@@ -62,21 +53,41 @@ pages_by_cuts side version published valid is = record {
   are = is.are_pages;
 }
 
+-- a page of a side is the one for its moment of what is published
+page_is : (side : Side) (version moment : ℕ) (published : Published) (page : Page) → IsPublished side version published → IsPageOf side version moment page →
+    page ≡ linked version (side.cuts_of (departures_of published.list)) (page_for published.first published.rest moment)
+page_is side version moment published page is_published is =
+    let among : IsAmong side version moment page = pages_are_among side version moment page is in
+    let same : among.published ≡ published = one_published side version among.published published among.is_published is_published in
+    among.is ∙ ap (λ (q : Published). linked version (side.cuts_of (departures_of q.list)) (page_for q.first q.rest moment)) same
+
 module _ (side : Side) (version : ℕ) (published : Published) (valid : IsValidSide side) (is_published : IsPublished side version published)
     (before : List CutPage) (p : CutPage) (behind : List CutPage) (parts : published.first ∷ published.rest ≡ before ++ p ∷ behind) where
   -- the page is found by its name
   pub found : page_for published.first published.rest p.departs ≡ p
   found = (found_by_name published.list published.first published.rest before p behind (pages_by_cuts side version published valid is_published) parts).0
 
-  -- and stands between its neighbours
+  linked_there : linked version (side.cuts_of (departures_of published.list)) p ≡ between version before p behind
+  linked_there = linked_between version published.list published.first published.rest before p behind (pages_by_cuts side version published valid is_published) parts
+
+  -- and so it stands between its neighbours
   pub own_is_between : (page : Page) → IsPageOf side version p.departs page → page ≡ between version before p behind
   own_is_between page is =
-      let among : IsAmong side version p.departs page = pages_are_among side version p.departs page is in
-      let same : among.published ≡ published = one_published side version among.published published among.is_published is_published in
-      among.is
-      ∙ ap (λ (q : Published). linked version (side.cuts_of (departures_of q.list)) (page_for q.first q.rest p.departs)) same
-      ∙ ap (linked version (side.cuts_of (departures_of published.list))) found
-      ∙ linked_between version published.list published.first published.rest before p behind (pages_by_cuts side version published valid is_published) parts
+      page_is side version p.departs published page is_published is ∙ ap (linked version (side.cuts_of (departures_of published.list))) found ∙ linked_there
+
+-- the links of a page that is sent lead to its neighbours
+pub links_lead_along : LinksLeadAlong
+links_lead_along side version moment published page valid is_published is =
+    let here : CutPage = page_for published.first published.rest moment in
+    let before : List CutPage = reverse (along_previous published.first published.rest moment) in
+    let next = is_where_next_begins published.list published.first published.rest moment (pages_by_cuts side version published valid is_published) in
+    let parts : published.first ∷ published.rest ≡ before ++ here ∷ next.0 =
+    sym (links_part published.first published.rest moment) ∙ ap (λ (on : List CutPage). before ++ on) next.1 in
+    record {
+      behind = next.0;
+      along = next.1;
+      is = page_is side version moment published page is_published is ∙ linked_there side version published valid is_published before here next.0 parts;
+    }
 
 -- all pages, where those are known that go on from a moment
 pub all_parts : (first : CutPage) (rest : List CutPage) (query : Query) (before : List CutPage) (page : CutPage) (behind : List CutPage) → pages_on first rest query ≡ before ++ page ∷ behind →

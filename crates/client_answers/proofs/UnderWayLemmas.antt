@@ -36,12 +36,12 @@ use Rattle.publisher_side.specs.Response.{IsPageOf}
 use Rattle.publisher_side.specs.Side.{IsValidSide, Side}
 use Rattle.client_answers.specs.Answered.{answer_of, names_at}
 use Rattle.client_answers.specs.Fits.{FitsAt, FitsSide, HasAnswered, HasEnded, IsOfSide, IsUnderWay}
-use Rattle.client_answers.specs.Published.{IsOwnPage}
+use Rattle.client_answers.specs.Published.{IsOwnPage, between}
 use Rattle.client_answers.specs.Steps.{KeepsVersion}
 use Rattle.client_answers.specs.Wants.{HasEnds, wants_of}
 use Rattle.client_answers.proofs.AnsweredLemmas.{are_needed, is_answer}
 use Rattle.client_answers.proofs.FitsLemmas.{has_own}
-use Rattle.client_answers.proofs.OwnPageLemmas.{all_parts, between, gate_is_right, own_is_between, pages_by_cuts}
+use Rattle.client_answers.proofs.OwnPageLemmas.{all_parts, gate_is_right, own_is_between, pages_by_cuts}
 use Rattle.client_answers.proofs.PublishedLemmas.{is_lawful, is_timetable}
 
 -- what was taken, with one page more

@@ -1,14 +1,14 @@
 -- That what is published, answered and needed at a version is one, and stays.
-use Rattle.std.specs.Prelude.{◌≡◌, ℕ, true, List, ◌↔◌}
+use Rattle.std.specs.Prelude.{◌≡◌, ℕ, true, List, ◌∷◌, reverse, ◌↔◌}
 use Rattle.lc_model.specs.Connection.{NoneArrivesEarly}
 use Rattle.lc_model.specs.Laws.{arrival_of}
 use Rattle.lc_model.specs.Run.{RunsForward}
 use Rattle.lc_model.specs.declared.answer.Answer.{Answer}
 use Rattle.lc_model.specs.declared.page.PageName.{PageName}
 use Rattle.lc_model.specs.declared.query.Query.{Query}
-use Rattle.lc_versions.specs.Pages.{departures_of, page_for}
+use Rattle.lc_versions.specs.Pages.{CutPage, departures_of, page_for}
 use Rattle.page_json.specs.declared.page.Page.{Page}
-use Rattle.page_laws.specs.Chain.{ArePagesOf}
+use Rattle.page_laws.specs.Chain.{ArePagesOf, along_next, along_previous}
 use Rattle.page_client.specs.declared.client.Client.{Client}
 use Rattle.page_client.specs.declared.want.Want.{Want}
 use Rattle.publisher_side.specs.PageAt.{linked}
@@ -16,7 +16,7 @@ use Rattle.publisher_side.specs.Response.{IsPageOf}
 use Rattle.publisher_side.specs.Side.{IsLater, IsValidSide, Side, has_version}
 use Rattle.client_answers.specs.Answered.{AnswersAt, NeededAt}
 use Rattle.client_answers.specs.Fits.{FitsSide}
-use Rattle.client_answers.specs.Published.{IsOwnPage, IsPublished, Published}
+use Rattle.client_answers.specs.Published.{IsOwnPage, IsPublished, Published, between}
 use Rattle.client_answers.specs.Wants.{AreWants}
 
 -- one thing is published of a version
@@ -40,6 +40,18 @@ pub record IsAmong (side : Side) (version departs : ℕ) (page : Page) : Type 0 
 
 abbrev pub PagesAreAmong : Type 0
 PagesAreAmong = (side : Side) (version departs : ℕ) (page : Page) → IsPageOf side version departs page → IsAmong side version departs page
+
+-- The page that is sent for a moment is the one for it of what is published. Its next link leads to the page behind it along the links to the
+-- next one, and its previous link to the nearest one along those to the previous one; it lacks one where there is no such page.
+pub record LinksToNeighbours (version moment : ℕ) (published : Published) (page : Page) : Type 0 where
+  pub behind : List CutPage
+  pub along : along_next published.first published.rest moment ≡ page_for published.first published.rest moment ∷ behind
+  pub is : page ≡ between version (reverse (along_previous published.first published.rest moment)) (page_for published.first published.rest moment) behind
+
+abbrev pub LinksLeadAlong : Type 0
+LinksLeadAlong =
+    (side : Side) (version moment : ℕ) (published : Published) (page : Page) → IsValidSide side → IsPublished side version published → IsPageOf side version moment page
+    → LinksToNeighbours version moment published page
 
 -- the answers to a question at a version have one arrival
 abbrev pub OneArrivalAt : Type 0

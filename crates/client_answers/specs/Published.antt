@@ -1,13 +1,17 @@
 -- What a side publishes of a version, and its pages by their names.
-use Rattle.std.specs.Prelude.{◌≡◌, ℕ, true, List, ◌∷◌}
+use Rattle.std.specs.Prelude.{◌≡◌, ℕ, true, List, ◌∷◌, None, option_map}
+use Rattle.std.specs.List.{last_or}
 use Rattle.lc_model.specs.Connection.{AreConnectionsOf}
 use Rattle.lc_model.specs.declared.connection.Connection.{Connection}
 use Rattle.lc_model.specs.declared.run.Run.{Run}
+use Rattle.lc_versions.specs.Cuts.{first_of}
 use Rattle.lc_versions.specs.History.{news_at}
 use Rattle.lc_versions.specs.Pages.{CutPage, departures_of, pages_of}
 use Rattle.lc_versions.specs.Timetable.{AreLiveRuns}
 use Rattle.page_json.specs.Sound.{IsSoundPage}
 use Rattle.page_json.specs.declared.page.Page.{Page}
+use Rattle.page_laws.specs.Chain.{names_of}
+use Rattle.publisher_side.specs.PageAt.{named}
 use Rattle.publisher_side.specs.Response.{IsPageOf}
 use Rattle.publisher_side.specs.Side.{Side, date_in, has_version}
 
@@ -34,3 +38,12 @@ pub record IsOwnPage (side : Side) (page : Page) : Type 0 where
   pub has : has_version side page.name.version ≡ true
   pub is_page : IsPageOf side page.name.version page.name.departs page
   pub sound : IsSoundPage page
+
+-- a page of a version as it is sent, between those before it and those behind it: linked to the last and to the first of these
+abbrev pub between : ℕ → List CutPage → CutPage → List CutPage → Page
+between version before page behind = record {
+  name = named version page.departs;
+  next = option_map (named version) (first_of (names_of behind));
+  previous = option_map (named version) (last_or None (names_of before));
+  list = page.connections;
+}

@@ -1,11 +1,12 @@
-ghost use Rattle.client_answers.specs.Laws.{AnswersStay, FitsStays, NeededStays, OneArrivalAt, OneListOfNeededAt, OneListOfWants, OnePublished, OwnPagesStay, PagesAreAmong, PublishedIsLawful, PublishedStays, WantsStay};
+ghost use Rattle.client_answers.specs.Laws.{AnswersStay, FitsStays, LinksLeadAlong, NeededStays, OneArrivalAt, OneListOfNeededAt, OneListOfWants, OnePublished, OwnPagesStay, PagesAreAmong, PublishedIsLawful, PublishedStays, WantsStay};
 
 /// One thing is published of a version: runs that go forward, their connections, and pages of these. The pages of a side are
-/// among them.
+/// among them, and their links lead from each one to the next and to the one before it (Linked Connections 1.0; Hydra, `next` and `previous`).
 pub fn one_published()
     ensures published { OnePublished }
     ensures lawful { PublishedIsLawful }
     ensures pages { PagesAreAmong }
+    ensures links { LinksLeadAlong }
 {}
 
 /// The answers to a question at a version have one arrival, the needed pages are one list, and so are the wants of a client.
