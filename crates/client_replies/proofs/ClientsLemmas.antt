@@ -335,11 +335,39 @@ pub record MeetsNone (was is : Member) (more : List Met) : Type 0 where
   pub had : HasOutcome was
   pub has : HasOutcome is
 
+-- the client, which has become this one, got a reply, and did not end by a fault of the link
+pub record GotReply (is : Member) (one : Met) : Type 0 where
+  pub reply : List ℕ
+  pub got : one.made.got ≡ Some reply
+  pub no_fault : (low high : ℕ) → (shown is.client).outcome ≡ Some (outcomes.LinkFault low high) → ⊥
+
+-- or it got none, and ended so
+pub record GotNone (is : Member) (one : Met) : Type 0 where
+  pub got : one.made.got ≡ None
+  pub low : ℕ
+  pub high : ℕ
+  pub ended : (shown is.client).outcome ≡ Some (outcomes.LinkFault low high)
+
+-- client k met what it wanted, by an exchange or without one
+pub record MeetsWant (k : ℕ) (was : Member) (asked : Bool) (more : List Met) : Type 0 where
+  pub one : Met
+  pub is : more ≡ one ∷ []
+  pub client : one.client ≡ k
+  pub want : one.made.want ≡ want_of (shown was.client).phase
+  pub asked_is : one.asked ≡ asked
+
+-- what client k met in a turn, by which it has become another
+abbrev pub MeetsIn : Turn → ℕ → Member → Member → List Met → Type 0
+MeetsIn Finished k was is more = more ≡ []
+MeetsIn Cached k was is more = (met : MeetsWant k was false more) × GotReply is met.one
+MeetsIn Exchanged k was is more = (met : MeetsWant k was true more) × (GotReply is met.one ⊎ GotNone is met.one)
+
 -- what a turn of client k comes to, by which it has become another
-pub record Meets (base : BaseParts) (questions : List Query) (first after : LinkSeen) (new : ConvoyState) (k : ℕ) (was is : Member) (all : List Met) : Type 0 where
+pub record Meets (base : BaseParts) (questions : List Query) (first after : LinkSeen) (new : ConvoyState) (k : ℕ) (was is : Member) (all : List Met) (turn : Turn) : Type 0 where
   pub more : List Met
   pub so : AreSo base questions first after new (all ++ more)
   pub how : MeetsOne k was more ⊎ MeetsNone was is more
+  pub met : MeetsIn turn k was is more
 
 -- one question stands at a place
 one_question : (questions : List Query) (place : ℕ) (a b : Query) → slice_get questions place ≡ Some a → slice_get questions place ≡ Some b → a ≡ b
@@ -394,11 +422,11 @@ module _ (base : BaseParts) (questions : List Query) (query : Query) (first link
   }
 
   -- with one more
-  module _ (one : Met) (own : one.client ≡ k) (waited : (shown was.client).outcome ≡ None)
+  module _ (turn : Turn) (one : Met) (own : one.client ≡ k) (met_in : MeetsIn turn k was is (one ∷ [])) (waited : (shown was.client).outcome ≡ None)
       (moves : Moves base first.faults after.faults was.client is.client (met_by k all ++ one.made ∷ [])) (counted : is.exchanges ≡ exchanges_by k (all ++ one ∷ []))
       (fault : (low high : ℕ) → (shown is.client).outcome ≡ Some (outcomes.LinkFault low high) → HasFailedBetween k low high (all ++ one ∷ []))
       (said : All (IsSaid base (all ++ one ∷ [])) new.kept.pages) (met : AreMet base questions first.told after.told first.faults after.faults (all ++ one ∷ [])) where
-    meets_one : Meets base questions first after new k was is all
+    meets_one : Meets base questions first after new k was is all turn
     meets_one =
         let now : IsClientSo base query first.faults after.faults is k (all ++ one ∷ []) = record {
           question = moves.query ∙ it_was.question;
@@ -410,6 +438,7 @@ module _ (base : BaseParts) (questions : List Query) (query : Query) (first link
           more = one ∷ [];
           so = with_more (one ∷ []) now (λ number q m other before. so_beside base q first.faults link.faults m number all one (λ same. other (sym own ∙ same)) before) said met;
           how = inl (record { one = one; is = refl; client = own; waited = waited });
+          met = met_in;
         }
 
   -- it is one of the clients
@@ -446,6 +475,15 @@ module _ (base : BaseParts) (questions : List Query) (query : Query) (first link
           high_is = (same_counts link.faults after.faults low high same).1;
         }
 
+    -- it got a reply or none
+    exchange_how : (g : Got) → got ≡ g → GotReply is one ⊎ GotNone is one
+    exchange_how None none = inr (record { got = none; low = link.faults; high = after.faults; ended = ends none })
+    exchange_how (Some reply) some = inl (record {
+      reply = reply;
+      got = some;
+      no_fault = λ low high fault. some_is_none reply (sym some ∙ failed_last base first.faults after.faults is.client (met_by k all) one.made low high moves.at fault);
+    })
+
     exchange_met : AreMet base questions first.told after.told first.faults after.faults (all ++ one ∷ [])
     exchange_met =
         let asked : Asks base (target_of base query want) (known_at query want) x.request =
@@ -462,11 +500,11 @@ module _ (base : BaseParts) (questions : List Query) (query : Query) (first link
     exchange_counted : is.exchanges ≡ exchanges_by k (all ++ one ∷ [])
     exchange_counted = one_more ∙ ap (λ (n : ℕ). n + 1) it_was.counted ∙ sym (exchange_more k all one refl refl)
 
-    pub exchanged : All (IsSaid base (all ++ one ∷ [])) new.kept.pages → Meets base questions first after new k was is all
-    exchanged said = meets_one one refl waited moves exchange_counted failed_now said exchange_met
+    pub exchanged : All (IsSaid base (all ++ one ∷ [])) new.kept.pages → Meets base questions first after new k was is all Exchanged
+    exchanged said = meets_one Exchanged one refl (record { one = one; is = refl; client = refl; want = sym wanted; asked_is = refl }, exchange_how got refl) waited moves exchange_counted failed_now said exchange_met
 
     -- where the cache is as it was
-    pub exchanged_beside : new.kept ≡ old.kept → Meets base questions first after new k was is all
+    pub exchanged_beside : new.kept ≡ old.kept → Meets base questions first after new k was is all Exchanged
     exchanged_beside same = exchanged (subst (λ (kept : Kept). All (IsSaid base (all ++ one ∷ [])) kept.pages) (sym same) (said_more base all (one ∷ []) old.kept.pages so.said))
 
   -- the cache behind a page that was asked for
@@ -520,9 +558,9 @@ module _ (base : BaseParts) (questions : List Query) (query : Query) (first link
   spans : (got : Got) → IsExchange base (shown was.client) link after got → Spans first.faults link.faults after.faults got
   spans got x = record { from = so.grown.not_fallen; cause = x.faults }
 
-  pub asked_one : IsExchanged base was is old.kept new.kept link after → Meets base questions first after new k was is all
+  pub asked_one : IsExchanged base was is old.kept new.kept link after → Meets base questions first after new k was is all Exchanged
   asked_one t = by t.asks where
-    by : AsksOne base was.client is.client old.kept new.kept link after → Meets base questions first after new k was is all
+    by : AsksOne base was.client is.client old.kept new.kept link after → Meets base questions first after new k was is all Exchanged
     by (inl (asks, same)) =
         let at : AtGate base (shown was.client) (met_by k all) = it_waited phases.Gate (waits_at_gate (shown was.client).phase asks.wants) in
         exchanged_beside wants.Gate asks.got asks.wants asks.exchange t.had_none t.one_more (ends_by (TakesGate base was.client is.client) asks.got asks.takes)
@@ -539,7 +577,7 @@ module _ (base : BaseParts) (questions : List Query) (query : Query) (first link
         (page_said asks.name asks.got asks.got refl asks.takes)
 
   -- nothing was wanted any more
-  pub met_none : IsFinished was is old.kept new.kept → after.faults ≡ link.faults → after.told ≡ link.told → Meets base questions first after new k was is all
+  pub met_none : IsFinished was is old.kept new.kept → after.faults ≡ link.faults → after.told ≡ link.told → Meets base questions first after new k was is all Finished
   met_none t faults told =
       let now : IsClientSo base query first.faults after.faults is k (all ++ []) =
       subst (λ (l : List Met). IsClientSo base query first.faults after.faults is k l) (sym (append-nil all))
@@ -553,10 +591,11 @@ module _ (base : BaseParts) (questions : List Query) (query : Query) (first link
             (subst (λ (n : ℕ). AreMet base questions first.told after.told first.faults n all) (sym faults)
             (subst (λ (entries : Option (List Entry)). AreMet base questions first.told entries first.faults link.faults all) (sym told) so.met)));
         how = inr (record { none = refl; had = t.had; has = subst HasOutcome (sym t.member) t.had });
+        met = refl;
       }
 
   -- a page of the cache was taken
-  pub took_kept : IsCached was is old.kept new.kept → after.faults ≡ link.faults → after.told ≡ link.told → Meets base questions first after new k was is all
+  pub took_kept : IsCached was is old.kept new.kept → after.faults ≡ link.faults → after.told ≡ link.told → Meets base questions first after new k was is all Cached
   took_kept t faults told =
       let h = t.holds in
       let at : AtPage base (shown was.client) was.client (met_by k all) h.name = it_waited (phases.Page h.name) (waits_for (shown was.client).phase h.name h.wants) in
@@ -584,9 +623,13 @@ module _ (base : BaseParts) (questions : List Query) (query : Query) (first link
         counted = along_more first.faults link.faults link.faults all one so.met.counted refl (RoseBy-none link.faults link.faults (no_less link.faults)) refl;
       } in
       let moves = page_taken base first.faults after.faults was.client is.client (met_by k all) h.name at said.reply h.page says h.takes in
-      meets_one one refl t.had_none moves
+      let no_fault : (low high : ℕ) → (shown is.client).outcome ≡ Some (outcomes.LinkFault low high) → ⊥ =
+      λ low high some. some_is_none said.reply (failed_last base first.faults after.faults is.client (met_by k all) made low high moves.at some) in
+      meets_one Cached one refl
+      (record { one = one; is = refl; client = refl; want = sym h.wants; asked_is = refl }, record { reply = said.reply; got = refl; no_fault = no_fault })
+      t.had_none moves
       (t.same_count ∙ it_was.counted ∙ sym (no_exchange_more k all one refl))
-      (λ low high some. absurd (some_is_none said.reply (failed_last base first.faults after.faults is.client (met_by k all) made low high moves.at some)))
+      (λ low high some. absurd (no_fault low high some))
       (subst (λ (kept : Kept). All (IsSaid base (all ++ one ∷ [])) kept.pages) (sym h.used)
       (All-with_used (IsSaid base (all ++ one ∷ [])) old.kept.pages h.name (said_more base all (one ∷ []) old.kept.pages so.said)))
       (subst (λ (n : ℕ). AreMet base questions first.told after.told first.faults n (all ++ one ∷ [])) (sym faults)
@@ -606,7 +649,7 @@ module _ {X : Type 0} (seen : X → LinkSeen) (base : BaseParts) (questions : Li
   asks_it was had = item_within questions (k - 1) (let within : k - 1 < length old.members = slice_get_within old.members (k - 1) was had in let same = so.clients in omega arith)
 
   by_turn : (turn : Turn) (step : IsStep seen k old new link after turn) → Turned base step.turned.was step.turned.is old.kept new.kept (seen link) (seen after) turn →
-      Meets base questions first (seen after) new k step.turned.was step.turned.is all
+      Meets base questions first (seen after) new k step.turned.was step.turned.is all turn
   by_turn Finished step t =
       let s = step.turned in
       let still : after ≡ link = step.idle (λ e. cc) in
@@ -625,7 +668,7 @@ module _ {X : Type 0} (seen : X → LinkSeen) (base : BaseParts) (questions : Li
       asked_one base questions query.0 first (seen link) (seen after) old new k from_one s.was s.is all so query.1 s.had s.members s.base
       (exchange_grows base s.was.client s.is.client old.kept new.kept (seen link) (seen after) t.asks) t
 
-  pub turn_meets : (turn : Turn) (step : IsStep seen k old new link after turn) → Meets base questions first (seen after) new k step.turned.was step.turned.is all
+  pub turn_meets : (turn : Turn) (step : IsStep seen k old new link after turn) → Meets base questions first (seen after) new k step.turned.was step.turned.is all turn
   turn_meets turn step =
       let s = step.turned in
       by_turn turn step (subst (λ (b : BaseParts). Turned b s.was s.is old.kept new.kept (seen link) (seen after) turn) so.base_is s.turned)

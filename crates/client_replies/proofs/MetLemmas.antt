@@ -1,5 +1,5 @@
 -- What was met, with one more.
-use Rattle.std.proofs.Common.{◌≡◌, ◌==◌, ◌&&◌, ◌+◌, ◌-◌, ◌≤◌, ℕ, Bool, true, false, List, [], ◌∷◌, ◌++◌, Option, Some, ap, ap₂, append-nil, append_assoc, arith, eq-eqb, eqb-true, filter, length, length-append, map, option_map, refl, subst, sym, ◌∙◌, cond}
+use Rattle.std.proofs.Common.{◌≡◌, ◌==◌, ◌&&◌, ◌+◌, ◌-◌, ℕ, Bool, true, false, List, [], ◌∷◌, ◌++◌, Option, Some, ap, ap₂, append-nil, append_assoc, eq-eqb, eqb-true, filter, length, length-append, map, option_map, refl, subst, sym, ◌∙◌, cond}
 use Rattle.std.specs.List.{All, slice_get}
 use Rattle.std.proofs.lemmas.List.{map-append}
 use Rattle.std.proofs.lemmas.List.Elements.{All-head, All-tail, filter-append}

@@ -12,7 +12,7 @@ use Rattle.page_client.specs.Shown.{Shown, is_off, want_of, wrong_gate}
 use Rattle.page_client.specs.declared.client.Client.{Client}
 use Rattle.page_client.specs.declared.fault.PeerFault.TheVariants.{GateWrong}
 use Rattle.page_client.specs.declared.outcome.Outcome.{Outcome}
-use Rattle.page_client.specs.declared.outcome.Outcome.TheVariants.{PeerWrong}
+use Rattle.page_client.specs.declared.outcome.Outcome.TheVariants.{LinkFault, PeerWrong}
 use Rattle.page_client.specs.declared.want.Want.{Want}
 use Rattle.page_client.specs.declared.want.Want.TheVariants as wants
 use Rattle.publisher_side.specs.Side.{IsLater, IsValidSide, Side, has_version}
@@ -26,12 +26,12 @@ use Rattle.convoy_answers.proofs.AloneLemmas.{waits_at_first}
 use Rattle.convoy_answers.proofs.NamesLemmas.{asked_of-append, lacked_is_asked, names_after-append, put_names, used_names, used_not_asked}
 
 -- nothing was given or asked for
-pub asks_nothing : (side : Side) (s : Shown) (kept : Kept) (own : List Want) → AsksByNames side s s kept kept own [] []
-asks_nothing side s kept own = record { capacity = refl; names = refl; failed = []; are = refl; not_kept = refl; how = inl (record { none = refl; before = λ fault. fault }) }
+pub asks_nothing : (side : Side) (s : Shown) (kept : Kept) (own : List Want) → AsksByNames side s s kept kept own [] [] []
+asks_nothing side s kept own = record { capacity = refl; names = refl; are = refl; not_kept = refl; how = inl (record { none = refl; before = λ fault. fault }) }
 
 -- a page was given that is kept
 pub asks_kept : (side : Side) (was is : Shown) (kept after : Kept) (own : List Want) (name : PageName) (page : Page) → page_named kept.pages name ≡ Some page →
-    after ≡ record kept { pages = with_used kept.pages name } → ¬ HasFault is → AsksByNames side was is kept after own (wants.Page page.name ∷ []) []
+    after ≡ record kept { pages = with_used kept.pages name } → ¬ HasFault is → AsksByNames side was is kept after own (wants.Page page.name ∷ []) [] []
 asks_kept side was is kept after own name page holds used no_fault =
     let same = named kept.pages name page holds in
     let not_asked : asked_for (names_of kept.pages) (wants.Page page.name) ≡ [] =
@@ -39,7 +39,6 @@ asks_kept side was is kept after own name page holds used no_fault =
     record {
       capacity = ap (λ (k : Kept). k.capacity) used;
       names = ap (λ (k : Kept). names_of k.pages) used ∙ used_names kept.capacity kept.pages name page holds ∙ ap (names_with kept.capacity (names_of kept.pages)) (sym same);
-      failed = [];
       are = ap (λ (l : List Want). l ++ []) (sym not_asked);
       not_kept = refl;
       how = inl (record { none = refl; before = λ fault. absurd (no_fault fault) });
@@ -47,11 +46,10 @@ asks_kept side was is kept after own name page holds used no_fault =
 
 -- the gate's reply or the stops document was given
 pub asks_document : (side : Side) (was is : Shown) (kept after : Kept) (own : List Want) (want : Want) → after ≡ kept → asked_for (names_of kept.pages) want ≡ want ∷ [] →
-    names_then kept.capacity (names_of kept.pages) want ≡ names_of kept.pages → ¬ HasFault is → AsksByNames side was is kept after own (want ∷ []) (want ∷ [])
+    names_then kept.capacity (names_of kept.pages) want ≡ names_of kept.pages → ¬ HasFault is → AsksByNames side was is kept after own (want ∷ []) [] (want ∷ [])
 asks_document side was is kept after own want same asked stays no_fault = record {
   capacity = ap (λ (k : Kept). k.capacity) same;
   names = ap (λ (k : Kept). names_of k.pages) same ∙ sym stays;
-  failed = [];
   are = ap (λ (l : List Want). l ++ []) (sym asked);
   not_kept = refl;
   how = inl (record { none = refl; before = λ fault. absurd (no_fault fault) });
@@ -59,11 +57,10 @@ asks_document side was is kept after own want same asked stays no_fault = record
 
 -- a page was given that was not kept
 pub asks_page : (side : Side) (was is : Shown) (kept after : Kept) (own : List Want) (page : Page) → page_named kept.pages page.name ≡ None → after ≡ record kept { pages = with_put kept page } →
-    ¬ HasFault is → AsksByNames side was is kept after own (wants.Page page.name ∷ []) (wants.Page page.name ∷ [])
+    ¬ HasFault is → AsksByNames side was is kept after own (wants.Page page.name ∷ []) [] (wants.Page page.name ∷ [])
 asks_page side was is kept after own page lacks put no_fault = record {
   capacity = ap (λ (k : Kept). k.capacity) put;
   names = ap (λ (k : Kept). names_of k.pages) put ∙ put_names kept page lacks;
-  failed = [];
   are = ap (λ (l : List Want). l ++ []) (sym (lacked_is_asked kept.pages page.name lacks));
   not_kept = refl;
   how = inl (record { none = refl; before = λ fault. absurd (no_fault fault) });
@@ -72,11 +69,10 @@ asks_page side was is kept after own page lacks put no_fault = record {
 -- the exchange failed
 pub asks_in_vain : (side : Side) (was is : Client) (kept after : Kept) (own : List Want) (want : Want) → IsValidSide side → FitsSide side was own → want_of (shown was).phase ≡ want →
     (want_of (shown was).phase ≡ wants.Finished → ⊥) → (shown was).outcome ≡ None → HasFault (shown is) → KeepsVersion (shown was) (shown is) → after ≡ kept →
-    asked_for (names_of kept.pages) want ≡ want ∷ [] → AsksByNames side (shown was) (shown is) kept after own [] (want ∷ [])
+    asked_for (names_of kept.pages) want ≡ want ∷ [] → AsksByNames side (shown was) (shown is) kept after own [] (want ∷ []) (want ∷ [])
 asks_in_vain side was is kept after own want valid fits wants_it waits none fault keeps same not_kept = record {
   capacity = ap (λ (k : Kept). k.capacity) same;
   names = ap (λ (k : Kept). names_of k.pages) same;
-  failed = want ∷ [];
   are = ap (λ (l : List Want). l ++ []) (sym not_kept);
   not_kept = ap (λ (k : Kept). asked_for (names_of k.pages) want ++ []) same ∙ ap (λ (l : List Want). l ++ []) not_kept;
   how = inr (record {
@@ -136,32 +132,32 @@ failed_later mid left was is all_given failed valid later has one = record {
 }
 
 -- one thing after the other
-module _ (mid left : Side) (was between is : Shown) (a b c : Kept) (own first second first_asked second_asked : List Want) (valid : IsValidSide left) (later : IsLater mid left)
+module _ (mid left : Side) (was between is : Shown) (a b c : Kept) (own first second first_failed second_failed first_asked second_asked : List Want) (valid : IsValidSide left) (later : IsLater mid left)
     (has : (version : ℕ) → between.version ≡ Some version → has_version mid version ≡ true) (stays : (ended : Outcome) → was.outcome ≡ Some ended → between.outcome ≡ Some ended)
-    (still : HasFault between → IsStill between is second second_asked) (one : AsksByNames mid was between a b own first first_asked)
-    (two : AsksByNames left between is b c (own ++ first) second second_asked) where
+    (still : HasFault between → IsStill between is second second_asked) (one : AsksByNames mid was between a b own first first_failed first_asked)
+    (two : AsksByNames left between is b c (own ++ first) second second_failed second_asked) where
   names_of_both : names_of c.pages ≡ names_after a.capacity (names_of a.pages) (first ++ second)
   names_of_both =
       two.names ∙ ap₂ (λ (capacity : ℕ) (names : List PageName). names_after capacity names second) one.capacity one.names
       ∙ sym (names_after-append a.capacity (names_of a.pages) first second)
 
   -- first no exchange failed
-  after_none : one.failed ≡ [] → first_asked ++ second_asked ≡ asked_of a.capacity (names_of a.pages) ((first ++ second) ++ two.failed)
+  after_none : first_failed ≡ [] → first_asked ++ second_asked ≡ asked_of a.capacity (names_of a.pages) ((first ++ second) ++ second_failed)
   after_none none =
       let front = asked_of a.capacity (names_of a.pages) first in
       let alone : first_asked ≡ asked_of a.capacity (names_of a.pages) first =
       one.are ∙ ap (λ (l : List Want). asked_of a.capacity (names_of a.pages) (first ++ l)) none ∙ ap (asked_of a.capacity (names_of a.pages)) (append-nil first) in
-      let behind : second_asked ≡ asked_of a.capacity (names_after a.capacity (names_of a.pages) first) (second ++ two.failed) =
-      two.are ∙ ap₂ (λ (capacity : ℕ) (names : List PageName). asked_of capacity names (second ++ two.failed)) one.capacity one.names in
+      let behind : second_asked ≡ asked_of a.capacity (names_after a.capacity (names_of a.pages) first) (second ++ second_failed) =
+      two.are ∙ ap₂ (λ (capacity : ℕ) (names : List PageName). asked_of capacity names (second ++ second_failed)) one.capacity one.names in
       ap₂ (λ (x y : List Want). x ++ y) alone behind
-      ∙ sym (asked_of-append a.capacity (names_of a.pages) first (second ++ two.failed))
-      ∙ ap (asked_of a.capacity (names_of a.pages)) (sym (append_assoc first second two.failed))
+      ∙ sym (asked_of-append a.capacity (names_of a.pages) first (second ++ second_failed))
+      ∙ ap (asked_of a.capacity (names_of a.pages)) (sym (append_assoc first second second_failed))
 
-  by_second : NoneFailed was between one.failed → NoneFailed between is two.failed ⊎ OneFailed left between is ((own ++ first) ++ second) two.failed →
-      NoneFailed was is two.failed ⊎ OneFailed left was is (own ++ (first ++ second)) two.failed
+  by_second : NoneFailed was between first_failed → NoneFailed between is second_failed ⊎ OneFailed left between is ((own ++ first) ++ second) second_failed →
+      NoneFailed was is second_failed ⊎ OneFailed left was is (own ++ (first ++ second)) second_failed
   by_second none (inl none_again) = inl (record { none = none_again.none; before = λ fault. none.before (none_again.before fault) })
   by_second none (inr failed) =
-      subst (λ (l : List Want). NoneFailed was is two.failed ⊎ OneFailed left was is l two.failed) (append_assoc own first second) (inr (record {
+      subst (λ (l : List Want). NoneFailed was is second_failed ⊎ OneFailed left was is l second_failed) (append_assoc own first second) (inr (record {
         waited = no_outcome_before was.outcome between.outcome stays failed.waited;
         by_fault = failed.by_fault;
         want = failed.want;
@@ -170,33 +166,41 @@ module _ (mid left : Side) (was between is : Shown) (a b c : Kept) (own first se
         next = failed.next;
       }))
 
+  -- who had its outcome failed no more
+  none_more : HasFault between → NoneFailed between is second_failed ⊎ OneFailed left between is ((own ++ first) ++ second) second_failed → second_failed ≡ []
+  none_more fault (inl none) = none.none
+  none_more fault (inr failed) = absurd (no_fault_waits between.outcome fault.low fault.high failed.waited fault.is) where
+    no_fault_waits : (outcome : Option Outcome) (low high : ℕ) → outcome ≡ None → outcome ≡ Some (LinkFault low high) → ⊥
+    no_fault_waits outcome low high none some = cc
+
   -- first the exchange failed, and then nothing happened
-  after_one : OneFailed mid was between (own ++ first) one.failed → IsStill between is second second_asked → AsksByNames left was is a c own (first ++ second) (first_asked ++ second_asked)
+  after_one : OneFailed mid was between (own ++ first) first_failed → IsStill between is second second_asked → AsksByNames left was is a c own (first ++ second) first_failed (first_asked ++ second_asked)
   after_one failed nothing =
       let no_more : first ++ second ≡ first = ap (λ (l : List Want). first ++ l) nothing.none_given ∙ append-nil first in
       let names : names_of c.pages ≡ names_of b.pages = two.names ∙ ap (λ (l : List Want). names_after b.capacity (names_of b.pages) l) nothing.none_given in
-      let then_failed : OneFailed left was between (own ++ first) one.failed = failed_later mid left was between (own ++ first) one.failed valid later has failed in
+      let then_failed : OneFailed left was between (own ++ first) first_failed = failed_later mid left was between (own ++ first) first_failed valid later has failed in
       record {
         capacity = two.capacity ∙ one.capacity;
         names = names_of_both;
-        failed = one.failed;
         are =
             ap (λ (l : List Want). first_asked ++ l) nothing.none_asked ∙ append-nil first_asked ∙ one.are
-            ∙ ap (λ (l : List Want). asked_of a.capacity (names_of a.pages) (l ++ one.failed)) (sym no_more);
-        not_kept = ap (λ (l : List PageName). asked_of a.capacity l one.failed) names ∙ one.not_kept;
+            ∙ ap (λ (l : List Want). asked_of a.capacity (names_of a.pages) (l ++ first_failed)) (sym no_more);
+        not_kept = ap (λ (l : List PageName). asked_of a.capacity l first_failed) names ∙ one.not_kept;
         how = inr
-            (subst (λ (l : List Want). OneFailed left was is (own ++ l) one.failed) (sym no_more) (subst (λ (s : Shown). OneFailed left was s (own ++ first) one.failed) (sym nothing.same) then_failed));
+            (subst (λ (l : List Want). OneFailed left was is (own ++ l) first_failed) (sym no_more) (subst (λ (s : Shown). OneFailed left was s (own ++ first) first_failed) (sym nothing.same) then_failed));
       }
 
-  pub asks_then : AsksByNames left was is a c own (first ++ second) (first_asked ++ second_asked)
+  pub asks_then : AsksByNames left was is a c own (first ++ second) (first_failed ++ second_failed) (first_asked ++ second_asked)
   asks_then = by_first one.how where
-    by_first : NoneFailed was between one.failed ⊎ OneFailed mid was between (own ++ first) one.failed → AsksByNames left was is a c own (first ++ second) (first_asked ++ second_asked)
-    by_first (inl none) = record {
-      capacity = two.capacity ∙ one.capacity;
-      names = names_of_both;
-      failed = two.failed;
-      are = after_none none.none;
-      not_kept = ap (λ (capacity : ℕ). asked_of capacity (names_of c.pages) two.failed) (sym one.capacity) ∙ two.not_kept;
-      how = by_second none two.how;
-    }
-    by_first (inr failed) = after_one failed (still failed.by_fault)
+    by_first : NoneFailed was between first_failed ⊎ OneFailed mid was between (own ++ first) first_failed → AsksByNames left was is a c own (first ++ second) (first_failed ++ second_failed) (first_asked ++ second_asked)
+    by_first (inl none) =
+        subst (λ (l : List Want). AsksByNames left was is a c own (first ++ second) l (first_asked ++ second_asked)) (sym (ap (λ (l : List Want). l ++ second_failed) none.none)) (record {
+          capacity = two.capacity ∙ one.capacity;
+          names = names_of_both;
+          are = after_none none.none;
+          not_kept = ap (λ (capacity : ℕ). asked_of capacity (names_of c.pages) second_failed) (sym one.capacity) ∙ two.not_kept;
+          how = by_second none two.how;
+        })
+    by_first (inr failed) =
+        let alone : first_failed ++ second_failed ≡ first_failed = ap (λ (l : List Want). first_failed ++ l) (none_more failed.by_fault two.how) ∙ append-nil first_failed in
+        subst (λ (l : List Want). AsksByNames left was is a c own (first ++ second) l (first_asked ++ second_asked)) (sym alone) (after_one failed (still failed.by_fault))

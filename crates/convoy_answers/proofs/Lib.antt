@@ -9,5 +9,6 @@ mod NoFaultLemmas
 pub mod OneClientLemmas
 pub mod PlaceLemmas
 mod RequestLemmas
+pub mod RoundLemmas
 pub mod RoundsLemmas
 pub mod TurnLemmas

@@ -35,22 +35,26 @@ use Rattle.convoy.specs.declared.turn.Turn.TheVariants.{Cached, Exchanged, Finis
 use Rattle.convoy_answers.specs.Leaves.{AsksByNames, Gave, HasFault, HasGone, LeavesHonest, RoseWithin, VersionAfter, VersionThen}
 use Rattle.convoy_answers.specs.Names.{asked_for, names_of}
 use Rattle.convoy_answers.specs.Requests.{TellsAsked, request_of}
+use Rattle.convoy_answers.specs.Rounds.{round_asked, round_at, round_with}
 use Rattle.convoy_answers.proofs.AskedLemmas.{asks_document, asks_in_vain, asks_kept, asks_nothing, asks_page, gate_was_right}
 use Rattle.convoy_answers.proofs.HonestLemmas.{is_get, leaves_alone}
 use Rattle.convoy_answers.proofs.NamesLemmas.{lacked_is_asked}
 use Rattle.convoy_answers.proofs.NoFaultLemmas.{gate_no_fault, page_no_fault, stops_no_fault}
 use Rattle.convoy_answers.proofs.RequestLemmas.{tells_nothing, tells_one}
+use Rattle.convoy_answers.proofs.RoundLemmas.{round_replied}
 
 -- what a turn leaves of a client, which was given this so far, and of the kept pages
 pub record MemberAgrees (base : BaseParts) (side : Side) (was is : Member) (own : List Want) (kept after_kept : Kept) (before after : LinkSeen) (turn : Turn) : Type 0 where
   pub left : Side
   pub honest : LeavesHonest base side left before after
   pub given : List Want
+  pub failed : List Want
   pub asked : List Want
   pub gone : HasGone base side left was is before after given asked
   pub gave : Gave turn was is given asked
   pub version : VersionThen left (shown was.client) given (shown is.client).version
-  pub by_names : AsksByNames left (shown was.client) (shown is.client) kept after_kept own given asked
+  pub by_names : AsksByNames left (shown was.client) (shown is.client) kept after_kept own given failed asked
+  pub round_is : round_with given failed asked ≡ round_at turn (shown was.client) (shown is.client)
   pub client : FitsSide left is.client (own ++ given)
   pub pages : All (IsOwnPage left) after_kept.pages
 
@@ -72,6 +76,7 @@ module _ (base : BaseParts) (side : Side) (was is : Member) (own : List Want) (k
         left = side;
         honest = leaves_alone base side link honest;
         given = [];
+        failed = [];
         asked = [];
         gone = record {
           moved = record {
@@ -86,6 +91,7 @@ module _ (base : BaseParts) (side : Side) (was is : Member) (own : List Want) (k
         gave = record { had = f.had; same = refl; none_given = refl; none_asked = refl };
         version = refl;
         by_names = asks_nothing side (shown was.client) kept own;
+        round_is = refl;
         client = subst (FitsSide side was.client) (sym (append-nil own)) fits;
         pages = pages;
       })
@@ -128,6 +134,7 @@ module _ (base : BaseParts) (side : Side) (was is : Member) (own : List Want) (k
         left = side;
         honest = leaves_alone base side link honest;
         given = wants.Page name ∷ [];
+        failed = [];
         asked = [];
         gone = given_one c.had_none side (wants.Page name) link link [] keeps.1.query keeps.1.version no_fault (c.same_count ∙ none_more was.exchanges) (tells_nothing link.told base (shown was.client).query);
         gave = record {
@@ -138,6 +145,7 @@ module _ (base : BaseParts) (side : Side) (was is : Member) (own : List Want) (k
         };
         version = keeps.1.version;
         by_names = asks_kept side (shown was.client) (shown is.client) kept after_kept own holds.name holds.page holds.holds holds.used no_fault;
+        round_is = ap (λ (w : Want). round_with (w ∷ []) [] []) (sym wants_it);
         client = keeps.0;
         pages = subst (λ (k : Kept). All (IsOwnPage side) k.pages) (sym holds.used) (All-with_used (IsOwnPage side) kept.pages holds.name pages);
       } where
@@ -194,11 +202,12 @@ module _ (base : BaseParts) (side : Side) (was is : Member) (own : List Want) (k
       FitsSide (exchanged (Some reply) ex).side is.client (own ++ want ∷ []) → (shown is.client).query ≡ (shown was.client).query →
       VersionAfter side (exchanged (Some reply) ex).side (shown was.client) (want ∷ []) (shown is.client).version →
       VersionThen (exchanged (Some reply) ex).side (shown was.client) (want ∷ []) (shown is.client).version → ¬ HasFault (shown is.client) →
-      AsksByNames (exchanged (Some reply) ex).side (shown was.client) (shown is.client) kept after_kept own (want ∷ []) (want ∷ []) → All (IsOwnPage (exchanged (Some reply) ex).side) after_kept.pages → MemberAgrees base side was is own kept after_kept before after Exchanged
+      AsksByNames (exchanged (Some reply) ex).side (shown was.client) (shown is.client) kept after_kept own (want ∷ []) [] (want ∷ []) → All (IsOwnPage (exchanged (Some reply) ex).side) after_kept.pages → MemberAgrees base side was is own kept after_kept before after Exchanged
   by_reply reply ex want wants_it not client query version version_then no_fault by_names own_pages = record {
     left = (exchanged (Some reply) ex).side;
     honest = leaves (Some reply) ex;
     given = want ∷ [];
+    failed = [];
     asked = want ∷ [];
     gone = given_one base side was is own kept after_kept none (exchanged (Some reply) ex).side want before after (want ∷ []) query version no_fault count
         (tells_one before.told after.told base (shown was.client).query want ex.request (Some reply) (request_is (Some reply) ex want wants_it) ex.told);
@@ -210,6 +219,7 @@ module _ (base : BaseParts) (side : Side) (was is : Member) (own : List Want) (k
     });
     version = version_then;
     by_names = by_names;
+    round_is = sym (round_replied (want_of (shown was.client).phase) (shown is.client).outcome (λ low high some. no_fault (record { low = low; high = high; is = some })) ∙ ap (λ (w : Want). round_with (w ∷ []) [] (w ∷ [])) wants_it);
     client = client;
     pages = own_pages;
   }
@@ -227,6 +237,7 @@ module _ (base : BaseParts) (side : Side) (was is : Member) (own : List Want) (k
         left = x.side;
         honest = leaves None ex;
         given = [];
+        failed = want ∷ [];
         asked = want ∷ [];
         gone = record {
           moved = record {
@@ -248,6 +259,7 @@ module _ (base : BaseParts) (side : Side) (was is : Member) (own : List Want) (k
         by_names =
             asks_in_vain x.side was.client is.client kept after_kept own want x.honest.stands.valid (fits_then None ex) wants_it waits none
             (record { low = before.faults; high = after.faults; is = outcome }) keeps.1 same not_kept;
+        round_is = sym (ap (round_asked (want_of (shown was.client).phase)) outcome ∙ ap (λ (w : Want). round_with [] (w ∷ []) (w ∷ [])) wants_it);
         client = subst (FitsSide x.side is.client) (sym (append-nil own)) keeps.0;
         pages = subst (λ (k : Kept). All (IsOwnPage x.side) k.pages) (sym same) (pages_then None ex);
       }

@@ -32,6 +32,7 @@ use Rattle.convoy_answers.specs.Leaves.{Gave, HasFault, RoseWithin, StillAgrees,
 use Rattle.convoy_answers.specs.Names.{names_after, names_of}
 use Rattle.convoy_answers.specs.OneClient.{AskedAll, AskedOneMore, IsAlone, IsNext, OneClientEndsRight, version_of}
 use Rattle.convoy_answers.specs.Requests.{TellsAsked}
+use Rattle.convoy_answers.specs.Rounds.{round_at}
 use Rattle.convoy_answers.proofs.AloneLemmas.{BeginsAtGate, is_next, no_fault_yet, page_not_given, version_is}
 use Rattle.convoy_answers.proofs.BeginLemmas.{added_agrees, none_agrees}
 use Rattle.convoy_answers.proofs.NamesLemmas.{were_wanted}
@@ -164,7 +165,7 @@ module _ {X : Type 0} (seen : X → LinkSeen) (side : Side) (query : Query) (sta
       never_cached side first.agrees.is t.is start.kept.capacity start.kept.pages mid.kept new.kept first.agrees.given honest.stands.valid stands.fits fresh.no_pages first.agrees.by_names.names
       (subst (λ (m : Member). IsCached m t.is mid.kept new.kept) same cached)
 
-  turned : TurnAgrees first.agrees.left mid new (set ([] ∷ []) (1 - 1) (first.agrees.own ++ first.agrees.given)) 1 (seen link) (seen after) turn
+  turned : TurnAgrees first.agrees.left mid new (set ([] ∷ []) (1 - 1) (first.agrees.own ++ first.agrees.given)) 1 (seen link) (seen after) turn (round_at turn (shown step.turned.was.client) (shown step.turned.is.client))
   turned =
       turn_agrees seen first.agrees.left mid new (set ([] ∷ []) (1 - 1) (first.agrees.own ++ first.agrees.given)) 1 link after turn
       (honest_still start.base mid.base first.agrees.left (seen link) first.agrees.base first.agrees.honest.honest) first.agrees.fits step

@@ -23,6 +23,7 @@ use Rattle.convoy_answers.specs.Agreement.{FitsConvoy}
 use Rattle.convoy_answers.specs.Leaves.{EndAgrees, HasCome, HasMoved, LeavesHonest, NoneFailed, OneFailed, RoundsAgree, StillAgrees}
 use Rattle.convoy_answers.specs.Names.{Round, asked_of, failures_in, names_after, names_behind, names_of}
 use Rattle.convoy_answers.specs.Requests.{TellsAsked, TellsRequests, request_of, requests_of}
+use Rattle.convoy_answers.specs.Rounds.{round_in, rounds_up_to}
 use Rattle.convoy_answers.proofs.AskedLemmas.{failed_later}
 use Rattle.convoy_answers.proofs.HonestLemmas.{leaves_alone, leaves_then, no_less}
 use Rattle.convoy_answers.proofs.NamedLemmas.{version_wider}
@@ -33,10 +34,11 @@ use Rattle.convoy_answers.proofs.TurnLemmas.{honest_still, one_at, rose_wider, t
 -- client k was turned until it had its outcome
 pub end_agrees :
     {X : Type 0} (seen : X → LinkSeen) (side : Side) (old new : ConvoyState) (so_far : List (List Want)) (k : ℕ) (before after : X) → IsHonestWith (seen before) old.base side →
-    FitsConvoy side old so_far → Ends seen k old new before after → EndAgrees side old new so_far k (seen before) (seen after)
+    FitsConvoy side old so_far → (ends : Ends seen k old new before after) →
+    EndAgrees side old new so_far k (seen before) (seen after) (round_in seen k ends.steps old new before after ends.turns)
 end_agrees seen side old new so_far k before after honest fits ends =
-    let agrees = turns_agree seen side old new so_far k before after ends.steps ends.member honest fits ends.is ends.turns in
-    record { agrees = agrees; ended = subst HasOutcome (one_at new.members (k - 1) ends.member agrees.is ends.is agrees.has) ends.ended }
+    let so = turns_agree seen side old new so_far k before after ends.steps ends.member honest fits ends.is ends.turns in
+    record { agrees = so.agrees; round_is = so.round_is; ended = subst HasOutcome (one_at new.members (k - 1) ends.member so.agrees.is ends.is so.agrees.has) ends.ended }
 
 -- what became of a client is seen from further away
 moved_wider :
@@ -85,20 +87,20 @@ rose_by side left was is a b given all_given failed not_fallen moved (inr one) =
       once a b low high from to rose = omega arith
 
 -- one client more
-module _ (side : Side) (old mid new : ConvoyState) (so_far : List (List Want)) (n : ℕ) (a b c : LinkSeen) (first : RoundsAgree side old mid so_far n a b)
+module _ (side : Side) (old mid new : ConvoyState) (so_far : List (List Want)) (n : ℕ) (a b c : LinkSeen) (rounds : List Round) (first : RoundsAgree side old mid so_far n a b rounds)
     (second : StillAgrees first.left mid new first.now (suc n) b c) (ended : HasOutcome second.is) where
   abbrev now : List (List Want)
   now = set first.now (suc n - 1) (second.own ++ second.given)
 
   -- its round
   abbrev round : Round
-  round = record { given = second.given; failed = second.by_names.failed; asked = second.asked }
+  round = record { given = second.given; failed = second.failed; asked = second.asked }
 
   leaves : LeavesHonest old.base first.left second.left b c
   leaves = subst (λ (base : BaseParts). LeavesHonest base first.left second.left b c) first.base second.honest
 
   -- the client whose round it is
-  comes : (was : Member) (place : ℕ) → place ≡ n → slice_get old.members place ≡ Some was → HasCome side second.left was new so_far now (first.rounds ++ round ∷ []) place a c
+  comes : (was : Member) (place : ℕ) → place ≡ n → slice_get old.members place ≡ Some was → HasCome side second.left was new so_far now (rounds ++ round ∷ []) place a c
   comes was place at had =
       let index : place ≡ suc n - 1 = at ∙ sym (minus n) in
       let untouched : slice_get mid.members place ≡ slice_get old.members place = first.others place (no_less_at n place at) in
@@ -112,7 +114,7 @@ module _ (side : Side) (old mid new : ConvoyState) (so_far : List (List Want)) (
         own = second.own;
         own_is = sym (first.same place (no_less_at n place at)) ∙ subst (λ (i : ℕ). slice_get first.now i ≡ Some second.own) (sym index) second.own_is;
         round = round;
-        round_is = subst (λ (i : ℕ). slice_get (first.rounds ++ round ∷ []) i ≡ Some (round)) (first.one_each ∙ sym at) (slice_get-last first.rounds round);
+        round_is = subst (λ (i : ℕ). slice_get (rounds ++ round ∷ []) i ≡ Some (round)) (first.one_each ∙ sym at) (slice_get-last rounds round);
         all_is =
             subst (λ (i : ℕ). slice_get now i ≡ Some (second.own ++ second.given)) (sym index)
             (slice_get-set_same first.now (suc n - 1) (second.own ++ second.given) within);
@@ -124,7 +126,7 @@ module _ (side : Side) (old mid new : ConvoyState) (so_far : List (List Want)) (
             first.honest.not_fallen (no_less c.faults)
             (subst (λ (m : Member). HasMoved first.left second.left (shown m.client) (shown second.is.client) b c second.given) same second.gone.moved);
         how =
-            subst (λ (m : Member). NoneFailed (shown m.client) (shown second.is.client) second.by_names.failed ⊎ OneFailed second.left (shown m.client) (shown second.is.client) (second.own ++ second.given) second.by_names.failed)
+            subst (λ (m : Member). NoneFailed (shown m.client) (shown second.is.client) second.failed ⊎ OneFailed second.left (shown m.client) (shown second.is.client) (second.own ++ second.given) second.failed)
             same second.by_names.how;
         client = second.client;
       } where
@@ -132,8 +134,8 @@ module _ (side : Side) (old mid new : ConvoyState) (so_far : List (List Want)) (
         no_less_at n place at = omega arith
 
   -- the others
-  came_before : (was : Member) (place : ℕ) → (place ≡ n → ⊥) → HasCome side first.left was mid so_far first.now first.rounds place a b →
-      HasCome side second.left was new so_far now (first.rounds ++ round ∷ []) place a c
+  came_before : (was : Member) (place : ℕ) → (place ≡ n → ⊥) → HasCome side first.left was mid so_far first.now rounds place a b →
+      HasCome side second.left was new so_far now (rounds ++ round ∷ []) place a c
   came_before was place not came = record {
     is = came.is;
     has = second.others place (not_last place n not) ∙ came.has;
@@ -141,7 +143,7 @@ module _ (side : Side) (old mid new : ConvoyState) (so_far : List (List Want)) (
     own = came.own;
     own_is = came.own_is;
     round = came.round;
-    round_is = slice_get-append first.rounds (round ∷ []) place came.round came.round_is;
+    round_is = slice_get-append rounds (round ∷ []) place came.round came.round_is;
     all_is = slice_get-set_other first.now (suc n - 1) (second.own ++ second.given) place (not_last place n not) ∙ came.all_is;
     idle = came.idle;
     gate_once = came.gate_once;
@@ -160,43 +162,42 @@ module _ (side : Side) (old mid new : ConvoyState) (so_far : List (List Want)) (
         (λ version at. has_own first.left came.is.client.version version at came.client.of_side) one)
 
   -- what was asked for the first clients, and then for this one
-  tells : TellsRequests a.told c.told old.base.authority (requests_of old.base old.members (first.rounds ++ round ∷ []))
+  tells : TellsRequests a.told c.told old.base.authority (requests_of old.base old.members (rounds ++ round ∷ []))
   tells =
       let at_n : slice_get mid.members n ≡ Some second.was = subst (λ (i : ℕ). slice_get mid.members i ≡ Some second.was) (minus n) second.had in
-      let was_there : slice_get old.members (length first.rounds) ≡ Some second.was =
+      let was_there : slice_get old.members (length rounds) ≡ Some second.was =
       subst (λ (i : ℕ). slice_get old.members i ≡ Some second.was) (sym first.one_each) (sym (first.others n (no_less n)) ∙ at_n) in
       let told : TellsAsked b.told c.told old.base (shown second.was.client).query second.asked =
       subst (λ (base : BaseParts). TellsAsked b.told c.told base (shown second.was.client).query second.asked) first.base second.gone.told in
-      subst (TellsRequests a.told c.told old.base.authority) (sym (requests_more old.base old.members first.rounds second.was round was_there))
-      (requests_then a.told b.told c.told old.base.authority (requests_of old.base old.members first.rounds) (map (request_of old.base (shown second.was.client).query) second.asked) first.told told)
+      subst (TellsRequests a.told c.told old.base.authority) (sym (requests_more old.base old.members rounds second.was round was_there))
+      (requests_then a.told b.told c.told old.base.authority (requests_of old.base old.members rounds) (map (request_of old.base (shown second.was.client).query) second.asked) first.told told)
 
   -- the names of the pages that are kept then
-  names_then : names_of new.kept.pages ≡ names_after old.kept.capacity (names_behind old.kept.capacity (names_of old.kept.pages) first.rounds) second.given
+  names_then : names_of new.kept.pages ≡ names_after old.kept.capacity (names_behind old.kept.capacity (names_of old.kept.pages) rounds) second.given
   names_then = second.by_names.names ∙ ap₂ (λ (capacity : ℕ) (names : List PageName). names_after capacity names second.given) first.capacity first.names
 
-  one_round_more : RoundsAgree side old new so_far (suc n) a c
+  one_round_more : RoundsAgree side old new so_far (suc n) a c (rounds ++ round ∷ [])
   one_round_more = record {
     left = second.left;
     honest = leaves_then old.base side first.left second.left a b c first.honest leaves;
     base = second.base ∙ first.base;
     now = now;
     fits = second.fits;
-    rounds = first.rounds ++ round ∷ [];
-    one_each = one_longer first.rounds round n first.one_each;
+    one_each = one_longer rounds round n first.one_each;
     by_names =
-        ask_by_names-more old.kept.capacity (names_of old.kept.pages) first.rounds round first.by_names
+        ask_by_names-more old.kept.capacity (names_of old.kept.pages) rounds round first.by_names
         (record {
-          asked = second.by_names.are ∙ ap₂ (λ (capacity : ℕ) (names : List PageName). asked_of capacity names (second.given ++ second.by_names.failed)) first.capacity first.names;
+          asked = second.by_names.are ∙ ap₂ (λ (capacity : ℕ) (names : List PageName). asked_of capacity names (second.given ++ second.failed)) first.capacity first.names;
           not_kept =
-              ap₂ (λ (capacity : ℕ) (names : List PageName). asked_of capacity names second.by_names.failed) (sym first.capacity) (sym names_then) ∙ second.by_names.not_kept;
+              ap₂ (λ (capacity : ℕ) (names : List PageName). asked_of capacity names second.failed) (sym first.capacity) (sym names_then) ∙ second.by_names.not_kept;
         });
     capacity = second.by_names.capacity ∙ first.capacity;
-    names = names_then ∙ sym (names_behind-more old.kept.capacity (names_of old.kept.pages) first.rounds round);
+    names = names_then ∙ sym (names_behind-more old.kept.capacity (names_of old.kept.pages) rounds round);
     told = tells;
     faults =
-        subst (λ (n : ℕ). RoseBy n a.faults c.faults) (sym (failures_more first.rounds round))
-        (RoseBy-then (failures_in first.rounds) (length second.by_names.failed) a.faults b.faults c.faults first.faults
-        (rose_by first.left second.left (shown second.was.client) (shown second.is.client) b c second.given (second.own ++ second.given) second.by_names.failed second.honest.not_fallen second.gone.moved second.by_names.how));
+        subst (λ (n : ℕ). RoseBy n a.faults c.faults) (sym (failures_more rounds round))
+        (RoseBy-then (failures_in rounds) (length second.failed) a.faults b.faults c.faults first.faults
+        (rose_by first.left second.left (shown second.was.client) (shown second.is.client) b c second.given (second.own ++ second.given) second.failed second.honest.not_fallen second.gone.moved second.by_names.how));
     came = λ place was lt had. elim (same_place place n) [
       | inl at ↦ comes was place at had
       | inr not ↦ came_before was place not (first.came place was (below place n lt not) had)
@@ -207,16 +208,16 @@ module _ (side : Side) (old mid new : ConvoyState) (so_far : List (List Want)) (
 
 pub rounds_agree :
     {X : Type 0} (seen : X → LinkSeen) (side : Side) (old new : ConvoyState) (so_far : List (List Want)) (n : ℕ) (before after : X) → IsHonestWith (seen before) old.base side →
-    FitsConvoy side old so_far → Rounds seen n old new before after → RoundsAgree side old new so_far n (seen before) (seen after)
+    FitsConvoy side old so_far → (rounds : Rounds seen n old new before after) →
+    RoundsAgree side old new so_far n (seen before) (seen after) (rounds_up_to seen n old new before after rounds)
 rounds_agree {X} seen side old new so_far zero before after honest fits rounds =
-    subst (λ (x : X). RoundsAgree side old new so_far zero (seen before) (seen x)) (sym rounds.1)
-    (subst (λ (convoy : ConvoyState). RoundsAgree side old convoy so_far zero (seen before) (seen before)) (sym rounds.0) (record {
+    subst (λ (x : X). RoundsAgree side old new so_far zero (seen before) (seen x) []) (sym rounds.1)
+    (subst (λ (convoy : ConvoyState). RoundsAgree side old convoy so_far zero (seen before) (seen before) []) (sym rounds.0) (record {
       left = side;
       honest = leaves_alone old.base side (seen before) honest;
       base = refl;
       now = so_far;
       fits = fits;
-      rounds = [];
       one_each = refl;
       by_names = tt;
       capacity = refl;
@@ -231,4 +232,6 @@ rounds_agree seen side old new so_far (suc n) before after honest fits (mid, lin
     let first = rounds_agree seen side old mid so_far n before link honest fits rounds in
     let still = honest_still old.base mid.base first.left (seen link) first.base first.honest.honest in
     let second = end_agrees seen first.left mid new first.now (suc n) link after still first.fits ends in
-    one_round_more side old mid new so_far n (seen before) (seen link) (seen after) first second.agrees second.ended
+    let all = rounds_up_to seen n old mid before link rounds in
+    subst (λ (r : Round). RoundsAgree side old new so_far (suc n) (seen before) (seen after) (all ++ r ∷ [])) second.round_is
+    (one_round_more side old mid new so_far n (seen before) (seen link) (seen after) all first second.agrees second.ended)

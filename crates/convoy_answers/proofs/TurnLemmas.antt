@@ -31,7 +31,9 @@ use Rattle.convoy.specs.declared.turn.Turn.{Turn}
 use Rattle.convoy.specs.declared.turn.Turn.TheVariants.{Cached, Exchanged, Finished}
 use Rattle.convoy_answers.specs.Agreement.{AllFit, FitsConvoy}
 use Rattle.convoy_answers.specs.Leaves.{AsksByNames, HasFault, Gave, HasGone, HasMoved, LeavesHonest, RoseWithin, StillAgrees, TurnAgrees}
+use Rattle.convoy_answers.specs.Names.{Round}
 use Rattle.convoy_answers.specs.Requests.{TellsAsked}
+use Rattle.convoy_answers.specs.Rounds.{round_at, round_in, round_with}
 use Rattle.convoy_answers.proofs.AloneLemmas.{no_fault_yet}
 use Rattle.convoy_answers.proofs.AskedLemmas.{IsStill, asks_nothing, asks_then}
 use Rattle.convoy_answers.proofs.HonestLemmas.{leaves_alone, leaves_then, no_less, no_less_then}
@@ -39,6 +41,7 @@ use Rattle.convoy_answers.proofs.MemberLemmas.{MemberAgrees, cached_agrees, exch
 use Rattle.convoy_answers.proofs.NamedLemmas.{NoGate, version_then}
 use Rattle.convoy_answers.proofs.PlaceLemmas.{StandsAt, all_later, at_place, set_itself, set_place, set_twice}
 use Rattle.convoy_answers.proofs.RequestLemmas.{tells_nothing, tells_then}
+use Rattle.convoy_answers.proofs.RoundLemmas.{round_of_both, same_round}
 
 -- what each kind of turn leaves of its client; without an exchange the link is as it was
 member_agrees :
@@ -110,7 +113,8 @@ some_of_both (want ∷ first) second some none = cc
 
 pub turn_agrees :
     {X : Type 0} (seen : X → LinkSeen) (side : Side) (old new : ConvoyState) (so_far : List (List Want)) (k : ℕ) (before after : X) (turn : Turn) → IsHonestWith (seen before) old.base side →
-    FitsConvoy side old so_far → IsStep seen k old new before after turn → TurnAgrees side old new so_far k (seen before) (seen after) turn
+    FitsConvoy side old so_far → (step : IsStep seen k old new before after turn) →
+    TurnAgrees side old new so_far k (seen before) (seen after) turn (round_at turn (shown step.turned.was.client) (shown step.turned.is.client))
 turn_agrees seen side old new so_far k before after turn honest fits step =
     let t = step.turned in
     let at : StandsAt side t.was so_far (k - 1) = at_place side old.members so_far (k - 1) t.was fits.clients t.had in
@@ -130,6 +134,7 @@ turn_agrees seen side old new so_far k before after turn honest fits step =
         own = at.own;
         own_is = at.is;
         given = m.given;
+        failed = m.failed;
         asked = m.asked;
         gate_once = gave_no_gate side t.was t.is [] at.own m.given m.asked turn at.fits m.gave;
         idle = idle_turn old.base t.was t.is old.kept new.kept (seen before) (seen after) turn m.given m.asked t.turned m.gave;
@@ -143,6 +148,7 @@ turn_agrees seen side old new so_far k before after turn honest fits step =
           pages = m.pages;
         };
       };
+      round_is = m.round_is;
       gave = m.gave;
       version = m.version;
     }
@@ -206,6 +212,7 @@ nothing_yet side convoy so_far k link member honest fits has =
       own = at.own;
       own_is = at.is;
       given = [];
+      failed = [];
       asked = [];
       idle = λ some. refl;
       gate_once = λ some more begins. no_gate_of_none [] more refl begins;
@@ -233,9 +240,9 @@ nothing_yet side convoy so_far k link member honest fits has =
 
 -- nothing was given or asked then
 pub nothing_yet_is : (side : Side) (convoy : ConvoyState) (so_far : List (List Want)) (k : ℕ) (link : LinkSeen) (member : Member) (honest : IsHonestWith link convoy.base side) (fits : FitsConvoy side convoy so_far)
-    (has : slice_get convoy.members (k - 1) ≡ Some member) → let s = nothing_yet side convoy so_far k link member honest fits has in (s.is ≡ member) × (s.given ≡ []) × (s.asked ≡ [])
+    (has : slice_get convoy.members (k - 1) ≡ Some member) → let s = nothing_yet side convoy so_far k link member honest fits has in (s.is ≡ member) × (s.given ≡ []) × (s.asked ≡ []) × (s.failed ≡ [])
 unfolding nothing_yet
-nothing_yet_is side convoy so_far k link member honest fits has = (refl, refl, refl)
+nothing_yet_is side convoy so_far k link member honest fits has = (refl, refl, refl, refl)
 
 -- nothing happens any more to a client that ended by a fault of the link
 still_after_fault : (side : Side) (was is : Member) (own given asked : List Want) (turn : Turn) → FitsSide side was.client own → Gave turn was is given asked → HasFault (shown was.client) →
@@ -258,8 +265,8 @@ none_of_both first second none none_again = ap₂ (λ (x y : List Want). x ++ y)
 
 -- one turn more
 pub one_turn_more :
-    (side : Side) (old mid new : ConvoyState) (so_far : List (List Want)) (k : ℕ) (a b c : LinkSeen) (turn : Turn) (first : StillAgrees side old mid so_far k a b) →
-    TurnAgrees first.left mid new (set so_far (k - 1) (first.own ++ first.given)) k b c turn → StillAgrees side old new so_far k a c
+    {round : Round} (side : Side) (old mid new : ConvoyState) (so_far : List (List Want)) (k : ℕ) (a b c : LinkSeen) (turn : Turn) (first : StillAgrees side old mid so_far k a b) →
+    TurnAgrees first.left mid new (set so_far (k - 1) (first.own ++ first.given)) k b c turn round → StillAgrees side old new so_far k a c
 one_turn_more side old mid new so_far k a b c turn first turned =
     let second = turned.agrees in
     let same : second.was ≡ first.is = one_at mid.members (k - 1) second.was first.is second.had first.has in
@@ -271,9 +278,9 @@ one_turn_more side old mid new so_far k a b c turn first turned =
     subst (λ (m : Member). HasGone old.base first.left second.left m second.is b c second.given second.asked) same
     (subst (λ (base : BaseParts). HasGone base first.left second.left second.was second.is b c second.given second.asked) first.base second.gone) in
     let gave : Gave turn first.is second.is second.given second.asked = subst (λ (m : Member). Gave turn m second.is second.given second.asked) same turned.gave in
-    let by_names : AsksByNames second.left (shown first.is.client) (shown second.is.client) mid.kept new.kept (first.own ++ first.given) second.given second.asked =
-    subst (λ (m : Member). AsksByNames second.left (shown m.client) (shown second.is.client) mid.kept new.kept (first.own ++ first.given) second.given second.asked) same
-    (subst (λ (l : List Want). AsksByNames second.left (shown second.was.client) (shown second.is.client) mid.kept new.kept l second.given second.asked) own second.by_names) in
+    let by_names : AsksByNames second.left (shown first.is.client) (shown second.is.client) mid.kept new.kept (first.own ++ first.given) second.given second.failed second.asked =
+    subst (λ (m : Member). AsksByNames second.left (shown m.client) (shown second.is.client) mid.kept new.kept (first.own ++ first.given) second.given second.failed second.asked) same
+    (subst (λ (l : List Want). AsksByNames second.left (shown second.was.client) (shown second.is.client) mid.kept new.kept l second.given second.failed second.asked) own second.by_names) in
     let whole : second.own ++ second.given ≡ first.own ++ (first.given ++ second.given) = ap (λ (l : List Want). l ++ second.given) own ∙ append_assoc first.own first.given second.given in
     record {
       left = second.left;
@@ -287,6 +294,7 @@ one_turn_more side old mid new so_far k a b c turn first turned =
       own = first.own;
       own_is = first.own_is;
       given = first.given ++ second.given;
+      failed = first.failed ++ second.failed;
       asked = first.asked ++ second.asked;
       idle = λ some.
           none_of_both first.given second.given (first.idle some)
@@ -296,7 +304,7 @@ one_turn_more side old mid new so_far k a b c turn first turned =
       gone = gone_then old.base side first.left second.left first.was first.is second.is a b c first.given second.given first.asked second.asked first.honest leaves first.gone goes
           (gave_no_gate first.left first.is second.is first.own first.given second.given second.asked turn first.client gave);
       by_names =
-          asks_then first.left second.left (shown first.was.client) (shown first.is.client) (shown second.is.client) old.kept mid.kept new.kept first.own first.given second.given first.asked second.asked
+          asks_then first.left second.left (shown first.was.client) (shown first.is.client) (shown second.is.client) old.kept mid.kept new.kept first.own first.given second.given first.failed second.failed first.asked second.asked
           second.honest.honest.stands.valid second.honest.later (λ version at. has_own first.left first.is.client.version version at first.client.of_side) first.gone.moved.outcome
           (still_after_fault first.left first.is second.is (first.own ++ first.given) second.given second.asked turn first.client gave) first.by_names by_names;
       client = subst (FitsSide second.left second.is.client) whole second.client;
@@ -305,28 +313,44 @@ one_turn_more side old mid new so_far k a b c turn first turned =
 
 -- what was given and asked then
 pub one_turn_more_is :
-    (side : Side) (old mid new : ConvoyState) (so_far : List (List Want)) (k : ℕ) (a b c : LinkSeen) (turn : Turn) (first : StillAgrees side old mid so_far k a b)
-    (turned : TurnAgrees first.left mid new (set so_far (k - 1) (first.own ++ first.given)) k b c turn) → let s = one_turn_more side old mid new so_far k a b c turn first turned in
-    (s.is ≡ turned.agrees.is) × (s.given ≡ first.given ++ turned.agrees.given) × (s.asked ≡ first.asked ++ turned.agrees.asked)
+    {round : Round} (side : Side) (old mid new : ConvoyState) (so_far : List (List Want)) (k : ℕ) (a b c : LinkSeen) (turn : Turn) (first : StillAgrees side old mid so_far k a b)
+    (turned : TurnAgrees first.left mid new (set so_far (k - 1) (first.own ++ first.given)) k b c turn round) → let s = one_turn_more side old mid new so_far k a b c turn first turned in
+    (s.is ≡ turned.agrees.is) × (s.given ≡ first.given ++ turned.agrees.given) × (s.asked ≡ first.asked ++ turned.agrees.asked) × (s.failed ≡ first.failed ++ turned.agrees.failed)
 unfolding one_turn_more
-one_turn_more_is side old mid new so_far k a b c turn first turned = (refl, refl, refl)
+one_turn_more_is side old mid new so_far k a b c turn first turned = (refl, refl, refl, refl)
 
 -- a link that is honest with a side under the base of a convoy is so under the same base later
 pub honest_still : (base other : BaseParts) (side : Side) (link : LinkSeen) → other ≡ base → IsHonestWith link base side → IsHonestWith link other side
 honest_still base other side link same honest = subst (λ (b : BaseParts). IsHonestWith link b side) (sym same) honest
 
+-- turns of client k alone keep a convoy in agreement, and are this round
+pub record AgreesSo (side : Side) (old new : ConvoyState) (so_far : List (List Want)) (k : ℕ) (before after : LinkSeen) (round : Round) : Type 0 where
+  pub agrees : StillAgrees side old new so_far k before after
+  pub round_is : round_with agrees.given agrees.failed agrees.asked ≡ round
+
 -- client k alone had turns
 pub turns_agree :
     {X : Type 0} (seen : X → LinkSeen) (side : Side) (old new : ConvoyState) (so_far : List (List Want)) (k : ℕ) (before after : X) (steps : List (Step X)) (member : Member) →
-    IsHonestWith (seen before) old.base side → FitsConvoy side old so_far → slice_get new.members (k - 1) ≡ Some member → TurnsOf seen k steps old new before after →
-    StillAgrees side old new so_far k (seen before) (seen after)
+    IsHonestWith (seen before) old.base side → FitsConvoy side old so_far → slice_get new.members (k - 1) ≡ Some member → (turns : TurnsOf seen k steps old new before after) →
+    AgreesSo side old new so_far k (seen before) (seen after) (round_in seen k steps old new before after turns)
 turns_agree {X} seen side old new so_far k before after [] member honest fits has turns =
-    subst (λ (x : X). StillAgrees side old new so_far k (seen before) (seen x)) (sym turns.1)
-    (subst (λ (c : ConvoyState). StillAgrees side old c so_far k (seen before) (seen before)) (sym turns.0)
-    (nothing_yet side old so_far k (seen before) member honest fits (subst (λ (c : ConvoyState). slice_get c.members (k - 1) ≡ Some member) turns.0 has)))
-turns_agree seen side old new so_far k before after (step ∷ earlier) member honest fits has turns =
-    let is_step = turns.0 in
-    let first = turns_agree seen side old step.convoy so_far k before step.link earlier is_step.turned.was honest fits is_step.turned.had turns.1 in
+    let there : slice_get old.members (k - 1) ≡ Some member = subst (λ (c : ConvoyState). slice_get c.members (k - 1) ≡ Some member) turns.0 has in
+    let nothing = nothing_yet side old so_far k (seen before) member honest fits there in
+    let is = nothing_yet_is side old so_far k (seen before) member honest fits there in
+    subst (λ (x : X). AgreesSo side old new so_far k (seen before) (seen x) (round_with [] [] [])) (sym turns.1)
+    (subst (λ (c : ConvoyState). AgreesSo side old c so_far k (seen before) (seen before) (round_with [] [] [])) (sym turns.0)
+    (record { agrees = nothing; round_is = same_round nothing.given nothing.failed nothing.asked (round_with [] [] []) is.1 is.3 is.2 }))
+turns_agree seen side old new so_far k before after (step ∷ earlier) member honest fits has (last, turns) =
+    let so = turns_agree seen side old step.convoy so_far k before step.link earlier last.turned.was honest fits last.turned.had turns in
+    let first = so.agrees in
     let still = honest_still old.base step.convoy.base first.left (seen step.link) first.base first.honest.honest in
-    one_turn_more side old step.convoy new so_far k (seen before) (seen step.link) (seen after) step.turn first
-    (turn_agrees seen first.left step.convoy new (set so_far (k - 1) (first.own ++ first.given)) k step.link after step.turn still first.fits is_step)
+    let turned = turn_agrees seen first.left step.convoy new (set so_far (k - 1) (first.own ++ first.given)) k step.link after step.turn still first.fits last in
+    let both = one_turn_more side old step.convoy new so_far k (seen before) (seen step.link) (seen after) step.turn first turned in
+    let is = one_turn_more_is side old step.convoy new so_far k (seen before) (seen step.link) (seen after) step.turn first turned in
+    record {
+      agrees = both;
+      round_is =
+          round_of_both both.given both.failed both.asked (round_with first.given first.failed first.asked)
+          (round_with turned.agrees.given turned.agrees.failed turned.agrees.asked) (round_in seen k earlier old step.convoy before step.link turns)
+          (round_at step.turn (shown last.turned.was.client) (shown last.turned.is.client)) is.1 is.3 is.2 so.round_is turned.round_is;
+    }

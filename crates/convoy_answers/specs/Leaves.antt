@@ -22,6 +22,7 @@ use Rattle.convoy.specs.declared.turn.Turn.TheVariants.{Cached, Exchanged, Finis
 use Rattle.convoy_answers.specs.Agreement.{FitsConvoy}
 use Rattle.convoy_answers.specs.Names.{AskByNames, Round, asked_of, failures_in, names_after, names_behind, names_of}
 use Rattle.convoy_answers.specs.Requests.{TellsAsked, TellsRequests, requests_of}
+use Rattle.convoy_answers.specs.Rounds.{round_with}
 
 -- A link that was honest with the side is so with a later one, and with the same one where it was quiet, which it is still then. A
 -- clear one is clear, and its count has not fallen.
@@ -132,10 +133,9 @@ pub record OneFailed (side : Side) (was is : Shown) (all_given failed : List Wan
 
 -- The names of the kept pages tell what was asked for: of what was given, and of what failed behind it, all but the pages that were kept
 -- then. What failed is not kept.
-pub record AsksByNames (side : Side) (was is : Shown) (before after : Kept) (own given asked : List Want) : Type 0 where
+pub record AsksByNames (side : Side) (was is : Shown) (before after : Kept) (own given failed asked : List Want) : Type 0 where
   pub capacity : after.capacity ≡ before.capacity
   pub names : names_of after.pages ≡ names_after before.capacity (names_of before.pages) given
-  pub failed : List Want
   pub are : asked ≡ asked_of before.capacity (names_of before.pages) (given ++ failed)
   pub not_kept : asked_of before.capacity (names_of after.pages) failed ≡ failed
   pub how : NoneFailed was is failed ⊎ OneFailed side was is (own ++ given) failed
@@ -155,23 +155,26 @@ pub record StillAgrees (side : Side) (old new : ConvoyState) (so_far : List (Lis
   pub own : List Want
   pub own_is : slice_get so_far (k - 1) ≡ Some own
   pub given : List Want
+  pub failed : List Want
   pub asked : List Want
   pub idle : HasOutcome was → given ≡ []
   pub gate_once : own ≢ [] → (more : List Want) → given ≢ wants.Gate ∷ more
   pub gone : HasGone old.base side left was is before after given asked
-  pub by_names : AsksByNames left (shown was.client) (shown is.client) old.kept new.kept own given asked
+  pub by_names : AsksByNames left (shown was.client) (shown is.client) old.kept new.kept own given failed asked
   pub client : FitsSide left is.client (own ++ given)
   pub fits : FitsConvoy left new (slice_set so_far (k - 1) (own ++ given))
 
--- the same of one turn, with what it gave, and the version at the side that it left
-pub record TurnAgrees (side : Side) (old new : ConvoyState) (so_far : List (List Want)) (k : ℕ) (before after : LinkSeen) (turn : Turn) : Type 0 where
+-- the same of one turn, which is this round, with what it gave, and the version at the side that it left
+pub record TurnAgrees (side : Side) (old new : ConvoyState) (so_far : List (List Want)) (k : ℕ) (before after : LinkSeen) (turn : Turn) (round : Round) : Type 0 where
   pub agrees : StillAgrees side old new so_far k before after
+  pub round_is : round_with agrees.given agrees.failed agrees.asked ≡ round
   pub gave : Gave turn agrees.was agrees.is agrees.given agrees.asked
   pub version : VersionThen agrees.left (shown agrees.was.client) agrees.given (shown agrees.is.client).version
 
--- the same where client k was turned until it had its outcome
-pub record EndAgrees (side : Side) (old new : ConvoyState) (so_far : List (List Want)) (k : ℕ) (before after : LinkSeen) : Type 0 where
+-- the same where client k was turned until it had its outcome, in this round
+pub record EndAgrees (side : Side) (old new : ConvoyState) (so_far : List (List Want)) (k : ℕ) (before after : LinkSeen) (round : Round) : Type 0 where
   pub agrees : StillAgrees side old new so_far k before after
+  pub round_is : round_with agrees.given agrees.failed agrees.asked ≡ round
   pub ended : HasOutcome agrees.is
 
 -- The client at a place came to its outcome in its round. It is given nothing there if it had one before, and the gate's reply only if it
@@ -192,16 +195,15 @@ pub record HasCome (side left : Side) (was : Member) (new : ConvoyState) (so_far
   pub moved : HasMoved side left (shown was.client) (shown is.client) before after round.given
   pub client : FitsSide left is.client (own ++ round.given)
 
--- What rounds of the first n clients leave of a convoy that agreed with the link's side: it agrees with the side that is left, each of these
+-- What these rounds of the first n clients leave of a convoy that agreed with the link's side: it agrees with the side that is left, each of these
 -- clients came to its outcome; what was asked for the one after the other, as the names of the kept pages tell, is told where the link
 -- tells exchanges; and the count of the link rose as often as an exchange failed.
-pub record RoundsAgree (side : Side) (old new : ConvoyState) (so_far : List (List Want)) (n : ℕ) (before after : LinkSeen) : Type 0 where
+pub record RoundsAgree (side : Side) (old new : ConvoyState) (so_far : List (List Want)) (n : ℕ) (before after : LinkSeen) (rounds : List Round) : Type 0 where
   pub left : Side
   pub honest : LeavesHonest old.base side left before after
   pub base : new.base ≡ old.base
   pub now : List (List Want)
   pub fits : FitsConvoy left new now
-  pub rounds : List Round
   pub one_each : length rounds ≡ n
   pub by_names : AskByNames old.kept.capacity (names_of old.kept.pages) rounds
   pub capacity : new.kept.capacity ≡ old.kept.capacity

@@ -4,4 +4,5 @@ pub mod Leaves
 pub mod Names
 pub mod OneClient
 pub mod Requests
+pub mod Rounds
 pub mod Worked

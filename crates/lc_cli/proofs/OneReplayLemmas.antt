@@ -143,6 +143,7 @@ module _ (loads_told : LoadsTold) (one_timetable : OneTimetable) (one_script : O
     now_told = after.told;
     faults = before.faults;
     now_faults = after.faults;
+    met = x.replayed.caused.met;
     right = x.replayed.right fair.link.was_clear (fair.short x.made x.all (course_told loads_told told replay old new x.made x.all tells x.inputs));
     one_each = x.replayed.one_each;
     no_fault = no_link_faults block.ends.items (course_fine loads_told told replay old new before after block x tells fair);

@@ -42,7 +42,7 @@ no_less n = omega arith
 
 -- nothing was done yet
 pub begins : (made : Timetable) (publishing : Publishing) (cache : ℕ) (start : LinkSeen) → NoneAgrees → IsQuietAt made publishing start →
-    IsShort (side_with made publishing (store_of made publishing.base_moment)) → IsPlayedTo made publishing cache [] (begun publishing.base cache) start start []
+    IsShort (side_with made publishing (store_of made publishing.base_moment)) → IsPlayedTo made publishing cache [] (begun publishing.base cache) start start [] []
 begins made publishing cache start none_agrees quiet short = record {
   store = store_of made publishing.base_moment;
   heard = (refl, refl);
@@ -55,7 +55,6 @@ begins made publishing cache start none_agrees quiet short = record {
   given = [];
   fits = none_agrees (side_with made publishing (store_of made publishing.base_moment)) publishing.base cache;
   clients = refl;
-  rounds = [];
   one_each = refl;
   by_names = tt;
   names = refl;
@@ -137,20 +136,20 @@ member_begins made publishing done query side store lines client old new adds no
 
 -- a client asks
 module _ (made : Timetable) (publishing : Publishing) (cache : ℕ) (done : List Event) (query : Query) (old new : ConvoyState) (start now : LinkSeen) (lines : List ℕ) (turns : TurnsAreOfClients done)
-    (adds : Adds old query new) (played : IsPlayedTo made publishing cache done old start now lines) where
+    (adds : Adds old query new) (rounds : List Round) (played : IsPlayedTo made publishing cache done old start now lines rounds) where
   heard : HasHeard (done ++ events.Ask query ∷ []) (store_of made publishing.base_moment) played.store lines
   heard = heard_behind_ask done query (store_of made publishing.base_moment) played.store lines played.heard
 
   -- the clients of the course
   so : (place : ℕ) (asked : Query) (member : Member) (own : List Want) → (slice_get (questions_in done) place ≡ Some asked) ⊎ ((place ≡ length (questions_in done)) × (asked ≡ query)) →
       slice_get (old.members ++ adds.member ∷ []) place ≡ Some member → slice_get (played.given ++ [] ∷ []) place ≡ Some own →
-      IsMemberSo made publishing (done ++ events.Ask query ∷ []) (side_with made publishing played.store) (place + 1) asked member own (rounds_of (place + 1) (turns_in done) played.rounds)
+      IsMemberSo made publishing (done ++ events.Ask query ∷ []) (side_with made publishing played.store) (place + 1) asked member own (rounds_of (place + 1) (turns_in done) rounds)
   so place asked member own (inl before) is_member is_own =
       let within : place < length (questions_in done) = slice_get_within (questions_in done) place asked before in
       let among : place < length old.members = subst (λ (n : ℕ). place < n) (sym played.clients) within in
       let among_given : place < length played.given =
       subst (λ (n : ℕ). place < n) (sym (one_given_each (side_with made publishing played.store) old.members played.given played.fits.clients)) among in
-      member_stays made publishing done query asked (side_with made publishing played.store) played.store lines (place + 1) member own played.rounds heard
+      member_stays made publishing done query asked (side_with made publishing played.store) played.store lines (place + 1) member own rounds heard
       (played.members place asked member own before (earlier old.members (adds.member ∷ []) place member among is_member) (earlier played.given ([] ∷ []) place own among_given is_own))
   so place asked member own (inr last) is_member is_own =
       let at : place ≡ length old.members = last.0 ∙ sym played.clients in
@@ -158,19 +157,19 @@ module _ (made : Timetable) (publishing : Publishing) (cache : ℕ) (done : List
       let none : has_turn (place + 1) (turns_in done) ≡ false =
       no_turn_yet (length (questions_in done)) (turns_in done) (place + 1) (turns_of_clients done turns) (is_above place (length (questions_in done)) last.0) in
       let one = member_begins made publishing done query (side_with made publishing played.store) played.store lines (place + 1) old new adds none heard in
-      subst (IsMemberSo made publishing (done ++ events.Ask query ∷ []) (side_with made publishing played.store) (place + 1) asked member own) (sym (rounds_of-none (place + 1) (turns_in done) played.rounds none))
+      subst (IsMemberSo made publishing (done ++ events.Ask query ∷ []) (side_with made publishing played.store) (place + 1) asked member own) (sym (rounds_of-none (place + 1) (turns_in done) rounds none))
       (subst (λ (own : List Want). IsMemberSo made publishing (done ++ events.Ask query ∷ []) (side_with made publishing played.store) (place + 1) asked member own []) (sym (last_is played.given [] own place at_given is_own))
       (subst (λ (m : Member). IsMemberSo made publishing (done ++ events.Ask query ∷ []) (side_with made publishing played.store) (place + 1) asked m [] []) (sym (last_is old.members adds.member member place at is_member))
       (subst (λ (q : Query). IsMemberSo made publishing (done ++ events.Ask query ∷ []) (side_with made publishing played.store) (place + 1) q adds.member [] []) (sym last.1) one)))
 
-  requests_stay : requests_in publishing.base (questions_in (done ++ events.Ask query ∷ [])) (turns_in (done ++ events.Ask query ∷ [])) played.rounds ≡ requests_in publishing.base (questions_in done) (turns_in done) played.rounds
+  requests_stay : requests_in publishing.base (questions_in (done ++ events.Ask query ∷ [])) (turns_in (done ++ events.Ask query ∷ [])) rounds ≡ requests_in publishing.base (questions_in done) (turns_in done) rounds
   requests_stay =
-      ap (λ (questions : List Query). requests_in publishing.base questions (turns_in (done ++ events.Ask query ∷ [])) played.rounds) (questions_in-append done (events.Ask query ∷ []))
-      ∙ ap (λ (order : List ℕ). requests_in publishing.base (questions_in done ++ query ∷ []) order played.rounds) (turns_behind_ask done query)
-      ∙ requests_of_more publishing.base (questions_in done) (query ∷ []) (turns_in done) played.rounds (turns_of_clients done turns)
+      ap (λ (questions : List Query). requests_in publishing.base questions (turns_in (done ++ events.Ask query ∷ [])) rounds) (questions_in-append done (events.Ask query ∷ []))
+      ∙ ap (λ (order : List ℕ). requests_in publishing.base (questions_in done ++ query ∷ []) order rounds) (turns_behind_ask done query)
+      ∙ requests_of_more publishing.base (questions_in done) (query ∷ []) (turns_in done) rounds (turns_of_clients done turns)
 
   with_one_more : FitsConvoy (side_with made publishing played.store) (record old { members = old.members ++ adds.member ∷ [] }) (played.given ++ [] ∷ []) →
-      IsPlayedTo made publishing cache (done ++ events.Ask query ∷ []) (record old { members = old.members ++ adds.member ∷ [] }) start now lines
+      IsPlayedTo made publishing cache (done ++ events.Ask query ∷ []) (record old { members = old.members ++ adds.member ∷ [] }) start now lines rounds
   with_one_more fits = record {
     store = played.store;
     heard = heard;
@@ -182,21 +181,20 @@ module _ (made : Timetable) (publishing : Publishing) (cache : ℕ) (done : List
     clients =
         one_longer old.members (questions_in done) adds.member query played.clients
         ∙ sym (ap length (questions_in-append done (events.Ask query ∷ [])));
-    rounds = played.rounds;
     one_each = played.one_each ∙ sym (ap length (turns_behind_ask done query));
     by_names = played.by_names;
     names = played.names;
     tells = subst (TellsRequests start.told now.told publishing.base.authority) (sym requests_stay) played.tells;
     rose = played.rose;
     members = λ place asked member own is_asked is_member is_own.
-        subst (λ (order : List ℕ). IsMemberSo made publishing (done ++ events.Ask query ∷ []) (side_with made publishing played.store) (place + 1) asked member own (rounds_of (place + 1) order played.rounds))
+        subst (λ (order : List ℕ). IsMemberSo made publishing (done ++ events.Ask query ∷ []) (side_with made publishing played.store) (place + 1) asked member own (rounds_of (place + 1) order rounds))
         (sym (turns_behind_ask done query))
         (so place asked member own
         (push_cases (questions_in done) query place asked (subst (λ (l : List Query). slice_get l place ≡ Some asked) (questions_in-append done (events.Ask query ∷ [])) is_asked)) is_member is_own);
   }
 
-  pub asks : AddedAgrees → IsPlayedTo made publishing cache (done ++ events.Ask query ∷ []) new start now lines
+  pub asks : AddedAgrees → IsPlayedTo made publishing cache (done ++ events.Ask query ∷ []) new start now lines rounds
   asks added =
-      subst (λ (convoy : ConvoyState). IsPlayedTo made publishing cache (done ++ events.Ask query ∷ []) convoy start now lines) (sym adds.is)
+      subst (λ (convoy : ConvoyState). IsPlayedTo made publishing cache (done ++ events.Ask query ∷ []) convoy start now lines rounds) (sym adds.is)
       (with_one_more (subst (λ (convoy : ConvoyState). FitsConvoy (side_with made publishing played.store) convoy (played.given ++ [] ∷ [])) adds.is
       (added (side_with made publishing played.store) old new played.given query played.fits adds)))

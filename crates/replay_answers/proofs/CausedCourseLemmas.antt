@@ -1,5 +1,5 @@
 -- The clients of a course over any link: what they met in its turns, and behind them.
-use Rattle.std.proofs.Common.{◌≡◌, ◌≢◌, ◌∙◌, ◌⊎◌, ◌-◌, ◌<◌, ◌≤◌, ℕ, zero, suc, inl, inr, List, [], ◌∷◌, ◌++◌, Some, ap, append-nil, append_assoc, arith, length, subst, sym}
+use Rattle.std.proofs.Common.{◌≡◌, ◌≢◌, ◌∙◌, ◌⊎◌, ◌-◌, ◌<◌, ◌≤◌, ℕ, zero, suc, inl, inr, List, [], ◌∷◌, ◌++◌, Some, ap, ap₂, append-nil, append_assoc, arith, length, refl, subst, sym}
 use Rattle.std.specs.List.{All, slice_get}
 use Rattle.std.proofs.lemmas.List.Elements.{All-append, All-cons, All-head, All-nil, All-tail, All-weaker}
 use Rattle.std.proofs.lemmas.Option.{slice_get_within}
@@ -10,16 +10,23 @@ use Rattle.convoy.specs.Finish.{HasOutcome, IsStep, Rounds, Step, TurnsOf}
 use Rattle.convoy.specs.State.{Adds, ConvoyState}
 use Rattle.convoy.specs.declared.member.Member.{Member}
 use Rattle.convoy.specs.declared.turn.Turn.{Turn}
+use Rattle.convoy_answers.specs.Names.{Round}
+use Rattle.convoy_answers.specs.Rounds.{round_at, round_in, round_then, rounds_up_to}
 use Rattle.csa_scan.proofs.ListPlacesLemmas.{same_place, slice_get-append, slice_get-set_other, slice_get-set_same}
 use Rattle.lc_io.specs.declared.file.File.{File}
 use Rattle.lc_model.specs.declared.query.Query.{Query}
 use Rattle.lc_world.specs.Link.{LinkSeen}
 use Rattle.page_client.specs.Client.{shown}
+use Rattle.page_client.specs.declared.want.Want.{Want}
 use Rattle.replay_course.specs.Caused.{AreByNumber, AreMetInTurns, NoneIsOf}
 use Rattle.replay_course.specs.Events.{questions_in, turns_in}
+use Rattle.replay_course.specs.History.{AreMetIn, IsMetIn}
 use Rattle.replay_course.specs.Played.{IsGiven, Plays}
+use Rattle.replay_course.specs.Turns.{counted}
 use Rattle.replay_course.specs.declared.event.Event.{Event}
 use Rattle.replay_course.specs.declared.event.Event.TheVariants as events
+use Rattle.replay_answers.specs.Rounds.{rounds_along}
+use Rattle.replay_answers.proofs.HistoryLemmas.{met_in-append, met_in_turn, met_nothing, met_then, turn_over}
 
 -- the message leaves it so
 given_grows : (before after : LinkSeen) (file : File) (line : List ℕ) → IsGiven before after file line → HasGrown before after
@@ -71,7 +78,7 @@ one_member members place a b is_a is_b = (let both : Some a ≡ Some b = sym is_
 
 -- client k had its turn
 module _ {X : Type 0} (seen : X → LinkSeen) (base : BaseParts) (questions : List Query) (first : LinkSeen) (k : ℕ) (from_one : 1 ≤ k) (old new : ConvoyState) (link after : X) (turn : Turn) (all : List Met)
-    (step : IsStep seen k old new link after turn) (m : Meets base questions first (seen after) new k step.turned.was step.turned.is all) where
+    (step : IsStep seen k old new link after turn) (m : Meets base questions first (seen after) new k step.turned.was step.turned.is all turn) where
   -- what it has become stands at its place
   it_is : slice_get new.members (k - 1) ≡ Some step.turned.is
   it_is =
@@ -119,12 +126,13 @@ module _ {X : Type 0} (seen : X → LinkSeen) (base : BaseParts) (questions : Li
 abbrev pub NoneIsOfEnded : ConvoyState → List Met → Type 0
 NoneIsOfEnded convoy tail = (place : ℕ) (member : Member) → slice_get convoy.members place ≡ Some member → HasOutcome member → NoneIsOf (suc place) tail
 
--- what clients met in turns, before whatever they meet behind them
-pub record Played (base : BaseParts) (questions : List Query) (first now : LinkSeen) (turns : List ℕ) (old new : ConvoyState) (all : List Met) : Type 0 where
+-- what clients met in turns, which are these rounds, before whatever they meet behind them
+pub record Played (base : BaseParts) (questions : List Query) (first now : LinkSeen) (turns : List ℕ) (rounds : List Round) (old new : ConvoyState) (all : List Met) : Type 0 where
   pub more : List Met
   pub so : AreSo base questions first now new (all ++ more)
   goes : Goes old new more
   pub in_turns : (tail : List Met) → AreByNumber tail → NoneIsOfEnded new tail → AreMetInTurns turns (more ++ tail)
+  pub met_in : AreMetIn turns rounds more
 
 -- the turns are of clients
 abbrev pub AreFromOne : List ℕ → Type 0
@@ -138,8 +146,8 @@ module _ {X : Type 0} (seen : X → LinkSeen) (base : BaseParts) (first : LinkSe
       (subst (λ (c : ConvoyState). AreSo base questions first (seen link) c all) (sym same) so)
 
   -- a turn, and then the rest
-  module _ (questions now_questions : List Query) (k : ℕ) (from_one : 1 ≤ k) (turns : List ℕ) (old between new : ConvoyState) (link behind after : X) (turn : Turn) (all : List Met) (step : IsStep seen k old between link behind turn)
-      (m : Meets base questions first (seen behind) between k step.turned.was step.turned.is all) (rest : Played base now_questions first (seen after) turns between new (all ++ m.more)) where
+  module _ (questions now_questions : List Query) (k : ℕ) (from_one : 1 ≤ k) (turns : List ℕ) (rounds : List Round) (old between new : ConvoyState) (link behind after : X) (turn : Turn) (all : List Met) (step : IsStep seen k old between link behind turn)
+      (m : Meets base questions first (seen behind) between k step.turned.was step.turned.is all turn) (rest : Played base now_questions first (seen after) turns rounds between new (all ++ m.more)) where
     abbrev all_met : List Met
     all_met = m.more ++ rest.more
 
@@ -155,17 +163,18 @@ module _ {X : Type 0} (seen : X → LinkSeen) (base : BaseParts) (first : LinkSe
         let same : all_met ++ tail ≡ rest.more ++ tail = ap (λ (l : List Met). (l ++ rest.more) ++ tail) idle.none in
         inr (subst (NoneIsOf k) (sym same) (none_of_both k rest.more tail none_more none_behind), subst (AreMetInTurns turns) (sym same) (rest.in_turns tail by_number none))
 
-    pub turn_played : Played base now_questions first (seen after) (k ∷ turns) old new all
+    pub turn_played : Played base now_questions first (seen after) (k ∷ turns) (round_at turn (shown step.turned.was.client) (shown step.turned.is.client) ∷ rounds) old new all
     turn_played = record {
       more = all_met;
       so = subst (AreSo base now_questions first (seen after) new) (append_assoc all m.more rest.more) rest.so;
       goes = goes_then old between new m.more rest.more (goes_turned seen base questions first k from_one old between link behind turn all step m) rest.goes;
       in_turns = λ tail by_number none. in_turn tail by_number none m.how;
+      met_in = (m.more, rest.more, refl, met_in_turn turn k step.turned.was step.turned.is m.more m.met, rest.met_in);
     }
 
   -- all happened that is left of a course
   pub are_played : (rest : List Event) (questions : List Query) (old new : ConvoyState) (link after : X) (lines : List ℕ) (all : List Met) → AreFromOne (turns_in rest) → AreSo base questions first (seen link) old all →
-      Plays seen rest old new link after lines → Played base (questions ++ questions_in rest) first (seen after) (turns_in rest) old new all
+      (plays : Plays seen rest old new link after lines) → Played base (questions ++ questions_in rest) first (seen after) (turns_in rest) (rounds_along seen rest old new link after lines plays) old new all
   are_played [] questions old new link after lines all from_one so (same, same_link, none) =
       record {
         more = [];
@@ -173,6 +182,7 @@ module _ {X : Type 0} (seen : X → LinkSeen) (base : BaseParts) (first : LinkSe
             (subst (λ (l : List Query). AreSo base l first (seen after) new all) (sym (append-nil questions)) (are_same questions old new link after all so same same_link));
         goes = subst (λ (c : ConvoyState). Goes old c []) (sym same) (goes_not old);
         in_turns = λ tail by_number none. by_number;
+        met_in = refl;
       }
   are_played (events.Ask query ∷ more) questions old new link after lines all from_one so (between, adds, plays) =
       let rest = are_played more (questions ++ query ∷ []) between new link after lines all from_one (are_asked base questions first (seen link) old between query all so adds) plays in
@@ -181,6 +191,7 @@ module _ {X : Type 0} (seen : X → LinkSeen) (base : BaseParts) (first : LinkSe
         so = subst (λ (l : List Query). AreSo base l first (seen after) new (all ++ rest.more)) (append_assoc questions (query ∷ []) (questions_in more)) rest.so;
         goes = goes_then old between new [] rest.more (goes_asked old between query adds) rest.goes;
         in_turns = rest.in_turns;
+        met_in = rest.met_in;
       }
   are_played (events.Message message ∷ more) questions old new link after lines all from_one so (behind, line, rest, given, plays, is) =
       are_played more questions old new behind after rest all from_one
@@ -188,48 +199,75 @@ module _ {X : Type 0} (seen : X → LinkSeen) (base : BaseParts) (first : LinkSe
   are_played (events.Turn client ∷ more) questions old new link after lines all from_one so (between, behind, turn, step, plays) =
       let own : 1 ≤ client = All-head (λ (c : ℕ). 1 ≤ c) client (turns_in more) from_one in
       let m = turn_meets seen base questions first client own old between link behind all so turn step in
-      turn_played questions (questions ++ questions_in more) client own (turns_in more) old between new link behind after turn all step m
+      turn_played questions (questions ++ questions_in more) client own (turns_in more) (rounds_along seen more between new behind after lines plays) old between new link behind after turn all step m
       (are_played more questions between new behind after lines (all ++ m.more) (All-tail (λ (c : ℕ). 1 ≤ c) client (turns_in more) from_one) m.so plays)
 
-  -- client k had turns
-  record HadTurns (questions : List Query) (k : ℕ) (old new : ConvoyState) (now : LinkSeen) (all : List Met) : Type 0 where
+  -- client k had turns, which are this round, and has ended where an exchange failed in it
+  record HadTurns (questions : List Query) (k : ℕ) (round : Round) (old new : ConvoyState) (now : LinkSeen) (all : List Met) : Type 0 where
     more : List Met
     so : AreSo base questions first now new (all ++ more)
     goes : Goes old new more
-    own : All (λ (met : Met). met.client ≡ k) more
+    met_in : IsMetIn k round more
+    over : (member : Member) → slice_get new.members (k - 1) ≡ Some member → (round.failed ≡ []) ⊎ HasOutcome member
 
-  all_own : (k : ℕ) (was is : Member) (more : List Met) → MeetsOne k was more ⊎ MeetsNone was is more → All (λ (met : Met). met.client ≡ k) more
-  all_own k was is more (inl one) =
-      let Own : Met → Type 0 = λ met. met.client ≡ k in
-      subst (All Own) (sym one.is) (All-cons Own one.one [] one.client (All-nil Own))
-  all_own k was is more (inr none) = let Own : Met → Type 0 = λ met. met.client ≡ k in subst (All Own) (sym none.none) (All-nil Own)
+  -- a turn more, behind others
+  module _ (questions : List Query) (k : ℕ) (from_one : 1 ≤ k) (round : Round) (start old new : ConvoyState) (link after : X) (turn : Turn) (all : List Met)
+      (before : HadTurns questions k round start old (seen link) all) (step : IsStep seen k old new link after turn)
+      (m : Meets base questions first (seen after) new k step.turned.was step.turned.is (all ++ before.more) turn) where
+    abbrev next : Round
+    next = round_at turn (shown step.turned.was.client) (shown step.turned.is.client)
 
-  had_turns : (questions : List Query) (k : ℕ) → 1 ≤ k → (steps : List (Step X)) (old new : ConvoyState) (link after : X) (all : List Met) → AreSo base questions first (seen link) old all → TurnsOf seen k steps old new link after →
-      HadTurns questions k old new (seen after) all
+    -- who had ended has ended, and met nothing
+    not_both : HasOutcome step.turned.was → MeetsOne k step.turned.was m.more ⊎ MeetsNone step.turned.was step.turned.is m.more → MeetsNone step.turned.was step.turned.is m.more
+    not_both had (inl one) = absurd (not_yet (shown step.turned.was.client).outcome one.waited had)
+    not_both had (inr none) = none
+
+    alone : (round.failed ≡ []) ⊎ HasOutcome step.turned.was → (round.failed ≡ []) ⊎ (m.more ≡ [])
+    alone (inl none) = inl none
+    alone (inr had) = inr (not_both had m.how).none
+
+    over_then : (round.failed ≡ []) ⊎ HasOutcome step.turned.was → (next.failed ≡ []) ⊎ HasOutcome step.turned.is → (round.failed ++ next.failed ≡ []) ⊎ HasOutcome step.turned.is
+    over_then (inl none) (inl none_again) = inl (ap₂ (λ (x y : List Want). x ++ y) none none_again)
+    over_then (inl none) (inr has) = inr has
+    over_then (inr had) how = inr (not_both had m.how).has
+
+    had_turn_more : HadTurns questions k (round_then round next) start new (seen after) all
+    had_turn_more =
+        let so_far = before.over step.turned.was step.turned.had in
+        record {
+          more = before.more ++ m.more;
+          so = subst (AreSo base questions first (seen after) new) (append_assoc all before.more m.more) m.so;
+          goes = goes_then start old new before.more m.more before.goes (goes_turned seen base questions first k from_one old new link after turn (all ++ before.more) step m);
+          met_in = met_then k round next before.more m.more before.met_in (met_in_turn turn k step.turned.was step.turned.is m.more m.met) (alone so_far);
+          over = λ member is.
+              subst (λ (one : Member). (round.failed ++ next.failed ≡ []) ⊎ HasOutcome one)
+              (one_member new.members (k - 1) step.turned.is member (it_is seen base questions first k from_one old new link after turn (all ++ before.more) step m) is)
+              (over_then so_far (turn_over turn k step.turned.was step.turned.is m.more m.met));
+        }
+
+  had_turns : (questions : List Query) (k : ℕ) → 1 ≤ k → (steps : List (Step X)) (old new : ConvoyState) (link after : X) (all : List Met) → AreSo base questions first (seen link) old all →
+      (turns : TurnsOf seen k steps old new link after) → HadTurns questions k (round_in seen k steps old new link after turns) old new (seen after) all
   had_turns questions k from_one [] old new link after all so (same, same_link) =
       record {
         more = [];
         so = subst (AreSo base questions first (seen after) new) (sym (append-nil all)) (are_same questions old new link after all so same same_link);
         goes = subst (λ (c : ConvoyState). Goes old c []) (sym same) (goes_not old);
-        own = All-nil (λ (met : Met). met.client ≡ k);
+        met_in = met_nothing k;
+        over = λ member is. inl refl;
       }
   had_turns questions k from_one (step ∷ earlier) old new link after all so (last, turns) =
       let before = had_turns questions k from_one earlier old step.convoy link step.link all so turns in
-      let m = turn_meets seen base questions first k from_one step.convoy new step.link after (all ++ before.more) before.so step.turn last in
-      record {
-        more = before.more ++ m.more;
-        so = subst (AreSo base questions first (seen after) new) (append_assoc all before.more m.more) m.so;
-        goes = goes_then old step.convoy new before.more m.more before.goes (goes_turned seen base questions first k from_one step.convoy new step.link after step.turn (all ++ before.more) last m);
-        own = All-append (λ (met : Met). met.client ≡ k) before.more m.more before.own (all_own k last.turned.was last.turned.is m.more m.how);
-      }
+      had_turn_more questions k from_one (round_in seen k earlier old step.convoy link step.link turns) old step.convoy new step.link after step.turn all before last
+      (turn_meets seen base questions first k from_one step.convoy new step.link after (all ++ before.more) before.so step.turn last)
 
   -- one client after the other, up to this one
-  pub record HadRounds (questions : List Query) (n : ℕ) (old new : ConvoyState) (now : LinkSeen) (all : List Met) : Type 0 where
+  pub record HadRounds (questions : List Query) (n : ℕ) (rounds : List Round) (old new : ConvoyState) (now : LinkSeen) (all : List Met) : Type 0 where
     pub more : List Met
     pub so : AreSo base questions first now new (all ++ more)
     pub goes : Goes old new more
     up_to : All (λ (met : Met). met.client ≤ n) more
     pub by_number : AreByNumber more
+    pub met_in : AreMetIn (counted n) rounds more
 
   own_by_number : (k : ℕ) (own : List Met) → All (λ (met : Met). met.client ≡ k) own → AreByNumber own
   own_by_number k [] are = tt
@@ -247,8 +285,8 @@ module _ {X : Type 0} (seen : X → LinkSeen) (base : BaseParts) (first : LinkSe
         by_number_then n more own by_number (All-tail (λ (m : Met). m.client ≤ n) met more up_to) are,
       )
 
-  pub had_rounds : (questions : List Query) (n : ℕ) (old new : ConvoyState) (link after : X) (all : List Met) → AreSo base questions first (seen link) old all → Rounds seen n old new link after →
-      HadRounds questions n old new (seen after) all
+  pub had_rounds : (questions : List Query) (n : ℕ) (old new : ConvoyState) (link after : X) (all : List Met) → AreSo base questions first (seen link) old all → (rounds : Rounds seen n old new link after) →
+      HadRounds questions n (rounds_up_to seen n old new link after rounds) old new (seen after) all
   had_rounds questions zero old new link after all so (same, same_link) =
       record {
         more = [];
@@ -256,6 +294,7 @@ module _ {X : Type 0} (seen : X → LinkSeen) (base : BaseParts) (first : LinkSe
         goes = subst (λ (c : ConvoyState). Goes old c []) (sym same) (goes_not old);
         up_to = All-nil (λ (met : Met). met.client ≤ 0);
         by_number = tt;
+        met_in = refl;
       }
   had_rounds questions (suc n) old new link after all so (convoy, mid, rounds, ends) =
       let before = had_rounds questions n old convoy link mid all so rounds in
@@ -266,6 +305,8 @@ module _ {X : Type 0} (seen : X → LinkSeen) (base : BaseParts) (first : LinkSe
         goes = goes_then old convoy new before.more last.more before.goes last.goes;
         up_to = All-append (λ (met : Met). met.client ≤ suc n) before.more last.more
             (All-weaker (λ (met : Met). met.client ≤ n) (λ (met : Met). met.client ≤ suc n) (λ met le. omega arith) before.more before.up_to)
-            (All-weaker (λ (met : Met). met.client ≡ suc n) (λ (met : Met). met.client ≤ suc n) (λ met same. omega (arith, same)) last.more last.own);
-        by_number = by_number_then n before.more last.more before.by_number before.up_to last.own;
+            (All-weaker (λ (met : Met). met.client ≡ suc n) (λ (met : Met). met.client ≤ suc n) (λ met same. omega (arith, same)) last.more last.met_in.own);
+        by_number = by_number_then n before.more last.more before.by_number before.up_to last.met_in.own;
+        met_in = met_in-append (counted n) (suc n ∷ []) (rounds_up_to seen n old convoy link mid rounds) (round_in seen (suc n) ends.steps convoy new mid after ends.turns ∷ []) before.more last.more before.met_in
+            (last.more, [], sym (append-nil last.more), last.met_in, refl);
       }

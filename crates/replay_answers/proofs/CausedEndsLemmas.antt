@@ -14,6 +14,7 @@ use Rattle.client_replies.proofs.StepLemmas.{AtEnd}
 use Rattle.connection_uri.specs.Base.{BaseParts}
 use Rattle.convoy.specs.State.{ConvoyState, begun}
 use Rattle.convoy.specs.declared.member.Member.{Member}
+use Rattle.convoy_answers.specs.Rounds.{rounds_up_to}
 use Rattle.csa_scan.proofs.ListPlacesLemmas.{item_within}
 use Rattle.lc_model.specs.Journey.{arrives_at}
 use Rattle.lc_model.specs.declared.moment.TheConstants.{MOMENTS_END}
@@ -25,13 +26,17 @@ use Rattle.page_client.specs.declared.outcome.Outcome.{Outcome}
 use Rattle.page_client.specs.declared.outcome.Outcome.TheVariants as outcomes
 use Rattle.replay_course.specs.Caused.{EndsByMet}
 use Rattle.replay_course.specs.Events.{questions_in, turns_in}
+use Rattle.replay_course.specs.History.{AreMetIn}
 use Rattle.replay_course.specs.Played.{HasEndedSo, HaveEndedSo, Plays}
+use Rattle.replay_course.specs.Turns.{counted}
 use Rattle.replay_course.specs.Versions.{HaveLines}
 use Rattle.replay_course.specs.declared.event.Event.{Event}
 use Rattle.replay_course.specs.declared.event.Event.TheVariants as events
 use Rattle.replay_answers.specs.Laws.{PlaysCaused}
+use Rattle.replay_answers.specs.Rounds.{rounds_along}
 use Rattle.replay_answers.proofs.CausedCourseLemmas.{AreFromOne, HadRounds, Played, are_played, had_rounds}
 use Rattle.replay_answers.proofs.EventLemmas.{AreClients, turns_of_clients}
+use Rattle.replay_answers.proofs.HistoryLemmas.{met_in-append}
 
 -- each message has its line
 have_lines : {X : Type 0} (seen : X → LinkSeen) (all : List Event) (old new : ConvoyState) (before after : X) (lines : List ℕ) → Plays seen all old new before after lines → HaveLines all lines
@@ -123,9 +128,11 @@ from_one count (client ∷ turns) are = All-cons (λ (c : ℕ). 1 ≤ c) client 
 
 pub courses_caused : {X : Type 0} (seen : X → LinkSeen) → PlaysCaused seen
 courses_caused seen base all cache played ended start behind after lines ends turns plays rounds have =
-    let p : Played base (questions_in all) (seen start) (seen behind) (turns_in all) (begun base cache) played [] =
+    let front = rounds_along seen all (begun base cache) played start behind lines plays in
+    let rest = rounds_up_to seen (length played.members) played ended behind after rounds in
+    let p : Played base (questions_in all) (seen start) (seen behind) (turns_in all) front (begun base cache) played [] =
     are_played seen base (seen start) all [] (begun base cache) played start behind lines [] (from_one (length (questions_in all)) (turns_in all) (turns_of_clients all turns)) (are_begun base cache (seen start)) plays in
-    let r : HadRounds seen base (seen start) (questions_in all) (length played.members) played ended (seen after) p.more =
+    let r : HadRounds seen base (seen start) (questions_in all) (length played.members) rest played ended (seen after) p.more =
     had_rounds seen base (seen start) (questions_in all) (length played.members) played ended behind after p.more p.so rounds in
     let met : List Met = p.more ++ r.more in
     record {
@@ -137,6 +144,9 @@ courses_caused seen base all cache played ended start behind after lines ends tu
         by_replies = r.so.met;
         clients = ends_at base (questions_in all) (seen start) (seen after) ended met ends r.so have;
       };
+      met_in =
+          met_in-append (turns_in all) (counted (length (questions_in all))) front rest p.more r.more p.met_in
+          (subst (λ (n : ℕ). AreMetIn (counted n) rest r.more) p.so.clients r.met_in);
       printable = all_places (λ (end : ClientEnd). IsPrintable end.outcome) ends (printable_at base (questions_in all) (seen start) (seen after) ended met ends r.so have);
       clear = r.so.grown.clear;
       not_fallen = r.so.grown.not_fallen;

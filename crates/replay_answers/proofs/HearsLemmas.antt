@@ -9,7 +9,7 @@ use Rattle.convoy.specs.State.{ConvoyState}
 use Rattle.convoy.specs.declared.member.Member.{Member}
 use Rattle.convoy_answers.specs.Agreement.{AllFit}
 use Rattle.convoy_answers.specs.Laws.{LaterAgrees}
-use Rattle.convoy_answers.specs.Names.{failures_in}
+use Rattle.convoy_answers.specs.Names.{Round, failures_in}
 use Rattle.convoy_answers.specs.Requests.{TellsRequests}
 use Rattle.fragmenter.specs.Cutting.{chosen_cuts}
 use Rattle.fragmenter.specs.declared.cutting.Cutting.{Cutting}
@@ -137,7 +137,7 @@ module _ (before after : Side) (query : Query) (version : Option ℕ) (given fai
 -- the publisher is given the message
 module _
     (made : Timetable) (publishing : Publishing) (cache : ℕ) (done : List Event) (message : Message) (convoy : ConvoyState) (start before after : LinkSeen) (lines line : List ℕ)
-    (later_agrees : LaterAgrees) (wants_stay : WantsStay) (played : IsPlayedTo made publishing cache done convoy start before lines) (given : IsGiven before after message.file line)
+    (later_agrees : LaterAgrees) (wants_stay : WantsStay) (rounds : List Round) (played : IsPlayedTo made publishing cache done convoy start before lines rounds) (given : IsGiven before after message.file line)
     (short : (store : Stored) (all_lines : List ℕ) → HasHeard (done ++ events.Message message ∷ []) (store_of made publishing.base_moment) store all_lines → IsShort (side_with made publishing store)) where
   same : side_of chosen_cuts given.held ≡ side_with made publishing played.store
   same = one_side before.side (side_of chosen_cuts given.held) (side_with made publishing played.store) given.side_was played.quiet.as_honest.tells
@@ -160,29 +160,29 @@ module _
   later = later_behind made publishing message.file played.store given.store line behind
 
   so : (place : ℕ) (query : Query) (member : Member) (own : List Want) → slice_get convoy.members place ≡ Some member →
-      IsMemberSo made publishing done (side_with made publishing played.store) (place + 1) query member own (rounds_of (place + 1) (turns_in done) played.rounds) →
-      IsMemberSo made publishing (done ++ events.Message message ∷ []) (side_with made publishing given.store) (place + 1) query member own (rounds_of (place + 1) (turns_in done) played.rounds)
+      IsMemberSo made publishing done (side_with made publishing played.store) (place + 1) query member own (rounds_of (place + 1) (turns_in done) rounds) →
+      IsMemberSo made publishing (done ++ events.Message message ∷ []) (side_with made publishing given.store) (place + 1) query member own (rounds_of (place + 1) (turns_in done) rounds)
   so place query member own is_member was = record {
     question = was.question;
     given_is = was.given_is;
     meant =
-        meant_on made publishing done (place + 1) query (given_in (rounds_of (place + 1) (turns_in done) played.rounds)) (shown member.client).version (events.Message message ∷ []) given.store (lines ++ line)
-        (turns_behind_message done message) (given_none (place + 1) (turns_in done) played.rounds) heard was.meant;
+        meant_on made publishing done (place + 1) query (given_in (rounds_of (place + 1) (turns_in done) rounds)) (shown member.client).version (events.Message message ∷ []) given.store (lines ++ line)
+        (turns_behind_message done message) (given_none (place + 1) (turns_in done) rounds) heard was.meant;
     count = was.count;
     met = was.met;
     failed =
-        failed_later (side_with made publishing played.store) (side_with made publishing given.store) query (shown member.client).version (given_in (rounds_of (place + 1) (turns_in done) played.rounds))
-        (failed_in (rounds_of (place + 1) (turns_in done) played.rounds)) wants_stay valid later
+        failed_later (side_with made publishing played.store) (side_with made publishing given.store) query (shown member.client).version (given_in (rounds_of (place + 1) (turns_in done) rounds))
+        (failed_in (rounds_of (place + 1) (turns_in done) rounds)) wants_stay valid later
         (of_side_at (side_with made publishing played.store) convoy.members played.given place member played.fits.clients is_member) (shown member.client).outcome was.failed;
   }
 
-  requests_stay : requests_in publishing.base (questions_in (done ++ events.Message message ∷ [])) (turns_in (done ++ events.Message message ∷ [])) played.rounds
-      ≡ requests_in publishing.base (questions_in done) (turns_in done) played.rounds
+  requests_stay : requests_in publishing.base (questions_in (done ++ events.Message message ∷ [])) (turns_in (done ++ events.Message message ∷ [])) rounds
+      ≡ requests_in publishing.base (questions_in done) (turns_in done) rounds
   requests_stay =
-      ap (λ (questions : List Query). requests_in publishing.base questions (turns_in (done ++ events.Message message ∷ [])) played.rounds) (questions_behind_message done message)
-      ∙ ap (λ (order : List ℕ). requests_in publishing.base (questions_in done) order played.rounds) (turns_behind_message done message)
+      ap (λ (questions : List Query). requests_in publishing.base questions (turns_in (done ++ events.Message message ∷ [])) rounds) (questions_behind_message done message)
+      ∙ ap (λ (order : List ℕ). requests_in publishing.base (questions_in done) order rounds) (turns_behind_message done message)
 
-  pub hears : IsPlayedTo made publishing cache (done ++ events.Message message ∷ []) convoy start after (lines ++ line)
+  pub hears : IsPlayedTo made publishing cache (done ++ events.Message message ∷ []) convoy start after (lines ++ line) rounds
   hears = record {
     store = given.store;
     heard = heard;
@@ -199,16 +199,15 @@ module _
     given = played.given;
     fits = later_agrees (side_with made publishing played.store) (side_with made publishing given.store) convoy played.given valid later played.fits;
     clients = played.clients ∙ sym (ap length (questions_behind_message done message));
-    rounds = played.rounds;
     one_each = played.one_each ∙ sym (ap length (turns_behind_message done message));
     by_names = played.by_names;
     names = played.names;
     tells =
-        subst (λ (told : Option (List ToldEntry)). TellsRequests start.told told publishing.base.authority (requests_in publishing.base (questions_in (done ++ events.Message message ∷ [])) (turns_in (done ++ events.Message message ∷ [])) played.rounds))
+        subst (λ (told : Option (List ToldEntry)). TellsRequests start.told told publishing.base.authority (requests_in publishing.base (questions_in (done ++ events.Message message ∷ [])) (turns_in (done ++ events.Message message ∷ [])) rounds))
         (sym given.told) (subst (TellsRequests start.told before.told publishing.base.authority) (sym requests_stay) played.tells);
-    rose = subst (RoseBy (failures_in played.rounds) start.faults) (sym given.faults) played.rose;
+    rose = subst (RoseBy (failures_in rounds) start.faults) (sym given.faults) played.rose;
     members = λ place query member own is_asked is_member is_own.
-        subst (λ (order : List ℕ). IsMemberSo made publishing (done ++ events.Message message ∷ []) (side_with made publishing given.store) (place + 1) query member own (rounds_of (place + 1) order played.rounds))
+        subst (λ (order : List ℕ). IsMemberSo made publishing (done ++ events.Message message ∷ []) (side_with made publishing given.store) (place + 1) query member own (rounds_of (place + 1) order rounds))
         (sym (turns_behind_message done message))
         (so place query member own is_member
         (played.members place query member own (subst (λ (l : List Query). slice_get l place ≡ Some query) (questions_behind_message done message) is_asked) is_member is_own));

@@ -7,6 +7,7 @@ mod FinishesClientLemmas
 mod FinishesLemmas
 mod FinishesListLemmas
 mod HearsLemmas
+mod HistoryLemmas
 mod OneCourseLemmas
 mod OneHeardLemmas
 mod OneRoundsLemmas

@@ -48,8 +48,8 @@ pub record IsMemberSo (made : Timetable) (publishing : Publishing) (done : List 
   pub met : HasMet rounds (shown member.client).outcome
   pub failed : HasFailedSo side query (shown member.client).version (given_in rounds) (failed_in rounds) (shown member.client).outcome
 
--- the convoy and the link behind what is done
-pub record IsPlayedTo (made : Timetable) (publishing : Publishing) (cache : ℕ) (done : List Event) (convoy : ConvoyState) (start now : LinkSeen) (lines : List ℕ) : Type 0 where
+-- the convoy and the link behind what is done, in these rounds
+pub record IsPlayedTo (made : Timetable) (publishing : Publishing) (cache : ℕ) (done : List Event) (convoy : ConvoyState) (start now : LinkSeen) (lines : List ℕ) (rounds : List Round) : Type 0 where
   pub store : Stored
   pub heard : HasHeard done (store_of made publishing.base_moment) store lines
   pub quiet : IsQuietWith now publishing.base (side_with made publishing store)
@@ -58,7 +58,6 @@ pub record IsPlayedTo (made : Timetable) (publishing : Publishing) (cache : ℕ)
   pub given : List (List Want)
   pub fits : FitsConvoy (side_with made publishing store) convoy given
   pub clients : length convoy.members ≡ length (questions_in done)
-  pub rounds : List Round
   pub one_each : length rounds ≡ length (turns_in done)
   pub by_names : AskByNames cache [] rounds
   pub names : names_of convoy.kept.pages ≡ names_behind cache [] rounds

@@ -17,6 +17,7 @@ use Rattle.convoy_answers.specs.Laws.{TurnKeepsAgreement}
 use Rattle.convoy_answers.specs.Leaves.{HasMoved, NoneFailed, OneFailed, TurnAgrees, VersionThen}
 use Rattle.convoy_answers.specs.Names.{Round, asked_of, failures_in, names_after, names_behind, names_of}
 use Rattle.convoy_answers.specs.Requests.{TellsAsked, TellsRequests, request_of}
+use Rattle.convoy_answers.specs.Rounds.{round_at}
 use Rattle.client_answers.specs.Fits.{FitsSide}
 use Rattle.lc_io.specs.Counts.{Rose, RoseBy}
 use Rattle.lc_io.proofs.CountLemmas.{RoseBy-none, RoseBy-then}
@@ -120,8 +121,8 @@ member_stays made publishing done side client other query member own rounds stor
 
 -- what is so of the turn
 module _ {X : Type 0} (seen : X → LinkSeen) (made : Timetable) (publishing : Publishing) (cache : ℕ) (done : List Event) (client : ℕ) (old new : ConvoyState) (start : LinkSeen) (before after : X)
-    (lines : List ℕ) (turn : Turn) (p : IsPlayedTo made publishing cache done old start (seen before) lines) (is_client : IsClient (length (questions_in done)) client)
-    (step : IsStep seen client old new before after turn) (turned : TurnAgrees (side_with made publishing p.store) old new p.given client (seen before) (seen after) turn) where
+    (lines : List ℕ) (before_it : List Round) (turn : Turn) (told : Round) (p : IsPlayedTo made publishing cache done old start (seen before) lines before_it) (is_client : IsClient (length (questions_in done)) client)
+    (step : IsStep seen client old new before after turn) (turned : TurnAgrees (side_with made publishing p.store) old new p.given client (seen before) (seen after) turn told) where
   abbrev side : Side
   side = side_with made publishing p.store
 
@@ -140,51 +141,51 @@ module _ {X : Type 0} (seen : X → LinkSeen) (made : Timetable) (publishing : P
   asks : (query : Query) × (slice_get (questions_in done) (client - 1) ≡ Some query)
   asks = item_within (questions_in done) (client - 1) (within client (length (questions_in done)) is_client)
 
-  member : IsMemberSo made publishing done (side_with made publishing p.store) client asks.0 turned.agrees.was turned.agrees.own (rounds_of client (turns_in done) p.rounds)
+  member : IsMemberSo made publishing done (side_with made publishing p.store) client asks.0 turned.agrees.was turned.agrees.own (rounds_of client (turns_in done) before_it)
   member =
-      subst (λ (n : ℕ). IsMemberSo made publishing done (side_with made publishing p.store) n asks.0 turned.agrees.was turned.agrees.own (rounds_of n (turns_in done) p.rounds))
+      subst (λ (n : ℕ). IsMemberSo made publishing done (side_with made publishing p.store) n asks.0 turned.agrees.was turned.agrees.own (rounds_of n (turns_in done) before_it))
       (behind_one client (length (questions_in done)) is_client)
       (p.members (client - 1) asks.0 turned.agrees.was turned.agrees.own asks.1 turned.agrees.had turned.agrees.own_is)
 
   version : VersionThen (side_with made publishing p.store) (shown turned.agrees.was.client) turned.agrees.given (shown turned.agrees.is.client).version
   version = subst (λ (at : Side). VersionThen at (shown turned.agrees.was.client) turned.agrees.given (shown turned.agrees.is.client).version) same_side turned.version
 
-  came : CameOf (side_with made publishing p.store) turned.agrees.was turned.agrees.is turned.agrees.own turned.agrees.given turned.agrees.by_names.failed turned.agrees.asked
+  came : CameOf (side_with made publishing p.store) turned.agrees.was turned.agrees.is turned.agrees.own turned.agrees.given turned.agrees.failed turned.agrees.asked
   came =
-      came_of (side_with made publishing p.store) turned.agrees.was turned.agrees.is turned.agrees.own turned.agrees.given turned.agrees.by_names.failed turned.agrees.asked turn
+      came_of (side_with made publishing p.store) turned.agrees.was turned.agrees.is turned.agrees.own turned.agrees.given turned.agrees.failed turned.agrees.asked turn
       (fits_at (side_with made publishing p.store) old.members p.given (client - 1) turned.agrees.was turned.agrees.own p.fits.clients turned.agrees.had turned.agrees.own_is)
       turned.gave
-      (subst (λ (at : Side). NoneFailed (shown turned.agrees.was.client) (shown turned.agrees.is.client) turned.agrees.by_names.failed ⊎ OneFailed at (shown turned.agrees.was.client) (shown turned.agrees.is.client) (turned.agrees.own ++ turned.agrees.given) turned.agrees.by_names.failed)
+      (subst (λ (at : Side). NoneFailed (shown turned.agrees.was.client) (shown turned.agrees.is.client) turned.agrees.failed ⊎ OneFailed at (shown turned.agrees.was.client) (shown turned.agrees.is.client) (turned.agrees.own ++ turned.agrees.given) turned.agrees.failed)
       same_side turned.agrees.by_names.how)
 
   abbrev then_done : List Event
   then_done = done ++ events.Turn client ∷ []
 
   abbrev round : Round
-  round = record { given = turned.agrees.given; failed = turned.agrees.by_names.failed; asked = turned.agrees.asked }
+  round = record { given = turned.agrees.given; failed = turned.agrees.failed; asked = turned.agrees.asked }
 
   abbrev rounds : List Round
-  rounds = p.rounds ++ round ∷ []
+  rounds = before_it ++ round ∷ []
 
   abbrev now : List (List Want)
   now = set p.given (client - 1) (turned.agrees.own ++ turned.agrees.given)
 
-  own_turns : rounds_of client (turns_in done) p.rounds ++ round ∷ [] ≡ rounds_of client (turns_in then_done) rounds
+  own_turns : rounds_of client (turns_in done) before_it ++ round ∷ [] ≡ rounds_of client (turns_in then_done) rounds
   own_turns =
-      sym (rounds_of-own client (turns_in done) p.rounds round p.one_each) ∙ sym (ap (λ (l : List ℕ). rounds_of client l rounds) (turns_in-append done (events.Turn client ∷ [])))
+      sym (rounds_of-own client (turns_in done) before_it round p.one_each) ∙ sym (ap (λ (l : List ℕ). rounds_of client l rounds) (turns_in-append done (events.Turn client ∷ [])))
 
-  other_turns : (other : ℕ) → (client ≡ other → ⊥) → rounds_of other (turns_in done) p.rounds ≡ rounds_of other (turns_in then_done) rounds
+  other_turns : (other : ℕ) → (client ≡ other → ⊥) → rounds_of other (turns_in done) before_it ≡ rounds_of other (turns_in then_done) rounds
   other_turns other not =
-      sym (rounds_of-other other client (turns_in done) p.rounds round not p.one_each)
+      sym (rounds_of-other other client (turns_in done) before_it round not p.one_each)
       ∙ sym (ap (λ (l : List ℕ). rounds_of other l rounds) (turns_in-append done (events.Turn client ∷ [])))
 
   own_more : IsMemberSo made publishing then_done (side_with made publishing p.store) client asks.0 turned.agrees.is (turned.agrees.own ++ turned.agrees.given) (rounds_of client (turns_in then_done) rounds)
   own_more =
       subst (IsMemberSo made publishing then_done (side_with made publishing p.store) client asks.0 turned.agrees.is (turned.agrees.own ++ turned.agrees.given)) own_turns
-      (member_more made publishing done then_done p.store lines client asks.0 turned.agrees.was turned.agrees.is turned.agrees.own turned.agrees.given turned.agrees.by_names.failed turned.agrees.asked
-      (rounds_of client (turns_in done) p.rounds) member
+      (member_more made publishing done then_done p.store lines client asks.0 turned.agrees.was turned.agrees.is turned.agrees.own turned.agrees.given turned.agrees.failed turned.agrees.asked
+      (rounds_of client (turns_in done) before_it) member
       (λ other other_lines heard. subst (λ (l : List Event). HasHeard l (store_of made publishing.base_moment) other other_lines) (sym (same_before client done)) heard)
-      (λ none. subst (λ (l : List Event). HasHeard l (store_of made publishing.base_moment) p.store lines) (sym (same_before client done ∙ all_before client done p.rounds p.one_each none)) p.heard)
+      (λ none. subst (λ (l : List Event). HasHeard l (store_of made publishing.base_moment) p.store lines) (sym (same_before client done ∙ all_before client done before_it p.one_each none)) p.heard)
       turned.agrees.gone.moved.query turned.agrees.gone.count version came)
 
   -- the clients
@@ -217,7 +218,7 @@ module _ {X : Type 0} (seen : X → LinkSeen) (made : Timetable) (publishing : P
         let was_there : slice_get old.members place ≡ Some m = sym (turned.agrees.others place not) ∙ has in
         let own_there : slice_get p.given place ≡ Some own = sym (slice_get-set_other p.given (client - 1) (turned.agrees.own ++ turned.agrees.given) place not) ∙ has_own in
         subst (IsMemberSo made publishing then_done (side_with made publishing p.store) (place + 1) query m own) (other_turns (place + 1) not_this)
-        (member_stays made publishing done (side_with made publishing p.store) (place + 1) client query m own p.rounds p.store lines not_this p.heard (p.members place query m own asked_there was_there own_there))
+        (member_stays made publishing done (side_with made publishing p.store) (place + 1) client query m own before_it p.store lines not_this p.heard (p.members place query m own asked_there was_there own_there))
 
   -- what was told
   tells : TellsRequests start.told (seen after).told publishing.base.authority (requests_in publishing.base (questions_in then_done) (turns_in then_done) rounds)
@@ -225,25 +226,25 @@ module _ {X : Type 0} (seen : X → LinkSeen) (made : Timetable) (publishing : P
       let asked : TellsAsked (seen before).told (seen after).told publishing.base asks.0 turned.agrees.asked =
       subst (λ (q : Query). TellsAsked (seen before).told (seen after).told publishing.base q turned.agrees.asked) member.question
       (subst (λ (base : BaseParts). TellsAsked (seen before).told (seen after).told base (shown turned.agrees.was.client).query turned.agrees.asked) p.base turned.agrees.gone.told) in
-      let both = requests_then start.told (seen before).told (seen after).told publishing.base.authority (requests_in publishing.base (questions_in done) (turns_in done) p.rounds)
+      let both = requests_then start.told (seen before).told (seen after).told publishing.base.authority (requests_in publishing.base (questions_in done) (turns_in done) before_it)
       (map (request_of publishing.base asks.0) turned.agrees.asked) p.tells asked in
       let whole : requests_in publishing.base (questions_in then_done) (turns_in then_done) rounds ≡
-      requests_in publishing.base (questions_in done) (turns_in done) p.rounds ++ map (request_of publishing.base asks.0) turned.agrees.asked =
+      requests_in publishing.base (questions_in done) (turns_in done) before_it ++ map (request_of publishing.base asks.0) turned.agrees.asked =
       ap₂ (λ (questions : List Query) (order : List ℕ). requests_in publishing.base questions order rounds) (questions_behind_turn done client) (turns_in-append done (events.Turn client ∷ []))
-      ∙ requests_in-more publishing.base (questions_in done) (turns_in done) client asks.0 p.rounds round p.one_each asks.1 in
+      ∙ requests_in-more publishing.base (questions_in done) (turns_in done) client asks.0 before_it round p.one_each asks.1 in
       subst (TellsRequests start.told (seen after).told publishing.base.authority) (sym whole) both
 
-  one_longer : length (p.rounds ++ round ∷ []) ≡ length (turns_in done ++ client ∷ [])
-  one_longer = omega (arith, p.one_each, length-append p.rounds (round ∷ []), length-append (turns_in done) (client ∷ []))
+  one_longer : length (before_it ++ round ∷ []) ≡ length (turns_in done ++ client ∷ [])
+  one_longer = omega (arith, p.one_each, length-append before_it (round ∷ []), length-append (turns_in done) (client ∷ []))
 
   failures_more : (rounds : List Round) (more : Round) → failures_in (rounds ++ more ∷ []) ≡ failures_in rounds + length more.failed
   failures_more rounds more = omega (arith, failures_in-append rounds (more ∷ []))
 
   rose : RoseBy (failures_in rounds) start.faults (seen after).faults
   rose =
-      subst (λ (n : ℕ). RoseBy n start.faults (seen after).faults) (sym (failures_more p.rounds round))
-      (RoseBy-then (failures_in p.rounds) (length turned.agrees.by_names.failed) start.faults (seen before).faults (seen after).faults p.rose
-      (rose_by (side_with made publishing p.store) turned.agrees.left turned.agrees.was turned.agrees.is (seen before) (seen after) turned.agrees.own turned.agrees.given turned.agrees.by_names.failed
+      subst (λ (n : ℕ). RoseBy n start.faults (seen after).faults) (sym (failures_more before_it round))
+      (RoseBy-then (failures_in before_it) (length turned.agrees.failed) start.faults (seen before).faults (seen after).faults p.rose
+      (rose_by (side_with made publishing p.store) turned.agrees.left turned.agrees.was turned.agrees.is (seen before) (seen after) turned.agrees.own turned.agrees.given turned.agrees.failed
       turned.agrees.asked turned.agrees.honest.not_fallen turned.agrees.gone.moved came))
 
   still_quiet : IsQuietWith (seen after) publishing.base (side_with made publishing p.store)
@@ -254,11 +255,11 @@ module _ {X : Type 0} (seen : X → LinkSeen) (made : Timetable) (publishing : P
       })
 
   -- the names of the pages that are kept then
-  names_then : names_of new.kept.pages ≡ names_after cache (names_behind cache [] p.rounds) turned.agrees.given
+  names_then : names_of new.kept.pages ≡ names_after cache (names_behind cache [] before_it) turned.agrees.given
   names_then = turned.agrees.by_names.names ∙ ap₂ (λ (capacity : ℕ) (names : List PageName). names_after capacity names turned.agrees.given) p.capacity p.names
 
-  pub played : IsPlayedTo made publishing cache then_done new start (seen after) lines
-  played = record {
+  so_played : IsPlayedTo made publishing cache then_done new start (seen after) lines rounds
+  so_played = record {
     store = p.store;
     heard = heard_behind_turn done client (store_of made publishing.base_moment) p.store lines p.heard;
     quiet = still_quiet;
@@ -268,30 +269,33 @@ module _ {X : Type 0} (seen : X → LinkSeen) (made : Timetable) (publishing : P
     fits = subst (λ (at : Side). FitsConvoy at new now) same_side turned.agrees.fits;
     clients =
         ap length step.turned.members ∙ length-set old.members (client - 1) step.turned.is ∙ p.clients ∙ sym (ap length (questions_behind_turn done client));
-    rounds = rounds;
     one_each = one_longer ∙ sym (ap length (turns_in-append done (events.Turn client ∷ [])));
     by_names =
-        ask_by_names-append cache [] p.rounds (round ∷ []) p.by_names (
+        ask_by_names-append cache [] before_it (round ∷ []) p.by_names (
           record {
             asked = turned.agrees.by_names.are
-                ∙ ap₂ (λ (capacity : ℕ) (names : List PageName). asked_of capacity names (turned.agrees.given ++ turned.agrees.by_names.failed)) p.capacity p.names;
+                ∙ ap₂ (λ (capacity : ℕ) (names : List PageName). asked_of capacity names (turned.agrees.given ++ turned.agrees.failed)) p.capacity p.names;
             not_kept =
-                ap₂ (λ (capacity : ℕ) (names : List PageName). asked_of capacity names turned.agrees.by_names.failed) (sym p.capacity) (sym names_then)
+                ap₂ (λ (capacity : ℕ) (names : List PageName). asked_of capacity names turned.agrees.failed) (sym p.capacity) (sym names_then)
                 ∙ turned.agrees.by_names.not_kept;
           },
           tt,
         );
-    names = names_then ∙ sym (names_behind-append cache [] p.rounds (round ∷ []));
+    names = names_then ∙ sym (names_behind-append cache [] before_it (round ∷ []));
     tells = tells;
     rose = rose;
     members = members;
   }
 
+  pub played : IsPlayedTo made publishing cache then_done new start (seen after) lines (before_it ++ told ∷ [])
+  played = subst (λ (r : Round). IsPlayedTo made publishing cache then_done new start (seen after) lines (before_it ++ r ∷ [])) turned.round_is so_played
+
 -- a turn of a client over a quiet link
 pub turns : {X : Type 0} (seen : X → LinkSeen) (made : Timetable) (publishing : Publishing) (cache : ℕ) (start : LinkSeen) → TurnKeepsAgreement seen →
-    (done : List Event) (old new : ConvoyState) (before after : X) (lines : List ℕ) (client : ℕ) (turn : Turn) → IsPlayedTo made publishing cache done old start (seen before) lines →
-    IsClient (length (questions_in done)) client → IsStep seen client old new before after turn → IsPlayedTo made publishing cache (done ++ events.Turn client ∷ []) new start (seen after) lines
-turns seen made publishing cache start keeps done old new before after lines client turn p is_client step =
-    played seen made publishing cache done client old new start before after lines turn p is_client step
+    (done : List Event) (old new : ConvoyState) (before after : X) (lines : List ℕ) (rounds : List Round) (client : ℕ) (turn : Turn) →
+    IsPlayedTo made publishing cache done old start (seen before) lines rounds → IsClient (length (questions_in done)) client → (step : IsStep seen client old new before after turn) →
+    IsPlayedTo made publishing cache (done ++ events.Turn client ∷ []) new start (seen after) lines (rounds ++ round_at turn (shown step.turned.was.client) (shown step.turned.is.client) ∷ [])
+turns seen made publishing cache start keeps done old new before after lines rounds client turn p is_client step =
+    played seen made publishing cache done client old new start before after lines rounds turn (round_at turn (shown step.turned.was.client) (shown step.turned.is.client)) p is_client step
     (keeps (side_with made publishing p.store) old new p.given client before after turn
     (subst (λ (base : BaseParts). IsHonestWith (seen before) base (side_with made publishing p.store)) (sym p.base) p.quiet.as_honest) p.fits step)

@@ -2,9 +2,11 @@
 use Rattle.std.specs.Prelude.{◌≡◌, ◌≤◌, ℕ, List, Some, length}
 use Rattle.std.specs.List.{All}
 use Rattle.command_words.specs.declared.command.Publishing.{Publishing}
+use Rattle.client_replies.specs.Met.{Met}
 use Rattle.connection_uri.specs.Base.{BaseParts}
 use Rattle.convoy.specs.Finish.{Rounds}
 use Rattle.convoy.specs.State.{ConvoyState, begun}
+use Rattle.convoy_answers.specs.Names.{Round}
 use Rattle.lc_world.specs.Link.{LinkSeen}
 use Rattle.publisher_side.specs.Side.{IsValidSide}
 use Rattle.timetable.specs.declared.timetable.Timetable.{Timetable}
@@ -13,10 +15,13 @@ use Rattle.asking.specs.Publishing.{side_with, store_of}
 use Rattle.asking.specs.declared.end.ClientEnd.{ClientEnd}
 use Rattle.replay_course.specs.Caused.{AreCaused}
 use Rattle.replay_course.specs.Events.{TurnsAreOfClients, questions_in}
+use Rattle.replay_course.specs.History.{AreMetIn}
 use Rattle.replay_course.specs.Played.{HaveEndedSo, Plays}
 use Rattle.replay_course.specs.Right.{ArePlayedRight}
+use Rattle.replay_course.specs.Turns.{order_of}
 use Rattle.replay_course.specs.Versions.{AreShort, HaveLines}
 use Rattle.replay_course.specs.declared.event.Event.{Event}
+use Rattle.replay_answers.specs.Rounds.{all_rounds}
 
 -- the link has the publisher of the timetable at its other end, which has heard nothing, and is quiet with it
 pub record IsQuietAt (made : Timetable) (publishing : Publishing) (link : LinkSeen) : Type 0 where
@@ -25,21 +30,22 @@ pub record IsQuietAt (made : Timetable) (publishing : Publishing) (link : LinkSe
   pub honest : link.honest publishing.base
   pub quiet : link.quiet publishing.base
 
--- a course that was played over a quiet link was played rightly
+-- a course that was played over a quiet link was played rightly, by what was met in its rounds
 abbrev pub PlaysRight : {X : Type 0} → (X → LinkSeen) → Type 0
 PlaysRight {X} seen =
-    (made : Timetable) (publishing : Publishing) (all : List Event) (cache : ℕ) (played ended : ConvoyState) (start behind after : X) (lines : List ℕ) (ends : List ClientEnd)
+    (made : Timetable) (publishing : Publishing) (all : List Event) (cache : ℕ) (played ended : ConvoyState) (start behind after : X) (lines : List ℕ) (ends : List ClientEnd) (met : List Met)
     → TurnsAreOfClients all → IsQuietAt made publishing (seen start) → AreShort made publishing all
-    → Plays seen all (begun publishing.base cache) played start behind lines → Rounds seen (length played.members) played ended behind after
-    → HaveEndedSo ended.members ends
-    → ArePlayedRight made publishing all cache (seen start).told (seen after).told (seen start).faults (seen after).faults lines ends
+    → (plays : Plays seen all (begun publishing.base cache) played start behind lines) → (rounds : Rounds seen (length played.members) played ended behind after)
+    → HaveEndedSo ended.members ends → AreMetIn (order_of all) (all_rounds seen all (begun publishing.base cache) played ended start behind after lines plays rounds) met
+    → ArePlayedRight made publishing all cache (seen start).told (seen after).told (seen start).faults (seen after).faults lines ends met
 
--- Each message has its line. There is one end for each question, which has its cause and can be printed. A clear link is clear still, and
--- its count has not fallen.
-pub record ArePlayedCaused (base : BaseParts) (all : List Event) (before after : LinkSeen) (lines : List ℕ) (ends : List ClientEnd) : Type 0 where
+-- Each message has its line. There is one end for each question, which has its cause, by what was met in these rounds, and can be printed. A
+-- clear link is clear still, and its count has not fallen.
+pub record ArePlayedCaused (base : BaseParts) (all : List Event) (before after : LinkSeen) (lines : List ℕ) (ends : List ClientEnd) (rounds : List Round) : Type 0 where
   pub have_lines : HaveLines all lines
   pub one_each : length ends ≡ length (questions_in all)
   pub caused : AreCaused base all before.told after.told before.faults after.faults ends
+  pub met_in : AreMetIn (order_of all) rounds caused.met
   pub printable : All (λ (end : ClientEnd). IsPrintable end.outcome) ends
   pub clear : before.clear → after.clear
   pub not_fallen : before.faults ≤ after.faults
@@ -48,5 +54,6 @@ pub record ArePlayedCaused (base : BaseParts) (all : List Event) (before after :
 abbrev pub PlaysCaused : {X : Type 0} → (X → LinkSeen) → Type 0
 PlaysCaused {X} seen =
     (base : BaseParts) (all : List Event) (cache : ℕ) (played ended : ConvoyState) (start behind after : X) (lines : List ℕ) (ends : List ClientEnd)
-    → TurnsAreOfClients all → Plays seen all (begun base cache) played start behind lines → Rounds seen (length played.members) played ended behind after
-    → HaveEndedSo ended.members ends → ArePlayedCaused base all (seen start) (seen after) lines ends
+    → TurnsAreOfClients all → (plays : Plays seen all (begun base cache) played start behind lines) → (rounds : Rounds seen (length played.members) played ended behind after)
+    → HaveEndedSo ended.members ends
+    → ArePlayedCaused base all (seen start) (seen after) lines ends (all_rounds seen all (begun base cache) played ended start behind after lines plays rounds)

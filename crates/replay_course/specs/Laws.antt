@@ -2,6 +2,7 @@
 use Rattle.std.specs.Prelude.{◌≡◌, ℕ, List, Option, length}
 use Rattle.std.specs.List.{All, AllZip}
 use Rattle.command_words.specs.declared.command.Publishing.{Publishing}
+use Rattle.client_replies.specs.Met.{Met}
 use Rattle.lc_world.specs.declared.entry.Entry.{Entry}
 use Rattle.timetable.specs.Laws.{AreSame}
 use Rattle.timetable.specs.declared.timetable.Timetable.{Timetable}
@@ -11,14 +12,15 @@ use Rattle.replay_course.specs.Events.{TurnsAreOfClients, questions_in}
 use Rattle.replay_course.specs.Right.{ArePlayedRight}
 use Rattle.replay_course.specs.declared.event.Event.{Event}
 
--- The course was played rightly, whatever was told of it and however the count of faults rose, to these lines and to one end for each question,
--- of which none is a fault of the link.
+-- The course was played rightly, whatever was told of it, however the count of faults rose and whatever was met, to these lines and to one
+-- end for each question, of which none is a fault of the link.
 pub record IsPlayedOut (made : Timetable) (publishing : Publishing) (all : List Event) (cache : ℕ) (lines : List ℕ) (ends : List ClientEnd) : Type 0 where
   pub told : Option (List Entry)
   pub now_told : Option (List Entry)
   pub faults : ℕ
   pub now_faults : ℕ
-  pub right : ArePlayedRight made publishing all cache told now_told faults now_faults lines ends
+  pub met : List Met
+  pub right : ArePlayedRight made publishing all cache told now_told faults now_faults lines ends met
   pub one_each : length ends ≡ length (questions_in all)
   pub no_fault : All (λ (end : ClientEnd). IsNoLinkFault end.outcome) ends
 

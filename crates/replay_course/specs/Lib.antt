@@ -1,5 +1,6 @@
 pub mod Caused
 pub mod Events
+pub mod History
 pub mod Laws
 pub mod Message
 pub mod Played

@@ -18,7 +18,7 @@ clients_text_of k (end ∷ ends) = client_text_of k end ++ clients_text_of (k + 
 
 -- The course was played to a publisher of the timetable, over the link, with a cache of so many pages. The text is the lines of the messages,
 -- and then those of the clients, each of which has ended by the replies that it got. Where the link is clear and the publisher's texts fit into
--- replies, the course was played rightly.
+-- replies, the course was played rightly by what the clients met.
 pub record IsReplayed (made : Timetable) (publishing : Publishing) (all : List Event) (cache : ℕ) (before after : LinkSeen) (text : List ℕ) (ends : List ClientEnd) : Type 0 where
   pub lines : List ℕ
   pub have_lines : HaveLines all lines
@@ -27,4 +27,4 @@ pub record IsReplayed (made : Timetable) (publishing : Publishing) (all : List E
   pub caused : AreCaused publishing.base all before.told after.told before.faults after.faults ends
   pub clear : before.clear → after.clear
   pub not_fallen : before.faults ≤ after.faults
-  pub right : before.clear → AreShort made publishing all → ArePlayedRight made publishing all cache before.told after.told before.faults after.faults lines ends
+  pub right : before.clear → AreShort made publishing all → ArePlayedRight made publishing all cache before.told after.told before.faults after.faults lines ends caused.met

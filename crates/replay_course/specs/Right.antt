@@ -2,6 +2,7 @@
 use Rattle.std.specs.Prelude.{◌≡◌, ℕ, ◌+◌, List, [], ◌∷◌, ◌++◌, Option, Some, length, slice_get}
 use Rattle.client_answers.specs.Fits.{HasEnded}
 use Rattle.client_answers.specs.Wants.{AreWants}
+use Rattle.client_replies.specs.Met.{Met}
 use Rattle.command_words.specs.declared.command.Publishing.{Publishing}
 use Rattle.convoy_answers.specs.Names.{AskByNames, Round, failures_in}
 use Rattle.convoy_answers.specs.Requests.{TellsRequests}
@@ -19,6 +20,7 @@ use Rattle.asking.specs.Client.{shown_of}
 use Rattle.asking.specs.Publishing.{side_with, store_of}
 use Rattle.asking.specs.declared.end.ClientEnd.{ClientEnd}
 use Rattle.replay_course.specs.Events.{questions_in}
+use Rattle.replay_course.specs.History.{AreMetIn}
 use Rattle.replay_course.specs.Turns.{EndByFailure, TakeOneEach, asked_in, failed_in, given_in, order_of, requests_in, rounds_of}
 use Rattle.replay_course.specs.Versions.{HasHeard, IsMeant}
 use Rattle.replay_course.specs.declared.event.Event.{Event}
@@ -50,10 +52,10 @@ pub record EndsSo (made : Timetable) (publishing : Publishing) (all : List Event
   pub failed : FailsWith side query end.version (given_in rounds) (failed_in rounds) end.outcome
 
 -- The course was played rightly: the lines are those of its messages; in each turn the names of the pages that are kept tell what was asked
--- for; that is told where the link tells exchanges, and the count of its faults rose by the exchanges that failed; and each client
--- ended rightly.
+-- for; that is told where the link tells exchanges, and the count of its faults rose by the exchanges that failed; it is what the clients met;
+-- and each client ended rightly.
 pub record ArePlayedRight (made : Timetable) (publishing : Publishing) (all : List Event) (cache : ℕ) (told now_told : Option (List Entry)) (faults now_faults : ℕ)
-    (lines : List ℕ) (ends : List ClientEnd) : Type 0 where
+    (lines : List ℕ) (ends : List ClientEnd) (met : List Met) : Type 0 where
   pub store : Stored
   pub heard : HasHeard all (store_of made publishing.base_moment) store lines
   pub rounds : List Round
@@ -61,5 +63,6 @@ pub record ArePlayedRight (made : Timetable) (publishing : Publishing) (all : Li
   pub by_names : AskByNames cache [] rounds
   pub tells : TellsRequests told now_told publishing.base.authority (requests_in publishing.base (questions_in all) (order_of all) rounds)
   pub rose : RoseBy (failures_in rounds) faults now_faults
+  pub met_in : AreMetIn (order_of all) rounds met
   pub clients : (place : ℕ) (query : Query) (end : ClientEnd) → slice_get (questions_in all) place ≡ Some query → slice_get ends place ≡ Some end
       → EndsSo made publishing all (side_with made publishing store) (place + 1) query (rounds_of (place + 1) (order_of all) rounds) end

@@ -42,7 +42,7 @@ module _ {L : Type 0} (seen : L → LinkSeen) (plays_right : PlaysRight (home_se
         clear = caused.clear;
         not_fallen = caused.not_fallen;
         right = λ clear short.
-            plays_right made publishing all cache x.played x.ended before x.behind after x.lines ends turns (quiet_at clear) short x.plays x.rounds x.have_ended;
+            plays_right made publishing all cache x.played x.ended before x.behind after x.lines ends caused.caused.met turns (quiet_at clear) short x.plays x.rounds x.have_ended caused.met_in;
       }
 
   -- the same of the link that was handed in and the one that is given back
