@@ -18,13 +18,15 @@ use Rattle.gtfs_feed.specs.declared.what.What.{What}
 use Rattle.gtfs_feed.specs.declared.what.What.TheVariants as whats
 use Rattle.trip_runs.specs.Laws.{OneListOfRuns}
 use Rattle.timetable.proofs.LawLemmas.{NeverWrong, found_is, looked_up, one_of_runs, runs_by_other, still_told, tables_told, zone_told}
-use Rattle.timetable.specs.Laws.{LoadsTold, NotBroken, NotTooLarge, BrokenEnds, OneEnd, OneTimetable}
+use Rattle.timetable.specs.Laws.{BrokenEnds, FineEnds, LoadsTold, MuchEnds, NoZoneEnds, NotBroken, NotTooLarge, OneEnd, OneTimetable, RowsEnd}
 use Rattle.timetable.specs.Loading.{BreaksRule, HasNoZone, HasTooManyRows, MakesTooMuch, ReadsTables}
 use Rattle.timetable.specs.Made.{HasManyChangesAlone, HasManyConnections}
-use Rattle.timetable.specs.Timetable.{RunsAre}
+use Rattle.timetable.specs.Timetable.{HasFewChanges, IsTimetableOf, RunsAre}
 use Rattle.timetable.specs.Told.{zone_bytes}
+use Rattle.timetable.specs.declared.fault.LoadFault.{LoadFault}
 use Rattle.timetable.specs.declared.fault.LoadFault.TheVariants.{Broken, TooLarge, Folder, NoMemory}
 use Rattle.timetable.specs.declared.scope.Scope.{Scope}
+use Rattle.timetable.specs.declared.timetable.Timetable.{Timetable}
 
 -- the parts of a fault of a file
 rule_in : FileFault → ℕ
@@ -235,3 +237,91 @@ module _ (never_both : NeverBoth) (one_first : OneFirst) (never_wrong : NeverWro
       absurd (never_both (files_of files scope.feed) x.tables place at (wrong.Broken rule row) (tables_told files scope old new x.zone x.tables t x.read) first)
   broken_ends files scope old new (Err (Folder before after)) zone place at rule row t p x says first = absurd p
   broken_ends files scope old new (Err NoMemory) zone place at rule row t p x says first = absurd p
+
+module _ (never_both : NeverBoth) (one_first : OneFirst) (never_wrong : NeverWrong) where
+  -- where the word says no zone
+  pub no_zone_ends : NoZoneEnds
+  no_zone_ends files scope old new (Ok made) t p x is =
+      absurd (no_wrong_zone never_both one_first never_wrong files scope x.zone is (zone_told files old x.read.between scope.zone x.zone t x.read.zone_read))
+  no_zone_ends files scope old new (Err (Broken rule file row)) t p (inl x) is = λ i. Err (Broken (x.by_rule i) (x.word i) (x.of_no_row i))
+  no_zone_ends files scope old new (Err (Broken rule file row)) t p (inr x) is =
+      let v = rule_told files scope old new rule file row t x in absurd (no_wrong_zone never_both one_first never_wrong files scope v.0.zone is v.0.says)
+  no_zone_ends files scope old new (Err (TooLarge what count)) t p (inl x) is =
+      let v = rows_told files scope old new what count t x in absurd (no_wrong_zone never_both one_first never_wrong files scope v.0.zone is v.0.says)
+  no_zone_ends files scope old new (Err (TooLarge what count)) t p (inr x) is =
+      absurd (no_wrong_zone never_both one_first never_wrong files scope x.zone is (have_tables files scope old new x.zone x.tables t x.read).says)
+  no_zone_ends files scope old new (Err (Folder before after)) t p x is = absurd p
+  no_zone_ends files scope old new (Err NoMemory) t p x is = absurd p
+
+  -- where a file has too many rows first
+  pub rows_end : RowsEnd
+  unfolding row_in what_or
+  rows_end files scope old new (Ok made) zone place at count what t p x says first kind =
+      absurd (never_both (files_of files scope.feed) x.tables place at (wrong.TooMany count) (tables_told files scope old new x.zone x.tables t x.read) first)
+  rows_end files scope old new (Err (Broken rule file row)) zone place at count what t p (inl x) says first kind =
+      absurd (no_wrong_zone never_both one_first never_wrong files scope zone (no_zone_told files scope old new rule file row t x) says)
+  rows_end files scope old new (Err (Broken rule file row)) zone place at count what t p (inr x) says first kind =
+      absurd (not_many never_both one_first never_wrong files scope rule row count (rule_told files scope old new rule file row t x).0 (record { zone = zone; says = says; place = place; at = at; first = first }))
+  rows_end files scope old new (Err (TooLarge what' count')) zone place at count what t p (inl x) says first kind =
+      let v = rows_told files scope old new what' count' t x in
+      let w : WrongFirst files scope (wrong.TooMany count) = record { zone = zone; says = says; place = place; at = at; first = first } in
+      let one = one_wrong never_both one_first never_wrong files scope (wrong.TooMany count') (wrong.TooMany count) v.0 w in
+      let some : Some what' ≡ Some what = sym v.1 ∙ ap what_of one.0 ∙ kind in
+      let kinds : what' ≡ what = ap what_or some in
+      let counts : count' ≡ count = ap row_in one.1 in
+      λ i. Err (TooLarge (kinds i) (counts i))
+  rows_end files scope old new (Err (TooLarge what' count')) zone place at count what t p (inr x) says first kind =
+      absurd (never_both (files_of files scope.feed) x.tables place at (wrong.TooMany count) (tables_told files scope old new x.zone x.tables t x.read) first)
+  rows_end files scope old new (Err (Folder before after)) zone place at count what t p x says first kind = absurd p
+  rows_end files scope old new (Err NoMemory) zone place at count what t p x says first kind = absurd p
+
+  module _ (one_zone : OneZone) (one_tables : OneTables) (one_days : OneListOfDays) (one_runs : OneListOfRuns) where
+    -- a timetable has no more than it may
+    not_made : (files : List File) (scope : Scope) (zone other : Zone) (tables read : Tables) (made : Timetable) (what : What) (count : ℕ) → HaveTables files scope zone tables → HaveTables files scope other read → IsTimetableOf scope other read made
+        → HasManyConnections scope zone tables what count ⊎ HasManyChangesAlone scope zone tables what count → ⊥
+    not_made files scope zone other tables read made what count have have' is (inl many) =
+        let same : length (connections_of many.runs) ≡ length (connections_of made.runs) = ap (λ (r : List Run). length (connections_of r)) (same_of never_both one_first never_wrong files scope one_zone one_tables one_days one_runs zone other tables read many.runs made.runs have have' many.are_runs is.runs) in
+        omega (arith, same, many.many, is.few_connections)
+    not_made files scope zone other tables read made what count have have' is (inr many) =
+        let few = subst (λ (t : Tables). HasFewChanges scope t) (one_tables (files_of files scope.feed) read tables have'.are have.are) is.few_changes in
+        omega (arith, many.changes.many, few)
+
+    -- where the tables have too much
+    pub much_ends : MuchEnds
+    much_ends files scope old new (Ok made) zone tables what count t p x says are much =
+        absurd (not_made files scope zone x.zone tables x.tables made what count (record { says = says; are = are }) (have_tables files scope old new x.zone x.tables t x.read) x.is much)
+    much_ends files scope old new (Err (Broken rule file row)) zone tables what count t p (inl x) says are much =
+        absurd (no_wrong_zone never_both one_first never_wrong files scope zone (no_zone_told files scope old new rule file row t x) says)
+    much_ends files scope old new (Err (Broken rule file row)) zone tables what count t p (inr x) says are much =
+        absurd (not_tables never_both one_first never_wrong files scope (wrong.Broken rule row) zone tables (rule_told files scope old new rule file row t x).0 (record { says = says; are = are }))
+    much_ends files scope old new (Err (TooLarge what' count')) zone tables what count t p (inl x) says are much =
+        absurd (not_tables never_both one_first never_wrong files scope (wrong.TooMany count') zone tables (rows_told files scope old new what' count' t x).0 (record { says = says; are = are }))
+    much_ends files scope old new (Err (TooLarge what' count')) zone tables what count t p (inr x) says are much =
+        ap (λ (f : LoadFault). Err f) (much_much never_both one_first never_wrong files scope one_zone one_tables one_days one_runs x.zone zone x.tables tables what' what count' count (have_tables files scope old new x.zone x.tables t x.read) (record { says = says; are = are }) x.much much)
+    much_ends files scope old new (Err (Folder before after)) zone tables what count t p x says are much = absurd p
+    much_ends files scope old new (Err NoMemory) zone tables what count t p x says are much = absurd p
+
+    -- where nothing refuses it
+    pub fine_ends : FineEnds
+    fine_ends files scope old new (Ok made) zone tables runs t p x says are rs few changes = tt
+    fine_ends files scope old new (Err (Broken rule file row)) zone tables runs t p (inl x) says are rs few changes =
+        absurd (no_wrong_zone never_both one_first never_wrong files scope zone (no_zone_told files scope old new rule file row t x) says)
+    fine_ends files scope old new (Err (Broken rule file row)) zone tables runs t p (inr x) says are rs few changes =
+        absurd (not_tables never_both one_first never_wrong files scope (wrong.Broken rule row) zone tables (rule_told files scope old new rule file row t x).0 (record { says = says; are = are }))
+    fine_ends files scope old new (Err (TooLarge what count)) zone tables runs t p (inl x) says are rs few changes =
+        absurd (not_tables never_both one_first never_wrong files scope (wrong.TooMany count) zone tables (rows_told files scope old new what count t x).0 (record { says = says; are = are }))
+    fine_ends files scope old new (Err (TooLarge what count)) zone tables runs t p (inr x) says are rs few changes =
+        absurd (too_much x.much)
+      where
+        have : HaveTables files scope x.zone x.tables
+        have = have_tables files scope old new x.zone x.tables t x.read
+
+        too_much : HasManyConnections scope x.zone x.tables what count ⊎ HasManyChangesAlone scope x.zone x.tables what count → ⊥
+        too_much (inl m) =
+            let same : length (connections_of m.runs) ≡ length (connections_of runs) = ap (λ (r : List Run). length (connections_of r)) (same_of never_both one_first never_wrong files scope one_zone one_tables one_days one_runs x.zone zone x.tables tables m.runs runs have (record { says = says; are = are }) m.are_runs rs) in
+            omega (arith, same, m.many, few)
+        too_much (inr m) =
+            let same = subst (λ (u : Tables). HasFewChanges scope u) (one_tables (files_of files scope.feed) tables x.tables are have.are) changes in
+            omega (arith, m.changes.many, same)
+    fine_ends files scope old new (Err (Folder before after)) zone tables runs t p x says are rs few changes = absurd p
+    fine_ends files scope old new (Err NoMemory) zone tables runs t p x says are rs few changes = absurd p

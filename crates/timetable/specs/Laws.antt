@@ -1,18 +1,21 @@
 -- The timetable of a feed is one, and a feed that has one is not refused.
-use Rattle.std.specs.Prelude.{◌≡◌, ℕ, List, Some, Result, Ok, Err}
+use Rattle.std.specs.Prelude.{◌≡◌, ◌⊎◌, ◌≤◌, ℕ, List, length, Some, Result, Ok, Err}
 use Rattle.lc_io.specs.Folder.{FolderSeen}
 use Rattle.lc_io.specs.declared.file.File.{File}
+use Rattle.lc_model.specs.Connection.{connections_of}
+use Rattle.lc_model.specs.declared.run.Run.{Run}
 use Rattle.lc_time.specs.declared.zone.Zone.{Zone}
 use Rattle.service_days.specs.Laws.{ShowSame}
-use Rattle.service_days.specs.ZoneWord.{SaysZone}
+use Rattle.service_days.specs.ZoneWord.{IsWrong, SaysZone}
 use Rattle.gtfs_fields.specs.declared.fault.FileFault.TheVariants as wrong
-use Rattle.gtfs_feed.specs.Feed.{IsFirstBroken, named_at}
+use Rattle.gtfs_feed.specs.Feed.{AreTables, IsFirstBroken, named_at, what_of}
 use Rattle.gtfs_feed.specs.Files.{files_of, name_of}
 use Rattle.gtfs_feed.specs.declared.feed_file.FeedFile.{FeedFile}
 use Rattle.gtfs_feed.specs.declared.tables.Tables.{Tables}
 use Rattle.gtfs_feed.specs.declared.what.What.{What}
 use Rattle.timetable.specs.Loading.{Loads, LoadsSo}
-use Rattle.timetable.specs.Timetable.{IsTimetableOf}
+use Rattle.timetable.specs.Made.{HasManyChangesAlone, HasManyConnections}
+use Rattle.timetable.specs.Timetable.{HasFewChanges, IsTimetableOf, RunsAre}
 use Rattle.timetable.specs.Told.{IsSound, zone_bytes}
 use Rattle.timetable.specs.declared.fault.LoadFault.{LoadFault}
 use Rattle.timetable.specs.declared.fault.LoadFault.TheVariants as fault
@@ -87,3 +90,39 @@ BrokenEnds =
     → old.files ≡ Some files → IsOfFiles end → LoadsSo scope old new end → SaysZone scope.zone (zone_bytes files scope.zone) zone
     → IsFirstBroken (files_of files scope.feed) place at (wrong.Broken rule row)
     → end ≡ Err (fault.Broken rule (name_of (named_at (files_of files scope.feed) at)) row)
+
+-- where the word says no zone, it ends with rule 15 and the word
+abbrev pub NoZoneEnds : Type 0
+NoZoneEnds =
+    (files : List File) (scope : Scope) (old new : FolderSeen) (end : Result Timetable LoadFault)
+    → old.files ≡ Some files → IsOfFiles end → LoadsSo scope old new end → IsWrong scope.zone (zone_bytes files scope.zone)
+    → end ≡ Err (fault.Broken 15 scope.zone 0)
+
+-- where the first file that is wrong has too many rows, it ends with their number
+abbrev pub RowsEnd : Type 0
+RowsEnd =
+    (files : List File) (scope : Scope) (old new : FolderSeen) (end : Result Timetable LoadFault) (zone : Zone) (place : ℕ) (at : FeedFile) (count : ℕ) (what : What)
+    → old.files ≡ Some files → IsOfFiles end → LoadsSo scope old new end → SaysZone scope.zone (zone_bytes files scope.zone) zone
+    → IsFirstBroken (files_of files scope.feed) place at (wrong.TooMany count) → what_of at ≡ Some what
+    → end ≡ Err (fault.TooLarge what count)
+
+-- where the tables have too many connections, or not these but too many changes, it ends with their number
+abbrev pub MuchEnds : Type 0
+MuchEnds =
+    (files : List File) (scope : Scope) (old new : FolderSeen) (end : Result Timetable LoadFault) (zone : Zone) (tables : Tables) (what : What) (count : ℕ)
+    → old.files ≡ Some files → IsOfFiles end → LoadsSo scope old new end → SaysZone scope.zone (zone_bytes files scope.zone) zone
+    → AreTables (files_of files scope.feed) tables → HasManyConnections scope zone tables what count ⊎ HasManyChangesAlone scope zone tables what count
+    → end ≡ Err (fault.TooLarge what count)
+
+-- there is a timetable
+abbrev pub IsMade : Result Timetable LoadFault → Type 0
+IsMade (Ok made) = Unit {0}
+IsMade (Err fault) = ⊥
+
+-- and where no rule and no limit refuses the feed, there is a timetable
+abbrev pub FineEnds : Type 0
+FineEnds =
+    (files : List File) (scope : Scope) (old new : FolderSeen) (end : Result Timetable LoadFault) (zone : Zone) (tables : Tables) (runs : List Run)
+    → old.files ≡ Some files → IsOfFiles end → LoadsSo scope old new end → SaysZone scope.zone (zone_bytes files scope.zone) zone
+    → AreTables (files_of files scope.feed) tables → RunsAre scope zone tables runs → length (connections_of runs) ≤ 4_000_000 → HasFewChanges scope tables
+    → IsMade end

@@ -1,4 +1,4 @@
-ghost use Rattle.timetable.specs.Laws.{BrokenEnds, LoadsTold, NotBroken, NotTooLarge, OneEnd, OneOfTables, OneTimetable};
+ghost use Rattle.timetable.specs.Laws.{BrokenEnds, FineEnds, LoadsTold, MuchEnds, NoZoneEnds, NotBroken, NotTooLarge, OneEnd, OneOfTables, OneTimetable, RowsEnd};
 
 use change_table::one_list_of_changes;
 use gtfs_feed::one_feed;
@@ -21,10 +21,15 @@ pub fn one_timetable()
     one_list_of_changes();
 }
 
-/// The loading of the files that a folder tells ends in one way, but for faults of the folder and want of memory.
+/// The loading of the files that a folder tells ends in one way, but for faults of the folder and want of memory: exactly as the word of the
+/// zone, the first file that is wrong, or a limit has it, and else with a timetable.
 pub fn one_end()
     ensures one { OneEnd }
+    ensures no_zone { NoZoneEnds }
     ensures broken { BrokenEnds }
+    ensures too_many_rows { RowsEnd }
+    ensures too_much { MuchEnds }
+    ensures made { FineEnds }
 {
     one_timetable();
     one_zone_a_word();
