@@ -1,5 +1,6 @@
 pub mod AnsweredLemmas
 pub mod FitsLemmas
+pub mod LinkLemmas
 pub mod OwnPageLemmas
 pub mod PublishedLemmas
 pub mod StepLemmas

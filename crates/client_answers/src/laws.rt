@@ -1,4 +1,5 @@
 ghost use Rattle.client_answers.specs.Laws.{AnswersStay, FitsStays, LinksLeadAlong, NeededStays, OneArrivalAt, OneListOfNeededAt, OneListOfWants, OnePublished, OwnPagesStay, PagesAreAmong, PublishedIsLawful, PublishedStays, WantsStay};
+ghost use Rattle.client_answers.specs.Links.{NextLinksEnd, NextLinksHaveTheRest, PagesBeginAtTheirNames, PreviousLinksEnd, PreviousLinksHaveTheFront};
 
 /// One thing is published of a version: runs that go forward, their connections, and pages of these. The pages of a side are
 /// among them, and their links lead from each one to the next and to the one before it (Linked Connections 1.0; Hydra, `next` and `previous`).
@@ -25,4 +26,13 @@ pub fn versions_stay()
     ensures wants { WantsStay }
     ensures pages { OwnPagesStay }
     ensures clients { FitsStays }
+{}
+
+/// Along the links of published pages, by their names, are all connections from a page on, and all before it, and they come to an end.
+pub fn links_lead_on()
+    ensures next { NextLinksHaveTheRest }
+    ensures previous { PreviousLinksHaveTheFront }
+    ensures next_ends { NextLinksEnd }
+    ensures previous_ends { PreviousLinksEnd }
+    ensures begin { PagesBeginAtTheirNames }
 {}

@@ -5,5 +5,5 @@
 mod laws;
 mod steps;
 
-pub use laws::{one_answer, one_published, versions_stay};
+pub use laws::{links_lead_on, one_answer, one_published, versions_stay};
 pub use steps::{clients_end_right, steps_keep_agreement};

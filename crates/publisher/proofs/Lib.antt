@@ -3,6 +3,7 @@ pub mod AskingLemmas
 pub mod CutsLemmas
 pub mod PageLemmas
 pub mod PlaceLemmas
+pub mod SomeReplyLemmas
 pub mod TimetableLemmas
 pub mod UpdateLemmas
 pub mod VersionsLemmas

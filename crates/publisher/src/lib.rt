@@ -16,7 +16,7 @@ mod saying;
 #[cfg(test)]
 mod tests;
 
-pub use laws::some_timetable;
+pub use laws::{some_reply, some_timetable};
 pub use options::Options;
 pub use publisher::Publisher;
 pub use version_store::{AdmitFault, Admitted};

@@ -1,5 +1,6 @@
 pub mod Asked
 pub mod Laws
+pub mod Near
 pub mod PageAt
 pub mod Reply
 pub mod Response

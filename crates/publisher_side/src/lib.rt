@@ -8,6 +8,6 @@ mod response;
 mod worked;
 
 pub use asked::Asked;
-pub use laws::{mementos_stay, next_is_later, one_reply};
+pub use laws::{mementos_stay, near_replies, near_values, next_is_later, one_reply};
 pub use response::Response;
 pub use worked::worked_sides;

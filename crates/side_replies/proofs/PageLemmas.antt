@@ -45,8 +45,8 @@ side_page_advances side version departs page valid is =
     ap advances is.is
     ∙ page_advances version (side.cuts_of (departures_of is.list)) is.list departs (cuts_are_lawful side version is.list valid is.timetable) is.timetable.are_connections.in_order
 
-can_be_read : (side : Side) (version departs : ℕ) (page : Page) → StandsUnder side.base side → IsPageOf side version departs page → IsSoundPage page → CanBeRead (page_parts side.base true page)
-can_be_read side version departs page stands is sound = record {
+can_be_read : (side : Side) (version departs : ℕ) (page : Page) → StandsUnder side.base side → has_version side version ≡ true → IsPageOf side version departs page → IsSoundPage page → CanBeRead (page_parts side.base true page)
+can_be_read side version departs page stands has is sound = record {
   has_reason = λ e. cc;
   status_len = ok_len;
   location = tt;
@@ -54,7 +54,7 @@ can_be_read side version departs page stands is sound = record {
   memento = sound.name.version;
   allows = refl;
   length_is = refl;
-  body_fits = stands.short.pages version departs page is;
+  body_fits = stands.short.pages version departs page has is;
 }
 
 -- a page passes the tests of the one who asked for it
@@ -65,10 +65,10 @@ is_as_asked : (page : Page) → is_asked page.name (Some page.name.version) page
 is_as_asked page = rw (eq-eqb page.name.version page.name.version refl, eq-eqb page.name.departs page.name.departs refl) refl
 
 -- a page that is sent is told
-sent_is_told : (side : Side) (page : Page) (reply : List ℕ) (response : Response) → StandsUnder side.base side → IsPageOf side page.name.version page.name.departs page
-    → reply ≡ reply_text_of (parts_of side.base side.doc true response) → IsSent side page.name.version page.name.departs response
+sent_is_told : (side : Side) (page : Page) (reply : List ℕ) (response : Response) → StandsUnder side.base side → has_version side page.name.version ≡ true
+    → IsPageOf side page.name.version page.name.departs page → reply ≡ reply_text_of (parts_of side.base side.doc true response) → IsSent side page.name.version page.name.departs response
     → IsPageReply side.base page.name reply (Ok page) × IsSoundPage page
-sent_is_told side page reply response stands is text_is sent =
+sent_is_told side page reply response stands has is text_is sent =
     let base = side.base in
     let version = page.name.version in
     let departs = page.name.departs in
@@ -80,7 +80,7 @@ sent_is_told side page reply response stands is text_is sent =
     let reads = reads_page_text base page (page_text_of base page) (side_page_is_valid side version departs page stands.valid is) sound (page_text_is_utf8 base page stands.valid.base sound) refl in (
       (
         Ok (reply_said parts reply),
-        (says_parts parts reply text (can_be_read side version departs page stands is sound), refl),
+        (says_parts parts reply text (can_be_read side version departs page stands has is sound), refl),
         record {
           body = Ok page;
           read = subst (λ (bytes : List ℕ). page_of_bytes base bytes (Ok page)) (sym body) reads.is;
@@ -108,4 +108,4 @@ page_is_told side page reply stands has sound is told =
     the_one (SaysVersion of) (one_version of) version (Some name.version) is_version (subst (λ (v : Option (List ℕ)). SaysVersion v name.version) (sym at_version) (says_text name.version sound.version)) in
     let sent_of : IsSentOf side (has_version side name.version) name.version name.departs a.response =
     subst (λ (v : Option ℕ). IsPageResponse side v (Some name.departs) a.response) same_version (subst (λ (d : Option ℕ). IsPageResponse side version d a.response) same_departs response) in
-    sent_is_told side page reply a.response stands is a.text_is (subst (λ (b : Bool). IsSentOf side b name.version name.departs a.response) has sent_of)
+    sent_is_told side page reply a.response stands has is a.text_is (subst (λ (b : Bool). IsSentOf side b name.version name.departs a.response) has sent_of)

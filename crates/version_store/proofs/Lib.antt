@@ -2,9 +2,12 @@ pub mod CutLemmas
 pub mod FurtherLemmas
 pub mod KeptLemmas
 pub mod NamedLemmas
+pub mod NearLemmas
+pub mod NoMemoryLemmas
 pub mod OutcomeLemmas
 pub mod PlacedLemmas
 pub mod RowLemmas
 pub mod SomeRowsLemmas
 pub mod StoreLemmas
 pub mod VersionLemmas
+pub mod WorkedLemmas

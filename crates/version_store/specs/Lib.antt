@@ -5,6 +5,8 @@ pub mod Inside
 pub mod Kept
 pub mod Laws
 pub mod Named
+pub mod Near
 pub mod Rows
 pub mod Store
 pub mod Texts
+pub mod Worked

@@ -16,5 +16,7 @@ mod tests;
 
 pub use admission::{AdmitFault, Admitted, MOST_BYTES, MOST_MESSAGE_BYTES, MOST_MESSAGES};
 pub use kept::message_date;
-pub use laws::{cuts_do_not_matter, one_list_of_rows, one_outcome, some_list_of_rows};
+pub use laws::{
+    cuts_do_not_matter, near_values, one_list_of_rows, one_outcome, some_list_of_rows, worked_store,
+};
 pub use store::Store;
