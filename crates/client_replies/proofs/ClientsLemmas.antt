@@ -494,7 +494,7 @@ module _ (base : BaseParts) (questions : List Query) (query : Query) (first link
           kept = take_kept_more base [] all one so.met.kept (λ none. absurd (not_both none));
           told = subst (λ (l : List Met). TellsMet base questions l first.told after.told) (sym (asked_more all one refl))
               (tells_met_more base questions query (asked_in all) one x.request first.told link.told after.told so.met.told asks asked x.told);
-          counted = along_more first.faults link.faults after.faults all one so.met.counted refl (rose_by got refl) refl;
+          counted = along_more first.faults link.faults after.faults all one so.met.counted refl (λ none. absurd (not_both none)) (rose_by got refl) refl;
         }
 
     exchange_counted : is.exchanges ≡ exchanges_by k (all ++ one ∷ [])
@@ -620,7 +620,7 @@ module _ (base : BaseParts) (questions : List Query) (query : Query) (first link
         by_clients = All-push (IsByOneOf (length questions)) all one so.met.by_clients (record { from_one = from_one; at_most = by_one_of });
         kept = take_kept_more base [] all one so.met.kept (λ none. was_kept);
         told = subst (λ (l : List Met). TellsMet base questions l first.told link.told) (sym (not_asked_more all one refl)) so.met.told;
-        counted = along_more first.faults link.faults link.faults all one so.met.counted refl (RoseBy-none link.faults link.faults (no_less link.faults)) refl;
+        counted = along_more first.faults link.faults link.faults all one so.met.counted refl (λ none. refl) (RoseBy-none link.faults link.faults (no_less link.faults)) refl;
       } in
       let moves = page_taken base first.faults after.faults was.client is.client (met_by k all) h.name at said.reply h.page says h.takes in
       let no_fault : (low high : ℕ) → (shown is.client).outcome ≡ Some (outcomes.LinkFault low high) → ⊥ =

@@ -82,10 +82,11 @@ module _ (all : List Met) (met : Met) where
   not_asked_more none = filter_without (λ (m : Met). m.asked) all met none
 
 -- the count goes on
-pub along_more : (faults now later : ℕ) (all : List Met) (met : Met) → CountAlong faults now all → met.low ≡ now → RoseBy (failures_in (met ∷ [])) met.low met.high → met.high ≡ later →
+pub along_more : (faults now later : ℕ) (all : List Met) (met : Met) → CountAlong faults now all → met.low ≡ now → (met.asked ≡ false → met.high ≡ met.low) → RoseBy (failures_in (met ∷ [])) met.low met.high
+    → met.high ≡ later →
     CountAlong faults later (all ++ met ∷ [])
-along_more faults now later [] met along from rose to = (from ∙ sym along, rose, to)
-along_more faults now later (m ∷ all) met along from rose to = (along.0, along.1, along_more m.high now later all met along.2 from rose to)
+along_more faults now later [] met along from kept rose to = (from ∙ sym along, kept, rose, to)
+along_more faults now later (m ∷ all) met along from kept rose to = (along.0, along.1, along.2, along_more m.high now later all met along.3 from kept rose to)
 
 -- one more that was kept, if it was met without an exchange
 pub take_kept_more : (base : BaseParts) (before all : List Met) (met : Met) → TakeKept base before all → (met.asked ≡ false → WasKept base (before ++ all) met.made) → TakeKept base before (all ++ met ∷ [])

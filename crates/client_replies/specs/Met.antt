@@ -40,10 +40,12 @@ asked_in all = filter (λ (met : Met). met.asked) all
 abbrev pub failures_in : List Met → ℕ
 failures_in all = length (filter (λ (met : Met). is_none met.made.got) all)
 
--- The count of a link's faults went along all this from the one to the other: nothing came between, and each exchange that failed raised it.
+-- The count of a link's faults went along all this from the one to the other: nothing came between, each exchange that failed raised it, and a
+-- page that was kept left it.
 abbrev pub CountAlong : ℕ → ℕ → List Met → Type 0
 CountAlong faults now [] = faults ≡ now
-CountAlong faults now (met ∷ more) = (met.low ≡ faults) × RoseBy (failures_in (met ∷ [])) met.low met.high × CountAlong met.high now more
+CountAlong faults now (met ∷ more) =
+    (met.low ≡ faults) × (met.asked ≡ false → met.high ≡ met.low) × RoseBy (failures_in (met ∷ [])) met.low met.high × CountAlong met.high now more
 
 -- an exchange of the client failed, in which the count went from the one to the other
 pub record HasFailedBetween (client low high : ℕ) (all : List Met) : Type 0 where
