@@ -3,6 +3,7 @@ mod CausedCourseLemmas
 mod CausedEndsLemmas
 mod EventLemmas
 mod FailureLemmas
+mod FaultLemmas
 mod FinishesClientLemmas
 mod FinishesLemmas
 mod FinishesListLemmas

@@ -1,13 +1,16 @@
 -- What courses come to that were played over a link. X is the type of the link, and `seen` what is promised of it.
-use Rattle.std.specs.Prelude.{◌≡◌, ◌≤◌, ℕ, List, Some, length}
+use Rattle.std.specs.Prelude.{◌≡◌, ◌≤◌, ℕ, ◌+◌, List, Option, Some, length, slice_get}
 use Rattle.std.specs.List.{All}
 use Rattle.command_words.specs.declared.command.Publishing.{Publishing}
-use Rattle.client_replies.specs.Met.{Met}
+use Rattle.client_replies.specs.Met.{HasFailedBetween, Met}
 use Rattle.connection_uri.specs.Base.{BaseParts}
 use Rattle.convoy.specs.Finish.{Rounds}
 use Rattle.convoy.specs.State.{ConvoyState, begun}
 use Rattle.convoy_answers.specs.Names.{Round}
+use Rattle.lc_model.specs.declared.query.Query.{Query}
 use Rattle.lc_world.specs.Link.{LinkSeen}
+use Rattle.lc_world.specs.declared.entry.Entry.{Entry}
+use Rattle.page_client.specs.declared.outcome.Outcome.TheVariants.{LinkFault}
 use Rattle.publisher_side.specs.Side.{IsValidSide}
 use Rattle.timetable.specs.declared.timetable.Timetable.{Timetable}
 use Rattle.asking.specs.Block.{IsPrintable}
@@ -57,3 +60,12 @@ PlaysCaused {X} seen =
     → TurnsAreOfClients all → (plays : Plays seen all (begun base cache) played start behind lines) → (rounds : Rounds seen (length played.members) played ended behind after)
     → HaveEndedSo ended.members ends
     → ArePlayedCaused base all (seen start) (seen after) lines ends (all_rounds seen all (begun base cache) played ended start behind after lines plays rounds)
+
+-- Over a clear link an exchange that failed ended its client, and no other, with the counts of the link before and behind it.
+abbrev pub FaultsAreOwn : Type 0
+FaultsAreOwn =
+    (made : Timetable) (publishing : Publishing) (all : List Event) (cache : ℕ) (told now_told : Option (List Entry)) (faults now_faults : ℕ) (lines : List ℕ) (ends : List ClientEnd)
+    → (caused : AreCaused publishing.base all told now_told faults now_faults ends)
+    → ArePlayedRight made publishing all cache told now_told faults now_faults lines ends caused.met
+    → (place : ℕ) (query : Query) (end : ClientEnd) → slice_get (questions_in all) place ≡ Some query → slice_get ends place ≡ Some end
+    → (low high : ℕ) → HasFailedBetween (place + 1) low high caused.met → end.outcome ≡ LinkFault low high

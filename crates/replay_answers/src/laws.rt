@@ -1,4 +1,4 @@
-ghost use Rattle.replay_answers.specs.Laws.{PlaysCaused, PlaysRight};
+ghost use Rattle.replay_answers.specs.Laws.{FaultsAreOwn, PlaysCaused, PlaysRight};
 ghost use Rattle.replay_course.specs.Laws.{OneCourse};
 
 use client_answers::{one_answer, steps_keep_agreement};
@@ -29,3 +29,9 @@ pub fn one_course()
     one_answer();
     one_outcome();
 }
+
+/// Over a clear link an exchange that failed ended its own client, with the counts of the link before and behind it. So no client is said to have
+/// failed that did not, and none by the counts of another's failure.
+pub fn faults_are_own()
+    ensures { FaultsAreOwn }
+{}

@@ -4,4 +4,4 @@
 
 mod laws;
 
-pub use laws::{courses_are_caused, courses_are_right, one_course};
+pub use laws::{courses_are_caused, courses_are_right, faults_are_own, one_course};
