@@ -29,6 +29,7 @@ pub record IsLawful (published : Published) : Type 0 where
   pub runs : RunsForward published.live
   pub forward : NoneArrivesEarly published.list
 
+-- what is published at a version of a valid side is lawful
 abbrev pub PublishedIsLawful : Type 0
 PublishedIsLawful = (side : Side) (version : ℕ) (published : Published) → IsValidSide side → IsPublished side version published → IsLawful published
 
@@ -38,6 +39,7 @@ pub record IsAmong (side : Side) (version departs : ℕ) (page : Page) : Type 0 
   pub is_published : IsPublished side version published
   pub is : page ≡ linked version (side.cuts_of (departures_of published.list)) (page_for published.first published.rest departs)
 
+-- each page of a side is among those that are published at its version
 abbrev pub PagesAreAmong : Type 0
 PagesAreAmong = (side : Side) (version departs : ℕ) (page : Page) → IsPageOf side version departs page → IsAmong side version departs page
 
@@ -48,6 +50,7 @@ pub record LinksToNeighbours (version moment : ℕ) (published : Published) (pag
   pub along : along_next published.first published.rest moment ≡ page_for published.first published.rest moment ∷ behind
   pub is : page ≡ between version (reverse (along_previous published.first published.rest moment)) (page_for published.first published.rest moment) behind
 
+-- the links of each page of a side lead to its neighbours
 abbrev pub LinksLeadAlong : Type 0
 LinksLeadAlong =
     (side : Side) (version moment : ℕ) (published : Published) (page : Page) → IsValidSide side → IsPublished side version published → IsPageOf side version moment page
@@ -75,15 +78,19 @@ Stays IsSo =
     (before after : Side) (version : ℕ) → IsValidSide after → IsLater before after → has_version before version ≡ true
     → (IsSo before version ↔ IsSo after version)
 
+-- what is published stays
 abbrev pub PublishedStays : Type 0
 PublishedStays = (published : Published) → Stays (λ side version. IsPublished side version published)
 
+-- an answer stays one
 abbrev pub AnswersStay : Type 0
 AnswersStay = (query : Query) (answer : Answer) → Stays (λ side version. AnswersAt side version query answer)
 
+-- the names of the needed pages stay
 abbrev pub NeededStays : Type 0
 NeededStays = (query : Query) (names : List PageName) → Stays (λ side version. NeededAt side version query names)
 
+-- the wants of a question stay
 abbrev pub WantsStay : Type 0
 WantsStay = (query : Query) (wanted : List Want) → Stays (λ side version. AreWants side version query wanted)
 

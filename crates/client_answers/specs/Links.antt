@@ -49,6 +49,7 @@ PreviousLinksHaveTheFront =
 abbrev pub NextLinksEnd : Type 0
 NextLinksEnd = (side : Side) (version : ℕ) (list : List Connection) (page : Page) → IsPageAt side version list page → (more : List Page) × AreAlongNext side page more
 
+-- the links to the page before come to an end too
 abbrev pub PreviousLinksEnd : Type 0
 PreviousLinksEnd = (side : Side) (version : ℕ) (list : List Connection) (page : Page) → IsPageAt side version list page → (more : List Page) × AreAlongPrevious side page more
 

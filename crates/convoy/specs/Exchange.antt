@@ -40,6 +40,7 @@ abbrev pub AfterExchange : Client → Client → ℕ → ℕ → Got → Type 0
 AfterExchange old new before after (Some reply) = new ≡ old
 AfterExchange old new before after None = shown new ≡ ended (LinkFault before after) (shown old)
 
+-- the exchange was made, and the client is as it leaves it
 pub record IsAsked (base : BaseParts) (old new : Client) (before after : LinkSeen) (got : Got) : Type 0 where
   pub exchange : IsExchange base (shown old) before after got
   pub client : AfterExchange old new before.faults after.faults got

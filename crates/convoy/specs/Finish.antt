@@ -8,6 +8,7 @@ use Rattle.convoy.specs.declared.member.Member.{Member}
 use Rattle.convoy.specs.declared.turn.Turn.{Turn}
 use Rattle.convoy.specs.declared.turn.Turn.TheVariants.{Exchanged}
 
+-- a member has its outcome
 abbrev pub HasOutcome : Member → Type 0
 HasOutcome m = IsSome (shown m.client).outcome
 

@@ -7,9 +7,11 @@ use Rattle.page_cache.specs.Kept.{is_same}
 use Rattle.page_client.specs.declared.want.Want.{Want}
 use Rattle.page_client.specs.declared.want.Want.TheVariants as wants
 
+-- the names of pages
 abbrev pub names_of : List Page → List PageName
 names_of pages = map (λ (page : Page). page.name) pages
 
+-- a name is among these
 abbrev pub is_among : List PageName → PageName → Bool
 is_among names name = list_any (is_same name) names
 

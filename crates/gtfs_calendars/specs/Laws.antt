@@ -16,9 +16,11 @@ use Rattle.gtfs_calendars.specs.declared.transfer.Transfer.{Transfer}
 abbrev pub OneWeekly : Type 0
 OneWeekly = SayOne {Value = List Weekly} AreWeekly
 
+-- the first fault of calendar.txt
 abbrev pub OneCalendarFault : Type 0
 OneCalendarFault = SayOne IsCalendarFault
 
+-- calendar.txt never says weekdays and has a fault
 abbrev pub NeverBothWeekly : Type 0
 NeverBothWeekly = AreNeverBoth {Value = List Weekly} AreWeekly IsCalendarFault
 
@@ -26,9 +28,11 @@ NeverBothWeekly = AreNeverBoth {Value = List Weekly} AreWeekly IsCalendarFault
 abbrev pub OneDates : Type 0
 OneDates = SayOne {Value = List DateRow} AreDates
 
+-- the first fault of calendar_dates.txt
 abbrev pub OneCalendarDatesFault : Type 0
 OneCalendarDatesFault = SayOne IsCalendarDatesFault
 
+-- calendar_dates.txt never says dates and has a fault
 abbrev pub NeverBothDates : Type 0
 NeverBothDates = AreNeverBoth {Value = List DateRow} AreDates IsCalendarDatesFault
 
@@ -36,9 +40,11 @@ NeverBothDates = AreNeverBoth {Value = List DateRow} AreDates IsCalendarDatesFau
 abbrev pub OneFrequencies : Type 0
 OneFrequencies = (trips : List TripRow) → SayOne {Value = List Frequency} (AreFrequencies trips)
 
+-- the first fault of frequencies.txt
 abbrev pub OneFrequenciesFault : Type 0
 OneFrequenciesFault = (trips : List TripRow) → SayOne (IsFrequenciesFault trips)
 
+-- frequencies.txt never says frequencies and has a fault
 abbrev pub NeverBothFrequencies : Type 0
 NeverBothFrequencies = (trips : List TripRow) → AreNeverBoth {Value = List Frequency} (AreFrequencies trips) (IsFrequenciesFault trips)
 
@@ -46,8 +52,10 @@ NeverBothFrequencies = (trips : List TripRow) → AreNeverBoth {Value = List Fre
 abbrev pub OneTransfers : Type 0
 OneTransfers = (stops : List Stop) → SayOne {Value = List Transfer} (AreTransfers stops)
 
+-- the first fault of transfers.txt
 abbrev pub OneTransfersFault : Type 0
 OneTransfersFault = (stops : List Stop) → SayOne (IsTransfersFault stops)
 
+-- transfers.txt never says transfers and has a fault
 abbrev pub NeverBothTransfers : Type 0
 NeverBothTransfers = (stops : List Stop) → AreNeverBoth {Value = List Transfer} (AreTransfers stops) (IsTransfersFault stops)

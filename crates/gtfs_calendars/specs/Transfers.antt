@@ -56,16 +56,19 @@ abbrev pub transfer_of : Bool → Option (List ℕ) → Option (List ℕ) → Op
 transfer_of false (Some from) (Some to) (Some kind) (Some seconds) = Some (record { from = from; to = to; kind = kind; seconds = seconds })
 transfer_of _ _ _ _ _ = None
 
--- what a row says of its stops, of routes and trips, of its kind and of its seconds
+-- the stop that a row leads from
 abbrev pub from_of : Sheet → List (List ℕ) → List ℕ
 from_of sheet row = text_at sheet row (codes "from_stop_id")
 
+-- the stop that a row leads to
 abbrev pub to_of : Sheet → List (List ℕ) → List ℕ
 to_of sheet row = text_at sheet row (codes "to_stop_id")
 
+-- the kind of a row
 abbrev pub kind_of : Sheet → List (List ℕ) → Option ℕ
 kind_of sheet row = kind_said (text_at sheet row (codes "transfer_type"))
 
+-- the seconds of a row, where it says some
 abbrev pub seconds_of : Sheet → List (List ℕ) → Option (Option ℕ)
 seconds_of sheet row = seconds_said (text_at sheet row (codes "min_transfer_time"))
 

@@ -4,6 +4,7 @@ use Rattle.std.specs.Fmt.{decimal}
 use Rattle.gtfs_rows.specs.declared.fault.RowFault.{RowFault}
 use Rattle.gtfs_rows.specs.declared.fault.RowFault.TheVariants as faults
 
+-- the text of a fault
 abbrev pub fault_text : RowFault → List ℕ
 fault_text faults.NotUtf8 = codes "not UTF-8"
 fault_text faults.NoHeader = codes "no header"

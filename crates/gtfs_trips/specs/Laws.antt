@@ -9,21 +9,27 @@ use Rattle.gtfs_trips.specs.Stops.{AreStopsOf, IsStopsFault}
 use Rattle.gtfs_trips.specs.Trips.{AreTripsOf, IsTripsFault}
 use Rattle.gtfs_trips.specs.declared.stop_times.StopTime.{StopTime}
 
+-- the stops of stops.txt
 abbrev pub OneStops : Type 0
 OneStops = SayOne {Value = List Stop} AreStopsOf
 
+-- the first fault of stops.txt
 abbrev pub OneStopsFault : Type 0
 OneStopsFault = SayOne IsStopsFault
 
+-- stops.txt never says stops and has a fault
 abbrev pub NeverBothStops : Type 0
 NeverBothStops = AreNeverBoth {Value = List Stop} AreStopsOf IsStopsFault
 
+-- the trips of trips.txt
 abbrev pub OneTrips : Type 0
 OneTrips = SayOne {Value = List TripRow} AreTripsOf
 
+-- the first fault of trips.txt
 abbrev pub OneTripsFault : Type 0
 OneTripsFault = SayOne IsTripsFault
 
+-- trips.txt never says trips and has a fault
 abbrev pub NeverBothTrips : Type 0
 NeverBothTrips = AreNeverBoth {Value = List TripRow} AreTripsOf IsTripsFault
 
@@ -33,9 +39,11 @@ OneStopTimes =
     (stops : List Stop) (trips : List TripRow) (bytes : List ℕ) (a b : List StopTime) (s t : List TripRow)
     → AreStopTimesOf stops trips bytes a s → AreStopTimesOf stops trips bytes b t → (a ≡ b) × (s ≡ t)
 
+-- the first fault of stop_times.txt
 abbrev pub OneStopTimesFault : Type 0
 OneStopTimesFault = (stops : List Stop) (trips : List TripRow) → SayOne (IsStopTimesFault stops trips)
 
+-- stop_times.txt never says stop times and has a fault
 abbrev pub NeverBothStopTimes : Type 0
 NeverBothStopTimes =
     (stops : List Stop) (trips : List TripRow) (bytes : List ℕ) (times : List StopTime) (kept : List TripRow) (fault : FileFault)

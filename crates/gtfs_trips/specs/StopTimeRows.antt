@@ -38,10 +38,11 @@ same_key x y = bytes_eq x.0 y.0 && option_eq nat_eq x.1 y.1
 abbrev pub stop_time_keys : Sheet → List (List ℕ × Option ℕ)
 stop_time_keys sheet = map (key_of sheet) sheet.rows
 
--- the ids of stops, and of trips
+-- the ids of stops
 abbrev pub ids_of_stops : List Stop → List (List ℕ)
 ids_of_stops stops = map (λ (s : Stop). s.id) stops
 
+-- the ids of trips
 abbrev pub ids_of_trips : List TripRow → List (List ℕ)
 ids_of_trips trips = map (λ (t : TripRow). t.trip) trips
 

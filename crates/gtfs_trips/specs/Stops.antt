@@ -21,10 +21,11 @@ stops_columns = codes "stop_id" ∷ []
 abbrev pub most_stops : ℕ
 most_stops = 100_000
 
--- the stop_id and the parent_station of a row
+-- the stop_id of a row
 abbrev pub stop_id_of : Sheet → List (List ℕ) → List ℕ
 stop_id_of sheet row = text_at sheet row (codes "stop_id")
 
+-- the parent_station of a row
 abbrev pub parent_of : Sheet → List (List ℕ) → List ℕ
 parent_of sheet row = text_at sheet row (codes "parent_station")
 

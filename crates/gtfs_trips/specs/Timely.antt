@@ -6,10 +6,11 @@ use Rattle.lc_model.specs.Change.{is_same_id}
 use Rattle.gtfs_fields.specs.Times.{IsInDay}
 use Rattle.gtfs_trips.specs.declared.stop_times.StopTime.{StopTime}
 
--- the arrival of a row, and its departure: a row with one of its two times uses it for both
+-- the arrival of a row: one with one of its two times uses it for both
 abbrev pub arrival_of : StopTime → Option ℕ
 arrival_of t = option_or t.arr t.dep
 
+-- the departure of a row
 abbrev pub departure_of : StopTime → Option ℕ
 departure_of t = option_or t.dep t.arr
 

@@ -17,10 +17,11 @@ trips_columns = codes "trip_id" ∷ codes "service_id" ∷ []
 abbrev pub most_trips : ℕ
 most_trips = 500_000
 
--- the trip_id and the service_id of a row
+-- the trip_id of a row
 abbrev pub trip_id_of : Sheet → List (List ℕ) → List ℕ
 trip_id_of sheet row = text_at sheet row (codes "trip_id")
 
+-- the service_id of a row
 abbrev pub service_of : Sheet → List (List ℕ) → List ℕ
 service_of sheet row = text_at sheet row (codes "service_id")
 

@@ -16,6 +16,7 @@ length_in [] = Missing
 length_in (value ∷ []) = length_at value
 length_in (value ∷ second ∷ values) = Wrong
 
+-- the length that the fields of a head say
 abbrev pub length_of : List FieldText → Length
 length_of fields = length_in (values_of (codes "content-length") fields)
 

@@ -46,6 +46,7 @@ pub record SaysOf (status len got : ℕ) (fields : List FieldText) (reply : Repl
 abbrev pub HasReplyHead : List ℕ → ResponseHead → Type 0
 HasReplyHead bytes h = (rest : List ℕ) × ReadsResponse (front_of bytes) h rest
 
+-- how many bytes stand behind the head
 abbrev pub behind : List ℕ → ResponseHead → ℕ
 behind bytes h = length bytes - length (print_response h)
 

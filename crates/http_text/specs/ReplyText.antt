@@ -30,17 +30,21 @@ reason_of status =
 abbrev pub HasReason : ℕ → Type 0
 HasReason status = reason_of status ≢ []
 
+-- the status line
 abbrev pub status_line : ℕ → List ℕ
 status_line status = line (codes "HTTP/1.1 " ++ decimal status ++ codes " " ++ reason_of status)
 
+-- the media type of a body (RFC 6838)
 abbrev pub media_type : BodyKind → List ℕ
 media_type Page = codes "application/ld+json"
 media_type Stops = codes "application/json"
 
+-- the line of the body's media type
 abbrev pub kind_line : Option BodyKind → List ℕ
 kind_line None = []
 kind_line (Some kind) = line (codes "Content-Type: " ++ media_type kind)
 
+-- the line of the body's length
 abbrev pub length_line : Option ℕ → List ℕ
 length_line None = []
 length_line (Some length) = line (codes "Content-Length: " ++ decimal length)
@@ -55,14 +59,17 @@ abbrev pub link_line : Option (List ℕ) → List ℕ
 link_line None = []
 link_line (Some url) = line (codes "Link: <" ++ url ++ codes ">; rel=\"original timegate\"")
 
+-- the methods that a target takes
 abbrev pub methods : Allow → List ℕ
 methods Reading = codes "GET, HEAD"
 methods Posting = codes "POST"
 
+-- the line of the methods
 abbrev pub allow_line : Option Allow → List ℕ
 allow_line None = []
 allow_line (Some allow) = line (codes "Allow: " ++ methods allow)
 
+-- the line that ends the connection
 abbrev pub close_line : Bool → List ℕ
 close_line false = []
 close_line true = line (codes "Connection: close")

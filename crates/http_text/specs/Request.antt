@@ -26,6 +26,7 @@ refusal_of minor target fields =
     else (if is_hostless minor fields then Some 400
     else (if is_origin_form target || is_absolute_form target then None else Some 400)))))
 
+-- why a head is refused, if it is
 abbrev pub refusal_of_head : RequestHead → Option ℕ
 refusal_of_head h = refusal_of h.minor h.target (texts_of h.fields)
 
@@ -52,6 +53,7 @@ request_said method target minor fields len = record {
   close = closes minor fields;
 }
 
+-- what a head asks for
 abbrev pub request_of : RequestHead → Request
 request_of h = request_said h.method h.target h.minor (texts_of h.fields) (length (print_request h))
 

@@ -22,6 +22,7 @@ pub record CanAsk (target text : List ℕ) : Type 0 where
   pub visible : AllPass is_uri_byte target
   pub head_fits : length text ≤ 16_384
 
+-- the name and the value of a field
 abbrev pub field_text : Field → FieldText
 field_text field = (field.name, field.value)
 

@@ -26,6 +26,7 @@ abbrev pub taken_of : Option ℕ → ℕ → ℕ → Taken
 taken_of (Some status) needed got = Refused status
 taken_of None needed got = with_body needed got
 
+-- how many bytes the whole request takes
 abbrev pub needed : RequestHead → ℕ
 needed h = length (print_request h) + body_len h
 

@@ -25,6 +25,7 @@ abbrev pub from_first : (ℕ → Bool) → List ℕ → List ℕ
 from_first test [] = []
 from_first test (byte ∷ bytes) = if test byte then byte ∷ bytes else from_first test bytes
 
+-- a target from its path on
 abbrev pub behind_authority : List ℕ → List ℕ
 behind_authority target = if is_absolute_form target then from_first ends_authority (drop 7 target) else target
 

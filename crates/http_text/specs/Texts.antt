@@ -4,6 +4,7 @@ use Rattle.std.specs.Fmt.{decimal}
 use Rattle.http_text.specs.declared.reply_fault.ReplyFault.{ReplyFault}
 use Rattle.http_text.specs.declared.reply_fault.ReplyFault.TheVariants as faults
 
+-- the text of a fault
 abbrev pub fault_text : ReplyFault → List ℕ
 fault_text faults.Head = codes "no head of a reply"
 fault_text faults.LongHead = codes "too long a head"

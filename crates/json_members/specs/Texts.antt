@@ -4,6 +4,7 @@ use Rattle.std.specs.Fmt.{decimal}
 use Rattle.json_members.specs.declared.fault.PageFault.{PageFault}
 use Rattle.json_members.specs.declared.fault.PageFault.TheVariants as faults
 
+-- the text of a fault
 abbrev pub fault_text : PageFault → List ℕ
 fault_text faults.NotJson = codes "not JSON"
 fault_text (faults.NoMember name) = codes "no member " ++ name

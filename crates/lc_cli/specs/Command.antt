@@ -24,16 +24,19 @@ use Rattle.lc_cli.specs.declared.block.Block.{Block}
 use Rattle.command_inputs.specs.declared.refusal.Refusal.{Refusal}
 use Rattle.command_inputs.specs.declared.refusal.Refusal.TheVariants.{Usage, Load}
 
--- what each command asks of its feed
+-- what `check` asks of its feed
 abbrev pub check_scope : Check → Scope
 check_scope check = record { feed = check.feed; zone = check.zone; first = check.first; days = check.days; change = check.change }
 
+-- what `ask` asks of its feed
 abbrev pub ask_scope : Ask → Scope
 ask_scope ask = record { feed = ask.feed; zone = ask.zone; first = ask.first; days = ask.days; change = ask.change }
 
+-- what `replay` asks of its feed
 abbrev pub replay_scope : Replay → Scope
 replay_scope replay = record { feed = replay.feed; zone = replay.zone; first = replay.first; days = replay.days; change = replay.change }
 
+-- what a command asks of its feed
 abbrev pub scope_of : Command → Scope
 scope_of (commands.Check check) = check_scope check
 scope_of (commands.Ask ask) = ask_scope ask

@@ -3,6 +3,7 @@ use Rattle.std.specs.Prelude.{ℕ}
 use Rattle.lc_cli.specs.declared.status.Status.{Status}
 use Rattle.lc_cli.specs.declared.status.Status.TheVariants.{Done, Usage, FeedBroken, UpdateBroken, FolderFault, SinkFault, LinkFault, PeerWrong, QueryRefused, ScriptWrong, TooLarge, NoMemory}
 
+-- the number of a status
 abbrev pub code_of : Status → ℕ
 code_of Done = 0
 code_of Usage = 2

@@ -17,6 +17,7 @@ pub record HasReached {T : Type 0} (told : Type 0) (before_faults after_faults :
   pub tells : told
   pub has_cause : HasCause before_faults after_faults (IsErrOf result Failed)
 
+-- an exchange of a link, as it is seen before and after
 abbrev pub Reaches : {T : Type 0} → LinkSeen → LinkSeen → List ℕ → List ℕ → List ℕ → Result T LinkFail → Type 0
 Reaches before after authority request reply result =
     HasReached (Tells before.told after.told authority request reply result) before.faults after.faults result

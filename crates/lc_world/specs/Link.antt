@@ -38,6 +38,7 @@ pub record IsQuiet (told : Option Side) (said said_quiet : Type 0) (base : BaseP
   pub as_honest : IsHonest told said base side
   pub quiet : said_quiet
 
+-- the link is quiet, with this side at its other end
 abbrev pub IsQuietWith : LinkSeen → BaseParts → Side → Type 0
 IsQuietWith link base side = IsQuiet link.side (link.honest base) (link.quiet base) base side
 

@@ -59,5 +59,6 @@ abbrev pub AfterPage : Client → Page → Option Outcome → Client → Type 0
 AfterPage old page (Some outcome) new = shown new ≡ ended outcome (shown old)
 AfterPage old page None new = GoesOnBy old page new
 
+-- what the client is behind a page
 abbrev pub TakesPage : Client → Page → Client → Type 0
 TakesPage old page new = AfterPage old page (wrong_gate page old.query.leave old.gate) new

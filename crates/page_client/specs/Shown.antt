@@ -50,6 +50,7 @@ abbrev pub first_phase : Option QueryFault → Phase
 first_phase None = phases.Gate
 first_phase (Some fault) = phases.Finished
 
+-- the outcome of a client that is refused at once
 abbrev pub first_outcome : Option QueryFault → Option Outcome
 first_outcome None = None
 first_outcome (Some fault) = Some (outcomes.Refused fault)
@@ -90,6 +91,7 @@ abbrev pub behind_stops : Phase → Phase
 behind_stops (phases.Stops first) = phases.Page first
 behind_stops phase = phase
 
+-- what is shown behind the stops document
 abbrev pub after_stops : Shown → Shown
 after_stops s = record { query = s.query; phase = behind_stops s.phase; version = s.version; gate = s.gate; outcome = s.outcome }
 
@@ -143,11 +145,13 @@ abbrev pub pages_left : Query → Option (List ℕ) → PageName → ℕ
 pages_left query (Some gate) name = query.horizon + 1
 pages_left query None name = query.leave + query.horizon - name.departs + 1
 
+-- how many exchanges are left at most in a phase
 abbrev pub left_at : Query → Option (List ℕ) → Phase → ℕ
 left_at query gate phases.Gate = query.horizon + 3
 left_at query gate (phases.Stops first) = query.horizon + 2
 left_at query gate (phases.Page name) = pages_left query gate name
 left_at query gate phases.Finished = 0
 
+-- how many exchanges are left at most
 abbrev pub exchanges_left : Shown → ℕ
 exchanges_left s = left_at s.query s.gate s.phase

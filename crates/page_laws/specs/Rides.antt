@@ -49,6 +49,7 @@ EarlyMayGo =
     (list : List Connection) (query : Query) (doc : StopsDoc) (journey : Journey) → InDepartureOrder list → NoneArrivesEarly list →
     (IsChain query doc list journey ↔ IsChain query doc (departing query.leave None list) journey)
 
+-- and the least arrival is the same without it
 abbrev pub LeastWithoutEarly : Type 0
 LeastWithoutEarly =
     (list : List Connection) (query : Query) (doc : StopsDoc) (best : Option ℕ) → InDepartureOrder list → NoneArrivesEarly list →

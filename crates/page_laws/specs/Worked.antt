@@ -23,10 +23,11 @@ at hours minutes = 1_714_521_600 + 3600 * hours + 60 * minutes
 abbrev pub six : List ℕ
 six = at 8 0 ∷ at 8 11 ∷ at 8 12 ∷ at 8 20 ∷ at 9 0 ∷ at 10 0 ∷ []
 
--- the page 08:00, and the pages 09:00 and 10:00
+-- the page 08:00
 abbrev pub at_eight : RunKey → CutPage
 at_eight key = page_at key (at 8 0) (at 8 0 ∷ at 8 11 ∷ at 8 12 ∷ at 8 20 ∷ [])
 
+-- the pages 09:00 and 10:00
 abbrev pub from_nine : RunKey → List CutPage
 from_nine key = page_at key (at 9 0) (at 9 0 ∷ []) ∷ page_at key (at 10 0) (at 10 0 ∷ []) ∷ []
 

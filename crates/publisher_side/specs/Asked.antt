@@ -21,9 +21,11 @@ is_under base tail path = is_same path (base.path ++ tail)
 abbrev pub is_head : List ℕ → Bool
 is_head method = is_same method (codes "HEAD")
 
+-- a method reads
 abbrev pub is_reading : List ℕ → Bool
 is_reading method = is_same method (codes "GET") || is_head method
 
+-- a method posts
 abbrev pub is_posting : List ℕ → Bool
 is_posting method = is_same method (codes "POST")
 

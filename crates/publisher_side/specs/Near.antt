@@ -63,6 +63,7 @@ pub record OnePage (side : Side) (version departs : ℕ) (page : Page) : Type 0 
   pub of_version : page.name.version ≡ version
   pub other : (wrong : Page) → wrong ≢ page → IsPageOf side version departs wrong → ⊥
 
+-- each page of a side is the only one of its name
 abbrev pub PagesAreOne : Type 0
 PagesAreOne = (side : Side) (version departs : ℕ) (page : Page) → IsPageOf side version departs page → OnePage side version departs page
 
@@ -77,6 +78,7 @@ pub record KeepsAll (before after : Side) : Type 0 where
   pub accepts_updates : after.accepts_updates ≡ before.accepts_updates
   pub cuts_of : after.cuts_of ≡ before.cuts_of
 
+-- a later side keeps all of the one before
 abbrev pub NothingIsLost : Type 0
 NothingIsLost = (before after : Side) → IsLater before after → KeepsAll before after
 
@@ -125,11 +127,13 @@ pub record IsPageSent (side : Side) (version departs : ℕ) (request : Request) 
   pub page_is : IsPageOf side version departs page
   pub text_is : text ≡ text_said side request (responses.Page page)
 
+-- a page of a version that is there is sent
 abbrev pub SentWhereThere : Type 0
 SentWhereThere =
     (side : Side) (bytes text : List ℕ) (version departs : ℕ) (asks : AsksPage side bytes version departs) → has_version side version ≡ true → IsReply side bytes text
     → IsPageSent side version departs asks.request text
 
+-- a page of a version that is not there is not found
 abbrev pub NotFoundWhereNot : Type 0
 NotFoundWhereNot =
     (side : Side) (bytes text : List ℕ) (version departs : ℕ) (asks : AsksPage side bytes version departs) → has_version side version ≡ false → IsReply side bytes text

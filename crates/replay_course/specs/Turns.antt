@@ -24,13 +24,15 @@ rounds_of client [] rounds = []
 rounds_of client (other ∷ more) [] = []
 rounds_of client (other ∷ more) (round ∷ rounds) = if other == client then round ∷ rounds_of client more rounds else rounds_of client more rounds
 
--- what was given in these turns, what was asked for in vain, and what was asked for all in all
+-- what was given in these turns
 abbrev pub given_in : List Round → List Want
 given_in rounds = flat_map (λ (round : Round). round.given) rounds
 
+-- what was asked for in vain
 abbrev pub failed_in : List Round → List Want
 failed_in rounds = flat_map (λ (round : Round). round.failed) rounds
 
+-- what was asked for all in all
 abbrev pub asked_in : List Round → List Want
 asked_in rounds = flat_map (λ (round : Round). round.asked) rounds
 

@@ -12,6 +12,7 @@ pub data Content : Type 0 where
   text : (bytes : List ℕ) → Content
   four : (n : ℕ) → Content
 
+-- the number of a kind of content
 abbrev pub wire_type : Content → ℕ
 wire_type (varint n) = 0
 wire_type (eight n) = 1
@@ -23,6 +24,7 @@ pub record WireField : Type 0 where
   pub number : ℕ
   pub content : Content
 
+-- the number of a field
 abbrev pub IsNumber : ℕ → Type 0
 IsNumber number = (0 < number) × (number ≤ 536_870_911)
 
@@ -37,6 +39,7 @@ IsContent bytes (four n) = (length bytes ≡ 4) × (n ≡ from_le_bytes w32 byte
 abbrev pub IsTag : List ℕ → ℕ → ℕ → Type 0
 IsTag bytes number wire = (wire < 8) × IsVarint bytes (number * 8 + wire)
 
+-- the bytes are the field: its tag and, behind it, its content
 abbrev pub IsField : List ℕ → WireField → Type 0
 IsField bytes field = (tag : List ℕ) × (behind : List ℕ) × (bytes ≡ tag ++ behind) × IsTag tag field.number (wire_type field.content) × IsNumber field.number × IsContent behind field.content
 

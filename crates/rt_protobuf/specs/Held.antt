@@ -6,6 +6,7 @@ use Rattle.rt_protobuf.specs.declared.reading.Held.{Held}
 use Rattle.rt_protobuf.specs.declared.reading.Held.TheVariants as held
 use Rattle.rt_protobuf.specs.Grammar.{Content, varint, eight, text, four}
 
+-- the content that is held
 abbrev pub held_content : Held → Content
 held_content (held.Varint n) = varint n
 held_content (held.Eight n) = eight n

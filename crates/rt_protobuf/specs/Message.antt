@@ -15,6 +15,7 @@ content_of message (values.Eight n) = eight n
 content_of message (values.Span from to) = text (slice_range message from to)
 content_of message (values.Four n) = four n
 
+-- the field that stands at these places
 abbrev pub field_of : List ℕ → Field → WireField
 field_of message f = record { number = f.number; content = content_of message f.value }
 

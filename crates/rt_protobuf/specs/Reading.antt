@@ -6,6 +6,7 @@ use Rattle.rt_protobuf.specs.declared.fault.WireFault.TheVariants.{Cut, LongVari
 use Rattle.rt_protobuf.specs.Grammar.{Content, varint, eight, text, four, WireField}
 use Rattle.rt_protobuf.specs.Parts.{Parts, whole, broken, field}
 
+-- what goes on from a value, and stops at a fault
 infixl 10 ◌>>=◌
 abbrev pub ◌>>=◌ : {A B : Type 0} → Result A WireFault → (A → Result B WireFault) → Result B WireFault
 (Ok x) >>= f = f x
@@ -19,17 +20,21 @@ varint_at place left (b ∷ bytes) =
     else (if nat_lt b 128 then Ok (b, bytes)
     else (varint_at place (left - 1) bytes >>= λ high. Ok ((b - 128 + 128 * high.0) % 2 ^ 64, high.1)))
 
+-- the bytes of a length that is said before them, and what is behind
 unfoldable pub text_at : ℕ → List ℕ → Result (List ℕ × List ℕ) WireFault
 text_at place bytes = do
   n ← varint_at place 10 bytes
   if nat_lt (length n.1) n.0 then Err (Cut place) else Ok (take n.0 n.1, drop n.0 n.1)
 
+-- eight bytes as a number, and what is behind
 unfoldable pub eight_at : ℕ → List ℕ → Result (ℕ × List ℕ) WireFault
 eight_at place bytes = if nat_lt (length bytes) 8 then Err (Cut place) else Ok (from_le_bytes w64 (take 8 bytes), drop 8 bytes)
 
+-- four bytes as a number, and what is behind
 unfoldable pub four_at : ℕ → List ℕ → Result (ℕ × List ℕ) WireFault
 four_at place bytes = if nat_lt (length bytes) 4 then Err (Cut place) else Ok (from_le_bytes w32 (take 4 bytes), drop 4 bytes)
 
+-- content of a wire type, and what is behind
 unfoldable pub content_at : ℕ → ℕ → List ℕ → Result (Content × List ℕ) WireFault
 content_at place wire bytes =
     if wire == 0 then (varint_at place 10 bytes >>= λ n. Ok (varint n.0, n.1))
@@ -38,6 +43,7 @@ content_at place wire bytes =
     else (if wire == 5 then (four_at place bytes >>= λ n. Ok (four n.0, n.1))
     else (if nat_lt 5 wire then Err (BadField place) else Err (Group place)))))
 
+-- a field, and what is behind
 unfoldable pub field_at : ℕ → List ℕ → Result (WireField × List ℕ) WireFault
 field_at place bytes = do
   tag ← varint_at place 10 bytes
@@ -54,6 +60,7 @@ parts_within zero place bytes = whole
 parts_within (suc most) place [] = whole
 parts_within (suc most) place (b ∷ bytes) = begin (λ next rest. parts_within most next rest) place (b ∷ bytes) (field_at place (b ∷ bytes))
 
+-- the parts of these bytes
 unfoldable pub parts_of : ℕ → List ℕ → Parts
 parts_of place bytes = parts_within (length bytes) place bytes
 

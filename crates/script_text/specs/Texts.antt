@@ -4,6 +4,7 @@ use Rattle.std.specs.Fmt.{decimal}
 use Rattle.script_text.specs.declared.fault.ScriptFault.{ScriptFault}
 use Rattle.script_text.specs.declared.fault.ScriptFault.TheVariants as faults
 
+-- the text of a fault
 abbrev pub fault_text : ScriptFault → List ℕ
 fault_text (faults.Wrong row) = codes "row " ++ decimal row ++ codes " is no record"
 fault_text faults.NoMemory = codes "no memory"

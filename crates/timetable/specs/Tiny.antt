@@ -63,6 +63,7 @@ pub IsNothing : Option ℕ → Type 0
 IsNothing None = Unit {0}
 IsNothing (Some x) = ⊥
 
+-- none is not some start
 pub no_start : (x : ℕ) → None ≡ Some x → ⊥
 unfolding IsNothing
 no_start x e = subst IsNothing e tt

@@ -11,10 +11,11 @@ use Rattle.gtfs_trips.specs.declared.stop_times.StopTime.{StopTime}
 abbrev pub is_timed_at : List StopTime → ℕ → Bool
 is_timed_at rows place = option_map_or is_timed (slice_get rows place) false
 
--- The arrival and the departure that the row at a place has. A row with one of its two times uses it for both.
+-- The arrival of the row at a place. One with one of its two times uses it for both.
 abbrev pub arrival_at : List StopTime → ℕ → ℕ
 arrival_at rows place = unwrap_or (option_and_then arrival_of (slice_get rows place)) 0
 
+-- the departure of the row at a place
 abbrev pub departure_at : List StopTime → ℕ → ℕ
 departure_at rows place = unwrap_or (option_and_then departure_of (slice_get rows place)) 0
 
@@ -39,9 +40,10 @@ blank_time rows place =
     let after = timed_after rows place in
     time_between (departure_at rows before) before place after (arrival_at rows after)
 
--- when the trip arrives at the stop of the row at a place, and when it departs, in seconds of the service day
+-- when the trip arrives at the stop of the row at a place, in seconds of the service day
 abbrev pub arrives_at : List StopTime → ℕ → ℕ
 arrives_at rows place = if is_timed_at rows place then arrival_at rows place else blank_time rows place
 
+-- when it departs there, in seconds of the service day
 abbrev pub departs_at : List StopTime → ℕ → ℕ
 departs_at rows place = if is_timed_at rows place then departure_at rows place else blank_time rows place

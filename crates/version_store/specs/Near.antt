@@ -60,6 +60,7 @@ pub record IsRowOf (store : Stored) (version from : ℕ) (to : Option ℕ) (c : 
   pub of_version : AreConnectionsAt store version all
   pub there : Contains all c
 
+-- each row that is asked for is one of the span
 abbrev pub EachIsInTheSpan : Type 0
 EachIsInTheSpan =
     (store : Stored) (version from : ℕ) (to : Option ℕ) (rows : List Connection) (c : Connection) → AreRows store version from to rows → Contains rows c

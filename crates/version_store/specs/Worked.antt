@@ -35,10 +35,11 @@ key_of trip = record { trip = trip; date = first_date; start = None; start_in_ra
 abbrev pub calls_to : ℕ → ℕ → List Call
 calls_to moment seconds = call (codes "A") 1 (at 8 0) (at 8 0) (pos 0) (pos 0) ∷ call (codes "B") 2 moment moment (pos seconds) (pos seconds) ∷ []
 
--- the run as the timetable has it, and 60 seconds late in B
+-- the run as the timetable has it
 abbrev pub on_time : Run
 on_time = record { key = key_of (codes "T1"); calls = calls_to (at 8 10) 0 }
 
+-- the run 60 seconds late in B
 abbrev pub late_run : Run
 late_run = record { key = key_of (codes "T1"); calls = calls_to (at 8 11) 60 }
 
@@ -88,6 +89,7 @@ added_news trip =
 abbrev pub run_with : List ℕ → List Call → Run
 run_with trip calls = record { key = key_of trip; calls = calls }
 
+-- the calls of an added trip: A at 08:05, and D at a moment
 abbrev pub added_calls_to : ℕ → List Call
 added_calls_to moment = call (codes "A") 1 (at 8 5) (at 8 5) (pos 0) (pos 0) ∷ call (codes "D") 2 moment moment (pos 0) (pos 0) ∷ []
 
