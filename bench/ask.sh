@@ -9,7 +9,7 @@
 # /usr/bin/time of GNU.
 . "$(dirname "$0")/begin.sh"
 
-LC=${LC:-$bench/../crates/lc_cli/out/lc_cli}
+LC=${LC:-$bench/../crates/lc/out/lc}
 BESIDE=${BESIDE:-}
 ROUNDS=${ROUNDS:-11}
 RUNS=${RUNS:-20}

@@ -8,7 +8,7 @@
 # LC is the program, ROUNDS the number of rounds.
 . "$(dirname "$0")/begin.sh"
 
-LC=${LC:-$bench/../crates/lc_cli/out/lc_cli}
+LC=${LC:-$bench/../crates/lc/out/lc}
 ROUNDS=${ROUNDS:-5}
 # Of ten rows nine have a connection to the next, on each of two days.
 DAYS=2

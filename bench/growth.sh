@@ -7,7 +7,7 @@
 # LC is the program, ROUNDS the number of rounds. The feeds take about 60 MB of disk while it runs.
 . "$(dirname "$0")/begin.sh"
 
-LC=${LC:-$bench/../crates/lc_cli/out/lc_cli}
+LC=${LC:-$bench/../crates/lc/out/lc}
 ROUNDS=${ROUNDS:-3}
 # Of ten rows nine have a connection to the next on each of the days: the last feed has 3,999,960 connections.
 DAYS=5

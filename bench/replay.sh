@@ -8,7 +8,7 @@
 # LC is the program, ROUNDS the number of rounds, ROWS the rows of the feed's stop_times.txt.
 . "$(dirname "$0")/begin.sh"
 
-LC=${LC:-$bench/../crates/lc_cli/out/lc_cli}
+LC=${LC:-$bench/../crates/lc/out/lc}
 ROUNDS=${ROUNDS:-3}
 # Of ten rows nine have a connection to the next.
 ROWS=${ROWS:-111110}

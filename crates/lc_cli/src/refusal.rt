@@ -15,7 +15,7 @@ const NO_MEMORY: &[u8] = b"error no memory\n";
 
 /// Says the refusal in one line, which is tried once, and ends with its status, whatever becomes of the line; or for want of memory
 /// where there is none to make the line.
-pub(crate) fn refuse<S: Sink>(alloc: Global, refusal: Refusal, out: &mut S) -> Status
+pub fn refuse<S: Sink>(alloc: Global, refusal: Refusal, out: &mut S) -> Status
     ensures end { IsRefusalEnd refusal (S.seen out.old) (S.seen out.new) result }
     ensures kept { NeitherFell (S.seen out.old) (S.seen out.new) }
 {

@@ -51,7 +51,7 @@ pub enum Status {
         client: usize,
         fault: QueryFault,
     },
-    /// The file of a message is absent, which is row 0.
+    /// This row of the script is wrong, or names a file that is absent. Row 0: the script itself is absent, or the file of `--update`.
     ScriptWrong {
         row: u64,
     },

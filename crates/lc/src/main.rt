@@ -1,28 +1,15 @@
-//! The command `lc`: it checks feeds, and plans journeys over pages that a publisher of the feed gives. It stands on the words, the
-//! timetable of a feed, and `asking`.
+//! The program `lc`: it runs the command of its words over the system's files and its output. It stands on `lc_cli`.
 #![tactic(auto)]
 
-mod block;
-mod check_text;
-mod command;
-mod edge;
-mod laws;
-mod refusal;
-mod status;
-#[cfg(test)]
-mod tests;
-mod top;
-mod worked;
+mod words;
 
 use command_inputs::Refusal;
-use edge::words_of;
+use lc_cli::{Status, code, refuse, run};
 use lc_edge::{ClosedLink, DirFolder, StdSink};
 use lc_model::NoMemory;
 use lc_world::SureDoor;
-use refusal::refuse;
-use status::{Status, code};
 use std::process::ExitCode;
-use top::run;
+use words::words_of;
 
 fn main(rt: HostRuntime) -> ExitCode {
     let mut out = StdSink::new(&rt);

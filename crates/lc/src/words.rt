@@ -9,7 +9,7 @@ use std::env;
 use std::io::ErrorKind;
 
 /// The words behind the program's name, or why they cannot be read.
-pub fn words_of(rt: &HostRuntime) -> Result<Vec<String>, Refusal>
+pub(crate) fn words_of(rt: &HostRuntime) -> Result<Vec<String>, Refusal>
     ensures { IfErr result (λ refusal. (refusal ≡ Usage) ⊎ (refusal ≡ Load no_memory)) }
 {
     match env::args(rt) {

@@ -1,0 +1,18 @@
+//! The commands of `lc`: they check feeds, and plan journeys over pages that a publisher of the feed gives. It stands on the words,
+//! the timetable of a feed, `asking` and `replaying`.
+#![tactic(auto)]
+
+mod block;
+mod check_text;
+mod command;
+mod laws;
+mod refusal;
+mod status;
+mod top;
+mod worked;
+
+pub use laws::{one_run, one_status};
+pub use refusal::refuse;
+pub use status::{Status, code};
+pub use top::run;
+pub use worked::worked_answer;

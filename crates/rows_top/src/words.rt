@@ -1,0 +1,43 @@
+//! What words come to over the feed Tiny: by hand from its ten minutes at B and its two minutes of change. A page has half an hour of
+//! departures: those of 08:00, 09:00 and 10:00.
+use crate::running::put_over_tiny;
+use rows_common::Unmade;
+use std::alloc::Global;
+
+/// A line for each case. The last three tell how many exchanges a question takes: with a page for each departure, with one page, and
+/// with half an hour in each.
+const WORDS: &str = "ask tiny A D 2024-05-01T08:00:00Z
+ask --days=3 tiny -- A D 2024-05-01T08:00:00Z
+ask tiny A D 2024-05-01T08:00:01Z
+ask tiny A D 2024-05-01T08:00:00Z --days 1
+ask tiny A D 2024-05-01T08:00:00Z --change 121
+ask tiny A D 2024-05-01T08:00:00Z --horizon 1860
+ask tiny A D 2024-05-01T08:00:00Z --horizon 1859
+ask tiny A D 2024-05-01T08:00:00Z --horizon=604800
+ask tiny A D 2024-05-01T08:00:00Z --horizon 0
+ask tiny X X 2024-05-01T08:00:00Z --horizon 604801
+ask tiny A D 2024-05-01T08:00:00Z --horizon 4294967296
+ask tiny A D yesterday
+ask tiny A D 2024-05-01T08:00:00Z --cache 0
+ask tiny A D 2024-05-01T08:00:00Z --base http://lc.example/a!b/
+ask tiny A D 2024-05-01T08:00:00Z --days 3 --days 3
+ask tiny A D 1970-01-10T23:59:59Z
+ask tiny A A 2024-05-01T08:00:00Z
+ask tiny X D 2024-05-01T08:00:00Z
+ask tiny A X 2024-05-01T08:00:00Z
+ask none A D 2024-05-01T08:00:00Z
+ask tiny A D 2024-05-01T08:00:00Z --update none.pb
+check tiny 20240501
+check tiny 20240501 --zone cet
+check tiny 20240501 --zone file:none
+check tiny 20240230
+ask tiny A D 2024-05-01T08:00:00Z --cuts count:1
+ask tiny A D 2024-05-01T08:00:00Z --cuts whole
+ask tiny A D 2024-05-01T08:00:00Z --cuts span:1800";
+
+pub fn put_words(alloc: Global, text: &mut String) -> Result<(), Unmade> {
+    for words in WORDS.split('\n') {
+        put_over_tiny(alloc, text, words)?;
+    }
+    Ok(())
+}
