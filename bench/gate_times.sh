@@ -1,6 +1,6 @@
 #!/bin/sh
-# What each crate costs the gate where nothing is kept, in processor seconds: its own proof, that of the crate with its tests, and
-# its wrong bodies, begun with what its proof kept. Prints the table of docs/GATE.md.
+# What each crate costs the merge gate where nothing is kept, in processor seconds: its own proof, that of the crate with its tests, and
+# its mutants, begun with what its proof kept. Prints the table of docs/GATE.md.
 #
 #   bench/gate_times.sh [--write] [CRATE..]
 #
@@ -21,7 +21,7 @@ writes = "--write" in words
 GATE = f"{top}/docs/GATE.md"
 BEGIN, END = "<!-- The table of bench/gate_times.sh begins. -->\n", "<!-- It ends. -->\n"
 CHECK = ["check", "--jobs", "1"]
-HEAD = "| crate | proof | proof with its tests | wrong bodies | together |\n|---|---:|---:|---:|---:|\n"
+HEAD = "| crate | proof | proof with its tests | mutants | together |\n|---|---:|---:|---:|---:|\n"
 
 with open(f"{top}/crates.txt", encoding="utf-8") as file:
     listed = [line.partition("#")[0].partition(":") for line in file]
