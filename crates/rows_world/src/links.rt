@@ -1,0 +1,117 @@
+//! A link that gives the replies of a list.
+use crate::lines::{put_bytes, put_count, put_number};
+use lc_model::Bytes;
+use lc_world::{Entry, Link, LinkFail, ListLink, ToldReply};
+use rows_common::{Unmade, put_line};
+use std::alloc::Global;
+
+pub fn bytes(alloc: Global, text: &str) -> Result<Bytes, Unmade> {
+    match text.as_bytes().to_vec(alloc) {
+        Ok(list) => Ok(Bytes::from_list(list)),
+        Err(_) => Err(Unmade),
+    }
+}
+
+fn link(alloc: Global) -> Result<ListLink, Unmade> {
+    let first = bytes(alloc, "one")?;
+    let second = bytes(alloc, "two")?;
+    let replies = vec![in alloc; first, second]?;
+    Ok(ListLink::new(replies)?)
+}
+
+/// A list of two replies: asked, handed on, and used up. What was replied is told, also an answer that is left as it is.
+pub fn put_links(alloc: Global, text: &mut String) -> Result<(), Unmade> {
+    let mut link = link(alloc)?;
+    put_exchanges(alloc, text, &mut link)
+}
+
+fn put_exchanges(alloc: Global, text: &mut String, link: &mut ListLink) -> Result<(), Unmade> {
+    match b"what was there".as_slice().to_vec(alloc) {
+        Ok(mut reply) => put_replies(alloc, text, link, &mut reply),
+        Err(_) => Err(Unmade),
+    }
+}
+
+/// What each exchange leaves until the replies are used up, and then.
+fn put_replies(
+    alloc: Global,
+    text: &mut String,
+    link: &mut ListLink,
+    reply: &mut Vec<u8>,
+) -> Result<(), Unmade> {
+    put_asked(alloc, text, link, "GET 1", reply)?;
+    put_passed(alloc, text, link, "lc.example", "GET 2", reply)?;
+    reply.push(b'!')?;
+    put_passed(alloc, text, link, "lc.example:80", "GET 3", reply)?;
+    put_used_up(alloc, text, link, reply)
+}
+
+/// The faults in front of an exchange without a reply and behind it, and all that is told.
+fn put_used_up(
+    alloc: Global,
+    text: &mut String,
+    link: &mut ListLink,
+    reply: &mut Vec<u8>,
+) -> Result<(), Unmade> {
+    put_number(text, "faults of the link", link.faults())?;
+    put_asked(alloc, text, link, "GET 4", reply)?;
+    put_number(text, "faults of the link", link.faults())?;
+    put_told(text, link.told())
+}
+
+fn put_asked(
+    alloc: Global,
+    text: &mut String,
+    link: &mut ListLink,
+    request: &str,
+    reply: &mut Vec<u8>,
+) -> Result<(), Unmade> {
+    let asked = link.exchange(alloc, "lc.example", request.as_bytes(), reply);
+    put_came(text, "asked", asked)?;
+    put_bytes(text, "reply", reply.as_slice())
+}
+
+fn put_passed(
+    alloc: Global,
+    text: &mut String,
+    link: &mut ListLink,
+    authority: &str,
+    request: &str,
+    reply: &mut Vec<u8>,
+) -> Result<(), Unmade> {
+    let passed = link.pass(alloc, authority, request.as_bytes(), reply);
+    put_came(text, "handed on", passed)?;
+    put_bytes(text, "reply", reply.as_slice())
+}
+
+fn put_came(text: &mut String, name: &str, came: Result<(), LinkFail>) -> Result<(), Unmade> {
+    match came {
+        Ok(()) => put_line(text, name, "done"),
+        Err(LinkFail::Failed) => put_line(text, name, "failed"),
+        Err(LinkFail::NoMemory) => Err(Unmade),
+    }
+}
+
+/// The exchanges that the link tells, behind their number.
+fn put_told(text: &mut String, told: &[Entry]) -> Result<(), Unmade> {
+    put_count(text, "told exchanges", told.len())?;
+    for entry in told {
+        put_entry(text, entry)?;
+    }
+    Ok(())
+}
+
+fn put_entry(text: &mut String, entry: &Entry) -> Result<(), Unmade> {
+    put_line(text, "told authority", entry.authority.as_str())?;
+    put_bytes(text, "told request", entry.request.as_slice())?;
+    put_bytes(text, "told reply", reply_of(entry))
+}
+
+/// The reply of an entry, in a word where there is none.
+fn reply_of(entry: &Entry) -> &[u8] {
+    match &entry.reply {
+        ToldReply::Hidden => b"(hidden)",
+        ToldReply::Failed => b"(failed)",
+        ToldReply::Reply(reply) => reply.as_slice(),
+    }
+}

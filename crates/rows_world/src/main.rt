@@ -1,0 +1,24 @@
+//! Prints what links, doors and caches of pages give in worked cases, a line a value, and what they are compared with stands in
+//! `stdout`.
+#![tactic(auto)]
+
+mod cache;
+mod doors;
+mod lines;
+mod links;
+
+use rows_common::{Unmade, exit_code};
+use std::alloc::Global;
+use std::process::ExitCode;
+
+fn main(rt: HostRuntime) -> ExitCode {
+    let mut text = String::new(rt.alloc());
+    let made = put_cases(rt.alloc(), &mut text);
+    exit_code(made, print!(rt; "{text}"))
+}
+
+fn put_cases(alloc: Global, text: &mut String) -> Result<(), Unmade> {
+    links::put_links(alloc, text)?;
+    doors::put_doors(alloc, text)?;
+    cache::put_caches(alloc, text)
+}
