@@ -7,8 +7,6 @@ mod encoding;
 mod names;
 mod pages;
 mod parts;
-#[cfg(test)]
-mod tests;
 
 pub use base::{Base, base_is_cut_once, bases_are_read, bases_are_written, one_base};
 pub use encoding::{decode, encode};

@@ -5,8 +5,6 @@ mod by_count;
 mod by_span;
 mod cutting;
 mod fragmenter;
-#[cfg(test)]
-mod tests;
 mod whole;
 
 pub use by_count::{ByCount, MOST_CONNECTIONS};

@@ -9,8 +9,6 @@ mod mem_sink;
 mod sink;
 mod sure_folder;
 mod sure_sink;
-#[cfg(test)]
-mod tests;
 
 pub use file::File;
 pub use folder::{Folder, FolderFail};

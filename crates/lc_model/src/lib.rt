@@ -24,8 +24,6 @@ mod ranked;
 mod ride;
 mod run;
 mod stop;
-#[cfg(test)]
-mod tests;
 mod text;
 mod walk;
 

@@ -10,8 +10,6 @@ mod digits;
 mod http;
 mod iso;
 mod laws;
-#[cfg(test)]
-mod tests;
 mod zone;
 
 pub use calendar::days_at;

@@ -5,8 +5,6 @@
 mod entity;
 mod event;
 mod stop_news;
-#[cfg(test)]
-mod tests;
 mod trip_news;
 mod update;
 mod worked;

@@ -9,8 +9,6 @@ mod link;
 mod list_link;
 mod pieces;
 mod sure_door;
-#[cfg(test)]
-mod tests;
 
 pub use door::{Door, DoorFail, Next};
 pub use entry::{Entry, ToldReply};

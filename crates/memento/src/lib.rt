@@ -4,8 +4,6 @@
 
 mod gate;
 mod negotiation;
-#[cfg(test)]
-mod tests;
 
 pub use connection_uri::{page_url, read_page_url};
 pub use gate::gate_target;

@@ -3,7 +3,5 @@
 #![tactic(auto)]
 
 mod cache;
-#[cfg(test)]
-mod tests;
 
 pub use cache::{MOST_PAGES, PageCache};
