@@ -1,0 +1,25 @@
+//! Prints what the words of a command line say, a line a case: options before, between and behind the plain words, and what is no
+//! command. What the lines have to be stands in `stdout`.
+#![tactic(auto)]
+
+mod commands;
+mod draft;
+mod options;
+mod words;
+
+use draft::Draft;
+use rows_common::exit_code;
+use std::alloc::Global;
+use std::process::ExitCode;
+
+fn main(rt: HostRuntime) -> ExitCode {
+    let mut draft = Draft::new(rt.alloc());
+    put_cases(rt.alloc(), &mut draft);
+    let printed = print!(rt; "{}", draft.as_str());
+    exit_code(draft.made(), printed)
+}
+
+fn put_cases(alloc: Global, draft: &mut Draft) {
+    commands::put_commands(alloc, draft);
+    options::put_options(alloc, draft);
+}
