@@ -1,0 +1,35 @@
+//! Prints worked cases of service days, of changes between stops and of runs, a line each, and what they are compared with stands
+//! in `stdout`.
+#![tactic(auto)]
+
+mod change_cases;
+mod day_cases;
+mod draft;
+mod run_cases;
+mod zone_cases;
+
+use draft::Draft;
+use rows_common::exit_code;
+use std::alloc::Global;
+use std::process::ExitCode;
+
+fn main(rt: HostRuntime) -> ExitCode {
+    let mut draft = Draft::new(rt.alloc());
+    put_cases(rt.alloc(), &mut draft);
+    let printed = print!(rt; "{}", draft.as_str());
+    exit_code(draft.made(), printed)
+}
+
+fn put_cases(alloc: Global, draft: &mut Draft) {
+    zone_cases::put_times(alloc, draft);
+    zone_cases::put_civil_dates(alloc, draft);
+    zone_cases::put_wrong_words(alloc, draft);
+    zone_cases::put_files(draft);
+    day_cases::put_listed(alloc, draft);
+    change_cases::put_by_rows(alloc, draft);
+    change_cases::put_single_stops(alloc, draft);
+    change_cases::put_large_station(alloc, draft);
+    change_cases::put_faults(draft);
+    run_cases::put_feeds(alloc, draft);
+    run_cases::put_dates(draft);
+}
