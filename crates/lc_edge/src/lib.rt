@@ -10,8 +10,6 @@ mod home_link;
 mod local_link;
 mod std_sink;
 mod taking;
-#[cfg(test)]
-mod tests;
 
 pub use closed_link::ClosedLink;
 pub use dir_folder::DirFolder;

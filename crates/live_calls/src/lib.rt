@@ -9,8 +9,6 @@ mod laws;
 mod naming;
 mod run_calls;
 mod run_connections;
-#[cfg(test)]
-mod tests;
 mod told;
 
 pub use build_run::{added_key, added_run, added_run_on};

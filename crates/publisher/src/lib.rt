@@ -13,8 +13,6 @@ mod publisher;
 mod replying;
 mod responding;
 mod saying;
-#[cfg(test)]
-mod tests;
 
 pub use laws::{some_reply, some_timetable};
 pub use options::Options;

@@ -11,6 +11,3 @@ pub use fault::WireFault;
 pub use field::{Field, Value};
 pub use parting::one_parting;
 pub use reading::next_field;
-
-#[cfg(test)]
-mod tests;

@@ -18,6 +18,3 @@ pub use lc_versions::{
     EntityList, EntityNews, Event, Relation, StopNews, StopNewsList, TripKind, TripNews, Update,
 };
 pub use message::read_message;
-
-#[cfg(test)]
-mod tests;

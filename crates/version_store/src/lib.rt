@@ -11,8 +11,6 @@ mod live_runs;
 mod named;
 mod rows;
 mod store;
-#[cfg(test)]
-mod tests;
 
 pub use admission::{AdmitFault, Admitted, MOST_BYTES, MOST_MESSAGE_BYTES, MOST_MESSAGES};
 pub use kept::message_date;
