@@ -1,0 +1,41 @@
+//! Prints what is taken, read and written of messages of HTTP, a line a case: heads as real clients send them, and rows after
+//! RFC 9112 and RFC 9110. What the lines have to be stands in `stdout`.
+#![tactic(auto)]
+
+mod draft;
+mod limits;
+mod recorded;
+mod replies;
+mod replies_read;
+mod requests;
+mod taking;
+mod waiting;
+
+use draft::Draft;
+use http_text::HeadRoom;
+use rows_common::exit_code;
+use std::alloc::Global;
+use std::process::ExitCode;
+
+fn main(rt: HostRuntime) -> ExitCode {
+    let mut draft = Draft::new(rt.alloc());
+    put_cases(rt.alloc(), &mut draft);
+    let printed = print!(rt; "{}", draft.as_str());
+    exit_code(draft.made(), printed)
+}
+
+fn put_cases(alloc: Global, draft: &mut Draft) {
+    match HeadRoom::new(alloc) {
+        Ok(mut room) => put_requests(alloc, draft, &mut room),
+        Err(_) => draft.lose(),
+    }
+    replies::put_replies(alloc, draft);
+    replies_read::put_replies_read(alloc, draft);
+}
+
+fn put_requests(alloc: Global, draft: &mut Draft, room: &mut HeadRoom) {
+    taking::put_taken(alloc, draft, room);
+    waiting::put_waiting(alloc, draft, room);
+    limits::put_limits(alloc, draft, room);
+    requests::put_requests(alloc, draft, room);
+}
