@@ -5,8 +5,6 @@ mod convoy;
 mod exchange;
 mod member;
 mod steps;
-#[cfg(test)]
-mod tests;
 mod turn;
 mod turning;
 

@@ -18,6 +18,3 @@ mod walks;
 
 pub use fault::BeginFault;
 pub use scan::Scan;
-
-#[cfg(test)]
-mod tests;

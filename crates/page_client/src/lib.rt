@@ -14,8 +14,6 @@ mod replied;
 mod request;
 mod step;
 mod stops_reply;
-#[cfg(test)]
-mod tests;
 mod want;
 
 pub use client::Client;
