@@ -1,0 +1,30 @@
+//! Prints what is read and written of the texts of the program, a line a case: members of JSON, pages and stops documents,
+//! answers, and scripts. What the lines have to be stands in `stdout`.
+#![tactic(auto)]
+
+mod answers;
+mod document_texts;
+mod draft;
+mod members;
+mod page_texts;
+mod pages;
+mod scripts;
+
+use draft::Draft;
+use rows_common::exit_code;
+use std::alloc::Global;
+use std::process::ExitCode;
+
+fn main(rt: HostRuntime) -> ExitCode {
+    let mut draft = Draft::new(rt.alloc());
+    put_cases(rt.alloc(), &mut draft);
+    let printed = print!(rt; "{}", draft.as_str());
+    exit_code(draft.made(), printed)
+}
+
+fn put_cases(alloc: Global, draft: &mut Draft) {
+    members::put_members(alloc, draft);
+    pages::put_pages(alloc, draft);
+    answers::put_answers(alloc, draft);
+    scripts::put_scripts(alloc, draft);
+}

@@ -1,0 +1,190 @@
+//! Pages and stops documents: read and written again, and their first faults.
+ghost use Rattle.std.specs.Prelude.{IfOk};
+ghost use Rattle.page_json.specs.Valid.{IsValidPage};
+
+use crate::document_texts::{DOCUMENTS, STOPS};
+use crate::draft::Draft;
+use crate::page_texts::{EMPTY, PAGES, THREE, TINY, WORDS};
+use connection_uri::Base;
+use lc_model::{Connection, PlainData, StopsDoc};
+use page_json::{Page, page_text, read_page, read_stops, stops_text};
+use rows_common::Unmade;
+use std::alloc::Global;
+
+const NO_STOPS: &str = "{\"@id\":\"http://lc.example/stops\",\"changes\":[],\"stops\":[]}";
+
+/// Lines for texts that are read and written again, for the pages and the documents, and for what a page's connections say.
+pub fn put_pages(alloc: Global, draft: &mut Draft) {
+    match Base::read(alloc, b"http://lc.example/") {
+        Ok(Some(base)) => put_pages_under(alloc, draft, &base),
+        _ => draft.lose(),
+    }
+}
+
+fn put_pages_under(alloc: Global, draft: &mut Draft, base: &Base) {
+    for json in &[TINY, THREE, EMPTY] {
+        put_page_again(alloc, draft, base, json.as_bytes());
+    }
+    for json in &[STOPS, NO_STOPS] {
+        put_stops_again(alloc, draft, base, json.as_bytes());
+    }
+    put_faults_under(alloc, draft, base);
+    put_three(alloc, draft, base);
+}
+
+fn put_faults_under(alloc: Global, draft: &mut Draft, base: &Base) {
+    for json in &PAGES {
+        put_page(alloc, draft, base, *json);
+    }
+    draft.put("page {\"@id\":\"\\xff\"}: ");
+    put_page_said(alloc, draft, base, b"{\"@id\":\"\xff\"}");
+    for json in &DOCUMENTS {
+        put_stops(alloc, draft, *json);
+    }
+}
+
+/// A line with the text of the page that was read of a text.
+fn put_page_again(alloc: Global, draft: &mut Draft, base: &Base, json: &[u8]) {
+    match page_in(alloc, base, json) {
+        Ok(page) => put_copy_again(alloc, draft, base, &page),
+        Err(Unmade) => draft.lose(),
+    }
+}
+
+fn page_in(alloc: Global, base: &Base, json: &[u8]) -> Result<Page, Unmade>
+    ensures { IfOk result IsValidPage }
+{
+    Ok(read_page(alloc, base, json)?)
+}
+
+fn put_copy_again(alloc: Global, draft: &mut Draft, base: &Base, page: &Page)
+    requires { IsValidPage page.now }
+{
+    match page.copy(alloc) {
+        Ok(page) => put_page_text(alloc, draft, base, &page),
+        Err(_) => draft.lose(),
+    }
+}
+
+fn put_page_text(alloc: Global, draft: &mut Draft, base: &Base, page: &Page)
+    requires { IsValidPage page.now }
+{
+    draft.put("page written again: ");
+    match page_text(alloc, base, page) {
+        Ok(again) => draft.put_escaped(again.as_slice()),
+        Err(_) => draft.lose(),
+    }
+    draft.put("\n");
+}
+
+/// A line with the text of the document that was read of a text.
+fn put_stops_again(alloc: Global, draft: &mut Draft, base: &Base, json: &[u8]) {
+    match read_stops(alloc, json) {
+        Ok(doc) => put_stops_text(alloc, draft, base, &doc),
+        Err(_) => draft.lose(),
+    }
+}
+
+fn put_stops_text(alloc: Global, draft: &mut Draft, base: &Base, doc: &StopsDoc) {
+    draft.put("stops written again: ");
+    match stops_text(alloc, base, doc) {
+        Ok(again) => draft.put_escaped(again.as_slice()),
+        Err(_) => draft.lose(),
+    }
+    draft.put("\n");
+}
+
+/// A line with what is read of a text in which words stand for long parts.
+fn put_page(alloc: Global, draft: &mut Draft, base: &Base, json: &str) {
+    draft.put("page ");
+    draft.put(json);
+    draft.put(": ");
+    match written_out(alloc, json) {
+        Ok(whole) => put_page_said(alloc, draft, base, whole.as_str().as_bytes()),
+        Err(Unmade) => draft.lose(),
+    }
+}
+
+/// The text with what its words stand for.
+fn written_out(alloc: Global, json: &str) -> Result<String, Unmade> {
+    let mut whole = String::from_str(alloc, json)?;
+    for &(word, meaning) in &WORDS {
+        whole = whole.as_str().replace(alloc, word, meaning)?;
+    }
+    Ok(whole)
+}
+
+/// The end of a line: how many connections the page has that the bytes are, or their first fault.
+fn put_page_said(alloc: Global, draft: &mut Draft, base: &Base, bytes: &[u8]) {
+    match read_page(alloc, base, bytes) {
+        Ok(page) => put_size(draft, page),
+        Err(fault) => draft.put_owned(fault),
+    }
+    draft.put("\n");
+}
+
+fn put_size(draft: &mut Draft, page: Page) {
+    put_count(draft, page.list.as_slice().len(), " connections");
+}
+
+fn put_count(draft: &mut Draft, count: usize, name: &str) {
+    draft.put_shown(&count);
+    draft.put(name);
+}
+
+/// A line with how many stops and changes the document has that the text is, or its first fault.
+fn put_stops(alloc: Global, draft: &mut Draft, json: &str) {
+    draft.put("stops ");
+    draft.put(json);
+    draft.put(": ");
+    match read_stops(alloc, json.as_bytes()) {
+        Ok(doc) => put_sizes(draft, doc),
+        Err(fault) => draft.put_owned(fault),
+    }
+    draft.put("\n");
+}
+
+fn put_sizes(draft: &mut Draft, doc: StopsDoc) {
+    put_count(draft, doc.stops.as_slice().len(), " stops ");
+    put_count(draft, doc.changes.as_slice().len(), " changes");
+}
+
+/// What the page `THREE` and its connections say.
+fn put_three(alloc: Global, draft: &mut Draft, base: &Base) {
+    match page_in(alloc, base, THREE.as_bytes()) {
+        Ok(page) => put_parts(draft, &page),
+        Err(Unmade) => draft.lose(),
+    }
+}
+
+fn put_parts(draft: &mut Draft, page: &Page) {
+    draft.put("connections: ");
+    draft.put_shown(&page.list.as_slice().len());
+    for connection in page.list.as_slice() {
+        put_connection(draft, connection);
+    }
+    draft.put("\n");
+    put_name_and_links(draft, page);
+}
+
+fn put_name_and_links(draft: &mut Draft, page: &Page) {
+    draft.put("departs: ");
+    draft.put_shown(&page.name.departs.seconds());
+    draft.put("\nhas no next page: ");
+    draft.put_shown(&page.next.is_none());
+    draft.put("\nhas a page before it: ");
+    draft.put_shown(&page.previous.is_some());
+    draft.put("\n");
+}
+
+/// Whether one may board and alight, and the delays of the departure and of the arrival.
+fn put_connection(draft: &mut Draft, connection: &Connection) {
+    draft.put("\nboards ");
+    draft.put_shown(&connection.board);
+    draft.put(", alights ");
+    draft.put_shown(&connection.alight);
+    draft.put(": ");
+    draft.put_shown(&connection.dep_delay);
+    draft.put(" ");
+    draft.put_shown(&connection.arr_delay);
+}
