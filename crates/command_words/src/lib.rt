@@ -13,8 +13,6 @@ mod options;
 mod publishing;
 mod question;
 mod replay;
-#[cfg(test)]
-mod tests;
 mod update;
 mod window;
 mod words;

@@ -25,8 +25,6 @@ mod start;
 mod taken;
 mod taken_laws;
 mod target;
-#[cfg(test)]
-mod tests;
 
 pub use answering::reply_text;
 pub use asking::request_text;

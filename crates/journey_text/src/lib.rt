@@ -5,8 +5,6 @@ mod answer_reading;
 mod answer_writing;
 mod laws;
 mod ride_words;
-#[cfg(test)]
-mod tests;
 
 pub use answer_reading::read_answer;
 pub use answer_writing::{answer_text, journey_text};

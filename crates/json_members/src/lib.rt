@@ -6,8 +6,6 @@ mod fault;
 mod json_reading;
 mod member_writing;
 mod members;
-#[cfg(test)]
-mod tests;
 mod values;
 
 pub use fault::PageFault;

@@ -15,8 +15,6 @@ mod sound;
 mod stop_reading;
 mod stops_reading;
 mod stops_writing;
-#[cfg(test)]
-mod tests;
 mod urls;
 
 pub use json_members::PageFault;

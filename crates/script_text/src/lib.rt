@@ -7,8 +7,6 @@ mod laws;
 mod reading;
 mod row;
 mod script;
-#[cfg(test)]
-mod tests;
 
 pub use fault::ScriptFault;
 pub use laws::one_script;
