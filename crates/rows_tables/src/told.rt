@@ -1,0 +1,13 @@
+//! What is said of a file.
+use crate::draft::Draft;
+use gtfs_fields::FileFault;
+
+/// Ends the line of a file: it is read, or this is what is wrong first with it.
+pub fn put_told<T>(draft: &mut Draft, read: &Result<T, FileFault>) {
+    draft.put(": ");
+    match read {
+        Ok(_) => draft.put("read"),
+        Err(fault) => draft.put_shown(fault),
+    }
+    draft.put("\n");
+}
