@@ -9,8 +9,6 @@ mod partners;
 mod rows;
 mod rule;
 mod table;
-#[cfg(test)]
-mod tests;
 mod worked;
 
 pub use fault::{ChangeFault, MOST_CHANGES};

@@ -10,8 +10,6 @@ mod frequencies_file;
 mod frequency;
 mod keyed;
 mod laws;
-#[cfg(test)]
-mod tests;
 mod transfer;
 mod transfers_file;
 

@@ -12,8 +12,6 @@ mod laws;
 mod look;
 mod steps;
 mod tables;
-#[cfg(test)]
-mod tests;
 mod what;
 
 pub use fault::FeedFault;

@@ -15,6 +15,3 @@ pub use laws::one_table;
 pub use records::Records;
 pub use rows::Rows;
 pub use tabulate::table;
-
-#[cfg(test)]
-mod tests;

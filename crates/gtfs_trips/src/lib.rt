@@ -8,11 +8,7 @@ mod left_out;
 mod sound_visits;
 mod stop_time_rows;
 mod stop_times;
-#[cfg(test)]
-mod stop_times_tests;
 mod stops;
-#[cfg(test)]
-mod tests;
 mod timed_trips;
 mod timing;
 mod trips;

@@ -7,8 +7,6 @@ mod dates;
 mod laws;
 mod listing;
 mod service_day;
-#[cfg(test)]
-mod tests;
 mod window;
 mod zone_word;
 

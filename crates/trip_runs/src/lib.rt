@@ -11,8 +11,6 @@ mod run_connections;
 mod start;
 mod starts;
 mod stays;
-#[cfg(test)]
-mod tests;
 mod trip_runs;
 
 pub use all_runs::runs;
