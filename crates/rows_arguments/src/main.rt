@@ -3,12 +3,10 @@
 #![tactic(auto)]
 
 mod commands;
-mod draft;
 mod options;
 mod words;
 
-use draft::Draft;
-use rows_common::exit_code;
+use rows_common::{Draft, exit_code};
 use std::alloc::Global;
 use std::process::ExitCode;
 

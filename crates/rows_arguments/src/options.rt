@@ -1,9 +1,8 @@
 //! What the options of a question say.
-use crate::draft::Draft;
 use crate::words::{Side, command_of, put_publishing, put_read};
 use command_words::{Ask, Command};
 use lc_model::NoMemory;
-use rows_common::Unmade;
+use rows_common::{Draft, Unmade};
 use std::alloc::Global;
 
 /// Options of a question that say how the timetable is published.

@@ -1,9 +1,9 @@
 use crate::commands::put_said;
-use crate::draft::Draft;
 use crate::options::{put_client, put_published};
 use command_words::{Command, Publishing, read_words};
 use fragmenter::Cutting;
 use lc_model::NoMemory;
+use rows_common::Draft;
 use std::alloc::Global;
 
 /// The command that the words of a text say, which spaces part.

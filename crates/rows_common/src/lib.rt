@@ -1,7 +1,12 @@
-//! What the programs of cases share: a line of a case, and how a case that could not be made ends its program. It stands on
-//! nothing but `std`.
+//! What the programs of cases share: lines with one value each, a text that is written piece by piece, and how a case that could not
+//! be made ends its program. It stands on nothing but `std`.
 #![tactic(auto)]
 
+mod draft;
+mod lines;
+
+pub use draft::Draft;
+pub use lines::{put_bytes, put_count, put_flag, put_line, put_number};
 use std::io;
 use std::process::ExitCode;
 
@@ -12,12 +17,6 @@ impl<E: Drop> From<E> for Unmade {
     fn from(_: E) -> Unmade {
         Unmade
     }
-}
-
-/// Adds the line of a case: its name and what came out.
-pub fn put_line(text: &mut String, name: &str, line: &str) -> Result<(), Unmade> {
-    writeln!(text, "{name}: {line}")?;
-    Ok(())
 }
 
 /// The status of a program whose cases were made and printed, or not.

@@ -1,9 +1,8 @@
 //! What is said of a whole feed, a file of which is changed or absent.
-use crate::draft::Draft;
 use gtfs_feed::{FeedFault, Tables, What, read_feed};
 use lc_io::{File, MemFolder};
 use lc_model::Text;
-use rows_common::Unmade;
+use rows_common::{Draft, Unmade};
 use std::alloc::Global;
 use tiny_feed::{STOP_TIMES, TINY, file_of};
 

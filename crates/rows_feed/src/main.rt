@@ -1,11 +1,9 @@
 //! Prints worked cases of whole feeds, a line each, and what they are compared with stands in `stdout`.
 #![tactic(auto)]
 
-mod draft;
 mod feed_cases;
 
-use draft::Draft;
-use rows_common::exit_code;
+use rows_common::{Draft, exit_code};
 use std::alloc::Global;
 use std::process::ExitCode;
 

@@ -1,7 +1,7 @@
 //! The limits of a head.
-use crate::draft::Draft;
 use crate::taking::put_answer;
 use http_text::{HeadRoom, Reply, ReplyFault, read_reply};
+use rows_common::Draft;
 use std::alloc::Global;
 
 /// How long a value is, and what follows it.

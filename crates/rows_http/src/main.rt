@@ -2,7 +2,6 @@
 //! RFC 9112 and RFC 9110. What the lines have to be stands in `stdout`.
 #![tactic(auto)]
 
-mod draft;
 mod limits;
 mod recorded;
 mod replies;
@@ -11,9 +10,8 @@ mod requests;
 mod taking;
 mod waiting;
 
-use draft::Draft;
 use http_text::HeadRoom;
-use rows_common::exit_code;
+use rows_common::{Draft, exit_code};
 use std::alloc::Global;
 use std::process::ExitCode;
 

@@ -2,9 +2,9 @@
 ghost use Rattle.std.specs.Prelude.{◌≡◌};
 ghost use Rattle.http_text.specs.ReplyText.{HasReason};
 
-use crate::draft::Draft;
 use http_text::{Allow, BodyKind, ReplyParts, reply_text};
 use lc_model::{Bytes, Moment, PlainData, Text};
+use rows_common::Draft;
 use std::alloc::Global;
 
 /// The URL of a page of a version.

@@ -1,7 +1,7 @@
 //! Replies as they are read.
-use crate::draft::Draft;
 use http_text::{Reply, read_reply};
 use lc_model::PlainData;
+use rows_common::Draft;
 use std::alloc::Global;
 
 /// Bytes of which is said, as of a reply, the status, the location, the moment in seconds, or 0 where there is none, and the body;

@@ -2,12 +2,11 @@
 ghost use Rattle.std.specs.Prelude.{◌≡◌, IfSome};
 ghost use Rattle.http_text.specs.declared.taken.Taken.TheVariants.{Whole as WholeRequest};
 
-use crate::draft::Draft;
 use crate::recorded::{CURL, CURL_1_0, CURL_HEAD, CURL_POST, CURL_PROXY, NGINX, WGET, WRK};
 use connection_uri::Base;
 use http_text::{Field, HeadRoom, Member, Request, Taken, read_request, request_text};
 use lc_model::{Moment, PlainData};
-use rows_common::Unmade;
+use rows_common::{Draft, Unmade};
 use std::alloc::Global;
 
 /// Requests, of which the method, the path, and whether the connection ends are said.

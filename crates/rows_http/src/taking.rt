@@ -1,7 +1,7 @@
 //! Requests that are taken from the bytes that have come.
-use crate::draft::Draft;
 use crate::recorded::{CURL, CURL_1_0, CURL_HEAD, CURL_POST, CURL_PROXY, NGINX, WGET, WRK};
 use http_text::{HeadRoom, Taken, take_request};
+use rows_common::Draft;
 use std::alloc::Global;
 
 /// Requests that are whole.

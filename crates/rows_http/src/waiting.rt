@@ -1,8 +1,7 @@
 //! What is said of bytes that may be the front of a request: within a target, and how many are waited for.
-use crate::draft::Draft;
 use crate::taking::{put_answer, put_taken_of};
 use http_text::HeadRoom;
-use rows_common::Unmade;
+use rows_common::{Draft, Unmade};
 use std::alloc::Global;
 
 /// Bytes of a target that are no UTF-8: within a target, behind it, and where no target is.

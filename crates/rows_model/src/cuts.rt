@@ -1,8 +1,7 @@
 //! Where pages begin.
-use crate::lines::put_number;
 use fragmenter::{ByCount, BySpan, Cutting, Fragmenter};
 use lc_model::Moment;
-use rows_common::{Unmade, put_line};
+use rows_common::{Unmade, put_line, put_number};
 use std::alloc::Global;
 
 /// The midnight of 2024-05-01 in UTC.

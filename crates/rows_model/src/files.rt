@@ -1,10 +1,9 @@
 //! Folders that are read, and sinks that are written.
-use crate::lines::{put_bytes, put_number};
 use lc_io::{
     File, Folder, FolderFail, MemFolder, MemSink, Sink, SinkFail, SureFolder, SureSink, put_all,
 };
 use lc_model::{Bytes, Text};
-use rows_common::{Unmade, put_line};
+use rows_common::{Unmade, put_bytes, put_line, put_number};
 use std::alloc::Global;
 
 pub fn put_files(alloc: Global, text: &mut String) -> Result<(), Unmade> {

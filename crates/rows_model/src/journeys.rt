@@ -1,8 +1,7 @@
 //! A journey and its copy.
-use crate::lines::{put_count, put_flag};
 use crate::model::id;
 use lc_model::{Journey, Moment, PlainData, Ride, Rides, RunKey, ServiceDate, Walk};
-use rows_common::Unmade;
+use rows_common::{Unmade, put_count, put_flag};
 use std::alloc::Global;
 
 fn key(alloc: Global) -> Result<RunKey, Unmade> {

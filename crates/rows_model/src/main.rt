@@ -5,7 +5,6 @@
 mod cuts;
 mod files;
 mod journeys;
-mod lines;
 mod model;
 mod updates;
 

@@ -1,7 +1,6 @@
 //! Moments, ids and changes.
-use crate::lines::{put_bytes, put_count, put_flag, put_number};
 use lc_model::{Change, Changes, Id, Moment, PlainData, Stop, Text, copy_each};
-use rows_common::{Unmade, put_line};
+use rows_common::{Unmade, put_bytes, put_count, put_flag, put_line, put_number};
 use std::alloc::Global;
 
 pub fn id(alloc: Global, text: &str) -> Result<Id, Unmade> {

@@ -1,11 +1,10 @@
 //! What realtime messages say.
-use crate::lines::{put_bytes, put_count, put_flag, put_number};
 use lc_model::{Bytes, Moment, PlainData};
 use lc_versions::{
     EntityList, EntityNews, Event, Relation, StopNews, StopNewsList, TripKind, TripNews, Update,
     worked_versions,
 };
-use rows_common::{Unmade, put_line};
+use rows_common::{Unmade, put_bytes, put_count, put_flag, put_line, put_number};
 use std::alloc::Global;
 
 const LATE: Event = Event {

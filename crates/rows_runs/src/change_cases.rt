@@ -1,11 +1,10 @@
 //! Changes between stops, worked out by hand from the GTFS Schedule Reference, transfers.txt.
-use crate::draft::Draft;
 use change_table::{ChangeFault, changes};
 use gtfs_calendars::{Transfer, Transfers};
 use gtfs_trips::read_stops;
 use lc_model::{Change, Changes, Id, Stops};
 use lc_time::read_u32;
-use rows_common::Unmade;
+use rows_common::{Draft, Unmade};
 use std::alloc::Global;
 
 /// A station and its two children, a second station with one child, and a stop of its own.

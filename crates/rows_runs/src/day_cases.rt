@@ -1,7 +1,7 @@
 //! The dates of services, from calendars.
-use crate::draft::Draft;
 use gtfs_calendars::{DateRow, Weekly, read_calendar, read_calendar_dates};
 use lc_time::{date_text, read_date};
+use rows_common::Draft;
 use service_days::{ServiceDay, days};
 use std::alloc::Global;
 

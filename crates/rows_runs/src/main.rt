@@ -4,12 +4,10 @@
 
 mod change_cases;
 mod day_cases;
-mod draft;
 mod run_cases;
 mod zone_cases;
 
-use draft::Draft;
-use rows_common::exit_code;
+use rows_common::{Draft, exit_code};
 use std::alloc::Global;
 use std::process::ExitCode;
 

@@ -1,11 +1,10 @@
 //! Runs and their connections, worked out by hand from the GTFS Schedule Reference and from calendars.
-use crate::draft::Draft;
 use crate::zone_cases::put_moment;
 use gtfs_calendars::{Frequencies, read_calendar_dates, read_frequencies};
 use gtfs_trips::{TimedTrips, read_stop_times, read_stops, read_trips};
 use lc_model::{Call, Connection, Connections, Run, Runs, Stops};
 use lc_time::read_date;
-use rows_common::Unmade;
+use rows_common::{Draft, Unmade};
 use service_days::{Days, Zone, days, read_zone};
 use std::alloc::Global;
 use trip_runs::{are_plannable, connections, is_plannable, runs};

@@ -1,7 +1,7 @@
 //! Zones, from outside: dates and moments that Python's `zoneinfo` gives, and the GTFS Schedule Reference.
-use crate::draft::Draft;
 use lc_model::Moment;
 use lc_time::{date_text, iso_text, read_date, read_iso};
+use rows_common::Draft;
 use service_days::{Zone, ZoneFault, anchor, civil_date, read_zone, zone_file};
 use std::alloc::Global;
 

@@ -1,9 +1,9 @@
 //! What calendar.txt and calendar_dates.txt say, or the first rule that each breaks.
-use crate::draft::Draft;
 use crate::told::put_told;
 use gtfs_calendars::{DateRow, Weekly, WeeklyList, read_calendar, read_calendar_dates};
 use gtfs_fields::FileFault;
 use lc_model::ServiceDate;
+use rows_common::Draft;
 use std::alloc::Global;
 
 /// Whole files.

@@ -2,7 +2,6 @@
 #![tactic(auto)]
 
 mod calendar_cases;
-mod draft;
 mod row_cases;
 mod span_cases;
 mod stop_time_cases;
@@ -10,8 +9,7 @@ mod told;
 mod transfer_cases;
 mod trip_cases;
 
-use draft::Draft;
-use rows_common::exit_code;
+use rows_common::{Draft, exit_code};
 use std::alloc::Global;
 use std::process::ExitCode;
 

@@ -1,6 +1,6 @@
 //! The rows of CSV texts.
-use crate::draft::Draft;
 use gtfs_rows::{RowFault, Rows, table};
+use rows_common::Draft;
 use std::alloc::Global;
 use tiny_feed::{CALENDAR_DATES, STOP_TIMES, STOPS, TRIPS};
 

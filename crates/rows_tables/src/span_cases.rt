@@ -1,9 +1,9 @@
 //! What frequencies.txt says of the trip T, or the first rule that it breaks.
-use crate::draft::Draft;
 use crate::told::put_told;
 use gtfs_calendars::{Frequency, read_frequencies};
 use gtfs_fields::TripRows;
 use gtfs_trips::read_trips;
+use rows_common::Draft;
 use std::alloc::Global;
 
 const FILES: [&[u8]; 11] = [

@@ -1,9 +1,9 @@
 //! What stop_times.txt says, or the first rule that it breaks.
-use crate::draft::Draft;
 use crate::told::put_told;
 use gtfs_fields::FileFault;
 use gtfs_trips::{StopTime, TimedTrips, read_stop_times, read_stops, read_trips};
 use lc_model::Stops;
+use rows_common::Draft;
 use std::alloc::Global;
 
 const STOPS: &str = "stop_id\nA\nB\nC\n";

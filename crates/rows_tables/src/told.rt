@@ -1,6 +1,6 @@
 //! What is said of a file.
-use crate::draft::Draft;
 use gtfs_fields::FileFault;
+use rows_common::Draft;
 
 /// Ends the line of a file: it is read, or this is what is wrong first with it.
 pub fn put_told<T>(draft: &mut Draft, read: &Result<T, FileFault>) {

@@ -1,9 +1,9 @@
 //! What transfers.txt says of the stops A and B, or the first rule that it breaks.
-use crate::draft::Draft;
 use crate::told::put_told;
 use gtfs_calendars::{Transfer, read_transfers};
 use gtfs_trips::read_stops;
 use lc_model::Stops;
+use rows_common::Draft;
 use std::alloc::Global;
 
 const FILES: [&[u8]; 11] = [

@@ -1,9 +1,9 @@
 //! What stops.txt and trips.txt say, or the first rule that each breaks.
-use crate::draft::Draft;
 use crate::told::put_told;
 use gtfs_fields::TripRow;
 use gtfs_trips::{read_stops, read_trips};
 use lc_model::Stop;
+use rows_common::Draft;
 use std::alloc::Global;
 
 const STOP_FILES: [&[u8]; 12] = [

@@ -2,9 +2,9 @@
 ghost use Rattle.std.specs.Prelude.{IfOk, IfSome};
 ghost use Rattle.journey_text.specs.AnswerText.{ArrivesAtAMoment};
 
-use crate::draft::Draft;
 use journey_text::{answer_text, read_answer};
 use lc_model::{Answer, NoMemory};
+use rows_common::Draft;
 use std::alloc::Global;
 
 const FIRST: &str = "journey 2 arrives 2024-05-01T08:31:00.000Z

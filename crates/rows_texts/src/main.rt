@@ -4,14 +4,12 @@
 
 mod answers;
 mod document_texts;
-mod draft;
 mod members;
 mod page_texts;
 mod pages;
 mod scripts;
 
-use draft::Draft;
-use rows_common::exit_code;
+use rows_common::{Draft, exit_code};
 use std::alloc::Global;
 use std::process::ExitCode;
 

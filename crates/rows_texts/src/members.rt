@@ -1,12 +1,11 @@
 //! Members of JSON as they are read and written.
-use crate::draft::Draft;
 use json::Writer;
 use json_members::{
     delay_at, id_at, json_in, moment_at, needed_text, seconds_at, write_moment, write_number,
     write_text,
 };
 use lc_model::{Moment, NoMemory};
-use rows_common::Unmade;
+use rows_common::{Draft, Unmade};
 use serde_json::Value;
 use std::alloc::Global;
 

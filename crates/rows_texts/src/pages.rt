@@ -3,12 +3,11 @@ ghost use Rattle.std.specs.Prelude.{IfOk};
 ghost use Rattle.page_json.specs.Valid.{IsValidPage};
 
 use crate::document_texts::{DOCUMENTS, STOPS};
-use crate::draft::Draft;
 use crate::page_texts::{EMPTY, PAGES, THREE, TINY, WORDS};
 use connection_uri::Base;
 use lc_model::{Connection, PlainData, StopsDoc};
 use page_json::{Page, page_text, read_page, read_stops, stops_text};
-use rows_common::Unmade;
+use rows_common::{Draft, Unmade};
 use std::alloc::Global;
 
 const NO_STOPS: &str = "{\"@id\":\"http://lc.example/stops\",\"changes\":[],\"stops\":[]}";

@@ -1,6 +1,6 @@
 //! Texts and the scripts that they say: each record well and badly said, and what `csv` makes of a text.
-use crate::draft::Draft;
 use lc_model::{NoMemory, Query};
+use rows_common::Draft;
 use script_text::{Record, read_script};
 use std::alloc::Global;
 

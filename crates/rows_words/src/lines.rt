@@ -2,14 +2,6 @@
 use lc_model::Moment;
 use rows_common::{Unmade, put_line};
 
-/// The bytes of a text.
-pub fn put_bytes(text: &mut String, name: &str, bytes: &[u8]) -> Result<(), Unmade> {
-    match std::str::from_utf8(bytes) {
-        Ok(line) => put_line(text, name, line),
-        Err(_) => Err(Unmade),
-    }
-}
-
 /// Adds the name of a case and the text that is read, in brackets, in front of the rest of the line.
 pub fn put_input(text: &mut String, name: &str, input: &str) -> Result<(), Unmade> {
     write!(text, "{name} [{input}]")?;

@@ -1,12 +1,12 @@
 //! Values from outside: RFC 9110, section 5.6.7, the GTFS Schedule Reference, and the seconds and dates that the program
 //! `date` of GNU prints.
-use crate::lines::{moment, put_bytes, put_input, put_read, seconds_of, wide};
+use crate::lines::{moment, put_input, put_read, seconds_of, wide};
 use lc_model::ServiceDate;
 use lc_time::{
     date_text, http_date, iso_text, read_date, read_decimal, read_gtfs_time, read_http_date,
     read_iso, read_start, read_u32, start_text, without_blanks,
 };
-use rows_common::{Unmade, put_line};
+use rows_common::{Unmade, put_bytes, put_line};
 
 pub fn put_moments(text: &mut String) -> Result<(), Unmade> {
     put_written_moments(text)?;

@@ -1,9 +1,8 @@
 //! Pages in the order of their use.
-use crate::lines::{put_count, put_number};
 use lc_model::{Connections, Moment, PageName};
 use page_cache::PageCache;
 use page_json::Page;
-use rows_common::{Unmade, put_line};
+use rows_common::{Unmade, put_count, put_line, put_number};
 use std::alloc::Global;
 
 /// What is done with a cache.

@@ -1,9 +1,8 @@
 //! A door to a client whose bytes come in pieces.
-use crate::lines::{put_bytes, put_count, put_flag, put_number};
 use crate::links::bytes;
 use lc_model::Bytes;
 use lc_world::{Door, DoorFail, Next, Pieces, SureDoor};
-use rows_common::{Unmade, put_line};
+use rows_common::{Unmade, put_bytes, put_count, put_flag, put_line, put_number};
 use std::alloc::Global;
 
 fn pieces(alloc: Global) -> Result<Pieces, Unmade> {

@@ -1,8 +1,7 @@
 //! A link that gives the replies of a list.
-use crate::lines::{put_bytes, put_count, put_number};
 use lc_model::Bytes;
 use lc_world::{Entry, Link, LinkFail, ListLink, ToldReply};
-use rows_common::{Unmade, put_line};
+use rows_common::{Unmade, put_bytes, put_count, put_line, put_number};
 use std::alloc::Global;
 
 pub fn bytes(alloc: Global, text: &str) -> Result<Bytes, Unmade> {

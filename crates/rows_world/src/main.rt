@@ -4,7 +4,6 @@
 
 mod cache;
 mod doors;
-mod lines;
 mod links;
 
 use rows_common::{Unmade, exit_code};

@@ -1,5 +1,11 @@
 //! Lines with one value each.
-use rows_common::{Unmade, put_line};
+use crate::Unmade;
+
+/// Adds the line of a case: its name and what came out.
+pub fn put_line(text: &mut String, name: &str, line: &str) -> Result<(), Unmade> {
+    writeln!(text, "{name}: {line}")?;
+    Ok(())
+}
 
 pub fn put_number(text: &mut String, name: &str, number: u64) -> Result<(), Unmade> {
     writeln!(text, "{name}: {number}")?;

@@ -1,8 +1,10 @@
-use rows_common::Unmade;
+//! A text that is written piece by piece.
+use crate::Unmade;
 use std::alloc::Global;
 use std::fmt::Display;
 
-/// A text that is written piece by piece. Want of memory stops none of its writers: it is kept, and told at the end.
+/// A text that is written piece by piece. Running out of memory stops none of its writers: it is
+/// kept, and said at the end.
 #[derive(Drop)]
 pub struct Draft {
     text: String,
@@ -57,6 +59,27 @@ impl Draft {
     pub fn put_shown<T: Display>(&mut self, shown: &T) {
         if write!(self.text, "{}", *shown).is_err() {
             self.lose();
+        }
+    }
+
+    /// Shows what is not needed any more.
+    pub fn put_owned<T: Display + Drop>(&mut self, shown: T) {
+        self.put_shown(&shown);
+    }
+
+    /// What came out of a reading: what was read, or the fault.
+    pub fn put_read<T: Display + Drop, E: Display + Drop>(&mut self, read: Result<T, E>) {
+        match read {
+            Ok(said) => self.put_owned(said),
+            Err(fault) => self.put_owned(fault),
+        }
+    }
+
+    /// Whether something was read.
+    pub fn put_is_read<T: Drop, E: Drop>(&mut self, read: Result<T, E>) {
+        match read {
+            Ok(_) => self.put("true\n"),
+            Err(_) => self.put("false\n"),
         }
     }
 
