@@ -3,7 +3,7 @@
 
 mod words;
 
-use command_inputs::Refusal;
+use cli_inputs::Refusal;
 use lc_cli::{Status, code, refuse, run};
 use lc_edge::{ClosedLink, DirFolder, StdSink};
 use lc_model::NoMemory;

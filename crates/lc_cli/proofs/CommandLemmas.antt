@@ -1,19 +1,19 @@
 -- From what is read and asked to what a command comes to.
 use Rattle.std.proofs.Common.{◌≡◌, ◌∷◌, inr, ℕ, List, [], Option, Result, Ok, Err, IfErr, IfOk, subst, sym}
-use Rattle.asking.specs.Asked.{IsAsked}
-use Rattle.asking.specs.declared.end.ClientEnd.{ClientEnd}
-use Rattle.command_inputs.specs.Inputs.{ReadsInputs}
-use Rattle.command_inputs.specs.Script.{ReadsReplay}
-use Rattle.command_inputs.specs.declared.refusal.Refusal.{Refusal}
-use Rattle.command_words.specs.Words.{SaysCommand}
-use Rattle.command_words.specs.declared.command.Ask.{Ask}
-use Rattle.command_words.specs.declared.command.Command.{Command}
-use Rattle.command_words.specs.declared.command.Replay.{Replay}
+use Rattle.cli_ask.specs.Asked.{IsAsked}
+use Rattle.cli_ask.specs.declared.end.ClientEnd.{ClientEnd}
+use Rattle.cli_inputs.specs.Inputs.{ReadsInputs}
+use Rattle.cli_inputs.specs.Script.{ReadsReplay}
+use Rattle.cli_inputs.specs.declared.refusal.Refusal.{Refusal}
+use Rattle.cli_words.specs.Words.{SaysCommand}
+use Rattle.cli_words.specs.declared.command.Ask.{Ask}
+use Rattle.cli_words.specs.declared.command.Command.{Command}
+use Rattle.cli_words.specs.declared.command.Replay.{Replay}
 use Rattle.lc_io.specs.Folder.{FolderSeen}
 use Rattle.lc_io.specs.declared.file.File.{File}
 use Rattle.lc_world.specs.Link.{LinkSeen}
-use Rattle.replay_course.specs.Replayed.{IsReplayed}
-use Rattle.replay_course.specs.declared.event.Event.{Event}
+use Rattle.laws_course.specs.Replayed.{IsReplayed}
+use Rattle.laws_course.specs.declared.event.Event.{Event}
 use Rattle.timetable.specs.declared.timetable.Timetable.{Timetable}
 use Rattle.lc_cli.specs.Command.{IsAskBlock, IsRefusedAs, IsReplayBlock, IsRightBlock, IsRightRefusal, Prints, ask_scope, replay_scope}
 use Rattle.lc_cli.specs.declared.block.Block.{Block}

@@ -1,13 +1,13 @@
 -- Nothing but memory keeps the output from being printed, where nothing hinders a command.
 use Rattle.std.proofs.Common.{◌≡◌, ◌∙◌, ◌⊎◌, ℕ, inl, inr, List, None, Option, Some, ap, refl, subst, sym}
-use Rattle.asking.specs.Publishing.{store_of}
-use Rattle.command_inputs.specs.Inputs.{IsRefusedFor}
-use Rattle.command_inputs.specs.declared.refusal.Refusal.{Refusal}
-use Rattle.command_inputs.specs.declared.refusal.Refusal.TheVariants as refused
-use Rattle.command_words.specs.Laws.{OneCommand}
-use Rattle.command_words.specs.Words.{SaysCommand}
-use Rattle.command_words.specs.declared.command.Command.{Command}
-use Rattle.command_words.specs.declared.command.Command.TheVariants as commands
+use Rattle.cli_ask.specs.Publishing.{store_of}
+use Rattle.cli_inputs.specs.Inputs.{IsRefusedFor}
+use Rattle.cli_inputs.specs.declared.refusal.Refusal.{Refusal}
+use Rattle.cli_inputs.specs.declared.refusal.Refusal.TheVariants as refused
+use Rattle.cli_words.specs.Laws.{OneCommand}
+use Rattle.cli_words.specs.Words.{SaysCommand}
+use Rattle.cli_words.specs.declared.command.Command.{Command}
+use Rattle.cli_words.specs.declared.command.Command.TheVariants as commands
 use Rattle.lc_io.specs.Counts.{Rose}
 use Rattle.lc_io.specs.Folder.{FolderSeen}
 use Rattle.lc_io.specs.declared.file.File.{File}

@@ -1,18 +1,18 @@
 -- Why the told files refuse a course is one.
 use Rattle.std.proofs.Common.{◌≡◌, ◌∙◌, ◌⊎◌, ◌<◌, ◌+◌, ◌++◌, ◌∷◌, ℕ, true, inl, inr, List, [], None, Some, Option, Ok, Err, ap, arith, length, refl, subst, sym}
-use Rattle.asking.specs.Admission.{IsIgnored}
-use Rattle.asking.specs.Publishing.{store_of}
-use Rattle.command_inputs.specs.Script.{IsReplayRefused, StopsAtRecord}
-use Rattle.command_inputs.specs.declared.refusal.Refusal.{Refusal}
-use Rattle.command_inputs.specs.declared.refusal.Refusal.TheVariants as refused
-use Rattle.command_inputs.proofs.InputsLemmas.{rose_later}
-use Rattle.command_words.specs.declared.command.Replay.{Replay}
-use Rattle.gtfs_feed.specs.declared.what.What.TheVariants as what
+use Rattle.cli_ask.specs.Admission.{IsIgnored}
+use Rattle.cli_ask.specs.Publishing.{store_of}
+use Rattle.cli_inputs.specs.Script.{IsReplayRefused, StopsAtRecord}
+use Rattle.cli_inputs.specs.declared.refusal.Refusal.{Refusal}
+use Rattle.cli_inputs.specs.declared.refusal.Refusal.TheVariants as refused
+use Rattle.cli_inputs.proofs.InputsLemmas.{rose_later}
+use Rattle.cli_words.specs.declared.command.Replay.{Replay}
+use Rattle.gtfs_tables.specs.declared.what.What.TheVariants as what
 use Rattle.lc_io.specs.Counts.{Rose}
 use Rattle.lc_io.specs.Folder.{FolderSeen, bytes_named}
 use Rattle.lc_io.specs.declared.file.File.{File}
-use Rattle.replay_course.specs.declared.event.Event.{Event}
-use Rattle.replay_course.specs.declared.message.Message.{Message}
+use Rattle.laws_course.specs.declared.event.Event.{Event}
+use Rattle.laws_course.specs.declared.message.Message.{Message}
 use Rattle.script_text.specs.Laws.{NeverBoth, OneFault, OneScript}
 use Rattle.script_text.specs.Reading.{HasFault}
 use Rattle.script_text.specs.declared.fault.ScriptFault.TheVariants.{Wrong}

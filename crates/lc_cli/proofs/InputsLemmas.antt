@@ -3,11 +3,11 @@ use Rattle.std.proofs.Common.{◌≡◌, ◌∙◌, ℕ, List, None, Some, Optio
 use Rattle.lc_io.specs.Folder.{FolderSeen, bytes_named}
 use Rattle.lc_io.specs.declared.file.File.{File}
 use Rattle.lc_io.specs.declared.folder.FolderFail.TheVariants.{Absent}
-use Rattle.gtfs_feed.specs.Reading.{Keeps}
+use Rattle.gtfs_tables.specs.Reading.{Keeps}
 use Rattle.timetable.specs.declared.scope.Scope.{Scope}
 use Rattle.timetable.specs.declared.timetable.Timetable.{Timetable}
 use Rattle.lc_cli.specs.Clear.{IsToldFile}
-use Rattle.command_inputs.specs.Inputs.{ReadsFile, ReadsInputs, ReadsUpdate}
+use Rattle.cli_inputs.specs.Inputs.{ReadsFile, ReadsInputs, ReadsUpdate}
 
 -- a folder that tells files tells them still once the timetable is loaded
 pub still_told : (told : List File) (old new : FolderSeen) → old.files ≡ Some told → Keeps old new → new.files ≡ Some told

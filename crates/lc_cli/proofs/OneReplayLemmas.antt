@@ -3,22 +3,22 @@ use Rattle.std.proofs.Common.{◌≡◌, ◌∙◌, ◌+◌, ◌++◌, ◌∷◌
 use Rattle.std.proofs.Props.{props}
 use Rattle.std.proofs.lemmas.List.Elements.{All-cons, All-nil}
 use Rattle.std.specs.List.{All}
-use Rattle.asking.specs.Laws.{IsNoLinkFault}
-use Rattle.asking.specs.declared.end.ClientEnd.{ClientEnd}
-use Rattle.command_words.specs.declared.command.Replay.{Replay}
+use Rattle.cli_ask.specs.Laws.{IsNoLinkFault}
+use Rattle.cli_ask.specs.declared.end.ClientEnd.{ClientEnd}
+use Rattle.cli_words.specs.declared.command.Replay.{Replay}
 use Rattle.lc_io.specs.Folder.{FolderSeen}
 use Rattle.lc_io.specs.declared.file.File.{File}
 use Rattle.lc_model.specs.declared.query.Query.{Query}
 use Rattle.lc_world.specs.Link.{LinkSeen}
 use Rattle.page_client.specs.declared.outcome.Outcome.{Outcome}
 use Rattle.page_client.specs.declared.outcome.Outcome.TheVariants as outcomes
-use Rattle.replay_course.specs.Events.{TurnsAreOfClients, questions_in}
-use Rattle.replay_course.specs.Laws.{IsPlayedOut, OneCourse}
-use Rattle.replay_course.specs.Message.{IsMessageText}
-use Rattle.replay_course.specs.Replayed.{clients_text_of}
-use Rattle.replay_course.specs.declared.event.Event.{Event}
-use Rattle.replay_course.specs.declared.event.Event.TheVariants as events
-use Rattle.replay_course.specs.declared.message.Message.{Message}
+use Rattle.laws_course.specs.Events.{TurnsAreOfClients, questions_in}
+use Rattle.laws_course.specs.Laws.{IsPlayedOut, OneCourse}
+use Rattle.laws_course.specs.Message.{IsMessageText}
+use Rattle.laws_course.specs.Replayed.{clients_text_of}
+use Rattle.laws_course.specs.declared.event.Event.{Event}
+use Rattle.laws_course.specs.declared.event.Event.TheVariants as events
+use Rattle.laws_course.specs.declared.message.Message.{Message}
 use Rattle.script_text.specs.Laws.{OneScript}
 use Rattle.script_text.specs.Reading.{SaysScript}
 use Rattle.script_text.specs.Script.{IsClient, SayRecords, clients_of}

@@ -1,19 +1,19 @@
 -- Two runs of one command over the same files print one output.
 use Rattle.std.proofs.Common.{◌≡◌, ◌∙◌, ◌+◌, ◌++◌, ℕ, List, codes, length, None, Some, Option, ap, refl, subst, sym}
-use Rattle.asking.specs.Asked.{IsAsked}
-use Rattle.asking.specs.Laws.{IsFair, OneOutput, PrintOneClient}
-use Rattle.asking.specs.Publishing.{side_with}
-use Rattle.command_words.specs.Laws.{OneCommand}
-use Rattle.command_words.specs.Words.{SaysCommand}
-use Rattle.command_words.specs.declared.command.Ask.{Ask}
-use Rattle.command_words.specs.declared.command.Command.{Command}
-use Rattle.command_words.specs.declared.command.Command.TheVariants as commands
+use Rattle.cli_ask.specs.Asked.{IsAsked}
+use Rattle.cli_ask.specs.Laws.{IsFair, OneOutput, PrintOneClient}
+use Rattle.cli_ask.specs.Publishing.{side_with}
+use Rattle.cli_words.specs.Laws.{OneCommand}
+use Rattle.cli_words.specs.Words.{SaysCommand}
+use Rattle.cli_words.specs.declared.command.Ask.{Ask}
+use Rattle.cli_words.specs.declared.command.Command.{Command}
+use Rattle.cli_words.specs.declared.command.Command.TheVariants as commands
 use Rattle.lc_io.specs.Folder.{FolderSeen}
 use Rattle.lc_io.specs.declared.file.File.{File}
 use Rattle.lc_model.specs.declared.doc.StopsDoc.{StopsDoc}
 use Rattle.lc_model.specs.declared.run.Run.{Run}
 use Rattle.lc_world.specs.Link.{LinkSeen}
-use Rattle.replay_course.specs.Laws.{OneCourse}
+use Rattle.laws_course.specs.Laws.{OneCourse}
 use Rattle.script_text.specs.Laws.{OneScript}
 use Rattle.timetable.specs.Laws.{AreSame, LoadsTold, OneTimetable}
 use Rattle.timetable.specs.declared.timetable.Timetable.{Timetable}

@@ -2,15 +2,15 @@
 use Rattle.std.proofs.Common.{◌≡◌, ◌∙◌, ◌⊎◌, ◌+◌, ◌∷◌, ℕ, inl, inr, List, [], None, Some, Option, Result, Ok, Err, ap, ap₂, refl, subst, sym}
 use Rattle.std.specs.List.{AllZip}
 use Rattle.std.specs.Option.{unwrap_or}
-use Rattle.asking.specs.Publishing.{side_with, store_of}
-use Rattle.asking.specs.Laws.{AreOneEnd, OneOutput}
-use Rattle.asking.specs.declared.end.ClientEnd.{ClientEnd}
-use Rattle.client_replies.specs.Laws.{SayTheSame}
-use Rattle.command_words.specs.Laws.{OneCommand}
-use Rattle.command_words.specs.Words.{SaysCommand}
-use Rattle.command_words.specs.declared.command.Command.{Command}
-use Rattle.command_words.specs.declared.command.Command.TheVariants as commands
-use Rattle.command_words.specs.declared.command.Replay.{Replay}
+use Rattle.cli_ask.specs.Publishing.{side_with, store_of}
+use Rattle.cli_ask.specs.Laws.{AreOneEnd, OneOutput}
+use Rattle.cli_ask.specs.declared.end.ClientEnd.{ClientEnd}
+use Rattle.laws_replies.specs.Laws.{SayTheSame}
+use Rattle.cli_words.specs.Laws.{OneCommand}
+use Rattle.cli_words.specs.Words.{SaysCommand}
+use Rattle.cli_words.specs.declared.command.Command.{Command}
+use Rattle.cli_words.specs.declared.command.Command.TheVariants as commands
+use Rattle.cli_words.specs.declared.command.Replay.{Replay}
 use Rattle.lc_io.specs.Counts.{Rose}
 use Rattle.lc_io.specs.Folder.{FolderSeen}
 use Rattle.lc_io.specs.declared.file.File.{File}
@@ -20,8 +20,8 @@ use Rattle.lc_world.specs.Link.{LinkSeen}
 use Rattle.page_client.specs.declared.fault.QueryFault.{QueryFault}
 use Rattle.page_client.specs.declared.outcome.Outcome.{Outcome}
 use Rattle.page_client.specs.declared.outcome.Outcome.TheVariants as outcomes
-use Rattle.replay_course.specs.Laws.{OneCourse}
-use Rattle.replay_course.specs.declared.event.Event.{Event}
+use Rattle.laws_course.specs.Laws.{OneCourse}
+use Rattle.laws_course.specs.declared.event.Event.{Event}
 use Rattle.script_text.specs.Laws.{NeverBoth, OneFault, OneScript}
 use Rattle.timetable.specs.Laws.{AreSameEnds, IsOfFiles, LoadsTold, OneEnd, OneTimetable}
 use Rattle.timetable.specs.Loading.{Loads, LoadsSo}
@@ -34,13 +34,13 @@ use Rattle.version_store.specs.declared.admission.AdmitFault.TheVariants as faul
 use Rattle.lc_cli.specs.Block.{IsBlockEnd, client_status_of, failed_status_of}
 use Rattle.lc_cli.specs.Clear.{IsClear, IsToldCourse, IsToldFile, IsUnhindered}
 use Rattle.lc_cli.specs.Command.{IsRefusedAs, IsRightBlock, IsRightRefusal, Prints, ask_scope, check_scope, scope_of}
-use Rattle.command_inputs.specs.Inputs.{AsksForUpdate, IsRefusedFor}
+use Rattle.cli_inputs.specs.Inputs.{AsksForUpdate, IsRefusedFor}
 use Rattle.lc_cli.specs.Laws.{DoneIsClear, DoneIsPrinted, OneStatus}
 use Rattle.lc_cli.specs.Refusal.{IsRefusalEnd, status_of}
 use Rattle.lc_cli.specs.Top.{HasPrinted, IsRight, Past}
 use Rattle.lc_cli.specs.declared.block.Block.{Block}
-use Rattle.command_inputs.specs.declared.refusal.Refusal.{Refusal}
-use Rattle.command_inputs.specs.declared.refusal.Refusal.TheVariants as refused
+use Rattle.cli_inputs.specs.declared.refusal.Refusal.{Refusal}
+use Rattle.cli_inputs.specs.declared.refusal.Refusal.TheVariants as refused
 use Rattle.lc_cli.specs.declared.status.Status.{Status}
 use Rattle.lc_cli.specs.declared.status.Status.TheVariants.{Done, NoMemory, ScriptWrong, UpdateBroken, Usage}
 use Rattle.lc_cli.proofs.CourseRefusalLemmas.{HasLoaded, IsCourseRefused, IsToldCause, course_refused, not_refused, one_course_refusal, one_wrong, status_by, status_in}

@@ -1,17 +1,17 @@
 -- What a course comes to over told files that nothing hinders.
 use Rattle.std.proofs.Common.{◌≡◌, ◌∙◌, ◌⊎◌, ◌<◌, ◌+◌, ◌++◌, ◌∷◌, ℕ, zero, suc, true, inl, inr, List, [], None, Some, Option, Ok, Err, arith, length, refl, subst, sym}
 use Rattle.std.specs.List.{slice_get}
-use Rattle.asking.specs.Client.{shown_of}
-use Rattle.asking.specs.Publishing.{side_with}
-use Rattle.asking.specs.declared.end.ClientEnd.{ClientEnd}
-use Rattle.client_answers.specs.Fits.{HasEnded}
-use Rattle.client_replies.specs.Ends.{EndsBy}
-use Rattle.client_replies.specs.Made.{Made}
-use Rattle.command_inputs.specs.Script.{IsEventOf, IsRefusedAt, IsReplayRefused, ReadsEvents, ReadsReplay, StopsAtRecord}
-use Rattle.command_inputs.specs.declared.refusal.Refusal.{Refusal}
-use Rattle.command_inputs.specs.declared.refusal.Refusal.TheVariants as refused
-use Rattle.command_inputs.proofs.InputsLemmas.{rose_later}
-use Rattle.command_words.specs.declared.command.Replay.{Replay}
+use Rattle.cli_ask.specs.Client.{shown_of}
+use Rattle.cli_ask.specs.Publishing.{side_with}
+use Rattle.cli_ask.specs.declared.end.ClientEnd.{ClientEnd}
+use Rattle.laws_clients.specs.Fits.{HasEnded}
+use Rattle.laws_replies.specs.Ends.{EndsBy}
+use Rattle.laws_replies.specs.Made.{Made}
+use Rattle.cli_inputs.specs.Script.{IsEventOf, IsRefusedAt, IsReplayRefused, ReadsEvents, ReadsReplay, StopsAtRecord}
+use Rattle.cli_inputs.specs.declared.refusal.Refusal.{Refusal}
+use Rattle.cli_inputs.specs.declared.refusal.Refusal.TheVariants as refused
+use Rattle.cli_inputs.proofs.InputsLemmas.{rose_later}
+use Rattle.cli_words.specs.declared.command.Replay.{Replay}
 use Rattle.lc_io.specs.Counts.{Rose}
 use Rattle.lc_io.specs.Folder.{FolderSeen, bytes_named}
 use Rattle.lc_io.specs.declared.file.File.{File}
@@ -20,12 +20,12 @@ use Rattle.lc_world.specs.Link.{LinkSeen}
 use Rattle.page_client.specs.declared.outcome.Outcome.{Outcome}
 use Rattle.page_client.specs.declared.outcome.Outcome.TheVariants as outcomes
 use Rattle.page_client.specs.declared.want.Want.{Want}
-use Rattle.publisher_side.specs.Side.{Side}
-use Rattle.replay_course.specs.Events.{questions_in}
-use Rattle.replay_course.specs.Replayed.{IsReplayed}
-use Rattle.replay_course.specs.declared.event.Event.{Event}
-use Rattle.replay_course.specs.declared.event.Event.TheVariants as events
-use Rattle.replay_course.specs.declared.message.Message.{Message}
+use Rattle.publisher_spec.specs.Side.{Side}
+use Rattle.laws_course.specs.Events.{questions_in}
+use Rattle.laws_course.specs.Replayed.{IsReplayed}
+use Rattle.laws_course.specs.declared.event.Event.{Event}
+use Rattle.laws_course.specs.declared.event.Event.TheVariants as events
+use Rattle.laws_course.specs.declared.message.Message.{Message}
 use Rattle.script_text.specs.Laws.{NeverBoth, OneScript}
 use Rattle.script_text.specs.Reading.{HasFault, SaysScript}
 use Rattle.script_text.specs.declared.fault.ScriptFault.TheVariants.{Wrong}

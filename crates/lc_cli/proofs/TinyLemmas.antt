@@ -19,7 +19,7 @@ use Rattle.std.specs.declared.cmp.Ordering.TheVariants.{Less}
 use Rattle.lc_model.specs.declared.moment.TheConstants.{MOMENTS_END}
 use Rattle.lc_versions.specs.Timetable.{AreLiveRuns}
 use Rattle.live_calls.specs.Laws.{IsOnTime, LiveWithoutNews, RunsAreLive, RunsOnTime}
-use Rattle.command_words.specs.declared.command.Publishing.{Publishing}
+use Rattle.cli_words.specs.declared.command.Publishing.{Publishing}
 use Rattle.lc_model.specs.Change.{change_between, is_same_id}
 use Rattle.lc_model.specs.Journey.{AreRides, GoesOn, IsAnswer, IsJourney, alight_of, arrival_of_rides, arrives_at, board_of, departure_of}
 use Rattle.lc_model.specs.Question.{IsFrom, IsTo, latest_of}

@@ -1,16 +1,16 @@
 -- What follows from the cause of a status.
 use Rattle.std.proofs.Common.{◌≡◌, ◌∙◌, ◌⊎◌, ◌+◌, ◌∷◌, ℕ, inl, inr, List, [], None, Some, Option, Result, Ok, Err, ap, arith, refl, subst, sym}
 use Rattle.std.specs.Option.{unwrap_or}
-use Rattle.asking.specs.Admission.{IsBehind, IsIgnored}
-use Rattle.asking.specs.Client.{shown_of}
-use Rattle.asking.specs.Publishing.{side_with, store_of}
-use Rattle.client_answers.specs.Fits.{HasEnded}
-use Rattle.client_replies.specs.Ends.{EndsBy}
-use Rattle.command_words.specs.Laws.{OneCommand}
-use Rattle.command_words.specs.Words.{SaysCommand}
-use Rattle.command_words.specs.declared.command.Ask.{Ask}
-use Rattle.command_words.specs.declared.command.Command.{Command}
-use Rattle.command_words.specs.declared.command.Command.TheVariants as commands
+use Rattle.cli_ask.specs.Admission.{IsBehind, IsIgnored}
+use Rattle.cli_ask.specs.Client.{shown_of}
+use Rattle.cli_ask.specs.Publishing.{side_with, store_of}
+use Rattle.laws_clients.specs.Fits.{HasEnded}
+use Rattle.laws_replies.specs.Ends.{EndsBy}
+use Rattle.cli_words.specs.Laws.{OneCommand}
+use Rattle.cli_words.specs.Words.{SaysCommand}
+use Rattle.cli_words.specs.declared.command.Ask.{Ask}
+use Rattle.cli_words.specs.declared.command.Command.{Command}
+use Rattle.cli_words.specs.declared.command.Command.TheVariants as commands
 use Rattle.lc_io.specs.Folder.{FolderSeen, bytes_named}
 use Rattle.lc_io.specs.declared.file.File.{File}
 use Rattle.lc_io.specs.declared.folder.FolderFail.{FolderFail}
@@ -20,7 +20,7 @@ use Rattle.lc_world.specs.Link.{LinkSeen}
 use Rattle.page_client.specs.declared.outcome.Outcome.{Outcome}
 use Rattle.page_client.specs.declared.outcome.Outcome.TheVariants as outcomes
 use Rattle.page_client.specs.declared.want.Want.{Want}
-use Rattle.publisher_side.specs.Side.{Side}
+use Rattle.publisher_spec.specs.Side.{Side}
 use Rattle.timetable.specs.Laws.{LoadsTold}
 use Rattle.timetable.specs.declared.fault.LoadFault.TheVariants as fault
 use Rattle.timetable.specs.declared.scope.Scope.{Scope}
@@ -31,16 +31,16 @@ use Rattle.version_store.specs.Laws.{OneOutcome}
 use Rattle.version_store.specs.Store.{Stored}
 use Rattle.version_store.specs.declared.admission.AdmitFault.{AdmitFault}
 use Rattle.version_store.specs.declared.admission.AdmitFault.TheVariants as faults
-use Rattle.asking.specs.declared.end.ClientEnd.{ClientEnd}
+use Rattle.cli_ask.specs.declared.end.ClientEnd.{ClientEnd}
 use Rattle.lc_cli.specs.Block.{IsBlockEnd, client_status_of, failed_status_of}
 use Rattle.lc_cli.specs.Clear.{HasFairLink, IsAnswered, IsAskedSide, IsHeard, IsToldFile}
 use Rattle.lc_cli.specs.Command.{IsAskBlock, IsRightRefusal, ask_scope}
-use Rattle.command_inputs.specs.Inputs.{AsksForUpdate, IsBrokenUpdate, IsLongUpdate, IsRefusedFor}
+use Rattle.cli_inputs.specs.Inputs.{AsksForUpdate, IsBrokenUpdate, IsLongUpdate, IsRefusedFor}
 use Rattle.lc_cli.specs.Refusal.{IsRefusalEnd, status_of}
 use Rattle.lc_cli.specs.Top.{IsEarlyRefusal, IsRight, Past}
 use Rattle.lc_cli.specs.declared.block.Block.{Block}
-use Rattle.command_inputs.specs.declared.refusal.Refusal.{Refusal}
-use Rattle.command_inputs.specs.declared.refusal.Refusal.TheVariants as refused
+use Rattle.cli_inputs.specs.declared.refusal.Refusal.{Refusal}
+use Rattle.cli_inputs.specs.declared.refusal.Refusal.TheVariants as refused
 use Rattle.lc_cli.specs.declared.status.Status.{Status}
 use Rattle.lc_cli.specs.declared.status.Status.TheVariants.{Usage, NoMemory}
 use Rattle.lc_cli.proofs.InputsLemmas.{absent_told, bytes_told, inputs_told, still_told}

@@ -1,6 +1,6 @@
 -- How a run ends that has a block to print.
 use Rattle.std.specs.Prelude.{◌≡◌, ◌⊎◌, ◌+◌, ℕ, List, [], ◌∷◌, Option, Some, None, unwrap_or}
-use Rattle.asking.specs.declared.end.ClientEnd.{ClientEnd}
+use Rattle.cli_ask.specs.declared.end.ClientEnd.{ClientEnd}
 use Rattle.lc_io.specs.Counts.{Rose}
 use Rattle.lc_io.specs.Sink.{SinkSeen}
 use Rattle.page_client.specs.declared.outcome.Outcome.{Outcome}

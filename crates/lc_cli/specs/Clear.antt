@@ -1,21 +1,21 @@
 -- When nothing but memory keeps the output from being printed, and it is one.
 use Rattle.std.specs.Prelude.{◌≡◌, ℕ, true, List, [], ◌∷◌, Option, Some, None}
-use Rattle.asking.specs.Admission.{IsBehind}
-use Rattle.asking.specs.Publishing.{side_with, store_of}
-use Rattle.command_words.specs.Words.{SaysCommand}
-use Rattle.command_words.specs.declared.command.Ask.{Ask}
-use Rattle.command_words.specs.declared.command.Replay.{Replay}
-use Rattle.command_words.specs.declared.command.Command.{Command}
-use Rattle.command_words.specs.declared.command.Command.TheVariants as commands
+use Rattle.cli_ask.specs.Admission.{IsBehind}
+use Rattle.cli_ask.specs.Publishing.{side_with, store_of}
+use Rattle.cli_words.specs.Words.{SaysCommand}
+use Rattle.cli_words.specs.declared.command.Ask.{Ask}
+use Rattle.cli_words.specs.declared.command.Replay.{Replay}
+use Rattle.cli_words.specs.declared.command.Command.{Command}
+use Rattle.cli_words.specs.declared.command.Command.TheVariants as commands
 use Rattle.lc_io.specs.Counts.{Rose}
 use Rattle.lc_io.specs.Folder.{bytes_named}
 use Rattle.lc_io.specs.declared.file.File.{File}
 use Rattle.lc_world.specs.Link.{LinkSeen}
-use Rattle.publisher_side.specs.Short.{IsShort}
-use Rattle.publisher_side.specs.Side.{Side}
-use Rattle.replay_course.specs.Versions.{AreShort}
-use Rattle.replay_course.specs.declared.event.Event.{Event}
-use Rattle.replay_course.specs.declared.event.Event.TheVariants as events
+use Rattle.publisher_spec.specs.Short.{IsShort}
+use Rattle.publisher_spec.specs.Side.{Side}
+use Rattle.laws_course.specs.Versions.{AreShort}
+use Rattle.laws_course.specs.declared.event.Event.{Event}
+use Rattle.laws_course.specs.declared.event.Event.TheVariants as events
 use Rattle.script_text.specs.Reading.{SaysScript}
 use Rattle.script_text.specs.declared.script.Record.{Record}
 use Rattle.script_text.specs.declared.script.Record.TheVariants as records

@@ -1,28 +1,28 @@
 -- What a command comes to before anything is written: a text to print, or a refusal. Each has its cause.
 use Rattle.std.specs.Prelude.{◌≡◌, ◌⊎◌, ℕ, List, [], ◌∷◌, Option, None}
-use Rattle.asking.specs.Asked.{IsAsked}
-use Rattle.asking.specs.declared.end.ClientEnd.{ClientEnd}
-use Rattle.command_words.specs.Words.{SaysCommand}
-use Rattle.command_words.specs.declared.command.Ask.{Ask}
-use Rattle.command_words.specs.declared.command.Check.{Check}
-use Rattle.command_words.specs.declared.command.Replay.{Replay}
-use Rattle.command_words.specs.declared.command.Command.{Command}
-use Rattle.command_words.specs.declared.command.Command.TheVariants as commands
+use Rattle.cli_ask.specs.Asked.{IsAsked}
+use Rattle.cli_ask.specs.declared.end.ClientEnd.{ClientEnd}
+use Rattle.cli_words.specs.Words.{SaysCommand}
+use Rattle.cli_words.specs.declared.command.Ask.{Ask}
+use Rattle.cli_words.specs.declared.command.Check.{Check}
+use Rattle.cli_words.specs.declared.command.Replay.{Replay}
+use Rattle.cli_words.specs.declared.command.Command.{Command}
+use Rattle.cli_words.specs.declared.command.Command.TheVariants as commands
 use Rattle.lc_io.specs.Folder.{FolderSeen}
 use Rattle.lc_io.specs.declared.file.File.{File}
 use Rattle.lc_world.specs.Link.{LinkSeen}
-use Rattle.replay_course.specs.Replayed.{IsReplayed}
-use Rattle.replay_course.specs.declared.event.Event.{Event}
+use Rattle.laws_course.specs.Replayed.{IsReplayed}
+use Rattle.laws_course.specs.declared.event.Event.{Event}
 use Rattle.timetable.specs.Loading.{Loads}
 use Rattle.timetable.specs.declared.fault.LoadFault.TheVariants as fault
 use Rattle.timetable.specs.declared.scope.Scope.{Scope}
 use Rattle.timetable.specs.declared.timetable.Timetable.{Timetable}
 use Rattle.lc_cli.specs.CheckText.{check_text_of}
-use Rattle.command_inputs.specs.Inputs.{IsRefusedFor, ReadsInputs}
-use Rattle.command_inputs.specs.Script.{IsReplayRefused, ReadsReplay}
+use Rattle.cli_inputs.specs.Inputs.{IsRefusedFor, ReadsInputs}
+use Rattle.cli_inputs.specs.Script.{IsReplayRefused, ReadsReplay}
 use Rattle.lc_cli.specs.declared.block.Block.{Block}
-use Rattle.command_inputs.specs.declared.refusal.Refusal.{Refusal}
-use Rattle.command_inputs.specs.declared.refusal.Refusal.TheVariants.{Usage, Load}
+use Rattle.cli_inputs.specs.declared.refusal.Refusal.{Refusal}
+use Rattle.cli_inputs.specs.declared.refusal.Refusal.TheVariants.{Usage, Load}
 
 -- what `check` asks of its feed
 abbrev pub check_scope : Check → Scope

@@ -1,13 +1,13 @@
 -- That what is printed is one, and so is the status.
 use Rattle.std.specs.Prelude.{◌≡◌, ◌⊎◌, ℕ, List, ◌++◌}
 use Rattle.std.specs.List.{AllZip}
-use Rattle.asking.specs.Laws.{AreOneEnd, PrintOneClient}
-use Rattle.asking.specs.declared.end.ClientEnd.{ClientEnd}
-use Rattle.command_words.specs.declared.command.Command.{Command}
-use Rattle.command_words.specs.declared.command.Command.TheVariants as commands
+use Rattle.cli_ask.specs.Laws.{AreOneEnd, PrintOneClient}
+use Rattle.cli_ask.specs.declared.end.ClientEnd.{ClientEnd}
+use Rattle.cli_words.specs.declared.command.Command.{Command}
+use Rattle.cli_words.specs.declared.command.Command.TheVariants as commands
 use Rattle.lc_io.specs.declared.file.File.{File}
 use Rattle.lc_world.specs.Link.{LinkSeen}
-use Rattle.replay_course.specs.Replayed.{clients_text_of}
+use Rattle.laws_course.specs.Replayed.{clients_text_of}
 use Rattle.lc_cli.specs.Clear.{IsClear, IsUnhindered}
 use Rattle.lc_cli.specs.Top.{HasPrinted, IsRight, Past}
 use Rattle.lc_cli.specs.declared.block.Block.{Block}

@@ -1,15 +1,15 @@
 -- The line and the status of a command that is refused, and how the run ends that says it.
 use Rattle.std.specs.Prelude.{◌≡◌, ◌⊎◌, ℕ, List, ◌++◌, codes, decimal}
 use Rattle.lc_io.specs.Sink.{SinkSeen}
-use Rattle.gtfs_feed.specs.Texts.{what_text}
-use Rattle.gtfs_feed.specs.declared.what.What.{What}
-use Rattle.gtfs_feed.specs.declared.what.What.TheVariants as what
+use Rattle.gtfs_tables.specs.Texts.{what_text}
+use Rattle.gtfs_tables.specs.declared.what.What.{What}
+use Rattle.gtfs_tables.specs.declared.what.What.TheVariants as what
 use Rattle.timetable.specs.declared.fault.LoadFault.TheVariants as fault
 use Rattle.trip_updates.specs.Texts as messages
 use Rattle.trip_updates.specs.declared.fault.RtFault.{RtFault}
 use Rattle.lc_cli.specs.Writing.{Said}
-use Rattle.command_inputs.specs.declared.refusal.Refusal.{Refusal}
-use Rattle.command_inputs.specs.declared.refusal.Refusal.TheVariants as refused
+use Rattle.cli_inputs.specs.declared.refusal.Refusal.{Refusal}
+use Rattle.cli_inputs.specs.declared.refusal.Refusal.TheVariants as refused
 use Rattle.lc_cli.specs.declared.status.Status.{Status}
 use Rattle.lc_cli.specs.declared.status.Status.TheVariants.{Usage, FeedBroken, UpdateBroken, FolderFault, ScriptWrong, TooLarge, NoMemory}
 

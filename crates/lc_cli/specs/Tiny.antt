@@ -1,9 +1,9 @@
 -- A question of the small feed, a best journey worked out by hand from its timetable, and answers that are wrong.
 use Rattle.std.specs.Prelude.{◌≡◌, ℕ, ◌+◌, List, [], ◌∷◌, Option, None, codes}
 use Rattle.std.proofs.Common.{lit≤}
-use Rattle.asking.specs.Publishing.{side_with, store_of}
-use Rattle.client_answers.specs.Answered.{AnswersAt}
-use Rattle.command_words.specs.declared.command.Publishing.{Publishing}
+use Rattle.cli_ask.specs.Publishing.{side_with, store_of}
+use Rattle.laws_clients.specs.Answered.{AnswersAt}
+use Rattle.cli_words.specs.declared.command.Publishing.{Publishing}
 use Rattle.lc_model.specs.Journey.{IsJourney}
 use Rattle.lc_model.specs.Ride.{IsRideAt}
 use Rattle.lc_model.specs.declared.answer.Answer.{Answer}

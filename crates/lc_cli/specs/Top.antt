@@ -7,7 +7,7 @@ use Rattle.lc_cli.specs.Block.{IsBlockEnd}
 use Rattle.lc_cli.specs.Command.{IsRightBlock, IsRightRefusal}
 use Rattle.lc_cli.specs.Refusal.{IsRefusalEnd}
 use Rattle.lc_cli.specs.declared.block.Block.{Block}
-use Rattle.command_inputs.specs.declared.refusal.Refusal.{Refusal}
+use Rattle.cli_inputs.specs.declared.refusal.Refusal.{Refusal}
 use Rattle.lc_cli.specs.declared.status.Status.{Status}
 use Rattle.lc_cli.specs.declared.status.Status.TheVariants.{Done, Usage, FeedBroken, UpdateBroken, FolderFault, SinkFault, LinkFault, PeerWrong, QueryRefused, ScriptWrong, TooLarge, NoMemory}
 

@@ -3,7 +3,7 @@ ghost use Rattle.lc_cli.specs.Block.{IsBlockEnd, client_status_of, failed_status
 ghost use Rattle.lc_cli.specs.Writing.{NeitherFell};
 
 use crate::status::Status;
-use asking::ClientEnd;
+use cli_ask::ClientEnd;
 use lc_world::{Sink, SinkFail, put_all};
 use page_client::Outcome;
 

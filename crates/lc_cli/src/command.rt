@@ -1,26 +1,26 @@
 ghost use Rattle.std.specs.Prelude.{◌≡◌, ◌≢◌, [], ◌∷◌, IfErr, IfOk, None};
-ghost use Rattle.asking.specs.Admission.{IsFaulty};
-ghost use Rattle.asking.specs.declared.admission.MessageFault.TheVariants as messages;
-ghost use Rattle.command_words.specs.Line.{texts_of};
-ghost use Rattle.command_words.specs.Words.{SaysCommand};
-ghost use Rattle.command_words.specs.declared.command.Check.{Check as Said};
-ghost use Rattle.command_words.specs.declared.command.Command.TheVariants as commands;
-ghost use Rattle.gtfs_feed.specs.Reading.{Keeps};
+ghost use Rattle.cli_ask.specs.Admission.{IsFaulty};
+ghost use Rattle.cli_ask.specs.declared.admission.MessageFault.TheVariants as messages;
+ghost use Rattle.cli_words.specs.Line.{texts_of};
+ghost use Rattle.cli_words.specs.Words.{SaysCommand};
+ghost use Rattle.cli_words.specs.declared.command.Check.{Check as Said};
+ghost use Rattle.cli_words.specs.declared.command.Command.TheVariants as commands;
+ghost use Rattle.gtfs_tables.specs.Reading.{Keeps};
 ghost use Rattle.lc_cli.specs.Command.{IsAskBlock, IsCheckBlock, IsReplayBlock, IsRightBlock, IsRightRefusal, ask_scope, check_scope, replay_scope};
-ghost use Rattle.command_inputs.specs.Inputs.{IsMessageRefusal, IsRefusedFor};
-ghost use Rattle.command_inputs.specs.Script.{IsReplayRefused};
-ghost use Rattle.command_inputs.specs.declared.refusal.Refusal.TheVariants.{Load};
+ghost use Rattle.cli_inputs.specs.Inputs.{IsMessageRefusal, IsRefusedFor};
+ghost use Rattle.cli_inputs.specs.Script.{IsReplayRefused};
+ghost use Rattle.cli_inputs.specs.declared.refusal.Refusal.TheVariants.{Load};
 ghost use Rattle.timetable.specs.Scope.{IsWindow};
 ghost use Rattle.timetable.specs.declared.fault.LoadFault.TheVariants.{NoMemory as OutOfMemory};
 
 use crate::block::Block;
 use crate::check_text::check_text;
-use asking::{Asked, MessageFault};
-use command_inputs::{Inputs, Refusal, ReplayInputs, read_inputs, read_replay};
-use command_words::{Ask, Check, Command, Replay, one_command, read_words};
+use cli_ask::{Asked, MessageFault};
+use cli_inputs::{Inputs, Refusal, ReplayInputs, read_inputs, read_replay};
+use cli_replay::Replayed;
+use cli_words::{Ask, Check, Command, Replay, one_command, read_words};
 use lc_model::NoMemory;
 use lc_world::{File, Folder, Link};
-use replaying::Replayed;
 use std::alloc::Global;
 use timetable::{LoadFault, Scope, load};
 
@@ -116,7 +116,7 @@ fn ask_block<F: Folder, L: Link>(
     };
     match read_inputs(alloc, folder, &scope, update) {
         Ok(Inputs { made, file }) => {
-            let (ended, link) = asking::ask(
+            let (ended, link) = cli_ask::ask(
                 alloc,
                 made,
                 publishing,
@@ -182,7 +182,7 @@ fn replay_block<F: Folder, L: Link>(
     };
     match read_replay(alloc, folder, &scope, script) {
         Ok(ReplayInputs { made, events }) => {
-            let (played, link) = replaying::replay(
+            let (played, link) = cli_replay::replay(
                 alloc,
                 made,
                 publishing,

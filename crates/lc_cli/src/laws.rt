@@ -1,9 +1,9 @@
 ghost use Rattle.lc_cli.specs.Laws.{DoneIsClear, DoneIsPrinted, OneRun, OneStatus};
 
-use asking::one_output;
-use command_words::one_command;
+use cli_ask::one_output;
+use cli_words::one_command;
+use laws_replays::one_course;
 use lc_world::Link;
-use replay_answers::one_course;
 use script_text::one_script;
 use timetable::{one_end, one_timetable};
 use version_store::one_outcome;

@@ -1,5 +1,5 @@
 //! The commands of `lc`: they check feeds, and plan journeys over pages that a publisher of the feed gives. It stands on the words,
-//! the timetable of a feed, `asking` and `replaying`.
+//! the timetable of a feed, `cli_ask` and `cli_replay`.
 #![tactic(auto)]
 
 mod block;

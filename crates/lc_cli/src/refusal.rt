@@ -3,8 +3,8 @@ ghost use Rattle.lc_cli.specs.Refusal.{HasMadeLine, IsRefusalEnd, error_line_of,
 ghost use Rattle.lc_cli.specs.Writing.{NeitherFell, Said};
 
 use crate::status::Status;
-use command_inputs::Refusal;
-use gtfs_feed::What;
+use cli_inputs::Refusal;
+use gtfs_tables::What;
 use lc_model::NoMemory;
 use lc_world::{Sink, SinkFail, put_all};
 use std::alloc::Global;

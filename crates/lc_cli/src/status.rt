@@ -1,7 +1,7 @@
 ghost use Rattle.std.specs.Prelude.{◌≡◌};
 ghost use Rattle.lc_cli.specs.Status.{code_of};
 
-use gtfs_feed::What;
+use gtfs_tables::What;
 use lc_model::{Bytes, Text};
 use page_client::{PeerFault, QueryFault};
 use trip_updates::RtFault;

@@ -3,9 +3,9 @@ use Rattle.std.specs.Prelude.{◌≡◌, ◌⊎◌, ℕ, List, [], ◌∷◌, �
 use Rattle.connection_uri.specs.Base.{BaseParts}
 use Rattle.http_text.specs.Request.{IsWholeRequest}
 use Rattle.http_text.specs.declared.request.Request.{Request}
-use Rattle.publisher_side.specs.Reply.{IsReply}
-use Rattle.publisher_side.specs.Short.{StandsUnder}
-use Rattle.publisher_side.specs.Side.{IsLater, Side}
+use Rattle.publisher_spec.specs.Reply.{IsReply}
+use Rattle.publisher_spec.specs.Short.{StandsUnder}
+use Rattle.publisher_spec.specs.Side.{IsLater, Side}
 use Rattle.lc_world.specs.declared.entry.Entry.{Entry}
 use Rattle.lc_world.specs.declared.entry.ToldReply.{ToldReply}
 use Rattle.lc_world.specs.declared.entry.ToldReply.TheVariants as told_replies

@@ -1,6 +1,6 @@
 //! The rest of the outside as traits: links to a publisher and doors to clients, each with the meanings that contracts cite and a
 //! count of its faults, and forms of them in memory. It hands on folders and sinks, and stands on `lc_io`, on `http_text` for what
-//! a request is, and on `publisher_side` for what a link may have at its other end.
+//! a request is, and on `publisher_spec` for what a link may have at its other end.
 #![tactic(auto)]
 
 mod door;

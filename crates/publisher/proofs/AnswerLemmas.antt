@@ -4,13 +4,13 @@ use Rattle.std.specs.Prelude.{IfOk, OnOk}
 use Rattle.http_text.specs.Request.{IsWholeRequest}
 use Rattle.http_text.specs.declared.request.Request.{Request}
 use Rattle.publisher.specs.Updated.{IsUpdated}
-use Rattle.publisher_side.specs.Reply.{IsBehind, IsNextSide, IsReply, text_said}
-use Rattle.publisher_side.specs.Response.{IsResponseTo, asked_at}
-use Rattle.publisher_side.specs.Side.{Side}
-use Rattle.publisher_side.specs.declared.asked.Asked.{Asked}
-use Rattle.publisher_side.specs.declared.asked.Asked.TheVariants as kinds
-use Rattle.publisher_side.specs.declared.response.Response.{Response}
-use Rattle.publisher_side.specs.declared.response.Response.TheVariants.{Status}
+use Rattle.publisher_spec.specs.Reply.{IsBehind, IsNextSide, IsReply, text_said}
+use Rattle.publisher_spec.specs.Response.{IsResponseTo, asked_at}
+use Rattle.publisher_spec.specs.Side.{Side}
+use Rattle.publisher_spec.specs.declared.asked.Asked.{Asked}
+use Rattle.publisher_spec.specs.declared.asked.Asked.TheVariants as kinds
+use Rattle.publisher_spec.specs.declared.response.Response.{Response}
+use Rattle.publisher_spec.specs.declared.response.Response.TheVariants.{Status}
 
 module _ (side : Side) (bytes : List ℕ) (request : Request) (whole : IsWholeRequest bytes request) where
   -- the reply to a request that a message is admitted

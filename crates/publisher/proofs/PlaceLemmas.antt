@@ -10,7 +10,7 @@ use Rattle.lc_versions.specs.Cuts.{first_of}
 use Rattle.lc_versions.specs.Pages.{CutPage, departing, page_for, pages_from, pages_of}
 use Rattle.publisher.specs.Place.{place_behind, place_of}
 use Rattle.publisher.specs.declared.place.Place.{Place}
-use Rattle.publisher_side.specs.PageAt.{next_cut, page_among, previous_cut}
+use Rattle.publisher_spec.specs.PageAt.{next_cut, page_among, previous_cut}
 
 -- the numbers rise strictly
 abbrev pub Rising : List ℕ → Type 0

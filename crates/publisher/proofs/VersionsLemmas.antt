@@ -6,7 +6,7 @@ use Rattle.std.proofs.lemmas.Bool.{eq-eqb}
 use Rattle.std.proofs.lemmas.List.Folds.{list_any-from_Any}
 use Rattle.lc_versions.specs.Named.{is_by, last_of, version_among}
 use Rattle.memento.specs.Negotiation.{Negotiates}
-use Rattle.publisher_side.proofs.VersionLemmas.{contains_found}
+use Rattle.publisher_spec.proofs.VersionLemmas.{contains_found}
 
 -- one of these is the version
 abbrev pub has : ℕ → List ℕ → Bool

@@ -9,7 +9,7 @@ use Rattle.lc_model.specs.Run.{InKeyOrder}
 use Rattle.lc_model.specs.declared.connection.Connection.{Connection}
 use Rattle.lc_model.specs.declared.run.Run.{Run}
 use Rattle.lc_versions.specs.Pages.{departures_of}
-use Rattle.publisher_side.specs.Side.{IsTimetableAt, Side, has_version}
+use Rattle.publisher_spec.specs.Side.{IsTimetableAt, Side, has_version}
 use Rattle.publisher.specs.Held.{Held, side_of}
 use Rattle.publisher.specs.declared.publisher.Publisher.TheInside.{Inside}
 

@@ -3,7 +3,7 @@ use Rattle.std.specs.Prelude.{◌≡◌, ℕ, List}
 use Rattle.lc_model.specs.declared.connection.Connection.{Connection}
 use Rattle.lc_versions.specs.Cuts.{AreCuts}
 use Rattle.lc_versions.specs.Pages.{departures_of}
-use Rattle.publisher_side.specs.Side.{IsTimetableAt, Side}
+use Rattle.publisher_spec.specs.Side.{IsTimetableAt, Side}
 use Rattle.publisher.specs.Place.{place_of}
 use Rattle.publisher.specs.declared.place.Place.{Place}
 

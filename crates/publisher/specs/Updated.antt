@@ -2,10 +2,10 @@
 use Rattle.std.specs.Prelude.{◌≡◌, ℕ, List, Option, Some, None}
 use Rattle.lc_versions.specs.declared.update.Update.{Update}
 use Rattle.http_text.specs.declared.request.Request.{Request}
-use Rattle.publisher_side.specs.Reply.{side_behind, text_said}
-use Rattle.publisher_side.specs.Response.{IsMessageIn, status_of_update}
-use Rattle.publisher_side.specs.Side.{Side}
-use Rattle.publisher_side.specs.declared.response.Response.TheVariants.{Status}
+use Rattle.publisher_spec.specs.Reply.{side_behind, text_said}
+use Rattle.publisher_spec.specs.Response.{IsMessageIn, status_of_update}
+use Rattle.publisher_spec.specs.Side.{Side}
+use Rattle.publisher_spec.specs.declared.response.Response.TheVariants.{Status}
 use Rattle.version_store.specs.declared.admission.AdmitFault.{AdmitFault}
 use Rattle.version_store.specs.declared.admission.AdmitFault.TheVariants as faults
 

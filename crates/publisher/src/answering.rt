@@ -4,7 +4,7 @@ ghost use Rattle.http_text.specs.Request.{IsWhole, IsWholeRequest};
 ghost use Rattle.lc_versions.specs.declared.update.Update.{Update as Said};
 ghost use Rattle.publisher.specs.Held.{side_of};
 ghost use Rattle.publisher.specs.Updated.{IsRefusal, IsUpdated, status_of_fault};
-ghost use Rattle.publisher_side.specs.Reply.{IsNextSide, IsReply};
+ghost use Rattle.publisher_spec.specs.Reply.{IsNextSide, IsReply};
 ghost use Rattle.version_store.specs.Admission.{Admits, IsRefused, IsTaken};
 ghost use Rattle.version_store.specs.declared.admission.AdmitFault.{AdmitFault as Fault};
 ghost use Rattle.version_store.specs.declared.admission.AdmitFault.TheVariants.{NoMemory as OutOfMemory};
@@ -14,7 +14,7 @@ use crate::saying::says_length;
 use fragmenter::Fragmenter;
 use http_text::{Request, read_request};
 use lc_model::NoMemory;
-use publisher_side::{Asked, Response};
+use publisher_spec::{Asked, Response};
 use std::alloc::Global;
 use version_store::{AdmitFault, Admitted};
 

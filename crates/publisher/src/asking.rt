@@ -3,11 +3,11 @@ ghost use Rattle.std.specs.Str.{str_eq_ignore_ascii_case};
 ghost use Rattle.http_text.specs.declared.field.Field.{Field as FieldSaid};
 ghost use Rattle.http_text.specs.declared.member.Member.{Member as MemberSaid};
 ghost use Rattle.std.specs.Option.{option_copied};
-ghost use Rattle.publisher_side.specs.Asked.{asked_by_posting, asked_by_reading, asked_of, field_value, is_head, is_posting, is_reading, is_same, is_under, member_value};
+ghost use Rattle.publisher_spec.specs.Asked.{asked_by_posting, asked_by_reading, asked_of, field_value, is_head, is_posting, is_reading, is_same, is_under, member_value};
 
 use connection_uri::Base;
 use http_text::{Allow, Field, Member};
-use publisher_side::Asked;
+use publisher_spec::Asked;
 
 /// What a request asks for, by its path and its method.
 pub(crate) fn asked(base: &Base, accepts_updates: bool, path: &[u8], method: &[u8]) -> Asked

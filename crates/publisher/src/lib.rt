@@ -1,5 +1,5 @@
 //! A publisher of a timetable with its versions as pages over HTTP: it stands for a side, and answers each request as that side
-//! replies. It stands on `version_store`, on `fragmenter`, and on the definitions of `publisher_side`.
+//! replies. It stands on `version_store`, on `fragmenter`, and on the definitions of `publisher_spec`.
 #![tactic(auto)]
 
 mod answering;

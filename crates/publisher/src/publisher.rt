@@ -1,6 +1,6 @@
 ghost use Rattle.std.specs.Prelude.{◌≡◌, [], IfOk};
 ghost use Rattle.publisher.specs.Held.{side_of};
-ghost use Rattle.publisher_side.specs.Side.{IsValidSide, newest_of};
+ghost use Rattle.publisher_spec.specs.Side.{IsValidSide, newest_of};
 
 use crate::Options;
 use crate::kept::{doc_is_valid, runs_are_in_order};

@@ -4,7 +4,7 @@ ghost use Rattle.http_text.specs.ReplyText.{reply_text_of};
 ghost use Rattle.publisher.specs.Held.{side_of};
 ghost use Rattle.page_json.specs.Valid.{IsValidPage};
 ghost use Rattle.publisher.specs.Writable.{IsWritable};
-ghost use Rattle.publisher_side.specs.Reply.{bare_parts, found_parts, method_parts, page_parts, parts_of, sent_parts, stops_parts, text_said};
+ghost use Rattle.publisher_spec.specs.Reply.{bare_parts, found_parts, method_parts, page_parts, parts_of, sent_parts, stops_parts, text_said};
 
 use crate::Publisher;
 use crate::asking::is_head;
@@ -15,7 +15,7 @@ use lc_model::{Bytes, Moment, NoMemory, PageName, StopsDoc, Text};
 use lc_time::iso_text;
 use page_json::{Page, page_text, stops_text};
 use percent_encoding::ascii_str;
-use publisher_side::Response;
+use publisher_spec::Response;
 use std::alloc::Global;
 
 /// A status and nothing else.

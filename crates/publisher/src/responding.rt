@@ -1,10 +1,10 @@
 ghost use Rattle.std.specs.Prelude.{◌≡◌, ℕ, List, IfOk, IfSome, true};
 ghost use Rattle.publisher.specs.Held.{side_of};
 ghost use Rattle.publisher.specs.Writable.{IsWritable};
-ghost use Rattle.publisher_side.specs.Response.{IsGateResponse, IsMovedTo, IsNegotiated, IsPageResponse, IsResponseTo, IsSentOf, IsStopsSent, asked_at};
-ghost use Rattle.publisher_side.specs.Side.{has_version};
-ghost use Rattle.publisher_side.specs.declared.asked.Asked.{Asked as AskedFor};
-ghost use Rattle.publisher_side.specs.declared.asked.Asked.TheVariants.{Gate as TheGate, Page as ThePage, Update as AnUpdate};
+ghost use Rattle.publisher_spec.specs.Response.{IsGateResponse, IsMovedTo, IsNegotiated, IsPageResponse, IsResponseTo, IsSentOf, IsStopsSent, asked_at};
+ghost use Rattle.publisher_spec.specs.Side.{has_version};
+ghost use Rattle.publisher_spec.specs.declared.asked.Asked.{Asked as AskedFor};
+ghost use Rattle.publisher_spec.specs.declared.asked.Asked.TheVariants.{Gate as TheGate, Page as ThePage, Update as AnUpdate};
 
 use crate::Publisher;
 use crate::asking::{asked, field_value};
@@ -14,7 +14,7 @@ use fragmenter::Fragmenter;
 use http_text::Request;
 use lc_model::{Moment, NoMemory, PageName};
 use memento::negotiate;
-use publisher_side::{Asked, Response};
+use publisher_spec::{Asked, Response};
 use std::alloc::Global;
 
 impl<G: Fragmenter + Drop> Publisher<G> {

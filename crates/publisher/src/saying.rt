@@ -1,5 +1,5 @@
 ghost use Rattle.std.specs.Prelude.{◌≡◌, IfSome};
-ghost use Rattle.publisher_side.specs.Response.{IsDeparture, IsVersion, says_length};
+ghost use Rattle.publisher_spec.specs.Response.{IsDeparture, IsVersion, says_length};
 
 use crate::asking::{field_value, member_value};
 use crate::place::first_moment;

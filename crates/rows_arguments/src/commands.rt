@@ -1,6 +1,6 @@
 //! What the words of each command say.
 use crate::words::{Side, command_of, put_publishing, put_read};
-use command_words::{Ask, Check, Command, Replay, read_words};
+use cli_words::{Ask, Check, Command, Replay, read_words};
 use lc_model::{NoMemory, Query, ServiceDate};
 use lc_time::date_text;
 use rows_common::Draft;

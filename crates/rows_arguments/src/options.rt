@@ -1,6 +1,6 @@
 //! What the options of a question say.
 use crate::words::{Side, command_of, put_publishing, put_read};
-use command_words::{Ask, Command};
+use cli_words::{Ask, Command};
 use lc_model::NoMemory;
 use rows_common::{Draft, Unmade};
 use std::alloc::Global;

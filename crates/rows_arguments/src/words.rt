@@ -1,6 +1,6 @@
 use crate::commands::put_said;
 use crate::options::{put_client, put_published};
-use command_words::{Command, Publishing, read_words};
+use cli_words::{Command, Publishing, read_words};
 use fragmenter::Cutting;
 use lc_model::NoMemory;
 use rows_common::Draft;

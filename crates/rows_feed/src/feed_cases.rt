@@ -1,5 +1,5 @@
 //! What is said of a whole feed, a file of which is changed or absent.
-use gtfs_feed::{FeedFault, Tables, What, read_feed};
+use gtfs_tables::{FeedFault, Tables, What, read_feed};
 use lc_io::{File, MemFolder};
 use lc_model::Text;
 use rows_common::{Draft, Unmade};

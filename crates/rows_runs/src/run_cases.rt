@@ -7,7 +7,7 @@ use lc_time::read_date;
 use rows_common::{Draft, Unmade};
 use service_days::{Days, Zone, days, read_zone};
 use std::alloc::Global;
-use trip_runs::{are_plannable, connections, is_plannable, runs};
+use trip_calls::{are_plannable, connections, is_plannable, runs};
 
 /// The midnight of 2024-05-01 in UTC, from which the times of connections are printed.
 const MIDNIGHT: u64 = 1_714_521_600;

@@ -3,10 +3,10 @@ use Rattle.std.proofs.Common.{◌≡◌, ◌∙◌, inl, inr, ℕ, ◌≤◌, Re
 use Rattle.lc_io.specs.Counts.{Rose}
 use Rattle.lc_io.specs.Folder.{FolderSeen}
 use Rattle.lc_time.specs.declared.zone.Zone.{Zone}
-use Rattle.gtfs_feed.specs.Reading.{EndsSo, Keeps}
-use Rattle.gtfs_feed.specs.declared.fault.FeedFault.{FeedFault}
-use Rattle.gtfs_feed.specs.declared.fault.FeedFault.TheVariants as feed
-use Rattle.gtfs_feed.specs.declared.tables.Tables.{Tables}
+use Rattle.gtfs_tables.specs.Reading.{EndsSo, Keeps}
+use Rattle.gtfs_tables.specs.declared.fault.FeedFault.{FeedFault}
+use Rattle.gtfs_tables.specs.declared.fault.FeedFault.TheVariants as feed
+use Rattle.gtfs_tables.specs.declared.tables.Tables.{Tables}
 use Rattle.timetable.specs.Loading.{IsToldAs, LoadsSo, ReadsFeed}
 use Rattle.timetable.specs.Made.{FailsToMake}
 use Rattle.timetable.specs.Timetable.{IsTimetableOf}

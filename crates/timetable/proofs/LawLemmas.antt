@@ -14,17 +14,17 @@ use Rattle.service_days.specs.declared.service_day.ServiceDay.{ServiceDay}
 use Rattle.gtfs_fields.specs.declared.trip_rows.TripRow.{TripRow}
 use Rattle.gtfs_trips.specs.declared.stop_times.StopTime.{StopTime}
 use Rattle.gtfs_calendars.specs.declared.frequency.Frequency.{Frequency}
-use Rattle.gtfs_feed.specs.Feed.{AreTables, IsFirstBroken}
+use Rattle.gtfs_tables.specs.Feed.{AreTables, IsFirstBroken}
 use Rattle.gtfs_fields.specs.declared.fault.FileFault.{FileFault}
 use Rattle.gtfs_fields.specs.declared.fault.FileFault.TheVariants as wrong
-use Rattle.gtfs_feed.specs.Files.{Found, files_of}
-use Rattle.gtfs_feed.specs.Laws.{NeverBoth, OneTables}
-use Rattle.gtfs_feed.specs.Reading.{Reads}
-use Rattle.gtfs_feed.specs.declared.feed_file.FeedFile.{FeedFile}
-use Rattle.gtfs_feed.specs.declared.tables.Tables.{Tables}
-use Rattle.gtfs_feed.specs.declared.what.What.{What}
-use Rattle.trip_runs.specs.Laws.{OneListOfRuns}
-use Rattle.trip_runs.specs.Runs.{AreRunsOf, IsRunOf}
+use Rattle.gtfs_tables.specs.Files.{Found, files_of}
+use Rattle.gtfs_tables.specs.Laws.{NeverBoth, OneTables}
+use Rattle.gtfs_tables.specs.Reading.{Reads}
+use Rattle.gtfs_tables.specs.declared.feed_file.FeedFile.{FeedFile}
+use Rattle.gtfs_tables.specs.declared.tables.Tables.{Tables}
+use Rattle.gtfs_tables.specs.declared.what.What.{What}
+use Rattle.trip_calls.specs.Laws.{OneListOfRuns}
+use Rattle.trip_calls.specs.Runs.{AreRunsOf, IsRunOf}
 use Rattle.timetable.specs.Laws.{AreSame, LoadsTold, NotBroken, NotTooLarge, OneOfTables, OneTimetable}
 use Rattle.timetable.specs.Loading.{ReadsTables}
 use Rattle.timetable.specs.Made.{HasManyChangesAlone, HasManyConnections}

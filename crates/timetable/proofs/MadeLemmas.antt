@@ -25,7 +25,7 @@ use Rattle.service_days.specs.declared.service_day.ServiceDay.{ServiceDay}
 use Rattle.change_table.specs.ChangeRule.{change_from_to, change_of, stop_of}
 use Rattle.change_table.specs.ChangeTable.{AreChangesOf}
 use Rattle.change_table.proofs.ListLemmas.{IsKept-find}
-use Rattle.trip_runs.specs.Plannable.{ArePlannable, IsPlannable}
+use Rattle.trip_calls.specs.Plannable.{ArePlannable, IsPlannable}
 use Rattle.timetable.specs.Scope.{IsWindow}
 
 -- a date of the window may be planned

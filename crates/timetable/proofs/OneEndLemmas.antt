@@ -7,16 +7,16 @@ use Rattle.lc_model.specs.declared.run.Run.{Run}
 use Rattle.lc_time.specs.declared.zone.Zone.{Zone}
 use Rattle.service_days.specs.Laws.{OneListOfDays, OneZone}
 use Rattle.service_days.specs.ZoneWord.{IsWrong, SaysZone, file_named}
-use Rattle.gtfs_feed.specs.Feed.{AreTables, IsFirstBroken, named_at, what_of}
+use Rattle.gtfs_tables.specs.Feed.{AreTables, IsFirstBroken, named_at, what_of}
 use Rattle.gtfs_fields.specs.declared.fault.FileFault.{FileFault}
 use Rattle.gtfs_fields.specs.declared.fault.FileFault.TheVariants as wrong
-use Rattle.gtfs_feed.specs.Files.{Found, files_of, name_of}
-use Rattle.gtfs_feed.specs.Laws.{NeverBoth, OneFirst, OneTables}
-use Rattle.gtfs_feed.specs.declared.feed_file.FeedFile.{FeedFile}
-use Rattle.gtfs_feed.specs.declared.tables.Tables.{Tables}
-use Rattle.gtfs_feed.specs.declared.what.What.{What}
-use Rattle.gtfs_feed.specs.declared.what.What.TheVariants as whats
-use Rattle.trip_runs.specs.Laws.{OneListOfRuns}
+use Rattle.gtfs_tables.specs.Files.{Found, files_of, name_of}
+use Rattle.gtfs_tables.specs.Laws.{NeverBoth, OneFirst, OneTables}
+use Rattle.gtfs_tables.specs.declared.feed_file.FeedFile.{FeedFile}
+use Rattle.gtfs_tables.specs.declared.tables.Tables.{Tables}
+use Rattle.gtfs_tables.specs.declared.what.What.{What}
+use Rattle.gtfs_tables.specs.declared.what.What.TheVariants as whats
+use Rattle.trip_calls.specs.Laws.{OneListOfRuns}
 use Rattle.timetable.proofs.LawLemmas.{NeverWrong, found_is, looked_up, one_of_runs, runs_by_other, still_told, tables_told, zone_told}
 use Rattle.timetable.specs.Laws.{BrokenEnds, FineEnds, LoadsTold, MuchEnds, NoZoneEnds, NotBroken, NotTooLarge, OneEnd, OneTimetable, RowsEnd}
 use Rattle.timetable.specs.Loading.{BreaksRule, HasNoZone, HasTooManyRows, MakesTooMuch, ReadsTables}

@@ -8,11 +8,11 @@ use Rattle.lc_time.specs.declared.zone.Zone.{Zone}
 use Rattle.service_days.specs.Laws.{ShowSame}
 use Rattle.service_days.specs.ZoneWord.{IsWrong, SaysZone}
 use Rattle.gtfs_fields.specs.declared.fault.FileFault.TheVariants as wrong
-use Rattle.gtfs_feed.specs.Feed.{AreTables, IsFirstBroken, named_at, what_of}
-use Rattle.gtfs_feed.specs.Files.{files_of, name_of}
-use Rattle.gtfs_feed.specs.declared.feed_file.FeedFile.{FeedFile}
-use Rattle.gtfs_feed.specs.declared.tables.Tables.{Tables}
-use Rattle.gtfs_feed.specs.declared.what.What.{What}
+use Rattle.gtfs_tables.specs.Feed.{AreTables, IsFirstBroken, named_at, what_of}
+use Rattle.gtfs_tables.specs.Files.{files_of, name_of}
+use Rattle.gtfs_tables.specs.declared.feed_file.FeedFile.{FeedFile}
+use Rattle.gtfs_tables.specs.declared.tables.Tables.{Tables}
+use Rattle.gtfs_tables.specs.declared.what.What.{What}
 use Rattle.timetable.specs.Loading.{Loads, LoadsSo}
 use Rattle.timetable.specs.Made.{HasManyChangesAlone, HasManyConnections}
 use Rattle.timetable.specs.Timetable.{HasFewChanges, IsTimetableOf, RunsAre}

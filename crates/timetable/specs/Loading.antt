@@ -3,13 +3,13 @@ use Rattle.std.specs.Prelude.{◌≡◌, ◌⊎◌, ℕ, List, Result, Ok, Err}
 use Rattle.lc_io.specs.Counts.{Rose}
 use Rattle.lc_io.specs.Folder.{FolderSeen}
 use Rattle.lc_time.specs.declared.zone.Zone.{Zone}
-use Rattle.gtfs_feed.specs.Files.{name_of}
-use Rattle.gtfs_feed.specs.Reading.{EndsSo}
-use Rattle.gtfs_feed.specs.declared.fault.FeedFault.{FeedFault}
-use Rattle.gtfs_feed.specs.declared.fault.FeedFault.TheVariants as feed
-use Rattle.gtfs_feed.specs.declared.feed_file.FeedFile.{FeedFile}
-use Rattle.gtfs_feed.specs.declared.tables.Tables.{Tables}
-use Rattle.gtfs_feed.specs.declared.what.What.{What}
+use Rattle.gtfs_tables.specs.Files.{name_of}
+use Rattle.gtfs_tables.specs.Reading.{EndsSo}
+use Rattle.gtfs_tables.specs.declared.fault.FeedFault.{FeedFault}
+use Rattle.gtfs_tables.specs.declared.fault.FeedFault.TheVariants as feed
+use Rattle.gtfs_tables.specs.declared.feed_file.FeedFile.{FeedFile}
+use Rattle.gtfs_tables.specs.declared.tables.Tables.{Tables}
+use Rattle.gtfs_tables.specs.declared.what.What.{What}
 use Rattle.timetable.specs.Made.{HasManyChangesAlone, HasManyConnections}
 use Rattle.timetable.specs.Timetable.{IsTimetableOf}
 use Rattle.timetable.specs.Zone.{FailsAtZone, FindsNoZone, ReadsZone, RunsOutAtZone}

@@ -4,9 +4,9 @@ use Rattle.lc_model.specs.Connection.{connections_of}
 use Rattle.lc_model.specs.declared.run.Run.{Run}
 use Rattle.lc_time.specs.declared.zone.Zone.{Zone}
 use Rattle.change_table.specs.ChangeTable.{count_of_changes}
-use Rattle.gtfs_feed.specs.declared.tables.Tables.{Tables}
-use Rattle.gtfs_feed.specs.declared.what.What.{What}
-use Rattle.gtfs_feed.specs.declared.what.What.TheVariants.{Connections, Changes}
+use Rattle.gtfs_tables.specs.declared.tables.Tables.{Tables}
+use Rattle.gtfs_tables.specs.declared.what.What.{What}
+use Rattle.gtfs_tables.specs.declared.what.What.TheVariants.{Connections, Changes}
 use Rattle.timetable.specs.Timetable.{HaveFewConnections, RunsAre}
 use Rattle.timetable.specs.declared.fault.LoadFault.{LoadFault}
 use Rattle.timetable.specs.declared.fault.LoadFault.TheVariants.{Broken, TooLarge, Folder, NoMemory}

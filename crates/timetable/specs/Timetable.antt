@@ -5,12 +5,12 @@ use Rattle.lc_model.specs.declared.doc.StopsDoc.{StopsDoc}
 use Rattle.lc_model.specs.declared.run.Run.{Run}
 use Rattle.lc_time.specs.declared.zone.Zone.{Zone}
 use Rattle.change_table.specs.ChangeTable.{AreChangesOf, count_of_changes}
-use Rattle.gtfs_feed.specs.declared.tables.Tables.{Tables}
+use Rattle.gtfs_tables.specs.declared.tables.Tables.{Tables}
 use Rattle.service_days.specs.Days.{AreDays}
 use Rattle.service_days.specs.declared.service_day.ServiceDay.{ServiceDay}
 use Rattle.timetable.specs.declared.scope.Scope.{Scope}
 use Rattle.timetable.specs.declared.timetable.Timetable.{Timetable}
-use Rattle.trip_runs.specs.Runs.{AreRunsOf}
+use Rattle.trip_calls.specs.Runs.{AreRunsOf}
 
 -- these are the runs of the tables on the dates of the window, in the zone
 pub record RunsAre (scope : Scope) (zone : Zone) (tables : Tables) (runs : List Run) : Type 0 where

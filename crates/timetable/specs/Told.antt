@@ -4,9 +4,9 @@ use Rattle.lc_io.specs.Folder.{bytes_named}
 use Rattle.lc_io.specs.declared.file.File.{File}
 use Rattle.lc_time.specs.declared.zone.Zone.{Zone}
 use Rattle.service_days.specs.ZoneWord.{SaysZone, file_named}
-use Rattle.gtfs_feed.specs.Feed.{AreTables}
-use Rattle.gtfs_feed.specs.Files.{files_of}
-use Rattle.gtfs_feed.specs.declared.tables.Tables.{Tables}
+use Rattle.gtfs_tables.specs.Feed.{AreTables}
+use Rattle.gtfs_tables.specs.Files.{files_of}
+use Rattle.gtfs_tables.specs.declared.tables.Tables.{Tables}
 use Rattle.timetable.specs.Timetable.{IsTimetableOf}
 use Rattle.timetable.specs.declared.scope.Scope.{Scope}
 use Rattle.timetable.specs.declared.timetable.Timetable.{Timetable}

@@ -1,7 +1,7 @@
 ghost use Rattle.std.specs.Prelude.{◌≡◌};
 ghost use Rattle.timetable.specs.declared.fault.LoadFault.TheVariants.{NoMemory as OutOfMemory};
 
-use gtfs_feed::What;
+use gtfs_tables::What;
 use lc_model::{NoMemory, Text};
 
 /// Why there is no timetable.

@@ -1,9 +1,9 @@
 ghost use Rattle.timetable.specs.Laws.{BrokenEnds, FineEnds, LoadsTold, MuchEnds, NoZoneEnds, NotBroken, NotTooLarge, OneEnd, OneOfTables, OneTimetable, RowsEnd};
 
 use change_table::one_list_of_changes;
-use gtfs_feed::one_feed;
+use gtfs_tables::one_feed;
 use service_days::{one_list_of_days, one_zone_a_word};
-use trip_runs::one_list_of_runs;
+use trip_calls::one_list_of_runs;
 
 /// The files that a folder tells have one timetable in a scope, which is what is loaded from it, and a feed that has one is not
 /// refused.

@@ -1,5 +1,5 @@
 //! The timetable of a feed in a window of days: its runs and its stops document in the zone that a word says, or why there
-//! is none. It stands on `gtfs_feed`, `service_days`, `trip_runs` and `change_table`.
+//! is none. It stands on `gtfs_tables`, `service_days`, `trip_calls` and `change_table`.
 #![tactic(auto)]
 
 mod fault;

@@ -1,5 +1,5 @@
 ghost use Rattle.std.specs.Prelude.{◌≡◌, ◌⊎◌};
-ghost use Rattle.gtfs_feed.specs.Reading.{Keeps};
+ghost use Rattle.gtfs_tables.specs.Reading.{Keeps};
 ghost use Rattle.timetable.specs.Loading.{IsToldAs, LoadsSo};
 ghost use Rattle.timetable.specs.Scope.{IsWindow};
 ghost use Rattle.timetable.specs.declared.fault.LoadFault.TheVariants.{Broken, NoMemory as OutOfMemory};
@@ -8,7 +8,7 @@ use crate::made::timetable_of;
 use crate::zone::find_zone;
 use crate::zone_end::ZoneEnd;
 use crate::{LoadFault, Scope, Timetable};
-use gtfs_feed::{FeedFault, read_feed};
+use gtfs_tables::{FeedFault, read_feed};
 use lc_io::Folder;
 use lc_model::{NoMemory, PlainData, Text};
 use std::alloc::Global;

@@ -9,12 +9,12 @@ ghost use Rattle.lc_model.specs.Run.{RunsForward};
 
 use crate::{LoadFault, Scope, Timetable};
 use change_table::{ChangeFault, changes};
-use gtfs_feed::{Tables, What};
+use gtfs_tables::{Tables, What};
 use lc_model::{Call, Changes, Run, Runs, StopsDoc};
 use lc_time::Zone;
 use service_days::days;
 use std::alloc::Global;
-use trip_runs::{LoadFault as RunsFault, runs};
+use trip_calls::{LoadFault as RunsFault, runs};
 
 /// The timetable of the tables in the scope, by the clock of the zone.
 pub(crate) fn timetable_of(

@@ -1,6 +1,6 @@
 ghost use Rattle.std.specs.Prelude.{◌≡◌};
 ghost use Rattle.std.specs.Option.{option_copied};
-ghost use Rattle.gtfs_feed.specs.Reading.{Keeps};
+ghost use Rattle.gtfs_tables.specs.Reading.{Keeps};
 ghost use Rattle.service_days.specs.ZoneWord.{file_named};
 ghost use Rattle.timetable.specs.Zone.{EndsAtLook, EndsAtZone};
 

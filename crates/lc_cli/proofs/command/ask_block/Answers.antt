@@ -1,6 +1,6 @@
 use Rattle.std.proofs.Common.{subst, sym}
-use Rattle.command_inputs.specs.Inputs.{IsRefusedFor}
-use Rattle.command_inputs.proofs.InputsLemmas.{message_refused, runs_out}
+use Rattle.cli_inputs.specs.Inputs.{IsRefusedFor}
+use Rattle.cli_inputs.proofs.InputsLemmas.{message_refused, runs_out}
 use Rattle.lc_cli.proofs.CommandLemmas.{ask_block_of}
 use Rattle.lc_cli.proofs.WindowLemmas.{window_said}
 use Rattle.lc_cli.proofs.command.ask_block.Goals as goal

@@ -1,5 +1,5 @@
 use Rattle.std.proofs.Common.{inr}
-use Rattle.command_words.specs.declared.command.Command.TheVariants as commands
+use Rattle.cli_words.specs.declared.command.Command.TheVariants as commands
 use Rattle.lc_cli.proofs.CommandLemmas.{said_blocks, said_refusals}
 use Rattle.lc_cli.proofs.command.outcome.Goals as goal
 

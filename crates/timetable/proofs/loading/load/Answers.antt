@@ -1,5 +1,5 @@
 use Rattle.std.proofs.Common.{Err, Ok, subst}
-use Rattle.gtfs_feed.specs.Reading.{EndsSo}
+use Rattle.gtfs_tables.specs.Reading.{EndsSo}
 use Rattle.timetable.specs.Zone.{ReadsZone}
 use Rattle.timetable.proofs.EndLemmas.{fault_ends, kept_then, made_ends}
 use Rattle.timetable.proofs.loading.load.Goals as goal

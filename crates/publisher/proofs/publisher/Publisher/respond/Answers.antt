@@ -1,8 +1,8 @@
 use Rattle.std.proofs.Common.{subst, sym}
 use Rattle.std.specs.Prelude.{IfOk}
 use Rattle.publisher.specs.Held.{side_of}
-use Rattle.publisher_side.specs.Response.{IsResponseTo}
-use Rattle.publisher_side.specs.declared.asked.Asked.{Asked}
+use Rattle.publisher_spec.specs.Response.{IsResponseTo}
+use Rattle.publisher_spec.specs.declared.asked.Asked.{Asked}
 use Rattle.publisher.proofs.publisher.Publisher.respond.Goals as goal
 
 pub returns-in-Gate-clause-said : goal.returns-in-Gate-clause-said

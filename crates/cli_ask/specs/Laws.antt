@@ -1,0 +1,56 @@
+-- That what is printed of a question is one, where the replies come as the publisher gave them.
+use Rattle.std.specs.Prelude.{◌≡◌, ℕ, List, ◌++◌, Option}
+use Rattle.laws_replies.specs.Laws.{SayTheSame}
+use Rattle.cli_words.specs.declared.command.Publishing.{Publishing}
+use Rattle.lc_io.specs.Counts.{Rose}
+use Rattle.lc_io.specs.declared.file.File.{File}
+use Rattle.lc_model.specs.declared.query.Query.{Query}
+use Rattle.lc_world.specs.Link.{LinkSeen}
+use Rattle.page_client.specs.declared.outcome.Outcome.{Outcome}
+use Rattle.page_client.specs.declared.outcome.Outcome.TheVariants as outcomes
+use Rattle.publisher_spec.specs.Short.{IsShort}
+use Rattle.timetable.specs.Laws.{AreSame}
+use Rattle.timetable.specs.declared.timetable.Timetable.{Timetable}
+use Rattle.version_store.specs.Store.{Stored}
+use Rattle.cli_ask.specs.Admission.{IsBehind}
+use Rattle.cli_ask.specs.Asked.{IsAsked}
+use Rattle.cli_ask.specs.Block.{client_text_of}
+use Rattle.cli_ask.specs.Publishing.{side_with, store_of}
+use Rattle.cli_ask.specs.declared.end.ClientEnd.{ClientEnd}
+
+-- the client ended by no fault of its link
+abbrev pub IsNoLinkFault : Outcome → Type 0
+IsNoLinkFault (outcomes.Found journey) = Unit {0}
+IsNoLinkFault outcomes.NoJourney = Unit {0}
+IsNoLinkFault (outcomes.Refused fault) = Unit {0}
+IsNoLinkFault (outcomes.LinkFault before after) = ⊥
+IsNoLinkFault (outcomes.PeerWrong reply fault) = Unit {0}
+
+-- the ends of two clients are one: the same version, outcomes that say the same, and so many exchanges
+pub record AreOneEnd (a b : ClientEnd) : Type 0 where
+  pub version : a.version ≡ b.version
+  pub outcome : SayTheSame a.outcome b.outcome
+  pub exchanges : a.exchanges ≡ b.exchanges
+
+-- the texts have the same line of the message, and the lines of clients whose ends are one
+pub record PrintOneClient (x y : List ℕ) (a b : ClientEnd) : Type 0 where
+  pub line : List ℕ
+  pub first_is : x ≡ line ++ client_text_of 1 a
+  pub second_is : y ≡ line ++ client_text_of 1 b
+  pub one : AreOneEnd a b
+
+-- a link was clear and failed in no exchange, and the texts of the publisher that has got the message fit into replies
+pub record IsFair (made : Timetable) (publishing : Publishing) (file : Option File) (clear : Type 0) (before after : ℕ) : Type 0 where
+  pub was_clear : clear
+  pub no_fault : Rose before after → ⊥
+  pub short : (store : Stored) (line : List ℕ) → IsBehind file (store_of made publishing.base_moment) store line → IsShort (side_with made publishing store)
+
+-- Timetables that are the same, a message and a question give one output over fair links. X and Y are the types of the links, and
+-- `seen` and `saw` what is promised of them.
+abbrev pub OneOutput : {X Y : Type 0} → (X → LinkSeen) → (Y → LinkSeen) → Type 0
+OneOutput {X} {Y} seen saw =
+    (a b : Timetable) (publishing : Publishing) (file : Option File) (query : Query) (before after : X) (other later : Y) (x y : List ℕ) (d e : ClientEnd)
+    → AreSame a b → IsFair a publishing file (seen before).clear (seen before).faults (seen after).faults
+    → IsFair b publishing file (saw other).clear (saw other).faults (saw later).faults
+    → IsAsked a publishing file query (seen before) (seen after) x d → IsAsked b publishing file query (saw other) (saw later) y e
+    → PrintOneClient x y d e

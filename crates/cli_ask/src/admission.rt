@@ -1,0 +1,97 @@
+ghost use Rattle.std.specs.Prelude.{◌≡◌, IfErr, IfOk, OnOk, Some};
+ghost use Rattle.cli_ask.specs.Admission.{IsBehind, IsFaultBy, IsFaulty, IsIgnored, admitted_line_of, ignored_line_of};
+ghost use Rattle.cli_ask.specs.declared.admission.MessageFault.TheVariants.{NoMemory as OutOfMemory};
+
+use fragmenter::Cutting;
+use lc_model::NoMemory;
+use lc_time::iso_text;
+use lc_world::File;
+use percent_encoding::ascii_str;
+use publisher::{AdmitFault, Admitted, Publisher};
+use std::alloc::Global;
+use trip_updates::RtFault;
+
+/// Why a file is no message of which a publisher is told.
+#[derive(Clone, Copy, Debug, PartialEq, Eq)]
+pub enum MessageFault {
+    /// It has so many bytes, which are too many.
+    TooLong { bytes: usize },
+    /// It is no realtime message.
+    Broken(RtFault),
+    NoMemory,
+}
+
+impl From<NoMemory> for MessageFault {
+    ghost from_gives = { λ _ fault. fault ≡ OutOfMemory };
+
+    fn from(_: NoMemory) -> MessageFault {
+        MessageFault::NoMemory
+    }
+}
+
+/// Gives the message of a file to a publisher, if there is one, and says in a line what became of it. One that is not newer, or for
+/// which there is no room, is ignored.
+pub(crate) fn admit(
+    alloc: Global,
+    publisher: &mut Publisher<Cutting>,
+    file: &Option<File>,
+) -> Result<Vec<u8>, MessageFault>
+    ensures same { publisher.new ≡ record publisher.old { store = publisher.new.store } }
+    ensures line { IfOk result (λ line. IsBehind file.now publisher.old.store publisher.new.store line.items) }
+    ensures faulty { IfErr result (IsFaulty file.now) }
+{
+    match file {
+        None => Ok(Vec::new(alloc)),
+        Some(file) => give(alloc, publisher, file),
+    }
+}
+
+/// The same of a file that is there.
+pub fn give(
+    alloc: Global,
+    publisher: &mut Publisher<Cutting>,
+    file: &File,
+) -> Result<Vec<u8>, MessageFault>
+    ensures same { publisher.new ≡ record publisher.old { store = publisher.new.store } }
+    ensures line { IfOk result (λ line. IsBehind (Some file.now) publisher.old.store publisher.new.store line.items) }
+    ensures faulty { IfErr result (IsFaulty (Some file.now)) }
+{
+    let name = file.name.as_str();
+    match publisher.admit(alloc, file.bytes.as_slice()) {
+        Ok(admitted) => Ok(admitted_line(alloc, name, admitted)?),
+        Err(fault) => passed_over(alloc, name, fault),
+    }
+}
+
+/// The line of a message that is ignored, or why its file is at fault.
+fn passed_over(alloc: Global, name: &str, fault: AdmitFault) -> Result<Vec<u8>, MessageFault>
+    ensures line { IfOk result (λ line. line.items ≡ ignored_line_of name.now fault) }
+    ensures ignored { OnOk result (IsIgnored fault) }
+    ensures faulty { IfErr result (IsFaultBy fault) }
+{
+    match fault {
+        AdmitFault::NotNewer { .. } | AdmitFault::Full { .. } => {
+            Ok(ignored_line(alloc, name, fault)?)
+        }
+        AdmitFault::TooLong { bytes } => Err(MessageFault::TooLong { bytes }),
+        AdmitFault::Broken(fault) => Err(MessageFault::Broken(fault)),
+        AdmitFault::NoMemory => Err(MessageFault::NoMemory),
+    }
+}
+
+fn admitted_line(alloc: Global, name: &str, admitted: Admitted) -> Result<Vec<u8>, NoMemory>
+    ensures { IfOk result (λ line. line.items ≡ admitted_line_of name.now admitted) }
+{
+    let text = iso_text(admitted.moment);
+    let moment = ascii_str(&text);
+    let passed = admitted.passed;
+    let line = format!(in alloc; "update {name} admitted {moment} passed {passed}\n")?;
+    Ok(line.into_bytes())
+}
+
+fn ignored_line(alloc: Global, name: &str, fault: AdmitFault) -> Result<Vec<u8>, NoMemory>
+    ensures { IfOk result (λ line. line.items ≡ ignored_line_of name.now fault) }
+{
+    let line = format!(in alloc; "update {name} {fault}\n")?;
+    Ok(line.into_bytes())
+}

@@ -1,0 +1,133 @@
+ghost use Rattle.std.specs.Prelude.{◌≡◌, ◌≢◌, ◌≤◌, ◌++◌, IfErr, IfOk};
+ghost use Rattle.cli_ask.specs.Admission.{IsFaulty};
+ghost use Rattle.cli_ask.specs.Asked.{AsksPublisher, IsAsked, IsPrepared};
+ghost use Rattle.cli_ask.specs.Block.{IsPrintable, client_text_of};
+ghost use Rattle.cli_ask.specs.declared.admission.MessageFault.TheVariants.{NoMemory as OutOfMemory};
+
+use crate::ClientEnd;
+use crate::admission::{MessageFault, admit};
+use crate::block::client_text;
+use crate::client::client_end;
+use crate::publishing::{copy_of, publisher_of};
+use cli_words::Publishing;
+use connection_uri::Base;
+use fragmenter::Cutting;
+use lc_edge::{HomeLink, LocalLink};
+use lc_model::{NoMemory, Query};
+use lc_world::{File, Link};
+use publisher::Publisher;
+use std::alloc::Global;
+use timetable::Timetable;
+
+/// What is printed of a question, and how its client ended.
+#[derive(Debug, Drop)]
+pub struct Asked {
+    pub text: Vec<u8>,
+    pub end: ClientEnd,
+}
+
+/// A publisher that has got its message, the base again, and the line of the message.
+#[derive(Drop)]
+struct Prepared {
+    publisher: Publisher<Cutting>,
+    base: Base,
+    line: Vec<u8>,
+}
+
+/// Publishes a timetable, gives the publisher the message of a file, if there is one, and lets a client ask it a question page by page.
+/// Each reply is handed on over the link, which is given back. The client keeps so many pages at most.
+pub fn ask<L: Link>(
+    alloc: Global,
+    made: Timetable,
+    publishing: Publishing,
+    file: &Option<File>,
+    query: Query,
+    cache: usize,
+    link: L,
+) -> (Result<Asked, MessageFault>, L)
+    requires some_pages { 1 ≤ cache }
+    requires most_pages { cache ≤ 10_000 }
+    ensures asked { IfOk result.0 (λ asked. IsAsked made publishing file.now query (L.seen link) (L.seen result.1) asked.text.items asked.end) }
+    ensures faulty { IfErr result.0 (IsFaulty file.now) }
+    ensures unasked { IfErr result.0 (λ fault. fault ≢ OutOfMemory → result.1 ≡ link) }
+{
+    match prepare(alloc, made, publishing, file) {
+        Ok(prepared) => ask_publisher(alloc, prepared, query, cache, link),
+        Err(fault) => (Err(fault), link),
+    }
+}
+
+/// The publisher of the timetable, behind its message.
+fn prepare(
+    alloc: Global,
+    made: Timetable,
+    publishing: Publishing,
+    file: &Option<File>,
+) -> Result<Prepared, MessageFault>
+    ensures prepared { IfOk result (λ prepared. IsPrepared made publishing file.now prepared.publisher prepared.base prepared.line.items) }
+    ensures faulty { IfErr result (IsFaulty file.now) }
+{
+    let base = copy_of(alloc, &publishing.base)?;
+    let mut publisher = publisher_of(alloc, made, publishing)?;
+    let line = admit(alloc, &mut publisher, file)?;
+    Ok(Prepared {
+        publisher,
+        base,
+        line,
+    })
+}
+
+/// Lets a client ask the publisher, over the link.
+fn ask_publisher<L: Link>(
+    alloc: Global,
+    prepared: Prepared,
+    query: Query,
+    cache: usize,
+    link: L,
+) -> (Result<Asked, MessageFault>, L)
+    requires some_pages { 1 ≤ cache }
+    requires most_pages { cache ≤ 10_000 }
+    ensures memory { IfErr result.0 (λ fault. fault ≡ OutOfMemory) }
+    ensures asks { IfOk result.0 (λ asked. AsksPublisher prepared.publisher prepared.base prepared.line.items query (L.seen link) (L.seen result.1) asked.text.items asked.end) }
+{
+    let Prepared {
+        publisher,
+        base,
+        line,
+    } = prepared;
+    publisher.side_is_valid();
+    match LocalLink::new(alloc, publisher) {
+        Ok(local) => {
+            let mut home = HomeLink::new(local, link);
+            match client_end(alloc, base, query, cache, &mut home) {
+                Ok(end) => (printed(alloc, line, end), home.into_outer()),
+                Err(NoMemory) => (Err(MessageFault::NoMemory), home.into_outer()),
+            }
+        }
+        Err(NoMemory) => (Err(MessageFault::NoMemory), link),
+    }
+}
+
+/// The line of the message and those of the client, and how it ended.
+fn printed(alloc: Global, line: Vec<u8>, end: ClientEnd) -> Result<Asked, MessageFault>
+    requires { IsPrintable end.outcome }
+    ensures memory { IfErr result (λ fault. fault ≡ OutOfMemory) }
+    ensures text { IfOk result (λ asked. asked.text.items ≡ line.items ++ client_text_of 1 end) }
+    ensures end { IfOk result (λ asked. asked.end ≡ end) }
+{
+    match lines(alloc, line, &end) {
+        Ok(text) => Ok(Asked { text, end }),
+        Err(NoMemory) => Err(MessageFault::NoMemory),
+    }
+}
+
+/// The line of the message and those of the client.
+fn lines(alloc: Global, line: Vec<u8>, end: &ClientEnd) -> Result<Vec<u8>, NoMemory>
+    requires { IsPrintable end.now.outcome }
+    ensures { IfOk result (λ text. text.items ≡ line.items ++ client_text_of 1 end.now) }
+{
+    let mut text = line;
+    let client = client_text(alloc, 1, end)?;
+    text.extend_from_slice(client.as_slice())?;
+    Ok(text)
+}

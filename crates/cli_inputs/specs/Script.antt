@@ -1,0 +1,160 @@
+-- What a command with a script reads: the script, then the timetable of its feed, and then the files of the messages that the script names,
+-- in its order. Each is tested before the next one is asked for.
+use Rattle.std.specs.Prelude.{◌≡◌, ◌⊎◌, ◌<◌, ℕ, ◌+◌, true, List, [], ◌∷◌, ◌++◌, Ok, Err, length}
+use Rattle.gtfs_tables.specs.Reading.{Keeps}
+use Rattle.lc_io.specs.Counts.{Rose}
+use Rattle.lc_io.specs.Folder.{FolderSeen}
+use Rattle.lc_io.specs.declared.folder.FolderFail.TheVariants.{Absent, Failed}
+use Rattle.laws_course.specs.declared.event.Event.{Event}
+use Rattle.laws_course.specs.declared.event.Event.TheVariants as events
+use Rattle.script_text.specs.Reading.{HasFault, SaysScript}
+use Rattle.script_text.specs.declared.fault.ScriptFault.TheVariants.{Wrong}
+use Rattle.script_text.specs.declared.script.Record.{Record}
+use Rattle.script_text.specs.declared.script.Record.TheVariants as records
+use Rattle.timetable.specs.Loading.{Loads, LoadsSo}
+use Rattle.timetable.specs.declared.fault.LoadFault.{LoadFault}
+use Rattle.timetable.specs.declared.fault.LoadFault.TheVariants as fault
+use Rattle.timetable.specs.declared.scope.Scope.{Scope}
+use Rattle.timetable.specs.declared.timetable.Timetable.{Timetable}
+use Rattle.version_store.specs.Admission.{IsBroken}
+use Rattle.cli_inputs.specs.Inputs.{IsReadAs, ReadsFile}
+use Rattle.cli_inputs.specs.declared.refusal.Refusal.{Refusal}
+use Rattle.cli_inputs.specs.declared.refusal.Refusal.TheVariants.{Usage, Load, Script, Folder, LongUpdate, BrokenUpdate}
+
+-- the file of this name was read, and says this script
+pub record ReadsScript (name : List ℕ) (old new : FolderSeen) (script : List Record) : Type 0 where
+  pub bytes : List ℕ
+  pub read : ReadsFile old new name (Ok bytes)
+  pub says : SaysScript bytes true script
+
+-- what the record says as an event; the file of a message was read
+abbrev pub IsEventOf : Record → FolderSeen → FolderSeen → Event → Type 0
+IsEventOf (records.Ask query) old new (events.Ask asked) = (asked ≡ query) × (new ≡ old)
+IsEventOf (records.Ask query) old new (events.Message message) = ⊥
+IsEventOf (records.Ask query) old new (events.Turn client) = ⊥
+IsEventOf (records.Update name) old new (events.Ask asked) = ⊥
+IsEventOf (records.Update name) old new (events.Message message) = IsReadAs name old new message.file
+IsEventOf (records.Update name) old new (events.Turn client) = ⊥
+IsEventOf (records.Turn client) old new (events.Ask asked) = ⊥
+IsEventOf (records.Turn client) old new (events.Message message) = ⊥
+IsEventOf (records.Turn client) old new (events.Turn turned) = (turned ≡ client) × (new ≡ old)
+
+-- the events are those of the records, one after the other
+abbrev pub ReadsEvents : List Record → FolderSeen → FolderSeen → List Event → Type 0
+ReadsEvents [] old new [] = new ≡ old
+ReadsEvents [] old new (event ∷ all) = ⊥
+ReadsEvents (said ∷ script) old new [] = ⊥
+ReadsEvents (said ∷ script) old new (event ∷ more) = (between : FolderSeen) × IsEventOf said old between event × ReadsEvents script between new more
+
+-- the script was read
+pub record HasScript (name : List ℕ) (old new : FolderSeen) : Type 0 where
+  pub script : List Record
+  pub read : ReadsScript name old new script
+  pub kept : Keeps old new
+
+-- the script was read, and then the timetable was loaded
+pub record HasTimetable (scope : Scope) (name : List ℕ) (old new : FolderSeen) : Type 0 where
+  pub between : FolderSeen
+  pub script : HasScript name old between
+  pub made : Timetable
+  pub loaded : Loads scope between new made
+  pub kept : Keeps between new
+
+-- all was read
+pub record ReadsReplay (scope : Scope) (name : List ℕ) (old new : FolderSeen) (made : Timetable) (all : List Event) : Type 0 where
+  pub between : FolderSeen
+  pub has : HasTimetable scope name old between
+  pub made_is : made ≡ has.made
+  pub read : ReadsEvents has.script.script between new all
+
+-- a row of the script is no record
+pub record HasWrongRow (name : List ℕ) (old new : FolderSeen) (row : ℕ) : Type 0 where
+  pub bytes : List ℕ
+  pub read : ReadsFile old new name (Ok bytes)
+  pub wrong : HasFault bytes true (Wrong row)
+
+-- the script is absent, which is told as row 0
+pub record LacksScript (name : List ℕ) (old new : FolderSeen) (row : ℕ) : Type 0 where
+  pub read : ReadsFile old new name (Err Absent)
+  pub row_is : row ≡ 0
+
+-- the script was read, and then the loading of the timetable ended with this fault
+pub record FailsToLoad (scope : Scope) (name : List ℕ) (old new : FolderSeen) (found : LoadFault) : Type 0 where
+  pub between : FolderSeen
+  pub script : HasScript name old between
+  pub ended : LoadsSo scope between new (Err found)
+
+-- the event is the message of a file of this name with these bytes
+abbrev pub IsMessageOf : List ℕ → List ℕ → Event → Type 0
+IsMessageOf name bytes (events.Ask asked) = ⊥
+IsMessageOf name bytes (events.Message message) = (message.file.name ≡ name) × (message.file.bytes ≡ bytes)
+IsMessageOf name bytes (events.Turn client) = ⊥
+
+-- the bytes of a file of this name are no message, for this cause; memory may run out
+abbrev pub IsNone : List ℕ → List ℕ → Refusal → Type 0
+IsNone name bytes Usage = ⊥
+IsNone name bytes (Load (fault.Broken rule file at)) = ⊥
+IsNone name bytes (Load (fault.TooLarge what many)) = ⊥
+IsNone name bytes (Load (fault.Folder before after)) = ⊥
+IsNone name bytes (Load fault.NoMemory) = Unit {0}
+IsNone name bytes (Script at) = ⊥
+IsNone name bytes (Folder before after) = ⊥
+IsNone name bytes (LongUpdate many) = (16_777_216 < length bytes) × (many ≡ length bytes)
+IsNone name bytes (BrokenUpdate broken found) = (broken ≡ name) × IsBroken bytes found
+
+-- The record in this row is no event, for this cause, where the count of faults was this at the start: it names a file that is absent or
+-- cannot be read, or that is no message. Memory may run out.
+abbrev pub IsRefusedAt : ℕ → ℕ → Record → FolderSeen → FolderSeen → Refusal → Type 0
+IsRefusedAt count row said old new Usage = ⊥
+IsRefusedAt count row said old new (Load (fault.Broken rule file at)) = ⊥
+IsRefusedAt count row said old new (Load (fault.TooLarge what many)) = ⊥
+IsRefusedAt count row said old new (Load (fault.Folder before after)) = ⊥
+IsRefusedAt count row said old new (Load fault.NoMemory) = Unit {0}
+IsRefusedAt count row said old new (Script at) = (at ≡ row) × (name : List ℕ) × (said ≡ records.Update name) × ReadsFile old new name (Err Absent)
+IsRefusedAt count row said old new (Folder before after) =
+    (before ≡ count) × (after ≡ new.faults) × (name : List ℕ) × (said ≡ records.Update name) × ReadsFile old new name (Err Failed)
+IsRefusedAt count row said old new (LongUpdate many) =
+    (name : List ℕ) × (bytes : List ℕ) × (said ≡ records.Update name) × ReadsFile old new name (Ok bytes) × (16_777_216 < length bytes) × (many ≡ length bytes)
+IsRefusedAt count row said old new (BrokenUpdate name found) =
+    (bytes : List ℕ) × (said ≡ records.Update name) × ReadsFile old new name (Ok bytes) × IsBroken bytes found
+
+-- the records before one are events, and this one is none, for this cause; rows are counted from 1
+pub record StopsAt (count : ℕ) (script : List Record) (old new : FolderSeen) (refusal : Refusal) : Type 0 where
+  pub before : List Record
+  pub said : Record
+  pub behind : List Record
+  pub parts : script ≡ before ++ said ∷ behind
+  pub at : FolderSeen
+  pub done : List Event
+  pub read : ReadsEvents before old at done
+  pub kept : Keeps old at
+  pub refused : IsRefusedAt count (length before + 1) said at new refusal
+
+-- the script and the timetable were read, and then a record of the script is no event
+pub record StopsAtRecord (scope : Scope) (name : List ℕ) (old new : FolderSeen) (refusal : Refusal) : Type 0 where
+  pub between : FolderSeen
+  pub has : HasTimetable scope name old between
+  pub stops : StopsAt old.faults has.script.script between new refusal
+
+-- the folder's count rose, from the one to the other
+pub record IsFolderFault (old new : FolderSeen) (before after : ℕ) : Type 0 where
+  pub before_is : before ≡ old.faults
+  pub after_is : after ≡ new.faults
+  pub rose : Rose before after
+
+-- the script could not be read
+abbrev pub FailsAtScript : List ℕ → FolderSeen → FolderSeen → Type 0
+FailsAtScript name old new = ReadsFile old new name (Err Failed)
+
+-- why a command with a script is refused, each cause in its turn: the script, the feed, the messages; memory may run out
+abbrev pub IsReplayRefused : Scope → List ℕ → FolderSeen → FolderSeen → Refusal → Type 0
+IsReplayRefused scope name old new Usage = ⊥
+IsReplayRefused scope name old new (Load (fault.Broken rule file row)) = FailsToLoad scope name old new (fault.Broken rule file row)
+IsReplayRefused scope name old new (Load (fault.TooLarge what count)) = FailsToLoad scope name old new (fault.TooLarge what count)
+IsReplayRefused scope name old new (Load (fault.Folder before after)) = FailsToLoad scope name old new (fault.Folder before after)
+IsReplayRefused scope name old new (Load fault.NoMemory) = Unit {0}
+IsReplayRefused scope name old new (Script row) = LacksScript name old new row ⊎ HasWrongRow name old new row ⊎ StopsAtRecord scope name old new (Script row)
+IsReplayRefused scope name old new (Folder before after) =
+    IsFolderFault old new before after × (FailsAtScript name old new ⊎ StopsAtRecord scope name old new (Folder before after))
+IsReplayRefused scope name old new (LongUpdate count) = StopsAtRecord scope name old new (LongUpdate count)
+IsReplayRefused scope name old new (BrokenUpdate message found) = StopsAtRecord scope name old new (BrokenUpdate message found)

@@ -1,0 +1,57 @@
+use lc_model::{NoMemory, Text};
+use std::alloc::AllocFailed;
+use timetable::LoadFault;
+use trip_updates::RtFault;
+
+/// Why a command is not carried out, for a cause that is no client's.
+#[derive(Debug, Drop)]
+pub enum Refusal {
+    /// The words are none that a command has.
+    Usage,
+    /// The feed gave no timetable.
+    Load(LoadFault),
+    /// A row of the script, counted from 1, is no record, or names a file that is absent. It is 0 where the script is absent, or the
+    /// file of the one message.
+    Script { row: u64 },
+    /// A file beside the feed could not be read: the folder's count of faults before the run and after.
+    Folder { before: u64, after: u64 },
+    /// A message has so many bytes, which are too many.
+    LongUpdate { bytes: u64 },
+    /// The file of a message is no realtime message.
+    BrokenUpdate { name: Text, fault: RtFault },
+}
+
+impl From<LoadFault> for Refusal {
+    ghost use Rattle.std.specs.Prelude.{◌≡◌};
+    ghost use Rattle.cli_inputs.specs.declared.refusal.Refusal.TheVariants.{Load};
+
+    ghost from_gives = { λ fault refusal. refusal ≡ Load fault };
+
+    fn from(fault: LoadFault) -> Refusal {
+        Refusal::Load(fault)
+    }
+}
+
+impl From<NoMemory> for Refusal {
+    ghost use Rattle.std.specs.Prelude.{◌≡◌};
+    ghost use Rattle.timetable.specs.declared.fault.LoadFault.TheVariants.{NoMemory as OutOfMemory};
+    ghost use Rattle.cli_inputs.specs.declared.refusal.Refusal.TheVariants.{Load};
+
+    ghost from_gives = { λ _ refusal. refusal ≡ Load OutOfMemory };
+
+    fn from(_: NoMemory) -> Refusal {
+        Refusal::Load(LoadFault::NoMemory)
+    }
+}
+
+impl<T: Drop> From<AllocFailed<T>> for Refusal {
+    ghost use Rattle.std.specs.Prelude.{◌≡◌};
+    ghost use Rattle.timetable.specs.declared.fault.LoadFault.TheVariants.{NoMemory as OutOfMemory};
+    ghost use Rattle.cli_inputs.specs.declared.refusal.Refusal.TheVariants.{Load};
+
+    ghost from_gives = { λ _ refusal. refusal ≡ Load OutOfMemory };
+
+    fn from(_: AllocFailed<T>) -> Refusal {
+        Refusal::Load(LoadFault::NoMemory)
+    }
+}

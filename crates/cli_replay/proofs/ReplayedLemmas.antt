@@ -1,0 +1,52 @@
+-- What a course comes to that was played to a publisher at home.
+use Rattle.std.proofs.Common.{◌≡◌, ℕ, List, Some, ap, subst, sym}
+use Rattle.cli_ask.specs.Publishing.{held_with, side_with, store_of}
+use Rattle.cli_ask.specs.declared.end.ClientEnd.{ClientEnd}
+use Rattle.cli_words.specs.declared.command.Publishing.{Publishing}
+use Rattle.fragmenter.specs.Cutting.{chosen_cuts}
+use Rattle.fragmenter.specs.declared.cutting.Cutting.{Cutting}
+use Rattle.lc_edge.specs.HomeLink.{HomeLinkState}
+use Rattle.lc_world.specs.Link.{LinkSeen}
+use Rattle.publisher.specs.Held.{Held, side_of}
+use Rattle.publisher_spec.specs.Side.{IsValidSide}
+use Rattle.laws_replays.specs.Laws.{IsQuietAt, PlaysCaused, PlaysRight}
+use Rattle.laws_course.specs.Events.{TurnsAreOfClients}
+use Rattle.laws_course.specs.Replayed.{IsReplayed}
+use Rattle.laws_course.specs.declared.event.Event.{Event}
+use Rattle.timetable.specs.declared.timetable.Timetable.{Timetable}
+use Rattle.cli_replay.specs.Course.{IsPlayed}
+use Rattle.cli_replay.specs.Home.{home_seen}
+
+module _ {L : Type 0} (seen : L → LinkSeen) (plays_right : PlaysRight (home_seen seen)) (plays_caused : PlaysCaused (home_seen seen)) (made : Timetable) (publishing : Publishing)
+    (all : List Event) (cache : ℕ) (before after : HomeLinkState Cutting L) (text : List ℕ) (ends : List ClientEnd) (turns : TurnsAreOfClients all)
+    (held : before.local.publisher ≡ held_with made publishing (store_of made publishing.base_moment)) (valid : IsValidSide (side_with made publishing (store_of made publishing.base_moment)))
+    (x : IsPlayed (home_seen seen) publishing.base all cache before after text ends) where
+  -- a link at home is quiet where the outer one is clear
+  quiet_at : (seen before.outer).clear → IsQuietAt made publishing (home_seen seen before)
+  quiet_at clear = record {
+    tells = ap (λ (h : Held Cutting). Some (side_of chosen_cuts h)) held;
+    valid = valid;
+    honest = clear;
+    quiet = clear;
+  }
+
+  replayed : IsReplayed made publishing all cache (seen before.outer) (seen after.outer) text ends
+  replayed =
+      let caused = plays_caused publishing.base all cache x.played x.ended before x.behind after x.lines ends turns x.plays x.rounds x.have_ended in
+      record {
+        lines = x.lines;
+        have_lines = caused.have_lines;
+        text_is = x.text_is;
+        one_each = caused.one_each;
+        caused = caused.caused;
+        clear = caused.clear;
+        not_fallen = caused.not_fallen;
+        right = λ clear short.
+            plays_right made publishing all cache x.played x.ended before x.behind after x.lines ends caused.caused.met turns (quiet_at clear) short x.plays x.rounds x.have_ended caused.met_in;
+      }
+
+  -- the same of the link that was handed in and the one that is given back
+  pub replayed_over : (link back : L) → before.outer ≡ link → back ≡ after.outer → IsReplayed made publishing all cache (seen link) (seen back) text ends
+  replayed_over link back was is =
+      subst (λ (l : L). IsReplayed made publishing all cache (seen l) (seen back) text ends) was
+      (subst (λ (l : L). IsReplayed made publishing all cache (seen before.outer) (seen l) text ends) (sym is) replayed)

@@ -1,0 +1,6 @@
+use Rattle.std.proofs.Common.{◌≡◌, ◌++◌, take}
+use Rattle.laws_course.specs.Replayed.{clients_text_of}
+use Rattle.cli_replay.proofs.text.text_of.Given as goal
+
+abbrev pub invariant-ends : goal.invariant-ends
+invariant-ends l = l.text.items ≡ l.fn.lines.items ++ clients_text_of 1 (take l.index l.ends)

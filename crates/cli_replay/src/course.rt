@@ -1,0 +1,40 @@
+ghost use Rattle.std.specs.Prelude.{◌≤◌, IfOk};
+ghost use Rattle.laws_course.specs.Events.{TurnsAreOfClients};
+ghost use Rattle.cli_replay.specs.Course.{IsPlayed};
+ghost use Rattle.cli_replay.specs.Home.{home_seen};
+
+use crate::Replayed;
+use crate::ends::ends_of;
+use crate::events::play;
+use crate::text::text_of;
+use connection_uri::Base;
+use convoy::Convoy;
+use fragmenter::Cutting;
+use laws_course::Event;
+use laws_replays::courses_are_caused;
+use lc_edge::HomeLink;
+use lc_model::NoMemory;
+use lc_world::Link;
+use std::alloc::Global;
+
+/// Plays the events by clients under the base, lets each client come to its end, and says what is printed.
+pub fn play_out<L: Link>(
+    alloc: Global,
+    base: Base,
+    events: Vec<Event>,
+    cache: usize,
+    home: &mut HomeLink<Cutting, L>,
+) -> Result<Replayed, NoMemory>
+    requires some_pages { 1 ≤ cache }
+    requires most_pages { cache ≤ 10_000 }
+    requires turns { TurnsAreOfClients events.items }
+    ensures { IfOk result (λ replayed. IsPlayed (home_seen L.seen) base events.items cache home.old home.new replayed.text.items replayed.ends.items) }
+{
+    courses_are_caused::<HomeLink<Cutting, L>>();
+    let mut convoy = Convoy::new(alloc, base, cache)?;
+    let lines = play(alloc, &mut convoy, events, home)?;
+    convoy.finish(alloc, home)?;
+    let ends = ends_of(alloc, convoy)?;
+    let text = text_of(alloc, lines, ends.as_slice())?;
+    Ok(Replayed { text, ends })
+}

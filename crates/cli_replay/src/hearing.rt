@@ -1,0 +1,48 @@
+ghost use Rattle.std.specs.Prelude.{◌≡◌, Some, IfOk, OnOk};
+ghost use Rattle.cli_ask.specs.Admission.{IsBehind};
+ghost use Rattle.fragmenter.specs.Cutting.{chosen_cuts};
+ghost use Rattle.publisher.specs.Held.{side_of};
+ghost use Rattle.publisher_spec.specs.Side.{IsValidSide};
+ghost use Rattle.laws_course.specs.Played.{IsGiven};
+ghost use Rattle.cli_replay.specs.Home.{home_seen};
+
+use cli_ask::{MessageFault, give};
+use fragmenter::Cutting;
+use laws_course::Message;
+use lc_edge::HomeLink;
+use lc_model::NoMemory;
+use lc_world::Link;
+use publisher::Publisher;
+use std::alloc::Global;
+
+/// Gives a message to the publisher at home, and says in a line what became of it.
+pub fn hear<L: Link>(
+    alloc: Global,
+    message: &Message,
+    home: &mut HomeLink<Cutting, L>,
+) -> Result<Vec<u8>, NoMemory>
+    ensures { IfOk result (λ line. IsGiven (home_seen L.seen home.old) (home_seen L.seen home.new) message.now.file line.items) }
+{
+    heard(alloc, message, home.publisher())
+}
+
+/// Gives a message to a publisher. It is one, so that nothing but memory can lack.
+fn heard(
+    alloc: Global,
+    message: &Message,
+    publisher: &mut Publisher<Cutting>,
+) -> Result<Vec<u8>, NoMemory>
+    ensures same { publisher.new ≡ record publisher.old { store = publisher.new.store } }
+    ensures line { IfOk result (λ line. IsBehind (Some message.now.file) publisher.old.store publisher.new.store line.items) }
+    ensures stops { publisher.old.store.stops ≡ publisher.old.doc.stops }
+    ensures valid { IsValidSide (side_of chosen_cuts publisher.new) }
+{
+    publisher.side_is_valid();
+    let given = give(alloc, publisher, &message.file);
+    publisher.side_is_valid();
+    match given {
+        Ok(line) => Ok(line),
+        Err(MessageFault::NoMemory) => Err(NoMemory),
+        Err(MessageFault::TooLong { .. } | MessageFault::Broken(_)) => unreachable!(),
+    }
+}

@@ -1,0 +1,74 @@
+ghost use Rattle.std.specs.Prelude.{◌≡◌, [], ◌≤◌, IfOk, OnOk};
+ghost use Rattle.cli_ask.specs.Publishing.{held_with, side_with, store_of};
+ghost use Rattle.publisher_spec.specs.Side.{IsValidSide};
+ghost use Rattle.laws_course.specs.Events.{TurnsAreOfClients};
+ghost use Rattle.laws_course.specs.Replayed.{IsReplayed};
+
+use crate::course::play_out;
+use cli_ask::{ClientEnd, copy_of, publisher_of};
+use cli_words::Publishing;
+use connection_uri::Base;
+use fragmenter::Cutting;
+use laws_course::Event;
+use laws_replays::{courses_are_caused, courses_are_right};
+use lc_edge::{HomeLink, LocalLink};
+use lc_model::NoMemory;
+use lc_world::Link;
+use std::alloc::Global;
+use timetable::Timetable;
+
+/// What is printed of a course, and how its clients ended, in the order in which they asked.
+#[derive(Debug, Drop)]
+pub struct Replayed {
+    pub text: Vec<u8>,
+    pub ends: Vec<ClientEnd>,
+}
+
+/// A link to a publisher, and its base again.
+#[derive(Drop)]
+struct Prepared {
+    local: LocalLink<Cutting>,
+    base: Base,
+}
+
+/// Publishes a timetable and plays a course to the publisher: clients ask it, it is given messages, and clients have turns; behind it each
+/// client is turned until it ends. Each reply is handed on over the link, which is given back. The clients share a cache of so many pages
+/// at most.
+pub fn replay<L: Link>(
+    alloc: Global,
+    made: Timetable,
+    publishing: Publishing,
+    events: Vec<Event>,
+    cache: usize,
+    link: L,
+) -> (Result<Replayed, NoMemory>, L)
+    requires some_pages { 1 ≤ cache }
+    requires most_pages { cache ≤ 10_000 }
+    requires turns { TurnsAreOfClients events.items }
+    ensures { IfOk result.0 (λ replayed. IsReplayed made publishing events.items cache (L.seen link) (L.seen result.1) replayed.text.items replayed.ends.items) }
+{
+    courses_are_right::<HomeLink<Cutting, L>>();
+    courses_are_caused::<HomeLink<Cutting, L>>();
+    match prepare(alloc, made, publishing) {
+        Ok(prepared) => {
+            let Prepared { local, base } = prepared;
+            let mut home = HomeLink::new(local, link);
+            let replayed = play_out(alloc, base, events, cache, &mut home);
+            (replayed, home.into_outer())
+        }
+        Err(NoMemory) => (Err(NoMemory), link),
+    }
+}
+
+/// A link to a publisher of the timetable, which has heard nothing.
+fn prepare(alloc: Global, made: Timetable, publishing: Publishing) -> Result<Prepared, NoMemory>
+    ensures base { IfOk result (λ prepared. prepared.base ≡ publishing.base) }
+    ensures held { IfOk result (λ prepared. prepared.local.publisher ≡ held_with made publishing (store_of made publishing.base_moment)) }
+    ensures valid { OnOk result (IsValidSide (side_with made publishing (store_of made publishing.base_moment))) }
+{
+    let base = copy_of(alloc, &publishing.base)?;
+    let publisher = publisher_of(alloc, made, publishing)?;
+    publisher.side_is_valid();
+    let local = LocalLink::new(alloc, publisher)?;
+    Ok(Prepared { local, base })
+}

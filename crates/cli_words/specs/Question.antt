@@ -1,0 +1,39 @@
+-- The question that the words of `ask` say.
+use Rattle.std.specs.Prelude.{◌≡◌, ◌≢◌, ℕ, ◌≤◌, List, [], codes, Option, Some, None}
+use Rattle.lc_model.specs.declared.query.Query.{Query}
+use Rattle.lc_model.specs.declared.query.TheConstants.{FIRST_LEAVE, LAST_LEAVE}
+use Rattle.lc_time.specs.Iso.{SaysMoment}
+use Rattle.cli_words.specs.Line.{ask_line, value_at}
+use Rattle.cli_words.specs.Options.{number_said}
+
+-- a plain word that is not empty says the stop
+pub record SaysStop (word : Option (List ℕ)) (stop : List ℕ) : Type 0 where
+  pub is : word ≡ Some stop
+  pub named : stop ≢ []
+
+-- the text says a moment at which a question may leave
+pub record SaysLeave (text : List ℕ) (leave : ℕ) : Type 0 where
+  pub says : SaysMoment text leave
+  pub not_before : FIRST_LEAVE ≤ leave
+  pub not_after : leave ≤ LAST_LEAVE
+
+-- the moment whose knowledge is meant, and none where the option is not there
+abbrev pub SaysKnown : Option (List ℕ) → Option ℕ → Type 0
+SaysKnown None known = known ≡ None
+SaysKnown (Some text) None = ⊥
+SaysKnown (Some text) (Some known) = SaysMoment text known
+
+-- MOMENT, `--known`, and `--horizon`, which is any number, and a day where it is not there
+pub record SaysTimes (words : List (List ℕ)) (leave : ℕ) (known : Option ℕ) (horizon : ℕ) : Type 0 where
+  -- the word of the moment
+  pub moment : List ℕ
+  pub moment_is : value_at ask_line words (codes "moment") ≡ Some moment
+  pub leave_is : SaysLeave moment leave
+  pub known_is : SaysKnown (value_at ask_line words (codes "known")) known
+  pub horizon_said : number_said 86_400 0 4_294_967_295 (value_at ask_line words (codes "horizon")) ≡ Some horizon
+
+-- FROM, TO and what says the times
+pub record AsksQuestion (words : List (List ℕ)) (query : Query) : Type 0 where
+  pub from_is : SaysStop (value_at ask_line words (codes "from")) query.from
+  pub to_is : SaysStop (value_at ask_line words (codes "to")) query.to
+  pub times : SaysTimes words query.leave query.known query.horizon

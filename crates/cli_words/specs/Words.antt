@@ -1,0 +1,14 @@
+-- The words of a command line, and the command that they say.
+use Rattle.std.specs.Prelude.{◌≡◌, ℕ, List, [], ◌∷◌, codes}
+use Rattle.cli_words.specs.Ask.{SaysAsk}
+use Rattle.cli_words.specs.Check.{SaysCheck}
+use Rattle.cli_words.specs.Replay.{SaysReplay}
+use Rattle.cli_words.specs.declared.command.Command.{Command}
+use Rattle.cli_words.specs.declared.command.Command.TheVariants as command
+
+-- the first of the words is the command's name, and those behind it say this
+abbrev pub SaysCommand : List (List ℕ) → Command → Type 0
+SaysCommand [] said = ⊥
+SaysCommand (name ∷ words) (command.Check check) = (name ≡ codes "check") × SaysCheck words check
+SaysCommand (name ∷ words) (command.Ask ask) = (name ≡ codes "ask") × SaysAsk words ask
+SaysCommand (name ∷ words) (command.Replay replay) = (name ≡ codes "replay") × SaysReplay words replay

@@ -1,0 +1,87 @@
+ghost use Rattle.std.specs.Prelude.{◌≤◌};
+ghost use Rattle.cli_words.specs.Window.{IsWindow};
+
+use connection_uri::Base;
+use fragmenter::Cutting;
+use lc_model::{Moment, Query, ServiceDate, Text};
+
+/// What a command line asks for.
+#[derive(Debug, Drop)]
+pub enum Command {
+    Check(Check),
+    Ask(Ask),
+    Replay(Replay),
+}
+
+/// `check`: the timetable of a feed in a window of dates.
+#[derive(Debug, Drop)]
+pub struct Check {
+    pub feed: Text,
+    pub first: ServiceDate,
+    pub days: u32,
+    /// The word of a zone, as it was said.
+    pub zone: Text,
+    /// The seconds of a change of which the feed says none.
+    pub change: u32,
+    pub ghost some_days: { 1 ≤ days },
+    pub ghost two_months: { days ≤ 62 },
+    pub ghost window: { IsWindow first days },
+    pub ghost within_a_day: { change ≤ 86_400 },
+}
+
+/// `ask`: a question to the timetable of a feed in a window of dates, which is asked through pages.
+#[derive(Debug, Drop)]
+pub struct Ask {
+    pub feed: Text,
+    pub query: Query,
+    pub first: ServiceDate,
+    pub days: u32,
+    /// The word of a zone, as it was said.
+    pub zone: Text,
+    /// The seconds of a change of which the feed says none.
+    pub change: u32,
+    pub publishing: Publishing,
+    /// How many pages are kept at most.
+    pub cache: u32,
+    /// The name of the file with a realtime message, if one is to be admitted.
+    pub update: Option<Text>,
+    pub ghost some_days: { 1 ≤ days },
+    pub ghost two_months: { days ≤ 62 },
+    pub ghost window: { IsWindow first days },
+    pub ghost within_a_day: { change ≤ 86_400 },
+    pub ghost some_pages: { 1 ≤ cache },
+    pub ghost most_pages: { cache ≤ 10_000 },
+}
+
+/// `replay`: a script of clients, messages and turns over the timetable of a feed in a window of dates, which is asked through
+/// pages.
+#[derive(Debug, Drop)]
+pub struct Replay {
+    pub feed: Text,
+    pub first: ServiceDate,
+    pub days: u32,
+    /// The word of a zone, as it was said.
+    pub zone: Text,
+    /// The seconds of a change of which the feed says none.
+    pub change: u32,
+    pub publishing: Publishing,
+    /// How many pages are kept at most.
+    pub cache: u32,
+    /// The name of the file with the script.
+    pub script: Text,
+    pub ghost some_days: { 1 ≤ days },
+    pub ghost two_months: { days ≤ 62 },
+    pub ghost window: { IsWindow first days },
+    pub ghost within_a_day: { change ≤ 86_400 },
+    pub ghost some_pages: { 1 ≤ cache },
+    pub ghost most_pages: { cache ≤ 10_000 },
+}
+
+/// How a timetable is published.
+#[derive(Debug, Drop)]
+pub struct Publishing {
+    pub base: Base,
+    /// The moment from which on the timetable is known, before any message.
+    pub base_moment: Moment,
+    pub cutting: Cutting,
+}

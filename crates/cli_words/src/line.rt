@@ -1,0 +1,85 @@
+ghost use Rattle.std.specs.Prelude.{◌≡◌, ◌↔◌, All, IfOk, IsTrue, MatchOption, map, true, false};
+ghost use Rattle.std.specs.String.{string_bytes};
+ghost use Rattle.clap.specs.Words.{app_of, is_simple_and_free, rule_of};
+ghost use Rattle.cli_words.specs.Line.{HasFound, IsLine, IsNoDash, line, named, placed, texts_of};
+
+use clap::error::ErrorKind;
+use clap::{Arg, ArgAction, ArgMatches, Command};
+use lc_model::{NoMemory, Text};
+use std::alloc::Global;
+
+/// A plain word that has to stand in its place.
+fn placed_arg<'a>(alloc: Global, name: &'a str) -> Arg<'a>
+    ensures rule { rule_of result ≡ placed name.entry.now }
+    ensures local { result.global ≡ false }
+{
+    Arg::new(alloc, name).required(true).action(ArgAction::Set)
+}
+
+/// An option with a value.
+fn named_arg<'a>(alloc: Global, name: &'a str) -> Arg<'a>
+    ensures rule { rule_of result ≡ named name.entry.now }
+    ensures local { result.global ≡ false }
+{
+    Arg::new(alloc, name).long(name).action(ArgAction::Set)
+}
+
+/// The line of a command with these plain words and these options, each with a value. `clap`'s own help is off.
+fn line_of<'a>(
+    alloc: Global,
+    name: &'a str,
+    places: &'a [&'a str],
+    options: &'a [&'a str],
+) -> Result<Command<'a>, NoMemory>
+    ensures { IfOk result (λ command. app_of command ≡ line name.entry.now (map (λ s. s.now) places.entry.now) (map (λ s. s.now) options.entry.now)) }
+{
+    let mut command = Command::new(alloc, name)
+        .no_binary_name(true)
+        .disable_help_flag(true);
+    'places: for place in places {
+        command = command.arg(placed_arg(alloc, place))?;
+    }
+    'options: for option in options {
+        command = command.arg(named_arg(alloc, option))?;
+    }
+    Ok(command)
+}
+
+/// What stands in the words of a line, or none where they are no words of it. Linear in the words, but for each look-up
+/// among the few options.
+pub(crate) fn read_line<'a>(
+    alloc: Global,
+    name: &'a str,
+    places: &'a [&'a str],
+    options: &'a [&'a str],
+    words: &'a [String],
+) -> Result<Option<ArgMatches<'a>>, NoMemory>
+    requires { is_simple_and_free (line name.now (map (λ s. s.now) places.now) (map (λ s. s.now) options.now)) ≡ true }
+    ensures { let a = line name.entry.now (map (λ s. s.now) places.entry.now) (map (λ s. s.now) options.entry.now) in
+        IfOk result (λ found. MatchOption found (IsLine a (texts_of words.entry.now) → ⊥) (λ found. IsLine a (texts_of words.entry.now)
+        × HasFound a (texts_of words.entry.now) found)) }
+{
+    if !has_no_dash(words) {
+        return Ok(None);
+    }
+    let command = line_of(alloc, name, places, options)?;
+    match command.try_get_matches_from(words) {
+        Ok(found) => Ok(Some(found)),
+        Err(error) if error.kind() == ErrorKind::OutOfMemory => Err(NoMemory),
+        Err(_) => Ok(None),
+    }
+}
+
+/// Whether no word is a dash alone. Linear in the words.
+fn has_no_dash(words: &[String]) -> bool
+    ensures { IsTrue result ↔ All (λ word. IsNoDash (string_bytes word)) words.now }
+{
+    words.iter().all(|word| word.as_str() != "-")
+}
+
+/// A text of its own.
+pub(crate) fn text_of(alloc: Global, text: &str) -> Result<Text, NoMemory>
+    ensures { IfOk result (λ copy. copy ≡ text.now) }
+{
+    Ok(Text::from_string(String::from_str(alloc, text)?))
+}

@@ -1,0 +1,37 @@
+ghost use Rattle.std.specs.Prelude.{IfOk, MatchOption};
+ghost use Rattle.cli_words.specs.Words.{SaysCommand};
+ghost use Rattle.cli_words.specs.Line.{texts_of};
+ghost use Rattle.cli_words.specs.declared.command.Command.{Command as Said};
+
+use crate::Command;
+use crate::ask::read_ask;
+use crate::check::read_check;
+use crate::replay::read_replay;
+use lc_model::NoMemory;
+use std::alloc::Global;
+
+/// Reads the words of a command line, without the program's name. None exactly where they say no command. Linear in the
+/// words.
+pub fn read_words(alloc: Global, words: &[String]) -> Result<Option<Command>, NoMemory>
+    ensures { IfOk result (λ read. MatchOption read ((command : Said) → SaysCommand (texts_of words.now) command → ⊥)
+        (SaysCommand (texts_of words.now))) }
+{
+    let [name, rest @ ..] = words else {
+        return Ok(None);
+    };
+    match name.as_str() {
+        "check" => match read_check(alloc, rest)? {
+            Some(check) => Ok(Some(Command::Check(check))),
+            None => Ok(None),
+        },
+        "ask" => match read_ask(alloc, rest)? {
+            Some(ask) => Ok(Some(Command::Ask(ask))),
+            None => Ok(None),
+        },
+        "replay" => match read_replay(alloc, rest)? {
+            Some(replay) => Ok(Some(Command::Replay(replay))),
+            None => Ok(None),
+        },
+        _ => Ok(None),
+    }
+}

@@ -1,9 +1,0 @@
-//! When a client agrees with the publisher's side that it asks, as definitions with their laws: it ends with an answer by the timetable
-//! of its version, after exactly the needed pages. It stands on `page_client`, `page_laws`, `publisher_side` and `side_replies`.
-#![tactic(auto)]
-
-mod laws;
-mod steps;
-
-pub use laws::{links_lead_on, one_answer, one_published, versions_stay};
-pub use steps::{clients_end_right, steps_keep_agreement};

@@ -1,5 +1,0 @@
-use Rattle.convoy_answers.proofs.BeginLemmas.{added_agrees, later_agrees, none_agrees}
-use Rattle.convoy_answers.proofs.laws.agreement_begins.Goals as goal
-
-pub returns : goal.returns
-returns c = record { none = none_agrees; added = added_agrees c.steps_keep_agreement.ensures.begins; later = later_agrees }

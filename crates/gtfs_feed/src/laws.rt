@@ -1,9 +1,0 @@
-ghost use Rattle.gtfs_feed.specs.Laws.{NeverBoth, OneFirst, OneTables};
-
-/// What is found of a feed's files gives one value of its tables, or one first file that is not as it has to be with one
-/// fault that comes first in it, and never both.
-pub fn one_feed()
-    ensures tables { OneTables }
-    ensures first { OneFirst }
-    ensures never_both { NeverBoth }
-{}

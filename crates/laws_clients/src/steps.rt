@@ -1,0 +1,27 @@
+ghost use Rattle.laws_clients.specs.Steps.{BeginsInAgreement, GateKeepsIt, LinkFaultKeepsIt, PageIsOwn, PageKeepsIt, SpentKeepsIt, StopsKeepIt};
+ghost use Rattle.laws_clients.specs.Steps.{EndsWithAnAnswer, EndsWithItsWants, FaultsCutShort, NoReplyFailsATest, RefusalsAreDeserved, TwoAndThePages, WantsTheNext};
+
+/// A client begins in agreement with every side, and each step leaves it in agreement with the side that answered, from the one that
+/// it agreed with or a later one. At the gate it gets the version that its question means there, and keeps it.
+pub fn steps_keep_agreement()
+    ensures begins { BeginsInAgreement }
+    ensures gate { GateKeepsIt }
+    ensures stops { StopsKeepIt }
+    ensures own { PageIsOwn }
+    ensures page { PageKeepsIt }
+    ensures spent { SpentKeepsIt }
+    ensures link_fault { LinkFaultKeepsIt }
+{}
+
+/// A client that agrees with a side wants the next one of its wants, and where it ended by no fault it was given all of them and no
+/// more. What it found is a best journey by the timetable of its version; where it found none there is none; a refusal was
+/// deserved; where the link failed it had asked for a front of its wants; and no reply failed a test.
+pub fn clients_end_right()
+    ensures next { WantsTheNext }
+    ensures wants { EndsWithItsWants }
+    ensures exchanges { TwoAndThePages }
+    ensures answer { EndsWithAnAnswer }
+    ensures refusal { RefusalsAreDeserved }
+    ensures fault { FaultsCutShort }
+    ensures no_peer_fault { NoReplyFailsATest }
+{}

@@ -1,0 +1,215 @@
+-- What turns over an honest link leave: of the link, of a client, and of a convoy that agreed with the link's side.
+use Rattle.std.specs.Prelude.{◌≡◌, ◌≢◌, ◌⊎◌, ℕ, ◌+◌, ◌-◌, ◌<◌, ◌≤◌, List, [], ◌∷◌, ◌++◌, length, Option, Some, None, slice_get, slice_set}
+use Rattle.lc_io.specs.Counts.{Rose, RoseBy}
+use Rattle.connection_uri.specs.Base.{BaseParts}
+use Rattle.lc_world.specs.Link.{IsHonestWith, LinkSeen}
+use Rattle.page_cache.specs.Kept.{Kept}
+use Rattle.page_client.specs.Client.{shown}
+use Rattle.page_client.specs.Shown.{Shown, want_of}
+use Rattle.page_client.specs.declared.outcome.Outcome.{Outcome}
+use Rattle.page_client.specs.declared.outcome.Outcome.TheVariants.{LinkFault}
+use Rattle.page_client.specs.declared.want.Want.{Want}
+use Rattle.page_client.specs.declared.want.Want.TheVariants as wants
+use Rattle.publisher_spec.specs.Side.{IsLater, Side}
+use Rattle.laws_sides.specs.Told.{version_at}
+use Rattle.laws_clients.specs.Fits.{FitsSide}
+use Rattle.laws_clients.specs.Wants.{AreWants}
+use Rattle.convoy.specs.Finish.{HasOutcome}
+use Rattle.convoy.specs.State.{ConvoyState}
+use Rattle.convoy.specs.declared.member.Member.{Member}
+use Rattle.convoy.specs.declared.turn.Turn.{Turn}
+use Rattle.convoy.specs.declared.turn.Turn.TheVariants.{Cached, Exchanged, Finished}
+use Rattle.laws_convoys.specs.Agreement.{FitsConvoy}
+use Rattle.laws_convoys.specs.Names.{AskByNames, Round, asked_of, failures_in, names_after, names_behind, names_of}
+use Rattle.laws_convoys.specs.Requests.{TellsAsked, TellsRequests, requests_of}
+use Rattle.laws_convoys.specs.Rounds.{round_with}
+
+-- A link that was honest with the side is so with a later one, and with the same one where it was quiet, which it is still then. A
+-- clear one is clear, and its count has not fallen.
+pub record LeavesHonest (base : BaseParts) (side left : Side) (before after : LinkSeen) : Type 0 where
+  pub honest : IsHonestWith after base left
+  pub later : IsLater side left
+  pub same : before.quiet base → left ≡ side
+  pub quiet : before.quiet base → after.quiet base
+  pub clear : before.clear → after.clear
+  pub not_fallen : before.faults ≤ after.faults
+
+-- the version is the one that is meant by the known moment at a side between these two
+pub record IsNamedBetween (side left : Side) (known version : Option ℕ) : Type 0 where
+  pub at : Side
+  pub later : IsLater side at
+  pub before : IsLater at left
+  pub is : version ≡ Some (version_at at known)
+
+-- the version after this was given: where that begins with the gate's reply, one of which this is so, and else as before
+abbrev pub VersionBy : (Option ℕ → Type 0) → Option ℕ → List Want → Option ℕ → Type 0
+VersionBy IsSo before [] version = version ≡ before
+VersionBy IsSo before (wants.Gate ∷ more) version = IsSo version
+VersionBy IsSo before (wants.Stops ∷ more) version = version ≡ before
+VersionBy IsSo before (wants.Page name ∷ more) version = version ≡ before
+VersionBy IsSo before (wants.Finished ∷ more) version = version ≡ before
+
+-- after a turn: the one that is meant at the side that is left
+abbrev pub VersionThen : Side → Shown → List Want → Option ℕ → Type 0
+VersionThen left old given version = VersionBy (λ (v : Option ℕ). v ≡ Some (version_at left old.query.known)) old.version given version
+
+-- after turns: the one that was meant when the gate replied
+abbrev pub VersionAfter : Side → Side → Shown → List Want → Option ℕ → Type 0
+VersionAfter side left old given version = VersionBy (IsNamedBetween side left old.query.known) old.version given version
+
+-- it ended by a fault of the link, with these counts
+pub record HasFault (s : Shown) : Type 0 where
+  pub low : ℕ
+  pub high : ℕ
+  pub is : s.outcome ≡ Some (LinkFault low high)
+
+-- the count rose from the one to the other of these two, while it went from before to after
+pub record RoseWithin (before after low high : ℕ) : Type 0 where
+  pub from : before ≤ low
+  pub to : high ≤ after
+  pub rose : Rose low high
+
+-- What became of a client that was given these wants: its question stays, and its outcome once it has one; its version is the one of the
+-- gate's reply; and where it ended by a fault of the link, that rose meanwhile.
+pub record HasMoved (side left : Side) (old new : Shown) (before after : LinkSeen) (given : List Want) : Type 0 where
+  pub query : new.query ≡ old.query
+  pub outcome : (ended : Outcome) → old.outcome ≡ Some ended → new.outcome ≡ Some ended
+  pub version : VersionAfter side left old given new.version
+  pub fault : (low high : ℕ) → old.outcome ≡ None → new.outcome ≡ Some (LinkFault low high) → RoseWithin before.faults after.faults low high
+
+-- the same where it alone asked, and for these wants: each exchange is counted, and told where the link tells exchanges
+pub record HasGone (base : BaseParts) (side left : Side) (old new : Member) (before after : LinkSeen) (given asked : List Want) : Type 0 where
+  pub moved : HasMoved side left (shown old.client) (shown new.client) before after given
+  pub count : new.exchanges ≡ old.exchanges + length asked
+  pub told : TellsAsked before.told after.told base (shown old.client).query asked
+
+-- nothing was given or asked: it had its outcome
+pub record IsIdle (old new : Member) (given asked : List Want) : Type 0 where
+  pub had : HasOutcome old
+  pub same : new ≡ old
+  pub none_given : given ≡ []
+  pub none_asked : asked ≡ []
+
+-- it was given what it wanted, and nothing was asked
+pub record WasKept (old new : Member) (given asked : List Want) : Type 0 where
+  pub waited : want_of (shown old.client).phase ≢ wants.Finished
+  pub is_given : given ≡ want_of (shown old.client).phase ∷ []
+  pub none_asked : asked ≡ []
+  pub no_fault : ¬ HasFault (shown new.client)
+
+-- it was given what it wanted, which was asked for
+pub record WasReplied (old new : Member) (given asked : List Want) : Type 0 where
+  pub waited : want_of (shown old.client).phase ≢ wants.Finished
+  pub is_given : given ≡ want_of (shown old.client).phase ∷ []
+  pub is_asked : asked ≡ want_of (shown old.client).phase ∷ []
+  pub no_fault : ¬ HasFault (shown new.client)
+
+-- what it wanted was asked for, and the link failed
+pub record HadNoReply (old new : Member) (given asked : List Want) : Type 0 where
+  pub waited : want_of (shown old.client).phase ≢ wants.Finished
+  pub none_given : given ≡ []
+  pub is_asked : asked ≡ want_of (shown old.client).phase ∷ []
+  pub by_fault : HasFault (shown new.client)
+
+-- what a turn gave to its client and asked for it
+abbrev pub Gave : Turn → Member → Member → List Want → List Want → Type 0
+Gave Finished old new given asked = IsIdle old new given asked
+Gave Cached old new given asked = WasKept old new given asked
+Gave Exchanged old new given asked = WasReplied old new given asked ⊎ HadNoReply old new given asked
+
+-- no exchange of the client failed
+pub record NoneFailed (was is : Shown) (failed : List Want) : Type 0 where
+  pub none : failed ≡ []
+  pub before : HasFault is → HasFault was
+
+-- its last exchange failed: that was for what it wanted behind all that it was given
+pub record OneFailed (side : Side) (was is : Shown) (all_given failed : List Want) : Type 0 where
+  pub waited : was.outcome ≡ None
+  pub by_fault : HasFault is
+  pub want : Want
+  pub one : failed ≡ want ∷ []
+  pub gate : all_given ≡ [] → want ≡ wants.Gate
+  pub next : (version : ℕ) (all : List Want) → is.version ≡ Some version → AreWants side version is.query all → (more : List Want) × (all ≡ all_given ++ want ∷ more)
+
+-- The names of the kept pages tell what was asked for: of what was given, and of what failed behind it, all but the pages that were kept
+-- then. What failed is not kept.
+pub record AsksByNames (side : Side) (was is : Shown) (before after : Kept) (own given failed asked : List Want) : Type 0 where
+  pub capacity : after.capacity ≡ before.capacity
+  pub names : names_of after.pages ≡ names_after before.capacity (names_of before.pages) given
+  pub are : asked ≡ asked_of before.capacity (names_of before.pages) (given ++ failed)
+  pub not_kept : asked_of before.capacity (names_of after.pages) failed ≡ failed
+  pub how : NoneFailed was is failed ⊎ OneFailed side was is (own ++ given) failed
+
+-- What turns of client k alone leave of a convoy that agreed with the link's side, its clients being given this so far: it agrees with the
+-- side that is left, client k being given these wants besides, and every other client stays as it was. It is given nothing where it had
+-- its outcome, and the gate's reply only where it was given nothing before.
+pub record StillAgrees (side : Side) (old new : ConvoyState) (so_far : List (List Want)) (k : ℕ) (before after : LinkSeen) : Type 0 where
+  pub left : Side
+  pub honest : LeavesHonest old.base side left before after
+  pub base : new.base ≡ old.base
+  pub was : Member
+  pub had : slice_get old.members (k - 1) ≡ Some was
+  pub is : Member
+  pub has : slice_get new.members (k - 1) ≡ Some is
+  pub others : (j : ℕ) → j ≢ k - 1 → slice_get new.members j ≡ slice_get old.members j
+  pub own : List Want
+  pub own_is : slice_get so_far (k - 1) ≡ Some own
+  pub given : List Want
+  pub failed : List Want
+  pub asked : List Want
+  pub idle : HasOutcome was → given ≡ []
+  pub gate_once : own ≢ [] → (more : List Want) → given ≢ wants.Gate ∷ more
+  pub gone : HasGone old.base side left was is before after given asked
+  pub by_names : AsksByNames left (shown was.client) (shown is.client) old.kept new.kept own given failed asked
+  pub client : FitsSide left is.client (own ++ given)
+  pub fits : FitsConvoy left new (slice_set so_far (k - 1) (own ++ given))
+
+-- the same of one turn, which is this round, with what it gave, and the version at the side that it left
+pub record TurnAgrees (side : Side) (old new : ConvoyState) (so_far : List (List Want)) (k : ℕ) (before after : LinkSeen) (turn : Turn) (round : Round) : Type 0 where
+  pub agrees : StillAgrees side old new so_far k before after
+  pub round_is : round_with agrees.given agrees.failed agrees.asked ≡ round
+  pub gave : Gave turn agrees.was agrees.is agrees.given agrees.asked
+  pub version : VersionThen agrees.left (shown agrees.was.client) agrees.given (shown agrees.is.client).version
+
+-- the same where client k was turned until it had its outcome, in this round
+pub record EndAgrees (side : Side) (old new : ConvoyState) (so_far : List (List Want)) (k : ℕ) (before after : LinkSeen) (round : Round) : Type 0 where
+  pub agrees : StillAgrees side old new so_far k before after
+  pub round_is : round_with agrees.given agrees.failed agrees.asked ≡ round
+  pub ended : HasOutcome agrees.is
+
+-- The client at a place came to its outcome in its round. It is given nothing there if it had one before, and the gate's reply only if it
+-- was given nothing before. What it was given all in all stands at its place now, and each exchange is counted.
+pub record HasCome (side left : Side) (was : Member) (new : ConvoyState) (so_far now : List (List Want)) (rounds : List Round) (place : ℕ) (before after : LinkSeen) : Type 0 where
+  pub is : Member
+  pub has : slice_get new.members place ≡ Some is
+  pub ended : HasOutcome is
+  pub own : List Want
+  pub own_is : slice_get so_far place ≡ Some own
+  pub round : Round
+  pub round_is : slice_get rounds place ≡ Some round
+  pub all_is : slice_get now place ≡ Some (own ++ round.given)
+  pub idle : HasOutcome was → round.given ≡ []
+  pub gate_once : own ≢ [] → (more : List Want) → round.given ≢ wants.Gate ∷ more
+  pub count : is.exchanges ≡ was.exchanges + length round.asked
+  pub how : NoneFailed (shown was.client) (shown is.client) round.failed ⊎ OneFailed left (shown was.client) (shown is.client) (own ++ round.given) round.failed
+  pub moved : HasMoved side left (shown was.client) (shown is.client) before after round.given
+  pub client : FitsSide left is.client (own ++ round.given)
+
+-- What these rounds of the first n clients leave of a convoy that agreed with the link's side: it agrees with the side that is left, each of these
+-- clients came to its outcome; what was asked for the one after the other, as the names of the kept pages tell, is told where the link
+-- tells exchanges; and the count of the link rose as often as an exchange failed.
+pub record RoundsAgree (side : Side) (old new : ConvoyState) (so_far : List (List Want)) (n : ℕ) (before after : LinkSeen) (rounds : List Round) : Type 0 where
+  pub left : Side
+  pub honest : LeavesHonest old.base side left before after
+  pub base : new.base ≡ old.base
+  pub now : List (List Want)
+  pub fits : FitsConvoy left new now
+  pub one_each : length rounds ≡ n
+  pub by_names : AskByNames old.kept.capacity (names_of old.kept.pages) rounds
+  pub capacity : new.kept.capacity ≡ old.kept.capacity
+  pub names : names_of new.kept.pages ≡ names_behind old.kept.capacity (names_of old.kept.pages) rounds
+  pub told : TellsRequests before.told after.told old.base.authority (requests_of old.base old.members rounds)
+  pub faults : RoseBy (failures_in rounds) before.faults after.faults
+  pub came : (place : ℕ) (was : Member) → place < n → slice_get old.members place ≡ Some was → HasCome side left was new so_far now rounds place before after
+  pub others : (place : ℕ) → n ≤ place → slice_get new.members place ≡ slice_get old.members place
+  pub same : (place : ℕ) → n ≤ place → slice_get now place ≡ slice_get so_far place

@@ -1,0 +1,30 @@
+-- That the rounds of clients and what clients met are one history.
+use Rattle.std.specs.Prelude.{◌≡◌, ℕ, List, [], ◌∷◌, ◌++◌, None, IsSome, map}
+use Rattle.std.specs.List.{All}
+use Rattle.laws_replies.specs.Met.{Met, asked_in}
+use Rattle.laws_convoys.specs.Names.{Round}
+use Rattle.page_client.specs.declared.want.Want.{Want}
+
+-- what was wanted
+abbrev pub wants_of : List Met → List Want
+wants_of all = map (λ (met : Met). met.made.want) all
+
+-- All this was met by the client in the round. What it was given came by the replies that it got; behind that it got no reply to what failed;
+-- and what was asked for are its own exchanges.
+pub record IsMetIn (client : ℕ) (round : Round) (all : List Met) : Type 0 where
+  pub own : All (λ (met : Met). met.client ≡ client) all
+  pub replied : List Met
+  pub lost : List Met
+  pub are : all ≡ replied ++ lost
+  pub given : round.given ≡ wants_of replied
+  pub got : All (λ (met : Met). IsSome met.made.got) replied
+  pub failed : round.failed ≡ wants_of lost
+  pub got_none : All (λ (met : Met). met.made.got ≡ None) lost
+  pub asked : round.asked ≡ wants_of (asked_in all)
+
+-- all this was met in rounds of clients in this order, part after part
+abbrev pub AreMetIn : List ℕ → List Round → List Met → Type 0
+AreMetIn [] [] all = all ≡ []
+AreMetIn [] (round ∷ rounds) all = ⊥
+AreMetIn (client ∷ order) [] all = ⊥
+AreMetIn (client ∷ order) (round ∷ rounds) all = (part : List Met) × (rest : List Met) × (all ≡ part ++ rest) × IsMetIn client round part × AreMetIn order rounds rest

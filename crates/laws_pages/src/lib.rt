@@ -1,0 +1,15 @@
+//! The laws of pages: along their links the order of departures goes on, rides are legs of the pages from the one asked for,
+//! where a page may be the last, and which are needed. It stands on `lc_model`, `lc_versions` and `laws_journeys`.
+#![tactic(auto)]
+
+mod chain;
+mod needed;
+mod rides;
+mod stop;
+mod worked;
+
+pub use chain::{page_of_a_moment, pages_in_a_row};
+pub use needed::{needed_are_taken, needed_of_journeys, one_list_of_needed};
+pub use rides::{early_may_go, journeys_along_next, legs_along_next};
+pub use stop::{no_journey_arrives_earlier, stop_is_right};
+pub use worked::worked_pages;

@@ -1,0 +1,67 @@
+-- That how a client ended is one for the replies that it got, and these are those that a link tells.
+use Rattle.std.specs.Prelude.{◌≡◌, ℕ, List, [], ◌∷◌, ◌++◌, length, map, Option, Some}
+use Rattle.std.specs.List.{All}
+use Rattle.lc_model.specs.Journey.{arrives_at}
+use Rattle.lc_model.specs.declared.query.Query.{Query}
+use Rattle.connection_uri.specs.Base.{BaseParts}
+use Rattle.lc_world.specs.Link.{LinkSeen, told_of}
+use Rattle.lc_world.specs.declared.entry.Entry.{Entry}
+use Rattle.lc_world.specs.declared.entry.ToldReply.TheVariants.{Hidden}
+use Rattle.page_client.specs.declared.outcome.Outcome.{Outcome}
+use Rattle.page_client.specs.declared.outcome.Outcome.TheVariants as outcomes
+use Rattle.laws_replies.specs.Ends.{EndsBy}
+use Rattle.laws_replies.specs.Made.{AreEntriesOf, Made, TellsAll}
+use Rattle.laws_replies.specs.Met.{AreMet, Met, exchanges_by, met_by}
+use Rattle.laws_replies.specs.Run.{HasAsked}
+
+-- The outcomes say the same: journeys that arrive at one moment, or that there is none, or one refusal, or that the link failed, or one
+-- reply that fails one test.
+abbrev pub SayTheSame : Outcome → Outcome → Type 0
+SayTheSame (outcomes.Found a) (outcomes.Found b) = arrives_at a ≡ arrives_at b
+SayTheSame outcomes.NoJourney outcomes.NoJourney = Unit {0}
+SayTheSame (outcomes.Refused a) (outcomes.Refused b) = a ≡ b
+SayTheSame (outcomes.LinkFault before_a after_a) (outcomes.LinkFault before_b after_b) = Unit {0}
+SayTheSame (outcomes.PeerWrong reply_a fault_a) (outcomes.PeerWrong reply_b fault_b) = (reply_a ≡ reply_b) × (fault_a ≡ fault_b)
+SayTheSame a b = ⊥
+
+-- what was got, exchange for exchange: a reply, or none where it failed
+abbrev pub replies_of : List Made → List (Option (List ℕ))
+replies_of made = map (λ (m : Made). m.got) made
+
+-- the same was wanted in each exchange, the version is one, and the outcomes say the same
+pub record IsOneEnd (made_a made_b : List Made) (version_a version_b : Option ℕ) (a b : Outcome) : Type 0 where
+  pub made : made_a ≡ made_b
+  pub version : version_a ≡ version_b
+  pub outcome : SayTheSame a b
+
+-- a client of the question ends in one way by what it got
+abbrev pub OneEnd : Type 0
+OneEnd =
+    (base : BaseParts) (query : Query) (before_a now_a before_b now_b : ℕ) (version_a version_b : Option ℕ) (made_a made_b : List Made) (a b : Outcome)
+    → replies_of made_a ≡ replies_of made_b → EndsBy base query before_a now_a version_a made_a a → EndsBy base query before_b now_b version_b made_b b
+    → IsOneEnd made_a made_b version_a version_b a b
+
+-- the entry does not hide the reply, or that there was none
+abbrev pub TellsReply : Entry → Type 0
+TellsReply entry = entry.reply ≡ Hidden → ⊥
+
+-- entries of which none hides its reply tell what was got, exchange for exchange: a failure is told of no exchange that was replied to
+abbrev pub GotIsTold : Type 0
+GotIsTold =
+    (base : BaseParts) (query : Query) (made : List Made) (entries : List Entry) → AreEntriesOf base query made entries → All TellsReply entries
+    → map (λ (entry : Entry). entry.reply) entries ≡ map told_of (replies_of made)
+
+-- so where a link told exchanges, and hid no reply of them, a client of the question ended in one way by what is told
+abbrev pub OneToldEnd : {X : Type 0} → (X → LinkSeen) → Type 0
+OneToldEnd {X} seen =
+    (base : BaseParts) (query : Query) (before after : X) (told entries : List Entry) (version_a version_b : Option ℕ) (exchanges_a exchanges_b : ℕ) (a b : Outcome)
+    → (seen before).told ≡ Some told → (seen after).told ≡ Some (told ++ entries) → All TellsReply entries
+    → (asked_a : HasAsked base query (seen before) (seen after) version_a exchanges_a a) (asked_b : HasAsked base query (seen before) (seen after) version_b exchanges_b b)
+    → IsOneEnd asked_a.made asked_b.made version_a version_b a b
+
+-- who is alone among the clients met all by exchanges of its own: they are counted, and told where the link tells exchanges
+abbrev pub AloneAsksAll : Type 0
+AloneAsksAll =
+    (base : BaseParts) (query : Query) (before after : Option (List Entry)) (faults now_faults : ℕ) (version : Option ℕ) (all : List Met) (outcome : Outcome)
+    → AreMet base (query ∷ []) before after faults now_faults all → EndsBy base query faults now_faults version (met_by 1 all) outcome
+    → (exchanges_by 1 all ≡ length (met_by 1 all)) × TellsAll base query (met_by 1 all) before after

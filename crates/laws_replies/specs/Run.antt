@@ -1,0 +1,37 @@
+-- What a client alone did over a link, whatever the link is. X is the type of the link, and `seen` what is promised of it.
+use Rattle.std.specs.Prelude.{◌≡◌, ℕ, ◌≤◌, List, [], ◌∷◌, Option, Some, length}
+use Rattle.lc_model.specs.declared.query.Query.{Query}
+use Rattle.connection_uri.specs.Base.{BaseParts}
+use Rattle.lc_world.specs.Link.{LinkSeen}
+use Rattle.page_client.specs.Client.{shown}
+use Rattle.page_client.specs.declared.outcome.Outcome.{Outcome}
+use Rattle.convoy.specs.Finish.{Rounds}
+use Rattle.convoy.specs.State.{Adds, ConvoyState, begun}
+use Rattle.convoy.specs.declared.member.Member.{Member}
+use Rattle.laws_replies.specs.Ends.{EndsBy}
+use Rattle.laws_replies.specs.Made.{Made, TellsAll}
+
+-- A client of the question asked over the link, and ended so: with this version, after so many exchanges, with this outcome. The
+-- exchanges were told, where the link tells any; a clear link is clear still; and its count of faults has not fallen.
+pub record HasAsked (base : BaseParts) (query : Query) (before after : LinkSeen) (version : Option ℕ) (exchanges : ℕ) (outcome : Outcome) : Type 0 where
+  pub made : List Made
+  pub counted : exchanges ≡ length made
+  pub ends : EndsBy base query before.faults after.faults version made outcome
+  pub told : TellsAll base query made before.told after.told
+  pub clear : before.clear → after.clear
+  pub not_fallen : before.faults ≤ after.faults
+
+-- the convoy has one client, of this question, which has asked and ended so
+pub record HasRun (base : BaseParts) (query : Query) (before after : LinkSeen) (end : ConvoyState) : Type 0 where
+  pub member : Member
+  pub alone : end.members ≡ member ∷ []
+  pub question : (shown member.client).query ≡ query
+  pub outcome : Outcome
+  pub ended : (shown member.client).outcome ≡ Some outcome
+  pub asked : HasAsked base query before after (shown member.client).version member.exchanges outcome
+
+-- a client that was asked alone, and was turned until it ended, has run so
+abbrev pub EndsByItsReplies : {X : Type 0} → (X → LinkSeen) → Type 0
+EndsByItsReplies {X} seen =
+    (base : BaseParts) (capacity : ℕ) (query : Query) (asked end : ConvoyState) (before after : X) → Adds (begun base capacity) query asked
+    → Rounds seen 1 asked end before after → HasRun base query (seen before) (seen after) end

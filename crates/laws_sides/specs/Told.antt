@@ -1,0 +1,61 @@
+-- What the replies of a publisher's side tell a client: the gate's the page to which it sends, the others the stops document and
+-- the pages.
+use Rattle.std.specs.Prelude.{◌≡◌, ℕ, true, List, Option, None, Ok}
+use Rattle.lc_model.specs.declared.page.PageName.{PageName}
+use Rattle.lc_model.specs.declared.query.Query.{Query}
+use Rattle.connection_uri.specs.Page.{gate_target_of, page_target_of, stops_target_of}
+use Rattle.lc_versions.specs.History.{moments_of}
+use Rattle.lc_versions.specs.Named.{version_named}
+use Rattle.page_client.specs.Gate.{IsGateReply}
+use Rattle.page_client.specs.Page.{IsPageReply}
+use Rattle.page_client.specs.Request.{Asks}
+use Rattle.page_client.specs.Stops.{IsStopsReply}
+use Rattle.page_json.specs.Sound.{IsSoundName, IsSoundPage}
+use Rattle.page_json.specs.declared.page.Page.{Page}
+use Rattle.publisher_spec.specs.Reply.{IsReply}
+use Rattle.publisher_spec.specs.Response.{IsPageOf}
+use Rattle.publisher_spec.specs.Short.{StandsUnder}
+use Rattle.publisher_spec.specs.Side.{Side, has_version}
+
+-- the bytes are the side's reply to a GET of this target by one who knows up to this moment
+pub record IsToldTo (side : Side) (target : List ℕ) (known : Option ℕ) (reply : List ℕ) : Type 0 where
+  pub request : List ℕ
+  pub asks : Asks side.base target known request
+  pub replies : IsReply side request reply
+
+-- the version of the side that is meant by a known moment
+abbrev pub version_at : Side → Option ℕ → ℕ
+version_at side known = version_named side.base_moment (moments_of side.history) known
+
+-- the page to which the gate sends a question: the one for the moment at which it leaves, at the version of its known moment
+pub record IsGatePage (side : Side) (query : Query) (name : PageName) : Type 0 where
+  pub page : Page
+  pub is_page : IsPageOf side (version_at side query.known) query.leave page
+  pub is : name ≡ page.name
+  pub sound : IsSoundName name
+
+-- what the gate's reply tells
+pub record IsSentTo (side : Side) (query : Query) (reply : List ℕ) : Type 0 where
+  pub name : PageName
+  pub is_gate_page : IsGatePage side query name
+  pub said : IsGateReply side.base query.leave reply (Ok name)
+
+-- the gate sends to the page for the moment at which the question leaves
+abbrev pub GateIsTold : Type 0
+GateIsTold =
+    (side : Side) (query : Query) (reply : List ℕ) → StandsUnder side.base side
+    → IsToldTo side (gate_target_of side.base query.leave) query.known reply → IsSentTo side query reply
+
+-- the stops document is told
+abbrev pub StopsAreTold : Type 0
+StopsAreTold =
+    (side : Side) (reply : List ℕ) → StandsUnder side.base side → IsToldTo side (stops_target_of side.base) None reply
+    → IsStopsReply reply (Ok side.doc)
+
+-- a page that is asked for by its name is told, as its types have it
+abbrev pub PageIsTold : Type 0
+PageIsTold =
+    (side : Side) (page : Page) (reply : List ℕ) → StandsUnder side.base side → has_version side page.name.version ≡ true
+    → IsSoundName page.name → IsPageOf side page.name.version page.name.departs page
+    → IsToldTo side (page_target_of side.base page.name) None reply
+    → IsPageReply side.base page.name reply (Ok page) × IsSoundPage page

@@ -1,5 +1,0 @@
-use Rattle.replay_course.specs.Played.{HaveEndedSo}
-use Rattle.replaying.proofs.ends.ends_of.Given as goal
-
-abbrev pub invariant-members : goal.invariant-members
-invariant-members l = HaveEndedSo l.yielded l.ends.items

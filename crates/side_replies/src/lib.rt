@@ -1,7 +1,0 @@
-//! What the replies of a publisher's side tell the client that asks it: the page to which the gate sends, the stops document and
-//! the pages. It stands on `publisher_side`, `page_client` and `page_laws`.
-#![tactic(auto)]
-
-mod laws;
-
-pub use laws::{gate_is_told, pages_are_told, replies_are_read, stops_are_told};

@@ -1,5 +1,0 @@
-use Rattle.trip_runs.proofs.BlankLemmas.{lie_between}
-use Rattle.trip_runs.proofs.laws.blank_rows_lie_between.Goals as goal
-
-pub returns : goal.returns
-returns c = lie_between

@@ -1,5 +1,0 @@
-use Rattle.trip_runs.proofs.TotalLemmas.{one_list_of_runs}
-use Rattle.trip_runs.proofs.laws.one_list_of_runs.Goals as goal
-
-pub returns : goal.returns
-returns c = one_list_of_runs

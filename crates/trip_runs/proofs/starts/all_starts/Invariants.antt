@@ -1,6 +1,0 @@
-use Rattle.std.proofs.Common.{take}
-use Rattle.trip_runs.specs.Starts.{AreAllGiven}
-use Rattle.trip_runs.proofs.starts.all_starts.Given as goal
-
-abbrev pub invariant-spans : goal.invariant-spans
-invariant-spans l = AreAllGiven (take l.span-index l.spans) l.starts.items
