@@ -12,7 +12,7 @@ use std::alloc::Global;
 use trip_updates::RtFault;
 
 /// Why a file is no message of which a publisher is told.
-#[derive(Clone, Copy, Debug, PartialEq, Eq)]
+#[derive(Clone, Copy, PartialEq, Eq)]
 pub enum MessageFault {
     /// It has so many bytes, which are too many.
     TooLong { bytes: usize },

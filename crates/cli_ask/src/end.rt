@@ -2,7 +2,7 @@ use lc_model::Moment;
 use page_client::Outcome;
 
 /// How a client ended.
-#[derive(Debug, Drop)]
+#[derive(Drop)]
 pub struct ClientEnd {
     /// The version that the time gate named to it; none where the gate was not asked, or gave no reply that passes.
     pub version: Option<Moment>,

@@ -20,7 +20,7 @@ use std::alloc::Global;
 use timetable::Timetable;
 
 /// What is printed of a question, and how its client ended.
-#[derive(Debug, Drop)]
+#[derive(Drop)]
 pub struct Asked {
     pub text: Vec<u8>,
     pub end: ClientEnd,

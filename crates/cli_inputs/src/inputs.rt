@@ -10,7 +10,7 @@ use std::alloc::Global;
 use timetable::{Scope, Timetable, load};
 
 /// What a question is asked of: the timetable of its feed, and the file of a message, if there is one.
-#[derive(Debug, Drop)]
+#[derive(Drop)]
 pub struct Inputs {
     pub made: Timetable,
     pub file: Option<File>,

@@ -4,7 +4,7 @@ use timetable::LoadFault;
 use trip_updates::RtFault;
 
 /// Why a command is not carried out, for a cause that is no client's.
-#[derive(Debug, Drop)]
+#[derive(Drop)]
 pub enum Refusal {
     /// The words are none that a command has.
     Usage,

@@ -17,7 +17,7 @@ use std::alloc::Global;
 use timetable::{Scope, Timetable, load};
 
 /// What a course is played from: the timetable of the feed, and what happens one after the other.
-#[derive(Debug, Drop)]
+#[derive(Drop)]
 pub struct ReplayInputs {
     pub made: Timetable,
     pub events: Vec<Event>,

@@ -18,7 +18,7 @@ use std::alloc::Global;
 use timetable::Timetable;
 
 /// What is printed of a course, and how its clients ended, in the order in which they asked.
-#[derive(Debug, Drop)]
+#[derive(Drop)]
 pub struct Replayed {
     pub text: Vec<u8>,
     pub ends: Vec<ClientEnd>,

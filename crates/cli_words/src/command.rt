@@ -6,7 +6,7 @@ use fragmenter::Cutting;
 use lc_model::{Moment, Query, ServiceDate, Text};
 
 /// What a command line asks for.
-#[derive(Debug, Drop)]
+#[derive(Drop)]
 pub enum Command {
     Check(Check),
     Ask(Ask),
@@ -14,7 +14,7 @@ pub enum Command {
 }
 
 /// `check`: the timetable of a feed in a window of dates.
-#[derive(Debug, Drop)]
+#[derive(Drop)]
 pub struct Check {
     pub feed: Text,
     pub first: ServiceDate,
@@ -30,7 +30,7 @@ pub struct Check {
 }
 
 /// `ask`: a question to the timetable of a feed in a window of dates, which is asked through pages.
-#[derive(Debug, Drop)]
+#[derive(Drop)]
 pub struct Ask {
     pub feed: Text,
     pub query: Query,
@@ -55,7 +55,7 @@ pub struct Ask {
 
 /// `replay`: a script of clients, messages and turns over the timetable of a feed in a window of dates, which is asked through
 /// pages.
-#[derive(Debug, Drop)]
+#[derive(Drop)]
 pub struct Replay {
     pub feed: Text,
     pub first: ServiceDate,
@@ -78,7 +78,7 @@ pub struct Replay {
 }
 
 /// How a timetable is published.
-#[derive(Debug, Drop)]
+#[derive(Drop)]
 pub struct Publishing {
     pub base: Base,
     /// The moment from which on the timetable is known, before any message.

@@ -14,7 +14,7 @@ const MOST_BYTES: usize = 4096;
 
 /// The URL under which a publisher's documents stand, as `http://lc.example/`, written as the URL Standard writes it. A
 /// contract sees its text, its authority and its path.
-#[derive(Debug, Drop)]
+#[derive(Drop)]
 pub struct Base {
     url: Url,
 }

@@ -5,7 +5,7 @@ ghost use Rattle.page_client.specs.Shown.{exchanges_left};
 use page_client::Client;
 
 /// A client of a convoy, and how many exchanges it has made.
-#[derive(Debug, Drop)]
+#[derive(Drop)]
 pub struct Member {
     pub client: Client,
     pub exchanges: u64,

@@ -1,5 +1,5 @@
 /// What a client did at its turn.
-#[derive(Clone, Copy, Debug, PartialEq, Eq)]
+#[derive(Clone, Copy, PartialEq, Eq)]
 pub enum Turn {
     /// Nothing: it had its outcome before.
     Finished,

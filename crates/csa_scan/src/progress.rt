@@ -8,7 +8,7 @@ use lc_model::{Connection, Moment, NoMemory, Query, StopsDoc};
 use std::alloc::Global;
 
 /// What a scan has found out so far.
-#[derive(Debug, Drop)]
+#[derive(Drop)]
 pub struct Progress {
     /// How each run is boarded first, by its number.
     pub boardings: Vec<Option<Boarding>>,

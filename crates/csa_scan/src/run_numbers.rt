@@ -8,7 +8,7 @@ use std::collections::BTreeMap;
 use std::marker::Model;
 
 /// Runs with numbers, from 0 on, in the order in which they came. A contract sees the list of their keys.
-#[derive(Debug, Drop)]
+#[derive(Drop)]
 pub struct RunNumbers {
     numbers: BTreeMap<RunKey, usize>,
     keys: Vec<RunKey>,

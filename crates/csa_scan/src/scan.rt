@@ -12,7 +12,7 @@ use std::alloc::Global;
 
 /// A scan for one question. It takes connections in departure order, list by list, and tells at any time the best
 /// arrival over what it took.
-#[derive(Debug, Drop)]
+#[derive(Drop)]
 pub struct Scan {
     query: Query,
     doc: StopsDoc,

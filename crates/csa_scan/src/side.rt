@@ -5,7 +5,7 @@ use lc_model::{Change, Id, NoMemory, PlainData, Walk};
 use std::alloc::Global;
 
 /// On which side of the rides a walk is made. Its outer stop is an end of the question, its inner one that of a ride.
-#[derive(Clone, Copy, Debug)]
+#[derive(Clone, Copy)]
 pub enum Side {
     Before,
     After,

@@ -1,7 +1,7 @@
 use lc_model::Moment;
 
 /// How a run is boarded first: at the connection of this sequence. The stop is a place in the stops document.
-#[derive(Clone, Copy, Debug)]
+#[derive(Clone, Copy)]
 pub struct Boarding {
     pub seq: u32,
     pub stop: usize,
@@ -11,7 +11,7 @@ pub struct Boarding {
 }
 
 /// A ride by which a stop was reached. The run is a number of `RunNumbers`, the stop a place in the stops document.
-#[derive(Clone, Copy, Debug)]
+#[derive(Clone, Copy)]
 pub struct Arrival {
     pub run: usize,
     pub boarding: Boarding,
@@ -21,7 +21,7 @@ pub struct Arrival {
 }
 
 /// The first second at which one may board at a stop, and the arrival after which one does.
-#[derive(Clone, Copy, Debug)]
+#[derive(Clone, Copy)]
 pub struct Ready {
     pub at: u64,
     pub after: usize,
@@ -29,14 +29,14 @@ pub struct Ready {
 
 /// The end of the question that is nearest to a stop, as a place in the stops document, and the seconds of the walk: 0
 /// where the stop is this end itself.
-#[derive(Clone, Copy, Debug)]
+#[derive(Clone, Copy)]
 pub struct Near {
     pub place: usize,
     pub seconds: u32,
 }
 
 /// An arrival at an end of the question, by a walk after the arrival at the place or without one.
-#[derive(Clone, Copy, Debug)]
+#[derive(Clone, Copy)]
 pub struct Goal {
     pub arr: Moment,
     pub place: usize,

@@ -8,7 +8,7 @@ use lc_model::{Journey, NoMemory, Query, Ride, Rides, Stop, StopsDoc};
 use std::alloc::Global;
 
 /// The walks before the first ride and after the last one, by the place of the stop where it boards or alights.
-#[derive(Debug, Drop)]
+#[derive(Drop)]
 pub struct Walks {
     pub starts: Vec<Option<Near>>,
     pub ends: Vec<Option<Near>>,

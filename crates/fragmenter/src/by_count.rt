@@ -9,7 +9,7 @@ use std::alloc::Global;
 pub const MOST_CONNECTIONS: u32 = 1_000_000;
 
 /// Cuts where a page has so many connections, before the next other departure.
-#[derive(Clone, Copy, Debug, PartialEq, Eq)]
+#[derive(Clone, Copy, PartialEq, Eq)]
 pub struct ByCount {
     pub count: u32,
     pub ghost at_least: { 1 ≤ count },

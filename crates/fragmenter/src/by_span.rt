@@ -9,7 +9,7 @@ use std::alloc::Global;
 pub const LONGEST_SPAN: u32 = 86_400;
 
 /// Cuts at the first departure of each span of so many seconds since 1970 in which something departs.
-#[derive(Clone, Copy, Debug, PartialEq, Eq)]
+#[derive(Clone, Copy, PartialEq, Eq)]
 pub struct BySpan {
     pub seconds: u32,
     pub ghost at_least: { 1 ≤ seconds },

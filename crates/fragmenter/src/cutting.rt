@@ -5,7 +5,7 @@ use lc_model::{Moment, NoMemory};
 use std::alloc::Global;
 
 /// One of the ways to cut.
-#[derive(Clone, Copy, Debug, PartialEq, Eq)]
+#[derive(Clone, Copy, PartialEq, Eq)]
 pub enum Cutting {
     Span(BySpan),
     Count(ByCount),

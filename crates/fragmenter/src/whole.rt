@@ -5,7 +5,7 @@ use lc_model::{Moment, NoMemory};
 use std::alloc::Global;
 
 /// Cuts at the first departure alone: one page for all.
-#[derive(Clone, Copy, Debug, PartialEq, Eq)]
+#[derive(Clone, Copy, PartialEq, Eq)]
 pub struct Whole;
 
 impl Fragmenter for Whole {

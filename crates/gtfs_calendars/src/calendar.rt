@@ -5,7 +5,7 @@ use lc_model::{Id, ServiceDate};
 use std::marker::Model;
 
 /// A row of calendar.txt: on which weekdays of a range of dates a service runs.
-#[derive(Debug, Drop)]
+#[derive(Drop)]
 pub struct Weekly {
     pub service: Id,
     /// Monday to Sunday.
@@ -17,7 +17,7 @@ pub struct Weekly {
 }
 
 /// The weekdays of the services of a feed, in the order of the file. No two rows are of one service.
-#[derive(Debug, Drop)]
+#[derive(Drop)]
 pub struct WeeklyList {
     items: Vec<Weekly>,
 }

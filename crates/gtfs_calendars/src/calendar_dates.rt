@@ -5,7 +5,7 @@ use lc_model::{Id, ServiceDate};
 use std::marker::Model;
 
 /// A row of calendar_dates.txt: a service is added on a date, or taken away.
-#[derive(Debug, Drop)]
+#[derive(Drop)]
 pub struct DateRow {
     pub service: Id,
     pub date: ServiceDate,
@@ -13,7 +13,7 @@ pub struct DateRow {
 }
 
 /// The dates of the services of a feed, in the order of the file. No two rows are of one service and date.
-#[derive(Debug, Drop)]
+#[derive(Drop)]
 pub struct DateRows {
     items: Vec<DateRow>,
 }

@@ -6,7 +6,7 @@ use std::alloc::Global;
 use std::marker::Model;
 
 /// A row of frequencies.txt: within a span of a service day a trip starts every so often.
-#[derive(Debug, Drop)]
+#[derive(Drop)]
 pub struct Frequency {
     pub trip: Id,
     /// The first start, in seconds from the start of the service day.
@@ -29,7 +29,7 @@ impl PlainData for Frequency {
 }
 
 /// The spans in which the trips of a feed start every so often, in the order of the file.
-#[derive(Debug, Drop)]
+#[derive(Drop)]
 pub struct Frequencies {
     items: Vec<Frequency>,
 }

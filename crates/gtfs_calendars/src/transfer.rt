@@ -2,7 +2,7 @@ use lc_model::{Id, Items};
 
 /// A row of transfers.txt: the way of changing from one stop or station to another (GTFS Schedule Reference,
 /// transfers.txt).
-#[derive(Debug, Drop)]
+#[derive(Drop)]
 pub struct Transfer {
     pub from: Id,
     pub to: Id,

@@ -5,14 +5,14 @@ use lc_model::Id;
 use std::marker::Model;
 
 /// A row of trips.txt: a trip and the service on whose dates it runs.
-#[derive(Debug, Drop)]
+#[derive(Drop)]
 pub struct TripRow {
     pub trip: Id,
     pub service: Id,
 }
 
 /// The trips of a feed, in the order of the file. No two have one id.
-#[derive(Debug, Drop)]
+#[derive(Drop)]
 pub struct TripRows {
     items: Vec<TripRow>,
 }

@@ -8,7 +8,7 @@ use std::error::Error;
 use std::fmt;
 
 /// Why the bytes of a file are no table with the columns that are asked for.
-#[derive(Debug, Drop)]
+#[derive(Drop)]
 pub enum RowFault {
     /// The bytes are not UTF-8.
     NotUtf8,
@@ -33,6 +33,13 @@ impl fmt::Display for RowFault {
             RowFault::Ragged { row } => write!(f, "row {row} is ragged"),
             RowFault::NoMemory => write!(f, "no memory"),
         }
+    }
+}
+
+/// As it is printed.
+impl fmt::Debug for RowFault {
+    fn fmt<W: fmt::Write>(&self, f: &mut fmt::Formatter<W>) -> fmt::Result {
+        fmt::Display::fmt(self, f)
     }
 }
 

@@ -7,7 +7,7 @@ use gtfs_fields::FileFault;
 use lc_model::NoMemory;
 
 /// Why the files of a feed are read no further.
-#[derive(Debug, Drop)]
+#[derive(Drop)]
 pub(crate) enum End {
     /// A file is not as it has to be, this is what is wrong first with it, and this file is named.
     Wrong(FeedFile, FileFault),

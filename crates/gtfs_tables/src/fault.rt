@@ -1,7 +1,7 @@
 use crate::{FeedFile, What};
 
 /// Why a feed gave no tables.
-#[derive(Clone, Copy, Debug, PartialEq, Eq)]
+#[derive(Clone, Copy, PartialEq, Eq)]
 pub enum FeedFault {
     /// The first file that is not as it has to be, the first rule that it breaks, and the row that breaks it, counted from
     /// 1; row 0 stands for the file. Rule 1: the file is absent; the other rules are those of `gtfs_fields`.

@@ -2,7 +2,7 @@ ghost use Rattle.std.specs.Prelude.{◌≡◌};
 ghost use Rattle.gtfs_tables.specs.Files.{name_of};
 
 /// The files of a feed that are read, in the order in which they are read.
-#[derive(Clone, Copy, Debug, PartialEq, Eq)]
+#[derive(Clone, Copy, PartialEq, Eq)]
 pub enum FeedFile {
     Stops,
     Trips,

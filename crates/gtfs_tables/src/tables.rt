@@ -6,7 +6,7 @@ use gtfs_trips::StopTimes;
 use lc_model::Stops;
 
 /// The tables of a feed.
-#[derive(Debug, Drop)]
+#[derive(Drop)]
 pub struct Tables {
     pub stops: Stops,
     /// The trips that are not left out.

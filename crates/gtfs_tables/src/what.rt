@@ -4,7 +4,7 @@ ghost use Rattle.gtfs_tables.specs.Texts.{what_text};
 use std::fmt;
 
 /// What there may be too much of, in a feed or in what is made of it.
-#[derive(Clone, Copy, Debug, PartialEq, Eq)]
+#[derive(Clone, Copy, PartialEq, Eq)]
 pub enum What {
     /// The rows of stops.txt.
     Stops,

@@ -9,7 +9,7 @@ use lc_model::{Id, Keyed, NoMemory, PlainData, sorted_keys};
 use std::alloc::Global;
 
 /// A trip of which a row names no stop.
-#[derive(Debug, Drop)]
+#[derive(Drop)]
 pub(crate) struct Stopless {
     pub(crate) trip: Id,
 }

@@ -7,7 +7,7 @@ use std::marker::Model;
 
 /// A row of stop_times.txt: when a trip arrives at a stop and departs, in seconds of the service day, where the row says
 /// so, and whether one may board and alight.
-#[derive(Debug, Drop)]
+#[derive(Drop)]
 pub struct StopTime {
     pub trip: Id,
     pub stop: Id,
@@ -20,7 +20,7 @@ pub struct StopTime {
 
 /// The stop times of a feed, strictly ordered by trip and sequence. The first and the last of a trip have a time, and none
 /// is earlier than one before it.
-#[derive(Debug, Drop)]
+#[derive(Drop)]
 pub struct StopTimes {
     items: Vec<StopTime>,
 }

@@ -28,7 +28,7 @@ use std::alloc::Global;
 const MOST_STOP_TIMES: usize = 8_000_000;
 
 /// What stop_times.txt says of the trips of a feed.
-#[derive(Debug, Drop)]
+#[derive(Drop)]
 pub struct TimedTrips {
     /// The trips that are not left out: each of their rows names a stop. In the order of trips.txt.
     pub trips: TripRows,

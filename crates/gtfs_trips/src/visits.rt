@@ -17,7 +17,7 @@ use std::cmp::Ordering;
 
 /// What a row of stop_times.txt says: when a trip is at a stop, in seconds of the service day, and the row, counted
 /// from 1.
-#[derive(Debug, Drop)]
+#[derive(Drop)]
 pub struct Visit {
     pub(crate) trip: Id,
     pub(crate) stop: Option<Id>,

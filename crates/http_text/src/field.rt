@@ -2,7 +2,7 @@ use lc_model::{Bytes, Items, NoMemory, PlainData};
 use std::alloc::Global;
 
 /// A field of a head. The value stands without the blanks around it.
-#[derive(Debug, Drop)]
+#[derive(Drop)]
 pub struct Field {
     pub name: Bytes,
     pub value: Bytes,

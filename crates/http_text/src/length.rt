@@ -8,7 +8,7 @@ use httparse::spans::HeaderSpan;
 use lc_time::read_decimal;
 
 /// What the fields of a head say of the length of the body (RFC 9110, section 8.6).
-#[derive(Clone, Copy, Debug, PartialEq, Eq)]
+#[derive(Clone, Copy, PartialEq, Eq)]
 pub enum Length {
     Missing,
     Said(u64),

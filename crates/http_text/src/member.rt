@@ -2,7 +2,7 @@ use lc_model::{Items, NoMemory, PlainData, Text};
 use std::alloc::Global;
 
 /// A member of a query, decoded.
-#[derive(Debug, Drop)]
+#[derive(Drop)]
 pub struct Member {
     pub name: Text,
     pub value: Text,

@@ -2,7 +2,7 @@ use lc_model::{Moment, NoMemory, PlainData, Text};
 use std::alloc::Global;
 
 /// What a reply says. The body lies from `body_from` up to `body_to` in its bytes.
-#[derive(Debug, Drop)]
+#[derive(Drop)]
 pub struct Reply {
     pub status: u16,
     /// The URL of the Location field, or none where it is missing or no UTF-8.

@@ -2,7 +2,7 @@ use lc_model::{Bytes, Moment, NoMemory, PlainData, Text};
 use std::alloc::Global;
 
 /// What a body is.
-#[derive(Clone, Copy, Debug, PartialEq, Eq)]
+#[derive(Clone, Copy, PartialEq, Eq)]
 pub enum BodyKind {
     /// A page of connections, `application/ld+json`.
     Page,
@@ -11,7 +11,7 @@ pub enum BodyKind {
 }
 
 /// The methods of a resource.
-#[derive(Clone, Copy, Debug, PartialEq, Eq)]
+#[derive(Clone, Copy, PartialEq, Eq)]
 pub enum Allow {
     /// `GET, HEAD`.
     Reading,
@@ -20,7 +20,7 @@ pub enum Allow {
 }
 
 /// The parts of a reply: one for each line of its head, and the body.
-#[derive(Debug, Drop)]
+#[derive(Drop)]
 pub struct ReplyParts {
     pub status: u16,
     pub kind: Option<BodyKind>,

@@ -3,7 +3,7 @@ use lc_model::{Bytes, NoMemory, PlainData};
 use std::alloc::Global;
 
 /// What a request says. Its body lies from `body_from` to the end of its bytes.
-#[derive(Debug, Drop)]
+#[derive(Drop)]
 pub struct Request {
     pub method: Bytes,
     /// The path of the target, as it is written.

@@ -20,7 +20,7 @@ use std::alloc::Global;
 const ROOM: usize = 5_500;
 
 /// The room that reading a head takes. A session keeps it from one head to the next.
-#[derive(Debug, Drop)]
+#[derive(Drop)]
 pub struct HeadRoom {
     fields: Vec<HeaderSpan>,
     waits_for: usize,

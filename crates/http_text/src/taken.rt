@@ -1,5 +1,5 @@
 /// What stands at the front of the bytes that have come on a connection.
-#[derive(Clone, Copy, Debug, PartialEq, Eq)]
+#[derive(Clone, Copy, PartialEq, Eq)]
 pub enum Taken {
     /// One whole request of so many bytes.
     Whole { length: usize },

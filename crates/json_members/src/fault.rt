@@ -8,7 +8,7 @@ use std::error::Error;
 use std::fmt;
 
 /// The first fault of bytes that are no page, or no stops document.
-#[derive(Debug, Drop)]
+#[derive(Drop)]
 pub enum PageFault {
     /// The bytes are no JSON text (RFC 8259), or one that nests too deep.
     NotJson,
@@ -33,6 +33,13 @@ impl fmt::Display for PageFault {
             PageFault::NotOrdered { place } => write!(f, "item {place} is not in order"),
             PageFault::NoMemory => write!(f, "no memory"),
         }
+    }
+}
+
+/// As it is printed.
+impl fmt::Debug for PageFault {
+    fn fmt<W: fmt::Write>(&self, f: &mut fmt::Formatter<W>) -> fmt::Result {
+        fmt::Display::fmt(self, f)
     }
 }
 

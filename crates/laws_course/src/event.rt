@@ -2,7 +2,7 @@ use crate::Message;
 use lc_model::Query;
 
 /// What happens next in a course.
-#[derive(Debug, Drop)]
+#[derive(Drop)]
 pub enum Event {
     /// A new client asks this. It gets the next number, from 1 on.
     Ask(Query),

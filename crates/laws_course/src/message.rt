@@ -9,7 +9,7 @@ use trip_updates::{RtFault, one_meaning, read_message};
 use version_store::MOST_MESSAGE_BYTES;
 
 /// A file with a realtime message: 16 MiB at most, and without a fault.
-#[derive(Debug, Drop)]
+#[derive(Drop)]
 pub struct Message {
     pub file: File,
     ghost short: { length file.bytes ≤ 16_777_216 },

@@ -8,7 +8,7 @@ use lc_world::{Sink, SinkFail, put_all};
 use page_client::Outcome;
 
 /// What is printed, and how the clients ended, if there are any, in the order in which they asked.
-#[derive(Debug, Drop)]
+#[derive(Drop)]
 pub struct Block {
     pub text: Vec<u8>,
     pub ends: Vec<ClientEnd>,

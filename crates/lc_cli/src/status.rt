@@ -7,7 +7,7 @@ use page_client::{PeerFault, QueryFault};
 use trip_updates::RtFault;
 
 /// How a run ended.
-#[derive(Debug, Drop)]
+#[derive(Drop)]
 pub enum Status {
     /// All inputs were read to their end, and all output was written.
     Done,

@@ -8,7 +8,7 @@ use std::alloc::Global;
 use std::marker::Model;
 
 /// A link to nobody: each exchange fails, and an answer that is handed on stays as it is.
-#[derive(Debug, Drop)]
+#[derive(Drop)]
 pub struct ClosedLink {
     faults: u64,
 }

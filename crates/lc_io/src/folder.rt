@@ -6,7 +6,7 @@ ghost use Rattle.lc_io.specs.declared.folder.FolderFail.TheVariants.{Failed, Abs
 use std::alloc::Global;
 
 /// Why a folder gave no bytes.
-#[derive(Clone, Copy, Debug, PartialEq, Eq)]
+#[derive(Clone, Copy, PartialEq, Eq)]
 pub enum FolderFail {
     /// The file could not be read.
     Failed,

@@ -43,7 +43,7 @@ pub(crate) fn add_asked(alloc: Global, asked: &mut Vec<Text>, name: &str) -> Res
 }
 
 /// A folder in memory, some of whose reads fail.
-#[derive(Debug, Drop)]
+#[derive(Drop)]
 pub struct MemFolder {
     files: Vec<File>,
     fails: Vec<u64>,

@@ -9,7 +9,7 @@ use std::alloc::Global;
 use std::marker::Model;
 
 /// A sink in memory, some of whose writes fail.
-#[derive(Debug, Drop)]
+#[derive(Drop)]
 pub struct MemSink {
     written: Vec<u8>,
     fails: Vec<u64>,

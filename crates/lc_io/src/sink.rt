@@ -4,7 +4,7 @@ ghost use Rattle.lc_io.specs.Sink.{SinkSeen, written_after};
 ghost use Rattle.lc_io.specs.declared.sink.SinkFail.TheVariants.{Failed, NoMemory as OutOfMemory};
 
 /// Why a sink took nothing.
-#[derive(Clone, Copy, Debug, PartialEq, Eq)]
+#[derive(Clone, Copy, PartialEq, Eq)]
 pub enum SinkFail {
     Failed,
     NoMemory,

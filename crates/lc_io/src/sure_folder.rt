@@ -10,7 +10,7 @@ use std::alloc::Global;
 use std::marker::Model;
 
 /// A folder in memory, of which no read fails.
-#[derive(Debug, Drop)]
+#[derive(Drop)]
 pub struct SureFolder {
     files: Vec<File>,
     absences: u64,

@@ -8,7 +8,7 @@ use std::alloc::Global;
 use std::marker::Model;
 
 /// A sink in memory, of which no write fails.
-#[derive(Debug, Drop)]
+#[derive(Drop)]
 pub struct SureSink {
     written: Vec<u8>,
     wants: u64,

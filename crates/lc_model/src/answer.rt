@@ -2,7 +2,7 @@ use crate::{Journey, NoMemory, PlainData};
 use std::alloc::Global;
 
 /// What a question is answered.
-#[derive(Debug, Drop)]
+#[derive(Drop)]
 pub enum Answer {
     /// A best journey.
     Journey(Journey),

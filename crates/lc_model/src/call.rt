@@ -7,7 +7,7 @@ use std::marker::Model;
 
 /// A stop of a run: when it arrives there and departs, and whether one may board and alight. Delays are in seconds
 /// against the schedule.
-#[derive(Debug, PartialEq, Eq, Drop)]
+#[derive(PartialEq, Eq, Drop)]
 pub struct Call {
     pub stop: Id,
     pub seq: u32,
@@ -35,7 +35,7 @@ impl PlainData for Call {
 }
 
 /// The calls of a run. Their sequences rise strictly.
-#[derive(Debug, Drop)]
+#[derive(Drop)]
 pub struct Calls {
     items: Vec<Call>,
 }

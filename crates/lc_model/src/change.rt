@@ -5,7 +5,7 @@ use std::alloc::Global;
 
 /// A change between two stops, or at one stop, and the seconds that it takes, at least one
 /// (GTFS Schedule Reference, transfers.txt).
-#[derive(Debug, PartialEq, Eq, Drop)]
+#[derive(PartialEq, Eq, Drop)]
 pub struct Change {
     pub from: Id,
     pub to: Id,

@@ -8,7 +8,7 @@ use std::alloc::Global;
 use std::marker::Model;
 
 /// Changes, strictly ordered by the stop that one leaves and the stop that one reaches.
-#[derive(Debug, Drop)]
+#[derive(Drop)]
 pub struct Changes {
     items: Vec<Change>,
 }

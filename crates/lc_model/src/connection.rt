@@ -6,7 +6,7 @@ use std::alloc::Global;
 use std::marker::Model;
 
 /// A departure of a run and its next arrival. Delays are in seconds against the schedule.
-#[derive(Debug, PartialEq, Eq, Drop)]
+#[derive(PartialEq, Eq, Drop)]
 pub struct Connection {
     pub key: RunKey,
     /// The `stop_sequence` of the call of departure.
@@ -41,7 +41,7 @@ impl PlainData for Connection {
 }
 
 /// A list of connections, none of which arrives before it departs.
-#[derive(Debug, Drop)]
+#[derive(Drop)]
 pub struct Connections {
     items: Vec<Connection>,
 }

@@ -1,7 +1,7 @@
 ghost use Rattle.lc_model.specs.Calendar.{IsCivilDate};
 
 /// A date of the Gregorian calendar, of the years 1 to 9999, on which a service runs.
-#[derive(Clone, Copy, Debug, PartialEq, Eq, PartialOrd, Ord, Hash)]
+#[derive(Clone, Copy, PartialEq, Eq, PartialOrd, Ord, Hash)]
 pub struct ServiceDate {
     pub year: u16,
     pub month: u8,

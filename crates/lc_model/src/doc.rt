@@ -6,7 +6,7 @@ use std::alloc::Global;
 /// What a client knows of the timetable's places: the stops and the changes between them.
 ///
 /// Each parent of a stop and each end of a change is one of the stops.
-#[derive(Debug, Drop)]
+#[derive(Drop)]
 pub struct StopsDoc {
     pub stops: Stops,
     pub changes: Changes,

@@ -15,7 +15,7 @@ use std::rc::RcStr;
 /// The name of a stop, a trip or a service: a nonempty UTF-8 text. A contract sees its bytes.
 ///
 /// Ids are ordered by their bytes. A copy shares the text.
-#[derive(Debug, Drop)]
+#[derive(Drop)]
 pub struct Id {
     text: RcStr,
 }

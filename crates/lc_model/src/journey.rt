@@ -5,7 +5,7 @@ use std::alloc::Global;
 
 /// A journey: at least one ride, one after the other, with a walk before them or after them where the first does not
 /// board, or the last does not alight, at an end of the question.
-#[derive(Debug, Drop)]
+#[derive(Drop)]
 pub struct Journey {
     pub before: Option<Walk>,
     pub rides: Rides,

@@ -6,7 +6,7 @@ use std::alloc::Global;
 
 /// What names a run: its trip, its service date and, where the trip is repeated by a headway, its start in seconds of
 /// the service day, below 360,000 (100 hours).
-#[derive(Debug, PartialEq, Eq, PartialOrd, Ord, Drop)]
+#[derive(PartialEq, Eq, PartialOrd, Ord, Drop)]
 pub struct RunKey {
     pub trip: Id,
     pub date: ServiceDate,

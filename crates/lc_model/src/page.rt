@@ -1,7 +1,7 @@
 use crate::Moment;
 
 /// What names a page: the version of the timetable, and the moment from which it holds departures.
-#[derive(Clone, Copy, Debug, PartialEq, Eq)]
+#[derive(Clone, Copy, PartialEq, Eq)]
 pub struct PageName {
     pub version: Moment,
     pub departs: Moment,

@@ -12,7 +12,7 @@ pub const LAST_LEAVE: u64 = 253_400_831_999;
 
 /// A question: how to get from one stop to another, leaving at a moment or later and arriving within a horizon, by
 /// the timetable that was known at a moment, or the newest.
-#[derive(Debug, PartialEq, Eq, Drop)]
+#[derive(PartialEq, Eq, Drop)]
 pub struct Query {
     pub from: Id,
     pub to: Id,

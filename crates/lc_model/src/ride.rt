@@ -2,7 +2,7 @@ use crate::{Id, Items, Moment, NoMemory, PlainData, RunKey};
 use std::alloc::Global;
 
 /// A ride on one run, from the call of boarding to the call of alighting.
-#[derive(Debug, PartialEq, Eq, Drop)]
+#[derive(PartialEq, Eq, Drop)]
 pub struct Ride {
     pub key: RunKey,
     /// The sequence of the call of boarding.

@@ -11,7 +11,7 @@ use std::alloc::Global;
 use std::marker::Model;
 
 /// One journey of a vehicle on one service date.
-#[derive(Debug, Drop)]
+#[derive(Drop)]
 pub struct Run {
     pub key: RunKey,
     pub calls: Calls,
@@ -27,7 +27,7 @@ impl PlainData for Run {
 }
 
 /// The runs of a timetable, strictly ordered by their keys.
-#[derive(Debug, Drop)]
+#[derive(Drop)]
 pub struct Runs {
     items: Vec<Run>,
 }

@@ -11,7 +11,7 @@ use std::alloc::Global;
 use std::marker::Model;
 
 /// A stop, or a station where other stops name it as their parent (GTFS Schedule Reference, stops.txt).
-#[derive(Debug, Drop)]
+#[derive(Drop)]
 pub struct Stop {
     pub id: Id,
     pub name: Text,
@@ -29,7 +29,7 @@ impl PlainData for Stop {
 }
 
 /// Stops, strictly ordered by their ids.
-#[derive(Debug, Drop)]
+#[derive(Drop)]
 pub struct Stops {
     items: Vec<Stop>,
 }

@@ -2,7 +2,7 @@ use crate::{Id, NoMemory, PlainData};
 use std::alloc::Global;
 
 /// A walk at an end of a journey, by the change between two stops.
-#[derive(Debug, PartialEq, Eq, Drop)]
+#[derive(PartialEq, Eq, Drop)]
 pub struct Walk {
     pub from: Id,
     pub to: Id,

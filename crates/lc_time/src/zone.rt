@@ -2,7 +2,7 @@ use jiff_tz::{Tzif, posix};
 
 /// The rules of a place's clock. UTC, a rule as in the POSIX variable TZ, or the table of a file of the Time Zone Database
 /// (RFC 9636), which may end in such a rule.
-#[derive(Debug, Drop)]
+#[derive(Drop)]
 pub enum Zone {
     Utc,
     Posix(posix::TimeZone),

@@ -8,7 +8,7 @@ use std::marker::Model;
 
 /// An entity of a message: its id, and its news where it has some. A contract sees these. The news lie apart, since most of
 /// a hostile message's entities have none.
-#[derive(Debug, Drop)]
+#[derive(Drop)]
 pub struct EntityNews {
     id: Bytes,
     news: Option<Box<TripNews>>,

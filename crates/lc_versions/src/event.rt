@@ -1,5 +1,5 @@
 /// What a message says of the arrival or the departure at a stop (GTFS Realtime Reference, StopTimeEvent).
-#[derive(Clone, Copy, Debug, PartialEq, Eq)]
+#[derive(Clone, Copy, PartialEq, Eq)]
 pub struct Event {
     /// Seconds late, negative where early.
     pub delay: Option<i32>,
@@ -8,7 +8,7 @@ pub struct Event {
 }
 
 /// How the trip serves a stop (GTFS Realtime Reference, StopTimeUpdate.ScheduleRelationship).
-#[derive(Clone, Copy, Debug, PartialEq, Eq)]
+#[derive(Clone, Copy, PartialEq, Eq)]
 pub enum Relation {
     Scheduled,
     Skipped,
@@ -16,7 +16,7 @@ pub enum Relation {
 }
 
 /// What the news of a trip are (GTFS Realtime Reference, TripDescriptor.ScheduleRelationship).
-#[derive(Clone, Copy, Debug, PartialEq, Eq)]
+#[derive(Clone, Copy, PartialEq, Eq)]
 pub enum TripKind {
     /// Of a run of the timetable.
     Scheduled,

@@ -10,14 +10,14 @@ use std::marker::Model;
 /// The news of one stop of a trip, named by its sequence or its stop. A contract sees what is said. A message may say
 /// nothing of very many stops in two bytes each, so what is said beyond the sequence lies apart: without it the news take
 /// 24 bytes.
-#[derive(Debug, Drop)]
+#[derive(Drop)]
 pub struct StopNews {
     seq: Option<u32>,
     more: Option<Box<StopMore>>,
 }
 
 /// What is said of a stop besides its sequence.
-#[derive(Debug, Drop)]
+#[derive(Drop)]
 pub(crate) struct StopMore {
     pub(crate) stop: Option<Bytes>,
     pub(crate) relation: Relation,

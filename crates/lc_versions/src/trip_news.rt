@@ -4,7 +4,7 @@ use std::alloc::Global;
 use std::marker::Model;
 
 /// The news of one trip: which run it names, and the news of its stops. A contract sees what is said.
-#[derive(Debug, Drop)]
+#[derive(Drop)]
 pub struct TripNews {
     pub trip: Bytes,
     pub date: Option<ServiceDate>,

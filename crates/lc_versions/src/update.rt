@@ -4,7 +4,7 @@ use std::alloc::Global;
 
 /// What a message of GTFS Realtime says: its moment, whether it is the full state or what changed, its entities, and how many
 /// trip updates were passed over.
-#[derive(Debug, Drop)]
+#[derive(Drop)]
 pub struct Update {
     pub moment: Moment,
     pub full: bool,

@@ -4,14 +4,14 @@ ghost use Rattle.lc_world.specs.Door.{DoorSeen};
 ghost use Rattle.lc_world.specs.declared.door.DoorFail.TheVariants.{Failed};
 
 /// Why a door did not do what it was asked.
-#[derive(Clone, Copy, Debug, PartialEq, Eq)]
+#[derive(Clone, Copy, PartialEq, Eq)]
 pub enum DoorFail {
     Failed,
     NoMemory,
 }
 
 /// What came to a door.
-#[derive(Clone, Copy, Debug, PartialEq, Eq)]
+#[derive(Clone, Copy, PartialEq, Eq)]
 pub enum Next {
     /// A connection, which is the current one from now on.
     Connection,

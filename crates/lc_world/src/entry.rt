@@ -1,7 +1,7 @@
 use lc_model::{Bytes, Text};
 
 /// What a link tells of the reply to an exchange.
-#[derive(Debug, Drop)]
+#[derive(Drop)]
 pub enum ToldReply {
     /// It does not tell whether there was one.
     Hidden,
@@ -12,7 +12,7 @@ pub enum ToldReply {
 }
 
 /// An exchange that a link tells.
-#[derive(Debug, Drop)]
+#[derive(Drop)]
 pub struct Entry {
     /// Who was asked, as `host:port`.
     pub authority: Text,

@@ -9,7 +9,7 @@ use lc_model::NoMemory;
 use std::alloc::Global;
 
 /// Why a link gave no reply.
-#[derive(Clone, Copy, Debug, PartialEq, Eq)]
+#[derive(Clone, Copy, PartialEq, Eq)]
 pub enum LinkFail {
     Failed,
     NoMemory,

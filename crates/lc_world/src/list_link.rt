@@ -10,7 +10,7 @@ use std::alloc::Global;
 use std::marker::Model;
 
 /// A link that gives the replies of a list in order, whatever is asked, and fails after the last of them.
-#[derive(Debug, Drop)]
+#[derive(Drop)]
 pub struct ListLink {
     replies: Vec<Bytes>,
     given: usize,

@@ -5,7 +5,7 @@ use lc_model::Bytes;
 use std::marker::Model;
 
 /// The bytes that come on one connection, in the pieces in which they come. No piece is empty.
-#[derive(Debug, Drop)]
+#[derive(Drop)]
 pub struct Pieces {
     items: Vec<Bytes>,
 }

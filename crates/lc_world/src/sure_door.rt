@@ -10,7 +10,7 @@ use std::alloc::Global;
 use std::marker::Model;
 
 /// How far the current connection was read.
-#[derive(Clone, Copy, Debug)]
+#[derive(Clone, Copy)]
 struct Place {
     connection: usize,
     piece: usize,
@@ -18,7 +18,7 @@ struct Place {
 }
 
 /// A door in memory, of which no call fails. One read takes from one piece alone.
-#[derive(Debug, Drop)]
+#[derive(Drop)]
 pub struct SureDoor {
     alloc: Global,
     connections: Vec<Pieces>,

@@ -27,7 +27,7 @@ fn later(a: Moment, b: Moment) -> Moment
 }
 
 /// An arrival and a departure in range.
-#[derive(Clone, Copy, Debug)]
+#[derive(Clone, Copy)]
 pub(crate) struct Raised {
     pub(crate) arr: Moment,
     pub(crate) dep: Moment,

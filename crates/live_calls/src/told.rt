@@ -7,21 +7,21 @@ use lc_model::{Call, Moment};
 use lc_versions::{Event, Relation, StopNews};
 
 /// An arrival and a departure as they are told, in seconds since 1970, perhaps out of range.
-#[derive(Clone, Copy, Debug)]
+#[derive(Clone, Copy)]
 pub(crate) struct Times {
     pub(crate) arr: i128,
     pub(crate) dep: i128,
 }
 
 /// A moment as it is told, and how late that is.
-#[derive(Clone, Copy, Debug)]
+#[derive(Clone, Copy)]
 pub(crate) struct ToldMoment {
     pub(crate) time: i128,
     pub(crate) delay: i128,
 }
 
 /// What is told of a call, nothing where it is left out, and the delay behind it.
-#[derive(Clone, Copy, Debug)]
+#[derive(Clone, Copy)]
 pub(crate) struct Telling {
     pub(crate) times: Option<Times>,
     pub(crate) late: i128,

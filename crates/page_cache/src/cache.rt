@@ -12,7 +12,7 @@ use std::num::NonZeroUsize;
 pub const MOST_PAGES: usize = 10_000;
 
 /// What a page is kept by.
-#[derive(Clone, Copy, Debug, PartialEq, Eq, Hash)]
+#[derive(Clone, Copy, PartialEq, Eq, Hash)]
 struct Key {
     version: Moment,
     departs: Moment,

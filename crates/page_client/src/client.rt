@@ -16,7 +16,7 @@ use std::alloc::Global;
 
 /// A client of one question. It wants the reply of the time gate, then that of the stops document, then page after page, and
 /// is given them, one after the other, until it has its outcome.
-#[derive(Debug, Drop)]
+#[derive(Drop)]
 pub struct Client {
     query: Query,
     phase: Phase,

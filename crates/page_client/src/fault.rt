@@ -36,7 +36,7 @@ impl fmt::Display for QueryFault {
 impl Error for QueryFault {}
 
 /// The first test that a reply fails.
-#[derive(Debug, Drop)]
+#[derive(Drop)]
 pub enum PeerFault {
     /// It is no reply.
     Reply(ReplyFault),
@@ -67,6 +67,13 @@ impl fmt::Display for PeerFault {
             PeerFault::Advance => write!(f, "peer wrong advance"),
             PeerFault::GateWrong { .. } => write!(f, "peer wrong gate"),
         }
+    }
+}
+
+/// As it is printed: a page has no other form for people to read.
+impl fmt::Debug for PeerFault {
+    fn fmt<W: fmt::Write>(&self, f: &mut fmt::Formatter<W>) -> fmt::Result {
+        fmt::Display::fmt(self, f)
     }
 }
 

@@ -8,7 +8,7 @@ use page_json::Page;
 use std::alloc::Global;
 
 /// How a client ended.
-#[derive(Debug, Drop)]
+#[derive(Drop)]
 pub enum Outcome {
     /// With a best journey.
     Found(Journey),

@@ -1,7 +1,7 @@
 use lc_model::PageName;
 
 /// Where a client stands. It begins at the gate.
-#[derive(Clone, Copy, Debug, PartialEq, Eq)]
+#[derive(Clone, Copy, PartialEq, Eq)]
 pub enum Phase {
     /// It waits for the time gate.
     Gate,

@@ -12,7 +12,7 @@ use page_json::Page;
 use std::alloc::Global;
 
 /// What comes after a page.
-#[derive(Debug, Drop)]
+#[derive(Drop)]
 pub enum Step {
     /// The page of this name.
     Next(PageName),

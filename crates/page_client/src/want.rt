@@ -1,7 +1,7 @@
 use lc_model::PageName;
 
 /// What a client asks for next.
-#[derive(Clone, Copy, Debug, PartialEq, Eq)]
+#[derive(Clone, Copy, PartialEq, Eq)]
 pub enum Want {
     /// The time gate (RFC 7089), for the moment at which the question leaves.
     Gate,

@@ -16,7 +16,7 @@ use serde_json::Value;
 use std::alloc::Global;
 
 /// An arrival or a departure.
-#[derive(Debug, Drop)]
+#[derive(Drop)]
 pub struct End {
     pub delay: i64,
     pub stop: Id,

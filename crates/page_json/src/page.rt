@@ -2,7 +2,7 @@ use lc_model::{Connections, NoMemory, PageName, PlainData};
 use std::alloc::Global;
 
 /// A page of a version of the timetable: its connections, and its neighbours where it has them.
-#[derive(Debug, Drop)]
+#[derive(Drop)]
 pub struct Page {
     pub name: PageName,
     pub next: Option<PageName>,

@@ -4,7 +4,7 @@ ghost use Rattle.publisher.specs.Place.{place_behind, place_of};
 use lc_model::Moment;
 
 /// The cut at which a page begins, and the cuts before and behind it, where there are such.
-#[derive(Clone, Copy, Debug, PartialEq, Eq)]
+#[derive(Clone, Copy, PartialEq, Eq)]
 pub(crate) struct Place {
     pub(crate) previous: Option<Moment>,
     pub(crate) cut: Moment,

@@ -1,7 +1,7 @@
 use http_text::Allow;
 
 /// What a request asks a publisher for, by its path and its method.
-#[derive(Clone, Copy, Debug, PartialEq, Eq)]
+#[derive(Clone, Copy, PartialEq, Eq)]
 pub enum Asked {
     /// The time gate: the page for a moment, at the version that is chosen.
     Gate,

@@ -3,7 +3,7 @@ use lc_model::{Moment, PageName};
 use page_json::Page;
 
 /// What a publisher says to a request, before it is written as a reply.
-#[derive(Debug, Drop)]
+#[derive(Drop)]
 pub enum Response {
     /// A status alone.
     Status(u16),

@@ -1,5 +1,5 @@
 /// What is wrong with a field. Its place is the offset of the field's tag.
-#[derive(Clone, Copy, Debug, PartialEq, Eq)]
+#[derive(Clone, Copy, PartialEq, Eq)]
 pub enum WireFault {
     /// The bytes end within the field.
     Cut { place: usize },

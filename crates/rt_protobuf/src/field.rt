@@ -2,7 +2,7 @@
 pub const LAST_NUMBER: u64 = 536_870_911;
 
 /// One field of a message: its number, what it holds, and the place of the first byte behind it.
-#[derive(Clone, Copy, Debug, PartialEq, Eq)]
+#[derive(Clone, Copy, PartialEq, Eq)]
 pub struct Field {
     pub number: u32,
     pub value: Value,
@@ -10,7 +10,7 @@ pub struct Field {
 }
 
 /// What a field holds, by its wire type. Bytes are given by the places of the first of them and behind the last.
-#[derive(Clone, Copy, Debug, PartialEq, Eq)]
+#[derive(Clone, Copy, PartialEq, Eq)]
 pub enum Value {
     /// Wire type 0, with the bits above 64 dropped.
     Varint(u64),

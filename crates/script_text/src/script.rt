@@ -1,7 +1,7 @@
 use lc_model::{Items, Query, Text};
 
 /// What a record of a script says.
-#[derive(Debug, Drop)]
+#[derive(Drop)]
 pub enum Record {
     /// A new client asks this. It gets the next number, from 1 on.
     Ask(Query),

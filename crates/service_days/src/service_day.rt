@@ -7,7 +7,7 @@ use lc_model::{Id, Keyed, ServiceDate, items_of};
 use std::marker::Model;
 
 /// A date on which a service runs.
-#[derive(Debug, PartialEq, Eq, PartialOrd, Ord, Drop)]
+#[derive(PartialEq, Eq, PartialOrd, Ord, Drop)]
 pub struct ServiceDay {
     pub service: Id,
     pub date: ServiceDate,
@@ -23,7 +23,7 @@ impl Keyed for ServiceDay {
 }
 
 /// The dates of services, strictly ordered by service and date.
-#[derive(Debug, Drop)]
+#[derive(Drop)]
 pub struct Days {
     items: Vec<ServiceDay>,
 }

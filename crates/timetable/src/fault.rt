@@ -5,7 +5,7 @@ use gtfs_tables::What;
 use lc_model::{NoMemory, Text};
 
 /// Why there is no timetable.
-#[derive(Debug, Drop)]
+#[derive(Drop)]
 pub enum LoadFault {
     /// The first rule that is broken, the file, and the row that breaks it, counted from 1; row 0 stands for the file. By rule 15
     /// the word says no zone, and stands in the place of the file.

@@ -1,7 +1,7 @@
 use lc_model::{ServiceDate, Text};
 
 /// What is asked of a feed.
-#[derive(Debug, Drop)]
+#[derive(Drop)]
 pub struct Scope {
     /// The name of the feed's folder.
     pub feed: Text,

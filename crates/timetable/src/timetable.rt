@@ -4,7 +4,7 @@ use lc_model::{Runs, StopsDoc};
 use lc_time::Zone;
 
 /// The timetable of a feed in a window.
-#[derive(Debug, Drop)]
+#[derive(Drop)]
 pub struct Timetable {
     /// The zone of the feed.
     pub zone: Zone,

@@ -1,5 +1,5 @@
 /// Why no zone was found.
-#[derive(Clone, Copy, Debug)]
+#[derive(Clone, Copy)]
 pub(crate) enum ZoneEnd {
     /// The word says none.
     Wrong,

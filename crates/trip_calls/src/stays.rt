@@ -8,7 +8,7 @@ use lc_model::NoMemory;
 use std::alloc::Global;
 
 /// When a trip arrives at a stop and departs, in seconds of a service day.
-#[derive(Clone, Copy, Debug, PartialEq, Eq)]
+#[derive(Clone, Copy, PartialEq, Eq)]
 pub(crate) struct Stay {
     pub(crate) arr: u32,
     pub(crate) dep: u32,

@@ -14,7 +14,7 @@ use rt_protobuf::{Field, Value, next_field};
 use std::alloc::Global;
 
 /// What an entity says: its id and its news, whether it is deleted, and whether it has a trip update that is passed over.
-#[derive(Debug, Drop)]
+#[derive(Drop)]
 pub(crate) struct Entity {
     pub(crate) news: EntityNews,
     pub(crate) deleted: bool,

@@ -19,7 +19,7 @@ use rt_protobuf::{Field, Value, next_field};
 use std::alloc::{AllocError, Global};
 
 /// What a trip update says.
-#[derive(Debug, Drop)]
+#[derive(Drop)]
 pub(crate) enum TripSaid {
     /// It is passed over: it names no trip, or its relationship, date or start is not read.
     Passed,

@@ -18,7 +18,7 @@ pub const MOST_MESSAGES: usize = 10_000;
 pub const MOST_BYTES: usize = 268_435_456;
 
 /// A message that was admitted: its moment, which is the new version, and how many of its trip updates were passed over.
-#[derive(Clone, Copy, Debug, PartialEq, Eq)]
+#[derive(Clone, Copy, PartialEq, Eq)]
 pub struct Admitted {
     pub moment: Moment,
     pub passed: u32,

@@ -6,7 +6,7 @@ use lc_model::ServiceDate;
 use lc_versions::TripNews;
 
 /// News of a trip, and the date of its run.
-#[derive(Clone, Copy, Debug)]
+#[derive(Clone, Copy)]
 pub(crate) struct DatedNews<'a> {
     pub(crate) news: &'a TripNews,
     pub(crate) date: ServiceDate,

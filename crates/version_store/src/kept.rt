@@ -20,7 +20,7 @@ use std::alloc::Global;
 use std::collections::BTreeSet;
 
 /// An entity of a message, the date of the message, and whether the entity takes the place of those of its id.
-#[derive(Clone, Copy, Debug)]
+#[derive(Clone, Copy)]
 pub(crate) struct Marked<'a> {
     pub(crate) entity: &'a EntityNews,
     pub(crate) date: ServiceDate,

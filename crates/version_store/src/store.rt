@@ -11,7 +11,7 @@ use std::alloc::Global;
 use std::marker::Model;
 
 /// A message that was admitted, and how many bytes it has.
-#[derive(Debug, Drop)]
+#[derive(Drop)]
 pub(crate) struct Admission {
     pub(crate) update: Update,
     pub(crate) bytes: usize,
@@ -19,7 +19,7 @@ pub(crate) struct Admission {
 
 /// A timetable and the messages that were admitted. Its versions are the base and one behind each message. A contract sees
 /// the runs and the stops of the feed, the zone, the moment of the base and the history without cuts.
-#[derive(Debug, Drop)]
+#[derive(Drop)]
 pub struct Store {
     pub(crate) runs: Runs,
     pub(crate) stops: Stops,
