@@ -5,8 +5,8 @@ use Rattle.gtfs_tables.specs.Reading.{Keeps}
 use Rattle.lc_io.specs.Counts.{Rose}
 use Rattle.lc_io.specs.Folder.{FolderSeen}
 use Rattle.lc_io.specs.declared.folder.FolderFail.TheVariants.{Absent, Failed}
-use Rattle.laws_course.specs.declared.event.Event.{Event}
-use Rattle.laws_course.specs.declared.event.Event.TheVariants as events
+use Rattle.laws_replay.specs.declared.event.Event.{Event}
+use Rattle.laws_replay.specs.declared.event.Event.TheVariants as events
 use Rattle.script_text.specs.Reading.{HasFault, SaysScript}
 use Rattle.script_text.specs.declared.fault.ScriptFault.TheVariants.{Wrong}
 use Rattle.script_text.specs.declared.script.Record.{Record}

@@ -1,5 +1,5 @@
 //! What a command reads: the timetable of its feed, a realtime message, and a script with the messages that it names; or why it is refused.
-//! It stands on `timetable`, `script_text` and `laws_course`.
+//! It stands on `timetable`, `script_text` and `laws_replay`.
 #![tactic(auto)]
 
 mod inputs;

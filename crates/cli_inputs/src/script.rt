@@ -2,14 +2,14 @@ ghost use Rattle.std.specs.Prelude.{◌≡◌, IfErr, IfOk, length, ◌<◌, ◌
 ghost use Rattle.cli_inputs.specs.Inputs.{ReadsFile};
 ghost use Rattle.cli_inputs.specs.Script.{IsEventOf, IsRefusedAt, IsReplayRefused, ReadsEvents, ReadsReplay, ReadsScript, StopsAt, IsMessageOf, IsNone};
 ghost use Rattle.gtfs_tables.specs.Reading.{Keeps};
-ghost use Rattle.laws_course.specs.Events.{TurnsAreOfClients};
+ghost use Rattle.laws_replay.specs.Events.{TurnsAreOfClients};
 ghost use Rattle.script_text.specs.Script.{TurnsAreOfClients as AreOfClients};
 ghost use Rattle.timetable.specs.Scope.{IsWindow};
 ghost use Rattle.timetable.specs.declared.scope.Scope.{Scope as Scoped};
 
 use crate::Refusal;
 use cli_ask::MessageFault;
-use laws_course::{Event, Message, test_message};
+use laws_replay::{Event, Message, test_message};
 use lc_model::{Bytes, NoMemory, PlainData, Text};
 use lc_world::{File, Folder, FolderFail};
 use script_text::{Record, Script, ScriptFault, read_script};

@@ -8,7 +8,7 @@ use Rattle.lc_io.specs.declared.file.File.{File}
 use Rattle.lc_world.specs.Link.{LinkSeen}
 use Rattle.publisher.specs.Held.{Held, side_of}
 use Rattle.publisher_spec.specs.Side.{IsValidSide}
-use Rattle.laws_course.specs.Played.{IsGiven}
+use Rattle.laws_replay.specs.Played.{IsGiven}
 use Rattle.cli_replay.specs.Home.{home_seen}
 
 -- a link at home whose publisher has become another one

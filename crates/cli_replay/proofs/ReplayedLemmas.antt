@@ -9,10 +9,10 @@ use Rattle.lc_edge.specs.HomeLink.{HomeLinkState}
 use Rattle.lc_world.specs.Link.{LinkSeen}
 use Rattle.publisher.specs.Held.{Held, side_of}
 use Rattle.publisher_spec.specs.Side.{IsValidSide}
-use Rattle.laws_replays.specs.Laws.{IsQuietAt, PlaysCaused, PlaysRight}
-use Rattle.laws_course.specs.Events.{TurnsAreOfClients}
-use Rattle.laws_course.specs.Replayed.{IsReplayed}
-use Rattle.laws_course.specs.declared.event.Event.{Event}
+use Rattle.laws_replay.specs.Laws.{IsQuietAt, PlaysCaused, PlaysRight}
+use Rattle.laws_replay.specs.Events.{TurnsAreOfClients}
+use Rattle.laws_replay.specs.Replayed.{IsReplayed}
+use Rattle.laws_replay.specs.declared.event.Event.{Event}
 use Rattle.timetable.specs.declared.timetable.Timetable.{Timetable}
 use Rattle.cli_replay.specs.Course.{IsPlayed}
 use Rattle.cli_replay.specs.Home.{home_seen}

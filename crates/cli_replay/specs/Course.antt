@@ -5,9 +5,9 @@ use Rattle.connection_uri.specs.Base.{BaseParts}
 use Rattle.convoy.specs.Finish.{Rounds}
 use Rattle.convoy.specs.State.{ConvoyState, begun}
 use Rattle.lc_world.specs.Link.{LinkSeen}
-use Rattle.laws_course.specs.Played.{HaveEndedSo, Plays}
-use Rattle.laws_course.specs.Replayed.{clients_text_of}
-use Rattle.laws_course.specs.declared.event.Event.{Event}
+use Rattle.laws_replay.specs.Played.{HaveEndedSo, Plays}
+use Rattle.laws_replay.specs.Replayed.{clients_text_of}
+use Rattle.laws_replay.specs.declared.event.Event.{Event}
 
 -- the events were played by clients under the base with a cache of so many pages, each client was turned until it ended, and this is printed
 pub record IsPlayed {X : Type 0} (seen : X → LinkSeen) (base : BaseParts) (all : List Event) (cache : ℕ) (before after : X) (text : List ℕ) (ends : List ClientEnd) : Type 0 where

@@ -1,8 +1,8 @@
 -- When an event may happen.
 use Rattle.std.specs.Prelude.{ℕ}
 use Rattle.script_text.specs.Script.{IsClient}
-use Rattle.laws_course.specs.declared.event.Event.{Event}
-use Rattle.laws_course.specs.declared.event.Event.TheVariants as events
+use Rattle.laws_replay.specs.declared.event.Event.{Event}
+use Rattle.laws_replay.specs.declared.event.Event.TheVariants as events
 
 -- a turn is one of so many clients
 abbrev pub MayHappen : ℕ → Event → Type 0

@@ -1,5 +1,5 @@
 ghost use Rattle.std.specs.Prelude.{◌≤◌, IfOk};
-ghost use Rattle.laws_course.specs.Events.{TurnsAreOfClients};
+ghost use Rattle.laws_replay.specs.Events.{TurnsAreOfClients};
 ghost use Rattle.cli_replay.specs.Course.{IsPlayed};
 ghost use Rattle.cli_replay.specs.Home.{home_seen};
 
@@ -10,8 +10,7 @@ use crate::text::text_of;
 use connection_uri::Base;
 use convoy::Convoy;
 use fragmenter::Cutting;
-use laws_course::Event;
-use laws_replays::courses_are_caused;
+use laws_replay::{Event, courses_are_caused};
 use lc_edge::HomeLink;
 use lc_model::NoMemory;
 use lc_world::Link;

@@ -1,13 +1,13 @@
 ghost use Rattle.std.specs.Prelude.{◌≡◌, [], ◌∷◌, length, IfOk};
-ghost use Rattle.laws_course.specs.Events.{TurnsAreOfClients};
-ghost use Rattle.laws_course.specs.Played.{Plays};
+ghost use Rattle.laws_replay.specs.Events.{TurnsAreOfClients};
+ghost use Rattle.laws_replay.specs.Played.{Plays};
 ghost use Rattle.cli_replay.specs.Home.{home_seen};
 ghost use Rattle.cli_replay.specs.Turns.{MayHappen};
 
 use crate::hearing::hear;
 use convoy::Convoy;
 use fragmenter::Cutting;
-use laws_course::Event;
+use laws_replay::Event;
 use lc_edge::HomeLink;
 use lc_model::NoMemory;
 use lc_world::Link;

@@ -3,12 +3,12 @@ ghost use Rattle.cli_ask.specs.Admission.{IsBehind};
 ghost use Rattle.fragmenter.specs.Cutting.{chosen_cuts};
 ghost use Rattle.publisher.specs.Held.{side_of};
 ghost use Rattle.publisher_spec.specs.Side.{IsValidSide};
-ghost use Rattle.laws_course.specs.Played.{IsGiven};
+ghost use Rattle.laws_replay.specs.Played.{IsGiven};
 ghost use Rattle.cli_replay.specs.Home.{home_seen};
 
 use cli_ask::{MessageFault, give};
 use fragmenter::Cutting;
-use laws_course::Message;
+use laws_replay::Message;
 use lc_edge::HomeLink;
 use lc_model::NoMemory;
 use lc_world::Link;

@@ -1,16 +1,15 @@
 ghost use Rattle.std.specs.Prelude.{◌≡◌, [], ◌≤◌, IfOk, OnOk};
 ghost use Rattle.cli_ask.specs.Publishing.{held_with, side_with, store_of};
 ghost use Rattle.publisher_spec.specs.Side.{IsValidSide};
-ghost use Rattle.laws_course.specs.Events.{TurnsAreOfClients};
-ghost use Rattle.laws_course.specs.Replayed.{IsReplayed};
+ghost use Rattle.laws_replay.specs.Events.{TurnsAreOfClients};
+ghost use Rattle.laws_replay.specs.Replayed.{IsReplayed};
 
 use crate::course::play_out;
 use cli_ask::{ClientEnd, copy_of, publisher_of};
 use cli_words::Publishing;
 use connection_uri::Base;
 use fragmenter::Cutting;
-use laws_course::Event;
-use laws_replays::{courses_are_caused, courses_are_right};
+use laws_replay::{Event, courses_are_caused, courses_are_right};
 use lc_edge::{HomeLink, LocalLink};
 use lc_model::NoMemory;
 use lc_world::Link;

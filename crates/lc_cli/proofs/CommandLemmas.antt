@@ -12,8 +12,8 @@ use Rattle.cli_words.specs.declared.command.Replay.{Replay}
 use Rattle.lc_io.specs.Folder.{FolderSeen}
 use Rattle.lc_io.specs.declared.file.File.{File}
 use Rattle.lc_world.specs.Link.{LinkSeen}
-use Rattle.laws_course.specs.Replayed.{IsReplayed}
-use Rattle.laws_course.specs.declared.event.Event.{Event}
+use Rattle.laws_replay.specs.Replayed.{IsReplayed}
+use Rattle.laws_replay.specs.declared.event.Event.{Event}
 use Rattle.timetable.specs.declared.timetable.Timetable.{Timetable}
 use Rattle.lc_cli.specs.Command.{IsAskBlock, IsRefusedAs, IsReplayBlock, IsRightBlock, IsRightRefusal, Prints, ask_scope, replay_scope}
 use Rattle.lc_cli.specs.declared.block.Block.{Block}

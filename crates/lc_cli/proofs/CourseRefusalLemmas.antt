@@ -11,8 +11,8 @@ use Rattle.gtfs_tables.specs.declared.what.What.TheVariants as what
 use Rattle.lc_io.specs.Counts.{Rose}
 use Rattle.lc_io.specs.Folder.{FolderSeen, bytes_named}
 use Rattle.lc_io.specs.declared.file.File.{File}
-use Rattle.laws_course.specs.declared.event.Event.{Event}
-use Rattle.laws_course.specs.declared.message.Message.{Message}
+use Rattle.laws_replay.specs.declared.event.Event.{Event}
+use Rattle.laws_replay.specs.declared.message.Message.{Message}
 use Rattle.script_text.specs.Laws.{NeverBoth, OneFault, OneScript}
 use Rattle.script_text.specs.Reading.{HasFault}
 use Rattle.script_text.specs.declared.fault.ScriptFault.TheVariants.{Wrong}

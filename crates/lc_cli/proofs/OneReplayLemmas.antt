@@ -12,13 +12,13 @@ use Rattle.lc_model.specs.declared.query.Query.{Query}
 use Rattle.lc_world.specs.Link.{LinkSeen}
 use Rattle.page_client.specs.declared.outcome.Outcome.{Outcome}
 use Rattle.page_client.specs.declared.outcome.Outcome.TheVariants as outcomes
-use Rattle.laws_course.specs.Events.{TurnsAreOfClients, questions_in}
-use Rattle.laws_course.specs.Laws.{IsPlayedOut, OneCourse}
-use Rattle.laws_course.specs.Message.{IsMessageText}
-use Rattle.laws_course.specs.Replayed.{clients_text_of}
-use Rattle.laws_course.specs.declared.event.Event.{Event}
-use Rattle.laws_course.specs.declared.event.Event.TheVariants as events
-use Rattle.laws_course.specs.declared.message.Message.{Message}
+use Rattle.laws_replay.specs.Events.{TurnsAreOfClients, questions_in}
+use Rattle.laws_replay.specs.OneCourse.{IsPlayedOut, OneCourse}
+use Rattle.laws_replay.specs.Message.{IsMessageText}
+use Rattle.laws_replay.specs.Replayed.{clients_text_of}
+use Rattle.laws_replay.specs.declared.event.Event.{Event}
+use Rattle.laws_replay.specs.declared.event.Event.TheVariants as events
+use Rattle.laws_replay.specs.declared.message.Message.{Message}
 use Rattle.script_text.specs.Laws.{OneScript}
 use Rattle.script_text.specs.Reading.{SaysScript}
 use Rattle.script_text.specs.Script.{IsClient, SayRecords, clients_of}

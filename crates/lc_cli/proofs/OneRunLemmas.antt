@@ -13,7 +13,7 @@ use Rattle.lc_io.specs.declared.file.File.{File}
 use Rattle.lc_model.specs.declared.doc.StopsDoc.{StopsDoc}
 use Rattle.lc_model.specs.declared.run.Run.{Run}
 use Rattle.lc_world.specs.Link.{LinkSeen}
-use Rattle.laws_course.specs.Laws.{OneCourse}
+use Rattle.laws_replay.specs.OneCourse.{OneCourse}
 use Rattle.script_text.specs.Laws.{OneScript}
 use Rattle.timetable.specs.Laws.{AreSame, LoadsTold, OneTimetable}
 use Rattle.timetable.specs.declared.timetable.Timetable.{Timetable}

@@ -20,8 +20,8 @@ use Rattle.lc_world.specs.Link.{LinkSeen}
 use Rattle.page_client.specs.declared.fault.QueryFault.{QueryFault}
 use Rattle.page_client.specs.declared.outcome.Outcome.{Outcome}
 use Rattle.page_client.specs.declared.outcome.Outcome.TheVariants as outcomes
-use Rattle.laws_course.specs.Laws.{OneCourse}
-use Rattle.laws_course.specs.declared.event.Event.{Event}
+use Rattle.laws_replay.specs.OneCourse.{OneCourse}
+use Rattle.laws_replay.specs.declared.event.Event.{Event}
 use Rattle.script_text.specs.Laws.{NeverBoth, OneFault, OneScript}
 use Rattle.timetable.specs.Laws.{AreSameEnds, IsOfFiles, LoadsTold, OneEnd, OneTimetable}
 use Rattle.timetable.specs.Loading.{Loads, LoadsSo}

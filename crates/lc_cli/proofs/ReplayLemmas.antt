@@ -21,11 +21,11 @@ use Rattle.page_client.specs.declared.outcome.Outcome.{Outcome}
 use Rattle.page_client.specs.declared.outcome.Outcome.TheVariants as outcomes
 use Rattle.page_client.specs.declared.want.Want.{Want}
 use Rattle.publisher_spec.specs.Side.{Side}
-use Rattle.laws_course.specs.Events.{questions_in}
-use Rattle.laws_course.specs.Replayed.{IsReplayed}
-use Rattle.laws_course.specs.declared.event.Event.{Event}
-use Rattle.laws_course.specs.declared.event.Event.TheVariants as events
-use Rattle.laws_course.specs.declared.message.Message.{Message}
+use Rattle.laws_replay.specs.Events.{questions_in}
+use Rattle.laws_replay.specs.Replayed.{IsReplayed}
+use Rattle.laws_replay.specs.declared.event.Event.{Event}
+use Rattle.laws_replay.specs.declared.event.Event.TheVariants as events
+use Rattle.laws_replay.specs.declared.message.Message.{Message}
 use Rattle.script_text.specs.Laws.{NeverBoth, OneScript}
 use Rattle.script_text.specs.Reading.{HasFault, SaysScript}
 use Rattle.script_text.specs.declared.fault.ScriptFault.TheVariants.{Wrong}

@@ -13,9 +13,9 @@ use Rattle.lc_io.specs.declared.file.File.{File}
 use Rattle.lc_world.specs.Link.{LinkSeen}
 use Rattle.publisher_spec.specs.Short.{IsShort}
 use Rattle.publisher_spec.specs.Side.{Side}
-use Rattle.laws_course.specs.Versions.{AreShort}
-use Rattle.laws_course.specs.declared.event.Event.{Event}
-use Rattle.laws_course.specs.declared.event.Event.TheVariants as events
+use Rattle.laws_replay.specs.Versions.{AreShort}
+use Rattle.laws_replay.specs.declared.event.Event.{Event}
+use Rattle.laws_replay.specs.declared.event.Event.TheVariants as events
 use Rattle.script_text.specs.Reading.{SaysScript}
 use Rattle.script_text.specs.declared.script.Record.{Record}
 use Rattle.script_text.specs.declared.script.Record.TheVariants as records

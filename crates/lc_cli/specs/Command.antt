@@ -11,8 +11,8 @@ use Rattle.cli_words.specs.declared.command.Command.TheVariants as commands
 use Rattle.lc_io.specs.Folder.{FolderSeen}
 use Rattle.lc_io.specs.declared.file.File.{File}
 use Rattle.lc_world.specs.Link.{LinkSeen}
-use Rattle.laws_course.specs.Replayed.{IsReplayed}
-use Rattle.laws_course.specs.declared.event.Event.{Event}
+use Rattle.laws_replay.specs.Replayed.{IsReplayed}
+use Rattle.laws_replay.specs.declared.event.Event.{Event}
 use Rattle.timetable.specs.Loading.{Loads}
 use Rattle.timetable.specs.declared.fault.LoadFault.TheVariants as fault
 use Rattle.timetable.specs.declared.scope.Scope.{Scope}

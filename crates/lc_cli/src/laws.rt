@@ -2,7 +2,7 @@ ghost use Rattle.lc_cli.specs.Laws.{DoneIsClear, DoneIsPrinted, OneRun, OneStatu
 
 use cli_ask::one_output;
 use cli_words::one_command;
-use laws_replays::one_course;
+use laws_replay::one_course;
 use lc_world::Link;
 use script_text::one_script;
 use timetable::{one_end, one_timetable};

@@ -3,8 +3,8 @@ use Rattle.std.specs.List.{All}
 use Rattle.cli_ask.specs.Block.{IsPrintable}
 use Rattle.cli_ask.specs.declared.end.ClientEnd.{ClientEnd}
 use Rattle.convoy.specs.State.{ConvoyState}
-use Rattle.laws_course.specs.Played.{Plays}
-use Rattle.laws_course.specs.Replayed.{clients_text_of}
+use Rattle.laws_replay.specs.Played.{Plays}
+use Rattle.laws_replay.specs.Replayed.{clients_text_of}
 use Rattle.cli_replay.specs.Home.{home_seen}
 use Rattle.cli_replay.proofs.course.play_out.Goals as goal
 

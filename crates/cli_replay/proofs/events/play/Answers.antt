@@ -2,9 +2,9 @@ use Rattle.std.proofs.Common.{◌≡◌, ◌∙◌, ◌++◌, ◌∷◌, ℕ, []
 use Rattle.std.proofs.lemmas.Iterator.Adapters.{YieldsList-from_vec}
 use Rattle.std.proofs.lemmas.Iterator.Consumers.{YieldsList-end, YieldsList-so_far, YieldsList-turn}
 use Rattle.convoy.specs.declared.member.Member.{Member}
-use Rattle.laws_course.specs.Events.{questions_in}
-use Rattle.laws_course.specs.Played.{Plays}
-use Rattle.laws_course.specs.declared.event.Event.{Event}
+use Rattle.laws_replay.specs.Events.{questions_in}
+use Rattle.laws_replay.specs.Played.{Plays}
+use Rattle.laws_replay.specs.declared.event.Event.{Event}
 use Rattle.cli_replay.specs.Home.{home_seen}
 use Rattle.cli_replay.proofs.PlayedLemmas.{clients, may_happen, parts, plays_on}
 use Rattle.cli_replay.proofs.events.play.Goals as goal

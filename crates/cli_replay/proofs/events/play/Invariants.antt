@@ -1,4 +1,4 @@
-use Rattle.laws_course.specs.Played.{Plays}
+use Rattle.laws_replay.specs.Played.{Plays}
 use Rattle.cli_replay.specs.Home.{home_seen}
 use Rattle.cli_replay.proofs.events.play.Given as goal
 

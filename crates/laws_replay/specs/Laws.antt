@@ -1,0 +1,71 @@
+-- What courses come to that were played over a link. X is the type of the link, and `seen` what is promised of it.
+use Rattle.std.specs.Prelude.{◌≡◌, ◌≤◌, ℕ, ◌+◌, List, Option, Some, length, slice_get}
+use Rattle.std.specs.List.{All}
+use Rattle.cli_words.specs.declared.command.Publishing.{Publishing}
+use Rattle.laws_replies.specs.Met.{HasFailedBetween, Met}
+use Rattle.connection_uri.specs.Base.{BaseParts}
+use Rattle.convoy.specs.Finish.{Rounds}
+use Rattle.convoy.specs.State.{ConvoyState, begun}
+use Rattle.laws_convoys.specs.Names.{Round}
+use Rattle.lc_model.specs.declared.query.Query.{Query}
+use Rattle.lc_world.specs.Link.{LinkSeen}
+use Rattle.lc_world.specs.declared.entry.Entry.{Entry}
+use Rattle.page_client.specs.declared.outcome.Outcome.TheVariants.{LinkFault}
+use Rattle.publisher_spec.specs.Side.{IsValidSide}
+use Rattle.timetable.specs.declared.timetable.Timetable.{Timetable}
+use Rattle.cli_ask.specs.Block.{IsPrintable}
+use Rattle.cli_ask.specs.Publishing.{side_with, store_of}
+use Rattle.cli_ask.specs.declared.end.ClientEnd.{ClientEnd}
+use Rattle.laws_replay.specs.Caused.{AreCaused}
+use Rattle.laws_replay.specs.Events.{TurnsAreOfClients, questions_in}
+use Rattle.laws_replay.specs.History.{AreMetIn}
+use Rattle.laws_replay.specs.Played.{HaveEndedSo, Plays}
+use Rattle.laws_replay.specs.Right.{ArePlayedRight}
+use Rattle.laws_replay.specs.Turns.{order_of}
+use Rattle.laws_replay.specs.Versions.{AreShort, HaveLines}
+use Rattle.laws_replay.specs.declared.event.Event.{Event}
+use Rattle.laws_replay.specs.Rounds.{all_rounds}
+
+-- the link has the publisher of the timetable at its other end, which has heard nothing, and is quiet with it
+pub record IsQuietAt (made : Timetable) (publishing : Publishing) (link : LinkSeen) : Type 0 where
+  pub tells : link.side ≡ Some (side_with made publishing (store_of made publishing.base_moment))
+  pub valid : IsValidSide (side_with made publishing (store_of made publishing.base_moment))
+  pub honest : link.honest publishing.base
+  pub quiet : link.quiet publishing.base
+
+-- a course that was played over a quiet link was played rightly, by what was met in its rounds
+abbrev pub PlaysRight : {X : Type 0} → (X → LinkSeen) → Type 0
+PlaysRight {X} seen =
+    (made : Timetable) (publishing : Publishing) (all : List Event) (cache : ℕ) (played ended : ConvoyState) (start behind after : X) (lines : List ℕ) (ends : List ClientEnd) (met : List Met)
+    → TurnsAreOfClients all → IsQuietAt made publishing (seen start) → AreShort made publishing all
+    → (plays : Plays seen all (begun publishing.base cache) played start behind lines) → (rounds : Rounds seen (length played.members) played ended behind after)
+    → HaveEndedSo ended.members ends → AreMetIn (order_of all) (all_rounds seen all (begun publishing.base cache) played ended start behind after lines plays rounds) met
+    → ArePlayedRight made publishing all cache (seen start).told (seen after).told (seen start).faults (seen after).faults lines ends met
+
+-- Each message has its line. There is one end for each question, which has its cause, by what was met in these rounds, and can be printed. A
+-- clear link is clear still, and its count has not fallen.
+pub record ArePlayedCaused (base : BaseParts) (all : List Event) (before after : LinkSeen) (lines : List ℕ) (ends : List ClientEnd) (rounds : List Round) : Type 0 where
+  pub have_lines : HaveLines all lines
+  pub one_each : length ends ≡ length (questions_in all)
+  pub caused : AreCaused base all before.told after.told before.faults after.faults ends
+  pub met_in : AreMetIn (order_of all) rounds caused.met
+  pub printable : All (λ (end : ClientEnd). IsPrintable end.outcome) ends
+  pub clear : before.clear → after.clear
+  pub not_fallen : before.faults ≤ after.faults
+
+-- and so of a course over any link
+abbrev pub PlaysCaused : {X : Type 0} → (X → LinkSeen) → Type 0
+PlaysCaused {X} seen =
+    (base : BaseParts) (all : List Event) (cache : ℕ) (played ended : ConvoyState) (start behind after : X) (lines : List ℕ) (ends : List ClientEnd)
+    → TurnsAreOfClients all → (plays : Plays seen all (begun base cache) played start behind lines) → (rounds : Rounds seen (length played.members) played ended behind after)
+    → HaveEndedSo ended.members ends
+    → ArePlayedCaused base all (seen start) (seen after) lines ends (all_rounds seen all (begun base cache) played ended start behind after lines plays rounds)
+
+-- Over a clear link an exchange that failed ended its client, and no other, with the counts of the link before and behind it.
+abbrev pub FaultsAreOwn : Type 0
+FaultsAreOwn =
+    (made : Timetable) (publishing : Publishing) (all : List Event) (cache : ℕ) (told now_told : Option (List Entry)) (faults now_faults : ℕ) (lines : List ℕ) (ends : List ClientEnd)
+    → (caused : AreCaused publishing.base all told now_told faults now_faults ends)
+    → ArePlayedRight made publishing all cache told now_told faults now_faults lines ends caused.met
+    → (place : ℕ) (query : Query) (end : ClientEnd) → slice_get (questions_in all) place ≡ Some query → slice_get ends place ≡ Some end
+    → (low high : ℕ) → HasFailedBetween (place + 1) low high caused.met → end.outcome ≡ LinkFault low high

@@ -1,0 +1,12 @@
+pub mod Caused
+pub mod Events
+pub mod History
+pub mod Laws
+pub mod Message
+pub mod OneCourse
+pub mod Played
+pub mod Replayed
+pub mod Right
+pub mod Rounds
+pub mod Turns
+pub mod Versions

@@ -1,0 +1,68 @@
+-- How the clients of a course end rightly by the publisher's side, where the replies come as it gave them.
+use Rattle.std.specs.Prelude.{◌≡◌, ℕ, ◌+◌, List, [], ◌∷◌, ◌++◌, Option, Some, length, slice_get}
+use Rattle.laws_clients.specs.Fits.{HasEnded}
+use Rattle.laws_clients.specs.Wants.{AreWants}
+use Rattle.laws_replies.specs.Met.{Met}
+use Rattle.cli_words.specs.declared.command.Publishing.{Publishing}
+use Rattle.laws_convoys.specs.Names.{AskByNames, Round, failures_in}
+use Rattle.laws_convoys.specs.Requests.{TellsRequests}
+use Rattle.lc_io.specs.Counts.{RoseBy}
+use Rattle.lc_model.specs.declared.query.Query.{Query}
+use Rattle.lc_world.specs.declared.entry.Entry.{Entry}
+use Rattle.page_client.specs.declared.outcome.Outcome.{Outcome}
+use Rattle.page_client.specs.declared.outcome.Outcome.TheVariants as outcomes
+use Rattle.page_client.specs.declared.want.Want.{Want}
+use Rattle.page_client.specs.declared.want.Want.TheVariants as wants
+use Rattle.publisher_spec.specs.Side.{Side}
+use Rattle.timetable.specs.declared.timetable.Timetable.{Timetable}
+use Rattle.version_store.specs.Store.{Stored}
+use Rattle.cli_ask.specs.Client.{shown_of}
+use Rattle.cli_ask.specs.Publishing.{side_with, store_of}
+use Rattle.cli_ask.specs.declared.end.ClientEnd.{ClientEnd}
+use Rattle.laws_replay.specs.Events.{questions_in}
+use Rattle.laws_replay.specs.History.{AreMetIn}
+use Rattle.laws_replay.specs.Turns.{EndByFailure, TakeOneEach, asked_in, failed_in, given_in, order_of, requests_in, rounds_of}
+use Rattle.laws_replay.specs.Versions.{HasHeard, IsMeant}
+use Rattle.laws_replay.specs.declared.event.Event.{Event}
+
+-- one exchange failed: that for what stands behind all that was given, at the gate where that is nothing
+pub record FailsAtNext (side : Side) (query : Query) (version : Option ℕ) (given failed : List Want) : Type 0 where
+  pub want : Want
+  pub one : failed ≡ want ∷ []
+  pub gate : given ≡ [] → want ≡ wants.Gate
+  pub next : (at : ℕ) (all : List Want) → version ≡ Some at → AreWants side at query all → (more : List Want) × (all ≡ given ++ want ∷ more)
+
+-- what was asked for in vain by a client that ended so
+abbrev pub FailsWith : Side → Query → Option ℕ → List Want → List Want → Outcome → Type 0
+FailsWith side query version given failed (outcomes.Found journey) = failed ≡ []
+FailsWith side query version given failed outcomes.NoJourney = failed ≡ []
+FailsWith side query version given failed (outcomes.Refused fault) = failed ≡ []
+FailsWith side query version given failed (outcomes.LinkFault before after) = FailsAtNext side query version given failed
+FailsWith side query version given failed (outcomes.PeerWrong reply fault) = failed ≡ []
+
+-- The client of the question ended so, in these turns: it was given exactly its wants, has a best journey by the timetable of its version, or
+-- no journey where there is none; the version is the one that it meant when it first asked; it met one want a turn, and none behind an
+-- exchange that failed; and each exchange of its own is counted.
+pub record EndsSo (made : Timetable) (publishing : Publishing) (all : List Event) (side : Side) (client : ℕ) (query : Query) (rounds : List Round) (end : ClientEnd) : Type 0 where
+  pub ended : HasEnded side (shown_of query end) (given_in rounds) (Some end.outcome)
+  pub meant : IsMeant made publishing all client query (given_in rounds) end.version
+  pub exchanges : end.exchanges ≡ length (asked_in rounds)
+  pub each : TakeOneEach rounds
+  pub at_last : EndByFailure rounds
+  pub failed : FailsWith side query end.version (given_in rounds) (failed_in rounds) end.outcome
+
+-- The course was played rightly: the lines are those of its messages; in each turn the names of the pages that are kept tell what was asked
+-- for; that is told where the link tells exchanges, and the count of its faults rose by the exchanges that failed; it is what the clients met;
+-- and each client ended rightly.
+pub record ArePlayedRight (made : Timetable) (publishing : Publishing) (all : List Event) (cache : ℕ) (told now_told : Option (List Entry)) (faults now_faults : ℕ)
+    (lines : List ℕ) (ends : List ClientEnd) (met : List Met) : Type 0 where
+  pub store : Stored
+  pub heard : HasHeard all (store_of made publishing.base_moment) store lines
+  pub rounds : List Round
+  pub one_each : length rounds ≡ length (order_of all)
+  pub by_names : AskByNames cache [] rounds
+  pub tells : TellsRequests told now_told publishing.base.authority (requests_in publishing.base (questions_in all) (order_of all) rounds)
+  pub rose : RoseBy (failures_in rounds) faults now_faults
+  pub met_in : AreMetIn (order_of all) rounds met
+  pub clients : (place : ℕ) (query : Query) (end : ClientEnd) → slice_get (questions_in all) place ≡ Some query → slice_get ends place ≡ Some end
+      → EndsSo made publishing all (side_with made publishing store) (place + 1) query (rounds_of (place + 1) (order_of all) rounds) end

@@ -1,0 +1,43 @@
+-- Which messages are heard in a course, and which version each client means.
+use Rattle.std.specs.Prelude.{◌≡◌, ℕ, List, [], ◌∷◌, ◌++◌, Option, Some, take}
+use Rattle.cli_words.specs.declared.command.Publishing.{Publishing}
+use Rattle.laws_convoys.specs.OneClient.{version_of}
+use Rattle.lc_model.specs.declared.query.Query.{Query}
+use Rattle.page_client.specs.declared.want.Want.{Want}
+use Rattle.publisher_spec.specs.Short.{IsShort}
+use Rattle.timetable.specs.declared.timetable.Timetable.{Timetable}
+use Rattle.version_store.specs.Store.{Stored}
+use Rattle.cli_ask.specs.Admission.{IsBehind}
+use Rattle.cli_ask.specs.Publishing.{side_with, store_of}
+use Rattle.laws_replay.specs.Events.{before_turn_of}
+use Rattle.laws_replay.specs.declared.event.Event.{Event}
+use Rattle.laws_replay.specs.declared.event.Event.TheVariants as events
+
+-- the store behind the messages of a course, one after the other, and their lines
+abbrev pub HasHeard : List Event → Stored → Stored → List ℕ → Type 0
+HasHeard [] old new lines = (new ≡ old) × (lines ≡ [])
+HasHeard (events.Ask query ∷ more) old new lines = HasHeard more old new lines
+HasHeard (events.Message message ∷ more) old new lines =
+    (between : Stored) × (line : List ℕ) × (rest : List ℕ) × IsBehind (Some message.file) old between line × HasHeard more between new rest × (lines ≡ line ++ rest)
+HasHeard (events.Turn client ∷ more) old new lines = HasHeard more old new lines
+
+-- each message has a line, by some store
+abbrev pub HaveLines : List Event → List ℕ → Type 0
+HaveLines [] lines = lines ≡ []
+HaveLines (events.Ask query ∷ more) lines = HaveLines more lines
+HaveLines (events.Message message ∷ more) lines =
+    (old : Stored) × (new : Stored) × (line : List ℕ) × (rest : List ℕ) × IsBehind (Some message.file) old new line × HaveLines more rest × (lines ≡ line ++ rest)
+HaveLines (events.Turn client ∷ more) lines = HaveLines more lines
+
+-- The version of a client of the question that was given this: the one that it means by what was heard before its first turn, or by all
+-- messages where it has none; and none where it was given nothing.
+pub record IsMeant (made : Timetable) (publishing : Publishing) (all : List Event) (client : ℕ) (query : Query) (given : List Want) (version : Option ℕ) : Type 0 where
+  pub store : Stored
+  pub lines : List ℕ
+  pub heard : HasHeard (before_turn_of client all) (store_of made publishing.base_moment) store lines
+  pub is : version ≡ version_of (side_with made publishing store) query given
+
+-- the texts of the publisher fit into replies, whatever it has heard
+abbrev pub AreShort : Timetable → Publishing → List Event → Type 0
+AreShort made publishing all =
+    (n : ℕ) (store : Stored) (lines : List ℕ) → HasHeard (take n all) (store_of made publishing.base_moment) store lines → IsShort (side_with made publishing store)

@@ -1,0 +1,37 @@
+ghost use Rattle.laws_replay.specs.Laws.{FaultsAreOwn, PlaysCaused, PlaysRight};
+ghost use Rattle.laws_replay.specs.OneCourse.{OneCourse};
+
+use laws_clients::{one_answer, steps_keep_agreement};
+use laws_convoys::{agreement_begins, turns_keep_agreement};
+use lc_world::Link;
+use version_store::one_outcome;
+
+/// A course that was played to its end over a quiet link was played rightly: each client ended with a best journey by the timetable of the
+/// version that it meant when it first asked, or with none where there is none.
+pub fn courses_are_right<L: Link>()
+    ensures { PlaysRight L.seen }
+{
+    steps_keep_agreement();
+    agreement_begins();
+    turns_keep_agreement::<L>();
+}
+
+/// Whatever the link is, each client of a course ended with a cause, and so that it can be printed.
+pub fn courses_are_caused<L: Link>()
+    ensures { PlaysCaused L.seen }
+{}
+
+/// Two plays of one course, in which no exchange failed, come to the same: one line for each message, and for each client one version, one
+/// arrival or one refusal, and so many exchanges. Nothing but the way of a journey is left open.
+pub fn one_course()
+    ensures { OneCourse }
+{
+    one_answer();
+    one_outcome();
+}
+
+/// Over a clear link an exchange that failed ended its own client, with the counts of the link before and behind it. So no client is said to have
+/// failed that did not, and none by the counts of another's failure.
+pub fn faults_are_own()
+    ensures { FaultsAreOwn }
+{}

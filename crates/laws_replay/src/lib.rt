@@ -1,0 +1,11 @@
+//! The event sequence of a day that is replayed: who asks, which messages arrive, and who has a turn; what it means that it was played rightly;
+//! and the laws that a sequence which was played over a link was played so. It stands on `cli_ask` and `script_text`.
+#![tactic(auto)]
+
+mod event;
+mod laws;
+mod message;
+
+pub use event::Event;
+pub use laws::{courses_are_caused, courses_are_right, faults_are_own, one_course};
+pub use message::{Message, test_message};

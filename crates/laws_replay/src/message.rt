@@ -1,0 +1,34 @@
+ghost use Rattle.std.specs.Prelude.{length, ◌≤◌, IfErr, IsTrue, OnOk};
+ghost use Rattle.cli_ask.specs.declared.admission.MessageFault.TheVariants.{NoMemory as OutOfMemory};
+ghost use Rattle.laws_replay.specs.Message.{IsMessageText, IsNoText, has_no_fault};
+
+use cli_ask::MessageFault;
+use lc_world::File;
+use std::alloc::Global;
+use trip_updates::{RtFault, one_meaning, read_message};
+use version_store::MOST_MESSAGE_BYTES;
+
+/// A file with a realtime message: 16 MiB at most, and without a fault.
+#[derive(Drop)]
+pub struct Message {
+    pub file: File,
+    ghost short: { length file.bytes ≤ 16_777_216 },
+    ghost whole: { IsTrue (has_no_fault file.bytes) },
+}
+
+/// Tests whether the bytes of a file are a message of which a publisher may be told.
+pub fn test_message(alloc: Global, bytes: &[u8]) -> Result<(), MessageFault>
+    ensures said { OnOk result (IsMessageText bytes.now) }
+    ensures fault { IfErr result (IsNoText bytes.now) }
+{
+    one_meaning();
+    let count = bytes.len();
+    if count > MOST_MESSAGE_BYTES {
+        return Err(MessageFault::TooLong { bytes: count });
+    }
+    match read_message(alloc, bytes) {
+        Ok(_) => Ok(()),
+        Err(RtFault::NoMemory) => Err(MessageFault::NoMemory),
+        Err(fault) => Err(MessageFault::Broken(fault)),
+    }
+}
