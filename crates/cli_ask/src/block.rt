@@ -1,4 +1,4 @@
-ghost use Rattle.std.specs.Prelude.{◌≡◌, IfOk};
+ghost use Rattle.std.specs.Prelude.{◌≡◌, ◌++◌, IfOk, OnOk, codes, decimal};
 ghost use Rattle.cli_ask.specs.Block.{IsPrintable, client_text_of, link_fault_line_of, outcome_text_of, version_line_of};
 
 use crate::ClientEnd;
@@ -14,30 +14,67 @@ pub fn client_text(alloc: Global, k: usize, end: &ClientEnd) -> Result<Vec<u8>, 
     requires { IsPrintable end.now.outcome }
     ensures { IfOk result (λ text. text.items ≡ client_text_of k end.now) }
 {
-    let exchanges = end.exchanges;
-    let mut text = format!(in alloc; "client {k}\n")?.into_bytes();
-    let version = version_line(alloc, end.version)?;
-    text.extend_from_slice(version.as_slice())?;
-    let lines = outcome_text(alloc, &end.outcome)?;
-    text.extend_from_slice(lines.as_slice())?;
-    let count = format!(in alloc; "exchanges {exchanges}\n")?;
-    text.extend_from_slice(count.as_bytes())?;
+    let mut text = Vec::new(alloc);
+    push_client(alloc, k, end, &mut text)?;
     Ok(text)
 }
 
-/// The line of a version, where there is one.
-fn version_line(alloc: Global, version: Option<Moment>) -> Result<Vec<u8>, NoMemory>
-    ensures { IfOk result (λ line. line.items ≡ version_line_of version) }
+/// Adds the lines of client k to a text. On want of memory the text may have some of them.
+pub(crate) fn push_client(
+    alloc: Global,
+    k: usize,
+    end: &ClientEnd,
+    text: &mut Vec<u8>,
+) -> Result<(), NoMemory>
+    requires { IsPrintable end.now.outcome }
+    ensures { OnOk result (text.new.items ≡ text.old.items ++ client_text_of k end.now) }
 {
-    match version {
-        None => Ok(Vec::new(alloc)),
-        Some(version) => {
-            let bytes = iso_text(version);
-            let moment = ascii_str(&bytes);
-            let line = format!(in alloc; "version {moment}\n")?;
-            Ok(line.into_bytes())
-        }
-    }
+    push_number(alloc, k, text)?;
+    push_version(alloc, end.version, text)?;
+    push_outcome(alloc, &end.outcome, text)?;
+    push_count(alloc, end.exchanges, text)
+}
+
+/// Adds the line of a client's number.
+fn push_number(alloc: Global, k: usize, text: &mut Vec<u8>) -> Result<(), NoMemory>
+    ensures { OnOk result (text.new.items ≡ text.old.items ++ codes "client " ++ decimal k ++ codes "\n") }
+{
+    let line = format!(in alloc; "client {k}\n")?;
+    text.extend_from_slice(line.as_bytes())?;
+    Ok(())
+}
+
+/// Adds the line of a version, where there is one.
+fn push_version(alloc: Global, version: Option<Moment>, text: &mut Vec<u8>) -> Result<(), NoMemory>
+    ensures { OnOk result (text.new.items ≡ text.old.items ++ version_line_of version) }
+{
+    let Some(version) = version else {
+        return Ok(());
+    };
+    let bytes = iso_text(version);
+    let moment = ascii_str(&bytes);
+    let line = format!(in alloc; "version {moment}\n")?;
+    text.extend_from_slice(line.as_bytes())?;
+    Ok(())
+}
+
+/// Adds the lines of an answer, or the line that says why there is none.
+fn push_outcome(alloc: Global, outcome: &Outcome, text: &mut Vec<u8>) -> Result<(), NoMemory>
+    requires { IsPrintable outcome.now }
+    ensures { OnOk result (text.new.items ≡ text.old.items ++ outcome_text_of outcome.now) }
+{
+    let lines = outcome_text(alloc, outcome)?;
+    text.extend_from_slice(lines.as_slice())?;
+    Ok(())
+}
+
+/// Adds the line of the number of exchanges.
+fn push_count(alloc: Global, exchanges: u64, text: &mut Vec<u8>) -> Result<(), NoMemory>
+    ensures { OnOk result (text.new.items ≡ text.old.items ++ codes "exchanges " ++ decimal exchanges ++ codes "\n") }
+{
+    let line = format!(in alloc; "exchanges {exchanges}\n")?;
+    text.extend_from_slice(line.as_bytes())?;
+    Ok(())
 }
 
 /// The lines of an answer, or the line that says why there is none.

@@ -1,4 +1,4 @@
-ghost use Rattle.std.specs.Prelude.{◌≡◌, ◌≢◌, ◌≤◌, ◌++◌, IfErr, IfOk};
+ghost use Rattle.std.specs.Prelude.{◌≡◌, ◌≢◌, ◌≤◌, ◌++◌, IfErr, IfOk, Ok};
 ghost use Rattle.cli_ask.specs.Admission.{IsFaulty};
 ghost use Rattle.cli_ask.specs.Asked.{AsksPublisher, IsAsked, IsPrepared};
 ghost use Rattle.cli_ask.specs.Block.{IsPrintable, client_text_of};
@@ -6,7 +6,7 @@ ghost use Rattle.cli_ask.specs.declared.admission.MessageFault.TheVariants.{NoMe
 
 use crate::ClientEnd;
 use crate::admission::{MessageFault, admit};
-use crate::block::client_text;
+use crate::block::push_client;
 use crate::client::client_end;
 use crate::publishing::{copy_of, publisher_of};
 use cli_words::Publishing;
@@ -68,6 +68,21 @@ fn prepare(
     ensures faulty { IfErr result (IsFaulty file.now) }
 {
     let base = copy_of(alloc, &publishing.base)?;
+    prepare_under(alloc, base, made, publishing, file)
+}
+
+/// The same with a copy of the base at hand.
+fn prepare_under(
+    alloc: Global,
+    base: Base,
+    made: Timetable,
+    publishing: Publishing,
+    file: &Option<File>,
+) -> Result<Prepared, MessageFault>
+    requires { base ≡ publishing.base }
+    ensures prepared { IfOk result (λ prepared. IsPrepared made publishing file.now prepared.publisher prepared.base prepared.line.items) }
+    ensures faulty { IfErr result (IsFaulty file.now) }
+{
     let mut publisher = publisher_of(alloc, made, publishing)?;
     let line = admit(alloc, &mut publisher, file)?;
     Ok(Prepared {
@@ -99,35 +114,30 @@ fn ask_publisher<L: Link>(
     match LocalLink::new(alloc, publisher) {
         Ok(local) => {
             let mut home = HomeLink::new(local, link);
-            match client_end(alloc, base, query, cache, &mut home) {
-                Ok(end) => (printed(alloc, line, end), home.into_outer()),
-                Err(NoMemory) => (Err(MessageFault::NoMemory), home.into_outer()),
-            }
+            let ended = client_end(alloc, base, query, cache, &mut home);
+            (printed(alloc, line, ended), home.into_outer())
         }
         Err(NoMemory) => (Err(MessageFault::NoMemory), link),
     }
 }
 
 /// The line of the message and those of the client, and how it ended.
-fn printed(alloc: Global, line: Vec<u8>, end: ClientEnd) -> Result<Asked, MessageFault>
-    requires { IsPrintable end.outcome }
+fn printed(
+    alloc: Global,
+    line: Vec<u8>,
+    ended: Result<ClientEnd, NoMemory>,
+) -> Result<Asked, MessageFault>
+    requires { IfOk ended (λ end. IsPrintable end.outcome) }
     ensures memory { IfErr result (λ fault. fault ≡ OutOfMemory) }
-    ensures text { IfOk result (λ asked. asked.text.items ≡ line.items ++ client_text_of 1 end) }
-    ensures end { IfOk result (λ asked. asked.end ≡ end) }
-{
-    match lines(alloc, line, &end) {
-        Ok(text) => Ok(Asked { text, end }),
-        Err(NoMemory) => Err(MessageFault::NoMemory),
-    }
-}
-
-/// The line of the message and those of the client.
-fn lines(alloc: Global, line: Vec<u8>, end: &ClientEnd) -> Result<Vec<u8>, NoMemory>
-    requires { IsPrintable end.now.outcome }
-    ensures { IfOk result (λ text. text.items ≡ line.items ++ client_text_of 1 end.now) }
+    ensures text { IfOk result (λ asked. asked.text.items ≡ line.items ++ client_text_of 1 asked.end) }
+    ensures end { IfOk result (λ asked. ended ≡ Ok asked.end) }
 {
     let mut text = line;
-    let client = client_text(alloc, 1, end)?;
-    text.extend_from_slice(client.as_slice())?;
-    Ok(text)
+    match ended {
+        Ok(end) => match push_client(alloc, 1, &end, &mut text) {
+            Ok(()) => Ok(Asked { text, end }),
+            Err(NoMemory) => Err(MessageFault::NoMemory),
+        },
+        Err(NoMemory) => Err(MessageFault::NoMemory),
+    }
 }
