@@ -33,31 +33,36 @@ impl<'a, R: Files + AllocGlobal> DirFolder<'a, R> {
     }
 }
 
-impl<R: Files + AllocGlobal> Folder for DirFolder<'_, R> {
-    ghost seen = { λ f. record { files = None; faults = f.faults; absences = f.absences; asked = None } };
-
-    /// A file above 1 GiB is a fault.
-    fn read(&mut self, _: Global, name: &str) -> Result<Vec<u8>, FolderFail> {
+impl<R: Files + AllocGlobal> DirFolder<'_, R> {
+    /// The bytes of a file. A name with a byte 0 is the path of no file, and a file above 1 GiB is a fault.
+    fn bytes_of(&self, name: &str) -> Result<Vec<u8>, FolderFail> {
+        if name.as_bytes().contains(&0) {
+            return Err(FolderFail::Absent);
+        }
         match fs::read(self.rt, name) {
             Ok(bytes) => {
                 if bytes.len() <= MOST_BYTES {
-                    return Ok(bytes);
-                }
-                self.faults = self.faults.saturating_add(1);
-                Err(FolderFail::Failed)
-            }
-            Err(e) => match fail_of(e.kind()) {
-                FolderFail::Failed => {
-                    self.faults = self.faults.saturating_add(1);
+                    Ok(bytes)
+                } else {
                     Err(FolderFail::Failed)
                 }
-                FolderFail::Absent => {
-                    self.absences = self.absences.saturating_add(1);
-                    Err(FolderFail::Absent)
-                }
-                FolderFail::NoMemory => Err(FolderFail::NoMemory),
-            },
+            }
+            Err(e) => Err(fail_of(e.kind())),
         }
+    }
+}
+
+impl<R: Files + AllocGlobal> Folder for DirFolder<'_, R> {
+    ghost seen = { λ f. record { files = None; faults = f.faults; absences = f.absences; asked = None } };
+
+    fn read(&mut self, _: Global, name: &str) -> Result<Vec<u8>, FolderFail> {
+        let read = self.bytes_of(name);
+        match read {
+            Err(FolderFail::Failed) => self.faults = self.faults.saturating_add(1),
+            Err(FolderFail::Absent) => self.absences = self.absences.saturating_add(1),
+            Ok(_) | Err(FolderFail::NoMemory) => {}
+        }
+        read
     }
 
     fn faults(&self) -> u64 {
