@@ -1,6 +1,6 @@
 #!/bin/sh
-# What each crate costs the merge gate where nothing is kept, in processor seconds: its own proof, that of the crate with its tests, and
-# its mutants, begun with what its proof kept. Prints the table of docs/GATE.md.
+# What each crate costs the merge gate where nothing is kept, in processor seconds: its proof; its mutants, of which the first proves the crate
+# once more; and of a program what its first build and its run take. Prints the table of docs/GATE.md.
 #
 #   bench/gate_times.sh [--write] [CRATE..]
 #
@@ -21,7 +21,7 @@ writes = "--write" in words
 GATE = f"{top}/docs/GATE.md"
 BEGIN, END = "<!-- The table of bench/gate_times.sh begins. -->\n", "<!-- It ends. -->\n"
 CHECK = ["check", "--jobs", "1"]
-HEAD = "| crate | proof | proof with its tests | mutants | together |\n|---|---:|---:|---:|---:|\n"
+HEAD = "| crate | proof | mutants | build and run | together |\n|---|---:|---:|---:|---:|\n"
 
 with open(f"{top}/crates.txt", encoding="utf-8") as file:
     listed = [line.partition("#")[0].partition(":") for line in file]
@@ -63,11 +63,6 @@ def seconds(program, words, folder):
     return after.ru_utime + after.ru_stime - before.ru_utime - before.ru_stime
 
 
-def has_tests(folder):
-    files = (f"{at}/{name}" for at, _, names in os.walk(f"{folder}/src") for name in names if name.endswith(".rt"))
-    return any("#[test]" in open(file, encoding="utf-8").read() for file in files)
-
-
 def has_edits(folder):
     return os.path.isdir(f"{folder}/must-fail") and any(it.endswith(".edit") for it in os.listdir(f"{folder}/must-fail"))
 
@@ -85,12 +80,11 @@ def row(name):
             seconds(rt, ["lib"], f"{copy}/crates/{below}")
     shutil.rmtree(f"{folder}/out", ignore_errors=True)
     proof = seconds(own_rt, CHECK, folder)
-    bodies = seconds(own_rt, ["must-fail", name], copy) if has_edits(folder) else None
+    run = seconds(own_rt, ["run"], folder) if os.path.isfile(f"{folder}/src/main.rt") else None
     shutil.rmtree(f"{folder}/out", ignore_errors=True)
-    tests = seconds(own_rt, [*CHECK, "--test"], folder) if has_tests(folder) else None
-    shutil.rmtree(f"{folder}/out", ignore_errors=True)
-    whole = proof + (tests or 0) + (bodies or 0)
-    cells = f"{proof:,.0f}", cell(tests, "no tests"), cell(bodies, "no edits"), f"{whole:,.0f}"
+    mutants = seconds(own_rt, ["must-fail", name], copy) if has_edits(folder) else None
+    whole = proof + (mutants or 0) + (run or 0)
+    cells = f"{proof:,.0f}", cell(mutants, "none"), cell(run, "a library"), f"{whole:,.0f}"
     return f"| `{name}` | {' | '.join(cells)} |\n"
 
 
