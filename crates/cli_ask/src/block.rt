@@ -39,23 +39,58 @@ pub(crate) fn push_client(
 fn push_number(alloc: Global, k: usize, text: &mut Vec<u8>) -> Result<(), NoMemory>
     ensures { OnOk result (text.new.items ≡ text.old.items ++ codes "client " ++ decimal k ++ codes "\n") }
 {
-    let line = format!(in alloc; "client {k}\n")?;
-    text.extend_from_slice(line.as_bytes())?;
+    let line = number_line(alloc, k)?;
+    text.extend_from_slice(line.as_slice())?;
     Ok(())
+}
+
+/// The line of a client's number.
+fn number_line(alloc: Global, k: usize) -> Result<Vec<u8>, NoMemory>
+    ensures { IfOk result (λ line. line.items ≡ codes "client " ++ decimal k ++ codes "\n") }
+{
+    let line = format!(in alloc; "client {k}\n")?;
+    Ok(line.into_bytes())
 }
 
 /// Adds the line of a version, where there is one.
 fn push_version(alloc: Global, version: Option<Moment>, text: &mut Vec<u8>) -> Result<(), NoMemory>
     ensures { OnOk result (text.new.items ≡ text.old.items ++ version_line_of version) }
 {
-    let Some(version) = version else {
-        return Ok(());
-    };
-    let bytes = iso_text(version);
-    let moment = ascii_str(&bytes);
-    let line = format!(in alloc; "version {moment}\n")?;
-    text.extend_from_slice(line.as_bytes())?;
+    let line = version_line(alloc, version)?;
+    text.extend_from_slice(line.as_slice())?;
     Ok(())
+}
+
+/// The line of a version, where there is one.
+fn version_line(alloc: Global, version: Option<Moment>) -> Result<Vec<u8>, NoMemory>
+    ensures { IfOk result (λ line. line.items ≡ version_line_of version) }
+{
+    match version {
+        None => Ok(Vec::new(alloc)),
+        Some(version) => {
+            let bytes = iso_text(version);
+            let moment = ascii_str(&bytes);
+            let line = format!(in alloc; "version {moment}\n")?;
+            Ok(line.into_bytes())
+        }
+    }
+}
+
+/// Adds the line of the number of exchanges.
+fn push_count(alloc: Global, exchanges: u64, text: &mut Vec<u8>) -> Result<(), NoMemory>
+    ensures { OnOk result (text.new.items ≡ text.old.items ++ codes "exchanges " ++ decimal exchanges ++ codes "\n") }
+{
+    let line = count_line(alloc, exchanges)?;
+    text.extend_from_slice(line.as_slice())?;
+    Ok(())
+}
+
+/// The line of the number of exchanges.
+fn count_line(alloc: Global, exchanges: u64) -> Result<Vec<u8>, NoMemory>
+    ensures { IfOk result (λ line. line.items ≡ codes "exchanges " ++ decimal exchanges ++ codes "\n") }
+{
+    let line = format!(in alloc; "exchanges {exchanges}\n")?;
+    Ok(line.into_bytes())
 }
 
 /// Adds the lines of an answer, or the line that says why there is none.
@@ -65,15 +100,6 @@ fn push_outcome(alloc: Global, outcome: &Outcome, text: &mut Vec<u8>) -> Result<
 {
     let lines = outcome_text(alloc, outcome)?;
     text.extend_from_slice(lines.as_slice())?;
-    Ok(())
-}
-
-/// Adds the line of the number of exchanges.
-fn push_count(alloc: Global, exchanges: u64, text: &mut Vec<u8>) -> Result<(), NoMemory>
-    ensures { OnOk result (text.new.items ≡ text.old.items ++ codes "exchanges " ++ decimal exchanges ++ codes "\n") }
-{
-    let line = format!(in alloc; "exchanges {exchanges}\n")?;
-    text.extend_from_slice(line.as_bytes())?;
     Ok(())
 }
 
