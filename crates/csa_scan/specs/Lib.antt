@@ -4,6 +4,7 @@ pub mod Kept
 pub mod Linked
 pub mod Near
 pub mod Next
+pub mod Nothing
 pub mod Numbers
 pub mod PlaceOf
 pub mod Reach

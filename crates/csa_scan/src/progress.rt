@@ -33,6 +33,7 @@ impl Progress {
     ghost use Rattle.csa_scan.specs.Kept.{AddsRuns, HasRoom, kept_of};
     ghost use Rattle.csa_scan.specs.Linked.{IsArrivalIn};
     ghost use Rattle.csa_scan.specs.Next.{IsNext};
+    ghost use Rattle.csa_scan.specs.Nothing.{nothing_of};
     ghost use Rattle.csa_scan.specs.Numbers.{AreDistinct, AreNumbersOf};
     ghost use Rattle.csa_scan.specs.Stands.{IsAsked, Stands};
     ghost use Rattle.csa_scan.specs.Takes.{Arrives};
@@ -40,13 +41,7 @@ impl Progress {
 
     /// Nothing is found out yet about so many stops.
     pub fn new(alloc: Global, stops: usize) -> Result<Progress, NoMemory>
-        ensures { IfOk result (λ p. kept_of p ≡ record {
-          boardings = [];
-          ready = replicate stops None;
-          reached = replicate stops None;
-          arrivals = [];
-          best = None;
-        }) }
+        ensures { IfOk result (λ p. kept_of p ≡ nothing_of stops) }
     {
         Ok(Progress {
             boardings: Vec::new(alloc),

@@ -60,9 +60,9 @@ impl RunNumbers {
             return Ok(*number);
         }
         let number = self.keys.len();
+        self.keys.reserve(1)?;
         let listed = key.copy(alloc)?;
         let numbered = key.copy(alloc)?;
-        self.keys.reserve(1)?;
         self.numbers.insert(numbered, number)?;
         self.keys.push(listed).unwrap();
         Ok(number)

@@ -26,16 +26,19 @@ pub struct Scan {
 }
 
 impl Scan {
-    ghost use Rattle.std.specs.Prelude.{◌≡◌, ◌≤◌, ◌↔◌, ◌++◌, ◌⊎◌, [], ℕ, List, Option, Err, IfOk, OnOk, OnErr, IsTrue};
+    ghost use Rattle.std.specs.Prelude.{◌≡◌, ◌≤◌, ◌↔◌, ◌++◌, ◌⊎◌, [], ℕ, List, Option, Err, IfOk, OnOk, OnErr, IsTrue, length};
     ghost use Rattle.lc_model.specs.Leg.{IsListBest};
     ghost use Rattle.lc_model.specs.Stop.{HasStop};
     ghost use Rattle.lc_model.specs.declared.connection.Connection.{Connection};
     ghost use Rattle.lc_model.specs.declared.doc.StopsDoc.{StopsDoc};
     ghost use Rattle.lc_model.specs.declared.query.Query.{Query};
     ghost use Rattle.csa_scan.specs.Done.{IsDone};
-    ghost use Rattle.csa_scan.specs.Kept.{HasRoom};
+    ghost use Rattle.csa_scan.specs.Kept.{HasRoom, kept_of};
+    ghost use Rattle.csa_scan.specs.Nothing.{nothing_of};
     ghost use Rattle.csa_scan.specs.Numbers.{AreDistinct, AreNumbersOf};
+    ghost use Rattle.csa_scan.specs.Stands.{IsAsked};
     ghost use Rattle.csa_scan.specs.StandsFor.{GoesOnBy, IsBestChain, StandsFor, StaysAsItWas};
+    ghost use Rattle.csa_scan.specs.Walks.{AreWalks};
 
     /// Begins a scan for the question. Linear in the document, times the logarithm of its stops.
     pub fn begin(alloc: Global, query: &Query, doc: &StopsDoc) -> Result<Scan, BeginFault>
@@ -53,12 +56,38 @@ impl Scan {
         if place_of(stops, &query.to).is_none() {
             return Err(BeginFault::UnknownTo);
         }
-        let progress = Progress::new(alloc, stops.len())?;
+        Ok(Scan::of_nothing(alloc, query, doc)?)
+    }
+
+    /// A scan of the question, before it takes anything. The document knows both ends of the question, or the scan stands for nothing.
+    fn of_nothing(alloc: Global, query: &Query, doc: &StopsDoc) -> Result<Scan, NoMemory>
+        requires { query.now.horizon ≤ 604_800 }
+        ensures { IfOk result (λ scan. IsAsked query.now doc.now → StandsFor scan query.now doc.now []) }
+    {
+        let progress = Progress::new(alloc, doc.stops.as_slice().len())?;
         let walks = Walks::new(alloc, query, doc)?;
+        Scan::before_any(alloc, query, doc, walks, progress)
+    }
+
+    /// A scan of the question with these walks, before it takes anything.
+    fn before_any(
+        alloc: Global,
+        query: &Query,
+        doc: &StopsDoc,
+        walks: Walks,
+        progress: Progress,
+    ) -> Result<Scan, NoMemory>
+        requires up_to_a_week { query.now.horizon ≤ 604_800 }
+        requires near { AreWalks query.now doc.now walks }
+        requires nothing { kept_of progress ≡ nothing_of (length doc.now.stops) }
+        ensures { IfOk result (λ scan. IsAsked query.now doc.now → StandsFor scan query.now doc.now []) }
+    {
+        let query = query.copy(alloc)?;
+        let doc = doc.copy(alloc)?;
         let runs = RunNumbers::new(alloc);
         Ok(Scan {
-            query: query.copy(alloc)?,
-            doc: doc.copy(alloc)?,
+            query,
+            doc,
             walks,
             runs,
             progress,

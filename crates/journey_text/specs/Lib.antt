@@ -1,4 +1,6 @@
 pub mod AnswerText
 pub mod Laws
+pub mod Places
 pub mod Sound
+pub mod Times
 pub mod Words

@@ -1,4 +1,4 @@
-ghost use Rattle.std.specs.Prelude.{◌≡◌, ◌++◌, ◌∷◌, ◌<◌, ◌≤◌, ℕ, List, Some, Option as Maybe, All, IfOk, IfSome, [], codes, decimal, length};
+ghost use Rattle.std.specs.Prelude.{◌≡◌, ◌++◌, ◌∷◌, ◌<◌, ◌≤◌, ℕ, List, Some, Option as Maybe, All, IfOk, IfSome, IsSomeAnd, IsTrue, OnOk, ◌↔◌, [], codes, decimal, length};
 ghost use Rattle.lc_model.specs.declared.answer.Answer.{Answer as AnswerValue};
 ghost use Rattle.lc_model.specs.declared.journey.Journey.{Journey as JourneyValue};
 ghost use Rattle.lc_model.specs.declared.key.RunKey.{RunKey as Key};
@@ -11,12 +11,13 @@ ghost use Rattle.connection_uri.specs.Name.{start_part_of};
 ghost use Rattle.lc_model.specs.Journey.{arrives_at};
 ghost use Rattle.journey_text.specs.AnswerText.{ArrivesAtAMoment, answer_text_of};
 ghost use Rattle.journey_text.specs.Sound.{HasText, IsSoundJourney, IsSoundRide, IsSoundWalk};
+ghost use Rattle.journey_text.specs.Times.{AreTimesOf};
 ghost use Rattle.journey_text.specs.Words.{AreWordsOf, DoesNotBegin, journey_words_of, rest_words_of, ride_words_of, texts_of, walk_words_of};
 
 use crate::answer_writing::{answer_text, arrival};
-use crate::ride_words::{RIDE_WORDS, RideWords, words_of_ride, words_of_text};
+use crate::ride_words::{RIDE_WORDS, RideTimes, RideWords, words_of_ride, words_of_text};
 use connection_uri::{decode, read_decimal, read_start_part};
-use lc_model::{Answer, Journey, NoMemory, Ride, Rides, RunKey, Walk};
+use lc_model::{Answer, Id, Journey, NoMemory, Ride, Rides, RunKey, Walk};
 use lc_time::{read_date, read_iso};
 use std::alloc::Global;
 
@@ -26,13 +27,32 @@ pub fn read_answer(alloc: Global, text: &[u8]) -> Result<Option<Answer>, NoMemor
     ensures arrives { IfOk result (λ read. IfSome read ArrivesAtAMoment) }
     ensures exact { IfOk result (λ read. (answer : AnswerValue) → HasText answer → text.now ≡ answer_text_of answer → read ≡ Some answer) }
 {
-    let Some(answer) = written_answer(alloc, text)? else {
-        return Ok(None);
-    };
-    if answer_text(alloc, &answer)?.as_slice() == text {
-        Ok(Some(answer))
-    } else {
-        Ok(None)
+    let mut read = written_answer(alloc, text)?;
+    keep_written(alloc, text, &mut read)?;
+    Ok(read)
+}
+
+/// Lets go of what was read, unless this is its text.
+fn keep_written(alloc: Global, text: &[u8], read: &mut Option<Answer>) -> Result<(), NoMemory>
+    requires { IfSome read.old ArrivesAtAMoment }
+    ensures said { OnOk result (IfSome read.new (λ answer. text.now ≡ answer_text_of answer)) }
+    ensures arrives { OnOk result (IfSome read.new ArrivesAtAMoment) }
+    ensures exact { OnOk result ((answer : AnswerValue) → read.old ≡ Some answer → text.now ≡ answer_text_of answer → read.new ≡ Some answer) }
+{
+    if !is_text_of(alloc, text, read)? {
+        *read = None;
+    }
+    Ok(())
+}
+
+/// Whether this is the text of what was read, if something was.
+fn is_text_of(alloc: Global, text: &[u8], read: &Option<Answer>) -> Result<bool, NoMemory>
+    requires { IfSome read.now ArrivesAtAMoment }
+    ensures { IfOk result (λ is. IsTrue is ↔ IfSome read.now (λ answer. text.now ≡ answer_text_of answer)) }
+{
+    match read {
+        Some(answer) => Ok(answer_text(alloc, answer)?.as_slice() == text),
+        None => Ok(true),
     }
 }
 
@@ -120,30 +140,54 @@ fn written_ride(alloc: Global, words: &[&[u8]]) -> Result<Option<Ride>, NoMemory
 fn ride_of(alloc: Global, words: RideWords<'_>) -> Result<Option<Ride>, NoMemory>
     ensures { IfOk result (λ read. (ride : RideValue) → IsSoundRide ride → AreWordsOf ride words.entry → read ≡ Some ride) }
 {
-    let (Some(first_seq), Some(last_seq), Some(dep), Some(arr)) = (
-        read_decimal(words.first_seq),
-        read_decimal(words.last_seq),
-        read_iso(words.dep),
-        read_iso(words.arr),
-    ) else {
+    let Some(times) = times_of(words) else {
         return Ok(None);
     };
-    let (Some(key), Some(board), Some(alight)) = (
-        key_of(alloc, words.trip, words.date, words.start)?,
-        decode(alloc, words.board)?,
-        decode(alloc, words.alight)?,
-    ) else {
+    let Some(key) = key_of(alloc, words.trip, words.date, words.start)? else {
         return Ok(None);
     };
-    Ok(Some(Ride {
-        key,
+    match stops_of(alloc, words.board, words.alight)? {
+        Some((board, alight)) => Ok(Some(Ride {
+            key,
+            first_seq: times.first_seq,
+            last_seq: times.last_seq,
+            board,
+            dep: times.dep,
+            alight,
+            arr: times.arr,
+        })),
+        None => Ok(None),
+    }
+}
+
+/// The places and the moments of the ride that these words say.
+fn times_of(words: RideWords<'_>) -> Option<RideTimes>
+    ensures { (ride : RideValue) → IsSoundRide ride → AreWordsOf ride words.entry → IsSomeAnd result (AreTimesOf ride) }
+{
+    let first_seq = read_decimal(words.first_seq)?;
+    let last_seq = read_decimal(words.last_seq)?;
+    let dep = read_iso(words.dep)?;
+    let arr = read_iso(words.arr)?;
+    Some(RideTimes {
         first_seq,
         last_seq,
-        board,
         dep,
-        alight,
         arr,
-    }))
+    })
+}
+
+/// The stops of these words, where one boards and where one alights.
+fn stops_of(alloc: Global, board: &[u8], alight: &[u8]) -> Result<Option<(Id, Id)>, NoMemory>
+    ensures { IfOk result (λ read. (from to : List ℕ) → IsIdText from → IsIdText to → board.now ≡ encoded from → alight.now ≡ encoded to
+        → read ≡ Some (from, to)) }
+{
+    let Some(board) = decode(alloc, board)? else {
+        return Ok(None);
+    };
+    match decode(alloc, alight)? {
+        Some(alight) => Ok(Some((board, alight))),
+        None => Ok(None),
+    }
 }
 
 /// The run that these words say.

@@ -6,6 +6,7 @@ ghost use Rattle.lc_model.specs.Walk.{seconds_of};
 ghost use Rattle.lc_model.specs.declared.moment.TheConstants.{MOMENTS_END};
 ghost use Rattle.lc_time.specs.Iso.{iso_text_of};
 ghost use Rattle.journey_text.specs.AnswerText.{ArrivesAtAMoment, answer_text_of, journey_line_of, journey_text_of, key_words_of, ride_line_of, walk_line_of, walk_text_of, word};
+ghost use Rattle.journey_text.specs.Places.{ride_places_of};
 
 use connection_uri::encode;
 use lc_model::{Answer, Id, Journey, Moment, NoMemory, Ride, RunKey, Walk};
@@ -118,15 +119,23 @@ fn push_rides(alloc: Global, text: &mut Vec<u8>, rides: &[Ride]) -> Result<(), N
 fn push_ride(alloc: Global, text: &mut Vec<u8>, ride: &Ride) -> Result<(), NoMemory>
     ensures { OnOk result (text.new.items ≡ text.old.items ++ ride_line_of ride.now) }
 {
-    text.extend_from_slice(b"ride")?;
-    push_key(alloc, text, &ride.key)?;
-    push_number(alloc, text, ride.first_seq)?;
-    push_number(alloc, text, ride.last_seq)?;
+    push_places(alloc, text, ride)?;
     push_id(alloc, text, &ride.board)?;
     push_moment(text, ride.dep)?;
     push_id(alloc, text, &ride.alight)?;
     push_moment(text, ride.arr)?;
     text.extend_from_slice(b"\n")?;
+    Ok(())
+}
+
+/// Appends the words of a ride that say its run, and where in that it boards and alights.
+fn push_places(alloc: Global, text: &mut Vec<u8>, ride: &Ride) -> Result<(), NoMemory>
+    ensures { OnOk result (text.new.items ≡ text.old.items ++ ride_places_of ride.now) }
+{
+    text.extend_from_slice(b"ride")?;
+    push_key(alloc, text, &ride.key)?;
+    push_number(alloc, text, ride.first_seq)?;
+    push_number(alloc, text, ride.last_seq)?;
     Ok(())
 }
 

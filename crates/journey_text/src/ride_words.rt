@@ -3,7 +3,7 @@ ghost use Rattle.lc_model.specs.declared.ride.Ride.{Ride as RideValue};
 ghost use Rattle.journey_text.specs.Words as spec;
 ghost use Rattle.journey_text.specs.Words.{AreWordsOf, ride_words_of, texts_of, words_of};
 
-use lc_model::NoMemory;
+use lc_model::{Moment, NoMemory};
 use std::alloc::Global;
 
 /// How many words a ride's line has.
@@ -21,6 +21,15 @@ pub(crate) struct RideWords<'a> {
     pub(crate) dep: &'a [u8],
     pub(crate) alight: &'a [u8],
     pub(crate) arr: &'a [u8],
+}
+
+/// Where in its run a ride boards and alights, and when.
+#[derive(Clone, Copy)]
+pub(crate) struct RideTimes {
+    pub(crate) first_seq: u32,
+    pub(crate) last_seq: u32,
+    pub(crate) dep: Moment,
+    pub(crate) arr: Moment,
 }
 
 /// What stands between the spaces and line feeds of a text. Linear in the text.

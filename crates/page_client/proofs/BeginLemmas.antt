@@ -9,7 +9,7 @@ use Rattle.lc_model.specs.declared.page.PageName.{PageName}
 use Rattle.lc_model.specs.declared.query.Query.{Query}
 use Rattle.csa_scan.specs.StandsFor.{StandsFor}
 use Rattle.csa_scan.specs.declared.scan.Scan.{Scan}
-use Rattle.page_client.specs.Course.{HasScanned, IsReading, IsSound}
+use Rattle.page_client.specs.Course.{HasScanned, IsSound}
 use Rattle.page_client.specs.Shown.{Shown, after_stops, behind_stops, left_at, pages_left, want_of}
 use Rattle.page_client.specs.declared.phase.Phase.{Phase}
 use Rattle.page_client.specs.declared.phase.Phase.TheVariants as phases

@@ -1,8 +1,8 @@
 -- The body of a reply lies within its bytes.
-use Rattle.std.proofs.Common.{◌≡◌, ℕ, ◌+◌, ◌-◌, ◌≤◌, List, ◌++◌, length, length-append, Bool, true, false, Option, Some, None, refl, ap, arith}
+use Rattle.std.proofs.Common.{◌≡◌, ℕ, ◌+◌, ◌-◌, ◌≤◌, List, length, length-append, Bool, true, false, Some, None, refl, ap, arith}
 use Rattle.std.specs.Prelude.{codes, nat_lt, if◌then◌else◌}
 use Rattle.std.proofs.lemmas.Bool.Decides.{nat_tests}
-use Rattle.httparse.specs.Grammar.{ResponseHead, print_response}
+use Rattle.httparse.specs.Grammar.{print_response}
 use Rattle.http_text.specs.Fields.{FieldText, texts_of}
 use Rattle.http_text.specs.Length.{is_wrong, length_of, said_or}
 use Rattle.http_text.specs.Reply.{IsReply, behind, fault_of}

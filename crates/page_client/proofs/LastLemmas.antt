@@ -1,5 +1,5 @@
 -- The last departure of a list is that of its last item.
-use Rattle.std.proofs.Common.{◌≡◌, ℕ, suc, ◌-◌, List, [], ◌∷◌, Option, Some, length, ap, sym, subst, arith}
+use Rattle.std.proofs.Common.{◌≡◌, ℕ, suc, ◌-◌, List, [], ◌∷◌, Some, length, ap, subst, arith}
 use Rattle.std.specs.List.{slice_get}
 use Rattle.lc_model.specs.declared.connection.Connection.{Connection}
 use Rattle.lc_model.specs.Connection.{last_departure}

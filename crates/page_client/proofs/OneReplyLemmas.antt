@@ -1,5 +1,5 @@
 -- A reply says one thing, or has one first fault.
-use Rattle.std.proofs.Common.{◌≡◌, ◌≢◌, ℕ, List, Option, Some, None, Result, Ok, Err, inl, inr, refl, sym, ◌∙◌, ap, subst}
+use Rattle.std.proofs.Common.{◌≡◌, ℕ, List, Option, Some, None, Result, Ok, Err, inl, inr, sym, ◌∙◌, ap, subst}
 use Rattle.url.specs.Parser.{parse_url}
 use Rattle.url.specs.Parts.{Parts, serialize}
 use Rattle.lc_model.specs.declared.doc.StopsDoc.{StopsDoc}
@@ -7,15 +7,13 @@ use Rattle.lc_model.specs.declared.page.PageName.{PageName}
 use Rattle.connection_uri.specs.Base.{BaseParts}
 use Rattle.connection_uri.proofs.PageLemmas.{page_urls_differ}
 use Rattle.http_text.specs.declared.reply.Reply.{Reply}
-use Rattle.http_text.specs.declared.reply_fault.ReplyFault.{ReplyFault}
 use Rattle.http_text.proofs.MessageLemmas.{one_read}
-use Rattle.page_json.specs.Says.{SaysPage}
 use Rattle.page_json.specs.declared.page.Page.{Page}
 use Rattle.page_json.proofs.OneResultLemmas.{one_page_of_bytes, one_doc_of_bytes}
 use Rattle.page_client.specs.Fault.{Tested}
-use Rattle.page_client.specs.Gate.{IsGateReply, IsJoined, IsLed, IsSent, LeadsTo}
+use Rattle.page_client.specs.Gate.{IsGateReply, IsSent, LeadsTo}
 use Rattle.page_client.specs.Page.{IsPageReply, SaysPage as SaysThePage, tested_body}
-use Rattle.page_client.specs.Replied.{HasOtherStatus, IsAnswered, IsTested, IsUnread, body_of, tested_further}
+use Rattle.page_client.specs.Replied.{IsAnswered, IsTested, body_of, tested_further}
 use Rattle.page_client.specs.Stops.{IsStopsReply, SaysStops, tested_doc}
 use Rattle.page_client.specs.declared.fault.PeerFault.{PeerFault}
 use Rattle.page_client.specs.declared.fault.PeerFault.TheVariants as peers

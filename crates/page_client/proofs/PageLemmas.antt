@@ -1,7 +1,7 @@
 -- A client behind a page.
-use Rattle.std.proofs.Common.{◌≡◌, ◌≢◌, ℕ, ◌+◌, ◌-◌, ◌<◌, ◌≤◌, List, ◌++◌, Bool, true, false, Option, Some, None, inl, inr, refl, sym, ◌∙◌, ap, subst, arith}
+use Rattle.std.proofs.Common.{◌≡◌, ℕ, ◌<◌, ◌≤◌, List, ◌++◌, Bool, true, false, Option, Some, None, refl, sym, ap, subst, arith}
 use Rattle.std.proofs.Math.Logic.{∥∥₁_elim, ∥∥₁_map}
-use Rattle.std.specs.Prelude.{◌||◌, ◌&&◌, if◌then◌else◌, nat_le}
+use Rattle.std.specs.Prelude.{◌||◌, ◌&&◌, if◌then◌else◌}
 use Rattle.std.specs.Coded.{le_prop}
 use Rattle.std.specs.List.{All}
 use Rattle.std.proofs.lemmas.Bool.Decides.{nat_tests}
@@ -14,7 +14,6 @@ use Rattle.lc_model.specs.declared.doc.StopsDoc.{StopsDoc}
 use Rattle.lc_model.specs.declared.journey.Journey.{Journey}
 use Rattle.lc_model.specs.declared.page.PageName.{PageName}
 use Rattle.lc_model.specs.declared.query.Query.{Query}
-use Rattle.csa_scan.specs.Done.{IsDone}
 use Rattle.csa_scan.specs.StandsFor.{StandsFor}
 use Rattle.csa_scan.specs.declared.scan.Scan.{Scan}
 use Rattle.page_json.specs.Valid.{IsValidPage}
@@ -23,7 +22,7 @@ use Rattle.page_client.specs.Client.{AfterPage, GoesOnBy, StandsFor as ClientSta
 use Rattle.page_client.specs.Course.{Follows, HasScanned, IsOver, IsReading, IsSound, TakesOn}
 use Rattle.lc_model.specs.Connection.{last_departure}
 use Rattle.page_client.specs.Page.{advances, begins_at, is_on_from}
-use Rattle.page_client.specs.Shown.{answered, ended, is_early, is_late, is_off, left_at, onward, pages_left, want_of, wrong_gate}
+use Rattle.page_client.specs.Shown.{answered, ended, is_early, is_late, left_at, onward, pages_left, want_of, wrong_gate}
 use Rattle.page_client.specs.declared.client.Client.{Client}
 use Rattle.page_client.specs.declared.fault.PeerFault.TheVariants.{GateWrong}
 use Rattle.page_client.specs.declared.outcome.Outcome.{Outcome}

@@ -5,7 +5,6 @@ use Rattle.lc_model.specs.Connection.{InDepartureOrder}
 use Rattle.lc_model.specs.Leg.{IsListBest}
 use Rattle.lc_model.specs.declared.connection.Connection.{Connection}
 use Rattle.lc_model.specs.declared.doc.StopsDoc.{StopsDoc}
-use Rattle.lc_model.specs.declared.journey.Journey.{Journey}
 use Rattle.lc_model.specs.declared.page.PageName.{PageName}
 use Rattle.lc_model.specs.declared.query.Query.{Query}
 use Rattle.csa_scan.specs.Done.{IsDone}

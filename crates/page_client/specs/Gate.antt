@@ -1,5 +1,5 @@
 -- The reply of the time gate (RFC 7089, section 4.1), which sends a client to a page.
-use Rattle.std.specs.Prelude.{◌≡◌, ℕ, List, Option, Some, None, Result, Ok, Err}
+use Rattle.std.specs.Prelude.{◌≡◌, ℕ, List, Option, Some, None, Ok, Err}
 use Rattle.url.specs.Parser.{parse_url}
 use Rattle.url.specs.Parts.{Parts, serialize}
 use Rattle.lc_model.specs.declared.page.PageName.{PageName}
@@ -9,7 +9,6 @@ use Rattle.http_text.specs.declared.reply.Reply.{Reply}
 use Rattle.page_json.specs.Says.{SaysPage}
 use Rattle.page_client.specs.Fault.{Tested}
 use Rattle.page_client.specs.Replied.{IsTested}
-use Rattle.page_client.specs.declared.fault.PeerFault.{PeerFault}
 use Rattle.page_client.specs.declared.fault.PeerFault.TheVariants.{Location}
 
 -- the reference, joined to the URL of the gate, is the URL of the page

@@ -2,10 +2,10 @@ ghost use Rattle.page_client.specs.Course.{IsSound};
 
 use crate::beginning::{phase_at_first, refusal_of, refused};
 use crate::gate::gate_said;
-use crate::outcome::{answered, wrong, wrong_gate};
+use crate::outcome::wrong;
 use crate::phase::Phase;
 use crate::request::{ask_gate, ask_page, ask_stops};
-use crate::step::{Step, take};
+use crate::step::{Behind, after_page};
 use crate::stops_reply::stops_said;
 use crate::{Outcome, PeerFault, QueryFault, Want};
 use connection_uri::Base;
@@ -168,20 +168,16 @@ impl Client {
     {
         self.phase = Phase::Finished;
         let gate = self.gate.take();
-        if let Some(outcome) = wrong_gate(alloc, page, self.query.leave, gate)? {
-            self.outcome = Some(outcome);
-            return Ok(());
-        }
         let Some(scan) = &mut self.scan else {
             unreachable!()
         };
-        match take(alloc, scan, page)? {
-            Step::Next(next) => {
+        match after_page(alloc, scan, page, self.query.leave, gate)? {
+            Behind::Goes(next) => {
                 self.phase = Phase::Page(next);
                 Ok(())
             }
-            Step::Last(journey) => {
-                self.outcome = Some(answered(journey));
+            Behind::Ends(outcome) => {
+                self.outcome = Some(outcome);
                 Ok(())
             }
         }

@@ -3,11 +3,16 @@ ghost use Rattle.lc_model.specs.declared.connection.Connection.{Connection};
 ghost use Rattle.lc_model.specs.declared.doc.StopsDoc.{StopsDoc};
 ghost use Rattle.lc_model.specs.declared.query.Query.{Query};
 ghost use Rattle.csa_scan.specs.StandsFor.{StandsFor};
+ghost use Rattle.page_client.specs.Behind.{IsBehind};
 ghost use Rattle.page_client.specs.Course.{IsOver, TakesOn};
+ghost use Rattle.page_client.specs.Shown.{wrong_gate};
+ghost use Rattle.page_client.specs.declared.outcome.Outcome.{Outcome as OutcomeValue};
 
+use crate::Outcome;
+use crate::outcome::{answered, wrong_gate};
 use crate::page_reply::last_departure;
 use csa_scan::Scan;
-use lc_model::{Journey, NoMemory, PageName};
+use lc_model::{Bytes, Journey, Moment, NoMemory, PageName};
 use page_json::Page;
 use std::alloc::Global;
 
@@ -31,6 +36,42 @@ pub fn take(alloc: Global, scan: &mut Scan, page: &Page) -> Result<Step, NoMemor
     match next_of(scan, page) {
         Some(next) => Ok(Step::Next(next)),
         None => Ok(Step::Last(scan.journey(alloc)?)),
+    }
+}
+
+/// What a client does behind a page.
+#[derive(Drop)]
+pub enum Behind {
+    /// It wants the page of this name.
+    Goes(PageName),
+    /// It has its outcome.
+    Ends(Outcome),
+}
+
+/// Takes a page to which the gate did not send wrongly, and says what comes behind it. Takes the time of `take`.
+pub fn after_page(
+    alloc: Global,
+    scan: &mut Scan,
+    page: &Page,
+    leave: Moment,
+    gate: Option<Bytes>,
+) -> Result<Behind, NoMemory>
+    ensures wrong { IfOk result (λ behind. (outcome : OutcomeValue) → wrong_gate page.now leave gate ≡ Some outcome → behind ≡ Behind.Ends outcome) }
+    ensures right { IfOk result (λ behind. wrong_gate page.now leave gate ≡ None → IsBehind scan.old scan.new page.now behind) }
+{
+    match wrong_gate(alloc, page, leave, gate)? {
+        Some(outcome) => Ok(Behind::Ends(outcome)),
+        None => after_right_page(alloc, scan, page),
+    }
+}
+
+/// Takes a page and says what comes behind it. Takes the time of `take`.
+fn after_right_page(alloc: Global, scan: &mut Scan, page: &Page) -> Result<Behind, NoMemory>
+    ensures { IfOk result (IsBehind scan.old scan.new page.now) }
+{
+    match take(alloc, scan, page)? {
+        Step::Next(next) => Ok(Behind::Goes(next)),
+        Step::Last(journey) => Ok(Behind::Ends(answered(journey))),
     }
 }
 

@@ -5,3 +5,4 @@ pub mod StopsReading
 pub mod Tree
 pub mod Urls
 pub mod Valid
+pub mod Writing

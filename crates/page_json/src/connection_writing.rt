@@ -8,6 +8,7 @@ ghost use Rattle.json_members.specs.Tokens.{Appends, member_tokens, tokens_of};
 ghost use Rattle.json_members.specs.MemberWriting.{items_from, text_at};
 ghost use Rattle.page_json.specs.Tree.{allowed_text, connection_tree};
 ghost use Rattle.page_json.specs.Urls.{stop_url_of, trip_url_of};
+ghost use Rattle.page_json.specs.Writing.{closed_tokens, use_members};
 
 use crate::sound::sound_connection;
 use crate::urls::{stop_url, trip_url};
@@ -51,6 +52,19 @@ fn write_connection(
     write_text(out, "@type", "Connection")?;
     write_arrival(out, alloc, base, connection)?;
     write_departure(out, alloc, base, connection)?;
+    write_use(out, alloc, base, connection)?;
+    Ok(())
+}
+
+/// Writes whether one may alight and board, and of which trip the connection is, and ends its object.
+fn write_use(
+    out: &mut Writer,
+    alloc: Global,
+    base: &Base,
+    connection: &Connection,
+) -> Result<(), NoMemory>
+    ensures { OnOk result (Appends out.old out.new (closed_tokens (use_members base.now connection.now))) }
+{
     write_allowed(out, "gtfs:dropOffType", connection.alight)?;
     write_allowed(out, "gtfs:pickupType", connection.board)?;
     write_trip(out, alloc, base, &connection.key)?;

@@ -8,6 +8,7 @@ ghost use Rattle.json_members.specs.Tokens.{Appends, member_tokens, tokens_of};
 ghost use Rattle.json_members.specs.MemberWriting.{text_at};
 ghost use Rattle.page_json.specs.Tree.{context_tree, iri_tree, link_at, mapping_tree, page_text_of, page_tree, search_tree, typed_tree, with_connection_terms};
 ghost use Rattle.page_json.specs.Valid.{IsValidPage};
+ghost use Rattle.page_json.specs.Writing.{arrival_terms, closed_tokens, departure_terms, gtfs_terms, hydra_terms, other_terms, search_members, view_members};
 
 use crate::Page;
 use crate::connection_writing::write_connections;
@@ -43,10 +44,26 @@ fn write_page(out: &mut Writer, alloc: Global, base: &Base, page: &Page) -> Resu
     write_context(out)?;
     out.key("@graph")?;
     write_connections(out, alloc, base, page.list.as_slice())?;
+    write_view(out, alloc, base, page)?;
+    Ok(())
+}
+
+/// Writes what a page says of itself, and ends its object.
+fn write_view(out: &mut Writer, alloc: Global, base: &Base, page: &Page) -> Result<(), NoMemory>
+    ensures { OnOk result (Appends out.old out.new (closed_tokens (view_members base.now page.now))) }
+{
     write_page_url(out, alloc, base, "@id", page.name)?;
     write_text(out, "@type", "hydra:PartialCollectionView")?;
     write_link(out, alloc, base, "hydra:next", page.next)?;
     write_link(out, alloc, base, "hydra:previous", page.previous)?;
+    write_end(out, alloc, base)?;
+    Ok(())
+}
+
+/// Writes how other pages are asked for, and ends the object of a page.
+fn write_end(out: &mut Writer, alloc: Global, base: &Base) -> Result<(), NoMemory>
+    ensures { OnOk result (Appends out.old out.new (closed_tokens (search_members base.now))) }
+{
     out.key("hydra:search")?;
     write_search(out, alloc, base)?;
     out.end_object()?;
@@ -90,16 +107,40 @@ fn write_context(out: &mut Writer) -> Result<(), NoMemory>
 {
     out.begin_object()?;
     write_connection_terms(out)?;
+    write_gtfs_terms(out)?;
+    write_hydra_terms(out)?;
+    write_other_terms(out)?;
+    out.end_object()?;
+    Ok(())
+}
+
+/// Writes what `gtfs` and the names under it mean.
+fn write_gtfs_terms(out: &mut Writer) -> Result<(), NoMemory>
+    ensures { OnOk result (Appends out.old out.new (member_tokens gtfs_terms)) }
+{
     write_text(out, "gtfs", "http://vocab.gtfs.org/terms#")?;
     write_iri(out, "gtfs:dropOffType")?;
     write_iri(out, "gtfs:pickupType")?;
     write_iri(out, "gtfs:trip")?;
+    Ok(())
+}
+
+/// Writes what `hydra` and the names under it mean.
+fn write_hydra_terms(out: &mut Writer) -> Result<(), NoMemory>
+    ensures { OnOk result (Appends out.old out.new (member_tokens hydra_terms)) }
+{
     write_text(out, "hydra", "http://www.w3.org/ns/hydra/core#")?;
     write_iri(out, "hydra:next")?;
     write_iri(out, "hydra:previous")?;
+    Ok(())
+}
+
+/// Writes what `lc` and `xsd` mean.
+fn write_other_terms(out: &mut Writer) -> Result<(), NoMemory>
+    ensures { OnOk result (Appends out.old out.new (member_tokens other_terms)) }
+{
     write_text(out, "lc", "http://semweb.mmlab.be/ns/linkedconnections#")?;
     write_text(out, "xsd", "http://www.w3.org/2001/XMLSchema#")?;
-    out.end_object()?;
     Ok(())
 }
 
@@ -108,9 +149,25 @@ fn write_connection_terms(out: &mut Writer) -> Result<(), NoMemory>
     ensures { OnOk result (Appends out.old out.new (member_tokens (with_connection_terms no_members))) }
 {
     write_text(out, "Connection", "lc:Connection")?;
+    write_arrival_terms(out)?;
+    write_departure_terms(out)?;
+    Ok(())
+}
+
+/// Writes what the names of an arrival's members mean.
+fn write_arrival_terms(out: &mut Writer) -> Result<(), NoMemory>
+    ensures { OnOk result (Appends out.old out.new (member_tokens arrival_terms)) }
+{
     write_text(out, "arrivalDelay", "lc:arrivalDelay")?;
     write_typed(out, "arrivalStop", "lc:arrivalStop", "@id")?;
     write_typed(out, "arrivalTime", "lc:arrivalTime", "xsd:dateTime")?;
+    Ok(())
+}
+
+/// Writes what the names of a departure's members mean.
+fn write_departure_terms(out: &mut Writer) -> Result<(), NoMemory>
+    ensures { OnOk result (Appends out.old out.new (member_tokens departure_terms)) }
+{
     write_text(out, "departureDelay", "lc:departureDelay")?;
     write_typed(out, "departureStop", "lc:departureStop", "@id")?;
     write_typed(out, "departureTime", "lc:departureTime", "xsd:dateTime")?;

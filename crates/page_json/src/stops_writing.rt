@@ -1,12 +1,13 @@
-ghost use Rattle.std.specs.Prelude.{◌≡◌, All, IfOk, OnOk};
+ghost use Rattle.std.specs.Prelude.{◌≡◌, ◌++◌, All, codes, IfOk, OnOk};
 ghost use Rattle.std.specs.Str.{IsUtf8};
-ghost use Rattle.serde_json.specs.Data.{array};
+ghost use Rattle.serde_json.specs.Data.{array, no_members};
 ghost use Rattle.page_json.specs.Sound.{IsSoundChange, IsSoundDoc, IsSoundStop};
 ghost use Rattle.page_json.specs.StopsReading.{doc_of_bytes};
 ghost use Rattle.json_members.specs.Tokens.{Appends, member_tokens, tokens_of};
-ghost use Rattle.json_members.specs.MemberWriting.{items_from};
+ghost use Rattle.json_members.specs.MemberWriting.{items_from, text_at};
 ghost use Rattle.page_json.specs.Tree.{change_tree, parent_at, stop_tree, stops_text_of, stops_tree};
 ghost use Rattle.page_json.specs.Valid.{IsValidDoc};
+ghost use Rattle.page_json.specs.Writing.{closed_tokens, list_members};
 
 use crate::sound::{sound_change, sound_stop};
 use connection_uri::Base;
@@ -32,14 +33,33 @@ fn write_doc(out: &mut Writer, alloc: Global, base: &Base, doc: &StopsDoc) -> Re
     ensures sound { OnOk result (IsSoundDoc doc.now) }
     ensures valid { OnOk result (IsValidDoc doc.now) }
 {
+    out.begin_object()?;
+    write_doc_url(out, alloc, base)?;
+    write_lists(out, doc.changes.as_slice(), doc.stops.as_slice())?;
+    Ok(())
+}
+
+/// Writes the URL of the document.
+fn write_doc_url(out: &mut Writer, alloc: Global, base: &Base) -> Result<(), NoMemory>
+    ensures { OnOk result
+        (Appends out.old out.new (member_tokens (text_at (codes "@id") (base.now.text ++ codes "stops") no_members))) }
+{
     let mut url = String::from_str(alloc, base.text())?;
     url.push_str("stops")?;
-    out.begin_object()?;
     write_text(out, "@id", url.as_str())?;
+    Ok(())
+}
+
+/// Writes the changes and the stops, and ends the object of their document.
+fn write_lists(out: &mut Writer, changes: &[Change], stops: &[Stop]) -> Result<(), NoMemory>
+    ensures tokens { OnOk result (Appends out.old out.new (closed_tokens (list_members changes.now stops.now))) }
+    ensures changes { OnOk result (All IsSoundChange changes.now) }
+    ensures stops { OnOk result (All IsSoundStop stops.now) }
+{
     out.key("changes")?;
-    write_changes(out, doc.changes.as_slice())?;
+    write_changes(out, changes)?;
     out.key("stops")?;
-    write_stops(out, doc.stops.as_slice())?;
+    write_stops(out, stops)?;
     out.end_object()?;
     Ok(())
 }

@@ -5,11 +5,8 @@ use Rattle.journey_text.proofs.answer_writing.push_ride.Goals as goal
 pub returns : goal.returns
 returns c =
     let start = c.args.text.now.items in
-    let key = appended start _ _ _ _ c.in_ok-extend_from_slice.ensures.items c.in_ok-push_key.ensures in
-    let first = appended start _ _ _ _ key c.in_ok-push_number.ensures in
-    let last = appended start _ _ _ _ first c.in_ok-push_number-2.ensures in
-    let board = appended start _ _ _ _ last c.in_ok-push_id.ensures in
+    let board = appended start _ _ _ _ c.in_ok-push_places.ensures c.in_ok-push_id.ensures in
     let dep = appended start _ _ _ _ board c.in_ok-push_moment.ensures in
     let alight = appended start _ _ _ _ dep c.in_ok-push_id-2.ensures in
     let arr = appended start _ _ _ _ alight c.in_ok-push_moment-2.ensures in
-    appended start _ _ _ _ arr c.in_ok-extend_from_slice-2.ensures.items
+    appended start _ _ _ _ arr c.in_ok-extend_from_slice.ensures.items

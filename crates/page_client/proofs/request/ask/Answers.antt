@@ -1,5 +1,5 @@
-use Rattle.std.proofs.Common.{List, ℕ, ◌∙◌, sym, subst, ap}
-use Rattle.http_text.specs.RequestText.{CanAsk, SaysGet, request_text_of}
+use Rattle.std.proofs.Common.{List, ℕ, sym, subst}
+use Rattle.http_text.specs.RequestText.{CanAsk, request_text_of}
 use Rattle.page_client.specs.Request.{Asks}
 use Rattle.page_client.proofs.request.ask.Goals as goal
 

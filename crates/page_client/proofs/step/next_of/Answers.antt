@@ -1,4 +1,3 @@
-use Rattle.std.proofs.Common.{sym}
 use Rattle.page_client.proofs.step.next_of.Goals as goal
 
 pub returns-else-is_over-clause-next : goal.returns-else-is_over-clause-next

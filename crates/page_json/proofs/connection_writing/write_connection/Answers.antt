@@ -7,5 +7,4 @@ pub returns-clause-tokens : goal.returns-clause-tokens
 unfolding connection_tree
 returns-clause-tokens c =
     one c.in_ok-begin_object.ensures >> c.in_ok-write_name.ensures >> c.in_ok-write_text.ensures >> c.in_ok-write_arrival.ensures
-    >> c.in_ok-write_departure.ensures >> c.in_ok-write_allowed.ensures >> c.in_ok-write_allowed-2.ensures >> c.in_ok-write_trip.ensures
-    >> one c.in_ok-end_object.ensures
+    >> c.in_ok-write_departure.ensures >> c.in_ok-write_use.ensures

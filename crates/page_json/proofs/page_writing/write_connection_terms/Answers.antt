@@ -3,6 +3,4 @@ use Rattle.json_members.proofs.TokensLemmas.{◌>>◌}
 use Rattle.page_json.proofs.page_writing.write_connection_terms.Goals as goal
 
 pub returns : goal.returns
-returns c =
-    c.in_ok-write_text.ensures >> c.in_ok-write_text-2.ensures >> c.in_ok-write_typed.ensures >> c.in_ok-write_typed-2.ensures
-    >> c.in_ok-write_text-3.ensures >> c.in_ok-write_typed-3.ensures >> c.in_ok-write_typed-4.ensures
+returns c = c.in_ok-write_text.ensures >> c.in_ok-write_arrival_terms.ensures >> c.in_ok-write_departure_terms.ensures

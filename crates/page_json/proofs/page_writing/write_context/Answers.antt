@@ -6,6 +6,5 @@ use Rattle.page_json.proofs.page_writing.write_context.Goals as goal
 pub returns : goal.returns
 unfolding context_tree
 returns c =
-    one c.in_ok-begin_object.ensures >> c.in_ok-write_connection_terms.ensures >> c.in_ok-write_text.ensures >> c.in_ok-write_iri.ensures
-    >> c.in_ok-write_iri-2.ensures >> c.in_ok-write_iri-3.ensures >> c.in_ok-write_text-2.ensures >> c.in_ok-write_iri-4.ensures
-    >> c.in_ok-write_iri-5.ensures >> c.in_ok-write_text-3.ensures >> c.in_ok-write_text-4.ensures >> one c.in_ok-end_object.ensures
+    one c.in_ok-begin_object.ensures >> c.in_ok-write_connection_terms.ensures >> c.in_ok-write_gtfs_terms.ensures
+    >> c.in_ok-write_hydra_terms.ensures >> c.in_ok-write_other_terms.ensures >> one c.in_ok-end_object.ensures

@@ -1,5 +1,5 @@
 -- The members follow each other. The lists of a document stand in order, and it names its stops.
-use Rattle.std.proofs.Common.{◌≡◌, ◌++◌, codes, rules, subst}
+use Rattle.std.proofs.Common.{subst}
 use Rattle.lc_model.specs.Change.{InChangeOrder}
 use Rattle.lc_model.specs.Stop.{InStopOrder}
 use Rattle.page_json.proofs.StopsLemmas.{names_its_stops}
@@ -8,11 +8,8 @@ use Rattle.page_json.proofs.stops_writing.write_doc.Goals as goal
 
 pub returns-clause-tokens : goal.returns-clause-tokens
 returns-clause-tokens c =
-    let whole =
-    one c.in_ok-begin_object.ensures >> c.in_ok-write_text.ensures >> one c.in_ok-key.ensures >> c.in_ok-write_changes.ensures.tokens
-    >> one c.in_ok-key-2.ensures >> c.in_ok-write_stops.ensures.tokens >> one c.in_ok-end_object.ensures in
-    let url : c.as_str.result.now ≡ c.args.base.now.text ++ codes "stops" = search rules in
-    rw (← url, ← c.as_slice.ensures.value, ← c.as_slice-2.ensures.value) whole
+    let whole = one c.in_ok-begin_object.ensures >> c.in_ok-write_doc_url.ensures >> c.in_ok-write_lists.ensures.tokens in
+    rw (← c.as_slice.ensures.value, ← c.as_slice-2.ensures.value) whole
 
 pub returns-clause-valid : goal.returns-clause-valid
 returns-clause-valid c = record {

@@ -1,10 +1,8 @@
-use Rattle.std.proofs.Common.{◌≡◌, List, [], ◌∙◌, not, true, ap, sym, subst}
+use Rattle.std.proofs.Common.{◌≡◌, List, ◌∙◌, not, true, ap, subst}
 use Rattle.std.specs.Option.{is_some}
 use Rattle.lc_model.specs.Stop.{HasStop}
 use Rattle.lc_model.specs.declared.stop.Stop.{Stop}
-use Rattle.csa_scan.specs.Kept.{Kept}
-use Rattle.csa_scan.specs.Stands.{Stands}
-use Rattle.csa_scan.proofs.BegunLemmas.{known, stands_nothing}
+use Rattle.csa_scan.proofs.BegunLemmas.{known}
 use Rattle.csa_scan.proofs.scan.Scan.begin.Goals as goal
 
 pub returns-clause-known : goal.returns-clause-known
@@ -21,14 +19,5 @@ returns-clause-known c =
 
 pub returns-clause-ok : goal.returns-clause-ok
 returns-clause-ok c =
-    let query = c.args.query.now in
-    let doc = c.args.doc.now in
-    let P : Kept → Type 0 = λ k. Stands query doc c.new-runs.result k [] in
     let both = returns-clause-known c in
-    record {
-      same_query = c.in_ok-copy.ensures;
-      same_doc = c.in_ok-copy-2.ensures;
-      asked = record { from_known = both.0; to_known = both.1 };
-      walks = c.in_ok-walks.ensures;
-      stands = subst P (sym c.in_ok-progress.ensures) (stands_nothing query doc c.new-runs.result _);
-    }
+    c.in_ok-of_nothing.ensures (record { from_known = both.0; to_known = both.1 })

@@ -1,51 +1,64 @@
-use Rattle.std.proofs.Common.{◌≡◌, ℕ, List, Option, Some, None, refl, sym, ◌∙◌, ap, subst}
-use Rattle.page_client.specs.Client.{shown}
-use Rattle.page_client.specs.Course.{TakesOn}
-use Rattle.page_client.specs.Shown.{Shown, answered, wrong_gate}
-use Rattle.page_client.specs.declared.outcome.Outcome.{Outcome}
+use Rattle.std.proofs.Common.{ℕ, List, Option, Some, refl, ◌∙◌, ap}
+use Rattle.page_client.specs.Shown.{Shown, wrong_gate}
 use Rattle.page_client.specs.declared.phase.Phase.TheVariants as phases
-use Rattle.page_client.specs.declared.step.Step.{Step}
-use Rattle.page_client.specs.declared.step.Step.TheVariants.{Last, Next}
-use Rattle.page_client.proofs.PageLemmas.{last_taken, next_fewer, next_sound, next_taken, waits_for}
+use Rattle.page_client.proofs.BehindLemmas.{ends_taken, ends_wrong, goes_right, goes_takes}
+use Rattle.page_client.proofs.PageLemmas.{next_fewer, next_sound, next_taken, waits_for}
 use Rattle.page_client.proofs.client.Client.give_page.Goals as goal
 
-pub invariant_of-self-in-Next : goal.invariant_of-self-in-Next
-invariant_of-self-in-Next c =
+pub invariant_of-self-in-Goes : goal.invariant_of-self-in-Goes
+invariant_of-self-in-Goes c =
     let self = c.args.self.now in
     let page = c.args.page.now in
-    let T : Step → Type 0 = λ step. TakesOn c.in-Some-scan.scan c.take.new.scan page step in
-    let right = ap (wrong_gate page self.query.leave) (sym c.take-gate.ensures.value) ∙ sym c.in_ok-outcome.ensures ∙ c.in_default.is in
+    let same = ap (wrong_gate page self.query.leave) c.take-gate.ensures.value in
+    let right = goes_right (wrong_gate page self.query.leave self.gate) _ c.in-Goes.next c.in-Goes.is (λ o e. c.in_ok-next.ensures.wrong o (same ∙ e)) in
+    let takes = goes_takes c.in-Some.scan c.after_page.new.scan page _ c.in-Goes.next c.in-Goes.is (c.in_ok-next.ensures.right (same ∙ right)) in
     record {
-      sound = next_sound page c.requires.advances c.requires.valid c.in-Some-scan.scan c.take.new.scan c.in-Next.next (subst T c.in-Next.is c.in_ok-next.ensures) self.query self.gate right
-          self.scan c.in-Some-scan.is self.phase (waits_for self.phase page.name c.requires.wanted) self.sound c.take-gate.new.self c.take-gate.ensures.after;
+      sound = next_sound page c.requires.advances c.requires.valid c.in-Some.scan c.after_page.new.scan c.in-Goes.next takes self.query self.gate right
+          self.scan c.in-Some.is self.phase (waits_for self.phase page.name c.requires.wanted) self.sound c.take-gate.new.self c.take-gate.ensures.after;
     }
 
-pub returns-in-Next-clause-fewer : goal.returns-in-Next-clause-fewer
-returns-in-Next-clause-fewer c =
+pub returns-in-Goes-clause-fewer : goal.returns-in-Goes-clause-fewer
+returns-in-Goes-clause-fewer c =
     let self = c.args.self.now in
     let page = c.args.page.now in
-    let T : Step → Type 0 = λ step. TakesOn c.in-Some-scan.scan c.take.new.scan page step in
-    let right = ap (wrong_gate page self.query.leave) (sym c.take-gate.ensures.value) ∙ sym c.in_ok-outcome.ensures ∙ c.in_default.is in
-    next_fewer page c.requires.advances c.requires.valid c.in-Some-scan.scan c.take.new.scan c.in-Next.next (subst T c.in-Next.is c.in_ok-next.ensures) self.query self.gate right
-    self.scan c.in-Some-scan.is self.phase (waits_for self.phase page.name c.requires.wanted) self.sound c.take-gate.new.self c.take-gate.ensures.after
+    let same = ap (wrong_gate page self.query.leave) c.take-gate.ensures.value in
+    let right = goes_right (wrong_gate page self.query.leave self.gate) _ c.in-Goes.next c.in-Goes.is (λ o e. c.in_ok-next.ensures.wrong o (same ∙ e)) in
+    let takes = goes_takes c.in-Some.scan c.after_page.new.scan page _ c.in-Goes.next c.in-Goes.is (c.in_ok-next.ensures.right (same ∙ right)) in
+    next_fewer page c.requires.advances c.requires.valid c.in-Some.scan c.after_page.new.scan c.in-Goes.next takes self.query self.gate right
+    self.scan c.in-Some.is self.phase (waits_for self.phase page.name c.requires.wanted) self.sound c.take-gate.new.self c.take-gate.ensures.after
 
-pub returns-in-Next-clause-ok : goal.returns-in-Next-clause-ok
-returns-in-Next-clause-ok c =
+pub returns-in-Goes-clause-ok : goal.returns-in-Goes-clause-ok
+returns-in-Goes-clause-ok c =
     let self = c.args.self.now in
     let page = c.args.page.now in
-    let T : Step → Type 0 = λ step. TakesOn c.in-Some-scan.scan c.take.new.scan page step in
-    let right = ap (wrong_gate page self.query.leave) (sym c.take-gate.ensures.value) ∙ sym c.in_ok-outcome.ensures ∙ c.in_default.is in
-    let F : Option (List ℕ) → Shown = λ gate. record { query = self.query; phase = phases.Page c.in-Next.next; version = self.version; gate = gate; outcome = self.outcome } in
-    next_taken page c.requires.advances c.requires.valid c.in-Some-scan.scan c.take.new.scan self _ c.in-Some-scan.is (waits_for self.phase page.name c.requires.wanted) right
-    c.in-Next.next (subst T c.in-Next.is c.in_ok-next.ensures) refl refl refl (ap F c.take-gate.ensures.after)
+    let same = ap (wrong_gate page self.query.leave) c.take-gate.ensures.value in
+    let right = goes_right (wrong_gate page self.query.leave self.gate) _ c.in-Goes.next c.in-Goes.is (λ o e. c.in_ok-next.ensures.wrong o (same ∙ e)) in
+    let takes = goes_takes c.in-Some.scan c.after_page.new.scan page _ c.in-Goes.next c.in-Goes.is (c.in_ok-next.ensures.right (same ∙ right)) in
+    let F : Option (List ℕ) → Shown = λ gate. record { query = self.query; phase = phases.Page c.in-Goes.next; version = self.version; gate = gate; outcome = self.outcome } in
+    next_taken page c.requires.advances c.requires.valid c.in-Some.scan c.after_page.new.scan self _ c.in-Some.is (waits_for self.phase page.name c.requires.wanted) right
+    c.in-Goes.next takes refl refl refl (ap F c.take-gate.ensures.after)
 
-pub returns-in-Last-clause-ok : goal.returns-in-Last-clause-ok
-returns-in-Last-clause-ok c =
+pub returns-in-Goes-clause-wrong : goal.returns-in-Goes-clause-wrong
+returns-in-Goes-clause-wrong c = λ none.
     let self = c.args.self.now in
     let page = c.args.page.now in
-    let T : Step → Type 0 = λ step. TakesOn c.in-Some-scan.scan c.take.new.scan page step in
-    let right = ap (wrong_gate page self.query.leave) (sym c.take-gate.ensures.value) ∙ sym c.in_ok-outcome.ensures ∙ c.in_default.is in
-    let F : Option (List ℕ) → Shown = λ gate. record { query = self.query; phase = phases.Finished; version = self.version; gate = gate; outcome = Some c.answered.result } in
-    let G : Outcome → Shown = λ outcome. record { query = self.query; phase = phases.Finished; version = self.version; gate = None; outcome = Some outcome } in
-    last_taken page c.requires.advances c.requires.valid c.in-Some-scan.scan c.take.new.scan self _ c.in-Some-scan.is (waits_for self.phase page.name c.requires.wanted) right
-    c.in-Last.journey (subst T c.in-Last.is c.in_ok-next.ensures) (ap F c.take-gate.ensures.after ∙ ap G c.answered.ensures)
+    let same = ap (wrong_gate page self.query.leave) c.take-gate.ensures.value in
+    let right = goes_right (wrong_gate page self.query.leave self.gate) _ c.in-Goes.next c.in-Goes.is (λ o e. c.in_ok-next.ensures.wrong o (same ∙ e)) in
+    rw (none, right) refl
+
+pub returns-in-Ends-clause-ok : goal.returns-in-Ends-clause-ok
+returns-in-Ends-clause-ok c =
+    let self = c.args.self.now in
+    let page = c.args.page.now in
+    let same = ap (wrong_gate page self.query.leave) c.take-gate.ensures.value in
+    let F : Option (List ℕ) → Shown = λ gate. record { query = self.query; phase = phases.Finished; version = self.version; gate = gate; outcome = Some c.in-Ends.outcome } in
+    ends_taken page c.in-Some.scan c.after_page.new.scan _ c.in-Ends.outcome c.in-Ends.is c.requires.advances c.requires.valid self _ c.in-Some.is
+    (waits_for self.phase page.name c.requires.wanted) (λ o e. c.in_ok-next.ensures.wrong o (same ∙ e)) (λ e. c.in_ok-next.ensures.right (same ∙ e)) (ap F c.take-gate.ensures.after)
+
+pub returns-in-Ends-clause-wrong : goal.returns-in-Ends-clause-wrong
+returns-in-Ends-clause-wrong c = λ none.
+    let self = c.args.self.now in
+    let page = c.args.page.now in
+    let same = ap (wrong_gate page self.query.leave) c.take-gate.ensures.value in
+    ends_wrong page c.in-Some.scan c.after_page.new.scan _ c.in-Ends.outcome c.in-Ends.is self.query.leave self.gate
+    (λ o e. c.in_ok-next.ensures.wrong o (same ∙ e)) (λ e. c.in_ok-next.ensures.right (same ∙ e))
