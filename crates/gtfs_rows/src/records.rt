@@ -1,12 +1,14 @@
-ghost use Rattle.std.specs.Prelude.{◌≡◌, ◌+◌, ◌<◌, ◌^◌, ◌++◌, [], IfNone, IfOk, OnOk, length, map, option_map, slice_index, slice_index_or};
-ghost use Rattle.csv.specs.Records.{fields_of, partial_of, prev};
+ghost use Rattle.std.specs.Prelude.{◌≡◌, ◌+◌, ◌<◌, ◌^◌, ◌++◌, [], ◌∷◌, IfNone, IfOk, OnOk, Some, false, length, map, option_map, slice_index, slice_index_or, true};
+ghost use Rattle.csv.specs.Reading.{ReadRecord};
+ghost use Rattle.csv.specs.Records.{Rising, fields_of, partial_of, prev};
+ghost use Rattle.gtfs_rows.specs.Reading.{IsPlain};
 ghost use Rattle.gtfs_rows.specs.Sheet.{AreTrimmedRecordsOf, column_of, missing_column, names_of, ragged_row};
 ghost use Rattle.gtfs_rows.specs.Spaces as spec;
-ghost use Rattle.gtfs_rows.specs.Store.{IsEven, sheet_of};
+ghost use Rattle.gtfs_rows.specs.Store.{IsEven, cut_records, sheet_of};
 
 use crate::reading::read_next;
 use crate::spaces::without_spaces;
-use csv::{ByteRecord, ReaderBuilder};
+use csv::{ByteRecord, Reader, ReaderBuilder};
 use lc_model::NoMemory;
 use std::alloc::Global;
 use std::marker::Model;
@@ -37,17 +39,9 @@ impl Records {
     pub fn read(alloc: Global, bytes: &[u8]) -> Result<Records, NoMemory>
         ensures { IfOk result (AreTrimmedRecordsOf bytes.now) }
     {
-        let mut reader = ReaderBuilder::new()
-            .has_headers(false)
-            .flexible(true)
-            .from_reader(alloc, bytes);
-        let mut row = ByteRecord::new(alloc);
         let mut fields = ByteRecord::new(alloc);
         let mut ends = Vec::new(alloc);
-        'records: while read_next(&mut reader, &mut row)? {
-            push_trimmed(&mut fields, &row)?;
-            ends.push(fields.len())?;
-        }
+        fill(alloc, bytes, &mut fields, &mut ends)?;
         Ok(Records { fields, ends })
     }
 
@@ -119,6 +113,28 @@ impl Records {
     }
 }
 
+// Adds the fields of all records of a CSV text, without the spaces at their ends, and where each record ends.
+fn fill(
+    alloc: Global,
+    bytes: &[u8],
+    fields: &mut ByteRecord,
+    ends: &mut Vec<usize>,
+) -> Result<(), NoMemory>
+    requires empty { fields_of fields.old ≡ [] }
+    requires partial { partial_of fields.old ≡ [] }
+    requires none { ends.old.items ≡ [] }
+    ensures records { OnOk result (AreTrimmedRecordsOf bytes.now (cut_records 0 ends.new.items (fields_of fields.new))) }
+    ensures rising { OnOk result (Rising 0 ends.new.items (length (fields_of fields.new))) }
+{
+    let mut reader = ReaderBuilder::new()
+        .has_headers(false)
+        .flexible(true)
+        .from_reader(alloc, bytes);
+    let mut row = ByteRecord::new(alloc);
+    'records: while add_next(&mut reader, &mut row, fields, ends)? {}
+    Ok(())
+}
+
 // Where the record at this place starts and ends.
 fn bounds(ends: &[usize], place: usize) -> (usize, usize)
     requires { place < length ends.now }
@@ -128,6 +144,32 @@ fn bounds(ends: &[usize], place: usize) -> (usize, usize)
 {
     let start = if place == 0 { 0 } else { ends[place - 1] };
     (start, ends[place])
+}
+
+// Whether there is a next record. It is read into `row`, and its fields are added, without the spaces at their ends, and
+// where they end.
+fn add_next(
+    reader: &mut Reader<&[u8]>,
+    row: &mut ByteRecord,
+    fields: &mut ByteRecord,
+    ends: &mut Vec<usize>,
+) -> Result<bool, NoMemory>
+    requires plain { IsPlain reader.old }
+    requires partial { partial_of fields.old ≡ [] }
+    ensures reads { IfOk result (λ found. ReadRecord (λ text. Some text.now) reader.old reader.new found (fields_of row.new)) }
+    ensures plain { IfOk result (λ found. found ≡ true → IsPlain reader.new) }
+    ensures fields { IfOk result (λ found. found ≡ true → fields_of fields.new ≡ fields_of fields.old ++ map spec.without_spaces (fields_of row.new)) }
+    ensures partial { IfOk result (λ found. found ≡ true → partial_of fields.new ≡ []) }
+    ensures ends { IfOk result (λ found. found ≡ true → ends.new.items ≡ ends.old.items ++ length (fields_of fields.new) ∷ []) }
+    ensures same_fields { IfOk result (λ found. found ≡ false → fields.new ≡ fields.old) }
+    ensures same_ends { IfOk result (λ found. found ≡ false → ends.new ≡ ends.old) }
+{
+    if !read_next(reader, row)? {
+        return Ok(false);
+    }
+    push_trimmed(fields, row)?;
+    ends.push(fields.len())?;
+    Ok(true)
 }
 
 // Adds the fields of a record, without the spaces at their ends.

@@ -1,7 +1,8 @@
-ghost use Rattle.std.specs.Prelude.{◌≡◌, ◌⊎◌, ◌↔◌, Err, IfErr, IfOk, IsOkUnless, IsTrue};
+ghost use Rattle.std.specs.Prelude.{◌≡◌, ◌⊎◌, ◌↔◌, ℕ, Err, IfErr, IfOk, IsOkUnless, IsTrue, List, OnOk};
 ghost use Rattle.std.specs.Str.{IsUtf8};
 ghost use Rattle.gtfs_rows.specs.Fault.{Breaks};
-ghost use Rattle.gtfs_rows.specs.Sheet.{IsSheetOf, IsTable, Sheet, names_of};
+ghost use Rattle.gtfs_rows.specs.Sheet.{AreTrimmedRecordsOf, IsSheetOf, IsTable, Sheet, names_of};
+ghost use Rattle.gtfs_rows.specs.Store.{IsEven, sheet_of};
 ghost use Rattle.gtfs_rows.specs.declared.fault.RowFault.{RowFault};
 
 use crate::fault::RowFault;
@@ -30,6 +31,21 @@ pub fn table(alloc: Global, bytes: &[u8], columns: &[&str]) -> Result<Rows, RowF
         return Err(RowFault::NotUtf8);
     }
     let records = Records::read(alloc, bytes)?;
+    match check_records(alloc, &records, columns) {
+        Ok(()) => Ok(Rows::from_records(records)),
+        Err(fault) => Err(fault),
+    }
+}
+
+// Whether the records are a table with these columns; else the first fault that shows in them. The text that they were read
+// from is UTF-8.
+fn check_records(alloc: Global, records: &Records, columns: &[&str]) -> Result<(), RowFault>
+    ensures table { OnOk result ((bytes : List ℕ) → IsUtf8 bytes → AreTrimmedRecordsOf bytes records.now
+        → IsTable bytes (names_of columns.now) (sheet_of records.now)) }
+    ensures even { OnOk result (IsEven records.now) }
+    ensures fault { IfErr result (λ fault. (fault ≡ RowFault.NoMemory) ⊎ ((bytes : List ℕ) → IsUtf8 bytes → AreTrimmedRecordsOf bytes records.now
+        → Breaks bytes (names_of columns.now) fault)) }
+{
     if records.len() == 0 {
         return Err(RowFault::NoHeader);
     }
@@ -40,7 +56,7 @@ pub fn table(alloc: Global, bytes: &[u8], columns: &[&str]) -> Result<Rows, RowF
     if let Some(row) = records.ragged() {
         return Err(RowFault::Ragged { row: row as u64 });
     }
-    Ok(Rows::from_records(records))
+    Ok(())
 }
 
 fn is_utf8(bytes: &[u8]) -> bool
