@@ -1,7 +1,7 @@
 ghost use Rattle.std.specs.Prelude.{◌≡◌};
 ghost use Rattle.lc_model.specs.Connection.{NoneArrivesEarly};
 
-use crate::{Id, Moment, NoMemory, PlainData, RunKey, copy_each};
+use crate::{Call, Id, Moment, NoMemory, PlainData, RunKey, copy_each};
 use std::alloc::Global;
 use std::marker::Model;
 
@@ -21,6 +21,34 @@ pub struct Connection {
     pub alight: bool,
     pub dep_delay: i64,
     pub arr_delay: i64,
+}
+
+impl Connection {
+    ghost use Rattle.std.specs.Prelude.{IfOk};
+    ghost use Rattle.lc_model.specs.Connection.{connection_between};
+
+    /// The connection of a run from one of its calls to another.
+    pub fn between(
+        alloc: Global,
+        key: &RunKey,
+        from: &Call,
+        to: &Call,
+    ) -> Result<Connection, NoMemory>
+        ensures { IfOk result (λ connection. connection ≡ connection_between key.now from.now to.now) }
+    {
+        Ok(Connection {
+            key: key.copy(alloc)?,
+            seq: from.seq,
+            dep_stop: from.stop.copy(alloc)?,
+            dep: from.dep,
+            arr_stop: to.stop.copy(alloc)?,
+            arr: to.arr,
+            board: from.board,
+            alight: to.alight,
+            dep_delay: from.dep_delay,
+            arr_delay: to.arr_delay,
+        })
+    }
 }
 
 impl PlainData for Connection {

@@ -1,31 +1,10 @@
 ghost use Rattle.std.specs.Prelude.{◌≡◌, IfOk};
-ghost use Rattle.lc_model.specs.Connection.{NoneArrivesEarly, connection_between, connections_of_calls};
+ghost use Rattle.lc_model.specs.Connection.{NoneArrivesEarly, connections_of_calls};
 
-use lc_model::{Call, Calls, Connection, Connections, NoMemory, PlainData, Run, RunKey};
+use lc_model::{Call, Calls, Connection, Connections, NoMemory, Run, RunKey};
 use std::alloc::Global;
 
-fn connection_between(
-    alloc: Global,
-    key: &RunKey,
-    from: &Call,
-    to: &Call,
-) -> Result<Connection, NoMemory>
-    ensures { IfOk result (λ connection. connection ≡ connection_between key.now from.now to.now) }
-{
-    Ok(Connection {
-        key: key.copy(alloc)?,
-        seq: from.seq,
-        dep_stop: from.stop.copy(alloc)?,
-        dep: from.dep,
-        arr_stop: to.stop.copy(alloc)?,
-        arr: to.arr,
-        board: from.board,
-        alight: to.alight,
-        dep_delay: from.dep_delay,
-        arr_delay: to.arr_delay,
-    })
-}
-
+/// The connections of these calls: from each to the next.
 fn connections_of_calls(
     alloc: Global,
     key: &RunKey,
@@ -35,7 +14,7 @@ fn connections_of_calls(
 {
     let mut connections = Vec::with_capacity(alloc, calls.len())?;
     for i in 1..calls.len() {
-        connections.push(connection_between(alloc, key, &calls[i - 1], &calls[i])?)?;
+        connections.push(Connection::between(alloc, key, &calls[i - 1], &calls[i])?)?;
     }
     Ok(connections)
 }

@@ -1,34 +1,12 @@
 ghost use Rattle.std.specs.Prelude.{◌≡◌, ◌++◌, All, IfOk, OnOk};
 ghost use Rattle.lc_model.specs.Call.{InSequence};
-ghost use Rattle.lc_model.specs.Connection.{AreConnectionsOf, connection_between, connections_of, connections_of_calls, departure_cmp};
+ghost use Rattle.lc_model.specs.Connection.{AreConnectionsOf, connections_of, connections_of_calls, departure_cmp};
 ghost use Rattle.lc_model.specs.declared.run.Run.{Run};
 ghost use Rattle.lc_model.specs.Run.{RunsForward};
 
-use lc_model::{Call, Connection, Connections, NoMemory, PlainData, Run, RunKey, Runs};
+use lc_model::{Call, Connection, Connections, NoMemory, Run, RunKey, Runs};
 use std::alloc::Global;
 use std::cmp::Ordering;
-
-fn connection_between(
-    alloc: Global,
-    key: &RunKey,
-    from: &Call,
-    to: &Call,
-) -> Result<Connection, NoMemory>
-    ensures { IfOk result (λ connection. connection ≡ connection_between key.now from.now to.now) }
-{
-    Ok(Connection {
-        key: key.copy(alloc)?,
-        seq: from.seq,
-        dep_stop: from.stop.copy(alloc)?,
-        dep: from.dep,
-        arr_stop: to.stop.copy(alloc)?,
-        arr: to.arr,
-        board: from.board,
-        alight: to.alight,
-        dep_delay: from.dep_delay,
-        arr_delay: to.arr_delay,
-    })
-}
 
 /// Adds the connections of a run: from each call to the next.
 fn push_connections(
@@ -41,7 +19,7 @@ fn push_connections(
         ≡ connections.old.items ++ connections_of_calls key.now calls.now) }
 {
     for i in 1..calls.len() {
-        connections.push(connection_between(alloc, key, &calls[i - 1], &calls[i])?)?;
+        connections.push(Connection::between(alloc, key, &calls[i - 1], &calls[i])?)?;
     }
     Ok(())
 }

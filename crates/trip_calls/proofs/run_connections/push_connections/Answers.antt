@@ -13,4 +13,4 @@ pub loop-i-preserved : goal.loop-i-preserved
 loop-i-preserved c =
     let key = c.args.key.now in
     one_behind key c.args.calls.now c.loop-i.i c.index-calls-i.result c.index-calls-i-in-loop-i.result c.loop-i.connections.items c.push.new.self.items (c.args.connections.now.items ++ connections_of_calls key c.args.calls.now)
-    c.in_ok-connection_between.field-0 c.loop-i.auto.i c.loop-i-test.true c.index-calls-i.is c.index-calls-i-in-loop-i.is c.in_ok-push.ensures.items c.in_ok-connection_between.ensures c.loop-i.invariant
+    c.in_ok-between.field-0 c.loop-i.auto.i c.loop-i-test.true c.index-calls-i.is c.index-calls-i-in-loop-i.is c.in_ok-push.ensures.items c.in_ok-between.ensures c.loop-i.invariant
