@@ -5,7 +5,7 @@ use Rattle.std.proofs.lemmas.List.Kept.{AllPairs-filter}
 use Rattle.std.specs.declared.cmp.Ordering.TheVariants.{Less}
 use Rattle.lc_model.specs.Connection.{InDepartureOrder, NoneArrivesEarly, departure_cmp}
 use Rattle.lc_model.specs.declared.connection.Connection.{Connection}
-use Rattle.lc_versions.specs.Cuts.{AreCuts, NeverFalls, first_of}
+use Rattle.lc_versions.specs.Cuts.{AreCuts, first_of}
 use Rattle.lc_versions.specs.Pages.{departing, departures_of, is_before}
 use Rattle.page_json.specs.declared.page.Page.{Page}
 use Rattle.page_json.specs.Valid.{IsOfVersion, IsValidPage}
@@ -17,12 +17,11 @@ use Rattle.publisher_spec.specs.PageAt.{linked, named, page_at}
 use Rattle.publisher_spec.specs.Response.{IsPageOf}
 use Rattle.publisher_spec.specs.Side.{IsTimetableAt, Side, date_in}
 use Rattle.publisher_spec.proofs.OneReplyLemmas.{one_timetable}
-use Rattle.publisher_spec.proofs.PageLemmas.{never_falls}
 use Rattle.lc_model.specs.declared.page.PageName.{PageName}
 use Rattle.lc_model.specs.declared.stop.Stop.{Stop}
 use Rattle.lc_versions.specs.History.{news_at}
 use Rattle.lc_versions.specs.Timetable.{AreLiveRuns}
-use Rattle.version_store.specs.Rows.{AreConnectionsAt, AreDepartures, AreRows}
+use Rattle.version_store.specs.Rows.{AreConnectionsAt, AreRows}
 use Rattle.publisher.specs.Held.{Held, side_of}
 
 -- where cuts are lawful and there are none, there is nothing
@@ -85,17 +84,6 @@ module _ {G : Type 0} (cuts_of : G → List ℕ → List ℕ) (held : Held G) (s
     are_live =
         subst (λ (stops : List Stop). AreLiveRuns held.store.runs stops (news_at (date_in held.store.zone) held.store.history version) at.live) same_stops at.are_runs;
     are_connections = at.are_connections;
-  }
-
-  -- the place among the cuts of the store's departures
-  pub is_place : ((departures : List ℕ) → NeverFalls departures → AreCuts departures (cuts_of held.cutting departures))
-      → (version departs : ℕ) (departures cuts : List ℕ) (place : Place) → AreDepartures held.store version departures
-      → cuts ≡ cuts_of held.cutting departures → place ≡ place_of cuts departs → IsPlaceOf (side_of cuts_of held) version departs place
-  is_place lawful version departs departures cuts place are are_cuts is = record {
-    list = are.all;
-    timetable = timetable_of version are.all are.of_version;
-    lawful = lawful (departures_of are.all) (never_falls are.all are.of_version.are_connections.in_order);
-    is = is ∙ ap (λ (cs : List ℕ). place_of cs departs) (are_cuts ∙ ap (cuts_of held.cutting) are.one_each);
   }
 
   -- the store's rows from there on are those of the page

@@ -2,17 +2,16 @@
 //! replies. It stands on `version_store`, on `fragmenter`, and on the definitions of `publisher_spec`.
 #![tactic(auto)]
 
-mod answering;
-mod asking;
 mod kept;
 mod laws;
 mod options;
 mod pages;
+mod parameters;
 mod place;
 mod publisher;
-mod replying;
-mod responding;
-mod saying;
+mod response;
+mod router;
+mod updates;
 
 pub use laws::{some_reply, some_timetable};
 pub use options::Options;

@@ -26,6 +26,8 @@ fn named(version: Moment, departs: Option<Moment>) -> Option<PageName>
 }
 
 impl<G: Fragmenter + Drop> Publisher<G> {
+    ghost use Rattle.publisher.specs.Inside.{HasCuts};
+
     /// Where the page for a moment of departure lies among the cuts that are kept for a version, if some are.
     fn kept_place(&self, version: Moment, departs: Moment) -> Option<Place>
         ensures { IfSome result (IsPlaceOf (side_of G.cuts_of self.now) version departs) }
@@ -52,12 +54,21 @@ impl<G: Fragmenter + Drop> Publisher<G> {
         if let Some(place) = self.kept_place(version, departs) {
             return Ok(place);
         }
+        let cuts = self.made_cuts(alloc, version)?;
         self.cutting.cuts_lawfully();
-        let departures = self.store.departures(alloc, version)?;
-        let cuts = self.cutting.cuts(alloc, departures.as_slice())?;
         let place = place_of(cuts.as_slice(), departs);
         self.cuts.insert(version, cuts)?;
         Ok(place)
+    }
+
+    /// The cuts of a version, made of the store's departures. It takes the time of these.
+    fn made_cuts(&self, alloc: Global, version: Moment) -> Result<Vec<Moment>, NoMemory>
+        requires { Contains (versions_of self.now.store) version }
+        ensures { IfOk result (λ cuts. HasCuts (side_of G.cuts_of self.now) version cuts.items) }
+    {
+        let departures = self.store.departures(alloc, version)?;
+        let cuts = self.cutting.cuts(alloc, departures.as_slice())?;
+        Ok(cuts)
     }
 
     /// The page for a moment of departure at a version, as it is published. It takes the time of its place and of the store's

@@ -36,6 +36,21 @@ impl<G: Fragmenter + Drop> Model for Publisher<G> {
     ghost invariant = { IsKept G.cuts_of };
 }
 
+/// The store of a timetable, with the stops of its document. Linear in the runs and their calls, and in the stops.
+fn store_of(
+    alloc: Global,
+    runs: Runs,
+    doc: &StopsDoc,
+    zone: Zone,
+    base_moment: Moment,
+) -> Result<Store, NoMemory>
+    ensures { IfOk result (λ store. store ≡ record { runs = runs; stops = doc.now.stops; zone = zone; base = base_moment; history = [] }) }
+{
+    let stops = doc.stops.copy(alloc)?;
+    let store = Store::new(alloc, runs, stops, zone, base_moment)?;
+    Ok(store)
+}
+
 impl<G: Fragmenter + Drop> Publisher<G> {
     /// The publisher of a timetable to which no message was admitted. Linear in the runs and their calls, and in the stops.
     pub fn new(
@@ -56,8 +71,7 @@ impl<G: Fragmenter + Drop> Publisher<G> {
         }) }
     {
         runs_are_in_order(&runs);
-        let stops = doc.stops.copy(alloc)?;
-        let store = Store::new(alloc, runs, stops, zone, base_moment)?;
+        let store = store_of(alloc, runs, &doc, zone, base_moment)?;
         Ok(Publisher {
             cutting,
             store,

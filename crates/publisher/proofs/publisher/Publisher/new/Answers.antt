@@ -1,4 +1,4 @@
-use Rattle.std.proofs.Common.{◌≡◌, ◌∙◌, ap, subst, sym, List}
+use Rattle.std.proofs.Common.{◌≡◌, ap, subst, sym, List}
 use Rattle.std.specs.List.{All}
 use Rattle.lc_model.specs.Call.{InSequence}
 use Rattle.lc_model.specs.Run.{InKeyOrder}
@@ -12,8 +12,8 @@ invariant_of-result g c =
     let store = c.in_ok-store.ensures in
     let runs : c.in_ok-store.store.runs ≡ c.args.runs = ap (λ (s : Stored). s.runs) store in
     record {
-      stops = ap (λ (s : Stored). s.stops) store ∙ c.in_ok-stops.ensures;
+      stops = ap (λ (s : Stored). s.stops) store;
       runs = subst InKeyOrder (sym runs) c.runs_are_in_order.ensures.runs;
       calls = subst (λ (list : List Run). All (λ (run : Run). InSequence run.calls) list) (sym runs) c.runs_are_in_order.ensures.calls;
-      cuts = keeps_none _ c.new-2.result c.new-2.ensures.empty;
+      cuts = keeps_none _ c.new.result c.new.ensures.empty;
     }

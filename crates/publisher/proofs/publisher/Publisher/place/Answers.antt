@@ -1,12 +1,9 @@
 use Rattle.std.proofs.Common.{◌∙◌, ap, subst, sym}
-use Rattle.std.specs.List.{Contains}
-use Rattle.version_store.specs.Store.{versions_of}
 use Rattle.publisher.specs.Held.{side_of}
-use Rattle.publisher.specs.Inside.{held_of}
+use Rattle.publisher.specs.Inside.{HasCuts, held_of}
 use Rattle.publisher.specs.Place.{place_of}
 use Rattle.publisher.specs.PlaceOf.{IsPlaceOf}
-use Rattle.publisher.proofs.CutsLemmas.{has_cuts, keeps_more, keeps_same}
-use Rattle.publisher.proofs.PageLemmas.{is_place}
+use Rattle.publisher.proofs.CutsLemmas.{keeps_more, keeps_same, place_among}
 use Rattle.publisher.proofs.publisher.Publisher.place.Goals as goal
 
 pub invariant_of-self : goal.invariant_of-self
@@ -21,9 +18,7 @@ pub invariant_of-self-2 : goal.invariant_of-self-2
 invariant_of-self-2 g c =
     let cuts_of = g.G.Fragmenter.cuts_of in
     let held = held_of c.self.inside in
-    let there = subst (λ h. Contains (versions_of h.store) c.args.version) (sym c.self.view_is) c.requires in
-    let has = has_cuts cuts_of held c.self.invariant.stops c.args.version c.in_ok-departures.departures.items c.in_ok-cuts.cuts.items there c.in_ok-departures.ensures
-    (c.in_ok-cuts.ensures ∙ ap (cuts_of held.cutting) c.as_slice.ensures.value) in
+    let has = subst (λ h. HasCuts (side_of cuts_of h) c.args.version c.in_ok-cuts.cuts.items) (sym c.self.view_is) c.in_ok-cuts.ensures in
     record {
       stops = c.self.invariant.stops;
       runs = c.self.invariant.runs;
@@ -33,8 +28,9 @@ invariant_of-self-2 g c =
 
 pub returns-clause-place : goal.returns-clause-place
 returns-clause-place g c =
-    let held = held_of c.self.inside in
     let cuts_of = g.G.Fragmenter.cuts_of in
+    let held = held_of c.self.inside in
+    let has = subst (λ h. HasCuts (side_of cuts_of h) c.args.version c.in_ok-cuts.cuts.items) (sym c.self.view_is) c.in_ok-cuts.ensures in
     subst (λ h. IsPlaceOf (side_of cuts_of h) c.args.version c.args.departs c.place_of-place.result) c.self.view_is
-    (is_place cuts_of held c.self.invariant.stops c.cuts_lawfully.ensures c.args.version c.args.departs c.in_ok-departures.departures.items c.in_ok-cuts.cuts.items c.place_of-place.result
-    c.in_ok-departures.ensures (c.in_ok-cuts.ensures ∙ ap (cuts_of held.cutting) c.as_slice.ensures.value) (c.place_of-place.ensures ∙ ap (λ cs. place_of cs c.args.departs) c.as_slice-2.ensures.value))
+    (place_among (side_of cuts_of held) c.cuts_lawfully.ensures c.args.version c.args.departs c.in_ok-cuts.cuts.items c.place_of-place.result has
+    (c.place_of-place.ensures ∙ ap (λ cs. place_of cs c.args.departs) c.as_slice.ensures.value))

@@ -1,7 +1,7 @@
 use Rattle.std.proofs.lemmas.Bool.Decides.{Decides-eqb}
 use Rattle.std.proofs.lemmas.Slice.Eq.{strip_prefix_is}
 use Rattle.connection_uri.proofs.NameLemmas.{stripped, front_said}
-use Rattle.publisher.proofs.asking.behind.Goals as goal
+use Rattle.publisher.proofs.router.behind.Goals as goal
 
 pub returns-clause-exact : goal.returns-clause-exact
 returns-clause-exact c = λ rest e.

@@ -1,25 +1,140 @@
-ghost use Rattle.std.specs.Prelude.{◌≡◌, ℕ, List, IfOk, IfSome, true};
+ghost use Rattle.std.specs.Prelude.{◌≡◌, ◌++◌, ◌≤◌, ℕ, List, IfOk, IfSome, IsSomeAnd, OnErr, OnOk, drop, length, true};
+ghost use Rattle.http_text.specs.Request.{IsWhole, IsWholeRequest};
 ghost use Rattle.publisher.specs.Held.{side_of};
 ghost use Rattle.publisher.specs.Writable.{IsWritable};
+ghost use Rattle.publisher_spec.specs.Asked.{asked_by_posting, asked_by_reading, asked_of, is_head, is_reading, is_under};
+ghost use Rattle.publisher_spec.specs.Reply.{IsNextSide, IsReply};
 ghost use Rattle.publisher_spec.specs.Response.{IsGateResponse, IsMovedTo, IsNegotiated, IsPageResponse, IsResponseTo, IsSentOf, IsStopsSent, asked_at};
 ghost use Rattle.publisher_spec.specs.Side.{has_version};
 ghost use Rattle.publisher_spec.specs.declared.asked.Asked.{Asked as AskedFor};
 ghost use Rattle.publisher_spec.specs.declared.asked.Asked.TheVariants.{Gate as TheGate, Page as ThePage, Update as AnUpdate};
 
 use crate::Publisher;
-use crate::asking::{asked, field_value};
 use crate::kept::{doc_is_sound, page_is_sound};
-use crate::saying::{departure, version_said};
+use crate::parameters::{departure, field_value, is_same, version_said};
+use connection_uri::Base;
 use fragmenter::Fragmenter;
-use http_text::Request;
+use http_text::{Allow, Request, read_request};
 use lc_model::{Moment, NoMemory, PageName};
 use memento::negotiate;
 use publisher_spec::{Asked, Response};
 use std::alloc::Global;
 
+/// What a request asks for, by its path and its method.
+fn asked(base: &Base, accepts_updates: bool, path: &[u8], method: &[u8]) -> Asked
+    ensures { result ≡ asked_of base.now accepts_updates path.now method.now }
+{
+    if is_under(base, b"connections", path) {
+        by_reading(method, Asked::Gate)
+    } else if is_under(base, b"memento/connections", path) {
+        by_reading(method, Asked::Page)
+    } else if is_under(base, b"stops", path) {
+        by_reading(method, Asked::Stops)
+    } else if accepts_updates && is_under(base, b"updates", path) {
+        by_posting(method, Asked::Update)
+    } else {
+        Asked::Nothing
+    }
+}
+
+fn by_reading(method: &[u8], asked: Asked) -> Asked
+    ensures { result ≡ asked_by_reading method.now asked }
+{
+    if is_reading(method) {
+        asked
+    } else {
+        Asked::OtherMethod(Allow::Reading)
+    }
+}
+
+fn by_posting(method: &[u8], asked: Asked) -> Asked
+    ensures { result ≡ asked_by_posting method.now asked }
+{
+    if is_same(method, b"POST") {
+        asked
+    } else {
+        Asked::OtherMethod(Allow::Posting)
+    }
+}
+
+/// Whether the method only reads: GET or HEAD.
+fn is_reading(method: &[u8]) -> bool
+    ensures { result ≡ is_reading method.now }
+{
+    is_same(method, b"GET") || is_head(method)
+}
+
+pub(crate) fn is_head(method: &[u8]) -> bool
+    ensures { result ≡ is_head method.now }
+{
+    is_same(method, b"HEAD")
+}
+
+/// What follows this front in the text, if the text begins with it.
+fn behind<'a>(text: &'a [u8], front: &[u8]) -> Option<&'a [u8]>
+    ensures said { IfSome result (λ rest. text.now ≡ front.now ++ rest.now) }
+    ensures exact { (rest : List ℕ) → text.now ≡ front.now ++ rest → IsSomeAnd result (λ r. r.now ≡ rest) }
+{
+    text.strip_prefix(front)
+}
+
+/// Whether the path is the base's with this behind it.
+fn is_under(base: &Base, tail: &[u8], path: &[u8]) -> bool
+    ensures { result ≡ is_under base.now tail.now path.now }
+{
+    match behind(path, base.path().as_bytes()) {
+        Some(rest) => is_same(rest, tail),
+        None => false,
+    }
+}
+
+/// The body of a request.
+fn body_of<'a>(bytes: &'a [u8], request: &Request) -> &'a [u8]
+    requires { request.now.body_from ≤ length bytes.now }
+    ensures { result.now ≡ drop request.now.body_from bytes.now }
+{
+    &bytes[request.body_from..]
+}
+
 impl<G: Fragmenter + Drop> Publisher<G> {
+    /// The reply to the bytes of one whole request. Where these bring a message that is taken, it is admitted. For a page it
+    /// takes the time of the store's rows, the first time that a version is asked for that of its departures too, and else that of
+    /// the reply and of the request.
+    pub fn answer(&mut self, alloc: Global, bytes: &[u8]) -> Result<Vec<u8>, NoMemory>
+        requires { IsWhole bytes.now }
+        ensures reply { IfOk result (λ reply. IsReply (side_of G.cuts_of self.old) bytes.now reply.items) }
+        ensures next { OnOk result (IsNextSide (side_of G.cuts_of self.old) bytes.now (side_of G.cuts_of self.new)) }
+        ensures cutting { self.new.cutting ≡ self.old.cutting }
+        ensures unchanged { OnErr result (self.new ≡ self.old) }
+    {
+        let request = read_request(alloc, bytes)?;
+        self.answer_to(alloc, &request, bytes)
+    }
+
+    /// The reply to the request that the bytes are.
+    fn answer_to(
+        &mut self,
+        alloc: Global,
+        request: &Request,
+        bytes: &[u8],
+    ) -> Result<Vec<u8>, NoMemory>
+        requires { IsWholeRequest bytes.now request.now }
+        ensures reply { IfOk result (λ reply. IsReply (side_of G.cuts_of self.old) bytes.now reply.items) }
+        ensures next { OnOk result (IsNextSide (side_of G.cuts_of self.old) bytes.now (side_of G.cuts_of self.new)) }
+        ensures cutting { self.new.cutting ≡ self.old.cutting }
+        ensures unchanged { OnErr result (self.new ≡ self.old) }
+    {
+        match self.asked(request) {
+            Asked::Update => self.update(alloc, request, body_of(bytes, request)),
+            asked => {
+                let response = self.respond(alloc, request, asked)?;
+                self.reply(alloc, request, &response)
+            }
+        }
+    }
+
     /// What a request asks for.
-    pub(crate) fn asked(&self, request: &Request) -> Asked
+    fn asked(&self, request: &Request) -> Asked
         ensures { result ≡ asked_at (side_of G.cuts_of self.now) request.now }
     {
         asked(
@@ -31,7 +146,7 @@ impl<G: Fragmenter + Drop> Publisher<G> {
     }
 
     /// What is said to a request that asks for this, and is not that a message is admitted. It takes the time of a page.
-    pub(crate) fn respond(
+    fn respond(
         &mut self,
         alloc: Global,
         request: &Request,

@@ -7,7 +7,7 @@ ghost use Rattle.publisher.specs.Writable.{IsWritable};
 ghost use Rattle.publisher_spec.specs.Reply.{bare_parts, found_parts, method_parts, page_parts, parts_of, sent_parts, stops_parts, text_said};
 
 use crate::Publisher;
-use crate::asking::is_head;
+use crate::router::is_head;
 use connection_uri::{Base, page_url};
 use fragmenter::Fragmenter;
 use http_text::{Allow, BodyKind, ReplyParts, Request, reply_text};

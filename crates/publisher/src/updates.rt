@@ -1,20 +1,18 @@
-ghost use Rattle.std.specs.Prelude.{◌≡◌, ◌≤◌, ◌⊎◌, ℕ, length, drop, IfErr, IfOk, IfSome, OnErr, OnOk, IsOk};
+ghost use Rattle.std.specs.Prelude.{◌≡◌, ◌⊎◌, IfErr, IfOk, IfSome, IsOk, OnErr};
 ghost use Rattle.http_text.specs.ReplyText.{HasReason};
-ghost use Rattle.http_text.specs.Request.{IsWhole, IsWholeRequest};
 ghost use Rattle.lc_versions.specs.declared.update.Update.{Update as Said};
 ghost use Rattle.publisher.specs.Held.{side_of};
 ghost use Rattle.publisher.specs.Updated.{IsRefusal, IsUpdated, status_of_fault};
-ghost use Rattle.publisher_spec.specs.Reply.{IsNextSide, IsReply};
 ghost use Rattle.version_store.specs.Admission.{Admits, IsRefused, IsTaken};
 ghost use Rattle.version_store.specs.declared.admission.AdmitFault.{AdmitFault as Fault};
 ghost use Rattle.version_store.specs.declared.admission.AdmitFault.TheVariants.{NoMemory as OutOfMemory};
 
 use crate::Publisher;
-use crate::saying::says_length;
+use crate::parameters::says_length;
 use fragmenter::Fragmenter;
-use http_text::{Request, read_request};
+use http_text::Request;
 use lc_model::NoMemory;
-use publisher_spec::{Asked, Response};
+use publisher_spec::Response;
 use std::alloc::Global;
 use version_store::{AdmitFault, Admitted};
 
@@ -30,14 +28,6 @@ fn status_of(fault: AdmitFault) -> Option<u16>
         AdmitFault::Full { .. } => Some(507),
         AdmitFault::NoMemory => None,
     }
-}
-
-/// The body of a request.
-fn body_of<'a>(bytes: &'a [u8], request: &Request) -> &'a [u8]
-    requires { request.now.body_from ≤ length bytes.now }
-    ensures { result.now ≡ drop request.now.body_from bytes.now }
-{
-    &bytes[request.body_from..]
 }
 
 impl<G: Fragmenter + Drop> Publisher<G> {
@@ -56,29 +46,14 @@ impl<G: Fragmenter + Drop> Publisher<G> {
         outcome
     }
 
-    /// The reply to the bytes of one whole request. Where these bring a message that is taken, it is admitted. For a page it
-    /// takes the time of the store's rows, the first time that a version is asked for that of its departures too, and else that of
-    /// the reply and of the request.
-    pub fn answer(&mut self, alloc: Global, bytes: &[u8]) -> Result<Vec<u8>, NoMemory>
-        requires { IsWhole bytes.now }
-        ensures reply { IfOk result (λ reply. IsReply (side_of G.cuts_of self.old) bytes.now reply.items) }
-        ensures next { OnOk result (IsNextSide (side_of G.cuts_of self.old) bytes.now (side_of G.cuts_of self.new)) }
-        ensures cutting { self.new.cutting ≡ self.old.cutting }
-        ensures unchanged { OnErr result (self.new ≡ self.old) }
-    {
-        let request = read_request(alloc, bytes)?;
-        match self.asked(&request) {
-            Asked::Update => self.update(alloc, &request, body_of(bytes, &request)),
-            asked => {
-                let response = self.respond(alloc, &request, asked)?;
-                self.reply(alloc, &request, &response)
-            }
-        }
-    }
-
     /// The reply to a request that a message is admitted. It is written before the message is, so that want of memory leaves
     /// the side as it was. Linear in the body.
-    fn update(&mut self, alloc: Global, request: &Request, body: &[u8]) -> Result<Vec<u8>, NoMemory>
+    pub(crate) fn update(
+        &mut self,
+        alloc: Global,
+        request: &Request,
+        body: &[u8],
+    ) -> Result<Vec<u8>, NoMemory>
         ensures updated { IfOk result (λ text.
             IsUpdated (side_of G.cuts_of self.old) request.now body.now text.items (side_of G.cuts_of self.new)) }
         ensures cutting { self.new.cutting ≡ self.old.cutting }

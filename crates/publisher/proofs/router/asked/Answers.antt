@@ -1,7 +1,7 @@
 use Rattle.std.proofs.Common.{◌∙◌, sym}
 use Rattle.publisher.proofs.AskingLemmas.{nothing_taken, nothing_there, stops_asked, update_asked}
-use Rattle.publisher.proofs.asking.asked.Goals as goal
-use Rattle.publisher.proofs.asking.asked.Goals.{else-accepts_updates-via-then-accepts_updates+else-is_under-4, else-accepts_updates-via-else-accepts_updates}
+use Rattle.publisher.proofs.router.asked.Goals as goal
+use Rattle.publisher.proofs.router.asked.Goals.{else-accepts_updates-via-then-accepts_updates+else-is_under-4, else-accepts_updates-via-else-accepts_updates}
 
 pub returns-then-is_under-3 : goal.returns-then-is_under-3
 returns-then-is_under-3 c =
