@@ -3,7 +3,6 @@ mod FindsLemmas
 mod LineLemmas
 mod MadeLemmas
 mod OneCommandLemmas
-mod OptionLemmas
 mod PublishingLemmas
 mod QuestionLemmas
 mod WordsLemmas

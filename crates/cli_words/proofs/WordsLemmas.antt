@@ -1,17 +1,16 @@
 -- What was read is what the words say.
-use Rattle.std.proofs.Common.{◌≡◌, ◌∙◌, ℕ, ◌/◌, ◌-◌, ◌≤◌, ap, ap₂, arith, drop, get_or, length, take, Some, String, List, [], ◌∷◌, codes, refl, subst, sym, true}
+use Rattle.std.proofs.Common.{◌≡◌, ◌∙◌, ℕ, ◌-◌, ◌≤◌, ap, ap₂, arith, drop, get_or, length, take, Some, String, List, [], ◌∷◌, codes, refl, subst, sym, true}
 use Rattle.std.proofs.Math.Seq.{take-length}
 use Rattle.std.specs.String.{string_bytes}
 use Rattle.std.specs.declared.alloc.Global.{Global}
 use Rattle.clap.specs.Faults.{is_simple_and_free}
 use Rattle.clap.specs.Simple.{App}
 use Rattle.lc_model.specs.declared.date.ServiceDate.{ServiceDate}
-use Rattle.cli_words.specs.Line.{ask_line, line, texts_of}
+use Rattle.cli_words.specs.Line.{line, texts_of}
 use Rattle.lc_time.proofs.DateLemmas.{same_date}
-use Rattle.cli_words.specs.Ask.{AreAskWords, SaysAsk}
-use Rattle.cli_words.specs.FeedWindow.{SaysFeedWindow}
+use Rattle.cli_words.specs.Ask.{SaysAsk}
 use Rattle.cli_words.specs.Options.{AreOptions}
-use Rattle.cli_words.specs.Window.{IsDateAt, IsWindow}
+use Rattle.cli_words.specs.Window.{IsDateAt}
 use Rattle.cli_words.specs.Words.{SaysCommand}
 use Rattle.cli_words.specs.declared.command.Ask.{Ask}
 use Rattle.cli_words.specs.declared.command.Command.{Command}
@@ -29,17 +28,6 @@ ask_is_simple = refl
 pub replay_is_simple : is_simple_and_free (line (codes "replay") (codes "feed" ∷ codes "first" ∷ codes "script" ∷ []) (codes "days" ∷ codes "zone" ∷ codes "change" ∷ codes "base" ∷ codes "base-moment" ∷ codes "cuts" ∷ codes "cache" ∷ [])) ≡ true
 unfolding line
 replay_is_simple = refl
-
--- the same words, said by copies of their texts
-pub same_feed_window : (a : App) (words : List (List ℕ)) (feed feed' : List ℕ) (first : ServiceDate) (days : ℕ) (zone zone' : List ℕ) (change : ℕ) → feed' ≡ feed → zone' ≡ zone → SaysFeedWindow a words feed first days zone change → SaysFeedWindow a words feed' first days zone' change
-same_feed_window a words feed feed' first days zone zone' change e f says =
-    subst (λ (t : List ℕ). SaysFeedWindow a words feed' first days t change) (sym f)
-    (subst (λ (t : List ℕ). SaysFeedWindow a words t first days zone change) (sym e) says)
-
-pub same_ask_words : (words : List (List ℕ)) (leave : ℕ) (feed feed' : List ℕ) (first : ServiceDate) (days : ℕ) (zone zone' : List ℕ) (change : ℕ) → feed' ≡ feed → zone' ≡ zone → AreAskWords words leave feed first days zone change → AreAskWords words leave feed' first days zone' change
-same_ask_words words leave feed feed' first days zone zone' change e f are =
-    subst (λ (t : List ℕ). AreAskWords words leave feed' first days t change) (sym f)
-    (subst (λ (t : List ℕ). AreAskWords words leave t first days zone change) (sym e) are)
 
 -- two texts that are one value are one
 pub same_text : (a b : List ℕ) → Some a ≡ Some b → a ≡ b
@@ -62,13 +50,6 @@ pub one_date_at : (a b : ServiceDate) (m n : ℕ) → m ≡ n → IsDateAt a m �
 one_date_at a b m n same p q =
     let p' : IsDateAt a n = subst (λ (k : ℕ). IsDateAt a k) same p in
     same_date a b (p'.year ∙ sym q.year) (p'.month ∙ sym q.month) (p'.day ∙ sym q.day)
-
--- the words of a question have one window
-pub same_window : (words : List (List ℕ)) (leave : ℕ) (first : ServiceDate) (days : ℕ) (zone : List ℕ) (change : ℕ) (feed' : List ℕ) (first' : ServiceDate) (days' : ℕ) (zone' : List ℕ) (change' : ℕ) → IsDateAt first (leave / 86_400 - 1) → AreOptions ask_line words 3 days zone change → AreAskWords words leave feed' first' days' zone' change' → IsWindow first days
-same_window words leave first days zone change feed' first' days' zone' change' is options are =
-    let firsts = one_date_at first' first _ _ refl are.first_is is in
-    let same = one_options ask_line words 3 days' days zone' zone change' change are.options options in
-    subst (λ (n : ℕ). IsWindow first n) same.0 (subst (λ (date : ServiceDate). IsWindow date days') firsts are.window)
 
 -- a list of words is the first and those behind it
 pub parted : (words : List (String Global)) (name : String Global) → 1 ≤ length words → name ≡ get_or words 0 name → texts_of words ≡ string_bytes name ∷ texts_of (take (length words - 1) (drop 1 words))

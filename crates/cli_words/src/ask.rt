@@ -1,20 +1,23 @@
-ghost use Rattle.std.specs.Prelude.{◌≡◌, ◌≤◌, ℕ, IfOk, List, MatchOption, option_map};
+ghost use Rattle.std.specs.Prelude.{◌≡◌, ◌≤◌, ℕ, IfOk, List, MatchOption, Some, option_map};
 ghost use Rattle.lc_model.specs.declared.date.ServiceDate.{ServiceDate as Date};
 ghost use Rattle.cli_words.specs.Ask.{AreAskWords, SaysAsk};
-ghost use Rattle.cli_words.specs.Line.{HasFound, ask_line, texts_of};
+ghost use Rattle.cli_words.specs.Cache.{cache_said};
+ghost use Rattle.cli_words.specs.Line.{HasFound, IsLine, ask_line, texts_of};
+ghost use Rattle.cli_words.specs.Publishing.{SaysPublishing};
+ghost use Rattle.cli_words.specs.Question.{AsksQuestion};
+ghost use Rattle.cli_words.specs.Update.{SaysUpdate};
 ghost use Rattle.cli_words.specs.declared.command.Ask.{Ask as Asked};
 
 use crate::Ask;
-use crate::cache::read_cache;
-use crate::feed_window::FeedWindow;
+use crate::feed_window::{FeedWindow, window_texts};
 use crate::line::{read_line, text_of};
 use crate::options::read_options;
-use crate::publishing::read_publishing;
+use crate::pages::{Pages, read_pages};
 use crate::question::read_question;
 use crate::update::read_update;
 use crate::window::{date_before, is_window};
 use clap::ArgMatches;
-use lc_model::{Moment, NoMemory, Text};
+use lc_model::{Moment, NoMemory, Query, Text};
 use std::alloc::Global;
 
 /// The plain words of `ask` in their order, and its options.
@@ -38,33 +41,70 @@ pub(crate) fn read_ask(alloc: Global, words: &[String]) -> Result<Option<Ask>, N
     ensures { IfOk result (λ ask. MatchOption ask ((ask : Asked) → SaysAsk (texts_of words.now) ask → ⊥)
         (SaysAsk (texts_of words.now))) }
 {
-    let Some(found) = read_line(alloc, "ask", &PLACES, &OPTIONS, words)? else {
+    match read_line(alloc, "ask", &PLACES, &OPTIONS, words)? {
+        Some(found) => found_ask(alloc, &found),
+        None => Ok(None),
+    }
+}
+
+/// What was found in a line of `ask`. None exactly where it says no such command.
+fn found_ask<'a>(alloc: Global, found: &ArgMatches<'a>) -> Result<Option<Ask>, NoMemory>
+    ensures { (words : List (List ℕ)) → IsLine ask_line words → HasFound ask_line words found.now → IfOk result (λ ask.
+        MatchOption ask ((ask : Asked) → SaysAsk words ask → ⊥) (SaysAsk words)) }
+{
+    let Some(update) = read_update(found) else {
         return Ok(None);
     };
-    let Some(query) = read_question(alloc, &found)? else {
+    match read_question(alloc, found)? {
+        Some(query) => ask_about(alloc, found, query, update),
+        None => Ok(None),
+    }
+}
+
+/// What was found in a line of `ask` with this question and this name of a file with a message.
+fn ask_about<'a>(
+    alloc: Global,
+    found: &ArgMatches<'a>,
+    query: Query,
+    update: Option<&'a str>,
+) -> Result<Option<Ask>, NoMemory>
+    ensures { (words : List (List ℕ)) → IsLine ask_line words → HasFound ask_line words found.now → AsksQuestion words query
+        → SaysUpdate ask_line words (option_map (λ s. s.now) update.entry)
+        → IfOk result (λ ask. MatchOption ask ((ask : Asked) → SaysAsk words ask → ⊥) (SaysAsk words)) }
+{
+    let Some(said) = ask_words(found, query.leave) else {
         return Ok(None);
     };
-    let Some(said) = ask_words(&found, query.leave) else {
+    let Some(pages) = read_pages(alloc, found)? else {
         return Ok(None);
     };
-    let Some(cache) = read_cache(&found) else {
-        return Ok(None);
-    };
-    let Some(update) = read_update(&found) else {
-        return Ok(None);
-    };
-    let Some(publishing) = read_publishing(alloc, &found)? else {
-        return Ok(None);
-    };
+    ask_of(alloc, query, said, pages, update)
+}
+
+/// The command that asks this question of a feed in its window.
+fn ask_of<'a>(
+    alloc: Global,
+    query: Query,
+    said: FeedWindow<'a>,
+    pages: Pages,
+    update: Option<&'a str>,
+) -> Result<Option<Ask>, NoMemory>
+    ensures { (words : List (List ℕ)) → IsLine ask_line words → AsksQuestion words query
+        → AreAskWords words query.leave said.entry.feed.now said.entry.first said.entry.options.days said.entry.options.zone.now said.entry.options.change
+        → SaysPublishing ask_line words pages.publishing → cache_said ask_line words ≡ Some pages.cache
+        → SaysUpdate ask_line words (option_map (λ s. s.now) update.entry)
+        → IfOk result (λ ask. MatchOption ask ((ask : Asked) → SaysAsk words ask → ⊥) (SaysAsk words)) }
+{
+    let texts = window_texts(alloc, said.feed, said.options.zone)?;
     Ok(Some(Ask {
-        feed: text_of(alloc, said.feed)?,
+        feed: texts.feed,
         query,
         first: said.first,
         days: said.options.days,
-        zone: text_of(alloc, said.options.zone)?,
+        zone: texts.zone,
         change: said.options.change,
-        publishing,
-        cache,
+        publishing: pages.publishing,
+        cache: pages.cache,
         update: copy_of(alloc, update)?,
     }))
 }

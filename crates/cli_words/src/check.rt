@@ -1,11 +1,12 @@
-ghost use Rattle.std.specs.Prelude.{IfOk, MatchOption};
+ghost use Rattle.std.specs.Prelude.{ℕ, IfOk, List, MatchOption};
 ghost use Rattle.cli_words.specs.Check.{SaysCheck};
-ghost use Rattle.cli_words.specs.Line.{texts_of};
+ghost use Rattle.cli_words.specs.Line.{HasFound, IsLine, check_line, texts_of};
 ghost use Rattle.cli_words.specs.declared.command.Check.{Check as Checked};
 
 use crate::Check;
-use crate::feed_window::read_feed_window;
-use crate::line::{read_line, text_of};
+use crate::feed_window::{read_feed_window, window_texts};
+use crate::line::read_line;
+use clap::ArgMatches;
 use lc_model::NoMemory;
 use std::alloc::Global;
 
@@ -19,17 +20,26 @@ pub(crate) fn read_check(alloc: Global, words: &[String]) -> Result<Option<Check
     ensures { IfOk result (λ check. MatchOption check ((check : Checked) → SaysCheck (texts_of words.now) check → ⊥)
         (SaysCheck (texts_of words.now))) }
 {
-    let Some(found) = read_line(alloc, "check", &PLACES, &OPTIONS, words)? else {
+    match read_line(alloc, "check", &PLACES, &OPTIONS, words)? {
+        Some(found) => found_check(alloc, &found),
+        None => Ok(None),
+    }
+}
+
+/// What was found in a line of `check`. None exactly where it says no such command.
+fn found_check<'a>(alloc: Global, found: &ArgMatches<'a>) -> Result<Option<Check>, NoMemory>
+    ensures { (words : List (List ℕ)) → IsLine check_line words → HasFound check_line words found.now → IfOk result (λ check.
+        MatchOption check ((check : Checked) → SaysCheck words check → ⊥) (SaysCheck words)) }
+{
+    let Some(said) = read_feed_window(found) else {
         return Ok(None);
     };
-    let Some(said) = read_feed_window(&found) else {
-        return Ok(None);
-    };
+    let texts = window_texts(alloc, said.feed, said.options.zone)?;
     Ok(Some(Check {
-        feed: text_of(alloc, said.feed)?,
+        feed: texts.feed,
         first: said.first,
         days: said.options.days,
-        zone: text_of(alloc, said.options.zone)?,
+        zone: texts.zone,
         change: said.options.change,
     }))
 }

@@ -1,14 +1,17 @@
-ghost use Rattle.std.specs.Prelude.{ℕ, List, MatchOption};
+ghost use Rattle.std.specs.Prelude.{◌≡◌, ℕ, IfOk, List, MatchOption};
 ghost use Rattle.clap.specs.Simple.{App};
 ghost use Rattle.lc_model.specs.declared.date.ServiceDate.{ServiceDate as Date};
 ghost use Rattle.cli_words.specs.FeedWindow.{SaysFeedWindow};
 ghost use Rattle.cli_words.specs.Line.{HasFound};
+ghost use Rattle.cli_words.specs.Window.{IsWindow};
 
+use crate::line::text_of;
 use crate::options::{WindowOptions, read_options};
 use crate::window::is_window;
 use clap::ArgMatches;
-use lc_model::ServiceDate;
+use lc_model::{NoMemory, ServiceDate, Text};
 use lc_time::read_date;
+use std::alloc::Global;
 
 /// A feed and its window.
 #[derive(Clone, Copy)]
@@ -16,6 +19,14 @@ pub(crate) struct FeedWindow<'a> {
     pub(crate) feed: &'a str,
     pub(crate) first: ServiceDate,
     pub(crate) options: WindowOptions<'a>,
+    pub(crate) ghost window: { IsWindow first options.days },
+}
+
+/// The texts of a feed and its window.
+#[derive(Drop)]
+pub(crate) struct WindowTexts {
+    pub(crate) feed: Text,
+    pub(crate) zone: Text,
 }
 
 /// The feed, the first date and the options of a window that were found in a line, or none where one of them is said wrongly.
@@ -38,4 +49,15 @@ pub(crate) fn read_feed_window<'a>(found: &ArgMatches<'a>) -> Option<FeedWindow<
     } else {
         None
     }
+}
+
+/// Texts of their own for a feed and its window.
+pub(crate) fn window_texts(alloc: Global, feed: &str, zone: &str) -> Result<WindowTexts, NoMemory>
+    ensures feed { IfOk result (λ texts. texts.feed ≡ feed.now) }
+    ensures zone { IfOk result (λ texts. texts.zone ≡ zone.now) }
+{
+    Ok(WindowTexts {
+        feed: text_of(alloc, feed)?,
+        zone: text_of(alloc, zone)?,
+    })
 }

@@ -10,6 +10,7 @@ mod feed_window;
 mod laws;
 mod line;
 mod options;
+mod pages;
 mod publishing;
 mod question;
 mod replay;

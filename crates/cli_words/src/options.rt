@@ -1,4 +1,4 @@
-ghost use Rattle.std.specs.Prelude.{◌≡◌, ℕ, List, MatchOption, option_map};
+ghost use Rattle.std.specs.Prelude.{◌≡◌, ◌≤◌, ℕ, List, MatchOption, option_map};
 ghost use Rattle.clap.specs.Simple.{App};
 ghost use Rattle.cli_words.specs.Line.{HasFound};
 ghost use Rattle.cli_words.specs.Options.{AreOptions, bounded_said, is_name, number_said, text_said, zone_said};
@@ -12,6 +12,9 @@ pub(crate) struct WindowOptions<'a> {
     pub(crate) days: u32,
     pub(crate) zone: &'a str,
     pub(crate) change: u32,
+    pub(crate) ghost some_days: { 1 ≤ days },
+    pub(crate) ghost two_months: { days ≤ 62 },
+    pub(crate) ghost within_a_day: { change ≤ 86_400 },
 }
 
 /// The options of a window that were found in a line, or none where one of them is said wrongly.
@@ -19,6 +22,8 @@ pub(crate) fn read_options<'a>(
     found: &ArgMatches<'a>,
     default_days: u32,
 ) -> Option<WindowOptions<'a>>
+    requires some_days { 1 ≤ default_days }
+    requires two_months { default_days ≤ 62 }
     ensures { (a : App) (words : List (List ℕ)) → HasFound a words found.now
         → MatchOption result ((days : ℕ) (zone : List ℕ) (change : ℕ) → AreOptions a words default_days days zone change → ⊥)
         (λ options. AreOptions a words default_days options.days options.zone.now options.change) }
