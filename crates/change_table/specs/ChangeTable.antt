@@ -20,7 +20,7 @@ abbrev pub count_of_changes : List Stop → List Transfer → ℕ → ℕ
 count_of_changes stops transfers default =
     sum_by (λ (from : Stop). count_by (λ (to : Stop). is_some (change_from_to transfers default from to)) stops) stops
 
--- the fault is want of memory, or there are more changes than may be
+-- the fault is running out of memory, or there are more changes than may be
 abbrev pub HasCause : ChangeFault → ℕ → Type 0
 HasCause (TooManyChanges count) changes = (count ≡ MOST_CHANGES + 1) × (MOST_CHANGES < changes)
 HasCause NoMemory changes = Unit {0}

@@ -1,4 +1,4 @@
--- What a question to a publisher of the program itself comes to, and what is printed of it.
+-- What a question to an in-process publisher comes to, and what is printed of it.
 use Rattle.std.specs.Prelude.{◌≡◌, ℕ, List, ◌++◌, Option}
 use Rattle.cli_words.specs.declared.command.Publishing.{Publishing}
 use Rattle.connection_uri.specs.Base.{BaseParts}

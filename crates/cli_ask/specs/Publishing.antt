@@ -1,4 +1,4 @@
--- The side of a publisher of the program itself: that of a timetable with the messages that its store admitted.
+-- The side of an in-process publisher: that of a timetable with the messages that its store admitted.
 use Rattle.std.specs.Prelude.{ℕ, [], false}
 use Rattle.cli_words.specs.declared.command.Publishing.{Publishing}
 use Rattle.fragmenter.specs.Cutting.{chosen_cuts}

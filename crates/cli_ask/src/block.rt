@@ -9,18 +9,9 @@ use page_client::Outcome;
 use percent_encoding::ascii_str;
 use std::alloc::Global;
 
-/// The lines of client k: its number, its version, how it ended, and how many exchanges it made.
-pub fn client_text(alloc: Global, k: usize, end: &ClientEnd) -> Result<Vec<u8>, NoMemory>
-    requires { IsPrintable end.now.outcome }
-    ensures { IfOk result (λ text. text.items ≡ client_text_of k end.now) }
-{
-    let mut text = Vec::new(alloc);
-    push_client(alloc, k, end, &mut text)?;
-    Ok(text)
-}
-
-/// Adds the lines of client k to a text. On want of memory the text may have some of them.
-pub(crate) fn push_client(
+/// Adds the lines of client k to a text: its number, its version, how it ended, and how many exchanges it made. Where memory runs out the
+/// text may have some of them.
+pub fn push_client(
     alloc: Global,
     k: usize,
     end: &ClientEnd,

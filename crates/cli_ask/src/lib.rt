@@ -1,4 +1,4 @@
-//! A question to a publisher of the program itself: the publisher of a timetable with one message, the client that asks it page by
+//! A question to an in-process publisher: the publisher of a timetable with one message, the client that asks it page by
 //! page, and what is printed of both. It stands on `timetable`, `publisher`, `convoy` and `lc_edge`.
 #![tactic(auto)]
 
@@ -11,7 +11,7 @@ mod publishing;
 mod question;
 
 pub use admission::{MessageFault, give};
-pub use block::client_text;
+pub use block::push_client;
 pub use end::ClientEnd;
 pub use laws::one_output;
 pub use publishing::{copy_of, publisher_of};

@@ -4,19 +4,18 @@ ghost use Rattle.cli_ask.specs.Block.{IsPrintable};
 ghost use Rattle.cli_ask.specs.declared.end.ClientEnd.{ClientEnd as End};
 ghost use Rattle.laws_replay.specs.Replayed.{clients_text_of};
 
-use cli_ask::{ClientEnd, client_text};
+use cli_ask::{ClientEnd, push_client};
 use lc_model::NoMemory;
 use std::alloc::Global;
 
-/// The lines of the messages, and behind them those of the clients.
+/// The lines of the messages, and after them those of the clients. Linear in what it gives.
 pub fn text_of(alloc: Global, lines: Vec<u8>, ends: &[ClientEnd]) -> Result<Vec<u8>, NoMemory>
     requires { All (λ (end : End). IsPrintable end.outcome) ends.now }
     ensures { IfOk result (λ text. text.items ≡ lines.items ++ clients_text_of 1 ends.now) }
 {
     let mut text = lines;
     'ends: for index in 0..ends.len() {
-        let client = client_text(alloc, index + 1, &ends[index])?;
-        text.extend_from_slice(client.as_slice())?;
+        push_client(alloc, index + 1, &ends[index], &mut text)?;
     }
     Ok(text)
 }

@@ -69,13 +69,13 @@ fn read_parts(alloc: Global, parts: NameParts<'_>) -> Result<Option<(RunKey, u32
     Ok(Some((RunKey { trip, date, start }, sequence)))
 }
 
-/// Appends trip/date/start of the run, as the names of connections and of runs have them. After want of memory the text
+/// Appends trip/date/start of the run, as the names of connections and of runs have them. After running out of memory the text
 /// is as it was.
 pub fn append_run(text: &mut String, key: &RunKey) -> Result<(), NoMemory>
     ensures ok { OnOk result (string_bytes text.new ≡ string_bytes text.old ++ run_part_of key.now) }
     ensures err { OnErr result (string_bytes text.new ≡ string_bytes text.old) }
 {
-    // Written apart first, since each of its parts may want memory.
+    // Written apart first, since each of its parts may run out of memory.
     let part = run_part(*text.allocator(), key)?;
     text.push_str(part.as_str())?;
     Ok(())

@@ -9,7 +9,7 @@ pub passed_on : {X : Type 0} (P : FileFault → Type 0) (r : Result X FileFault)
 passed_on P (Ok x) fault is h = tt
 passed_on P (Err told) fault is h = subst P (sym is) h
 
--- want of memory that is passed on
+-- running out of memory, passed on
 pub wants_memory : {X : Type 0} (P : FileFault → Type 0) (r : Result X FileFault) → IsErrAnd r (λ told. told ≡ NoMemory) → IfErr r (λ told. (told ≡ NoMemory) ⊎ P told)
 wants_memory P (Ok x) is = tt
 wants_memory P (Err told) is = inl is

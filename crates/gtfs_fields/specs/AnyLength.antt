@@ -12,7 +12,7 @@ pub record IsSoundTable (columns : List (List ℕ)) (rule_at : Sheet → ℕ →
   pub table : IsTable bytes columns sheet
   pub unbroken : IsUnbroken (rule_at sheet) (length sheet.rows)
 
--- The bytes are no table with these columns, and this is why. Want of memory is no cause.
+-- The bytes are no table with these columns, and this is why. Running out of memory is no cause.
 abbrev pub IsNoTable : List (List ℕ) → List ℕ → FileFault → Type 0
 IsNoTable columns bytes (Broken rule row) = BreaksTable columns bytes rule row
 IsNoTable columns bytes (TooMany count) = ⊥

@@ -41,7 +41,7 @@ pub record IsTooLong (columns : List (List ℕ)) (most : ℕ) (bytes : List ℕ)
   pub long : most < length sheet.rows
   pub counted : count ≡ length sheet.rows
 
--- The bytes are no table with these columns of at most so many rows, and this is why. Want of memory is no cause.
+-- The bytes are no table with these columns of at most so many rows, and this is why. Running out of memory is no cause.
 abbrev pub IsTableFault : List (List ℕ) → ℕ → List ℕ → FileFault → Type 0
 IsTableFault columns most bytes (Broken rule row) = BreaksTable columns bytes rule row
 IsTableFault columns most bytes (TooMany count) = IsTooLong columns most bytes count

@@ -6,7 +6,7 @@ use Rattle.gtfs_rows.specs.Sheet.{AreRecordsOf, IsSheetOf, Sheet, missing_column
 use Rattle.gtfs_rows.specs.declared.fault.RowFault.{RowFault}
 use Rattle.gtfs_rows.specs.declared.fault.RowFault.TheVariants.{NotUtf8, NoHeader, NoColumn, Ragged, NoMemory}
 
--- the bytes break this rule of a table with these columns, and none before it. Want of memory is no rule
+-- the bytes break this rule of a table with these columns, and none before it. Running out of memory is no rule
 abbrev pub Breaks : List ℕ → List (List ℕ) → RowFault → Type 0
 Breaks bytes columns NotUtf8 = ¬ (IsUtf8 bytes)
 Breaks bytes columns NoHeader = IsUtf8 bytes × AreRecordsOf bytes []

@@ -20,7 +20,7 @@ pub fn table(alloc: Global, bytes: &[u8], columns: &[&str]) -> Result<Rows, RowF
     ensures ok { IfOk result (IsTable bytes.now (names_of columns.now)) }
     ensures fault { IfErr result (λ fault. (fault ≡ RowFault.NoMemory) ⊎ Breaks bytes.now (names_of columns.now) fault) }
 
-    // Where the bytes are a table there is no fault but want of memory, and where they break a rule there is no other.
+    // Where the bytes are a table there is no fault but running out of memory, and where they break a rule there is no other.
     ensures table { (sheet : Sheet) → IsTable bytes.now (names_of columns.now) sheet → IsOkUnless result RowFault.NoMemory }
     ensures only { (fault : RowFault) → Breaks bytes.now (names_of columns.now) fault → (result ≡ Err fault) ⊎ (result ≡ Err RowFault.NoMemory) }
 

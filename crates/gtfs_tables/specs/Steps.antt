@@ -28,7 +28,7 @@ use Rattle.gtfs_tables.specs.declared.fault.FeedFault.TheVariants as fault
 use Rattle.gtfs_tables.specs.declared.feed_file.FeedFile.{FeedFile}
 use Rattle.gtfs_tables.specs.declared.tables.Tables.{Tables}
 
--- the end at a fault of a file; want of memory is none of the file's
+-- the end at a fault of a file; running out of memory is none of the file's
 abbrev pub end_of : FeedFile → FileFault → End
 end_of file (wrong.Broken rule row) = Wrong file (wrong.Broken rule row)
 end_of file (wrong.TooMany count) = Wrong file (wrong.TooMany count)
@@ -53,7 +53,7 @@ Judges at found Says IsWrong (Err (Wrong named fault)) = IsWrong found fault × 
 Judges at found Says IsWrong (Err Failed) = ⊥
 Judges at found Says IsWrong (Err NoMemory) = Unit {0}
 
--- How the step of a file ends: with what is made of what was found, at a failed read, or for want of memory, before the
+-- How the step of a file ends: with what is made of what was found, at a failed read, or out of memory, before the
 -- folder was asked for the file or after.
 abbrev pub StepEnds : {T : Type 0} → FolderSeen → FolderSeen → List ℕ → FeedFile → (Option (List ℕ) → T → Type 0) → (Option (List ℕ) → FileFault → Type 0) → Result T End → Type 0
 StepEnds old new feed at Says IsWrong (Ok value) = (found : Option (List ℕ)) × Finds old new feed at found × Says found value
@@ -83,7 +83,7 @@ pub record IsWalk (old new : FolderSeen) (feed : List ℕ) (result : Result Tabl
   pub kept : Keeps old new
   pub ends : WalkEnds old new feed result
 
--- the end can be told as a fault: a file with too many rows is one whose rows have a limit, and no fault is want of memory
+-- the end can be told as a fault: a file with too many rows is one whose rows have a limit, and no fault is running out of memory
 abbrev pub IsTellable : End → Type 0
 IsTellable (Wrong named (wrong.Broken rule row)) = Unit {0}
 IsTellable (Wrong named (wrong.TooMany count)) = IsSome (what_of named)

@@ -43,7 +43,7 @@ module _ (not_broken : NotBroken) (not_too_large : NotTooLarge) (one_outcome : O
   never (refused.LongUpdate count) is = inr (not_long one_outcome told scope update old new tells heard_is count is)
   never (refused.BrokenUpdate name found) is = inr (not_broken_update one_outcome told scope update old new tells heard_is name found is)
 
--- the run ended with what is answered, or for want of memory
+-- the run ended with what is answered, or out of memory
 by_status : (status other : Status) → status ≡ other → IsAnswered other → IsAnswered status
 by_status status other is fine = subst IsAnswered (sym is) fine
 

@@ -200,7 +200,7 @@ not_early block before after status (inl whole) early = of_clients 1 block.ends.
 not_early block before after status (inr (inl cut)) early = subst IsEarlyRefusal cut.status_is early
 not_early block before after status (inr (inr cut)) early = subst IsEarlyRefusal cut.status_is early
 
--- an early refusal is not for want of memory
+-- an early refusal is not out of memory
 pub not_memory : (refusal : Refusal) (before after : SinkSeen) (status : Status) → IsRefusalEnd refusal before after status → IsEarlyRefusal status → refusal ≡ refused.Load fault.NoMemory → ⊥
 not_memory refusal before after status (inl said) early is = subst IsEarlyRefusal (said.status_is ∙ ap status_of is) early
 not_memory refusal before after status (inr lacks) early is = subst IsEarlyRefusal lacks.status_is early

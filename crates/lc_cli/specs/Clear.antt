@@ -118,7 +118,7 @@ pub record IsClear {X : Type 0} (seen : X → LinkSeen) (p : Past X) : Type 0 wh
   pub sound : IsSound told (scope_of command) made
   pub heard : IsHeard told command
 
--- the run ended with its output, or for want of memory
+-- the run ended with its output, or out of memory
 abbrev pub IsAnswered : Status → Type 0
 IsAnswered Done = Unit {0}
 IsAnswered (QueryRefused client fault) = Unit {0}

@@ -30,7 +30,7 @@ update_line_of name fault = codes "error update " ++ name ++ codes " " ++ messag
 abbrev pub script_line_of : ℕ → List ℕ
 script_line_of row = codes "error script row " ++ decimal row ++ codes "\n"
 
--- the line of want of memory
+-- the line of running out of memory
 abbrev pub no_memory_line : List ℕ
 no_memory_line = codes "error no memory\n"
 

@@ -30,7 +30,7 @@ pub record HasPrinted {X : Type 0} (seen : X → LinkSeen) (p : Past X) (status 
   pub end : IsBlockEnd block p.sink_before p.sink_after status
 
 -- There is a cause why nothing is printed but an error line: the words, the feed, the folder, a message, the script, or memory. That line
--- was written whole, or a front of it, where the sink counted a fault or a want of memory; the status is that of the cause.
+-- was written whole, or a front of it, where the sink counted a fault, or ran out of memory; the status is that of the cause.
 pub record WasRefused {X : Type 0} (p : Past X) (status : Status) : Type 0 where
   pub refusal : Refusal
   pub right : IsRightRefusal p.words p.folder_before p.folder_after refusal
@@ -40,7 +40,7 @@ pub record WasRefused {X : Type 0} (p : Past X) (status : Status) : Type 0 where
 abbrev pub IsRight : {X : Type 0} → (X → LinkSeen) → Past X → Status → Type 0
 IsRight seen p status = HasPrinted seen p status ⊎ WasRefused p status
 
--- a refusal that is no client's, and not for want of memory
+-- a refusal that is no client's, and not out of memory
 abbrev pub IsEarlyRefusal : Status → Type 0
 IsEarlyRefusal Done = ⊥
 IsEarlyRefusal Usage = Unit {0}

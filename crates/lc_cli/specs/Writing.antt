@@ -16,7 +16,7 @@ Wrote before after text = after.written ≡ written_after before.written text (l
 abbrev pub WroteFront : SinkSeen → SinkSeen → List ℕ → Type 0
 WroteFront before after text = (n : ℕ) × (n ≤ length text) × (after.written ≡ written_after before.written text n)
 
--- the sink counted a fault, or a want of memory
+-- the sink counted a fault, or ran out of memory
 abbrev pub FellShort : SinkSeen → SinkSeen → Type 0
 FellShort before after = Rose before.faults after.faults ⊎ Rose before.wants after.wants
 

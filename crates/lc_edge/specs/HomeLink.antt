@@ -1,4 +1,4 @@
--- Links at home: a publisher of the program itself answers, and the answers are handed on.
+-- Links at home: an in-process publisher answers, and the answers are handed on.
 use Rattle.lc_edge.specs.LocalLink.{LocalLinkState}
 
 -- the link to the publisher, and the one to which each answer is handed on

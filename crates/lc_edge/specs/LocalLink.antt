@@ -1,4 +1,4 @@
--- Links to a publisher of the program itself.
+-- Links to an in-process publisher.
 use Rattle.std.specs.Prelude.{ℕ, List}
 use Rattle.lc_world.specs.declared.entry.Entry.{Entry}
 use Rattle.publisher.specs.Held.{Held}

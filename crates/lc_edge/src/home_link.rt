@@ -7,7 +7,7 @@ use publisher::Publisher;
 use std::alloc::Global;
 use std::marker::Model;
 
-/// A link at which a publisher of the program itself answers, and each answer is handed on to another link.
+/// A link at which an in-process publisher answers, and each answer is handed on to another link.
 #[derive(Drop)]
 pub struct HomeLink<G: Fragmenter + Drop, L: Link> {
     local: LocalLink<G>,

@@ -17,7 +17,7 @@ use publisher::Publisher;
 use std::alloc::Global;
 use std::marker::Model;
 
-/// A link to a publisher of the program itself, whatever the authority. It never fails.
+/// A link to an in-process publisher, whatever the authority. It never fails.
 #[derive(Drop)]
 pub struct LocalLink<G: Fragmenter + Drop> {
     publisher: Publisher<G>,

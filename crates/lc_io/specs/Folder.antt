@@ -21,7 +21,7 @@ bytes_named files name = option_map (λ (f : File). f.bytes) (find (λ (f : File
 abbrev pub asked_after : Option (List (List ℕ)) → List ℕ → Option (List (List ℕ))
 asked_after asked name = option_map (λ names. names ++ name ∷ []) asked
 
--- the folder tells that it was asked for this name; after want of memory it may not
+-- the folder tells that it was asked for this name; after running out of memory it may not
 abbrev pub TellsAsked : {T : Type 0} → Option (List (List ℕ)) → Option (List (List ℕ)) → List ℕ → Result T FolderFail → Type 0
 TellsAsked old new name (Ok bytes) = new ≡ asked_after old name
 TellsAsked old new name (Err Failed) = new ≡ asked_after old name

@@ -75,7 +75,7 @@ pub record TellsMore (before after : Option (List Entry)) (authority request : L
   pub is_given : (reply ≡ told_replies.Hidden) ⊎ (reply ≡ told_of given)
   pub is : after ≡ option_map (λ (told : List Entry). told ++ record { authority = authority; request = request; reply = reply } ∷ []) before
 
--- an exchange is told by how it ended; after want of memory it may not be
+-- an exchange is told by how it ended; after running out of memory it may not be
 abbrev pub Tells : {T : Type 0} → Option (List Entry) → Option (List Entry) → List ℕ → List ℕ → List ℕ → Result T LinkFail → Type 0
 Tells before after authority request reply (Ok _) = TellsMore before after authority request (Some reply)
 Tells before after authority request reply (Err Failed) = TellsMore before after authority request None

@@ -79,7 +79,7 @@ impl ListLink {
         Ok(())
     }
 
-    /// Gives the next reply, or says that there is none. After want of memory nothing has changed but `reply`.
+    /// Gives the next reply, or says that there is none. After running out of memory nothing has changed but `reply`.
     fn give_next(
         &mut self,
         alloc: Global,

@@ -125,7 +125,7 @@ fn push_added(
     }
 }
 
-/// The sequence of the call that stands at a place, counted from 0. Want of memory where there is none.
+/// The sequence of the call that stands at a place, counted from 0. Out of memory where there is none.
 fn sequence_at(place: usize) -> Result<u32, NoMemory>
     ensures { IfOk result (λ seq. seq ≡ suc place) }
 {
@@ -135,7 +135,7 @@ fn sequence_at(place: usize) -> Result<u32, NoMemory>
     }
 }
 
-/// The calls that the news of stops of an added trip give. Each takes the logarithm of the stops. Want of memory where there
+/// The calls that the news of stops of an added trip give. Each takes the logarithm of the stops. Out of memory where there
 /// are more news than sequences.
 pub(crate) fn added_calls(
     alloc: Global,

@@ -6,5 +6,5 @@ mod gate;
 mod negotiation;
 
 pub use connection_uri::{page_url, read_page_url};
-pub use gate::gate_target;
+pub use gate::{gate_target, gate_url};
 pub use negotiation::{negotiate, version_among};

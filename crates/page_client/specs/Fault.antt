@@ -9,7 +9,7 @@ use Rattle.page_client.specs.declared.fault.PeerFault.TheVariants.{Reply, Body}
 abbrev pub Tested : Type 0 → Type 1
 Tested X = Result X PeerFault → Type 0
 
--- the fault is no failed test, but want of memory
+-- the fault is no failed test, but running out of memory
 abbrev pub IsWant : PeerFault → Type 0
 IsWant fault = (fault ≡ Reply replies.NoMemory) ⊎ (fault ≡ Body pages.NoMemory)
 

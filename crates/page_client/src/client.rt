@@ -108,7 +108,7 @@ impl Client {
         }
     }
 
-    /// Takes the reply of the time gate. After want of memory the client is spent: it wants nothing, and has no outcome.
+    /// Takes the reply of the time gate. After running out of memory the client is spent: it wants nothing, and has no outcome.
     pub fn give_gate(&mut self, alloc: Global, base: &Base, reply: Vec<u8>) -> Result<(), NoMemory>
         requires { want_of (shown self.old).phase ≡ Want.Gate }
         ensures ok { OnOk result ((said : Result Named Wrong) × IsGateReply base.now (shown self.old).query.leave reply.items said
@@ -132,7 +132,7 @@ impl Client {
         }
     }
 
-    /// Takes the reply of the stops document. After want of memory the client is spent.
+    /// Takes the reply of the stops document. After running out of memory the client is spent.
     pub fn give_stops(&mut self, alloc: Global, reply: Vec<u8>) -> Result<(), NoMemory>
         requires { want_of (shown self.old).phase ≡ Want.Stops }
         ensures ok { OnOk result ((said : Result Told Wrong) × IsStopsReply reply.items said × AfterStops self.old reply.items said self.new) }
@@ -152,7 +152,7 @@ impl Client {
         }
     }
 
-    /// Takes the page that is wanted, which is valid and goes on, and wants the next one or ends. After want of memory the client
+    /// Takes the page that is wanted, which is valid and goes on, and wants the next one or ends. After running out of memory the client
     /// is spent. Takes the time of `Scan::take_all`, and at the end that of `Scan::journey`.
     pub fn give_page(&mut self, alloc: Global, page: &Page) -> Result<(), NoMemory>
         requires wanted { want_of (shown self.old).phase ≡ Want.Page page.now.name }

@@ -80,7 +80,7 @@ impl fmt::Debug for PeerFault {
 impl Error for PeerFault {}
 
 impl PeerFault {
-    /// Whether it is want of memory in a lower fault, and no failed test.
+    /// Whether it is running out of memory in a lower fault, and no failed test.
     pub fn is_want(&self) -> bool
         ensures { IsTrue result ↔ IsWant self.now }
     {

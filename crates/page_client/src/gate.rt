@@ -1,6 +1,5 @@
 ghost use Rattle.std.specs.Prelude.{◌≡◌, Some, IfOk, IfSome};
 ghost use Rattle.lc_model.specs.declared.page.PageName.{PageName as Named};
-ghost use Rattle.connection_uri.specs.Page.{gate_url_of};
 ghost use Rattle.page_json.specs.Says.{SaysPage};
 ghost use Rattle.page_client.specs.Gate.{IsGateReply, IsJoined, IsSent, LeadsTo};
 
@@ -8,8 +7,7 @@ use crate::PeerFault;
 use crate::replied::replied;
 use connection_uri::{Base, read_page_url};
 use lc_model::{Moment, NoMemory, PageName, Text};
-use lc_time::iso_text;
-use percent_encoding::ascii_str;
+use memento::gate_url;
 use std::alloc::Global;
 use url::{ParseError, Url};
 
@@ -88,14 +86,4 @@ fn page_at(base: &Base, text: &str) -> Option<PageName>
     let _version = name.version.seconds();
     let _departs = name.departs.seconds();
     Some(name)
-}
-
-/// The URL of the time gate for departures from this moment on.
-fn gate_url(alloc: Global, base: &Base, leave: Moment) -> Result<Text, NoMemory>
-    ensures { IfOk result (λ url. url ≡ gate_url_of base.now leave) }
-{
-    let mut url = String::from_str(alloc, base.text())?;
-    url.push_str("connections?departureTime=")?;
-    url.push_str(ascii_str(&iso_text(leave)))?;
-    Ok(Text::from_string(url))
 }

@@ -9,7 +9,7 @@ use Rattle.publisher_spec.specs.declared.response.Response.TheVariants.{Status}
 use Rattle.version_store.specs.declared.admission.AdmitFault.{AdmitFault}
 use Rattle.version_store.specs.declared.admission.AdmitFault.TheVariants as faults
 
--- the status of a message that is not admitted; want of memory has none
+-- the status of a message that is not admitted; running out of memory has none
 abbrev pub status_of_fault : AdmitFault → Option ℕ
 status_of_fault (faults.TooLong bytes) = Some 413
 status_of_fault (faults.Broken fault) = Some 400

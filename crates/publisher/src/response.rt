@@ -1,5 +1,4 @@
 ghost use Rattle.std.specs.Prelude.{◌≡◌, IfOk};
-ghost use Rattle.connection_uri.specs.Page.{gate_url_of};
 ghost use Rattle.http_text.specs.ReplyText.{reply_text_of};
 ghost use Rattle.publisher.specs.Held.{side_of};
 ghost use Rattle.page_json.specs.Valid.{IsValidPage};
@@ -11,10 +10,9 @@ use crate::router::is_head;
 use connection_uri::{Base, page_url};
 use fragmenter::Fragmenter;
 use http_text::{Allow, BodyKind, ReplyParts, Request, reply_text};
-use lc_model::{Bytes, Moment, NoMemory, PageName, StopsDoc, Text};
-use lc_time::iso_text;
+use lc_model::{Bytes, Moment, NoMemory, PageName, StopsDoc};
+use memento::gate_url;
 use page_json::{Page, page_text, stops_text};
-use percent_encoding::ascii_str;
 use publisher_spec::Response;
 use std::alloc::Global;
 
@@ -41,16 +39,6 @@ fn method_parts(alloc: Global, close: bool, allow: Allow) -> ReplyParts
     let mut parts = bare_parts(alloc, close, 405);
     parts.allow = Some(allow);
     parts
-}
-
-/// The URL of the time gate for departures from this moment on.
-fn gate_url(alloc: Global, base: &Base, departs: Moment) -> Result<Text, NoMemory>
-    ensures { IfOk result (λ url. url ≡ gate_url_of base.now departs) }
-{
-    let mut url = String::from_str(alloc, base.text())?;
-    url.push_str("connections?departureTime=")?;
-    url.push_str(ascii_str(&iso_text(departs)))?;
-    Ok(Text::from_string(url))
 }
 
 fn found_parts(

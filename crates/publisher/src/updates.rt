@@ -16,7 +16,7 @@ use publisher_spec::Response;
 use std::alloc::Global;
 use version_store::{AdmitFault, Admitted};
 
-/// The status of a message that is not admitted. None for want of memory.
+/// The status of a message that is not admitted. None where memory ran out.
 fn status_of(fault: AdmitFault) -> Option<u16>
     ensures status { result ≡ status_of_fault fault }
     ensures reason { IfSome result HasReason }
@@ -46,7 +46,7 @@ impl<G: Fragmenter + Drop> Publisher<G> {
         outcome
     }
 
-    /// The reply to a request that a message is admitted. It is written before the message is, so that want of memory leaves
+    /// The reply to a request that a message is admitted. It is written before the message is, so that running out of memory leaves
     /// the side as it was. Linear in the body.
     pub(crate) fn update(
         &mut self,

@@ -28,7 +28,7 @@ pub record IsFirstWrong (updates : Bool) (rows : List (List (List ℕ))) (row : 
   pub say : SayRecords updates 0 (take place rows) before
   pub says_none : (said : Record) → SaysRecord updates (clients_in before) (row_at rows place) said → ⊥
 
--- the rows have this fault. Want of memory has no cause in them
+-- the rows have this fault. Running out of memory has no cause in them
 abbrev pub HaveFault : Bool → List (List (List ℕ)) → ScriptFault → Type 0
 HaveFault updates rows (Wrong row) = IsFirstWrong updates rows row
 HaveFault updates rows NoMemory = ⊥

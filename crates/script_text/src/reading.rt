@@ -16,7 +16,7 @@ pub fn read_script(alloc: Global, bytes: &[u8], updates: bool) -> Result<Script,
     ensures said { IfOk result (SaysScript bytes.now updates) }
     ensures fault { IfErr result (λ fault. (fault ≡ ScriptFault.NoMemory) ⊎ HasFault bytes.now updates fault) }
 
-    // Where the bytes say a script there is no fault but want of memory, and where they have one there is no other.
+    // Where the bytes say a script there is no fault but running out of memory, and where they have one there is no other.
     ensures script { (script : List Said) → SaysScript bytes.now updates script → IsOkUnless result ScriptFault.NoMemory }
     ensures only { (fault : Fault) → HasFault bytes.now updates fault → (result ≡ Err fault) ⊎ (result ≡ Err ScriptFault.NoMemory) }
 

@@ -59,7 +59,7 @@ NotTooLarge =
     (files : List File) (scope : Scope) (old new : FolderSeen) (made : Timetable) (what : What) (count : ℕ) → old.files ≡ Some files
     → IsSound files scope made → LoadsSo scope old new (Err (fault.TooLarge what count)) → ⊥
 
--- the end is one that the files have: neither a fault of the folder nor want of memory
+-- the end is one that the files have: neither a fault of the folder nor running out of memory
 abbrev pub IsOfFiles : Result Timetable LoadFault → Type 0
 IsOfFiles (Ok made) = Unit {0}
 IsOfFiles (Err (fault.Broken rule file row)) = Unit {0}
@@ -74,7 +74,7 @@ AreSameEnds (Ok a) (Err g) = ⊥
 AreSameEnds (Err f) (Ok b) = ⊥
 AreSameEnds (Err f) (Err g) = f ≡ g
 
--- The loading of told files ends in one way, but for faults of the folder and want of memory: the timetable, the first rule that
+-- The loading of told files ends in one way, but for faults of the folder and running out of memory: the timetable, the first rule that
 -- is broken with its file and row, or what is too large and how much of it.
 abbrev pub OneEnd : Type 0
 OneEnd =

@@ -1,4 +1,4 @@
--- Why no timetable is made of tables: they have too many connections, or too many changes. Want of memory is no cause.
+-- Why no timetable is made of tables: they have too many connections, or too many changes. Running out of memory is no cause.
 use Rattle.std.specs.Prelude.{◌≡◌, ◌⊎◌, ℕ, ◌<◌, List, length}
 use Rattle.lc_model.specs.Connection.{connections_of}
 use Rattle.lc_model.specs.declared.run.Run.{Run}

@@ -21,7 +21,7 @@ pub fn one_timetable()
     one_list_of_changes();
 }
 
-/// The loading of the files that a folder tells ends in one way, but for faults of the folder and want of memory: exactly as the word of the
+/// The loading of the files that a folder tells ends in one way, but for faults of the folder and running out of memory: exactly as the word of the
 /// zone, the first file that is wrong, or a limit has it, and else with a timetable.
 pub fn one_end()
     ensures one { OneEnd }

@@ -19,7 +19,7 @@ pub record HaveTooMany (trips : List TripRow) (times : List StopTime) (frequenci
   pub counted : length (connections_of runs) ≡ count
   pub too_many : MOST_CONNECTIONS < count
 
--- want of memory, or the runs have too many connections, and this is their number
+-- memory ran out, or the runs have too many connections, and this is their number
 abbrev pub HasCause : List TripRow → List StopTime → List Frequency → List ServiceDay → Zone → LoadFault → Type 0
 HasCause trips times frequencies days zone (TooManyConnections count) = HaveTooMany trips times frequencies days zone count
 HasCause trips times frequencies days zone NoMemory = Unit {0}

@@ -27,7 +27,7 @@ use service_days::{Days, Zone};
 use std::alloc::Global;
 use std::cmp::Ordering;
 
-// More runs without connections than so many count as want of memory: each takes as much as a connection.
+// More runs without connections than so many count as running out of memory: each takes as much as a connection.
 const MOST_BARE_RUNS: u64 = 4_000_000;
 
 /// The runs of all trips, trip by trip, where the rows of frequencies.txt are sorted by their trips.
@@ -64,7 +64,7 @@ fn by_key(a: &Run, b: &Run) -> Ordering
 /// from the anchors of these dates in the zone (GTFS Schedule Reference, field type Time). A trip that has rows in
 /// frequencies.txt starts whenever they say, a start that two rows give once; else it runs once on each date. It is refused
 /// if the runs have more connections than may be, before any of them is made. More than 4,000,000 runs without a connection,
-/// as of a trip with one row and a headway, are want of memory.
+/// as of a trip with one row and a headway, are out of memory.
 ///
 /// It takes the time of a sort of the runs, of a sort of the rows of frequencies.txt and of the starts that they give, of
 /// all calls, and of eight binary searches for each trip.

@@ -20,7 +20,7 @@ use lc_model::NoMemory;
 use service_days::Days;
 use std::alloc::Global;
 
-/// The product of three numbers. One that 64 bits cannot count is want of memory: as many connections have no room.
+/// The product of three numbers. One that 64 bits cannot count is out of memory: as many connections have no room.
 fn product(a: u64, b: u64, c: u64) -> Result<u64, NoMemory>
     ensures { IfOk result (λ count. count ≡ a * b * c) }
 {
@@ -28,7 +28,7 @@ fn product(a: u64, b: u64, c: u64) -> Result<u64, NoMemory>
     runs.checked_mul(c).ok_or(NoMemory)
 }
 
-/// The sum of two numbers. One that 64 bits cannot count is want of memory.
+/// The sum of two numbers. One that 64 bits cannot count is out of memory.
 fn sum(a: u64, b: u64) -> Result<u64, NoMemory>
     ensures { IfOk result (λ count. count ≡ a + b) }
 {

@@ -18,7 +18,7 @@ use Rattle.trip_updates.specs.Shows.{Answers, SpanEnds}
 
 -- ---- answers
 
--- want of memory answers everything
+-- running out of memory answers everything
 pub no_memory : {X : Type 0} (shows : X → Tree → Type 0) (e : RtFault) (r : Result Tree RtFault) → e ≡ faults.NoMemory → Answers shows (Err e) r
 no_memory shows e (Ok tree) is = is
 no_memory shows e (Err fault) is = inl is

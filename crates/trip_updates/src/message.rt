@@ -86,7 +86,7 @@ fn count(passed: u32, one_more: bool) -> Result<u32, RtFault>
     }
 }
 
-// The update that entities say. Want of memory also where more than 2^32 - 1 of them are passed over.
+// The update that entities say. Out of memory also where more than 2^32 - 1 of them are passed over.
 fn update(alloc: Global, head: Head, entities: Vec<Entity>) -> Result<Update, RtFault>
     ensures ok { IfOk result (λ update. update ≡ update_with head entities.items) }
     ensures err { IfErr result (λ fault. fault ≡ NoMemory) }
@@ -140,7 +140,7 @@ fn read_feed(alloc: Global, bytes: &[u8], from: usize, to: usize) -> Result<Upda
 /// The update that a message says (GTFS Realtime Reference, FeedMessage), or the first fault of its bytes. It takes time
 /// and memory in proportion to the bytes.
 ///
-/// Want of memory also answers a message of which more than 2^32 - 1 trip updates are passed over.
+/// Out of memory also answers a message of which more than 2^32 - 1 trip updates are passed over.
 pub fn read_message(alloc: Global, bytes: &[u8]) -> Result<Update, RtFault>
     ensures message { IfOk result (IsMessage bytes.now) }
     ensures only_message { (update : Said) → IsMessage bytes.now update →

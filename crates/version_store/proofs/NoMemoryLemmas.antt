@@ -1,4 +1,4 @@
--- No fault of bytes is want of memory.
+-- No fault of bytes is running out of memory.
 use Rattle.std.proofs.Common.{◌≡◌, ℕ, zero, suc, List, Bool, true, false, Option, Some, None, Result, Ok, Err, refl, ap, sym, ◌∙◌, arith}
 use Rattle.std.specs.Prelude.{nat_lt, ◌-◌, length, is_some, if◌then◌else◌}
 use Rattle.rt_protobuf.specs.Grammar.{Content, varint, eight, text, four}
@@ -71,7 +71,7 @@ goes_on : (r : Result Tree RtFault) (f : Tree → Result Tree RtFault) → HasMe
 goes_on (Ok tree) f has on = on tree
 goes_on (Err fault) f has on = has
 
--- a way to read that never wants memory
+-- a way to read that never runs out of memory
 abbrev ReaderHas : Reader → Type 0
 ReaderHas inner = (message : Message) (place : ℕ) (bytes : List ℕ) → HasMemory (inner message place bytes)
 

@@ -61,7 +61,7 @@ pub record HasNoRoom (store : Stored) (bytes : List ℕ) (messages kept : ℕ) :
   pub messages_are : messages ≡ length store.history
   pub bytes_are : kept ≡ bytes_of store.history
 
--- the cause of each refusal; none has the want of memory
+-- the cause of each refusal; none has running out of memory
 abbrev pub IsRefused : Stored → List ℕ → AdmitFault → Type 0
 IsRefused store bytes (faults.TooLong count) = (16_777_216 < length bytes) × (count ≡ length bytes)
 IsRefused store bytes (faults.Broken fault) = IsBroken bytes fault

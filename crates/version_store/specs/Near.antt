@@ -32,7 +32,7 @@ abbrev pub RefusedAgain : Type 0
 RefusedAgain =
     (old new : Stored) (bytes : List ℕ) (admitted : Admitted) → Admits old new bytes admitted → IsRefused new bytes (NotNewer admitted.moment)
 
--- no bytes are refused for want of memory
+-- no bytes are refused out of memory
 abbrev pub NoneForMemory : Type 0
 NoneForMemory = (store : Stored) (bytes : List ℕ) → IsRefused store bytes (Broken NoMemory) → ⊥
 

@@ -1,4 +1,4 @@
--- A GET leaves the publisher's side, and so does a want of memory.
+-- A GET leaves the publisher's side, and so does running out of memory.
 use Rattle.std.proofs.Common.{ap, Ok, Err}
 use Rattle.lc_world.specs.declared.link.LinkFail.TheVariants.{NoMemory}
 use Rattle.publisher.specs.Held.{side_of}
