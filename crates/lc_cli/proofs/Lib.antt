@@ -1,7 +1,11 @@
 pub mod CommandLemmas
 pub mod CompleteLemmas
 pub mod CourseRefusalLemmas
+pub mod EarlierSideLemmas
+pub mod HeadlineLemmas
+pub mod HeadlineOfReplayLemmas
 pub mod InputsLemmas
+pub mod NearHeadlineLemmas
 pub mod OneReplayLemmas
 pub mod OneRunLemmas
 pub mod OneStatusLemmas

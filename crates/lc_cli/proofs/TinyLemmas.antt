@@ -43,6 +43,7 @@ use Rattle.lc_model.specs.declared.stop.Stop.{Stop}
 use Rattle.lc_model.specs.declared.walk.Walk.{Walk}
 use Rattle.timetable.specs.Tiny.{IsTiny, call, change_at, key_of, moment, run_of, stop_ids, stop_named, tiny_changes, tiny_runs, tiny_stops}
 use Rattle.timetable.specs.declared.timetable.Timetable.{Timetable}
+use Rattle.lc_cli.specs.NearHeadline.{within}
 use Rattle.lc_cli.specs.Tiny.{AnswersNever, AnswersTiny, AreJourneyBy, AreRefused, AreTaken, IsMadeOf, MakeJourneys, from_a_to_d, in_place, nine_minutes_late, to_b, to_d_at, to_d_later, worked}
 
 -- each stop is one of the stops
@@ -333,3 +334,32 @@ module _ (without : LiveWithoutNews) (one_arrival : OneArrival) where
 -- no two arrivals are one
 pub apart : (m n : ℕ) → m < n → m ≡ n → ⊥
 apart m n lt same = omega arith
+
+-- the worked rides arrive at 08:31
+pub worked_arrives : (journey : Journey) → IsMadeOf None worked None journey → arrives_at journey ≡ moment 8 31
+worked_arrives journey made = arrives_with_rides None worked journey made
+
+-- a journey within less than 31 minutes is one within a day
+in_a_day : (seconds : ℕ) → seconds < 1_860 → (journey : Journey) → IsJourney (IsRideAt runs) (within seconds) doc journey → IsJourney (IsRideAt runs) from_a_to_d doc journey
+in_a_day seconds short journey is = record {
+  are_rides = is.are_rides;
+  begins = is.begins;
+  not_early = is.not_early;
+  ends = is.ends;
+  in_time = let soon : arrives_at journey ≤ moment 8 0 + seconds = is.in_time in omega (arith, soon, short);
+}
+
+-- and there is none, since none arrives before 08:31
+pub none_within : RunsAreLive → (publishing : Publishing) (version seconds : ℕ) → seconds < 1_860 → AnswersTiny publishing version (within seconds) answers.NoJourney
+none_within are_live publishing version seconds short = (
+  tiny,
+  is_tiny,
+  record {
+    live = runs;
+    are_live = are_live runs doc.stops in_order runs_on_time;
+    is_answer = λ journey is.
+        let late : moment 8 31 ≤ arrives_at journey = journeys_late journey (in_a_day seconds short journey is) in
+        let soon : arrives_at journey ≤ moment 8 0 + seconds = is.in_time in
+        omega (arith, late, soon, short);
+  },
+)

@@ -2,7 +2,9 @@ pub mod Block
 pub mod CheckText
 pub mod Clear
 pub mod Command
+pub mod Headline
 pub mod Laws
+pub mod NearHeadline
 pub mod Refusal
 pub mod Status
 pub mod Tiny

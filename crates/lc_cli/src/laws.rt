@@ -1,3 +1,4 @@
+ghost use Rattle.lc_cli.specs.Headline.{Headline, HeadlineOfReplay};
 ghost use Rattle.lc_cli.specs.Laws.{DoneIsClear, DoneIsPrinted, OneRun, OneStatus};
 
 use cli_ask::one_output;
@@ -7,6 +8,17 @@ use lc_world::Link;
 use script_text::one_script;
 use timetable::{one_end, one_timetable};
 use version_store::one_outcome;
+
+/// A run of `ask` with status Done wrote a best journey at the version that its question means, or that there is none. A run of `replay` did so for
+/// each client that asked, at the version that its question meant before its first turn.
+pub fn headline<L: Link>()
+    ensures ask { Headline L.seen }
+    ensures replay { HeadlineOfReplay L.seen }
+{
+    one_command();
+    one_timetable();
+    one_outcome();
+}
 
 /// Runs of the same words over the same files, which nothing hindered, print the same counts, or the same lines of messages and clients with one
 /// version, one arrival and so many exchanges.

@@ -11,8 +11,8 @@ mod status;
 mod top;
 mod worked;
 
-pub use laws::{one_run, one_status};
+pub use laws::{headline, one_run, one_status};
 pub use refusal::refuse;
 pub use status::{Status, code};
 pub use top::run;
-pub use worked::worked_answer;
+pub use worked::{worked_answer, worked_end};

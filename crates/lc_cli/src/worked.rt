@@ -1,7 +1,11 @@
 ghost use Rattle.std.specs.Prelude.{ℕ, None, Some, List, [], ◌∷◌};
 ghost use Rattle.lc_model.specs.declared.answer.Answer.TheVariants.{NoJourney};
+ghost use Rattle.lc_model.specs.declared.answer.Answer.TheVariants as answers;
+ghost use Rattle.lc_model.specs.declared.journey.Journey.{Journey as JourneyValue};
+ghost use Rattle.lc_model.specs.declared.query.Query.{Query as QueryValue};
 ghost use Rattle.lc_model.specs.declared.ride.Ride.{Ride as RideValue};
-ghost use Rattle.lc_cli.specs.Tiny.{AnswersNever, AreJourneyBy, AreRefused, AreTaken, MakeJourneys, a_second_late, from_a_to_d, in_place, nine_minutes_late, swapped, worked};
+ghost use Rattle.lc_cli.specs.NearHeadline.{EndAtOneVersion, EndAtTheBase, EndAtTheMessage, IsBestEnd, IsNoBestEnd, within};
+ghost use Rattle.lc_cli.specs.Tiny.{AnswersNever, AreJourneyBy, AreRefused, AreTaken, IsMadeOf, MakeJourneys, a_second_late, from_a_to_d, in_place, nine_minutes_late, swapped, worked};
 
 use lc_model::one_arrival;
 use live_calls::live_without_news;
@@ -21,6 +25,28 @@ pub fn worked_answer()
     // Rides make a journey, of which the clauses above speak, and no rides make none.
     ensures rides_make_journeys { (first : RideValue) (rest : List RideValue) → MakeJourneys (first ∷ rest) }
     ensures no_rides_make_none { ¬ MakeJourneys [] }
+{
+    live_without_news();
+    one_arrival();
+}
+
+/// Of the small feed, a client with the worked journey ends best, as the headline has it, and one that ends nearly so does not.
+pub fn worked_end()
+    ensures takes { (journey : JourneyValue) → IsMadeOf None worked None journey → IsBestEnd from_a_to_d (answers.Journey journey) }
+
+    // No other version will do, though the journey is an answer at each.
+    ensures refuses_other_versions { (query : QueryValue) → EndAtOneVersion query }
+
+    // After a message, an older version will not do for who knows the message, nor its version for who does not.
+    ensures refuses_older_versions { EndAtTheMessage }
+    ensures refuses_newer_versions { EndAtTheBase }
+
+    // A later journey will not do, though it is within the horizon.
+    ensures refuses_a_later_journey { (journey : JourneyValue) → IsMadeOf None nine_minutes_late None journey → IsNoBestEnd from_a_to_d (answers.Journey journey) }
+
+    // Where the horizon is one second too short, the worked journey will not do, and no journey will.
+    ensures refuses_after_the_horizon { (journey : JourneyValue) → IsMadeOf None worked None journey → IsNoBestEnd (within 1_859) (answers.Journey journey) }
+    ensures takes_none_within_the_horizon { IsBestEnd (within 1_859) NoJourney }
 {
     live_without_news();
     one_arrival();

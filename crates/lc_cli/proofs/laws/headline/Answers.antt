@@ -1,0 +1,10 @@
+use Rattle.lc_cli.proofs.HeadlineLemmas.{headline}
+use Rattle.lc_cli.proofs.HeadlineOfReplayLemmas.{headline_of_replay}
+use Rattle.lc_cli.proofs.laws.headline.Goals as goal
+
+pub returns-clause-ask : goal.returns-clause-ask
+returns-clause-ask g c = headline g.L.Link.seen c.one_command.ensures c.one_timetable.ensures.loads_told
+
+pub returns-clause-replay : goal.returns-clause-replay
+returns-clause-replay g c =
+    headline_of_replay g.L.Link.seen c.one_command.ensures c.one_timetable.ensures.loads_told c.one_outcome.ensures.one

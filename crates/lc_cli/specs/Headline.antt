@@ -1,0 +1,112 @@
+-- The main promise: where `ask` or `replay` ends with status Done, it wrote best journeys by the timetable as it was known.
+use Rattle.std.specs.Prelude.{◌≡◌, ℕ, ◌+◌, List, ◌++◌, Some, length, slice_get}
+use Rattle.cli_ask.specs.Block.{client_text_of}
+use Rattle.cli_ask.specs.Publishing.{side_with, store_of}
+use Rattle.cli_ask.specs.declared.end.ClientEnd.{ClientEnd}
+use Rattle.cli_words.specs.Words.{SaysCommand}
+use Rattle.cli_words.specs.declared.command.Ask.{Ask}
+use Rattle.cli_words.specs.declared.command.Command.TheVariants as commands
+use Rattle.cli_words.specs.declared.command.Publishing.{Publishing}
+use Rattle.cli_words.specs.declared.command.Replay.{Replay}
+use Rattle.laws_clients.specs.Answered.{AnswersAt, NeededAt}
+use Rattle.laws_replay.specs.Events.{before_turn_of, questions_in}
+use Rattle.laws_replay.specs.OneCourse.{IsPlayedOut}
+use Rattle.laws_replay.specs.Replayed.{clients_text_of}
+use Rattle.laws_replay.specs.Versions.{AreShort, HasHeard}
+use Rattle.laws_replay.specs.declared.event.Event.{Event}
+use Rattle.lc_io.specs.declared.file.File.{File}
+use Rattle.lc_model.specs.declared.answer.Answer.{Answer}
+use Rattle.lc_model.specs.declared.answer.Answer.TheVariants as answers
+use Rattle.lc_model.specs.declared.page.PageName.{PageName}
+use Rattle.lc_model.specs.declared.query.Query.{Query}
+use Rattle.lc_versions.specs.History.{moments_of}
+use Rattle.lc_versions.specs.Named.{version_named}
+use Rattle.lc_world.specs.Link.{LinkSeen}
+use Rattle.page_client.specs.declared.outcome.Outcome.{Outcome}
+use Rattle.page_client.specs.declared.outcome.Outcome.TheVariants as outcomes
+use Rattle.publisher_spec.specs.Short.{IsShort}
+use Rattle.publisher_spec.specs.Side.{Side}
+use Rattle.timetable.specs.declared.timetable.Timetable.{Timetable}
+use Rattle.version_store.specs.Store.{Stored}
+use Rattle.lc_cli.specs.Clear.{IsAskedSide, IsToldCourse}
+use Rattle.lc_cli.specs.Top.{IsRight, Past}
+use Rattle.lc_cli.specs.Writing.{Wrote}
+use Rattle.lc_cli.specs.declared.status.Status.TheVariants.{Done}
+
+-- A question means the last version at or before the moment that it names, else the base. Where it names no moment, it means the newest.
+abbrev pub version_meant : Side → Query → ℕ
+version_meant side query = version_named side.base_moment (moments_of side.history) query.known
+
+-- A client that has an answer ends with its journey, or with none.
+abbrev pub outcome_of : Answer → Outcome
+outcome_of (answers.Journey journey) = outcomes.Found journey
+outcome_of answers.NoJourney = outcomes.NoJourney
+
+-- By this side, the client ended with a best journey at the version that its question means, or with none where none exists.
+pub record EndsBest (side : Side) (query : Query) (end : ClientEnd) : Type 0 where
+  pub version_is : end.version ≡ Some (version_meant side query)
+  pub answer : Answer
+  pub is_best : AnswersAt side (version_meant side query) query answer
+  pub outcome_is : end.outcome ≡ outcome_of answer
+
+-- Each text of the publisher that is asked stays below 10,000,000,000 bytes.
+abbrev pub StaysShort : List File → Ask → Type 0
+StaysShort files ask = (side : Side) → IsAskedSide files ask side → IsShort side
+
+-- `ask` wrote the line of its message, if it names one, and the block of a client that ended best after the needed exchanges.
+pub record WroteBest {X : Type 0} (p : Past X) (ask : Ask) (files : List File) : Type 0 where
+  pub side : Side
+  pub asked : IsAskedSide files ask side
+  pub end : ClientEnd
+  pub best : EndsBest side ask.query end
+  pub pages : List PageName
+  pub are_needed : NeededAt side (version_meant side ask.query) ask.query pages
+  pub exchanges : end.exchanges ≡ 2 + length pages
+  pub wrote : Wrote p.sink_before p.sink_after (asked.line ++ client_text_of 1 end)
+
+-- Over recorded files, a clear link and a short publisher, status Done of `ask` means that it wrote a best journey, or that none exists.
+abbrev pub Headline : {X : Type 0} → (X → LinkSeen) → Type 0
+Headline {X} seen =
+    (p : Past X) (ask : Ask) (files : List File)
+    → SaysCommand p.words (commands.Ask ask)
+    → p.folder_before.files ≡ Some files
+    → (seen p.link_before).clear
+    → StaysShort files ask
+    → IsRight seen p Done
+    → WroteBest p ask files
+
+-- The client of this number ended best by the messages before its first turn, or by all messages where it has no turn.
+pub record EndsBestThen (made : Timetable) (publishing : Publishing) (all : List Event) (client : ℕ) (query : Query) (end : ClientEnd) : Type 0 where
+  pub store : Stored
+  pub lines : List ℕ
+  pub heard : HasHeard (before_turn_of client all) (store_of made publishing.base_moment) store lines
+  pub best : EndsBest (side_with made publishing store) query end
+
+-- Each text of the publisher stays below 10,000,000,000 bytes, whichever messages it has received.
+abbrev pub StaysShortThroughout : List File → Replay → Type 0
+StaysShortThroughout files replay =
+    (made : Timetable) (all : List Event) → IsToldCourse files replay made all → AreShort made replay.publishing all
+
+-- `replay` played its event sequence, and wrote the lines of its messages and the block of each client, which ended best.
+pub record WroteEachBest {X : Type 0} (p : Past X) (replay : Replay) (files : List File) : Type 0 where
+  pub made : Timetable
+  pub all : List Event
+  pub recorded : IsToldCourse files replay made all
+  pub lines : List ℕ
+  pub ends : List ClientEnd
+  pub played : IsPlayedOut made replay.publishing all replay.cache lines ends
+  pub best :
+      (place : ℕ) (query : Query) (end : ClientEnd) → slice_get (questions_in all) place ≡ Some query → slice_get ends place ≡ Some end
+      → EndsBestThen made replay.publishing all (place + 1) query end
+  pub wrote : Wrote p.sink_before p.sink_after (lines ++ clients_text_of 1 ends)
+
+-- Over the same, status Done of `replay` means that it wrote a best journey for each client that asked, or that none exists.
+abbrev pub HeadlineOfReplay : {X : Type 0} → (X → LinkSeen) → Type 0
+HeadlineOfReplay {X} seen =
+    (p : Past X) (replay : Replay) (files : List File)
+    → SaysCommand p.words (commands.Replay replay)
+    → p.folder_before.files ≡ Some files
+    → (seen p.link_before).clear
+    → StaysShortThroughout files replay
+    → IsRight seen p Done
+    → WroteEachBest p replay files
