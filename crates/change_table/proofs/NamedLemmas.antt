@@ -24,7 +24,7 @@ use Rattle.gtfs_calendars.specs.declared.transfer.Transfer.{Transfer}
 use Rattle.change_table.specs.ChangeRule.{are_together, given_seconds, is_same_station, said_seconds, usual_seconds}
 use Rattle.change_table.specs.Pairs.{changes_to, timed_change}
 use Rattle.change_table.specs.Partners.{Gains, IsOf, named_ids, stops_at}
-use Rattle.change_table.specs.Rows.{AreSortedRows, row_for, row_to, rows_from, seconds_by, target, told}
+use Rattle.change_table.specs.Rows.{AreSortedRows, row_cmp, row_for, row_to, rows_from, seconds_by, target, told}
 use Rattle.change_table.specs.declared.rows.Row.{Row}
 use Rattle.lc_model.proofs.ListLemmas.{AllPairs-map, AllPairs-weaker, All-from_contains, ComesFrom-map, Contains-here, Contains-map, Contains-nil}
 use Rattle.change_table.proofs.ListLemmas.{AllPairs-filter_map, Contains-filter_map, IsKept-find, IsMade-filter_map}
@@ -211,9 +211,9 @@ made_here transfers rows stops default stop places are strict gains rising =
     (λ to. ap (option_map (timed_change stop.id to.id)) (seconds_are_given transfers rows are default stop to))
 
 -- the rows of an origin are sorted by the stops that they reach
-pub origin_sorted : (transfers : List Transfer) (rows slice own : List Row) (from : Option (List ℕ)) → AreSortedRows transfers rows → slice ≡ rows → own ≡ rows_from slice from → IsSorted (on target id_cmp) own
-origin_sorted transfers rows slice own from are same is =
-    subst (IsSorted (on target id_cmp)) (sym is) (subst (λ v. IsSorted (on target id_cmp) (rows_from v from)) (sym same) (IsSorted-rows_from rows from are.sorted))
+pub origin_sorted : (rows own : List Row) (from : Option (List ℕ)) → IsSorted row_cmp rows → own ≡ rows_from rows from → IsSorted (on target id_cmp) own
+origin_sorted rows own from sorted is =
+    subst (IsSorted (on target id_cmp)) (sym is) (IsSorted-rows_from rows from sorted)
 
 -- what is made for an origin: all changes from its stop
 pub made_there : (transfers : List Transfer) (rows slice own of_parent : List Row) (stops : List Stop) (default : ℕ) (stop origin : Stop) (places listed : List ℕ) → AreSortedRows transfers rows → InStopOrder stops

@@ -7,14 +7,15 @@ ghost use Rattle.lc_model.specs.Text.{id_cmp};
 ghost use Rattle.change_table.specs.ChangeRule.{change_of, given_seconds};
 ghost use Rattle.change_table.specs.ChangeTable.{AreChangesOf, HasCause, OneListOfChanges, count_of_changes};
 ghost use Rattle.change_table.specs.Pairs.{changes_among, changes_to, timed_change};
-ghost use Rattle.change_table.specs.Partners.{stops_at};
-ghost use Rattle.change_table.specs.Rows.{seconds_by, target};
+ghost use Rattle.change_table.specs.Partners.{AreChildren, child_cmp, stops_at};
+ghost use Rattle.change_table.specs.Rows.{AreSortedRows, row_cmp, seconds_by, target};
+ghost use Rattle.gtfs_calendars.specs.declared.transfer.Transfer.{Transfer as SaidTransfer};
 
-use crate::children::children_of;
+use crate::children::{Child, children_of};
 use crate::fault::{ChangeFault, MOST_CHANGES};
 use crate::origin::{Origin, origin_at};
 use crate::partners::partners;
-use crate::rows::sorted_rows;
+use crate::rows::{Row, sorted_rows};
 use crate::rule::seconds_by;
 use gtfs_calendars::{Transfer, Transfers};
 use lc_model::{Change, Changes, PlainData, Stop, Stops};
@@ -74,6 +75,31 @@ fn push_changes(
     Ok(())
 }
 
+/// Adds the changes from a stop to all stops.
+fn push_stop(
+    alloc: Global,
+    changes: &mut Vec<Change>,
+    stops: &[Stop],
+    rows: &[Row],
+    children: &[Child],
+    default: u32,
+    stop: &Stop,
+) -> Result<(), ChangeFault>
+    requires in_order { InStopOrder stops.now }
+    requires rows { IsSorted row_cmp rows.now }
+    requires children { AreChildren stops.now children.now }
+    requires by_parent { IsSorted child_cmp children.now }
+    ensures added { (transfers : List SaidTransfer) → AreSortedRows transfers rows.now → OnOk result (changes.new.items
+        ≡ changes.old.items ++ changes_to (given_seconds transfers default stop.now) stop.now stops.now) }
+    ensures room { vec_len changes.old ≤ MOST_CHANGES → OnOk result (vec_len changes.new ≤ MOST_CHANGES) }
+    ensures fault { (transfers : List SaidTransfer) → AreSortedRows transfers rows.now → IfErr result (λ fault. HasCause fault (length (changes.old.items
+        ++ changes_to (given_seconds transfers default stop.now) stop.now stops.now))) }
+{
+    let origin = origin_at(rows, stop);
+    let places = partners(alloc, stops, children, &origin)?;
+    push_changes(alloc, changes, stops, places.as_slice(), default, &origin)
+}
+
 fn all_changes(
     alloc: Global,
     stops: &[Stop],
@@ -89,15 +115,14 @@ fn all_changes(
     let children = children_of(alloc, stops)?;
     let mut changes = Vec::new(alloc);
     'stops: for stop in stops {
-        let origin = origin_at(rows.as_slice(), stop);
-        let places = partners(alloc, stops, children.as_slice(), &origin)?;
-        push_changes(
+        push_stop(
             alloc,
             &mut changes,
             stops,
-            places.as_slice(),
+            rows.as_slice(),
+            children.as_slice(),
             default,
-            &origin,
+            stop,
         )?;
     }
     Ok(changes)

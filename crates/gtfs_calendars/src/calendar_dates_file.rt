@@ -40,9 +40,25 @@ fn date_rows(alloc: Global, rows: &Rows) -> Result<Vec<DateRow>, FileFault>
     let columns = date_columns(rows);
     let keys = pairs(alloc, rows, columns.service, columns.date)?;
     let places = pair_places(alloc, keys.as_slice())?;
+    date_rows_by(alloc, rows, columns, &places)
+}
+
+// What these rows say, by the first places of services with their dates, or the first rule that one breaks.
+fn date_rows_by<'a>(
+    alloc: Global,
+    rows: &'a Rows,
+    columns: DateColumns,
+    places: &BTreeMap<(&'a [u8], &'a [u8]), usize>,
+) -> Result<Vec<DateRow>, FileFault>
+    requires columns { AreDateColumns rows.now columns }
+    requires places { HavePairPlaces (date_keys_of rows.now) places.now }
+    ensures unbroken { IfOk result (λ _. IsUnbroken (calendar_dates_rule rows.now) (length rows.now.rows)) }
+    ensures listed { IfOk result (λ list. map Some list.items ≡ map (date_row_said rows.now) rows.now.rows) }
+    ensures fault { IfErr result (λ fault. (fault ≡ FileFault.NoMemory) ⊎ IsRowFault (calendar_dates_rule rows.now) (length rows.now.rows) fault) }
+{
     let mut list = Vec::new(alloc);
     'rows: for place in 0..rows.len() {
-        let date_row = date_row_at(alloc, rows, columns, &places, place)?;
+        let date_row = date_row_at(alloc, rows, columns, places, place)?;
         list.push(date_row)?;
     }
     Ok(list)

@@ -55,9 +55,25 @@ fn weekly_rows(alloc: Global, rows: &Rows) -> Result<Vec<Weekly>, FileFault>
     let columns = calendar_columns(rows);
     let services = texts(alloc, rows, columns.service)?;
     let places = text_places(alloc, services.as_slice())?;
+    weekly_rows_by(alloc, rows, columns, &places)
+}
+
+// What these rows say, by the first places of services, or the first rule that one breaks.
+fn weekly_rows_by<'a>(
+    alloc: Global,
+    rows: &'a Rows,
+    columns: CalendarColumns,
+    places: &BTreeMap<&'a [u8], usize>,
+) -> Result<Vec<Weekly>, FileFault>
+    requires columns { AreCalendarColumns rows.now columns }
+    requires places { HavePlaces (services_of rows.now) places.now }
+    ensures unbroken { IfOk result (λ _. IsUnbroken (calendar_rule rows.now) (length rows.now.rows)) }
+    ensures listed { IfOk result (λ list. map Some list.items ≡ map (weekly_said rows.now) rows.now.rows) }
+    ensures fault { IfErr result (λ fault. (fault ≡ FileFault.NoMemory) ⊎ IsRowFault (calendar_rule rows.now) (length rows.now.rows) fault) }
+{
     let mut list = Vec::new(alloc);
     'rows: for place in 0..rows.len() {
-        let weekly = weekly_at(alloc, rows, columns, &places, place)?;
+        let weekly = weekly_at(alloc, rows, columns, places, place)?;
         list.push(weekly)?;
     }
     Ok(list)

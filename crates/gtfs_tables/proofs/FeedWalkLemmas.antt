@@ -13,14 +13,13 @@ use Rattle.gtfs_calendars.specs.CalendarDates.{IsCalendarDatesFault}
 use Rattle.gtfs_calendars.specs.declared.calendar.Weekly.{Weekly}
 use Rattle.gtfs_calendars.specs.declared.calendar_dates.DateRow.{DateRow}
 use Rattle.gtfs_calendars.specs.declared.frequency.Frequency.{Frequency}
-use Rattle.gtfs_calendars.specs.declared.transfer.Transfer.{Transfer}
 use Rattle.gtfs_tables.specs.Feed.{HasRows, IsAbsence, StopTimesAre, WeeklyAre}
-use Rattle.gtfs_tables.specs.Files.{Found}
 use Rattle.gtfs_tables.specs.Steps.{HasDates, HasFrequencies, HasStops, HasTimes, HasTransfers, HasTrips, HasWeekly, IsStep, IsWalk, IsWrongDates, IsWrongFrequencies, IsWrongStops, IsWrongTimes, IsWrongTransfers, IsWrongTrips, IsWrongWeekly, StepEnds}
 use Rattle.gtfs_tables.specs.declared.end.End.{End}
 use Rattle.gtfs_tables.specs.declared.feed_file.FeedFile.TheVariants as file
 use Rattle.gtfs_tables.specs.declared.tables.Tables.{Tables}
-use Rattle.gtfs_tables.proofs.WalkLemmas.{SoFar, Stands, Turn, reads_walked}
+use Rattle.gtfs_tables.specs.Parts.{Dates, SoFar, Spans, Stops, Times, Trips, Ways, Weeks}
+use Rattle.gtfs_tables.proofs.WalkLemmas.{Stands, Turn, reads_walked}
 
 stands_0 : Stands 0 file.Stops
 stands_0 = record { low = omega arith; stands = refl; next = refl; absent_before = λ found x. refl; right_before = λ found x each. each; here = λ found x. refl; named = λ found x. refl }
@@ -42,30 +41,6 @@ stands_5 = record { low = omega arith; stands = refl; next = refl; absent_before
 
 stands_6 : Stands 6 file.Transfers
 stands_6 = record { low = omega arith; stands = refl; next = refl; absent_before = λ found x. refl; right_before = λ found x each. each; here = λ found x. refl; named = λ found x. refl }
-
--- what the steps find out of the files, in their order
-abbrev pub Stops : List Stop → Found → Type 0
-Stops stops found = HasStops (found file.Stops) stops
-
-abbrev pub Trips : List Stop → List TripRow → Found → Type 0
-Trips stops trips found = Stops stops found × HasTrips (found file.Trips) trips
-
-abbrev pub Times : List Stop → List TripRow → TimedTrips → Found → Type 0
-Times stops trips timed found = Trips stops trips found × HasTimes stops trips (found file.StopTimes) timed
-
-abbrev pub Weeks : List Stop → List TripRow → TimedTrips → Option (List Weekly) → Found → Type 0
-Weeks stops trips timed weekly found = Times stops trips timed found × HasWeekly (found file.Calendar) weekly
-
-abbrev pub Dates : List Stop → List TripRow → TimedTrips → Option (List Weekly) → List DateRow → Found → Type 0
-Dates stops trips timed weekly dates found = Weeks stops trips timed weekly found × HasDates (is_some weekly) (found file.CalendarDates) dates
-
-abbrev pub Spans : List Stop → List TripRow → TimedTrips → Option (List Weekly) → List DateRow → List Frequency → Found → Type 0
-Spans stops trips timed weekly dates frequencies found =
-    Dates stops trips timed weekly dates found × HasFrequencies trips (found file.Frequencies) frequencies
-
-abbrev pub Ways : List Stop → List TripRow → TimedTrips → Option (List Weekly) → List DateRow → List Frequency → List Transfer → Found → Type 0
-Ways stops trips timed weekly dates frequencies transfers found =
-    Spans stops trips timed weekly dates frequencies found × HasTransfers stops (found file.Transfers) transfers
 
 -- calendar.txt was found where its rows are there
 calendar_there : (found : Option (List ℕ)) (weekly : Option (List Weekly)) → HasWeekly found weekly → is_some weekly ≡ is_some found

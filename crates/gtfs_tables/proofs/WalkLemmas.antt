@@ -19,6 +19,7 @@ use Rattle.gtfs_tables.specs.declared.end.End.TheVariants.{Failed, NoMemory, Wro
 use Rattle.gtfs_tables.specs.declared.feed_file.FeedFile.{FeedFile}
 use Rattle.gtfs_tables.specs.declared.feed_file.FeedFile.TheVariants as file
 use Rattle.gtfs_tables.specs.declared.tables.Tables.{Tables}
+use Rattle.gtfs_tables.specs.Parts.{Each, GoesOn, PartEnds, SoFar, Told, Walked}
 use Rattle.gtfs_tables.proofs.CountLemmas.{rose_and_kept, rose_before, rose_none, rose_once_more}
 
 -- the place of a file in the order of reading
@@ -53,10 +54,6 @@ put_is : (all found : Found) (at other : FeedFile) (x : Option (List ℕ)) (same
 put_is all found at other x true same here there = here ∙ ap all (same_file at other (eqb-true (place_of at) (place_of other) same))
 put_is all found at other x false same here there = there
 
--- what was found is what the folder tells, where it tells its files
-abbrev Told : Option (List File) → List ℕ → Found → Type 0
-Told told feed found = IfSome told (λ files. (at : FeedFile) → found at ≡ files_of files feed at)
-
 put_told : (told : Option (List File)) (feed : List ℕ) (found : Found) (at : FeedFile) (x : Option (List ℕ)) → Told told feed found
     → IfSome told (λ files. x ≡ files_of files feed at) → Told told feed (put found at x)
 put_told None feed found at x there here = tt
@@ -71,11 +68,6 @@ found_first (Some files) feed at = files_of files feed at
 told_first : (told : Option (List File)) (feed : List ℕ) → Told told feed (found_first told feed)
 told_first None feed = tt
 told_first (Some files) feed = λ at. refl
-
--- it holds of each item, by the items
-abbrev pub Each : {X : Type 0} → (X → Type 0) → List X → Type 0
-Each P [] = Unit {0}
-Each P (x ∷ xs) = P x × Each P xs
 
 each_all : {X : Type 0} (P : X → Type 0) (xs : List X) → Each P xs → All P xs
 each_all P [] each = All-nil P
@@ -94,14 +86,6 @@ pub record Stands (place : ℕ) (at : FeedFile) : Type 0 where
   pub right_before : (found : Found) (x : Option (List ℕ)) → Each (IsRightAt found) (take place feed_files) → Each (IsRightAt (put found at x)) (take place feed_files)
   pub here : (found : Found) (x : Option (List ℕ)) → put found at x at ≡ x
   pub named : (found : Found) (x : Option (List ℕ)) → named_at (λ _. x) at ≡ named_at (put found at x) at
-
--- the first files, so many, were asked for and found as they have to be
-pub record Walked (old new : FolderSeen) (feed : List ℕ) (found : Found) (count : ℕ) : Type 0 where
-  pub kept : Keeps old new
-  pub told : Told old.files feed found
-  pub in_turn : new.asked ≡ option_map (λ names. names ++ first_paths feed count) old.asked
-  pub right : Each (IsRightAt found) (take count feed_files)
-  pub absences : RoseBy (absent_among found count) old.absences new.absences
 
 keeps_all : (old mid new : FolderSeen) → Keeps old mid → Keeps mid new → Keeps old new
 keeps_all old mid new first then =
@@ -246,12 +230,6 @@ ends_so old mid new feed found place at Says IsWrong NoMemory stands walked tell
 ends_so old mid new feed found place at Says IsWrong NoMemory stands walked tells kept (inr asked) =
     (found, suc place, place, reads_unanswered old mid new feed found place at stands walked kept asked)
 
--- the first files, so many, were found as they have to be, and this is known of what was found
-pub record SoFar (old new : FolderSeen) (feed : List ℕ) (count : ℕ) (Knows : Found → Type 0) : Type 0 where
-  pub found : Found
-  pub walked : Walked old new feed found count
-  pub knows : Knows found
-
 same_asked : (asked : Option (List (List ℕ))) → asked ≡ option_map (λ names. names ++ []) asked
 same_asked None = refl
 same_asked (Some names) = ap (λ (all : List (List ℕ)). Some all) (sym (append-nil names))
@@ -303,3 +281,33 @@ stop {T} {old} {mid} {new} {feed} {place} {at} {Says} {IsWrong} {Knows} {Learns}
       ends = subst (λ (r : Result Tables End). WalkEnds old new feed r) (sym same)
           (ends_so old mid new feed far.found place at Says IsWrong end turn.stands far.walked (λ x fault. turn.tells far.found x fault far.knows) is.kept ends);
     }
+
+-- a step that ended ends its part of the walk
+pub part_stop : {T U : Type 0} {old mid new : FolderSeen} {feed : List ℕ} {place count : ℕ} {at : FeedFile} {Says : Option (List ℕ) → T → Type 0}
+    {IsWrong : Option (List ℕ) → FileFault → Type 0} {Knows : Found → Type 0} {Learns : T → Found → Type 0} {Gives : U → Found → Type 0}
+    {step : Result T End} {end : End} {whole : Result U End} → Turn place at Says IsWrong Knows Learns → SoFar old mid feed place Knows
+    → step ≡ Err end → IsStep mid new feed at Says IsWrong step → whole ≡ Err end → GoesOn old new feed whole count Gives
+part_stop {T} {U} {old} {mid} {new} {feed} {place} {count} {at} {Says} {IsWrong} {Knows} {Learns} {Gives} {step} {end} {whole} turn far was is same =
+    let ended : IsWalk old new feed (Err end) = stop turn far was is refl in
+    record { ends = subst (λ (r : Result U End). PartEnds old new feed r count Gives) (sym same) ended }
+
+-- a part that ended ends the walk
+pub walk_ends : {T : Type 0} {old new : FolderSeen} {feed : List ℕ} {few : ℕ} {Learns : T → Found → Type 0} {part : Result T End} {end : End}
+    {whole : Result Tables End} → part ≡ Err end → GoesOn old new feed part few Learns → whole ≡ Err end → IsWalk old new feed whole
+walk_ends {T} {old} {new} {feed} {few} {Learns} {part} {end} {whole} was goes same =
+    let ended : IsWalk old new feed (Err end) = subst (λ (r : Result T End). PartEnds old new feed r few Learns) was goes.ends in
+    subst (λ (r : Result Tables End). IsWalk old new feed r) (sym same) ended
+
+-- a part that ended ends the part that it stands in
+pub part_ends : {T U : Type 0} {old new : FolderSeen} {feed : List ℕ} {few count : ℕ} {Learns : T → Found → Type 0} {Gives : U → Found → Type 0}
+    {part : Result T End} {end : End} {whole : Result U End} → part ≡ Err end → GoesOn old new feed part few Learns → whole ≡ Err end
+    → GoesOn old new feed whole count Gives
+part_ends {T} {U} {old} {new} {feed} {few} {count} {Learns} {Gives} {part} {end} {whole} was goes same =
+    let ended : IsWalk old new feed (Err end) = walk_ends was goes refl in
+    record { ends = subst (λ (r : Result U End). PartEnds old new feed r count Gives) (sym same) ended }
+
+-- a part that gave a value
+pub part_gives : {T : Type 0} {old new : FolderSeen} {feed : List ℕ} {count : ℕ} {Learns : T → Found → Type 0} {part : Result T End} {value : T}
+    → part ≡ Ok value → GoesOn old new feed part count Learns → SoFar old new feed count (Learns value)
+part_gives {T} {old} {new} {feed} {count} {Learns} {part} {value} was goes =
+    subst (λ (r : Result T End). PartEnds old new feed r count Learns) was goes.ends

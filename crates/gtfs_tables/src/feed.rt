@@ -4,10 +4,7 @@ ghost use Rattle.gtfs_tables.specs.Feed.{what_of as said_what};
 ghost use Rattle.gtfs_tables.specs.Steps.{IsFaultOf, IsTellable, IsWalk};
 
 use crate::end::End;
-use crate::steps::{
-    feed_dates, feed_frequencies, feed_stop_times, feed_stops, feed_transfers, feed_trips,
-    feed_weekly,
-};
+use crate::parts::{feed_rest, feed_rides};
 use crate::{FeedFault, FeedFile, Tables, What};
 use gtfs_calendars::WeeklyList;
 use gtfs_fields::FileFault;
@@ -39,23 +36,17 @@ pub fn read_feed<F: Folder>(alloc: Global, folder: &mut F, feed: &str) -> Result
 fn feed_tables<F: Folder>(alloc: Global, folder: &mut F, feed: &str) -> Result<Tables, End>
     ensures { IsWalk (F.seen folder.old) (F.seen folder.new) feed.now result }
 {
-    let stops = feed_stops(alloc, folder, feed)?;
-    let all_trips = feed_trips(alloc, folder, feed)?;
-    let timed = feed_stop_times(alloc, folder, feed, &stops, &all_trips)?;
-    let weekly = feed_weekly(alloc, folder, feed)?;
-    let has_calendar = weekly.is_some();
-    let dates = feed_dates(alloc, folder, feed, has_calendar)?;
-    let frequencies = feed_frequencies(alloc, folder, feed, &all_trips)?;
-    let transfers = feed_transfers(alloc, folder, feed, &stops)?;
+    let rides = feed_rides(alloc, folder, feed)?;
+    let rest = feed_rest(alloc, folder, feed, &rides.stops, &rides.all_trips)?;
     Ok(Tables {
-        stops,
-        trips: timed.trips,
-        stop_times: timed.times,
-        weekly: weekly_rows(alloc, weekly),
-        dates,
-        frequencies,
-        transfers,
-        left_out: timed.left_out,
+        stops: rides.stops,
+        trips: rides.timed.trips,
+        stop_times: rides.timed.times,
+        weekly: weekly_rows(alloc, rest.services.weekly),
+        dates: rest.services.dates,
+        frequencies: rest.extras.frequencies,
+        transfers: rest.extras.transfers,
+        left_out: rides.timed.left_out,
     })
 }
 

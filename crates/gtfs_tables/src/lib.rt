@@ -10,6 +10,7 @@ mod feed_file;
 mod judge;
 mod laws;
 mod look;
+mod parts;
 mod steps;
 mod tables;
 mod what;

@@ -1,14 +1,16 @@
-ghost use Rattle.std.specs.Prelude.{◌≡◌, ◌==◌, ◌<◌, ◌&&◌, ◌||◌, not, IfOk, IfSome, None, Some, false, if◌then◌else◌, length, map};
+ghost use Rattle.std.specs.Prelude.{◌≡◌, ◌==◌, ◌<◌, ◌&&◌, ◌||◌, not, IfOk, IfSome, None, Some, codes, false, if◌then◌else◌, length, map};
 ghost use Rattle.std.specs.Bool.{OnTrue};
 ghost use Rattle.std.specs.List.{HoldsAt};
 ghost use Rattle.lc_time.specs.Clock.{gtfs_time_said};
+ghost use Rattle.gtfs_fields.specs.Columns.{row_at, text_at};
 ghost use Rattle.gtfs_fields.specs.Places.{is_unknown};
 ghost use Rattle.gtfs_fields.specs.Times.{is_wrong_time as wrong_time};
 ghost use Rattle.gtfs_fields.specs.TextPlaces.{HavePlaces};
 ghost use Rattle.gtfs_trips.specs.SoundRows.{AreNeighboursApart, AreSoundAlone, AreSoundVisits, HaveIds, SaysVisit};
 ghost use Rattle.gtfs_trips.specs.StopTimeColumns.{AreStopTimeColumns};
-ghost use Rattle.gtfs_trips.specs.StopTimeRows.{ids_of_stops};
-ghost use Rattle.gtfs_trips.specs.Visits.{visits_of_rows};
+ghost use Rattle.gtfs_trips.specs.StopTimeRows.{ids_of_stops, ids_of_trips, sequence_of};
+ghost use Rattle.gtfs_trips.specs.Trips.{trip_id_of};
+ghost use Rattle.gtfs_trips.specs.Visits.{allows as said_right, visits_of_rows};
 
 use crate::stop_time_rows::StopTimeColumns;
 use crate::visits::{Visit, allows, by_trip, compare};
@@ -35,6 +37,28 @@ pub(crate) struct Ids<'a> {
 pub(crate) struct Told {
     visit: Visit,
     trip: usize,
+}
+
+/// The times that a row says.
+#[derive(Clone, Copy)]
+pub(crate) struct SaidTimes {
+    arr: Option<u32>,
+    dep: Option<u32>,
+}
+
+/// Where the trip of a row stands, and what the row says of its number and its times.
+#[derive(Clone, Copy)]
+pub(crate) struct SaidRow {
+    trip: usize,
+    seq: u32,
+    times: SaidTimes,
+}
+
+/// Whether passengers may board and alight where a row says so.
+#[derive(Clone, Copy)]
+pub(crate) struct Rights {
+    board: bool,
+    alight: bool,
 }
 
 /// The visits of the rows, by trip and sequence, where no row breaks a rule; none where a row may break one. The ids of the
@@ -94,10 +118,27 @@ fn told_visits<'a>(
     ensures sound { IfOk result (λ told. IfSome told (λ _. AreSoundAlone stops.now trips.now rows.now)) }
 {
     let ids = ids_of(alloc, stops, trips)?;
+    visits_with(alloc, rows, columns, stops, trips, &ids)
+}
+
+// The visits of the rows, in their order, by these maps of ids, if none of the rows breaks a rule by itself.
+fn visits_with<'a>(
+    alloc: Global,
+    rows: &'a Rows,
+    columns: StopTimeColumns,
+    stops: &[Stop],
+    trips: &[TripRow],
+    ids: &Ids<'a>,
+) -> Result<Option<Vec<Visit>>, NoMemory>
+    requires columns { AreStopTimeColumns rows.now columns }
+    requires ids { HaveIds stops.now trips.now ids.now }
+    ensures said { IfOk result (λ told. IfSome told (λ visits. visits.items ≡ visits_of_rows rows.now)) }
+    ensures sound { IfOk result (λ told. IfSome told (λ _. AreSoundAlone stops.now trips.now rows.now)) }
+{
     let mut visits = Vec::with_capacity(alloc, rows.len())?;
     let mut near = 0;
     'rows: for place in 0..rows.len() {
-        let Some(told) = told_visit(alloc, rows, columns, stops, trips, &ids, near, place)? else {
+        let Some(told) = told_visit(alloc, rows, columns, stops, trips, ids, near, place)? else {
             return Ok(None);
         };
         near = told.trip;
@@ -133,36 +174,99 @@ fn told_visit<'a>(
 {
     // There are fewer rows than `usize` counts.
     let _count = rows.len();
-    let trip_id = text(rows, place, columns.trip);
     let stop_id = text(rows, place, columns.stop);
-    let (arr_text, dep_text) = (
-        text(rows, place, columns.arr),
-        text(rows, place, columns.dep),
-    );
-    let (arr, dep) = (read_time(arr_text), read_time(dep_text));
-    if trip_id.is_empty() || has_unread_time(stop_id, arr_text, arr, dep_text, dep) {
-        return Ok(None);
-    }
-    let Some(trip) = place_near(&ids.trips, trips, trip_id, near) else {
-        return Ok(None);
-    };
-    let Some(seq) = read_u32(text(rows, place, columns.seq)) else {
+    let Some(said) = said_row(rows, columns, trips, ids, stop_id, near, place) else {
         return Ok(None);
     };
     let Some(stop) = stop_said(alloc, &ids.stops, stops, stop_id)? else {
         return Ok(None);
     };
+    let rights = rights_said(rows, columns, place);
     let visit = Visit {
-        trip: trips[trip].trip.copy(alloc)?,
+        trip: trips[said.trip].trip.copy(alloc)?,
         stop,
-        seq,
-        arr,
-        dep,
-        board: allows(text(rows, place, columns.pickup)),
-        alight: allows(text(rows, place, columns.drop_off)),
+        seq: said.seq,
+        arr: said.times.arr,
+        dep: said.times.dep,
+        board: rights.board,
+        alight: rights.alight,
         row: (place + 1) as u64,
     };
-    Ok(Some(Told { visit, trip }))
+    Ok(Some(Told {
+        visit,
+        trip: said.trip,
+    }))
+}
+
+// Where the trip of the row at this place stands, its number and its times, if these break no rule. The row names this
+// stop. Its trip may be the one at the place `near`.
+fn said_row<'a>(
+    rows: &'a Rows,
+    columns: StopTimeColumns,
+    trips: &[TripRow],
+    ids: &Ids<'a>,
+    stop: &[u8],
+    near: usize,
+    place: usize,
+) -> Option<SaidRow>
+    requires there { place < length rows.now.rows }
+    requires columns { AreStopTimeColumns rows.now columns }
+    requires ids { HavePlaces (ids_of_trips trips.now) ids.now.trips }
+    ensures named { IfSome result (λ _. (length (trip_id_of rows.now (row_at rows.now place)) == 0) ≡ false) }
+    ensures within { IfSome result (λ said. said.trip < length trips.now) }
+    ensures same { IfSome result (λ said. HoldsAt (λ t. t.trip ≡ trip_id_of rows.now (row_at rows.now place)) trips.now said.trip) }
+    ensures seq { IfSome result (λ said. Some said.seq ≡ sequence_of rows.now (row_at rows.now place)) }
+    ensures arr { IfSome result (λ said. said.times.arr ≡ gtfs_time_said (text_at rows.now (row_at rows.now place) (codes "arrival_time"))) }
+    ensures dep { IfSome result (λ said. said.times.dep ≡ gtfs_time_said (text_at rows.now (row_at rows.now place) (codes "departure_time"))) }
+    ensures timed { IfSome result (λ _. (not (length stop.now == 0) && (wrong_time (text_at rows.now (row_at rows.now place) (codes "arrival_time"))
+        || wrong_time (text_at rows.now (row_at rows.now place) (codes "departure_time")))) ≡ false) }
+{
+    let trip_id = text(rows, place, columns.trip);
+    if trip_id.is_empty() {
+        return None;
+    }
+    let Some(trip) = place_near(&ids.trips, trips, trip_id, near) else {
+        return None;
+    };
+    let Some(seq) = read_u32(text(rows, place, columns.seq)) else {
+        return None;
+    };
+    let Some(times) = times_said(rows, columns, stop, place) else {
+        return None;
+    };
+    Some(SaidRow { trip, seq, times })
+}
+
+// The times that the row at this place says, if none of them is unreadable where the row has this stop.
+fn times_said(rows: &Rows, columns: StopTimeColumns, stop: &[u8], place: usize) -> Option<SaidTimes>
+    requires there { place < length rows.now.rows }
+    requires columns { AreStopTimeColumns rows.now columns }
+    ensures arr { IfSome result (λ times. times.arr ≡ gtfs_time_said (text_at rows.now (row_at rows.now place) (codes "arrival_time"))) }
+    ensures dep { IfSome result (λ times. times.dep ≡ gtfs_time_said (text_at rows.now (row_at rows.now place) (codes "departure_time"))) }
+    ensures read { IfSome result (λ _. (not (length stop.now == 0) && (wrong_time (text_at rows.now (row_at rows.now place) (codes "arrival_time"))
+        || wrong_time (text_at rows.now (row_at rows.now place) (codes "departure_time")))) ≡ false) }
+{
+    let arr_text = text(rows, place, columns.arr);
+    let dep_text = text(rows, place, columns.dep);
+    let (arr, dep) = (read_time(arr_text), read_time(dep_text));
+    if has_unread_time(stop, arr_text, arr, dep_text, dep) {
+        None
+    } else {
+        Some(SaidTimes { arr, dep })
+    }
+}
+
+// What the row at this place says of boarding and alighting.
+fn rights_said(rows: &Rows, columns: StopTimeColumns, place: usize) -> Rights
+    requires there { place < length rows.now.rows }
+    requires columns { AreStopTimeColumns rows.now columns }
+    ensures board { result.board ≡ said_right (text_at rows.now (row_at rows.now place) (codes "pickup_type")) }
+    ensures alight { result.alight ≡ said_right (text_at rows.now (row_at rows.now place) (codes "drop_off_type")) }
+{
+    Rights {
+        board: allows(text(rows, place, columns.pickup)),
+        alight: allows(text(rows, place, columns.drop_off)),
+    }
 }
 
 // The stop that a row names, where it names one, if it names none that is not known.

@@ -12,12 +12,13 @@ ghost use Rattle.gtfs_trips.specs.StopTimeRows.{key_of as said_key, same_key, st
 
 use gtfs_fields::columns::{column, text};
 use gtfs_fields::first_rule::first_rule;
+use gtfs_fields::known::places_of_ids;
 use gtfs_fields::places::{first_places, is_before, place_of};
-use gtfs_fields::text_places::{is_unknown, place_of_text, text_places};
+use gtfs_fields::text_places::{is_unknown, place_of_text};
 use gtfs_fields::times::is_wrong_time;
 use gtfs_fields::{FileFault, TripRow};
 use gtfs_rows::Rows;
-use lc_model::{NoMemory, Stop, keys_of};
+use lc_model::{NoMemory, Stop};
 use lc_time::read_u32;
 use std::alloc::Global;
 use std::collections::BTreeMap;
@@ -92,14 +93,24 @@ fn known_of<'a>(
     requires { AreStopTimeColumns rows.now columns }
     ensures { IfOk result (IsKnown stops.now trips.now rows.now) }
 {
-    let keys = keys_of_rows(alloc, rows, columns)?;
-    let stop_ids = keys_of(alloc, stops)?;
-    let trip_ids = keys_of(alloc, trips)?;
     Ok(Known {
-        keys: key_places(alloc, keys.as_slice())?,
-        stops: text_places(alloc, stop_ids.as_slice())?,
-        trips: text_places(alloc, trip_ids.as_slice())?,
+        keys: row_key_places(alloc, rows, columns)?,
+        stops: places_of_ids(alloc, stops)?,
+        trips: places_of_ids(alloc, trips)?,
     })
+}
+
+// The first places of the keys of the rows.
+fn row_key_places<'a>(
+    alloc: Global,
+    rows: &'a Rows,
+    columns: StopTimeColumns,
+) -> Result<BTreeMap<(&'a [u8], Option<u32>), usize>, NoMemory>
+    requires { AreStopTimeColumns rows.now columns }
+    ensures { IfOk result (HaveKeyPlaces (stop_time_keys rows.now)) }
+{
+    let keys = keys_of_rows(alloc, rows, columns)?;
+    key_places(alloc, keys.as_slice())
 }
 
 // The keys of the rows, in their order.

@@ -33,9 +33,19 @@ pub fn read_stops(alloc: Global, bytes: &[u8]) -> Result<Stops, FileFault>
     ensures fault { IfErr result (λ fault. (fault ≡ FileFault.NoMemory) ⊎ IsStopsFault bytes.now fault) }
 {
     let rows = file_rows(alloc, bytes, &["stop_id"], MOST_STOPS)?;
-    let columns = stop_columns(&rows);
-    check_rows(alloc, &rows, columns)?;
-    let stops = listed_stops(alloc, &rows, columns)?;
+    stops_of(alloc, &rows)
+}
+
+// The stops that these rows say, by their ids, or the first row that breaks a rule.
+fn stops_of(alloc: Global, rows: &Rows) -> Result<Stops, FileFault>
+    ensures unbroken { OnOk result (IsUnbroken (stop_rule_at rows.now) (length rows.now.rows)) }
+    ensures are { IfOk result (IsPermutation (map (said_stop rows.now) rows.now.rows)) }
+    ensures parents { IfOk result HaveKnownParents }
+    ensures fault { IfErr result (λ fault. (fault ≡ FileFault.NoMemory) ⊎ IsRowFault (stop_rule_at rows.now) (length rows.now.rows) fault) }
+{
+    let columns = stop_columns(rows);
+    check_rows(alloc, rows, columns)?;
+    let stops = listed_stops(alloc, rows, columns)?;
     Ok(sorted_stops(stops)?)
 }
 

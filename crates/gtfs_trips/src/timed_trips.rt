@@ -108,9 +108,26 @@ fn timed(alloc: Global, visits: Vec<Visit>, trips: TripRows) -> Result<TimedTrip
 {
     let stopless = stopless_trips(alloc, visits.as_slice())?;
     let left = trips_of(alloc, stopless.as_slice())?;
-    match check_trips(visits.as_slice(), trips.as_slice(), left.as_slice()) {
+    timed_without(alloc, visits, trips, left.as_slice())
+}
+
+// What the visits say of the trips where these are left out, or the first trip whose rows break a rule together.
+fn timed_without(
+    alloc: Global,
+    visits: Vec<Visit>,
+    trips: TripRows,
+    left: &[&[u8]],
+) -> Result<TimedTrips, FileFault>
+    requires in_order { IsStrict visit_cmp visits.items }
+    requires of_trips { AreOfTrips trips visits.items }
+    requires left { AreLeftOut visits.items left.now }
+    ensures times { IfOk result (λ read. AreTimed visits.items trips read.times read.trips) }
+    ensures left_out { IfOk result (λ read. read.left_out + length read.trips ≡ length trips) }
+    ensures fault { IfErr result (λ fault. (fault ≡ FileFault.NoMemory) ⊎ IsTripFault visits.items trips fault) }
+{
+    match check_trips(visits.as_slice(), trips.as_slice(), left) {
         Ok(()) => {
-            let read = kept(alloc, visits, trips, left.as_slice())?;
+            let read = kept(alloc, visits, trips, left)?;
             Ok(read)
         }
         Err(fault) => Err(fault),

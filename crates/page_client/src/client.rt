@@ -177,7 +177,7 @@ impl Client {
                 Ok(())
             }
             Behind::Ends(outcome) => {
-                self.outcome = Some(outcome);
+                self.end(outcome);
                 Ok(())
             }
         }

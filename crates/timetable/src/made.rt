@@ -16,6 +16,15 @@ use service_days::days;
 use std::alloc::Global;
 use trip_calls::{LoadFault as RunsFault, runs};
 
+// The runs of a timetable, how many connections they have, and the changes between its stops.
+#[derive(Drop)]
+struct Plan {
+    runs: Runs,
+    connections: u64,
+    changes: Changes,
+    ghost forward: { RunsForward runs },
+}
+
 /// The timetable of the tables in the scope, by the clock of the zone.
 pub(crate) fn timetable_of(
     alloc: Global,
@@ -27,19 +36,40 @@ pub(crate) fn timetable_of(
     ensures made { IfOk result (IsTimetableOf scope.now zone tables) }
     ensures fault { IfErr result (FailsToMake scope.now zone tables) }
 {
-    let runs = runs_of(alloc, scope, &zone, &tables)?;
+    match plan_of(alloc, scope, &zone, &tables) {
+        Ok(plan) => Ok(Timetable {
+            zone,
+            runs: plan.runs,
+            connections: plan.connections,
+            trips: tables.trips.as_slice().len() as u64,
+            left_out: tables.left_out,
+            doc: StopsDoc {
+                stops: tables.stops,
+                changes: plan.changes,
+            },
+        }),
+        Err(fault) => Err(fault),
+    }
+}
+
+// What is made of the tables in the scope, by the clock of the zone.
+fn plan_of(alloc: Global, scope: &Scope, zone: &Zone, tables: &Tables) -> Result<Plan, LoadFault>
+    requires { IsWindow scope.now.first scope.now.days }
+    ensures runs { IfOk result (λ plan. RunsAre scope.now zone.now tables.now plan.runs) }
+    ensures connections { IfOk result (λ plan. plan.connections ≡ length (connections_of plan.runs)) }
+    ensures few_connections { IfOk result (λ plan. HaveFewConnections plan.runs) }
+    ensures changes { IfOk result (λ plan. AreChangesOf tables.now.stops tables.now.transfers scope.now.change plan.changes) }
+    ensures known { IfOk result (λ plan. ∥ NamesItsStops tables.now.stops plan.changes ∥₁) }
+    ensures few_changes { OnOk result (HasFewChanges scope.now tables.now) }
+    ensures fault { IfErr result (FailsToMake scope.now zone.now tables.now) }
+{
+    let runs = runs_of(alloc, scope, zone, tables)?;
     let connections = count_connections(runs.as_slice());
-    let changes = changes_of(alloc, scope, &tables)?;
-    Ok(Timetable {
-        zone,
+    let changes = changes_of(alloc, scope, tables)?;
+    Ok(Plan {
         runs,
         connections,
-        trips: tables.trips.as_slice().len() as u64,
-        left_out: tables.left_out,
-        doc: StopsDoc {
-            stops: tables.stops,
-            changes,
-        },
+        changes,
     })
 }
 

@@ -28,6 +28,17 @@ pub fault_goes_on : {X Y : Type 0} (shows : X → Tree → Type 0) (shows' : Y �
 fault_goes_on shows shows' e (Ok tree) f a = no_memory shows' e (f tree) a
 fault_goes_on shows shows' e (Err fault) f a = a
 
+-- a fault answers whatever is shown
+pub fault_as : {X Y : Type 0} (shows : X → Tree → Type 0) (shows' : Y → Tree → Type 0) (e : RtFault) (r : Result Tree RtFault) → Answers shows (Err e) r → Answers shows' (Err e) r
+fault_as shows shows' e (Ok tree) a = a
+fault_as shows shows' e (Err fault) a = a
+
+-- what one shows by a value, another shows by what is made of it
+pub shown_by : {X Y : Type 0} (shows : X → Tree → Type 0) (shows' : Y → Tree → Type 0) (x : X) (y : Y) (r : Result Tree RtFault)
+    → ((tree : Tree) → shows x tree → shows' y tree) → Answers shows (Ok x) r → Answers shows' (Ok y) r
+shown_by shows shows' x y (Ok tree) by a = by tree a
+shown_by shows shows' x y (Err fault) by a = absurd a
+
 -- a value is used
 pub value_goes_on : {X Y : Type 0} (shows : X → Tree → Type 0) (shows' : Y → Tree → Type 0) (x : X) (y : Result Y RtFault) (r : Result Tree RtFault) (f : Tree → Result Tree RtFault)
     → Answers shows (Ok x) r → ((tree : Tree) → shows x tree → Answers shows' y (f tree)) → Answers shows' y (r >>= f)

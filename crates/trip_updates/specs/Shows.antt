@@ -16,6 +16,7 @@ use Rattle.lc_versions.specs.declared.update.Update.{Update}
 use Rattle.trip_updates.specs.declared.fault.RtFault.{RtFault}
 use Rattle.trip_updates.specs.declared.fault.RtFault.TheVariants as faults
 use Rattle.lc_versions.specs.declared.event.Event.{Event}
+use Rattle.lc_versions.specs.declared.stop_news.StopNews.{StopNews}
 use Rattle.trip_updates.specs.Tree.{Tree, last_varint, last_text, last_message, messages}
 use Rattle.trip_updates.specs.Table.{low_32}
 use Rattle.trip_updates.specs.Meaning.{event_of, relation_of, stop_news_of, news_of, passed_or, said_of, entity_of, is_deleted, head_of, update_of}
@@ -64,6 +65,10 @@ pub record ShowsStop (stop : StopFields) (tree : Tree) : Type 0 where
   pub relation : stop.relation ≡ relation_of (low_32 (unwrap_or (last_varint 5 tree) 0))
   pub arrival : stop.arrival ≡ option_map event_of (last_message 2 tree)
   pub departure : stop.departure ≡ option_map event_of (last_message 3 tree)
+
+-- StopTimeUpdate: the news of its stop
+abbrev pub ShowsNews : StopNews → Tree → Type 0
+ShowsNews news tree = news ≡ stop_news_of tree
 
 -- both are there or none, and one shows the other
 abbrev pub BothShow : {X : Type 0} → (X → Tree → Type 0) → Option X → Option Tree → Type 0

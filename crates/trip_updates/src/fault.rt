@@ -69,9 +69,9 @@ impl fmt::Display for RtFault {
             RtFault::Group { place } => write!(f, "group {place}"),
             RtFault::BadField { place } => write!(f, "field {place}"),
             RtFault::Missing { field } => write!(f, "missing {field}"),
-            RtFault::NoMoment => write!(f, "no moment"),
+            RtFault::NoMoment => f.write_str("no moment"),
             RtFault::Repeated { field } => write!(f, "repeated {field}"),
-            RtFault::NoMemory => write!(f, "no memory"),
+            RtFault::NoMemory => f.write_str("no memory"),
         }
     }
 }

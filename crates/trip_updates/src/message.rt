@@ -1,4 +1,4 @@
-ghost use Rattle.std.specs.Prelude.{◌≡◌, ℕ, ◌≤◌, List, length, Ok, slice_range, IfOk, IfErr, Option, Some, None, Err, ◌⊎◌, ◌+◌, if◌then◌else◌};
+ghost use Rattle.std.specs.Prelude.{◌≡◌, ℕ, ◌≤◌, ◌++◌, [], ◌∷◌, List, OnOk, length, Ok, slice_range, IfOk, IfErr, Option, Some, None, Err, ◌⊎◌, ◌+◌, if◌then◌else◌};
 ghost use Rattle.rt_protobuf.specs.Message.{field_of};
 ghost use Rattle.trip_updates.specs.Tree.{Tree};
 ghost use Rattle.trip_updates.specs.Table.{feed_message, lacks};
@@ -86,6 +86,22 @@ fn count(passed: u32, one_more: bool) -> Result<u32, RtFault>
     }
 }
 
+// Adds what an entity says in a message that is full or not. How many are passed over then, of so many before.
+fn push_told(
+    said: &mut Vec<EntityNews>,
+    passed: u32,
+    full: bool,
+    entity: Entity,
+) -> Result<u32, RtFault>
+    ensures said { OnOk result (said.new.items ≡ said.old.items ++ told_of full entity ∷ []) }
+    ensures passed { IfOk result (λ count. count ≡ passed + (if counts full entity then 1 else 0)) }
+    ensures err { IfErr result (λ fault. fault ≡ NoMemory) }
+{
+    let passed = count(passed, is_counted(full, &entity))?;
+    said.push(told(full, entity))?;
+    Ok(passed)
+}
+
 // The update that entities say. Out of memory also where more than 2^32 - 1 of them are passed over.
 fn update(alloc: Global, head: Head, entities: Vec<Entity>) -> Result<Update, RtFault>
     ensures ok { IfOk result (λ update. update ≡ update_with head entities.items) }
@@ -94,8 +110,7 @@ fn update(alloc: Global, head: Head, entities: Vec<Entity>) -> Result<Update, Rt
     let mut said = Vec::with_capacity(alloc, entities.len())?;
     let mut passed: u32 = 0;
     for entity in entities {
-        passed = count(passed, is_counted(head.full, &entity))?;
-        said.push(told(head.full, entity))?;
+        passed = push_told(&mut said, passed, head.full, entity)?;
     }
     Ok(Update {
         moment: head.moment,

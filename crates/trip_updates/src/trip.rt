@@ -1,9 +1,9 @@
 ghost use Rattle.std.specs.Prelude.{◌≡◌, ℕ, ◌≤◌, List, length, Ok, slice_range, IfOk, Option, Some, unwrap_or};
 ghost use Rattle.rt_protobuf.specs.Message.{field_of};
 ghost use Rattle.trip_updates.specs.Tree.{Tree};
-ghost use Rattle.trip_updates.specs.Table.{trip_update, lacks};
+ghost use Rattle.trip_updates.specs.Table.{trip_update, stop_time_update, lacks};
 ghost use Rattle.trip_updates.specs.Faults.{Reader, step, complete, read};
-ghost use Rattle.trip_updates.specs.Shows.{Answers, SpanEnds, ShowsTrip, ShowsDescriptor, ShowsSaid};
+ghost use Rattle.trip_updates.specs.Shows.{Answers, SpanEnds, ShowsNews, ShowsTrip, ShowsDescriptor, ShowsSaid};
 ghost use Rattle.std.specs.Option.{option_copied};
 ghost use Rattle.trip_updates.specs.Meaning.{if_said, kind_of as kind_said, passed_or, trip_news_of};
 ghost use Rattle.lc_time.specs.Clock.{gtfs_time_said};
@@ -114,6 +114,16 @@ fn said(
     }))
 }
 
+// The news of the stop that the StopTimeUpdate between two places says.
+fn read_news(alloc: Global, bytes: &[u8], from: usize, to: usize) -> Result<StopNews, RtFault>
+    requires order { from ≤ to }
+    requires within { to ≤ length bytes.now }
+    ensures { Answers ShowsNews result (read 1 stop_time_update from (slice_range bytes.now from to)) }
+{
+    let stop = read_stop(bytes, from, to)?;
+    Ok(stop_news(alloc, stop)?)
+}
+
 // The trip update with what one field more says.
 fn with_field<'a>(
     alloc: Global,
@@ -134,8 +144,7 @@ fn with_field<'a>(
             Ok(trip)
         }
         (2, Value::Span { from, to }) => {
-            let stop = read_stop(bytes, from, to)?;
-            let news = stop_news(alloc, stop)?;
+            let news = read_news(alloc, bytes, from, to)?;
             trip.stops.push(news)?;
             Ok(trip)
         }

@@ -52,7 +52,7 @@ impl fmt::Display for AdmitFault {
                 write!(f, "ignored newest {newest}")
             }
             AdmitFault::Full { messages, bytes } => { write!(f, "ignored full {messages} {bytes}") }
-            AdmitFault::NoMemory => write!(f, "no memory"),
+            AdmitFault::NoMemory => f.write_str("no memory"),
         }
     }
 }

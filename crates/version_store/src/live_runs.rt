@@ -1,4 +1,4 @@
-ghost use Rattle.std.specs.Prelude.{◌≡◌, ◌↔◌, [], All, IfOk, OnOk, Some, if◌then◌else◌, map};
+ghost use Rattle.std.specs.Prelude.{◌≡◌, ◌↔◌, [], All, IfOk, OnOk, Some, if◌then◌else◌, map, true};
 ghost use Rattle.std.specs.List.{Contains};
 ghost use Rattle.std.specs.Ordering.{is_eq};
 ghost use Rattle.std.specs.BTreeMap.{get};
@@ -8,10 +8,10 @@ ghost use Rattle.lc_model.specs.Run.{InKeyOrder};
 ghost use Rattle.lc_model.specs.Text.{IsIdText};
 ghost use Rattle.lc_model.specs.declared.key.RunKey.{RunKey as ToldKey};
 ghost use Rattle.lc_model.specs.declared.run.Run.{Run as ToldRun};
-ghost use Rattle.lc_versions.specs.Added.{IsFurtherRun};
+ghost use Rattle.lc_versions.specs.Added.{IsFurtherRun, has_key};
 ghost use Rattle.lc_versions.specs.Live.{live_calls_of};
 ghost use Rattle.lc_versions.specs.Timetable.{AreLiveRuns};
-ghost use Rattle.version_store.specs.Further.{GoForward, HasExactly, IsFurther, IsOfEither, PutsFurther};
+ghost use Rattle.version_store.specs.Further.{GoForward, HasExactly, IsFurther, IsOfEither, PutsAtKey, PutsFurther};
 ghost use Rattle.version_store.specs.Kept.{news_said};
 ghost use Rattle.version_store.specs.Named.{said_at};
 
@@ -61,13 +61,27 @@ fn put_further(
     let Some(key) = added_key(alloc, news.news, news.date)? else {
         return Ok(());
     };
+    put_at_key(alloc, further, stops, news, &key)
+}
+
+/// Puts the run that news make in the place of the one of this key of theirs, or takes that one out where they make none.
+fn put_at_key(
+    alloc: Global,
+    further: &mut BTreeMap<RunKey, Calls>,
+    stops: &Stops,
+    news: DatedNews<'_>,
+    key: &RunKey,
+) -> Result<(), NoMemory>
+    requires { has_key key.now (news_said news) ≡ true }
+    ensures { OnOk result (PutsAtKey stops.now (news_said news.entry) further.old further.new) }
+{
     match further_run(alloc, stops, news)? {
         Some(run) => {
             further.insert(run.key, run.calls)?;
             Ok(())
         }
         None => {
-            let _ = further.remove(&key);
+            let _ = further.remove(key);
             Ok(())
         }
     }

@@ -1,6 +1,5 @@
-use Rattle.std.proofs.Common.{◌≡◌, ◌∙◌, ◌==◌, ◌&&◌, ◌||◌, ◌+◌, ℕ, if◌then◌else◌, List, Option, None, Some, ap, ap₂, codes, false, is_none, length, not, rules, sym, unwrap_or}
+use Rattle.std.proofs.Common.{◌≡◌, ◌∙◌, ◌==◌, ◌&&◌, ◌||◌, ◌+◌, ℕ, if◌then◌else◌, List, Option, None, Some, ap, codes, false, is_none, length, not, rules, sym, unwrap_or}
 use Rattle.lc_time.specs.Clock.{gtfs_time_said}
-use Rattle.lc_time.specs.Digits.{u32_said}
 use Rattle.gtfs_fields.specs.Columns.{row_at, text_at, text_in}
 use Rattle.gtfs_fields.specs.Places.{is_unknown}
 use Rattle.gtfs_fields.specs.Times.{is_wrong_time}
@@ -17,31 +16,25 @@ returns c =
     let sheet = c.args.rows.now in
     let place = c.args.place in
     let row = row_at sheet place in
-    let trip : c.text-trip_id.result.now ≡ trip_id_of sheet row = c.text-trip_id.ensures.value ∙ ap (text_in row) c.requires.columns.trip.place in
     let stop : c.text-stop_id.result.now ≡ stop_id_of sheet row = c.text-stop_id.ensures.value ∙ ap (text_in row) c.requires.columns.stop.place in
-    let arr : c.text-arr_text.result.now ≡ text_at sheet row (codes "arrival_time") = c.text-arr_text.ensures.value ∙ ap (text_in row) c.requires.columns.arr.place in
-    let dep : c.text-dep_text.result.now ≡ text_at sheet row (codes "departure_time") = c.text-dep_text.ensures.value ∙ ap (text_in row) c.requires.columns.dep.place in
-    let pickup : c.text-2.result.now ≡ text_at sheet row (codes "pickup_type") = c.text-2.ensures.value ∙ ap (text_in row) c.requires.columns.pickup.place in
-    let drop_off : c.text-3.result.now ≡ text_at sheet row (codes "drop_off_type") = c.text-3.ensures.value ∙ ap (text_in row) c.requires.columns.drop_off.place in
-    let seq : Some c.in-Some-read_u32.seq ≡ sequence_of sheet row = c.in-Some-read_u32.ensures ∙ ap u32_said (c.text.ensures.value ∙ ap (text_in row) c.requires.columns.seq.place) in
-    let copied : c.in_ok-copy.field-0 ≡ c.index-trips-trip.result.trip = search rules in
+    let said = c.in-Some.ensures in
+    let copied : c.in_ok-copy.field-0 ≡ c.index-trips-said.result.trip = search rules in
     let id : c.in_ok-copy.field-0 ≡ trip_id_of sheet row =
-    copied ∙ ap (λ (t : TripRow). t.trip) c.index-trips-trip.is ∙ c.in-Some.ensures.same c.index-trips-trip.result ∙ trip in
+    copied ∙ ap (λ (t : TripRow). t.trip) c.index-trips-said.is ∙ said.same c.index-trips-said.result in
     let stop_is = at_some (λ (o : Option (List ℕ)). o ≡ (if length c.text-stop_id.result.now == 0 then None else Some c.text-stop_id.result.now)) c.in_ok-stop.field-0 c.in-Some-2.stop c.in-Some-2.is c.in_ok-stop.ensures.value in
     let stop_known = at_some (λ (o : Option (List ℕ)). is_unknown (ids_of_stops c.args.stops.now) c.text-stop_id.result.now ≡ false) c.in_ok-stop.field-0 c.in-Some-2.stop c.in-Some-2.is c.in_ok-stop.ensures.known in
     let wrong = λ (s a d : List ℕ). not (length s == 0) && (is_wrong_time a || is_wrong_time d) in
     record {
-      said = visit_is (place + 1) c.in_ok-copy.field-0 (trip_id_of sheet row) c.in-Some-2.stop (if length (stop_id_of sheet row) == 0 then None else Some (stop_id_of sheet row)) c.in-Some-read_u32.seq (unwrap_or (sequence_of sheet row) 0)
-          c.read_time-arr.result (gtfs_time_said (text_at sheet row (codes "arrival_time"))) c.read_time-dep.result (gtfs_time_said (text_at sheet row (codes "departure_time")))
-          c.allows.result (allows (text_at sheet row (codes "pickup_type"))) c.allows-2.result (allows (text_at sheet row (codes "drop_off_type")))
-          id (stop_is ∙ ap (λ (s : List ℕ). if length s == 0 then None else Some s) stop) (ap (λ o. unwrap_or o 0) seq) (c.read_time-arr.ensures ∙ ap gtfs_time_said arr) (c.read_time-dep.ensures ∙ ap gtfs_time_said dep)
-          (c.allows.ensures ∙ ap allows pickup) (c.allows-2.ensures ∙ ap allows drop_off);
+      said = visit_is (place + 1) c.in_ok-copy.field-0 (trip_id_of sheet row) c.in-Some-2.stop (if length (stop_id_of sheet row) == 0 then None else Some (stop_id_of sheet row)) c.in-Some.said.seq (unwrap_or (sequence_of sheet row) 0)
+          c.in-Some.said.times.arr (gtfs_time_said (text_at sheet row (codes "arrival_time"))) c.in-Some.said.times.dep (gtfs_time_said (text_at sheet row (codes "departure_time")))
+          c.rights_said-rights.result.board (allows (text_at sheet row (codes "pickup_type"))) c.rights_said-rights.result.alight (allows (text_at sheet row (codes "drop_off_type")))
+          id (stop_is ∙ ap (λ (s : List ℕ). if length s == 0 then None else Some s) stop) (ap (λ o. unwrap_or o 0) said.seq) said.arr said.dep
+          c.rights_said-rights.ensures.board c.rights_said-rights.ensures.alight;
       sound = record {
-        named = ap (λ (t : List ℕ). length t == 0) (sym trip) ∙ sym c.is_empty.ensures ∙ c.if-is_empty.false;
+        named = said.named;
         stop_known = ap (is_unknown (ids_of_stops c.args.stops.now)) (sym stop) ∙ stop_known;
-        trip_known = key_is_known (λ (t : TripRow). t.trip) c.args.trips.now c.in-Some.trip (trip_id_of sheet row) c.in-Some.ensures.within (λ d. c.in-Some.ensures.same d ∙ trip);
-        numbered = ap (λ o. is_none o) (sym seq);
-        timed = sym (ap (λ (s : List ℕ). wrong s c.text-arr_text.result.now c.text-dep_text.result.now) stop ∙ ap₂ (λ (a d : List ℕ). wrong (stop_id_of sheet row) a d) arr dep)
-            ∙ sym c.has_unread_time.ensures ∙ c.if-has_unread_time.false;
+        trip_known = key_is_known (λ (t : TripRow). t.trip) c.args.trips.now c.in-Some.said.trip (trip_id_of sheet row) said.within said.same;
+        numbered = ap (λ o. is_none o) (sym said.seq);
+        timed = sym (ap (λ (s : List ℕ). wrong s (text_at sheet row (codes "arrival_time")) (text_at sheet row (codes "departure_time"))) stop) ∙ said.timed;
       };
     }

@@ -1,5 +1,5 @@
-use Rattle.std.proofs.Common.{ℕ, List, Option, Some, refl, ◌∙◌, ap}
-use Rattle.page_client.specs.Shown.{Shown, wrong_gate}
+use Rattle.std.proofs.Common.{ℕ, List, Option, refl, ◌∙◌, ap}
+use Rattle.page_client.specs.Shown.{Shown, is_wrong, wrong_gate}
 use Rattle.page_client.specs.declared.phase.Phase.TheVariants as phases
 use Rattle.page_client.proofs.BehindLemmas.{ends_taken, ends_wrong, goes_right, goes_takes}
 use Rattle.page_client.proofs.PageLemmas.{next_fewer, next_sound, next_taken, waits_for}
@@ -51,14 +51,14 @@ returns-in-Ends-clause-ok c =
     let self = c.args.self.now in
     let page = c.args.page.now in
     let same = ap (wrong_gate page self.query.leave) c.take-gate.ensures.value in
-    let F : Option (List ℕ) → Shown = λ gate. record { query = self.query; phase = phases.Finished; version = self.version; gate = gate; outcome = Some c.in-Ends.outcome } in
     ends_taken page c.in-Some.scan c.after_page.new.scan _ c.in-Ends.outcome c.in-Ends.is c.requires.advances c.requires.valid self _ c.in-Some.is
-    (waits_for self.phase page.name c.requires.wanted) (λ o e. c.in_ok-next.ensures.wrong o (same ∙ e)) (λ e. c.in_ok-next.ensures.right (same ∙ e)) (ap F c.take-gate.ensures.after)
+    (waits_for self.phase page.name c.requires.wanted) (λ o e. c.in_ok-next.ensures.wrong o (same ∙ e)) (λ e. c.in_ok-next.ensures.right (same ∙ e)) c.end.ensures
 
 pub returns-in-Ends-clause-wrong : goal.returns-in-Ends-clause-wrong
 returns-in-Ends-clause-wrong c = λ none.
     let self = c.args.self.now in
     let page = c.args.page.now in
     let same = ap (wrong_gate page self.query.leave) c.take-gate.ensures.value in
-    ends_wrong page c.in-Some.scan c.after_page.new.scan _ c.in-Ends.outcome c.in-Ends.is self.query.leave self.gate
+    ap (λ (s : Shown). is_wrong s.outcome) c.end.ensures
+    ∙ ends_wrong page c.in-Some.scan c.after_page.new.scan _ c.in-Ends.outcome c.in-Ends.is self.query.leave self.gate
     (λ o e. c.in_ok-next.ensures.wrong o (same ∙ e)) (λ e. c.in_ok-next.ensures.right (same ∙ e))

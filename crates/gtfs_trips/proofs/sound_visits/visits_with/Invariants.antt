@@ -2,7 +2,7 @@ use Rattle.std.proofs.Common.{◌≡◌, ℕ, ◌<◌, map}
 use Rattle.std.specs.List.{range_with_len}
 use Rattle.gtfs_trips.specs.SoundRows.{IsSoundAlone}
 use Rattle.gtfs_trips.specs.Visits.{visit_at}
-use Rattle.gtfs_trips.proofs.sound_visits.told_visits.Given as goal
+use Rattle.gtfs_trips.proofs.sound_visits.visits_with.Given as goal
 
 abbrev pub invariant-rows : goal.invariant-rows
 invariant-rows l = record {

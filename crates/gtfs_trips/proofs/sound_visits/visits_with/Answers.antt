@@ -4,7 +4,7 @@ use Rattle.gtfs_trips.specs.SoundRows.{IsSoundAlone, SaysVisit}
 use Rattle.gtfs_trips.specs.Visits.{visit_at}
 use Rattle.gtfs_trips.specs.declared.sound_visits.Told.{Told}
 use Rattle.gtfs_trips.proofs.SoundLemmas.{at_some}
-use Rattle.gtfs_trips.proofs.sound_visits.told_visits.Goals as goal
+use Rattle.gtfs_trips.proofs.sound_visits.visits_with.Goals as goal
 
 pub rows-preserved : goal.rows-preserved
 rows-preserved c =
