@@ -1,0 +1,8 @@
+/// What a session is after a piece.
+#[derive(Clone, Copy, PartialEq, Eq)]
+pub enum Fed {
+    /// It waits for more bytes.
+    More,
+    /// Its last reply was given: no bytes that follow have one.
+    Ended,
+}
