@@ -1,0 +1,5 @@
+mod EchoLemmas
+mod NearLemmas
+mod PieceLemmas
+mod ServeLemmas
+mod ToldLemmas

@@ -1,0 +1,12 @@
+-- Each near value is refused.
+use Rattle.lc_doors.proofs.NearLemmas.{none_cut_off, none_skipped, none_unread}
+use Rattle.lc_doors.proofs.laws.near_values.Goals as goal
+
+pub returns-clause-unread : goal.returns-clause-unread
+returns-clause-unread c = none_unread
+
+pub returns-clause-skipped : goal.returns-clause-skipped
+returns-clause-skipped c = none_skipped
+
+pub returns-clause-cut_off : goal.returns-clause-cut_off
+returns-clause-cut_off c = none_cut_off

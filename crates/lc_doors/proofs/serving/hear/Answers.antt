@@ -1,0 +1,21 @@
+-- What was read is fed.
+use Rattle.std.proofs.Common.{[], false, take, Ok, refl}
+use Rattle.std.proofs.lemmas.Result.{err_from_is_err_and}
+use Rattle.lc_doors.specs.Door.{Reads}
+use Rattle.lc_doors.proofs.ServeLemmas.{fed_halts, feeds, taken, told_as}
+use Rattle.lc_doors.proofs.serving.hear.Goals as goal
+
+pub returns-clause-talks : goal.returns-clause-talks
+returns-clause-talks g c =
+    feeds g.T.Talk.stands c.args.talk.now c.feed_piece.new.self c.read.new.piece c.in_ok-count.count (g.D.Door.seen c.args.door.now).told (g.D.Door.seen c.read.new.self).told
+    c.in_ok-feed_piece.ensures.fed c.in_ok-count.ensures.told
+
+pub returns-in_err-feed_piece-clause-talks : goal.returns-in_err-feed_piece-clause-talks
+returns-in_err-feed_piece-clause-talks g c =
+    let p = err_from_is_err_and c.from_residual-in_err-feed_piece.result c.from_residual-in_err-feed_piece.ensures.1 in
+    let piece = c.read.new.piece in
+    let count = c.in_ok-count.count in
+    let before = (g.D.Door.seen c.args.door.now).told in
+    let after = (g.D.Door.seen c.read.new.self).told in
+    rw (p.1, p.2) (fed_halts g.T.Talk.seen g.T.Talk.stands g.T.Talk.says g.met.T.Talk.said c.args.talk.now (take count piece) before after
+    (told_as (Reads piece (Ok count)) (take count piece) [] false (taken piece count (take count piece) refl) before after c.in_ok-count.ensures.told))

@@ -1,0 +1,17 @@
+-- Values of which a contract says that there are some are one.
+use Rattle.std.specs.Prelude.{◌≡◌, ℕ, Bool, List}
+use Rattle.lc_doors.specs.Door.{DoorTold, Opens, Takes, Wire}
+use Rattle.lc_doors.specs.Serving.{Exchanges}
+
+-- a read of so many bytes into a piece leaves one connection
+abbrev pub OneRead : Type 0
+OneRead = (piece : List ℕ) (count : ℕ) (before a b : Wire) → Takes piece count before a → Takes piece count before b → a ≡ b
+
+-- one connection is the next
+abbrev pub OneNext : Type 0
+OneNext = (before a b : DoorTold) → Opens before a → Opens before b → a ≡ b
+
+-- what was read and what was sent is seen on the connection
+abbrev pub OneExchange : Type 0
+OneExchange = (read sent other_read other_sent : List ℕ) (failed other_failed : Bool) (before after : Wire) → Exchanges read sent failed before after
+    → Exchanges other_read other_sent other_failed before after → (read ≡ other_read) × (sent ≡ other_sent)

@@ -1,0 +1,10 @@
+pub mod Door
+pub mod EchoTalk
+pub mod Laws
+pub mod MemDoor
+pub mod MemWire
+pub mod MemWires
+pub mod Near
+pub mod Pieces
+pub mod Serving
+pub mod Talk

@@ -1,0 +1,19 @@
+ghost use Rattle.lc_doors.specs.Laws.{OneExchange, OneNext, OneRead};
+ghost use Rattle.lc_doors.specs.Near.{NoneCutOff, NoneSkipped, NoneTurnedAway, NoneUnread, NoneUnsent};
+
+/// A read leaves one connection, one connection is the next, and what was exchanged is seen on the connection.
+pub fn one_step()
+    ensures read { OneRead }
+    ensures next { OneNext }
+    ensures exchange { OneExchange }
+{}
+
+/// Near values are refused: an end of the input while bytes are to come, a client that is skipped or turned away, a connection that is served
+/// before its input or its talk has ended, or before all is sent.
+pub fn near_values()
+    ensures unread { NoneUnread }
+    ensures skipped { NoneSkipped }
+    ensures turned_away { NoneTurnedAway }
+    ensures cut_off { NoneCutOff }
+    ensures unsent { NoneUnsent }
+{}
