@@ -1,10 +1,7 @@
-ghost use Rattle.std.specs.Prelude.{◌≡◌, ◌≤◌, ◌-◌, Some, IfOk, IfSome, length, slice_get};
-ghost use Rattle.std.specs.List.{All};
+ghost use Rattle.std.specs.Prelude.{◌≤◌, IfOk};
 ghost use Rattle.cli_ask.specs.Block.{IsPrintable};
 ghost use Rattle.cli_ask.specs.Client.{Asks, EndsRight};
-ghost use Rattle.convoy.specs.Finish.{HasOutcome};
 ghost use Rattle.lc_world.specs.Link.{IsQuietWith};
-ghost use Rattle.page_client.specs.Client.{shown};
 ghost use Rattle.publisher_spec.specs.Side.{Side};
 
 use crate::ClientEnd;
@@ -36,26 +33,14 @@ pub(crate) fn client_end<L: Link>(
     let mut convoy = Convoy::new(alloc, base, cache)?;
     let client = convoy.ask(query)?;
     convoy.finish(alloc, link)?;
-    Ok(end_of(convoy, client))
-}
-
-/// How the client with this number ended, in a convoy in which each has ended.
-fn end_of(convoy: Convoy, client: usize) -> ClientEnd
-    requires from_one { 1 ≤ client }
-    requires clients { client ≤ length convoy.members }
-    requires ended { All HasOutcome convoy.members }
-    ensures version { IfSome (slice_get convoy.members (client - 1)) (λ member. result.version ≡ (shown member.client).version) }
-    ensures exchanges { IfSome (slice_get convoy.members (client - 1)) (λ member. result.exchanges ≡ member.exchanges) }
-    ensures outcome { IfSome (slice_get convoy.members (client - 1)) (λ member. Some result.outcome ≡ (shown member.client).outcome) }
-{
     let version = convoy.version(client);
     let exchanges = convoy.exchanges(client);
     let Some(outcome) = convoy.into_outcome(client) else {
         unreachable!()
     };
-    ClientEnd {
+    Ok(ClientEnd {
         version,
         outcome,
         exchanges,
-    }
+    })
 }
