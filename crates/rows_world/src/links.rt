@@ -4,7 +4,7 @@ use lc_world::{Entry, Link, LinkFail, ListLink, ToldReply};
 use rows_common::{Unmade, put_bytes, put_count, put_line, put_number};
 use std::alloc::Global;
 
-pub fn bytes(alloc: Global, text: &str) -> Result<Bytes, Unmade> {
+fn bytes(alloc: Global, text: &str) -> Result<Bytes, Unmade> {
     match text.as_bytes().to_vec(alloc) {
         Ok(list) => Ok(Bytes::from_list(list)),
         Err(_) => Err(Unmade),

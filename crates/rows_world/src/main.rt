@@ -1,9 +1,8 @@
-//! Prints what links, doors and caches of pages give in worked cases, a line a value, and what they are compared with stands in
+//! Prints what links and caches of pages give in worked cases, a line a value, and what they are compared with stands in
 //! `stdout`.
 #![tactic(auto)]
 
 mod cache;
-mod doors;
 mod links;
 
 use rows_common::{Unmade, exit_code};
@@ -18,6 +17,5 @@ fn main(rt: HostRuntime) -> ExitCode {
 
 fn put_cases(alloc: Global, text: &mut String) -> Result<(), Unmade> {
     links::put_links(alloc, text)?;
-    doors::put_doors(alloc, text)?;
     cache::put_caches(alloc, text)
 }
