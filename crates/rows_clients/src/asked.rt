@@ -3,7 +3,7 @@
 /// The ends of a question, the second of its day at which it leaves, its horizon, and the replies that are there.
 pub type Case = (&'static str, &'static str, u32, u32, &'static str);
 
-pub const CASES: &[Case] = &[
+pub static CASES: [Case; 37] = [
     ("A", "D", 28_800, 86_400, "half_hours"),
     ("A", "D", 28_801, 86_400, "half_hours"),
     ("A", "D", 28_800, 1_860, "half_hours"),
@@ -23,48 +23,107 @@ pub const CASES: &[Case] = &[
     ),
     ("A", "D", 28_800, 86_400, "gate/ stops page////"),
     ("A", "D", 28_800, 3, "seconds"),
-];
-
-/// The tests of a reply in their order: each is failed by replies that pass those before it, alone and beside a later one. A
-/// question from A to D leaves at the second.
-pub const FAULTS: &[(u32, &str)] = &[
-    (28_800, "long/012345678"),
-    (28_800, "long/0123456789"),
-    (28_800, "gate/08:00:00 cut"),
-    (28_800, "gate/08:00:00 stops gone"),
-    (28_800, "fine/08:00:00"),
-    (28_800, "ok"),
-    (28_800, "none"),
-    (28_800, "gate/08:00:00 none"),
-    (28_800, "gate/08:00:00 stops found"),
-    (28_800, "other/08:00:00"),
-    (28_800, "found"),
-    (28_800, "gate/08:00:00 ok"),
-    (28_800, "gate/08:00:00 stops page/08:00:00/09:00:00//bacd"),
-    (28_800, "gate/08:00:00 stops page/09:00:00/10:00:00//fe"),
-    (28_800, "gate/08:00:00 stops plain/08:00:00/09:00:00//abcd"),
-    (28_800, "gate/08:00:00 stops page/09:00:00///e"),
-    (28_800, "gate/08:00:00 stops page/09:00:00/09:00:00//e"),
+    // The tests of a reply in their order: each is failed by replies that pass those before it, alone and beside a later one.
+    ("A", "D", 28_800, 86_400, "long/012345678"),
+    ("A", "D", 28_800, 86_400, "long/0123456789"),
+    ("A", "D", 28_800, 86_400, "gate/08:00:00 cut"),
+    ("A", "D", 28_800, 86_400, "gate/08:00:00 stops gone"),
+    ("A", "D", 28_800, 86_400, "fine/08:00:00"),
+    ("A", "D", 28_800, 86_400, "ok"),
+    ("A", "D", 28_800, 86_400, "none"),
+    ("A", "D", 28_800, 86_400, "gate/08:00:00 none"),
+    ("A", "D", 28_800, 86_400, "gate/08:00:00 stops found"),
+    ("A", "D", 28_800, 86_400, "other/08:00:00"),
+    ("A", "D", 28_800, 86_400, "found"),
+    ("A", "D", 28_800, 86_400, "gate/08:00:00 ok"),
     (
+        "A",
+        "D",
         28_800,
+        86_400,
+        "gate/08:00:00 stops page/08:00:00/09:00:00//bacd",
+    ),
+    (
+        "A",
+        "D",
+        28_800,
+        86_400,
+        "gate/08:00:00 stops page/09:00:00/10:00:00//fe",
+    ),
+    (
+        "A",
+        "D",
+        28_800,
+        86_400,
+        "gate/08:00:00 stops plain/08:00:00/09:00:00//abcd",
+    ),
+    (
+        "A",
+        "D",
+        28_800,
+        86_400,
+        "gate/08:00:00 stops page/09:00:00///e",
+    ),
+    (
+        "A",
+        "D",
+        28_800,
+        86_400,
+        "gate/08:00:00 stops page/09:00:00/09:00:00//e",
+    ),
+    (
+        "A",
+        "D",
+        28_800,
+        86_400,
         "gate/08:00:00 stops page/08:00:00/08:11:00//a page/08:12:00/08:20:00//c",
     ),
-    (28_800, "gate/08:00:00 stops page/08:00:00/08:00:00//abcd"),
-    (28_800, "gate/08:00:00 stops page/08:00:00/08:20:00//abcd"),
-    (28_800, "gate/08:00:00 stops page/08:00:00/09:00:00//bcd"),
     (
+        "A",
+        "D",
         28_800,
+        86_400,
+        "gate/08:00:00 stops page/08:00:00/08:00:00//abcd",
+    ),
+    (
+        "A",
+        "D",
+        28_800,
+        86_400,
+        "gate/08:00:00 stops page/08:00:00/08:20:00//abcd",
+    ),
+    (
+        "A",
+        "D",
+        28_800,
+        86_400,
+        "gate/08:00:00 stops page/08:00:00/09:00:00//bcd",
+    ),
+    (
+        "A",
+        "D",
+        28_800,
+        86_400,
         "gate/09:00:00 stops page/09:00:00/09:00:00/08:00:00/e",
     ),
     (
+        "A",
+        "D",
         28_800,
+        86_400,
         "gate/09:00:00 stops page/09:00:00/10:00:00/08:00:00/e",
     ),
-    (34_200, "gate/08:00:00 stops page/08:00:00/09:00:00//abcd"),
+    (
+        "A",
+        "D",
+        34_200,
+        86_400,
+        "gate/08:00:00 stops page/08:00:00/09:00:00//abcd",
+    ),
 ];
 
 /// The replies behind which a client is asked what it requests.
-pub const REQUESTS: &[&str] = &["", "gate/08:00:00", "gate/08:00:00 stops"];
+pub static REQUESTS: [&str; 3] = ["", "gate/08:00:00", "gate/08:00:00 stops"];
 
 /// Replies by one word: what a publisher of the small feed replies, with its pages cut each half hour, or with a page for each
 /// connection, of which the gate names the first from its path on; and a page a second.

@@ -4,56 +4,78 @@ ghost use Rattle.page_client.specs.Client.{shown};
 ghost use Rattle.page_client.specs.Shown.{want_of};
 ghost use Rattle.page_client.specs.declared.want.Want.{Want as Wanted};
 
-use crate::asked::{CASES, Case, FAULTS, REQUESTS, replies_of};
-use crate::replies::reply;
+use crate::asked::{CASES, Case, REQUESTS, replies_of};
+use crate::replies::put_reply;
 use connection_uri::Base;
 use lc_model::{Id, Journey, Moment, PageName, Query};
 use page_client::{Client, Outcome, PeerFault, Want, one_reply, page_of};
-use rows_common::Unmade;
+use rows_common::{Draft, Unmade};
 use std::alloc::Global;
 
 /// 2024-05-01T00:00:00Z, from which the tables count their seconds.
 const MIDNIGHT: u64 = 1_714_521_600;
 
-/// What is asked of a client behind its replies.
-#[derive(Clone, Copy)]
-enum Then {
-    /// How it ended.
-    Outcome,
-    /// What it requests.
-    Request,
-    /// How it ends by an exchange that fails.
-    LinkFault,
-}
-
 /// A line for each client.
-pub fn put_clients(alloc: Global, text: &mut String) -> Result<(), Unmade> {
+pub fn put_clients(alloc: Global, draft: &mut Draft) {
     one_reply();
-    let base = Base::read(alloc, b"http://lc.example/")?.ok_or("a base")?;
-    put_under(alloc, text, &base)
+    match Base::read(alloc, b"http://lc.example/") {
+        Ok(Some(base)) => put_under(alloc, draft, &base),
+        _ => draft.lose(),
+    }
 }
 
-fn put_under(alloc: Global, text: &mut String, base: &Base) -> Result<(), Unmade> {
-    for case in CASES {
-        put_case(alloc, text, base, case)?;
+fn put_under(alloc: Global, draft: &mut Draft, base: &Base) {
+    for case in &CASES {
+        put_case(alloc, draft, base, case);
     }
-    for &(leave, words) in FAULTS {
-        put_case(alloc, text, base, &("A", "D", leave, 86_400, words))?;
+    for words in &REQUESTS {
+        put_asked(alloc, draft, base, words);
     }
-    for words in REQUESTS {
-        put_asked(alloc, text, base, words)?;
-    }
-    put_cut_off(alloc, text, base)
+    put_cut_off(alloc, draft, base);
 }
 
-fn id(alloc: Global, text: &str) -> Result<Id, Unmade> {
-    Ok(Id::new(alloc, text.as_bytes())?.ok_or("an id")?)
+/// What a client of a question says behind the replies of these words, and how many it was given.
+fn put_case(alloc: Global, draft: &mut Draft, base: &Base, case: &Case) {
+    let &(from, to, leave, horizon, words) = case;
+    draft.put_all(&[from, " ", to, " "]);
+    draft.put_shown(&leave);
+    draft.put(" ");
+    draft.put_shown(&horizon);
+    draft.put_all(&[": ", words, " => "]);
+    match client(alloc, from, to, leave, horizon) {
+        Ok(mut client) => put_ended(alloc, draft, base, &mut client, replies_of(words)),
+        Err(Unmade) => draft.lose(),
+    }
 }
 
-fn moment(second: u32) -> Result<Moment, Unmade>
-    ensures { IfOk result (λ moment. moment ≡ MIDNIGHT + second) }
-{
-    Ok(Moment::new(MIDNIGHT + u64::from(second)).ok_or("a moment")?)
+/// What a client of a question about what is known at 07:00 asks for behind the replies of these words.
+fn put_asked(alloc: Global, draft: &mut Draft, base: &Base, words: &str) {
+    draft.put_all(&["asked behind ", words, ": "]);
+    match known_client(alloc) {
+        Ok(mut client) => put_request(alloc, draft, base, &mut client, words),
+        Err(Unmade) => draft.lose(),
+    }
+}
+
+/// A client of which the second exchange fails: the version that it was told, and how it ended.
+fn put_cut_off(alloc: Global, draft: &mut Draft, base: &Base) {
+    draft.put("cut off: ");
+    match client(alloc, "A", "D", 28_800, 86_400) {
+        Ok(mut client) => put_cut(alloc, draft, base, &mut client),
+        Err(Unmade) => draft.lose(),
+    }
+}
+
+fn client(alloc: Global, from: &str, to: &str, leave: u32, horizon: u32) -> Result<Client, Unmade> {
+    let query = question(alloc, from, to, leave, horizon)?;
+    Ok(Client::new(query))
+}
+
+fn known_client(alloc: Global) -> Result<Client, Unmade> {
+    let known = moment(25_200)?;
+    let mut query = question(alloc, "A", "D", 28_800, 86_400)?;
+    query.known = Some(known);
+    Ok(Client::new(query))
 }
 
 fn question(
@@ -64,180 +86,167 @@ fn question(
     horizon: u32,
 ) -> Result<Query, Unmade> {
     let leave = moment(leave)?;
+    let from = id(alloc, from)?;
+    let to = id(alloc, to)?;
     Ok(Query {
-        from: id(alloc, from)?,
-        to: id(alloc, to)?,
+        from,
+        to,
         leave,
         known: None,
         horizon,
     })
 }
 
-/// What a client of a question says behind the replies of these words, and how many it was given.
-fn put_case(alloc: Global, text: &mut String, base: &Base, case: &Case) -> Result<(), Unmade> {
-    let &(from, to, leave, horizon, words) = case;
-    write!(text, "{from} {to} {leave} {horizon}: {words} => ")?;
-    let query = question(alloc, from, to, leave, horizon)?;
-    put_client(alloc, text, base, query, replies_of(words), Then::Outcome)
-}
-
-/// What a client of a question about what is known at 07:00 asks for behind the replies of these words.
-fn put_asked(alloc: Global, text: &mut String, base: &Base, words: &str) -> Result<(), Unmade> {
-    write!(text, "asked behind {words}: ")?;
-    let known = moment(25_200)?;
-    let mut query = question(alloc, "A", "D", 28_800, 86_400)?;
-    query.known = Some(known);
-    put_client(alloc, text, base, query, words, Then::Request)
-}
-
-/// A client of which the second exchange fails: the version that it was told, and how it ended.
-fn put_cut_off(alloc: Global, text: &mut String, base: &Base) -> Result<(), Unmade> {
-    let query = question(alloc, "A", "D", 28_800, 86_400)?;
-    put_client(alloc, text, base, query, "gate/08:00:00", Then::LinkFault)
-}
-
-fn put_client(
-    alloc: Global,
-    text: &mut String,
-    base: &Base,
-    query: Query,
-    words: &str,
-    then: Then,
-) -> Result<(), Unmade> {
-    let mut client = Client::new(query);
-    put_run(alloc, text, base, &mut client, words, then)
-}
-
-fn put_run(
-    alloc: Global,
-    text: &mut String,
-    base: &Base,
-    client: &mut Client,
-    words: &str,
-    then: Then,
-) -> Result<(), Unmade> {
-    let given = run(alloc, base, client, words)?;
-    match then {
-        Then::Outcome => put_ended(text, client, given),
-        Then::Request => put_request(alloc, text, base, client),
-        Then::LinkFault => put_cut(text, client),
+fn id(alloc: Global, text: &str) -> Result<Id, Unmade> {
+    match Id::new(alloc, text.as_bytes()) {
+        Ok(Some(id)) => Ok(id),
+        _ => Err(Unmade),
     }
 }
 
-fn put_ended(text: &mut String, client: &Client, given: u64) -> Result<(), Unmade> {
-    put_outcome(text, client.outcome())?;
-    writeln!(text, ", {given}")?;
-    Ok(())
+fn moment(second: u32) -> Result<Moment, Unmade>
+    ensures { IfOk result (λ moment. moment ≡ MIDNIGHT + second) }
+{
+    match Moment::new(MIDNIGHT + u64::from(second)) {
+        Some(moment) => Ok(moment),
+        None => Err(Unmade),
+    }
+}
+
+fn put_ended(alloc: Global, draft: &mut Draft, base: &Base, client: &mut Client, words: &str) {
+    let given = run(alloc, draft, base, client, words);
+    put_outcome(draft, client.outcome());
+    draft.put(", ");
+    draft.put_shown(&given);
+    draft.put("\n");
 }
 
 /// Gives the client the replies of these words, as many as it wants, and counts them.
-fn run(alloc: Global, base: &Base, client: &mut Client, words: &str) -> Result<u64, Unmade> {
+fn run(alloc: Global, draft: &mut Draft, base: &Base, client: &mut Client, words: &str) -> u64 {
     let mut given: u64 = 0;
     for word in words.split_whitespace() {
         if client.want() != Want::Finished {
             given = given.saturating_add(1);
-            give_word(alloc, base, client, word)?;
+            give_word(alloc, draft, base, client, word);
         }
     }
-    Ok(given)
+    given
 }
 
-fn give_word(alloc: Global, base: &Base, client: &mut Client, word: &str) -> Result<(), Unmade> {
-    let reply = reply(alloc, word)?;
-    give(alloc, base, client, reply)
+fn give_word(alloc: Global, draft: &mut Draft, base: &Base, client: &mut Client, word: &str) {
+    let mut reply = Draft::new(alloc);
+    put_reply(&mut reply, word);
+    draft.also(&reply);
+    give(alloc, draft, base, client, reply.into_bytes());
 }
 
 /// Gives the client a reply to what it wants.
-fn give(alloc: Global, base: &Base, client: &mut Client, reply: Vec<u8>) -> Result<(), Unmade> {
+fn give(alloc: Global, draft: &mut Draft, base: &Base, client: &mut Client, reply: Vec<u8>) {
     match client.want() {
-        Want::Gate => Ok(client.give_gate(alloc, base, reply)?),
-        Want::Stops => Ok(client.give_stops(alloc, reply)?),
-        Want::Page(name) => give_page(alloc, base, client, name, reply),
-        Want::Finished => Ok(()),
+        Want::Gate => draft.need(client.give_gate(alloc, base, reply)),
+        Want::Stops => draft.need(client.give_stops(alloc, reply)),
+        Want::Page(name) => give_page(alloc, draft, base, client, name, reply),
+        Want::Finished => {}
     }
 }
 
 /// Gives the client, which wants the page of this name, what the reply says.
 fn give_page(
     alloc: Global,
+    draft: &mut Draft,
     base: &Base,
     client: &mut Client,
     name: PageName,
     reply: Vec<u8>,
-) -> Result<(), Unmade>
+)
     requires { want_of (shown client.old).phase ≡ Wanted.Page name }
 {
     match page_of(alloc, base, name, reply.as_slice()) {
-        Ok(page) => Ok(client.give_page(alloc, &page)?),
-        Err(fault) => give_fault(client, reply, fault),
+        Ok(page) => draft.need(client.give_page(alloc, &page)),
+        Err(fault) => give_fault(draft, client, reply, fault),
     }
 }
 
-fn give_fault(client: &mut Client, reply: Vec<u8>, fault: PeerFault) -> Result<(), Unmade>
+fn give_fault(draft: &mut Draft, client: &mut Client, reply: Vec<u8>, fault: PeerFault)
     requires { want_of (shown client.old).phase ≢ Wanted.Finished }
 {
     if fault.is_want() {
-        return Err(Unmade);
+        draft.lose();
+    } else {
+        client.give_peer_fault(reply, fault);
     }
-    client.give_peer_fault(reply, fault);
-    Ok(())
 }
 
 /// How the client ended; a journey by its number of rides, and when the last one arrives.
-fn put_outcome(text: &mut String, outcome: Option<&Outcome>) -> Result<(), Unmade> {
+fn put_outcome(draft: &mut Draft, outcome: Option<&Outcome>) {
     match outcome {
-        None => Ok(text.push_str("open")?),
-        Some(Outcome::Found(journey)) => put_journey(text, journey),
-        Some(Outcome::NoJourney) => Ok(text.push_str("no journey")?),
-        Some(Outcome::Refused(fault)) => Ok(write!(text, "{fault}")?),
-        Some(Outcome::LinkFault { before, after }) => {
-            Ok(write!(text, "link fault {before} {after}")?)
-        }
-        Some(Outcome::PeerWrong { fault, .. }) => Ok(write!(text, "{fault}")?),
+        None => draft.put("open"),
+        Some(Outcome::Found(journey)) => put_journey(draft, journey),
+        Some(Outcome::NoJourney) => draft.put("no journey"),
+        Some(Outcome::Refused(fault)) => draft.put_shown(fault),
+        Some(Outcome::LinkFault { before, after }) => put_faults(draft, *before, *after),
+        Some(Outcome::PeerWrong { fault, .. }) => draft.put_shown(fault),
     }
 }
 
-fn put_journey(text: &mut String, journey: &Journey) -> Result<(), Unmade> {
+fn put_faults(draft: &mut Draft, before: u64, after: u64) {
+    draft.put("link fault ");
+    draft.put_shown(&before);
+    draft.put(" ");
+    draft.put_shown(&after);
+}
+
+fn put_journey(draft: &mut Draft, journey: &Journey) {
     let rides = journey.rides.as_slice();
     if let Some(last) = rides.last() {
-        let count = rides.len();
-        let at = last.arr.seconds().saturating_sub(MIDNIGHT);
-        write!(text, "{count} rides to {at}")?;
+        draft.put_shown(&rides.len());
+        draft.put(" rides to ");
+        draft.put_shown(&last.arr.seconds().saturating_sub(MIDNIGHT));
     }
-    Ok(())
 }
 
-fn put_request(
-    alloc: Global,
-    text: &mut String,
-    base: &Base,
-    client: &Client,
-) -> Result<(), Unmade> {
+fn put_request(alloc: Global, draft: &mut Draft, base: &Base, client: &mut Client, words: &str) {
+    let _given = run(alloc, draft, base, client, words);
     if client.want() == Want::Finished {
-        return Err(Unmade);
+        return draft.lose();
     }
-    let request = client.request(alloc, base)?;
-    put_lines(alloc, text, request.as_slice())
+    match client.request(alloc, base) {
+        Ok(request) => put_lines(draft, request.as_slice()),
+        Err(_) => draft.lose(),
+    }
 }
 
 /// The lines of a request, with a bar for the end of each.
-fn put_lines(alloc: Global, text: &mut String, request: &[u8]) -> Result<(), Unmade> {
-    let lines = std::str::from_utf8(request)?.replace(alloc, "\r\n", "|")?;
-    writeln!(text, "{lines}")?;
-    Ok(())
+fn put_lines(draft: &mut Draft, request: &[u8]) {
+    for byte in request {
+        put_sign(draft, *byte);
+    }
+    draft.put("\n");
 }
 
-fn put_cut(text: &mut String, client: &mut Client) -> Result<(), Unmade> {
+fn put_sign(draft: &mut Draft, byte: u8) {
+    match byte {
+        b'\r' => {}
+        b'\n' => draft.put("|"),
+        _ => draft.put_shown(&(byte as char)),
+    }
+}
+
+fn put_cut(alloc: Global, draft: &mut Draft, base: &Base, client: &mut Client) {
+    let _given = run(alloc, draft, base, client, "gate/08:00:00");
     if client.want() == Want::Finished {
-        return Err(Unmade);
+        return draft.lose();
     }
     client.give_link_fault(0, 1);
-    put_cut_client(text, client)
+    put_version(draft, client);
 }
 
-fn put_cut_client(text: &mut String, client: &Client) -> Result<(), Unmade> {
-    let version = client.version().ok_or("a version")?.seconds();
-    write!(text, "cut off: {version} ")?;
-    put_outcome(text, client.outcome())?;
-    Ok(text.push_str("\n")?)
+fn put_version(draft: &mut Draft, client: &Client) {
+    let Some(version) = client.version() else {
+        return draft.lose();
+    };
+    draft.put_shown(&version.seconds());
+    draft.put(" ");
+    put_outcome(draft, client.outcome());
+    draft.put("\n");
 }

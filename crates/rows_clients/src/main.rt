@@ -5,11 +5,12 @@ mod asked;
 mod clients;
 mod replies;
 
-use rows_common::exit_code;
+use rows_common::{Draft, exit_code};
 use std::process::ExitCode;
 
 fn main(rt: HostRuntime) -> ExitCode {
-    let mut text = String::new(rt.alloc());
-    let made = clients::put_clients(rt.alloc(), &mut text);
-    exit_code(made, print!(rt; "{text}"))
+    let mut draft = Draft::new(rt.alloc());
+    clients::put_clients(rt.alloc(), &mut draft);
+    let printed = print!(rt; "{}", draft.as_str());
+    exit_code(draft.made(), printed)
 }

@@ -27,6 +27,12 @@ impl Draft {
         self.text.as_str().as_bytes()
     }
 
+    /// The bytes of the text, for keeps.
+    pub fn into_bytes(self) -> Vec<u8> {
+        let Draft { text, is_whole: _ } = self;
+        text.into_bytes()
+    }
+
     /// That each piece is there, or not.
     pub fn made(&self) -> Result<(), Unmade> {
         if self.is_whole { Ok(()) } else { Err(Unmade) }
@@ -44,9 +50,24 @@ impl Draft {
         }
     }
 
+    /// Something that had to be done is done, or is lost.
+    pub fn need<T: Drop, E: Drop>(&mut self, done: Result<T, E>) {
+        match done {
+            Ok(_) => {}
+            Err(_) => self.lose(),
+        }
+    }
+
     pub fn put(&mut self, piece: &str) {
         if self.text.push_str(piece).is_err() {
             self.lose();
+        }
+    }
+
+    /// Pieces one after the other. In one call they are cheaper to prove than in a call each.
+    pub fn put_all(&mut self, pieces: &[&str]) {
+        for piece in pieces {
+            self.put(piece);
         }
     }
 

@@ -3,48 +3,37 @@ use connection_uri::Base;
 use convoy::Convoy;
 use lc_model::{Id, Journey, Moment, Query};
 use page_client::Outcome;
-use rows_common::Unmade;
+use rows_common::{Draft, Unmade};
 use std::alloc::Global;
 
 /// 1970-01-11T00:00:00Z, at which the questions leave.
 const LEAVE: u64 = 864_000;
-
-fn id(alloc: Global, text: &str) -> Result<Id, Unmade> {
-    Ok(Id::new(alloc, text.as_bytes())?.ok_or("an id")?)
-}
-
-/// The question from E to F with this horizon.
-fn question(alloc: Global, horizon: u32) -> Result<Query, Unmade> {
-    let leave = Moment::new(LEAVE).ok_or("a moment")?;
-    Ok(Query {
-        from: id(alloc, "E")?,
-        to: id(alloc, "F")?,
-        leave,
-        known: None,
-        horizon,
-    })
-}
 
 /// No client yet, with a cache of so many pages.
 pub fn begun(alloc: Global, cache: usize) -> Result<Convoy, Unmade> {
     if cache < 1 || cache > 10_000 {
         return Err(Unmade);
     }
-    let base = Base::read(alloc, b"http://a/")?.ok_or("a base")?;
-    Ok(Convoy::new(alloc, base, cache)?)
+    match Base::read(alloc, b"http://a/") {
+        Ok(Some(base)) => Ok(Convoy::new(alloc, base, cache)?),
+        _ => Err(Unmade),
+    }
 }
 
 /// So many clients more.
 pub fn ask_each(
     alloc: Global,
+    draft: &mut Draft,
     convoy: &mut Convoy,
     clients: usize,
     horizon: u32,
-) -> Result<(), Unmade> {
+) {
     for _ in 0..clients {
-        let _number = ask(alloc, convoy, horizon)?;
+        match ask(alloc, convoy, horizon) {
+            Ok(_) => {}
+            Err(Unmade) => draft.lose(),
+        }
     }
-    Ok(())
 }
 
 /// A client more. Gives its number.
@@ -53,23 +42,51 @@ pub fn ask(alloc: Global, convoy: &mut Convoy, horizon: u32) -> Result<usize, Un
     Ok(convoy.ask(query)?)
 }
 
-/// How a client ended; a journey by how long it takes.
-pub fn put_outcome(text: &mut String, outcome: Option<&Outcome>) -> Result<(), Unmade> {
-    match outcome {
-        None => Ok(text.push_str("open")?),
-        Some(Outcome::Found(journey)) => put_journey(text, journey),
-        Some(Outcome::NoJourney) => Ok(text.push_str("no journey")?),
-        Some(Outcome::Refused(fault)) => Ok(write!(text, "{fault}")?),
-        Some(Outcome::LinkFault { before, after }) => {
-            Ok(write!(text, "link fault {before} {after}")?)
-        }
-        Some(Outcome::PeerWrong { fault, .. }) => Ok(write!(text, "{fault}")?),
+/// The question from E to F with this horizon.
+fn question(alloc: Global, horizon: u32) -> Result<Query, Unmade> {
+    let Some(leave) = Moment::new(LEAVE) else {
+        return Err(Unmade);
+    };
+    let from = id(alloc, "E")?;
+    let to = id(alloc, "F")?;
+    Ok(Query {
+        from,
+        to,
+        leave,
+        known: None,
+        horizon,
+    })
+}
+
+fn id(alloc: Global, text: &str) -> Result<Id, Unmade> {
+    match Id::new(alloc, text.as_bytes()) {
+        Ok(Some(id)) => Ok(id),
+        _ => Err(Unmade),
     }
 }
 
-fn put_journey(text: &mut String, journey: &Journey) -> Result<(), Unmade> {
-    let last = journey.rides.as_slice().last().ok_or("a ride")?;
-    let seconds = last.arr.seconds().saturating_sub(LEAVE);
-    write!(text, "{seconds}")?;
-    Ok(())
+/// How a client ended; a journey by how long it takes.
+pub fn put_outcome(draft: &mut Draft, outcome: Option<&Outcome>) {
+    match outcome {
+        None => draft.put("open"),
+        Some(Outcome::Found(journey)) => put_journey(draft, journey),
+        Some(Outcome::NoJourney) => draft.put("no journey"),
+        Some(Outcome::Refused(fault)) => draft.put_shown(fault),
+        Some(Outcome::LinkFault { before, after }) => put_faults(draft, *before, *after),
+        Some(Outcome::PeerWrong { fault, .. }) => draft.put_shown(fault),
+    }
+}
+
+fn put_journey(draft: &mut Draft, journey: &Journey) {
+    match journey.rides.as_slice().last() {
+        Some(last) => draft.put_shown(&last.arr.seconds().saturating_sub(LEAVE)),
+        None => draft.lose(),
+    }
+}
+
+fn put_faults(draft: &mut Draft, before: u64, after: u64) {
+    draft.put("link fault ");
+    draft.put_shown(&before);
+    draft.put(" ");
+    draft.put_shown(&after);
 }

@@ -2,83 +2,92 @@
 use crate::convoys::{ask, ask_each, begun, put_outcome};
 use crate::linked::link_of;
 use convoy::Convoy;
+use lc_model::NoMemory;
 use lc_world::{Link, ListLink};
-use page_client::Outcome;
-use rows_common::Unmade;
+use rows_common::{Draft, Unmade};
 use std::alloc::Global;
 
 /// The lines of a convoy that is finished.
-pub fn put_finished(alloc: Global, text: &mut String) -> Result<(), Unmade> {
-    let mut link = link_of(alloc, "gate stops 0/1 1/ gate stops")?;
-    put_over(alloc, text, &mut link)
+pub fn put_finished(alloc: Global, draft: &mut Draft) {
+    match link_of(alloc, draft, "gate stops 0/1 1/ gate stops") {
+        Ok(mut link) => put_over(alloc, draft, &mut link),
+        Err(NoMemory) => draft.lose(),
+    }
 }
 
-fn put_over(alloc: Global, text: &mut String, link: &mut ListLink) -> Result<(), Unmade> {
-    let mut convoy = begun(alloc, 2)?;
-    put_convoy(alloc, text, &mut convoy, link)?;
-    put_kept(text, convoy)
+fn put_over(alloc: Global, draft: &mut Draft, link: &mut ListLink) {
+    match begun(alloc, 2) {
+        Ok(convoy) => put_convoy(alloc, draft, convoy, link),
+        Err(Unmade) => draft.lose(),
+    }
 }
 
-fn put_convoy(
-    alloc: Global,
-    text: &mut String,
-    convoy: &mut Convoy,
-    link: &mut ListLink,
-) -> Result<(), Unmade> {
-    ask_each(alloc, convoy, 2, 3_600)?;
-    let number = ask(alloc, convoy, 0)?;
-    writeln!(text, "asked: {number}")?;
-    put_before(text, convoy)?;
-    convoy.finish(alloc, link)?;
-    put_after(text, convoy, link)
+fn put_convoy(alloc: Global, draft: &mut Draft, mut convoy: Convoy, link: &mut ListLink) {
+    put_asked(alloc, draft, &mut convoy);
+    put_before(draft, &convoy);
+    draft.need(convoy.finish(alloc, link));
+    put_after(draft, &convoy, link);
+    put_kept(draft, convoy);
+}
+
+/// The number of the third client.
+fn put_asked(alloc: Global, draft: &mut Draft, convoy: &mut Convoy) {
+    ask_each(alloc, draft, convoy, 2, 3_600);
+    match ask(alloc, convoy, 0) {
+        Ok(number) => put_count(draft, "asked: ", number as u64),
+        Err(Unmade) => draft.lose(),
+    }
+    draft.put("\n");
+}
+
+fn put_count(draft: &mut Draft, name: &str, count: u64) {
+    draft.put(name);
+    draft.put_shown(&count);
+}
+
+fn put_flag(draft: &mut Draft, name: &str, flag: bool) {
+    draft.put(name);
+    draft.put_shown(&flag);
 }
 
 /// That client 1 has no version and no outcome yet.
-fn put_before(text: &mut String, convoy: &Convoy) -> Result<(), Unmade> {
+fn put_before(draft: &mut Draft, convoy: &Convoy) {
     let clients = convoy.clients();
     if clients < 1 {
-        return Err(Unmade);
+        return draft.lose();
     }
-    let (version, outcome) = (convoy.version(1).is_none(), convoy.outcome(1).is_none());
-    writeln!(
-        text,
-        "before: clients {clients}, no version {version}, no outcome {outcome}"
-    )?;
-    Ok(())
+    put_count(draft, "before: clients ", clients as u64);
+    put_flag(draft, ", no version ", convoy.version(1).is_none());
+    put_flag(draft, ", no outcome ", convoy.outcome(1).is_none());
+    draft.put("\n");
 }
 
 /// How many clients there are, the version that client 2 was told, how many exchanges each made, and what the link tells.
-fn put_after(text: &mut String, convoy: &Convoy, link: &ListLink) -> Result<(), Unmade> {
+fn put_after(draft: &mut Draft, convoy: &Convoy, link: &ListLink) {
     let clients = convoy.clients();
     if clients < 3 {
-        return Err(Unmade);
+        return draft.lose();
     }
-    let version = convoy.version(2).ok_or("a version")?.seconds();
-    let (first, second, third) = (
-        convoy.exchanges(1),
-        convoy.exchanges(2),
-        convoy.exchanges(3),
-    );
-    let (told, faults) = (link.told().len(), link.faults());
-    writeln!(
-        text,
-        "after: clients {clients}, version {version}, exchanges {first} {second} {third}"
-    )?;
-    writeln!(text, "link: told {told}, faults {faults}")?;
-    Ok(())
+    let Some(version) = convoy.version(2) else {
+        return draft.lose();
+    };
+    put_count(draft, "after: clients ", clients as u64);
+    put_count(draft, ", version ", version.seconds());
+    put_count(draft, ", exchanges ", convoy.exchanges(1));
+    put_count(draft, " ", convoy.exchanges(2));
+    put_count(draft, " ", convoy.exchanges(3));
+    put_count(draft, "\nlink: told ", link.told().len() as u64);
+    put_count(draft, ", faults ", link.faults());
+    draft.put("\n");
 }
 
 /// How client 2 ended, for keeps.
-fn put_kept(text: &mut String, convoy: Convoy) -> Result<(), Unmade> {
+fn put_kept(draft: &mut Draft, convoy: Convoy) {
     if convoy.clients() < 2 {
-        return Err(Unmade);
+        return draft.lose();
     }
     let outcome = convoy.into_outcome(2);
-    put_kept_outcome(text, outcome.as_ref())
-}
-
-fn put_kept_outcome(text: &mut String, outcome: Option<&Outcome>) -> Result<(), Unmade> {
-    text.push_str("kept: ")?;
-    put_outcome(text, outcome)?;
-    Ok(text.push_str("\n")?)
+    draft.put("kept: ");
+    put_outcome(draft, outcome.as_ref());
+    draft.put("\n");
 }

@@ -6,17 +6,13 @@ mod finished;
 mod linked;
 mod turns;
 
-use rows_common::{Unmade, exit_code};
-use std::alloc::Global;
+use rows_common::{Draft, exit_code};
 use std::process::ExitCode;
 
 fn main(rt: HostRuntime) -> ExitCode {
-    let mut text = String::new(rt.alloc());
-    let made = put_cases(rt.alloc(), &mut text);
-    exit_code(made, print!(rt; "{text}"))
-}
-
-fn put_cases(alloc: Global, text: &mut String) -> Result<(), Unmade> {
-    turns::put_turns(alloc, text)?;
-    finished::put_finished(alloc, text)
+    let mut draft = Draft::new(rt.alloc());
+    turns::put_turns(rt.alloc(), &mut draft);
+    finished::put_finished(rt.alloc(), &mut draft);
+    let printed = print!(rt; "{}", draft.as_str());
+    exit_code(draft.made(), printed)
 }

@@ -2,8 +2,9 @@
 use crate::convoys::{ask_each, begun, put_outcome};
 use crate::linked::link_of;
 use convoy::{Convoy, Turn};
+use lc_model::NoMemory;
 use lc_world::{Link, ListLink};
-use rows_common::Unmade;
+use rows_common::{Draft, Unmade};
 use std::alloc::Global;
 
 /// Clients of one question, and their turns.
@@ -18,7 +19,7 @@ struct Case {
     turns: &'static str,
 }
 
-const CASES: &[Case] = &[
+static CASES: [Case; 5] = [
     // The second client takes the page that the first one was sent.
     Case {
         name: "shared",
@@ -66,83 +67,77 @@ const CASES: &[Case] = &[
     },
 ];
 
-/// A line for the turns of each convoy, and one for the ends of its clients.
-pub fn put_turns(alloc: Global, text: &mut String) -> Result<(), Unmade> {
-    for case in CASES {
-        put_case(alloc, text, case)?;
+/// A line for the turns of each convoy, and the ends of its clients.
+pub fn put_turns(alloc: Global, draft: &mut Draft) {
+    for case in &CASES {
+        put_case(alloc, draft, case);
     }
-    Ok(())
 }
 
-fn put_case(alloc: Global, text: &mut String, case: &Case) -> Result<(), Unmade> {
-    let mut link = link_of(alloc, case.replies)?;
-    put_over(alloc, text, case, &mut link)
+fn put_case(alloc: Global, draft: &mut Draft, case: &Case) {
+    match link_of(alloc, draft, case.replies) {
+        Ok(mut link) => put_over(alloc, draft, case, &mut link),
+        Err(NoMemory) => draft.lose(),
+    }
 }
 
-fn put_over(
-    alloc: Global,
-    text: &mut String,
-    case: &Case,
-    link: &mut ListLink,
-) -> Result<(), Unmade> {
-    let mut convoy = begun(alloc, case.cache)?;
-    put_convoy(alloc, text, case, &mut convoy, link)
+fn put_over(alloc: Global, draft: &mut Draft, case: &Case, link: &mut ListLink) {
+    match begun(alloc, case.cache) {
+        Ok(mut convoy) => put_convoy(alloc, draft, case, &mut convoy, link),
+        Err(Unmade) => draft.lose(),
+    }
 }
 
 fn put_convoy(
     alloc: Global,
-    text: &mut String,
+    draft: &mut Draft,
     case: &Case,
     convoy: &mut Convoy,
     link: &mut ListLink,
-) -> Result<(), Unmade> {
-    ask_each(alloc, convoy, case.clients, case.horizon)?;
-    let name = case.name;
-    write!(text, "{name}:")?;
+) {
+    ask_each(alloc, draft, convoy, case.clients, case.horizon);
+    draft.put_all(&[case.name, ":"]);
     for digit in case.turns.as_bytes() {
         let k = usize::from(digit.wrapping_sub(b'0'));
-        put_turn(alloc, text, convoy, k, link)?;
+        put_turn(alloc, draft, convoy, k, link);
     }
-    put_ends(text, convoy)?;
-    let faults = link.faults();
-    writeln!(text, " faults {faults}")?;
-    Ok(())
+    put_ends(draft, convoy);
+    draft.put(" faults ");
+    draft.put_shown(&link.faults());
+    draft.put("\n");
 }
 
 /// The turn of client k: what it does, and how many exchanges more the link tells then.
-fn put_turn(
-    alloc: Global,
-    text: &mut String,
-    convoy: &mut Convoy,
-    k: usize,
-    link: &mut ListLink,
-) -> Result<(), Unmade> {
+fn put_turn(alloc: Global, draft: &mut Draft, convoy: &mut Convoy, k: usize, link: &mut ListLink) {
     if k < 1 || convoy.clients() < k {
-        return Err(Unmade);
+        return draft.lose();
     }
     let before = link.told().len();
-    let turn = convoy.turn(alloc, k, link)?;
-    let told = link.told().len().saturating_sub(before);
-    let said = said(turn);
-    write!(text, " {k} {said} {told},")?;
-    Ok(())
+    draft.put(" ");
+    draft.put_shown(&k);
+    match convoy.turn(alloc, k, link) {
+        Ok(turn) => draft.put(said(turn)),
+        Err(NoMemory) => draft.lose(),
+    }
+    draft.put_shown(&link.told().len().saturating_sub(before));
+    draft.put(",");
 }
 
 fn said(turn: Turn) -> &'static str {
     match turn {
-        Turn::Finished => "finished",
-        Turn::Cached => "cached",
-        Turn::Exchanged => "exchanged",
+        Turn::Finished => " finished ",
+        Turn::Cached => " cached ",
+        Turn::Exchanged => " exchanged ",
     }
 }
 
 /// How each client ended, and how many exchanges it made.
-fn put_ends(text: &mut String, convoy: &Convoy) -> Result<(), Unmade> {
+fn put_ends(draft: &mut Draft, convoy: &Convoy) {
     for index in 0..convoy.clients() {
-        write!(text, " ")?;
-        put_outcome(text, convoy.outcome(index + 1))?;
-        let exchanges = convoy.exchanges(index + 1);
-        write!(text, " in {exchanges},")?;
+        draft.put(" ");
+        put_outcome(draft, convoy.outcome(index + 1));
+        draft.put(" in ");
+        draft.put_shown(&convoy.exchanges(index + 1));
+        draft.put(",");
     }
-    Ok(())
 }

@@ -1,14 +1,10 @@
 //! What links answer: to a publisher of the program, over failures, at home, and to nobody.
-use crate::making::options;
-use fragmenter::Whole;
+use crate::making::{AT_FIRST, bytes, publisher};
+use fragmenter::Cutting;
 use lc_edge::{ClosedLink, FaultyLink, HomeLink, LocalLink};
-use lc_model::{Bytes, Changes, Moment, Runs, Stops, StopsDoc};
-use lc_time::Zone;
 use lc_world::{Link, LinkFail, ListLink, ToldReply};
-use publisher::{Options, Publisher};
-use rows_common::Unmade;
+use rows_common::{Draft, Unmade};
 use std::alloc::Global;
-use std::str;
 
 const STOPS: &[u8] = b"GET /stops HTTP/1.1\r\nHost: lc.example\r\n\r\n";
 
@@ -18,27 +14,20 @@ const POSTED: &[u8] = b"POST /connections HTTP/1.1\r\nHost: lc.example\r\n\r\n";
 
 const NOT_WHOLE: &[u8] = b"GET /stops HTTP/1.1\r\nHost: lc.example\r\n";
 
-const NOT_FOUND: &[u8] = b"HTTP/1.1 404 Not Found\r\nContent-Length: 0\r\n\r\n";
+const NOT_FOUND: &str = "HTTP/1.1 404 Not Found\r\nContent-Length: 0\r\n\r\n";
 
-fn empty_doc(alloc: Global) -> Result<StopsDoc, Unmade> {
-    let changes = Changes::from_list(Vec::new(alloc))?;
-    Ok(StopsDoc {
-        stops: Stops::from_list(Vec::new(alloc)),
-        changes,
-    })
+/// The lines of the links, each of which leaves its replies at one place.
+pub fn put_links(alloc: Global, draft: &mut Draft) {
+    let mut reply = Vec::new(alloc);
+    put_local(alloc, draft, &mut reply);
+    put_faulty(alloc, draft, &mut reply);
+    put_home(alloc, draft, &mut reply);
+    put_closed(alloc, draft, &mut reply);
 }
 
-fn empty_publisher(alloc: Global, options: Options) -> Result<Publisher<Whole>, Unmade> {
-    let moment = Moment::new(0).ok_or("a moment")?;
-    let doc = empty_doc(alloc)?;
-    let runs = Runs::from_list(Vec::new(alloc));
-    Ok(Publisher::new(alloc, runs, doc, Zone::Utc, moment, Whole, options)?)
-}
-
-/// A link to a publisher of an empty timetable under `http://lc.example/`.
-fn local(alloc: Global) -> Result<LocalLink<Whole>, Unmade> {
-    let options = options(alloc, false)?;
-    let publisher = empty_publisher(alloc, options)?;
+/// A link to a publisher of an empty timetable.
+fn local(alloc: Global) -> Result<LocalLink<Cutting>, Unmade> {
+    let publisher = publisher(alloc, &AT_FIRST)?;
     Ok(LocalLink::new(alloc, publisher)?)
 }
 
@@ -47,47 +36,53 @@ fn status(reply: &[u8]) -> &[u8] {
     reply.split(|byte| *byte == b'\r').next().unwrap_or(b"")
 }
 
+fn word(outcome: Result<(), LinkFail>) -> &'static str {
+    match outcome {
+        Ok(()) => ": answered ",
+        Err(LinkFail::Failed) => ": failed ",
+        Err(LinkFail::NoMemory) => ": no memory ",
+    }
+}
+
 /// Whether a link answered, the first line of what it left, and its count of faults.
 fn put_outcome(
-    text: &mut String,
+    draft: &mut Draft,
     name: &str,
     outcome: Result<(), LinkFail>,
     reply: &[u8],
     faults: u64,
-) -> Result<(), Unmade> {
-    let word = match outcome {
-        Ok(()) => "answered",
-        Err(LinkFail::Failed) => "failed",
-        Err(LinkFail::NoMemory) => "no memory",
-    };
-    let line = str::from_utf8(status(reply)).map_err(|_| "a text")?;
-    writeln!(text, "{name}: {word} \"{line}\" faults {faults}")?;
-    Ok(())
+) {
+    draft.put(name);
+    draft.put(word(outcome));
+    draft.put_quoted(status(reply));
+    draft.put(" faults ");
+    draft.put_shown(&faults);
+    draft.put("\n");
 }
 
 /// The line of an exchange.
 fn put_exchange<L: Link>(
     alloc: Global,
-    text: &mut String,
+    draft: &mut Draft,
     name: &str,
     link: &mut L,
     request: &[u8],
     reply: &mut Vec<u8>,
-) -> Result<(), Unmade> {
+) {
     let outcome = link.exchange(alloc, "lc.example", request, reply);
-    put_outcome(text, name, outcome, reply.as_slice(), link.faults())
+    put_outcome(draft, name, outcome, reply.as_slice(), link.faults());
 }
 
 /// The line of an answer that is handed on.
 fn put_pass<L: Link>(
     alloc: Global,
-    text: &mut String,
+    draft: &mut Draft,
     name: &str,
     link: &mut L,
     reply: &mut Vec<u8>,
-) -> Result<(), Unmade> {
+) {
     let outcome = link.pass(alloc, "lc.example", STOPS, reply);
-    put_outcome(text, name, outcome, reply.as_slice(), link.faults())
+    put_outcome(draft, name, outcome, reply.as_slice(), link.faults());
 }
 
 static ASKED: [(&str, &[u8]); 4] = [
@@ -97,151 +92,156 @@ static ASKED: [(&str, &[u8]); 4] = [
     ("local not whole", NOT_WHOLE),
 ];
 
-fn put_each_asked(
-    alloc: Global,
-    text: &mut String,
-    link: &mut LocalLink<Whole>,
-    reply: &mut Vec<u8>,
-) -> Result<(), Unmade> {
-    for &(name, request) in &ASKED {
-        put_exchange(alloc, text, name, link, request, reply)?;
+/// What a publisher of the program answers, and what the link tells.
+fn put_local(alloc: Global, draft: &mut Draft, reply: &mut Vec<u8>) {
+    match local(alloc) {
+        Ok(mut link) => put_local_of(alloc, draft, &mut link, reply),
+        Err(Unmade) => draft.lose(),
     }
-    put_pass(alloc, text, "local handed on", link, reply)
-}
-
-/// The newest version of the publisher, how many exchanges were asked for and told, and the faults.
-fn put_local_state(text: &mut String, link: &mut LocalLink<Whole>) -> Result<(), Unmade> {
-    let newest = link.publisher().newest().seconds();
-    let (asked, told, faults) = (link.asked(), link.told().len(), link.faults());
-    writeln!(
-        text,
-        "local link: newest {newest} asked {asked} told {told} faults {faults}"
-    )?;
-    Ok(())
 }
 
 fn put_local_of(
     alloc: Global,
-    text: &mut String,
-    link: &mut LocalLink<Whole>,
-) -> Result<(), Unmade> {
-    let mut reply = Vec::new(alloc);
-    put_each_asked(alloc, text, link, &mut reply)?;
-    put_local_state(text, link)
+    draft: &mut Draft,
+    link: &mut LocalLink<Cutting>,
+    reply: &mut Vec<u8>,
+) {
+    for &(name, request) in &ASKED {
+        put_exchange(alloc, draft, name, link, request, reply);
+    }
+    put_pass(alloc, draft, "local handed on", link, reply);
+    put_local_state(draft, link);
 }
 
-/// What a publisher of the program answers, and what the link tells.
-fn put_local(alloc: Global, text: &mut String) -> Result<(), Unmade> {
-    let mut link = local(alloc)?;
-    put_local_of(alloc, text, &mut link)
+/// The newest version of the publisher, how many exchanges were asked for and told, and the faults.
+fn put_local_state(draft: &mut Draft, link: &mut LocalLink<Cutting>) {
+    let newest = link.publisher().newest();
+    draft.put("local link: newest ");
+    draft.put_shown(&newest.seconds());
+    draft.put(" asked ");
+    draft.put_shown(&link.asked());
+    draft.put(" told ");
+    draft.put_shown(&link.told().len());
+    draft.put(" faults ");
+    draft.put_shown(&link.faults());
+    draft.put("\n");
 }
 
 /// A link that has this one reply.
-fn one_reply(alloc: Global, reply: &[u8]) -> Result<ListLink, Unmade> {
-    let reply = Bytes::from_list(reply.to_vec(alloc)?);
+fn one_reply(alloc: Global, reply: &str) -> Result<ListLink, Unmade> {
+    let reply = bytes(alloc, reply)?;
     let replies = vec![in alloc; reply]?;
     Ok(ListLink::new(replies)?)
 }
 
-fn faulty(alloc: Global, inner: ListLink) -> Result<FaultyLink<ListLink>, Unmade> {
+/// The second call and the fourth one fail, and so does one that the other link fails.
+fn faulty(alloc: Global) -> Result<FaultyLink<ListLink>, Unmade> {
     let fails = vec![in alloc; 2, 4]?;
+    let inner = one_reply(alloc, "one")?;
     Ok(FaultyLink::new(inner, fails))
+}
+
+fn put_faulty(alloc: Global, draft: &mut Draft, reply: &mut Vec<u8>) {
+    match faulty(alloc) {
+        Ok(mut link) => put_faulty_of(alloc, draft, &mut link, reply),
+        Err(Unmade) => draft.lose(),
+    }
 }
 
 fn put_faulty_of(
     alloc: Global,
-    text: &mut String,
+    draft: &mut Draft,
     link: &mut FaultyLink<ListLink>,
     reply: &mut Vec<u8>,
-) -> Result<(), Unmade> {
-    put_exchange(alloc, text, "faulty first", link, STOPS, reply)?;
-    put_pass(alloc, text, "faulty second, handed on", link, reply)?;
-    put_exchange(alloc, text, "faulty third", link, STOPS, reply)?;
-    put_exchange(alloc, text, "faulty fourth", link, STOPS, reply)
+) {
+    put_exchange(alloc, draft, "faulty first", link, STOPS, reply);
+    put_pass(alloc, draft, "faulty second, handed on", link, reply);
+    put_exchange(alloc, draft, "faulty third", link, STOPS, reply);
+    put_exchange(alloc, draft, "faulty fourth", link, STOPS, reply);
 }
 
-/// The second call and the fourth one fail, and so does one that the other link fails.
-fn put_faulty(alloc: Global, text: &mut String) -> Result<(), Unmade> {
-    let inner = one_reply(alloc, b"one")?;
-    let mut link = faulty(alloc, inner)?;
-    let mut reply = Vec::new(alloc);
-    put_faulty_of(alloc, text, &mut link, &mut reply)
+/// The outer link has one reply, which comes in place of the first answer; the second answer stays, and is told.
+fn put_home(alloc: Global, draft: &mut Draft, reply: &mut Vec<u8>) {
+    match home(alloc) {
+        Ok(link) => put_home_of(alloc, draft, link, reply),
+        Err(Unmade) => draft.lose(),
+    }
 }
 
-fn put_home_exchanges(
-    alloc: Global,
-    text: &mut String,
-    link: &mut HomeLink<Whole, ListLink>,
-    reply: &mut Vec<u8>,
-) -> Result<(), Unmade> {
-    put_exchange(alloc, text, "home first", link, STOPS, reply)?;
-    put_exchange(alloc, text, "home second", link, STOPS, reply)?;
-    let newest = link.publisher().newest().seconds();
-    writeln!(text, "home link: newest {newest}")?;
-    Ok(())
-}
-
-/// How many exchanges the outer link tells, and whether the last of them has this reply.
-fn put_told(text: &mut String, outer: &ListLink, reply: &[u8]) -> Result<(), Unmade> {
-    let entry = outer.told().last().ok_or("an entry")?;
-    let is_told = match &entry.reply {
-        ToldReply::Reply(told) => told.as_slice() == reply,
-        _ => false,
-    };
-    let told = outer.told().len();
-    writeln!(
-        text,
-        "home link: told {told} the last as it stayed {is_told}"
-    )?;
-    Ok(())
+fn home(alloc: Global) -> Result<HomeLink<Cutting, ListLink>, Unmade> {
+    let outer = one_reply(alloc, NOT_FOUND)?;
+    let local = local(alloc)?;
+    Ok(HomeLink::new(local, outer))
 }
 
 fn put_home_of(
     alloc: Global,
-    text: &mut String,
-    mut link: HomeLink<Whole, ListLink>,
-) -> Result<(), Unmade> {
-    let mut reply = Vec::new(alloc);
-    put_home_exchanges(alloc, text, &mut link, &mut reply)?;
+    draft: &mut Draft,
+    mut link: HomeLink<Cutting, ListLink>,
+    reply: &mut Vec<u8>,
+) {
+    put_home_exchanges(alloc, draft, &mut link, reply);
     let outer = link.into_outer();
-    put_told(text, &outer, reply.as_slice())
+    put_told(draft, &outer, reply.as_slice());
 }
 
-/// The outer link has one reply, which comes in place of the first answer; the second answer stays, and is told.
-fn put_home(alloc: Global, text: &mut String) -> Result<(), Unmade> {
-    let outer = one_reply(alloc, NOT_FOUND)?;
+fn put_home_exchanges(
+    alloc: Global,
+    draft: &mut Draft,
+    link: &mut HomeLink<Cutting, ListLink>,
+    reply: &mut Vec<u8>,
+) {
+    put_exchange(alloc, draft, "home first", link, STOPS, reply);
+    put_exchange(alloc, draft, "home second", link, STOPS, reply);
+    let newest = link.publisher().newest();
+    draft.put("home link: newest ");
+    draft.put_shown(&newest.seconds());
+    draft.put("\n");
+}
+
+/// How many exchanges the outer link tells, and whether the last of them has this reply.
+fn put_told(draft: &mut Draft, outer: &ListLink, reply: &[u8]) {
+    let Some(entry) = outer.told().last() else {
+        return draft.lose();
+    };
+    draft.put("home link: told ");
+    draft.put_shown(&outer.told().len());
+    draft.put(" the last as it stayed ");
+    draft.put_shown(&is_told(&entry.reply, reply));
+    draft.put("\n");
+}
+
+fn is_told(told: &ToldReply, reply: &[u8]) -> bool {
+    match told {
+        ToldReply::Reply(told) => told.as_slice() == reply,
+        _ => false,
+    }
+}
+
+/// A link to nobody leaves an answer as it is, and answers nothing.
+fn put_closed(alloc: Global, draft: &mut Draft, reply: &mut Vec<u8>) {
+    match closed(alloc) {
+        Ok(link) => put_closed_of(alloc, draft, link, reply),
+        Err(Unmade) => draft.lose(),
+    }
+}
+
+fn closed(alloc: Global) -> Result<HomeLink<Cutting, ClosedLink>, Unmade> {
     let local = local(alloc)?;
-    put_home_of(alloc, text, HomeLink::new(local, outer))
+    Ok(HomeLink::new(local, ClosedLink::new()))
 }
 
 fn put_closed_of(
     alloc: Global,
-    text: &mut String,
-    mut link: HomeLink<Whole, ClosedLink>,
-) -> Result<(), Unmade> {
-    let mut reply = Vec::new(alloc);
-    put_exchange(
-        alloc,
-        text,
-        "home over nobody",
-        &mut link,
-        STOPS,
-        &mut reply,
-    )?;
+    draft: &mut Draft,
+    mut link: HomeLink<Cutting, ClosedLink>,
+    reply: &mut Vec<u8>,
+) {
+    put_exchange(alloc, draft, "home over nobody", &mut link, STOPS, reply);
     let mut outer = link.into_outer();
-    put_exchange(alloc, text, "nobody", &mut outer, STOPS, &mut reply)
+    put_nobody(alloc, draft, &mut outer, reply);
 }
 
-/// A link to nobody leaves an answer as it is, and answers nothing.
-fn put_closed(alloc: Global, text: &mut String) -> Result<(), Unmade> {
-    let local = local(alloc)?;
-    put_closed_of(alloc, text, HomeLink::new(local, ClosedLink::new()))
-}
-
-/// The lines of the links.
-pub fn put_links(alloc: Global, text: &mut String) -> Result<(), Unmade> {
-    put_local(alloc, text)?;
-    put_faulty(alloc, text)?;
-    put_home(alloc, text)?;
-    put_closed(alloc, text)
+fn put_nobody(alloc: Global, draft: &mut Draft, link: &mut ClosedLink, reply: &mut Vec<u8>) {
+    put_exchange(alloc, draft, "nobody", link, STOPS, reply);
 }

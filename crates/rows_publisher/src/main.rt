@@ -8,19 +8,24 @@ mod replies;
 mod requests;
 mod system;
 
-use rows_common::{Unmade, exit_code};
+use http_text::HeadRoom;
+use rows_common::{Draft, exit_code};
 use std::alloc::Global;
 use std::process::ExitCode;
 
 fn main(rt: HostRuntime) -> ExitCode {
-    let mut text = String::new(rt.alloc());
-    let made = put_cases(rt.alloc(), &mut text, &rt);
-    exit_code(made, print!(rt; "{text}"))
+    let mut draft = Draft::new(rt.alloc());
+    put_cases(rt.alloc(), &mut draft, &rt);
+    let printed = print!(rt; "{}", draft.as_str());
+    exit_code(draft.made(), printed)
 }
 
-fn put_cases(alloc: Global, text: &mut String, rt: &HostRuntime) -> Result<(), Unmade> {
-    replies::put_replies(alloc, text)?;
-    links::put_links(alloc, text)?;
-    system::put_files(alloc, text, rt)?;
-    system::put_output(text, rt)
+fn put_cases(alloc: Global, draft: &mut Draft, rt: &HostRuntime) {
+    match HeadRoom::new(alloc) {
+        Ok(mut room) => replies::put_replies(alloc, draft, &mut room),
+        Err(_) => draft.lose(),
+    }
+    links::put_links(alloc, draft);
+    system::put_files(alloc, draft, rt);
+    system::put_output(draft, rt);
 }
