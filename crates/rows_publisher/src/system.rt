@@ -5,14 +5,14 @@ use rows_common::Draft;
 use std::alloc::Global;
 use std::str;
 
-/// The file of the folder `data`, one that is not there, and a folder, which is no file.
-static NAMES: [&str; 3] = ["stops.txt", "absent.txt", "."];
+/// The file of the folder `data`, one that is not there, a name that no file can have, and a folder, which is no file.
+static NAMES: [&str; 4] = ["stops.txt", "absent.txt", "stops\0.txt", "."];
 
 /// A line for each row of `NAMES`.
 pub fn put_files(alloc: Global, draft: &mut Draft, rt: &HostRuntime) {
     let mut folder = DirFolder::new(rt);
     for name in &NAMES {
-        draft.put(name);
+        draft.put_escaped(name.as_bytes());
         let read = folder.read(alloc, *name);
         put_read(draft, read, folder.faults());
     }
