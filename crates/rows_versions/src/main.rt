@@ -2,23 +2,27 @@
 #![tactic(auto)]
 
 mod live;
+mod messages;
+mod news;
 mod trips;
 mod versions;
 
-use rows_common::{Unmade, exit_code};
+use rows_common::{Draft, Unmade, exit_code};
 use std::alloc::Global;
 use std::process::ExitCode;
 
 fn main(rt: HostRuntime) -> ExitCode {
-    let mut text = String::new(rt.alloc());
-    let made = put_cases(rt.alloc(), &mut text);
-    exit_code(made, print!(rt; "{text}"))
+    let mut draft = Draft::new(rt.alloc());
+    put_cases(rt.alloc(), &mut draft);
+    let printed = print!(rt; "{}", draft.as_str());
+    exit_code(draft.made(), printed)
 }
 
-fn put_cases(alloc: Global, text: &mut String) -> Result<(), Unmade> {
-    live::put_live(alloc, text)?;
-    live::put_named_by_stop(alloc, text)?;
-    live::put_added(alloc, text)?;
-    versions::put_histories(alloc, text)?;
-    versions::put_versions(alloc, text)
+fn put_cases(alloc: Global, draft: &mut Draft) {
+    match trips::stops(alloc) {
+        Ok(stops) => live::put_live_calls(alloc, draft, &stops),
+        Err(Unmade) => draft.lose(),
+    }
+    versions::put_histories(alloc, draft);
+    versions::put_versions(alloc, draft);
 }
