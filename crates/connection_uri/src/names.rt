@@ -2,6 +2,8 @@ ghost use Rattle.std.specs.Prelude.{◌≡◌, ◌++◌, ◌<◌, ◌^◌, ℕ, 
 ghost use Rattle.std.specs.String.{string_bytes};
 ghost use Rattle.lc_model.specs.Text.{IsIdText};
 ghost use Rattle.lc_model.specs.declared.key.RunKey.{RunKey as Key};
+ghost use Rattle.lc_time.specs.Date.{date_text_of};
+ghost use Rattle.connection_uri.specs.Encoding.{encoded};
 ghost use Rattle.connection_uri.specs.Name.{start_part_of, run_part_of, name_of, NamesDiffer};
 ghost use Rattle.connection_uri.specs.Parts.{joined, ArePartsOf};
 
@@ -86,15 +88,24 @@ fn run_part(alloc: Global, key: &RunKey) -> Result<String, NoMemory>
     ensures { IfOk result (λ part. string_bytes part ≡ run_part_of key.now) }
 {
     let mut part = String::new(alloc);
-    append_encoded(&mut part, key.trip.bytes())?;
-    part.push_str("/")?;
-    part.push_str(ascii_str(&date_text(key.date)))?;
-    part.push_str("/")?;
+    append_trip_and_date(&mut part, key)?;
     match key.start {
         Some(start) => part.push_str(ascii_str(&start_text(start)))?,
         None => part.push_str("-")?,
     }
     Ok(part)
+}
+
+/// Appends trip/date/ of the run.
+fn append_trip_and_date(part: &mut String, key: &RunKey) -> Result<(), NoMemory>
+    ensures { OnOk result (string_bytes part.new ≡ string_bytes part.old ++ (encoded key.now.trip ++ codes "/"
+        ++ date_text_of key.now.date.year key.now.date.month key.now.date.day ++ codes "/")) }
+{
+    append_encoded(part, key.trip.bytes())?;
+    part.push_str("/")?;
+    part.push_str(ascii_str(&date_text(key.date)))?;
+    part.push_str("/")?;
+    Ok(())
 }
 
 /// Different runs or sequences have different names under a base.

@@ -27,14 +27,24 @@ fn text_of(alloc: Global, reply: &ReplyParts) -> Result<Vec<u8>, NoMemory>
     ensures in_range { OnOk result (IfSome reply.now.memento (λ m. m < 253_402_128_000)) }
 {
     let mut text = Vec::new(alloc);
-    append_status(&mut text, reply.status)?;
-    append_body_lines(&mut text, reply)?;
-    append_target_lines(&mut text, reply)?;
-    append_allow(&mut text, reply.allow)?;
-    append_close(&mut text, reply.close)?;
+    append_lines(&mut text, reply)?;
     text.extend_from_slice(b"\r\n")?;
     text.extend_from_slice(reply.body.as_slice())?;
     Ok(text)
+}
+
+/// Appends the lines of the head.
+fn append_lines(text: &mut Vec<u8>, reply: &ReplyParts) -> Result<(), NoMemory>
+    ensures text { OnOk result (text.new.items ≡ text.old.items
+        ++ (status_line reply.now.status ++ body_lines reply.now ++ target_lines reply.now ++ allow_line reply.now.allow ++ close_line reply.now.close)) }
+    ensures in_range { OnOk result (IfSome reply.now.memento (λ m. m < 253_402_128_000)) }
+{
+    append_status(text, reply.status)?;
+    append_body_lines(text, reply)?;
+    append_target_lines(text, reply)?;
+    append_allow(text, reply.allow)?;
+    append_close(text, reply.close)?;
+    Ok(())
 }
 
 /// The reason phrase of a status in use, and nothing for another.

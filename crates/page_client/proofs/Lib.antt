@@ -1,8 +1,8 @@
 pub mod BeginLemmas
-pub mod BehindLemmas
 pub mod BodyLemmas
 pub mod GateLemmas
 pub mod LastLemmas
 pub mod OneReplyLemmas
 pub mod OrderLemmas
 pub mod PageLemmas
+pub mod SequelLemmas

@@ -1,4 +1,3 @@
-pub mod Behind
 pub mod Client
 pub mod Course
 pub mod Fault
@@ -6,6 +5,7 @@ pub mod Gate
 pub mod Page
 pub mod Replied
 pub mod Request
+pub mod Sequel
 pub mod Shown
 pub mod Stops
 pub mod Texts

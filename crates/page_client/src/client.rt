@@ -5,7 +5,7 @@ use crate::gate::gate_said;
 use crate::outcome::wrong;
 use crate::phase::Phase;
 use crate::request::{ask_gate, ask_page, ask_stops};
-use crate::step::{Behind, after_page};
+use crate::step::{Sequel, after_page};
 use crate::stops_reply::stops_said;
 use crate::{Outcome, PeerFault, QueryFault, Want};
 use connection_uri::Base;
@@ -172,11 +172,11 @@ impl Client {
             unreachable!()
         };
         match after_page(alloc, scan, page, self.query.leave, gate)? {
-            Behind::Goes(next) => {
+            Sequel::Goes(next) => {
                 self.phase = Phase::Page(next);
                 Ok(())
             }
-            Behind::Ends(outcome) => {
+            Sequel::Ends(outcome) => {
                 self.end(outcome);
                 Ok(())
             }

@@ -3,8 +3,8 @@ ghost use Rattle.lc_model.specs.declared.connection.Connection.{Connection};
 ghost use Rattle.lc_model.specs.declared.doc.StopsDoc.{StopsDoc};
 ghost use Rattle.lc_model.specs.declared.query.Query.{Query};
 ghost use Rattle.csa_scan.specs.StandsFor.{StandsFor};
-ghost use Rattle.page_client.specs.Behind.{IsBehind};
 ghost use Rattle.page_client.specs.Course.{IsOver, TakesOn};
+ghost use Rattle.page_client.specs.Sequel.{IsSequel};
 ghost use Rattle.page_client.specs.Shown.{wrong_gate};
 ghost use Rattle.page_client.specs.declared.outcome.Outcome.{Outcome as OutcomeValue};
 
@@ -39,39 +39,39 @@ pub fn take(alloc: Global, scan: &mut Scan, page: &Page) -> Result<Step, NoMemor
     }
 }
 
-/// What a client does behind a page.
+/// What a client does after a page.
 #[derive(Drop)]
-pub enum Behind {
+pub enum Sequel {
     /// It wants the page of this name.
     Goes(PageName),
     /// It has its outcome.
     Ends(Outcome),
 }
 
-/// Takes a page to which the gate did not send wrongly, and says what comes behind it. Takes the time of `take`.
+/// Takes a page, unless the time gate was wrong to send to it, and says what the client does after it. Takes the time of `take`.
 pub fn after_page(
     alloc: Global,
     scan: &mut Scan,
     page: &Page,
     leave: Moment,
     gate: Option<Bytes>,
-) -> Result<Behind, NoMemory>
-    ensures wrong { IfOk result (λ behind. (outcome : OutcomeValue) → wrong_gate page.now leave gate ≡ Some outcome → behind ≡ Behind.Ends outcome) }
-    ensures right { IfOk result (λ behind. wrong_gate page.now leave gate ≡ None → IsBehind scan.old scan.new page.now behind) }
+) -> Result<Sequel, NoMemory>
+    ensures wrong { IfOk result (λ sequel. (outcome : OutcomeValue) → wrong_gate page.now leave gate ≡ Some outcome → sequel ≡ Sequel.Ends outcome) }
+    ensures right { IfOk result (λ sequel. wrong_gate page.now leave gate ≡ None → IsSequel scan.old scan.new page.now sequel) }
 {
     match wrong_gate(alloc, page, leave, gate)? {
-        Some(outcome) => Ok(Behind::Ends(outcome)),
+        Some(outcome) => Ok(Sequel::Ends(outcome)),
         None => after_right_page(alloc, scan, page),
     }
 }
 
-/// Takes a page and says what comes behind it. Takes the time of `take`.
-fn after_right_page(alloc: Global, scan: &mut Scan, page: &Page) -> Result<Behind, NoMemory>
-    ensures { IfOk result (IsBehind scan.old scan.new page.now) }
+/// Takes a page and says what the client does after it. Takes the time of `take`.
+fn after_right_page(alloc: Global, scan: &mut Scan, page: &Page) -> Result<Sequel, NoMemory>
+    ensures { IfOk result (IsSequel scan.old scan.new page.now) }
 {
     match take(alloc, scan, page)? {
-        Step::Next(next) => Ok(Behind::Goes(next)),
-        Step::Last(journey) => Ok(Behind::Ends(answered(journey))),
+        Step::Next(next) => Ok(Sequel::Goes(next)),
+        Step::Last(journey) => Ok(Sequel::Ends(answered(journey))),
     }
 }
 

@@ -1,6 +1,6 @@
 use Rattle.std.proofs.Common.{ap, refl, subst}
 use Rattle.page_client.specs.Course.{TakesOn}
-use Rattle.page_client.specs.declared.step.Behind.TheVariants.{Ends}
+use Rattle.page_client.specs.declared.step.Sequel.TheVariants.{Ends}
 use Rattle.page_client.specs.declared.step.Step.{Step}
 use Rattle.page_client.specs.declared.step.Step.TheVariants.{Last, Next}
 use Rattle.page_client.proofs.step.after_right_page.Goals as goal

@@ -1,7 +1,7 @@
 use Rattle.std.proofs.Common.{ℕ, List, Option, refl, ◌∙◌, ap}
 use Rattle.page_client.specs.Shown.{Shown, is_wrong, wrong_gate}
 use Rattle.page_client.specs.declared.phase.Phase.TheVariants as phases
-use Rattle.page_client.proofs.BehindLemmas.{ends_taken, ends_wrong, goes_right, goes_takes}
+use Rattle.page_client.proofs.SequelLemmas.{ends_taken, ends_wrong, goes_right, goes_takes}
 use Rattle.page_client.proofs.PageLemmas.{next_fewer, next_sound, next_taken, waits_for}
 use Rattle.page_client.proofs.client.Client.give_page.Goals as goal
 
