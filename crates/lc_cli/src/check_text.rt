@@ -9,27 +9,31 @@ use timetable::Timetable;
 pub(crate) fn check_text(alloc: Global, made: &Timetable) -> Result<Vec<u8>, NoMemory>
     ensures { IfOk result (λ text. text.items ≡ check_text_of made.now) }
 {
-    let mut text = Vec::new(alloc);
-    push_counts(alloc, &mut text, made)?;
-    Ok(text)
-}
-
-/// Adds the counts of the timetable, a line each.
-fn push_counts(alloc: Global, text: &mut Vec<u8>, made: &Timetable) -> Result<(), NoMemory>
-    ensures { OnOk result (text.new.items ≡ text.old.items ++ check_text_of made.now) }
-{
-    let stops = made.doc.stops.as_slice().len() as u128;
     let trips = u128::from(made.trips) + u128::from(made.left_out);
-    let runs = made.runs.as_slice().len() as u128;
-    let changes = made.doc.changes.as_slice().len() as u128;
-    push_count(alloc, text, "stops", stops)?;
-    push_count(alloc, text, "trips", trips)?;
-    push_count(alloc, text, "left out", u128::from(made.left_out))?;
-    push_count(alloc, text, "runs", runs)?;
-    push_count(alloc, text, "connections", u128::from(made.connections))?;
-    push_count(alloc, text, "changes", changes)?;
+    let mut text = Vec::new(alloc);
+    push_count(
+        alloc,
+        &mut text,
+        "stops",
+        made.doc.stops.as_slice().len() as u128,
+    )?;
+    push_count(alloc, &mut text, "trips", trips)?;
+    push_count(alloc, &mut text, "left out", u128::from(made.left_out))?;
+    push_count(alloc, &mut text, "runs", made.runs.as_slice().len() as u128)?;
+    push_count(
+        alloc,
+        &mut text,
+        "connections",
+        u128::from(made.connections),
+    )?;
+    push_count(
+        alloc,
+        &mut text,
+        "changes",
+        made.doc.changes.as_slice().len() as u128,
+    )?;
     text.extend_from_slice(b"ok\n")?;
-    Ok(())
+    Ok(text)
 }
 
 /// Adds a line with a name and a count.

@@ -24,15 +24,28 @@ fn options(alloc: Global) -> Result<Options, Unmade> {
     }
 }
 
-/// With these options.
-fn publisher_with(alloc: Global, options: Options) -> Result<Publisher<Cutting>, Unmade> {
+/// Of these runs, which are none.
+fn publisher_of(
+    alloc: Global,
+    start: Moment,
+    options: Options,
+    runs: Runs,
+) -> Result<Publisher<Cutting>, Unmade> {
     let doc = read_stops(alloc, NO_STOPS)?;
-    let runs = Runs::try_from_list(Vec::new(alloc)).map_err(|_| "runs")?;
-    let start = Moment::new(START).ok_or("a moment")?;
     Ok(Publisher::new(alloc, runs, doc, Zone::Utc, start, Cutting::Whole, options)?)
 }
 
+fn publisher_with(
+    alloc: Global,
+    start: Moment,
+    options: Options,
+) -> Result<Publisher<Cutting>, Unmade> {
+    let runs = Runs::try_from_list(Vec::new(alloc)).map_err(|_| "runs")?;
+    publisher_of(alloc, start, options, runs)
+}
+
 pub fn publisher(alloc: Global) -> Result<Publisher<Cutting>, Unmade> {
+    let start = Moment::new(START).ok_or("a moment")?;
     let options = options(alloc)?;
-    publisher_with(alloc, options)
+    publisher_with(alloc, start, options)
 }

@@ -27,14 +27,14 @@ const REST: &[u8] = b"TP/1.1\r\nHost: x\r\n\r\n";
 
 const PLAIN: &[u8] = b"GET / HTTP/1.1\r\nHost: x\r\n\r\n";
 
-/// A request that closes, and one behind it.
+/// A request that closes, and one after it.
 const CLOSING: &[u8] =
     b"GET / HTTP/1.1\r\nHost: x\r\nConnection: close\r\n\r\nGET /stops HTTP/1.1\r\nHost: x\r\n\r\n";
 
-/// A request of HTTP/1.0, which closes, and one behind it.
+/// A request of HTTP/1.0, which closes, and one after it.
 const OLD: &[u8] = b"GET / HTTP/1.0\r\n\r\nGET / HTTP/1.1\r\nHost: x\r\n\r\n";
 
-/// A request, one without a Host, and one behind it.
+/// A request, one without a Host, and one after it.
 const HOSTLESS: &[u8] =
     b"GET / HTTP/1.1\r\nHost: x\r\n\r\nGET /stops HTTP/1.1\r\n\r\nGET / HTTP/1.1\r\nHost: x\r\n\r\n";
 

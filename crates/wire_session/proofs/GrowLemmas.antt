@@ -24,7 +24,7 @@ silence_grows side ended a b is = (b.replies, ap (λ (s : Said). s.replies ++ b.
 same_grows : (a b : Said) → a ≡ b → BeginsWith b.replies a.replies
 same_grows a b is = ([], ap (λ (s : Said). s.replies) (sym is) ∙ sym (append-nil a.replies))
 
--- what is said to a rest and more bytes behind it
+-- what is said to a rest and more bytes after it
 abbrev pub Longer : (Side → List ℕ → Said → Type 0) → List ℕ → Side → List ℕ → Said → Type 0
 Longer Goes more side rest said = Goes side (rest ++ more) said
 

@@ -44,7 +44,7 @@ answered_more start fed text count side bytes reply next long was whole answered
       fewer = fewer;
     }
 
--- what is said behind the replies so far
+-- what is said after the replies so far
 output_behind : (start : Side) (fed text : List ℕ) (count : ℕ) (side : Side) (bytes : List ℕ) (more : ℕ) (said : Said)
     → HasAnswered start fed text count side bytes → 100 ≡ count + more → Says more side bytes said
     → IsOutput start fed (text ++ concat said.replies) (count + length said.replies) said.side said.ended
@@ -124,7 +124,7 @@ refused start fed text count side bytes status was takes =
 
 -- ---- pieces
 
--- more bytes behind those that were answered
+-- more bytes after those that were answered
 pub answered_under : (start : Side) (fed text : List ℕ) (count : ℕ) (side : Side) (rest piece : List ℕ)
     → HasAnswered start fed text count side rest → HasAnswered start (fed ++ piece) text count side (rest ++ piece)
 answered_under start fed text count side rest piece was = record {
@@ -147,7 +147,7 @@ waits_on start fed text count side rest most piece was short = record {
       subst (λ (x : List ℕ). Takes x NotYet) (sym same) (was.waits_for (piece ++ more) (subst (λ (x : List ℕ). length x < most) same less));
 }
 
--- bytes behind the end
+-- bytes after the end
 pub output_under : (start : Side) (fed text : List ℕ) (count : ℕ) (side : Side) (piece : List ℕ)
     → IsOutput start fed text count side true → IsOutput start (fed ++ piece) text count side true
 output_under start fed text count side piece was = record {

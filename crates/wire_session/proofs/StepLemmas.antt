@@ -1,4 +1,4 @@
--- How a session goes on behind a reply, and where memory runs out.
+-- How a session goes on after a reply, and where memory runs out.
 use Rattle.std.proofs.Common.{◌≡◌, ℕ, ◌+◌, ◌<◌, ◌≤◌, ◌⊎◌, inl, inr, Bool, true, false, cond, eqb, List, ◌++◌, take, drop, refl, sym, ap, subst, ◌∙◌, arith, append_assoc, length}
 use Rattle.std.proofs.lemmas.Bool.{eqb-false, eqb-true}
 use Rattle.http_text.specs.declared.taken.Taken.TheVariants.{Whole}
@@ -15,7 +15,7 @@ use Rattle.wire_session.proofs.StandLemmas.{answered_more, answered_under, close
 with_output : (sent output reply after : List ℕ) → after ≡ output ++ reply → (sent ++ output) ++ reply ≡ sent ++ after
 with_output sent output reply after is = append_assoc sent output reply ∙ ap (λ (x : List ℕ). sent ++ x) (sym is)
 
--- ---- behind a reply
+-- ---- after a reply
 
 ends_after : (start : Side) (fed sent output : List ℕ) (count : ℕ) (reply after : List ℕ) (next : Side) (counted : ℕ) → after ≡ output ++ reply
     → counted ≡ count + 1 → IsOutput start fed ((sent ++ output) ++ reply) (count + 1) next true → IsOutput start fed (sent ++ after) counted next true
@@ -93,7 +93,7 @@ pub cut_short_at : (start : Side) (fed text : List ℕ) (count : ℕ) (side : Si
 cut_short_at start fed text count side rest most piece was =
     cut_short start (fed ++ piece) text count side (rest ++ piece) side (answered_under start fed text count side rest piece was.answered) (inl refl)
 
--- ---- a piece behind what waits
+-- ---- a piece after what waits
 
 -- the requests that were answered stand before the bytes with the piece
 pub answered_with : (start : Side) (fed text : List ℕ) (count : ℕ) (side : Side) (rest : List ℕ) (most : ℕ) (piece all : List ℕ) → all ≡ rest ++ piece

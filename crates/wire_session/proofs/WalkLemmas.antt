@@ -1,4 +1,4 @@
--- Requests behind which a connection goes on: more bytes behind them, one more of them, and what is said behind them.
+-- Requests after which a connection goes on: more bytes after them, one more of them, and what is said after them.
 use Rattle.std.proofs.Common.{◌≡◌, ◌≢◌, ℕ, suc, ◌+◌, false, List, [], ◌∷◌, ◌++◌, length, drop, refl, sym, ap, subst, ◌∙◌, arith}
 use Rattle.std.proofs.lemmas.List.{drop-append-le}
 use Rattle.http_text.specs.declared.taken.Taken.TheVariants.{Whole, NotYet, Refused}
@@ -15,7 +15,7 @@ whole_is_some count e = cc
 pub refused_is_some : (status : ℕ) → Refused status ≢ NotYet
 refused_is_some status e = cc
 
--- the rest behind a whole request grows with the bytes
+-- the rest after a whole request grows with the bytes
 pub rest_grows : (bytes more : List ℕ) (count : ℕ) → Takes bytes (Whole count) → drop count (bytes ++ more) ≡ drop count bytes ++ more
 rest_grows bytes more count whole = drop-append-le count bytes more (whole_is bytes count whole).0
 
@@ -28,7 +28,7 @@ goes_on_stays side bytes reply next rest more goes = record {
   rest_is = ap (λ (x : List ℕ). x ++ more) goes.rest_is ∙ sym (rest_grows bytes more goes.count goes.whole);
 }
 
--- more bytes behind
+-- more bytes after
 pub walks_stay : (replies : List (List ℕ)) (side : Side) (bytes : List ℕ) (next : Side) (rest more : List ℕ) → Walks replies side bytes next rest
     → Walks replies side (bytes ++ more) next (rest ++ more)
 walks_stay [] side bytes next rest more (same, all) = (same, ap (λ (x : List ℕ). x ++ more) all)
@@ -70,7 +70,7 @@ says_first more side bytes reply next rest said goes says = (
   },
 )
 
--- what is said behind a walk is said behind its replies
+-- what is said after a walk is said after its replies
 pub walk_says : (replies : List (List ℕ)) (most more : ℕ) (side : Side) (bytes : List ℕ) (next : Side) (rest : List ℕ) (said : Said)
     → most ≡ length replies + more → Walks replies side bytes next rest → Says more next rest said → Says most side bytes (with_replies replies said)
 walk_says [] most more side bytes next rest said e (same, all) says =

@@ -10,7 +10,7 @@ use Rattle.wire_session.specs.Stands.{IsCutShort}
 abbrev pub OneOutput : Type 0
 OneOutput = (side : Side) (bytes : List ℕ) (a b : Said) → SessionOut side bytes a → SessionOut side bytes b → a ≡ b
 
--- the replies are these, and perhaps more behind them
+-- the replies are these, and perhaps more after them
 abbrev pub BeginsWith : List (List ℕ) → List (List ℕ) → Type 0
 BeginsWith replies first = (more : List (List ℕ)) × (replies ≡ first ++ more)
 
@@ -25,7 +25,7 @@ CutShortIsFront =
     (start : Side) (fed text : List ℕ) (count : ℕ) (side : Side) (said : Said) → IsCutShort start fed text count side → SessionOut start fed said
     → (replies : List (List ℕ)) × (text ≡ concat replies) × (count ≡ length replies) × BeginsWith said.replies replies
 
--- an end stays: bytes behind it change nothing
+-- an end stays: bytes after it change nothing
 abbrev pub EndsStay : Type 0
 EndsStay = (side : Side) (bytes more : List ℕ) (said : Said) → SessionOut side bytes said → said.ended ≡ true → SessionOut side (bytes ++ more) said
 
@@ -33,7 +33,7 @@ EndsStay = (side : Side) (bytes more : List ℕ) (said : Said) → SessionOut si
 abbrev pub AtMostHundred : Type 0
 AtMostHundred = (side : Side) (bytes : List ℕ) (said : Said) → SessionOut side bytes said → length said.replies ≤ 100
 
--- no reply stands once more at the end
+-- no reply comes once more at the end
 abbrev pub NoneTwice : Type 0
 NoneTwice =
     (side : Side) (bytes : List ℕ) (said : Said) (reply : List ℕ) → SessionOut side bytes said

@@ -51,7 +51,7 @@ pub record IsSaidFirst (Goes : Side → List ℕ → Said → Type 0) (side : Si
   pub after_is : IsSaidAfter Goes closes next (drop count bytes) after
   pub is : said ≡ with_reply reply after
 
--- what is said by what stands at the front of the bytes
+-- what is said by what is at the front of the bytes
 abbrev pub IsSaidBy : (Side → List ℕ → Said → Type 0) → Taken → Side → List ℕ → Said → Type 0
 IsSaidBy Goes (Whole count) side bytes said = IsSaidFirst Goes side count bytes said
 IsSaidBy Goes NotYet side bytes said = said ≡ silent side false

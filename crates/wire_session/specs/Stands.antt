@@ -51,8 +51,8 @@ pub record IsOutput (start : Side) (fed text : List ℕ) (count : ℕ) (side : S
 abbrev pub IsLeftByFirst : Side → List ℕ → Side → Type 0
 IsLeftByFirst side bytes next = (count : ℕ) × Takes bytes (Whole count) × IsNextSide side (take count bytes) next
 
--- Memory ran out behind so many replies of this text: the side is the one that their requests left, or the one that the next
--- request left behind them.
+-- Memory ran out after so many replies of this text: the side is the one that their requests left, or the one that the next
+-- request left after them.
 pub record IsCutShort (start : Side) (fed text : List ℕ) (count : ℕ) (side : Side) : Type 0 where
   pub before : Side
   pub rest : List ℕ

@@ -1,4 +1,4 @@
--- How a session goes on by what stands at the front of its bytes.
+-- How a session goes on by what is at the front of its bytes.
 use Rattle.std.specs.Prelude.{◌≡◌, ℕ, ◌+◌, ◌<◌, ◌≤◌, Bool, true, ◌||◌, ◌==◌, List, ◌++◌, drop, Option, Some, None, if◌then◌else◌}
 use Rattle.publisher_spec.specs.Side.{Side}
 use Rattle.wire_session.specs.SessionOut.{IsAnswered}
@@ -8,7 +8,7 @@ use Rattle.wire_session.specs.declared.fed.Fed.TheVariants as after
 use Rattle.wire_session.specs.declared.next.Next.{Next}
 use Rattle.wire_session.specs.declared.next.Next.TheVariants.{Answered, Waits, Ends}
 
--- behind a reply the session ends where its request closes, or where it was the hundredth
+-- after a reply the session ends where its request closes, or where it was the hundredth
 abbrev pub next_after : Bool → ℕ → ℕ → Next
 next_after closes count long = if closes || (count == 100) then Ends else Answered long
 
@@ -34,13 +34,13 @@ Counts before after (Answered long) = (after ≡ before + 1) × (after < 100)
 Counts before after Waits = after ≡ before
 Counts before after Ends = Unit {0}
 
--- what is left behind the request that was answered, or it waits for more, or it has ended
+-- what is left after the request that was answered, or it waits for more, or it has ended
 abbrev pub IsLeft : Next → Side → List ℕ → List ℕ → ℕ → Side → List ℕ → ℕ → Type 0
 IsLeft (Answered long) start fed text count side bytes most = HasAnswered start fed text count side (drop long bytes)
 IsLeft Waits start fed text count side bytes most = IsWaiting start fed text count side bytes most
 IsLeft Ends start fed text count side bytes most = IsOutput start fed text count side true
 
--- it waits behind the requests that were answered, or it has ended
+-- it waits after the requests that were answered, or it has ended
 abbrev pub IsHeard : Option ℕ → Side → List ℕ → List ℕ → ℕ → Side → List ℕ → ℕ → Type 0
 IsHeard (Some used) start fed text count side bytes most = IsWaiting start fed text count side (drop used bytes) most
 IsHeard None start fed text count side bytes most = IsOutput start fed text count side true

@@ -48,7 +48,7 @@ fn answer<G: Fragmenter + Drop>(
     Ok(closes)
 }
 
-/// Answers what stands at the front of the bytes. Linear in the first 16,384 of them, and in what the publisher takes.
+/// Answers what is at the front of the bytes. Linear in the first 16,384 of them, and in what the publisher takes.
 pub fn answer_next<G: Fragmenter + Drop>(
     alloc: Global,
     room: &mut HeadRoom,

@@ -54,7 +54,7 @@ fn drop_front(bytes: &mut Vec<u8>, count: usize)
     }
 }
 
-/// Answers what a piece completes. Each byte of it is copied once, and those behind the last whole request once more.
+/// Answers what a piece completes. Each byte of it is copied once, and those after the last whole request once more.
 pub fn hear<G: Fragmenter + Drop>(
     alloc: Global,
     room: &mut HeadRoom,

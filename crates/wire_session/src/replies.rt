@@ -27,7 +27,7 @@ pub fn add_reply(replies: &mut Replies, reply: Vec<u8>) -> Result<(), NoMemory>
     Ok(())
 }
 
-/// A status and nothing else, behind which the connection ends.
+/// A status and nothing else, after which the connection ends.
 fn refusal_parts(alloc: Global, status: u16) -> ReplyParts
     ensures { result ≡ bare_parts true status }
 {
