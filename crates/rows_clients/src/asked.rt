@@ -122,8 +122,15 @@ pub static CASES: [Case; 37] = [
     ),
 ];
 
-/// The replies behind which a client is asked what it requests.
-pub static REQUESTS: [&str; 3] = ["", "gate/08:00:00", "gate/08:00:00 stops"];
+/// The replies after which a client is asked what it requests.
+pub static REQUESTS: [Case; 3] = [
+    ("A", "D", 28_800, 86_400, ""),
+    ("A", "D", 28_800, 86_400, "gate/08:00:00"),
+    ("A", "D", 28_800, 86_400, "gate/08:00:00 stops"),
+];
+
+/// The replies after which an exchange fails.
+pub static CUT_OFF: [Case; 1] = [("A", "D", 28_800, 86_400, "gate/08:00:00")];
 
 /// Replies by one word: what a publisher of the small feed replies, with its pages cut each half hour, or with a page for each
 /// connection, of which the gate names the first from its path on; and a page a second.

@@ -4,7 +4,7 @@ ghost use Rattle.page_client.specs.Client.{shown};
 ghost use Rattle.page_client.specs.Shown.{want_of};
 ghost use Rattle.page_client.specs.declared.want.Want.{Want as Wanted};
 
-use crate::asked::{CASES, Case, REQUESTS, replies_of};
+use crate::asked::{CASES, CUT_OFF, Case, REQUESTS, replies_of};
 use crate::replies::put_reply;
 use connection_uri::Base;
 use lc_model::{Id, Journey, Moment, PageName, Query};
@@ -14,6 +14,17 @@ use std::alloc::Global;
 
 /// 2024-05-01T00:00:00Z, from which the tables count their seconds.
 const MIDNIGHT: u64 = 1_714_521_600;
+
+/// What is asked of a client after its replies.
+#[derive(Clone, Copy)]
+enum Then {
+    /// How it ended.
+    Outcome,
+    /// What it requests, where the question is about what is known at 07:00.
+    Request,
+    /// How it ends by an exchange that fails.
+    LinkFault,
+}
 
 /// A line for each client.
 pub fn put_clients(alloc: Global, draft: &mut Draft) {
@@ -26,65 +37,38 @@ pub fn put_clients(alloc: Global, draft: &mut Draft) {
 
 fn put_under(alloc: Global, draft: &mut Draft, base: &Base) {
     for case in &CASES {
-        put_case(alloc, draft, base, case);
+        put_client(alloc, draft, base, case, Then::Outcome);
     }
-    for words in &REQUESTS {
-        put_asked(alloc, draft, base, words);
+    for case in &REQUESTS {
+        put_client(alloc, draft, base, case, Then::Request);
     }
-    put_cut_off(alloc, draft, base);
+    for case in &CUT_OFF {
+        put_client(alloc, draft, base, case, Then::LinkFault);
+    }
 }
 
-/// What a client of a question says behind the replies of these words, and how many it was given.
-fn put_case(alloc: Global, draft: &mut Draft, base: &Base, case: &Case) {
-    let &(from, to, leave, horizon, words) = case;
-    draft.put_all(&[from, " ", to, " "]);
-    draft.put_shown(&leave);
-    draft.put(" ");
-    draft.put_shown(&horizon);
-    draft.put_all(&[": ", words, " => "]);
-    match client(alloc, from, to, leave, horizon) {
-        Ok(mut client) => put_ended(alloc, draft, base, &mut client, replies_of(words)),
+/// The line of a client. It is owned here alone, since that is dear to prove.
+fn put_client(alloc: Global, draft: &mut Draft, base: &Base, case: &Case, then: Then) {
+    match client(alloc, case, then) {
+        Ok(mut client) => put_run(alloc, draft, base, &mut client, case, then),
         Err(Unmade) => draft.lose(),
     }
 }
 
-/// What a client of a question about what is known at 07:00 asks for behind the replies of these words.
-fn put_asked(alloc: Global, draft: &mut Draft, base: &Base, words: &str) {
-    draft.put_all(&["asked behind ", words, ": "]);
-    match known_client(alloc) {
-        Ok(mut client) => put_request(alloc, draft, base, &mut client, words),
-        Err(Unmade) => draft.lose(),
-    }
-}
-
-/// A client of which the second exchange fails: the version that it was told, and how it ended.
-fn put_cut_off(alloc: Global, draft: &mut Draft, base: &Base) {
-    draft.put("cut off: ");
-    match client(alloc, "A", "D", 28_800, 86_400) {
-        Ok(mut client) => put_cut(alloc, draft, base, &mut client),
-        Err(Unmade) => draft.lose(),
-    }
-}
-
-fn client(alloc: Global, from: &str, to: &str, leave: u32, horizon: u32) -> Result<Client, Unmade> {
-    let query = question(alloc, from, to, leave, horizon)?;
+fn client(alloc: Global, case: &Case, then: Then) -> Result<Client, Unmade> {
+    let query = question(alloc, case, known(then))?;
     Ok(Client::new(query))
 }
 
-fn known_client(alloc: Global) -> Result<Client, Unmade> {
-    let known = moment(25_200)?;
-    let mut query = question(alloc, "A", "D", 28_800, 86_400)?;
-    query.known = Some(known);
-    Ok(Client::new(query))
+fn known(then: Then) -> Option<Moment> {
+    match then {
+        Then::Request => Moment::new(MIDNIGHT + 25_200),
+        Then::Outcome | Then::LinkFault => None,
+    }
 }
 
-fn question(
-    alloc: Global,
-    from: &str,
-    to: &str,
-    leave: u32,
-    horizon: u32,
-) -> Result<Query, Unmade> {
+fn question(alloc: Global, case: &Case, known: Option<Moment>) -> Result<Query, Unmade> {
+    let &(from, to, leave, horizon, _) = case;
     let leave = moment(leave)?;
     let from = id(alloc, from)?;
     let to = id(alloc, to)?;
@@ -92,7 +76,7 @@ fn question(
         from,
         to,
         leave,
-        known: None,
+        known,
         horizon,
     })
 }
@@ -113,12 +97,38 @@ fn moment(second: u32) -> Result<Moment, Unmade>
     }
 }
 
-fn put_ended(alloc: Global, draft: &mut Draft, base: &Base, client: &mut Client, words: &str) {
-    let given = run(alloc, draft, base, client, words);
+fn put_run(
+    alloc: Global,
+    draft: &mut Draft,
+    base: &Base,
+    client: &mut Client,
+    case: &Case,
+    then: Then,
+) {
+    let given = run(alloc, draft, base, client, replies_of(case.4));
+    match then {
+        Then::Outcome => put_ended(draft, client, case, given),
+        Then::Request => put_request(alloc, draft, base, client, case.4),
+        Then::LinkFault => put_cut(draft, client),
+    }
+}
+
+/// What a client of a question says after its replies, and how many it was given.
+fn put_ended(draft: &mut Draft, client: &Client, case: &Case, given: u64) {
+    put_asked(draft, case);
     put_outcome(draft, client.outcome());
     draft.put(", ");
     draft.put_shown(&given);
     draft.put("\n");
+}
+
+fn put_asked(draft: &mut Draft, case: &Case) {
+    let &(from, to, leave, horizon, words) = case;
+    draft.put_all(&[from, " ", to, " "]);
+    draft.put_shown(&leave);
+    draft.put(" ");
+    draft.put_shown(&horizon);
+    draft.put_all(&[": ", words, " => "]);
 }
 
 /// Gives the client the replies of these words, as many as it wants, and counts them.
@@ -205,11 +215,12 @@ fn put_journey(draft: &mut Draft, journey: &Journey) {
     }
 }
 
-fn put_request(alloc: Global, draft: &mut Draft, base: &Base, client: &mut Client, words: &str) {
-    let _given = run(alloc, draft, base, client, words);
+/// What a client asks for after the replies of these words.
+fn put_request(alloc: Global, draft: &mut Draft, base: &Base, client: &Client, words: &str) {
     if client.want() == Want::Finished {
         return draft.lose();
     }
+    draft.put_all(&["asked behind ", words, ": "]);
     match client.request(alloc, base) {
         Ok(request) => put_lines(draft, request.as_slice()),
         Err(_) => draft.lose(),
@@ -232,8 +243,8 @@ fn put_sign(draft: &mut Draft, byte: u8) {
     }
 }
 
-fn put_cut(alloc: Global, draft: &mut Draft, base: &Base, client: &mut Client) {
-    let _given = run(alloc, draft, base, client, "gate/08:00:00");
+/// A client of which an exchange fails: the version that it was told, and how it ended.
+fn put_cut(draft: &mut Draft, client: &mut Client) {
     if client.want() == Want::Finished {
         return draft.lose();
     }
@@ -245,6 +256,7 @@ fn put_version(draft: &mut Draft, client: &Client) {
     let Some(version) = client.version() else {
         return draft.lose();
     };
+    draft.put("cut off: ");
     draft.put_shown(&version.seconds());
     draft.put(" ");
     put_outcome(draft, client.outcome());

@@ -38,7 +38,7 @@ const STOPS: &str = "HTTP/1.1 200 OK\r\n\r\n{\"stops\":[\
 
 const MEMENTO: &str = "HTTP/1.1 200 OK\r\nMemento-Datetime: Thu, 01 Jan 1970 00:00:00 GMT\r\n\r\n{";
 
-/// What follows the front of a reply.
+/// What comes after the front of a reply.
 #[derive(Clone, Copy)]
 enum Rest {
     Nothing,
@@ -50,7 +50,7 @@ enum Rest {
     Digits,
 }
 
-/// The kinds of replies with their fronts: of the gate, of the stops document, of pages as mementos and as none, and wrong ones.
+/// The kinds of replies with their fronts: of the time gate, of the stops document, of pages as mementos and as none, and wrong ones.
 static KINDS: [(&str, &str, Rest); 13] = [
     (
         "gate",
@@ -111,7 +111,7 @@ fn put_rest(reply: &mut Draft, rest: Rest, parts: &str) {
     }
 }
 
-/// A head of the gate that does not end has 16,375 bytes and those of `rest`.
+/// A head of the time gate that does not end has 16,375 bytes and those of `rest`.
 fn put_long(reply: &mut Draft, rest: &str) {
     reply.put_times("0123456789", 1_635);
     reply.put(rest);
@@ -122,7 +122,7 @@ fn put_place(reply: &mut Draft, time: &str) {
     reply.put(".000Z\r\nContent-Length: 0\r\n\r\n");
 }
 
-/// The name of a page behind the base, up to the seconds of its time.
+/// The name of a page under the base, up to the seconds of its time.
 fn put_name(reply: &mut Draft, time: &str) {
     reply.put("memento/connections?version=1970-01-01T00:00:00.000Z&departureTime=");
     reply.put(day(time));

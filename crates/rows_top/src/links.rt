@@ -1,77 +1,61 @@
 //! Links that give other replies than the publisher's: those of another one, and no page.
-use crate::playing::folder_of;
-use crate::running::put_over;
-use lc_model::Bytes;
-use lc_world::{ListLink, SureFolder, ToldReply};
-use rows_common::Unmade;
+use crate::running::{A_TO_D, Case, over_tiny, put_line, put_list, run_list, text_of};
+use lc_world::{ListLink, ToldReply};
+use rows_common::{Draft, Unmade};
 use std::alloc::Global;
-use tiny_feed::{CALENDAR_DATES, STOPS, TINY, files_of};
+use tiny_feed::{CALENDAR_DATES, STOPS};
 
-const A_TO_D: &str = "ask tiny A D 2024-05-01T08:00:00Z";
+static NOT_FOUND: [&str; 2] = [
+    "HTTP/1.1 404 Not Found\r\nContent-Length: 0\r\n\r\n",
+    "HTTP/1.1 404 Not Found\r\nContent-Length: 0\r\n\r\n",
+];
 
-pub fn put_links(alloc: Global, text: &mut String) -> Result<(), Unmade> {
-    put_not_found(alloc, text, A_TO_D, "", 1)?;
-    let script =
-        "ask,A,D,2024-05-01T08:00:00Z\nturn,1\nupdate,d60.pb\nask,A,D,2024-05-01T08:00:00Z\n";
-    put_not_found(alloc, text, "replay tiny 20240501 s.csv", script, 2)?;
-    put_replies_of_another_feed(alloc, text)
+const SCRIPT: &str =
+    "ask,A,D,2024-05-01T08:00:00Z\nturn,1\nupdate,d60.pb\nask,A,D,2024-05-01T08:00:00Z\n";
+
+pub fn put_links(alloc: Global, draft: &mut Draft) {
+    put_line(draft, "1 replies not found");
+    put_not_found(alloc, draft, A_TO_D, "", &NOT_FOUND[..1]);
+    put_line(draft, "2 replies not found");
+    put_not_found(
+        alloc,
+        draft,
+        "replay tiny 20240501 s.csv",
+        SCRIPT,
+        &NOT_FOUND,
+    );
+    put_replies_of_another_feed(alloc, draft);
 }
 
 /// Runs the words over a link whose first replies are 404: each client prints what such a reply says, and not what the publisher has.
-fn put_not_found(
-    alloc: Global,
-    text: &mut String,
-    words: &str,
-    script: &str,
-    times: usize,
-) -> Result<(), Unmade> {
-    writeln!(text, "{times} replies not found\n{words}\n{script}")?;
-    let mut folder = folder_of(alloc, script)?;
-    let link = not_found(alloc, times)?;
-    let _ = put_over(alloc, text, &mut folder, link, words)?;
-    Ok(())
+fn put_not_found(alloc: Global, draft: &mut Draft, words: &str, script: &str, replies: &[&str]) {
+    put_line(draft, words);
+    put_line(draft, script);
+    put_list(
+        alloc,
+        draft,
+        &over_tiny(words, &[("s.csv", script)]),
+        replies,
+    );
 }
 
-fn not_found(alloc: Global, times: usize) -> Result<ListLink, Unmade> {
-    let mut replies = Vec::new(alloc);
-    for _ in 0..times {
-        let reply = b"HTTP/1.1 404 Not Found\r\nContent-Length: 0\r\n\r\n";
-        replies.push(Bytes::from_list(Vec::from_slice(alloc, reply)?))?;
-    }
-    Ok(ListLink::new(replies)?)
-}
-
-/// The first reply that a link told.
-pub fn gate_reply(link: &ListLink) -> Result<&str, Unmade> {
-    let entry = link.told().first().ok_or("an exchange")?;
-    match &entry.reply {
-        ToldReply::Reply(reply) => Ok(std::str::from_utf8(reply.as_slice())?),
-        _ => Err(Unmade),
+/// The text of the reply of this number, from 0, that a link told, or none where it told no such reply.
+pub fn reply_at(link: &ListLink, number: usize) -> &str {
+    match link.told().get(number) {
+        Some(entry) => reply_of(&entry.reply),
+        None => "",
     }
 }
 
-/// The replies that a link told.
-pub fn replies_told(alloc: Global, link: &ListLink) -> Result<Vec<String>, Unmade> {
-    let mut replies = Vec::new(alloc);
-    for entry in link.told() {
-        if let ToldReply::Reply(reply) = &entry.reply {
-            replies.push(String::from_str(alloc, std::str::from_utf8(reply.as_slice())?)?)?;
-        }
+fn reply_of(told: &ToldReply) -> &str {
+    match told {
+        ToldReply::Reply(reply) => text_of(reply.as_slice()),
+        _ => "",
     }
-    Ok(replies)
-}
-
-/// A link that gives these replies.
-pub fn link_of(alloc: Global, replies: Vec<String>) -> Result<ListLink, Unmade> {
-    let mut list = Vec::new(alloc);
-    for reply in replies {
-        list.push(Bytes::from_list(reply.into_bytes()))?;
-    }
-    Ok(ListLink::new(list)?)
 }
 
 /// The feed without the trip T3.
-const WITHOUT_T3: [(&str, &str); 4] = [
+static WITHOUT_T3: [(&str, &str); 4] = [
     ("tiny/stops.txt", STOPS),
     (
         "tiny/trips.txt",
@@ -95,32 +79,28 @@ T5,10:10:00,10:10:00,F,2
 ];
 
 /// The replies that a publisher of the feed without T3 gave, over a feed that has it: the journey is that of the replies.
-fn put_replies_of_another_feed(alloc: Global, text: &mut String) -> Result<(), Unmade> {
-    writeln!(text, "the feed without T3\n{A_TO_D}")?;
-    let link = put_without_t3(alloc, text)?;
-    writeln!(text, "its replies over Tiny\n{A_TO_D}")?;
-    put_again(alloc, text, &link)
+fn put_replies_of_another_feed(alloc: Global, draft: &mut Draft) {
+    put_line(draft, "the feed without T3");
+    put_line(draft, A_TO_D);
+    let case = Case {
+        words: A_TO_D,
+        first: &[],
+        feed: &WITHOUT_T3,
+    };
+    match run_list(alloc, draft, &case, &[]) {
+        Ok(link) => put_again(alloc, draft, &link),
+        Err(Unmade) => draft.lose(),
+    }
 }
 
-fn put_without_t3(alloc: Global, text: &mut String) -> Result<ListLink, Unmade> {
-    let mut folder = SureFolder::new(alloc, files_of(alloc, WITHOUT_T3.as_slice())?)?;
-    let link = ListLink::new(Vec::new(alloc))?;
-    put_over(alloc, text, &mut folder, link, A_TO_D)
-}
-
-fn put_again(alloc: Global, text: &mut String, link: &ListLink) -> Result<(), Unmade> {
-    let link = link_of(alloc, replies_told(alloc, link)?)?;
-    put_over_tiny_by(alloc, text, link, A_TO_D)
-}
-
-/// Runs the words over Tiny and this link.
-pub fn put_over_tiny_by(
-    alloc: Global,
-    text: &mut String,
-    link: ListLink,
-    words: &str,
-) -> Result<(), Unmade> {
-    let mut folder = SureFolder::new(alloc, files_of(alloc, TINY.as_slice())?)?;
-    let _ = put_over(alloc, text, &mut folder, link, words)?;
-    Ok(())
+fn put_again(alloc: Global, draft: &mut Draft, link: &ListLink) {
+    put_line(draft, "its replies over Tiny");
+    put_line(draft, A_TO_D);
+    let replies = [
+        reply_at(link, 0),
+        reply_at(link, 1),
+        reply_at(link, 2),
+        reply_at(link, 3),
+    ];
+    put_list(alloc, draft, &over_tiny(A_TO_D, &[]), &replies);
 }

@@ -1,164 +1,167 @@
 //! Replies of a publisher of Tiny of which one lies, and pages without end.
-use crate::links::{link_of, put_over_tiny_by, replies_told};
-use crate::running::put_over;
-use lc_world::{ListLink, SureFolder};
-use rows_common::Unmade;
+use crate::links::reply_at;
+use crate::running::{A_TO_D, over_tiny, put_line, put_list, run_list};
+use lc_world::ListLink;
+use rows_common::{Draft, Unmade};
 use std::alloc::Global;
-use tiny_feed::{TINY, files_of};
 
-const A_TO_D: &str = "ask tiny A D 2024-05-01T08:00:00Z";
-
-pub fn put_lies(alloc: Global, text: &mut String) -> Result<(), Unmade> {
-    let honest = honest_replies(alloc)?;
-    put_lies_of(alloc, text, honest.as_slice())?;
-    put_pages_without_end(alloc, text, honest.as_slice())
+pub fn put_lies(alloc: Global, draft: &mut Draft) {
+    match honest_link(alloc) {
+        Ok(honest) => put_lies_of(alloc, draft, &honest),
+        Err(Unmade) => draft.lose(),
+    }
 }
 
-/// What a publisher of Tiny replies: at the gate for 08:00, of the stops, and of the pages of 08:00, 09:00 and 10:00.
-fn honest_replies(alloc: Global) -> Result<Vec<String>, Unmade> {
-    let link = honest_link(alloc)?;
-    replies_told(alloc, &link)
-}
-
+/// A link that told what a publisher of Tiny replies: at the gate for 08:00, of the stops, and of the pages of 08:00, 09:00 and 10:00.
 fn honest_link(alloc: Global) -> Result<ListLink, Unmade> {
-    let mut text = String::new(alloc);
-    let mut folder = SureFolder::new(alloc, files_of(alloc, TINY.as_slice())?)?;
-    let link = ListLink::new(Vec::new(alloc))?;
-    let words = "ask tiny A F 2024-05-01T08:00:00Z";
-    put_over(alloc, &mut text, &mut folder, link, words)
+    let mut unread = Draft::new(alloc);
+    let case = over_tiny("ask tiny A F 2024-05-01T08:00:00Z", &[]);
+    run_list(alloc, &mut unread, &case, &[])
 }
 
-/// Lies, each with the places of the honest replies that are given, of which the one at this place has a text in place of another.
-fn put_lies_of(alloc: Global, text: &mut String, honest: &[String]) -> Result<(), Unmade> {
-    let (from, to) = (
-        "Location: http://lc.example/",
-        "Location: http://other.example/",
-    );
-    put_lie(alloc, text, honest, &[0], (0, from, to))?;
-    put_long_head(alloc, text, honest)?;
-    let cut = "HTTP/1.1 200 OK\r\nContent-Length: 10\r\n\r\n{\"stops\":";
-    put_other(alloc, text, honest, &[0, 1], (1, cut))?;
-    let identity = "Memento-Datetime: Thu, 01 Jan 1970 00:00:00 GMT\r\n";
-    put_lie(alloc, text, honest, &[0, 1, 2], (2, identity, ""))?;
-    let (from, to) = ("T09:00:00.000Z\"", "T08:00:00.000Z\"");
-    put_lie(alloc, text, honest, &[0, 1, 2], (2, from, to))?;
-    put_swapped(alloc, text, honest)?;
-    let (from, to) = ("T08:00:00.000Z\r\n", "T09:00:00.000Z\r\n");
-    put_lie(alloc, text, honest, &[0, 1, 3], (0, from, to))
+fn put_lies_of(alloc: Global, draft: &mut Draft, honest: &ListLink) {
+    put_each(alloc, draft, honest, &FIRST);
+    put_long_head(alloc, draft, honest);
+    put_other(alloc, draft, honest, (1, 2), CUT);
+    put_each(alloc, draft, honest, &THEN);
+    put_pages_without_end(alloc, draft, honest);
+}
+
+/// A lie: the reply that lies and the reply with the page, each by its number, and a text that stands in place of another.
+struct Lie {
+    liar: usize,
+    page: usize,
+    from: &'static str,
+    to: &'static str,
+}
+
+static FIRST: [Lie; 1] = [Lie {
+    liar: 0,
+    page: 2,
+    from: "Location: http://lc.example/",
+    to: "Location: http://other.example/",
+}];
+
+const CUT: &str = "HTTP/1.1 200 OK\r\nContent-Length: 10\r\n\r\n{\"stops\":";
+
+/// The first two connections of the page of 08:00.
+const IN_ORDER: &str =
+    r#"{"@id":"http://lc.example/connections/T1/20240501/-/1","@type":"Connection","arrivalDelay":0,"arrivalStop":"http://lc.example/stops/B","arrivalTime":"2024-05-01T08:10:00.000Z","departureDelay":0,"departureStop":"http://lc.example/stops/A","departureTime":"2024-05-01T08:00:00.000Z","gtfs:dropOffType":"gtfs:Regular","gtfs:pickupType":"gtfs:Regular","gtfs:trip":"http://lc.example/trips/T1/20240501/-"},{"@id":"http://lc.example/connections/T1/20240501/-/2","@type":"Connection","arrivalDelay":0,"arrivalStop":"http://lc.example/stops/C","arrivalTime":"2024-05-01T08:30:00.000Z","departureDelay":0,"departureStop":"http://lc.example/stops/B","departureTime":"2024-05-01T08:11:00.000Z","gtfs:dropOffType":"gtfs:Regular","gtfs:pickupType":"gtfs:Regular","gtfs:trip":"http://lc.example/trips/T1/20240501/-"}"#;
+
+const SWAPPED: &str =
+    r#"{"@id":"http://lc.example/connections/T1/20240501/-/2","@type":"Connection","arrivalDelay":0,"arrivalStop":"http://lc.example/stops/C","arrivalTime":"2024-05-01T08:30:00.000Z","departureDelay":0,"departureStop":"http://lc.example/stops/B","departureTime":"2024-05-01T08:11:00.000Z","gtfs:dropOffType":"gtfs:Regular","gtfs:pickupType":"gtfs:Regular","gtfs:trip":"http://lc.example/trips/T1/20240501/-"},{"@id":"http://lc.example/connections/T1/20240501/-/1","@type":"Connection","arrivalDelay":0,"arrivalStop":"http://lc.example/stops/B","arrivalTime":"2024-05-01T08:10:00.000Z","departureDelay":0,"departureStop":"http://lc.example/stops/A","departureTime":"2024-05-01T08:00:00.000Z","gtfs:dropOffType":"gtfs:Regular","gtfs:pickupType":"gtfs:Regular","gtfs:trip":"http://lc.example/trips/T1/20240501/-"}"#;
+
+static THEN: [Lie; 4] = [
+    Lie {
+        liar: 2,
+        page: 2,
+        from: "Memento-Datetime: Thu, 01 Jan 1970 00:00:00 GMT\r\n",
+        to: "",
+    },
+    Lie {
+        liar: 2,
+        page: 2,
+        from: "T09:00:00.000Z\"",
+        to: "T08:00:00.000Z\"",
+    },
+    Lie {
+        liar: 2,
+        page: 2,
+        from: IN_ORDER,
+        to: SWAPPED,
+    },
+    Lie {
+        liar: 0,
+        page: 3,
+        from: "T08:00:00.000Z\r\n",
+        to: "T09:00:00.000Z\r\n",
+    },
+];
+
+fn put_each(alloc: Global, draft: &mut Draft, honest: &ListLink, lies: &[Lie]) {
+    for lie in lies {
+        put_lie(alloc, draft, honest, lie);
+    }
+}
+
+fn put_lie(alloc: Global, draft: &mut Draft, honest: &ListLink, lie: &Lie) {
+    match reply_at(honest, lie.liar).replace(alloc, lie.from, lie.to) {
+        Ok(other) => put_other(alloc, draft, honest, (lie.liar, lie.page), other.as_str()),
+        Err(_) => draft.lose(),
+    }
 }
 
 /// A head of more than 16,384 bytes that does not end.
-fn put_long_head(alloc: Global, text: &mut String, honest: &[String]) -> Result<(), Unmade> {
-    let mut long = "a".repeat(alloc, 16_362)?;
-    long.insert_str(0, "HTTP/1.1 302 Found\r\nX: ")?;
-    put_other(alloc, text, honest, &[0], (0, long.as_str()))
+fn put_long_head(alloc: Global, draft: &mut Draft, honest: &ListLink) {
+    let mut head = Draft::new(alloc);
+    head.put("HTTP/1.1 302 Found\r\nX: ");
+    head.put_times("a", 16_362);
+    draft.also(&head);
+    put_other(alloc, draft, honest, (0, 2), head.as_str());
 }
 
-/// The page with its first two connections swapped.
-fn put_swapped(alloc: Global, text: &mut String, honest: &[String]) -> Result<(), Unmade> {
-    let page = honest.get(2).ok_or("a page")?.as_str();
-    let (head, graph) = page.split_once("[{").ok_or("a graph")?;
-    let (first, more) = graph.split_once("},{").ok_or("a connection")?;
-    let (second, rest) = more.split_once("},{").ok_or("another one")?;
-    let swapped = format!(in alloc; "{head}[{{{second}}},{{{first}}},{{{rest}")?;
-    put_other(alloc, text, honest, &[0, 1, 2], (2, swapped.as_str()))
-}
-
-/// The replies at these places, of which the one at the place of the lie has a text in place of another.
-fn put_lie(
-    alloc: Global,
-    text: &mut String,
-    honest: &[String],
-    places: &[usize],
-    lie: (usize, &str, &str),
-) -> Result<(), Unmade> {
-    let (liar, from, to) = lie;
-    let reply = honest.get(liar).ok_or("a reply")?;
-    let other = reply.replace(alloc, from, to)?;
-    put_other(alloc, text, honest, places, (liar, other.as_str()))
-}
-
-/// The replies at these places, of which the one at the place of the lie is that text.
+/// Runs a question over the first two honest replies and one with a page, of which the liar's is another text.
 fn put_other(
     alloc: Global,
-    text: &mut String,
-    honest: &[String],
-    places: &[usize],
-    lie: (usize, &str),
-) -> Result<(), Unmade> {
-    let (liar, _) = lie;
-    writeln!(text, "a lie in reply {liar}\n{A_TO_D}")?;
-    let replies = replies_with(alloc, honest, places, lie)?;
-    put_over_tiny_by(alloc, text, link_of(alloc, replies)?, A_TO_D)
+    draft: &mut Draft,
+    honest: &ListLink,
+    numbers: (usize, usize),
+    other: &str,
+) {
+    let (liar, page) = numbers;
+    draft.put("a lie in reply ");
+    draft.put_shown(&liar);
+    draft.put("\n");
+    put_line(draft, A_TO_D);
+    let replies = [
+        said_at(honest, 0, liar, other),
+        said_at(honest, 1, liar, other),
+        said_at(honest, page, liar, other),
+    ];
+    put_list(alloc, draft, &over_tiny(A_TO_D, &[]), &replies);
 }
 
-fn replies_with(
-    alloc: Global,
-    honest: &[String],
-    places: &[usize],
-    lie: (usize, &str),
-) -> Result<Vec<String>, Unmade> {
-    let (liar, other) = lie;
-    let mut replies = Vec::new(alloc);
-    for &place in places {
-        let reply = honest.get(place).ok_or("a reply")?.as_str();
-        let said = if place == liar { other } else { reply };
-        replies.push(String::from_str(alloc, said)?)?;
+fn said_at<'a>(honest: &'a ListLink, number: usize, liar: usize, other: &'a str) -> &'a str {
+    if number == liar {
+        other
+    } else {
+        reply_at(honest, number)
     }
-    Ok(replies)
 }
 
-const PAGE: &str =
-    "http://lc.example/memento/connections?version=1970-01-01T00:00:00.000Z&departureTime=2024-05-01T08:00:0";
+const WITHIN_3: &str = "ask tiny A D 2024-05-01T08:00:00Z --horizon 3";
 
-/// Adds the reply with a page of one connection from E to F, which departs at this second behind 08:00, and is linked to that of the next
-/// second.
-fn push_page_of_a_second(text: &mut String, second: u8, next: u8) -> Result<(), Unmade> {
-    text.push_str("HTTP/1.1 200 OK\r\nMemento-Datetime: Thu, 01 Jan 1970 00:00:00 GMT\r\n\r\n")?;
-    write!(
-        text,
-        "{{\"@id\":\"{PAGE}{second}.000Z\",\"hydra:next\":\"{PAGE}{next}.000Z\","
-    )?;
-    write!(
-        text,
-        "\"@graph\":[{{\"@id\":\"http://lc.example/connections/X/20240501/-/{next}\","
-    )?;
-    write!(
-        text,
-        "\"departureStop\":\"http://lc.example/stops/E\",\"departureTime\":\"2024-05-01T08:00:0{second}.000Z\","
-    )?;
-    write!(
-        text,
-        "\"arrivalStop\":\"http://lc.example/stops/F\",\"arrivalTime\":\"2024-05-01T08:10:0{second}.000Z\"}}]}}"
-    )?;
-    Ok(())
-}
-
-fn page_of_a_second(alloc: Global, second: u8) -> Result<String, Unmade> {
-    let mut reply = String::new(alloc);
-    push_page_of_a_second(&mut reply, second, second.saturating_add(1))?;
-    Ok(reply)
+/// A reply with a page of one connection from E to F, which departs at a second behind 08:00, and is linked to the page of the next second.
+macro_rules! page_of_a_second {
+    ($second:literal, $next:literal) => {
+        concat!(
+            "HTTP/1.1 200 OK\r\nMemento-Datetime: Thu, 01 Jan 1970 00:00:00 GMT\r\n\r\n{\"@id\":\"http://lc.example/memento/connections?version=1970-01-01T00:00:00.000Z&departureTime=2024-05-01T08:00:0",
+            $second,
+            ".000Z\",\"hydra:next\":\"http://lc.example/memento/connections?version=1970-01-01T00:00:00.000Z&departureTime=2024-05-01T08:00:0",
+            $next,
+            ".000Z\",\"@graph\":[{\"@id\":\"http://lc.example/connections/X/20240501/-/",
+            $next,
+            "\",\"departureStop\":\"http://lc.example/stops/E\",\"departureTime\":\"2024-05-01T08:00:0",
+            $second,
+            ".000Z\",\"arrivalStop\":\"http://lc.example/stops/F\",\"arrivalTime\":\"2024-05-01T08:10:0",
+            $second,
+            ".000Z\"}]}"
+        )
+    };
 }
 
 /// Pages that go on for ever: the client asks for none that begins behind the horizon.
-fn put_pages_without_end(
-    alloc: Global,
-    text: &mut String,
-    honest: &[String],
-) -> Result<(), Unmade> {
-    let words = "ask tiny A D 2024-05-01T08:00:00Z --horizon 3";
-    writeln!(text, "pages without end\n{words}")?;
-    let replies = endless(alloc, honest)?;
-    put_over_tiny_by(alloc, text, link_of(alloc, replies)?, words)
-}
-
-fn endless(alloc: Global, honest: &[String]) -> Result<Vec<String>, Unmade> {
-    let mut replies = Vec::new(alloc);
-    for reply in honest.iter().take(2) {
-        replies.push(String::from_str(alloc, reply.as_str())?)?;
-    }
-    for second in 0..5 {
-        replies.push(page_of_a_second(alloc, second)?)?;
-    }
-    Ok(replies)
+fn put_pages_without_end(alloc: Global, draft: &mut Draft, honest: &ListLink) {
+    put_line(draft, "pages without end");
+    put_line(draft, WITHIN_3);
+    let replies = [
+        reply_at(honest, 0),
+        reply_at(honest, 1),
+        page_of_a_second!("0", "1"),
+        page_of_a_second!("1", "2"),
+        page_of_a_second!("2", "3"),
+        page_of_a_second!("3", "4"),
+        page_of_a_second!("4", "5"),
+    ];
+    put_list(alloc, draft, &over_tiny(WITHIN_3, &[]), &replies);
 }

@@ -3,6 +3,7 @@
 #![tactic(auto)]
 
 mod feeds;
+mod folders;
 mod links;
 mod lying;
 mod messages;
@@ -10,21 +11,22 @@ mod playing;
 mod running;
 mod words;
 
-use rows_common::{Unmade, exit_code};
+use rows_common::{Draft, exit_code};
 use std::alloc::Global;
 use std::process::ExitCode;
 
 fn main(rt: HostRuntime) -> ExitCode {
-    let mut text = String::new(rt.alloc());
-    let made = put_cases(rt.alloc(), &mut text);
-    exit_code(made, print!(rt; "{text}"))
+    let mut draft = Draft::new(rt.alloc());
+    put_cases(rt.alloc(), &mut draft);
+    let printed = print!(rt; "{}", draft.as_str());
+    exit_code(draft.made(), printed)
 }
 
-fn put_cases(alloc: Global, text: &mut String) -> Result<(), Unmade> {
-    words::put_words(alloc, text)?;
-    playing::put_messages(alloc, text)?;
-    playing::put_failures(alloc, text)?;
-    feeds::put_feeds(alloc, text)?;
-    links::put_links(alloc, text)?;
-    lying::put_lies(alloc, text)
+fn put_cases(alloc: Global, draft: &mut Draft) {
+    playing::put_each(alloc, draft, words::WORDS, "\n");
+    playing::put_each(alloc, draft, messages::CASES, "\n\n");
+    playing::put_failures(alloc, draft);
+    feeds::put_feeds(alloc, draft);
+    links::put_links(alloc, draft);
+    lying::put_lies(alloc, draft);
 }

@@ -1,86 +1,209 @@
 //! How a case is run, and what is printed of it.
-use lc_cli::{code, run};
-use lc_edge::ClosedLink;
-use lc_model::{Bytes, Text};
-use lc_world::{File, Folder, Link, SureDoor, SureFolder, SureSink};
-use rows_common::Unmade;
+use crate::folders::folder_of;
+use lc_cli::{Status, code, run};
+use lc_edge::{ClosedLink, FaultyLink};
+use lc_model::Bytes;
+use lc_world::{Link, ListLink, MemFolder, MemSink, SureDoor};
+use rows_common::{Draft, Unmade};
 use std::alloc::Global;
-use tiny_feed::{TINY, file_of, files_of};
+use tiny_feed::TINY;
 
-/// Runs the words over a folder, where each reply comes as the publisher gave it.
-pub fn put_run<F: Folder>(
+pub const A_TO_D: &str = "ask tiny A D 2024-05-01T08:00:00Z";
+
+/// Words, and the texts of the files over which they run.
+#[derive(Clone, Copy)]
+pub struct Case<'a> {
+    pub words: &'a str,
+    /// Files that stand in place of those of the feed, or beside them.
+    pub first: &'a [(&'a str, &'a str)],
+    pub feed: &'a [(&'a str, &'a str)],
+}
+
+/// The words over the feed Tiny and these files.
+pub fn over_tiny<'a>(words: &'a str, first: &'a [(&'a str, &'a str)]) -> Case<'a> {
+    Case {
+        words,
+        first,
+        feed: &TINY,
+    }
+}
+
+/// The numbers of the read, of the exchange and of the write that fail. They are counted from 1, so that at 0 none fails.
+#[derive(Clone, Copy)]
+pub struct Fails {
+    pub read: u64,
+    pub exchange: u64,
+    pub write: u64,
+}
+
+const NONE: Fails = Fails {
+    read: 0,
+    exchange: 0,
+    write: 0,
+};
+
+/// What a command runs over, beside its link.
+#[derive(Drop)]
+struct Stage {
+    words: Vec<String>,
+    folder: MemFolder,
+    door: SureDoor,
+    out: MemSink,
+}
+
+/// Runs a case where each reply comes as the publisher gave it.
+pub fn put_run(alloc: Global, draft: &mut Draft, case: &Case<'_>) {
+    put_failing(alloc, draft, case, NONE);
+}
+
+/// Runs a case where calls fail.
+pub fn put_failing(alloc: Global, draft: &mut Draft, case: &Case<'_>, fails: Fails) {
+    match stage_of(alloc, case, fails) {
+        Ok(mut stage) => put_faulty(alloc, draft, &mut stage, fails.exchange),
+        Err(Unmade) => draft.lose(),
+    }
+}
+
+fn put_faulty(alloc: Global, draft: &mut Draft, stage: &mut Stage, fails: u64) {
+    match Vec::from_array(alloc, [fails]) {
+        Ok(fails) => {
+            let _ = put_over(
+                alloc,
+                draft,
+                stage,
+                FaultyLink::new(ClosedLink::new(), fails),
+            );
+        }
+        Err(_) => draft.lose(),
+    }
+}
+
+/// Runs a case over a link that gives these replies.
+pub fn put_list(alloc: Global, draft: &mut Draft, case: &Case<'_>, replies: &[&str]) {
+    match run_list(alloc, draft, case, replies) {
+        Ok(_) => {}
+        Err(Unmade) => draft.lose(),
+    }
+}
+
+/// Runs a case over a link that gives these replies, and gives that link back.
+pub fn run_list(
     alloc: Global,
-    text: &mut String,
-    folder: &mut F,
-    words: &str,
-) -> Result<(), Unmade> {
-    let ClosedLink = put_over(alloc, text, folder, ClosedLink::new(), words)?;
-    Ok(())
+    draft: &mut Draft,
+    case: &Case<'_>,
+    replies: &[&str],
+) -> Result<ListLink, Unmade> {
+    let mut stage = stage_of(alloc, case, NONE)?;
+    run_stage(alloc, draft, &mut stage, replies)
 }
 
-/// Runs the words over a folder and a link, which is given back, and adds the status and the output.
-pub fn put_over<F: Folder, L: Link + Drop>(
+fn run_stage(
     alloc: Global,
-    text: &mut String,
-    folder: &mut F,
-    link: L,
-    words: &str,
-) -> Result<L, Unmade> {
-    let mut out = SureSink::new(alloc)?;
-    let (status, link) = run_words(alloc, folder, link, words, &mut out)?;
-    put_end(text, status, out.written())?;
-    Ok(link)
+    draft: &mut Draft,
+    stage: &mut Stage,
+    replies: &[&str],
+) -> Result<ListLink, Unmade> {
+    let link = link_of(alloc, replies)?;
+    Ok(put_over(alloc, draft, stage, link))
 }
 
-fn run_words<F: Folder, L: Link + Drop>(
-    alloc: Global,
-    folder: &mut F,
-    link: L,
-    words: &str,
-    out: &mut SureSink,
-) -> Result<(u8, L), Unmade> {
-    let words = words_of(alloc, words)?;
-    let mut door = SureDoor::new(alloc, Vec::new(alloc))?;
-    let (status, link) = run(alloc, words.as_slice(), folder, link, &mut door, out);
-    Ok((code(&status), link))
+fn link_of(alloc: Global, replies: &[&str]) -> Result<ListLink, Unmade> {
+    Ok(ListLink::new(list_of(alloc, replies)?)?)
 }
 
-/// Adds a status and an output, and a line that is empty.
-pub fn put_end(text: &mut String, status: u8, output: &[u8]) -> Result<(), Unmade> {
-    let output = std::str::from_utf8(output)?;
-    writeln!(text, "=> {status}\n{output}")?;
-    Ok(())
-}
-
-pub fn words_of(alloc: Global, words: &str) -> Result<Vec<String>, Unmade> {
+fn list_of(alloc: Global, replies: &[&str]) -> Result<Vec<Bytes>, Unmade> {
     let mut list = Vec::new(alloc);
-    for word in words.split(' ') {
-        list.push(String::from_str(alloc, word)?)?;
+    for reply in replies {
+        push_reply(alloc, &mut list, *reply)?;
     }
     Ok(list)
 }
 
-/// Adds the words of a case, and runs them over the feed Tiny.
-pub fn put_over_tiny(alloc: Global, text: &mut String, words: &str) -> Result<(), Unmade> {
-    writeln!(text, "{words}")?;
-    let mut folder = SureFolder::new(alloc, files_of(alloc, TINY.as_slice())?)?;
-    put_run(alloc, text, &mut folder, words)
-}
-
-/// A file of these bytes.
-pub fn bytes_file(alloc: Global, name: &str, bytes: &[u8]) -> Result<File, Unmade> {
-    let bytes = Bytes::from_list(bytes.to_vec(alloc)?);
-    let name = Text::from_string(String::from_str(alloc, name)?);
-    Ok(File { name, bytes })
-}
-
-/// Puts a text file before the others, so that it stands in place of one that has its name.
-pub fn put_before(
-    alloc: Global,
-    files: &mut Vec<File>,
-    name: &str,
-    text: &str,
-) -> Result<(), Unmade> {
-    files.insert(0, file_of(alloc, name, text)?)?;
+fn push_reply(alloc: Global, list: &mut Vec<Bytes>, reply: &str) -> Result<(), Unmade> {
+    list.push(Bytes::from_list(reply.as_bytes().to_vec(alloc)?))?;
     Ok(())
+}
+
+fn stage_of(alloc: Global, case: &Case<'_>, fails: Fails) -> Result<Stage, Unmade> {
+    let folder = folder_of(alloc, case, fails.read)?;
+    let words = words_of(alloc, case.words)?;
+    stage_with(alloc, folder, words, fails.write)
+}
+
+fn stage_with(
+    alloc: Global,
+    folder: MemFolder,
+    words: Vec<String>,
+    fails: u64,
+) -> Result<Stage, Unmade> {
+    let door = SureDoor::new(alloc, Vec::new(alloc))?;
+    let out = sink_of(alloc, fails)?;
+    Ok(Stage {
+        words,
+        folder,
+        door,
+        out,
+    })
+}
+
+fn sink_of(alloc: Global, fails: u64) -> Result<MemSink, Unmade> {
+    let fails = Vec::from_array(alloc, [fails])?;
+    Ok(MemSink::new(alloc, fails)?)
+}
+
+fn words_of(alloc: Global, words: &str) -> Result<Vec<String>, Unmade> {
+    let mut list = Vec::new(alloc);
+    for word in words.split(' ') {
+        push_word(alloc, &mut list, word)?;
+    }
+    Ok(list)
+}
+
+fn push_word(alloc: Global, list: &mut Vec<String>, word: &str) -> Result<(), Unmade> {
+    list.push(String::from_str(alloc, word)?)?;
+    Ok(())
+}
+
+/// Runs the words of the stage over a link, which is given back.
+fn put_over<L: Link>(alloc: Global, draft: &mut Draft, stage: &mut Stage, link: L) -> L {
+    let (status, link) = run(
+        alloc,
+        stage.words.as_slice(),
+        &mut stage.folder,
+        link,
+        &mut stage.door,
+        &mut stage.out,
+    );
+    put_end(draft, &status, stage.out.written());
+    link
+}
+
+/// Adds the status and the output, and a line that is empty.
+fn put_end(draft: &mut Draft, status: &Status, output: &[u8]) {
+    if let Status::SinkFault { before, after } = status {
+        put_counts(draft, *before, *after);
+    }
+    draft.put("=> ");
+    draft.put_shown(&code(status));
+    draft.put("\n");
+    draft.put(text_of(output));
+    draft.put("\n");
+}
+
+fn put_counts(draft: &mut Draft, before: u64, after: u64) {
+    draft.put("sink fault ");
+    draft.put_shown(&before);
+    draft.put(" ");
+    draft.put_shown(&after);
+    draft.put("\n");
+}
+
+/// The text of these bytes, or none where they are no text.
+pub fn text_of(bytes: &[u8]) -> &str {
+    std::str::from_utf8(bytes).unwrap_or("")
+}
+
+pub fn put_line(draft: &mut Draft, line: &str) {
+    draft.put(line);
+    draft.put("\n");
 }

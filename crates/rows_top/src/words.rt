@@ -1,12 +1,9 @@
-//! What words come to over the feed Tiny: by hand from its ten minutes at B and its two minutes of change. A page has half an hour of
-//! departures: those of 08:00, 09:00 and 10:00.
-use crate::running::put_over_tiny;
-use rows_common::Unmade;
-use std::alloc::Global;
+//! Words that are run over the feed Tiny.
 
-/// A line for each case. The last three tell how many exchanges a question takes: with a page for each departure, with one page, and
-/// with half an hour in each.
-const WORDS: &str = "ask tiny A D 2024-05-01T08:00:00Z
+/// A line for each case: by hand from the ten minutes of Tiny at B and its two minutes of change. A page has half an hour of departures:
+/// those of 08:00, 09:00 and 10:00. The last three lines tell how many exchanges a question takes: with a page for each departure, with
+/// one page, and with half an hour in each.
+pub const WORDS: &str = "ask tiny A D 2024-05-01T08:00:00Z
 ask --days=3 tiny -- A D 2024-05-01T08:00:00Z
 ask tiny A D 2024-05-01T08:00:01Z
 ask tiny A D 2024-05-01T08:00:00Z --days 1
@@ -34,10 +31,3 @@ check tiny 20240230
 ask tiny A D 2024-05-01T08:00:00Z --cuts count:1
 ask tiny A D 2024-05-01T08:00:00Z --cuts whole
 ask tiny A D 2024-05-01T08:00:00Z --cuts span:1800";
-
-pub fn put_words(alloc: Global, text: &mut String) -> Result<(), Unmade> {
-    for words in WORDS.split('\n') {
-        put_over_tiny(alloc, text, words)?;
-    }
-    Ok(())
-}
