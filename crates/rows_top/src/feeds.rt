@@ -74,8 +74,8 @@ const B_TO_E: &str = "from_stop_id,to_stop_id,transfer_type,min_transfer_time\nB
 
 const FIRST_DAY: &str = "check tiny 20240501";
 
-/// The name of a file and its path, its other text and the words: no stops, no rows of trips, a ride over two calls at one moment, a row of
-/// no trip, changes at a stop and between stops, and a station.
+/// The name of a file, its path, its other text and the words. The files have no stops, no rows of trips, a ride over two calls at one
+/// moment, and a row of no trip; and then changes at a stop and between stops, and a station.
 static OTHERS: [(&str, &str, &str, &str); 9] = [
     (
         "stops.txt",
@@ -168,8 +168,8 @@ T5,10:10:00,10:10:00,F,2
 T5,,,,3
 ";
 
-/// No service, a service by weekdays with a date that is taken away and without, a trip that is left out for a row that has no stop, and
-/// the trip T5 each second on 62 days, with the five connections of the others each day: 62 times 86,405.
+/// A feed without a service, and services by weekdays with a date that is taken away and without. A trip with a row that has no stop is left
+/// out. The trip T5 each second on 62 days, with the five connections of the others each day, makes 62 times 86,405.
 static OTHER_FEEDS: [Other; 5] = [
     Other {
         name: "no calendar",

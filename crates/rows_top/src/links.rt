@@ -39,7 +39,7 @@ fn put_not_found(alloc: Global, draft: &mut Draft, words: &str, script: &str, re
     );
 }
 
-/// The text of the reply of this number, from 0, that a link told, or none where it told no such reply.
+/// The text of the reply of this number, from 0, that a link recorded, or none where it recorded no such reply.
 pub fn reply_at(link: &ListLink, number: usize) -> &str {
     match link.told().get(number) {
         Some(entry) => reply_of(&entry.reply),

@@ -12,7 +12,7 @@ pub fn put_lies(alloc: Global, draft: &mut Draft) {
     }
 }
 
-/// A link that told what a publisher of Tiny replies: at the gate for 08:00, of the stops, and of the pages of 08:00, 09:00 and 10:00.
+/// A link that recorded what a publisher of Tiny replies: at the time gate for 08:00, of the stops, and of the three pages.
 fn honest_link(alloc: Global) -> Result<ListLink, Unmade> {
     let mut unread = Draft::new(alloc);
     let case = over_tiny("ask tiny A F 2024-05-01T08:00:00Z", &[]);
@@ -131,7 +131,7 @@ fn said_at<'a>(honest: &'a ListLink, number: usize, liar: usize, other: &'a str)
 
 const WITHIN_3: &str = "ask tiny A D 2024-05-01T08:00:00Z --horizon 3";
 
-/// A reply with a page of one connection from E to F, which departs at a second behind 08:00, and is linked to the page of the next second.
+/// A reply with a page of one connection from E to F, which departs at a second after 08:00. It is linked to the page of the next second.
 macro_rules! page_of_a_second {
     ($second:literal, $next:literal) => {
         concat!(
@@ -150,7 +150,7 @@ macro_rules! page_of_a_second {
     };
 }
 
-/// Pages that go on for ever: the client asks for none that begins behind the horizon.
+/// Pages that go on for ever: the client asks for none that begins after the horizon.
 fn put_pages_without_end(alloc: Global, draft: &mut Draft, honest: &ListLink) {
     put_line(draft, "pages without end");
     put_line(draft, WITHIN_3);
