@@ -84,6 +84,7 @@ impl MemWires {
     pub(crate) fn read(&mut self, piece: &mut [u8]) -> usize
         ensures others { self.new ≡ record self.old { current = self.new.current } }
         ensures nobody { self.old.current ≡ None → result ≡ 0 }
+        ensures untouched { self.old.current ≡ None → piece.new ≡ piece.old }
         ensures current { GoesOn (λ before after. ReadsPiece before after piece.old piece.new result) self.old.current self.new.current }
     {
         match &mut self.current {

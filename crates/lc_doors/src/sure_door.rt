@@ -93,6 +93,7 @@ impl Door for SureDoor {
         ensures current { IfOk result (λ n. GoesOn (λ before after. ReadsPiece before after piece.old piece.new n) self.old.current self.new.current) }
         ensures unchanged { self.new ≡ record self.old { current = self.new.current } }
         ensures at_most { IfOk result (λ n. n ≤ length piece.old) }
+        ensures untouched { self.old.current ≡ None → piece.new ≡ piece.old }
         ensures nobody { is_some self.old.current ≡ false → result ≡ Ok 0 }
         ensures told { OnCurrent (Reads piece.new result) (told_of self.old) (told_of self.new) }
         ensures broken { HasCause 0 0 (IsErrOf result Failed) }
