@@ -1,4 +1,4 @@
-ghost use Rattle.std.specs.Prelude.{◌≡◌, ◌<◌, ◌≤◌, [], false, IfErr, IfOk, IsErrOf, IsOkAnd, IsTrue, OnErr, OnOk};
+ghost use Rattle.std.specs.Prelude.{◌≡◌, ◌<◌, ◌≤◌, [], false, length, IfErr, IfOk, IsErrOf, IsOkAnd, IsTrue, OnErr, OnOk};
 ghost use Rattle.lc_io.specs.Counts.{HasCause};
 ghost use Rattle.lc_doors.specs.Serving.{Halts, IsServed, NothingToCome, Serves, Talks};
 ghost use Rattle.lc_doors.specs.declared.door.DoorFail.TheVariants.{Failed};
@@ -17,7 +17,7 @@ pub struct Served {
 }
 
 /// The bytes that are read at once, at most.
-const PIECE: usize = 4096;
+const PIECE: usize = 65_536;
 
 /// Sends all that is pending.
 fn send_all<T: Talk, D: Door>(talk: &mut T, door: &mut D) -> Result<(), DoorFail>
@@ -35,17 +35,22 @@ fn send_all<T: Talk, D: Door>(talk: &mut T, door: &mut D) -> Result<(), DoorFail
     Ok(())
 }
 
-/// Reads once and feeds what came to the talk. At the end of the input it says that no more comes.
-fn hear<T: Talk, D: Door>(alloc: Global, talk: &mut T, door: &mut D) -> Result<bool, DoorFail>
-    requires { (T.seen talk.old).pending ≡ [] }
+/// Reads once, into the room of the piece, and feeds what came to the talk. At the end of the input it says that no more comes.
+fn hear<T: Talk, D: Door>(
+    alloc: Global,
+    talk: &mut T,
+    door: &mut D,
+    piece: &mut [u8],
+) -> Result<bool, DoorFail>
+    requires none_pending { (T.seen talk.old).pending ≡ [] }
+    requires room { 0 < length piece.old }
     ensures talks { Talks T.stands T.says result talk.old talk.new (D.seen door.old).told (D.seen door.new).told }
     ensures fed { IfOk result (λ more. IsTrue more → (T.seen talk.new).ended ≡ false → (T.seen talk.old).count < (T.seen talk.new).count) }
     ensures ended { IfOk result (λ more. ¬ IsTrue more → NothingToCome (D.seen door.new).told × (T.seen talk.new ≡ T.seen talk.old)) }
     ensures broken { HasCause (D.seen door.old).broken (D.seen door.new).broken (IsErrOf result Failed) }
     ensures others { D.seen door.new ≡ record (D.seen door.old) { told = (D.seen door.new).told; broken = (D.seen door.new).broken } }
 {
-    let mut piece = [0; PIECE];
-    let count = door.read(&mut piece)?;
+    let count = door.read(piece)?;
     if count == 0 {
         return Ok(false);
     }
@@ -53,9 +58,15 @@ fn hear<T: Talk, D: Door>(alloc: Global, talk: &mut T, door: &mut D) -> Result<b
     Ok(true)
 }
 
-/// Sends and reads in turn, until the input or the talk has ended and all is sent.
-fn converse<T: Talk, D: Door>(alloc: Global, talk: &mut T, door: &mut D) -> Result<(), DoorFail>
-    requires { IsTrue (D.seen door.old).connected }
+/// Sends and reads in turn, until the input or the talk has ended and all is sent. What is read goes through the room of the piece.
+fn converse<T: Talk, D: Door>(
+    alloc: Global,
+    talk: &mut T,
+    door: &mut D,
+    piece: &mut [u8],
+) -> Result<(), DoorFail>
+    requires connected { IsTrue (D.seen door.old).connected }
+    requires room { 0 < length piece.old }
     ensures talks { Talks T.stands T.says result talk.old talk.new (D.seen door.old).told (D.seen door.new).told }
     ensures served { OnOk result (IsServed (T.seen talk.new) (D.seen door.new).told) }
     ensures broken { HasCause (D.seen door.old).broken (D.seen door.new).broken (IsErrOf result Failed) }
@@ -66,14 +77,32 @@ fn converse<T: Talk, D: Door>(alloc: Global, talk: &mut T, door: &mut D) -> Resu
         if talk.ended() {
             return Ok(());
         }
-        if !hear(alloc, talk, door)? {
+        if !hear(alloc, talk, door, piece)? {
             return Ok(());
         }
     }
 }
 
+/// Makes the room for what is read, and sends and reads in turn.
+fn converse_in_pieces<T: Talk, D: Door>(
+    alloc: Global,
+    talk: &mut T,
+    door: &mut D,
+) -> Result<(), DoorFail>
+    requires { IsTrue (D.seen door.old).connected }
+    ensures talks { Talks T.stands T.says result talk.old talk.new (D.seen door.old).told (D.seen door.new).told }
+    ensures served { OnOk result (IsServed (T.seen talk.new) (D.seen door.new).told) }
+    ensures broken { HasCause (D.seen door.old).broken (D.seen door.new).broken (IsErrOf result Failed) }
+    ensures others { D.seen door.new ≡ record (D.seen door.old) { told = (D.seen door.new).told; broken = (D.seen door.new).broken } }
+{
+    let Ok(mut piece) = vec![in alloc; 0u8; PIECE] else {
+        return Err(DoorFail::NoMemory);
+    };
+    converse(alloc, talk, door, &mut piece)
+}
+
 /// Serves the current connection: what is read from it is fed to the talk, and what the talk says is sent. All that is pending is sent before
-/// anything more is read. It ends with the input, with the talk once all is sent, or where a read or a write fails.
+/// anything more is read, in pieces of 64 KiB. It ends with the input, with the talk once all is sent, or where a read or a write fails.
 pub fn serve_one<T: Talk, D: Door>(
     alloc: Global,
     talk: &mut T,
@@ -93,7 +122,7 @@ pub fn serve_one<T: Talk, D: Door>(
     // The door listens as before, and the connection is not hung up.
     ensures others { D.seen door.new ≡ record (D.seen door.old) { told = (D.seen door.new).told; broken = (D.seen door.new).broken } }
 {
-    let fault = match converse(alloc, talk, door) {
+    let fault = match converse_in_pieces(alloc, talk, door) {
         Ok(()) => false,
         Err(DoorFail::Failed) => true,
         Err(DoorFail::NoMemory) => return Err(NoMemory),
