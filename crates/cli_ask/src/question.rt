@@ -12,7 +12,7 @@ use crate::publishing::{copy_of, publisher_of};
 use cli_words::Publishing;
 use connection_uri::Base;
 use fragmenter::Cutting;
-use lc_edge::{HomeLink, LocalLink};
+use lc_links::{HomeLink, LocalLink};
 use lc_model::{NoMemory, Query};
 use lc_world::{File, Link};
 use publisher::Publisher;

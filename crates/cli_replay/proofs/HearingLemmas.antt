@@ -3,7 +3,7 @@ use Rattle.std.proofs.Common.{◌≡◌, ℕ, List, Some, ap, refl, subst, sym}
 use Rattle.cli_ask.specs.Admission.{IsBehind}
 use Rattle.fragmenter.specs.Cutting.{chosen_cuts}
 use Rattle.fragmenter.specs.declared.cutting.Cutting.{Cutting}
-use Rattle.lc_edge.specs.HomeLink.{HomeLinkState}
+use Rattle.lc_links.specs.HomeLink.{HomeLinkState}
 use Rattle.lc_io.specs.declared.file.File.{File}
 use Rattle.lc_world.specs.Link.{LinkSeen}
 use Rattle.publisher.specs.Held.{Held, side_of}

@@ -11,7 +11,7 @@ use connection_uri::Base;
 use convoy::Convoy;
 use fragmenter::Cutting;
 use laws_replay::{Event, courses_are_caused};
-use lc_edge::HomeLink;
+use lc_links::HomeLink;
 use lc_model::NoMemory;
 use lc_world::Link;
 use std::alloc::Global;

@@ -8,7 +8,7 @@ use crate::hearing::hear;
 use convoy::Convoy;
 use fragmenter::Cutting;
 use laws_replay::Event;
-use lc_edge::HomeLink;
+use lc_links::HomeLink;
 use lc_model::NoMemory;
 use lc_world::Link;
 use std::alloc::Global;

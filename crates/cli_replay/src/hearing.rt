@@ -9,7 +9,7 @@ ghost use Rattle.cli_replay.specs.Home.{home_seen};
 use cli_ask::{MessageFault, give};
 use fragmenter::Cutting;
 use laws_replay::Message;
-use lc_edge::HomeLink;
+use lc_links::HomeLink;
 use lc_model::NoMemory;
 use lc_world::Link;
 use publisher::Publisher;

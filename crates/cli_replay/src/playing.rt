@@ -10,7 +10,7 @@ use cli_words::Publishing;
 use connection_uri::Base;
 use fragmenter::Cutting;
 use laws_replay::{Event, courses_are_caused, courses_are_right};
-use lc_edge::{HomeLink, LocalLink};
+use lc_links::{HomeLink, LocalLink};
 use lc_model::NoMemory;
 use lc_world::Link;
 use std::alloc::Global;

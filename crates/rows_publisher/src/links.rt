@@ -1,7 +1,7 @@
 //! What links answer: to a publisher of the program, over failures, at home, and to nobody.
 use crate::making::{AT_FIRST, bytes, publisher};
 use fragmenter::Cutting;
-use lc_edge::{ClosedLink, FaultyLink, HomeLink, LocalLink};
+use lc_links::{ClosedLink, FaultyLink, HomeLink, LocalLink};
 use lc_world::{Link, LinkFail, ListLink, ToldReply};
 use rows_common::{Draft, Unmade};
 use std::alloc::Global;

@@ -1,7 +1,7 @@
 //! How a case is run, and what is printed of it.
 use crate::folders::folder_of;
 use lc_cli::{Status, code, run};
-use lc_edge::{ClosedLink, FaultyLink};
+use lc_links::{ClosedLink, FaultyLink};
 use lc_model::Bytes;
 use lc_world::{Link, ListLink, MemFolder, MemSink, SureDoor};
 use rows_common::{Draft, Unmade};

@@ -2,7 +2,7 @@ use Rattle.std.proofs.Common.{◌∙◌, ap, subst}
 use Rattle.std.proofs.lemmas.Result.{IfOk-weaker}
 use Rattle.connection_uri.specs.Base.{BaseParts}
 use Rattle.fragmenter.specs.declared.cutting.Cutting.{Cutting}
-use Rattle.lc_edge.specs.HomeLink.{HomeLinkState}
+use Rattle.lc_links.specs.HomeLink.{HomeLinkState}
 use Rattle.cli_replay.specs.Course.{IsPlayed}
 use Rattle.cli_replay.specs.Home.{home_seen}
 use Rattle.cli_replay.proofs.ReplayedLemmas.{replayed_over}

@@ -8,7 +8,7 @@ use Rattle.publisher_spec.specs.Reply.{IsNextSide, IsReply}
 use Rattle.publisher_spec.specs.Short.{StandsUnder}
 use Rattle.publisher_spec.specs.Side.{Side}
 use Rattle.publisher_spec.proofs.LaterLemmas.{later_itself}
-use Rattle.lc_edge.proofs.GetLemmas.{get_leaves}
+use Rattle.lc_links.proofs.GetLemmas.{get_leaves}
 
 -- a link of which nothing has to be said but its side
 abbrev pub Stays : {T : Type 0} → BaseParts → Side → Side → List ℕ → List ℕ → Result T LinkFail → Type 0

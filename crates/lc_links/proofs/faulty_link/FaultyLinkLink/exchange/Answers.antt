@@ -1,8 +1,8 @@
 -- A link with failures is as honest as the one below.
 use Rattle.std.proofs.Common.{IsTrue, rules}
 use Rattle.lc_world.specs.declared.link.LinkFail.TheVariants.{Failed, NoMemory}
-use Rattle.lc_edge.proofs.HonestLemmas.{not_reached, without_reply}
-use Rattle.lc_edge.proofs.faulty_link.FaultyLinkLink.exchange.Goals as goal
+use Rattle.lc_links.proofs.HonestLemmas.{not_reached, without_reply}
+use Rattle.lc_links.proofs.faulty_link.FaultyLinkLink.exchange.Goals as goal
 
 pub returns-then-fails_now-clause-honest : goal.returns-then-fails_now-clause-honest
 returns-then-fails_now-clause-honest g c = rw (← c.self.view_is) (λ base side get honest. not_reached base side _ _ _ _ _ Failed honest)

@@ -1,5 +1,5 @@
-use Rattle.lc_edge.proofs.TakingLemmas.{all_is_whole, whole_is_all}
-use Rattle.lc_edge.proofs.taking.is_whole.Goals as goal
+use Rattle.lc_links.proofs.TakingLemmas.{all_is_whole, whole_is_all}
+use Rattle.lc_links.proofs.taking.is_whole.Goals as goal
 
 pub returns : goal.returns
 returns c =

@@ -2,9 +2,9 @@
 use Rattle.std.proofs.Common.{ap, Ok, Err}
 use Rattle.lc_world.specs.declared.link.LinkFail.TheVariants.{NoMemory}
 use Rattle.publisher.specs.Held.{side_of}
-use Rattle.lc_edge.proofs.GetLemmas.{get_is_whole}
-use Rattle.lc_edge.proofs.HonestLemmas.{get_stays, side_stays}
-use Rattle.lc_edge.proofs.local_link.LocalLinkLink.exchange.Goals as goal
+use Rattle.lc_links.proofs.GetLemmas.{get_is_whole}
+use Rattle.lc_links.proofs.HonestLemmas.{get_stays, side_stays}
+use Rattle.lc_links.proofs.local_link.LocalLinkLink.exchange.Goals as goal
 
 pub returns-in-Ok-clause-honest : goal.returns-in-Ok-clause-honest
 returns-in-Ok-clause-honest g c base side get honest =

@@ -1,7 +1,7 @@
 -- The link at home is as honest as its own publisher, where the outer link is clear.
 use Rattle.lc_world.specs.declared.link.LinkFail.TheVariants.{NoMemory}
-use Rattle.lc_edge.proofs.HonestLemmas.{handed_on, not_handed_on}
-use Rattle.lc_edge.proofs.home_link.HomeLinkLink.exchange.Goals as goal
+use Rattle.lc_links.proofs.HonestLemmas.{handed_on, not_handed_on}
+use Rattle.lc_links.proofs.home_link.HomeLinkLink.exchange.Goals as goal
 
 pub returns-in-Ok-clause-honest : goal.returns-in-Ok-clause-honest
 returns-in-Ok-clause-honest g c =

@@ -15,7 +15,7 @@ pub struct HomeLink<G: Fragmenter + Drop, L: Link> {
 }
 
 impl<G: Fragmenter + Drop, L: Link> Model for HomeLink<G, L> {
-    ghost use Rattle.lc_edge.specs.HomeLink.{HomeLinkState};
+    ghost use Rattle.lc_links.specs.HomeLink.{HomeLinkState};
 
     ghost Value = { HomeLinkState G L };
 
@@ -24,7 +24,7 @@ impl<G: Fragmenter + Drop, L: Link> Model for HomeLink<G, L> {
 
 impl<G: Fragmenter + Drop, L: Link> HomeLink<G, L> {
     ghost use Rattle.std.specs.Borrow.{Lends, sem};
-    ghost use Rattle.lc_edge.specs.contracts.home_link.HomeLink.{the_row};
+    ghost use Rattle.lc_links.specs.contracts.home_link.HomeLink.{the_row};
     ghost use Rattle.publisher.specs.contracts.publisher.Publisher.{the_row as publisher_row};
 
     /// A link to the publisher, whose answers are handed on to the outer link.

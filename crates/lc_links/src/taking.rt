@@ -1,7 +1,7 @@
 ghost use Rattle.std.specs.Prelude.{◌≡◌, ◌↔◌, ◌∷◌, ◌++◌, [], IfOk, IsTrue, None, OnErr, OnOk};
 ghost use Rattle.http_text.specs.Request.{IsWhole};
 ghost use Rattle.http_text.specs.declared.taken.Taken.TheVariants.{Whole as WholeRequest};
-ghost use Rattle.lc_edge.specs.Taking.{asked_entry};
+ghost use Rattle.lc_links.specs.Taking.{asked_entry};
 
 use http_text::{Taken, take_request};
 use lc_model::{Bytes, NoMemory, Text};

@@ -1,6 +1,6 @@
 -- A call that is listed counts a fault, and one that is not reaches the link below.
 use Rattle.std.proofs.Common.{IsTrue, rules}
-use Rattle.lc_edge.proofs.faulty_link.FaultyLinkLink.pass.Goals as goal
+use Rattle.lc_links.proofs.faulty_link.FaultyLinkLink.pass.Goals as goal
 
 pub returns-then-fails_now-clause-reaches : goal.returns-then-fails_now-clause-reaches
 returns-then-fails_now-clause-reaches g c =

@@ -1,7 +1,7 @@
 ghost use Rattle.std.specs.Prelude.{◌≡◌, ◌≤◌, ◌↔◌, [], Contains, None, OnErr, OnOk, IsErrOf, IsTrue};
 ghost use Rattle.connection_uri.specs.Base.{BaseParts};
 ghost use Rattle.lc_io.specs.Counts.{Counts, HasCause, Rose, one_more};
-ghost use Rattle.lc_edge.specs.FaultyLink.{Reaches};
+ghost use Rattle.lc_links.specs.FaultyLink.{Reaches};
 ghost use Rattle.lc_world.specs.Link.{Exchanges, IsGet, IsHonestWith, Tells};
 ghost use Rattle.lc_world.specs.declared.link.LinkFail.TheVariants.{Failed};
 ghost use Rattle.publisher_spec.specs.Side.{Side};
@@ -20,7 +20,7 @@ pub struct FaultyLink<L: Link> {
 }
 
 impl<L: Link> Model for FaultyLink<L> {
-    ghost use Rattle.lc_edge.specs.FaultyLink.{FaultyLinkState};
+    ghost use Rattle.lc_links.specs.FaultyLink.{FaultyLinkState};
 
     ghost Value = { FaultyLinkState L };
 

@@ -1,7 +1,7 @@
 ghost use Rattle.std.specs.Prelude.{◌≡◌, ◌⊎◌, [], ◌∷◌, ◌++◌, IfOk, OnErr, OnOk, IsErrOf, Some};
 ghost use Rattle.connection_uri.specs.Base.{BaseParts};
 ghost use Rattle.http_text.specs.Request.{IsWhole};
-ghost use Rattle.lc_edge.specs.Taking.{asked_entry};
+ghost use Rattle.lc_links.specs.Taking.{asked_entry};
 ghost use Rattle.lc_io.specs.Counts.{HasCause, one_more};
 ghost use Rattle.lc_world.specs.Link.{IsGet, IsHonest, StaysHonest, Tells};
 ghost use Rattle.lc_world.specs.declared.link.LinkFail.TheVariants.{Failed, NoMemory as OutOfMemory};
@@ -26,7 +26,7 @@ pub struct LocalLink<G: Fragmenter + Drop> {
 }
 
 impl<G: Fragmenter + Drop> Model for LocalLink<G> {
-    ghost use Rattle.lc_edge.specs.LocalLink.{LocalLinkState};
+    ghost use Rattle.lc_links.specs.LocalLink.{LocalLinkState};
 
     ghost Value = { LocalLinkState G };
 
@@ -35,7 +35,7 @@ impl<G: Fragmenter + Drop> Model for LocalLink<G> {
 
 impl<G: Fragmenter + Drop> LocalLink<G> {
     ghost use Rattle.std.specs.Borrow.{Lends, sem};
-    ghost use Rattle.lc_edge.specs.contracts.local_link.LocalLink.{the_row};
+    ghost use Rattle.lc_links.specs.contracts.local_link.LocalLink.{the_row};
     ghost use Rattle.publisher.specs.contracts.publisher.Publisher.{the_row as publisher_row};
 
     /// A link to the publisher, by which nothing was asked.

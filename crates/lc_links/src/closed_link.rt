@@ -14,7 +14,7 @@ pub struct ClosedLink {
 }
 
 impl Model for ClosedLink {
-    ghost use Rattle.lc_edge.specs.ClosedLink.{ClosedLinkState};
+    ghost use Rattle.lc_links.specs.ClosedLink.{ClosedLinkState};
 
     ghost Value = { ClosedLinkState };
 
