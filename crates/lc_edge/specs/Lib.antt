@@ -1,0 +1,2 @@
+pub mod TcpDoor
+pub mod TcpLink

@@ -1,0 +1,11 @@
+-- Links of sockets.
+use Rattle.std.specs.Prelude.{ℕ, None}
+use Rattle.lc_world.specs.Link.{LinkSeen}
+
+-- how often an exchange has failed
+pub record TcpLinkState : Type 0 where
+  pub faults : ℕ
+
+-- A link of sockets tells no side and no exchanges, is honest for no base, and leaves an answer that is handed on as it is.
+abbrev pub seen_of : TcpLinkState → LinkSeen
+seen_of link = record { side = None; told = None; honest = λ _. ⊥; quiet = λ _. ⊥; clear = Unit {0}; faults = link.faults }
