@@ -14,10 +14,11 @@ const ALL_WAITS: u64 = 60;
 /// How long the rest of a connection is waited for, at most, in milliseconds.
 const REST_WAIT: u64 = 200;
 
-/// The rest of a connection is read in pieces of so many bytes, and so many of them at most.
-const REST_PIECE: usize = 4096;
+/// The rest of a connection is read in pieces of so many bytes.
+const REST_PIECE: usize = 16_384;
 
-const REST_PIECES: usize = 16;
+/// How many pieces of the rest are read, at most: 32 MiB, more than a request may have.
+const REST_PIECES: usize = 2_048;
 
 /// How often a call is tried that a signal interrupts.
 const TRIES: usize = 8;

@@ -155,7 +155,7 @@ impl<R: Net + Clock> Door for TcpDoor<'_, R> {
         }
     }
 
-    /// It takes 200 milliseconds at most.
+    /// It takes 200 milliseconds at most, for a rest of the client's bytes that may still come.
     fn hang_up(&mut self)
         ensures { seen_of self.new ≡ record (seen_of self.old) { connected = false } }
     {
