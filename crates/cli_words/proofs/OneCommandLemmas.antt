@@ -1,7 +1,8 @@
 -- Words say one command at most.
-use Rattle.std.proofs.Common.{◌≡◌, ◌∙◌, ℕ, ◌/◌, ◌-◌, ◌≤◌, List, [], ◌∷◌, Option, ap, sym}
+use Rattle.std.proofs.Common.{◌≡◌, ◌∙◌, ℕ, ◌/◌, ◌-◌, ◌≤◌, Bool, List, [], ◌∷◌, Option, ap, refl, subst, sym}
 use Rattle.std.proofs.Props.{props}
 use Rattle.clap.specs.Simple.{App}
+use Rattle.connection_uri.specs.Base.{BaseParts}
 use Rattle.lc_model.specs.declared.date.ServiceDate.{ServiceDate}
 use Rattle.lc_model.specs.declared.query.Query.{Query}
 use Rattle.lc_time.proofs.OneTextLemmas.{one_date}
@@ -9,18 +10,23 @@ use Rattle.cli_words.specs.Ask.{SaysAsk}
 use Rattle.cli_words.specs.Check.{SaysCheck}
 use Rattle.cli_words.specs.FeedWindow.{SaysFeedWindow}
 use Rattle.cli_words.specs.Laws.{OneCommand}
-use Rattle.cli_words.specs.Line.{ask_line, check_line, replay_line}
+use Rattle.cli_words.specs.Line.{ask_line, check_line, replay_line, serve_line}
+use Rattle.cli_words.specs.Plan.{SaysPlan}
+use Rattle.cli_words.specs.Publishing.{SaysBase, SaysPublishingOr}
 use Rattle.cli_words.specs.Replay.{SaysReplay}
+use Rattle.cli_words.specs.Serve.{SaysServe, address_at}
 use Rattle.cli_words.specs.Window.{IsWindow}
 use Rattle.cli_words.specs.declared.command.Ask.{Ask}
 use Rattle.cli_words.specs.declared.command.Check.{Check}
 use Rattle.cli_words.specs.declared.command.Command.TheVariants as command
+use Rattle.cli_words.specs.declared.command.Plan.{Plan}
 use Rattle.cli_words.specs.declared.command.Publishing.{Publishing}
 use Rattle.cli_words.specs.declared.command.Replay.{Replay}
+use Rattle.cli_words.specs.declared.command.Serve.{Serve}
 use Rattle.cli_words.proofs.MadeLemmas.{same_made}
-use Rattle.cli_words.proofs.PublishingLemmas.{one_publishing}
+use Rattle.cli_words.proofs.PublishingLemmas.{one_base_said, one_publishing}
 use Rattle.cli_words.proofs.QuestionLemmas.{one_question}
-use Rattle.cli_words.proofs.WordsLemmas.{one_date_at, one_options, same_number, same_text}
+use Rattle.cli_words.proofs.WordsLemmas.{apart, one_date_at, one_options, same_number, same_text}
 
 -- what holds of the first date, the days and the change of a command
 abbrev Ranges : ServiceDate × ℕ × ℕ → Type 0
@@ -68,6 +74,39 @@ same_replay a b feed first days zone change publishing cache script =
     (λ i. (first i, days i, change i, cache i))
     ∙ (λ i. replay_of (feed i) (zone i) (publishing i) (script i) (b.first, b.days, b.change, b.cache) ranges)
 
+-- what holds of the first date, the days, the change, the port and the connections of a server
+abbrev ServeRanges : ServiceDate × ℕ × ℕ × ℕ × ℕ → Type 0
+ServeRanges s = (1 ≤ s.1) × (s.1 ≤ 62) × IsWindow s.0 s.1 × (s.2 ≤ 86_400) × (1 ≤ s.3) × (1 ≤ s.4) × (s.4 ≤ 1_000_000)
+
+serve_ranges_prop : (s : ServiceDate × ℕ × ℕ × ℕ × ℕ) → IsProp (ServeRanges s)
+serve_ranges_prop s = hlevel props
+
+abbrev serve_of : (feed zone : List ℕ) (publishing : Publishing) (update : Option (List ℕ)) (accept_updates : Bool) (s : ServiceDate × ℕ × ℕ × ℕ × ℕ) → ServeRanges s → Serve
+serve_of feed zone publishing update accept_updates s r = record { feed = feed; first = s.0; days = s.1; zone = zone; change = s.2; publishing = publishing; update = update; port = s.3; connections = s.4; accept_updates = accept_updates; some_days = r.0; two_months = r.1; window = r.2; within_a_day = r.3; some_port = r.4; some_connections = r.5; most_connections = r.6 }
+
+same_serve : (a b : Serve) → a.feed ≡ b.feed → a.first ≡ b.first → a.days ≡ b.days → a.zone ≡ b.zone → a.change ≡ b.change → a.publishing ≡ b.publishing → a.update ≡ b.update → a.port ≡ b.port → a.connections ≡ b.connections → a.accept_updates ≡ b.accept_updates → a ≡ b
+same_serve a b feed first days zone change publishing update port connections accept_updates =
+    let ranges : ServeRanges (b.first, b.days, b.change, b.port, b.connections) = (b.some_days, b.two_months, b.window, b.within_a_day, b.some_port, b.some_connections, b.most_connections) in
+    same_made ServeRanges serve_ranges_prop (serve_of a.feed a.zone a.publishing a.update a.accept_updates) (a.first, a.days, a.change, a.port, a.connections) (b.first, b.days, b.change, b.port, b.connections)
+    (a.some_days, a.two_months, a.window, a.within_a_day, a.some_port, a.some_connections, a.most_connections) ranges
+    (λ i. (first i, days i, change i, port i, connections i))
+    ∙ (λ i. serve_of (feed i) (zone i) (publishing i) (update i) (accept_updates i) (b.first, b.days, b.change, b.port, b.connections) ranges)
+
+-- so many pages may be kept
+abbrev CacheRange : ℕ → Type 0
+CacheRange cache = (1 ≤ cache) × (cache ≤ 10_000)
+
+cache_range_prop : (cache : ℕ) → IsProp (CacheRange cache)
+cache_range_prop cache = hlevel props
+
+abbrev plan_of : (base : BaseParts) (asks : List ℕ) (cache : ℕ) → CacheRange cache → Plan
+plan_of base asks cache is = record { base = base; asks = asks; cache = cache; some_pages = is.0; most_pages = is.1 }
+
+same_plan : (a b : Plan) → a.base ≡ b.base → a.asks ≡ b.asks → a.cache ≡ b.cache → a ≡ b
+same_plan a b base asks cache =
+    same_made CacheRange cache_range_prop (plan_of a.base a.asks) a.cache b.cache (a.some_pages, a.most_pages) (b.some_pages, b.most_pages) cache
+    ∙ (λ i. plan_of (base i) (asks i) b.cache (b.some_pages, b.most_pages))
+
 -- words say one feed and one window of it
 one_feed_window : (a : App) (words : List (List ℕ)) (feed feed' : List ℕ) (first first' : ServiceDate) (days days' : ℕ) (zone zone' : List ℕ) (change change' : ℕ) → SaysFeedWindow a words feed first days zone change → SaysFeedWindow a words feed' first' days' zone' change' → (feed ≡ feed') × (first ≡ first') × (days ≡ days') × (zone ≡ zone') × (change ≡ change')
 one_feed_window a words feed feed' first first' days days' zone zone' change change' p q =
@@ -87,24 +126,56 @@ one_ask words a b x y =
     let query = one_question words a.query b.query x.question y.question in
     let first = one_date_at a.first b.first _ _ (ap (λ (query : Query). query.leave / 86_400 - 1) query) p.first_is q.first_is in
     same_ask a b (same_text _ _ (sym p.feed_is ∙ q.feed_is)) query first options.0 options.1 options.2
-    (one_publishing ask_line words a.publishing b.publishing x.publishing y.publishing)
+    (one_publishing _ ask_line words a.publishing b.publishing x.publishing y.publishing)
     (same_number a.cache b.cache (sym x.cache_is ∙ y.cache_is)) (sym x.update.is ∙ y.update.is)
 
 one_replay : (words : List (List ℕ)) (a b : Replay) → SaysReplay words a → SaysReplay words b → a ≡ b
 one_replay words a b x y =
     let one = one_feed_window replay_line words a.feed b.feed a.first b.first a.days b.days a.zone b.zone a.change b.change x.feed_window y.feed_window in
     same_replay a b one.0 one.1 one.2 one.3 one.4
-    (one_publishing replay_line words a.publishing b.publishing x.publishing y.publishing)
+    (one_publishing _ replay_line words a.publishing b.publishing x.publishing y.publishing)
     (same_number a.cache b.cache (sym x.cache_is ∙ y.cache_is)) (same_text a.script b.script (sym x.script_is ∙ y.script_is))
+
+one_serve : (words : List (List ℕ)) (a b : Serve) → SaysServe words a → SaysServe words b → a ≡ b
+one_serve words a b x y =
+    let one = one_feed_window serve_line words a.feed b.feed a.first b.first a.days b.days a.zone b.zone a.change b.change x.feed_window y.feed_window in
+    let port = same_number a.port b.port (sym x.port_is ∙ y.port_is) in
+    let publishing = subst (λ (n : ℕ). SaysPublishingOr (address_at n) serve_line words a.publishing) port x.publishing in
+    same_serve a b one.0 one.1 one.2 one.3 one.4
+    (one_publishing _ serve_line words a.publishing b.publishing publishing y.publishing)
+    (sym x.update.is ∙ y.update.is) port (same_number a.connections b.connections (sym x.connections_are ∙ y.connections_are))
+    (x.accepts ∙ sym y.accepts)
+
+one_plan : (words : List (List ℕ)) (a b : Plan) → SaysPlan words a → SaysPlan words b → a ≡ b
+one_plan words a b x y =
+    let url = same_text x.url y.url (sym x.url_is ∙ y.url_is) in
+    same_plan a b (one_base_said y.url a.base b.base (subst (λ (text : List ℕ). SaysBase text a.base) url x.base_said) y.base_said)
+    (same_text a.asks b.asks (sym x.asks_is ∙ y.asks_is)) (same_number a.cache b.cache (sym x.cache_is ∙ y.cache_is))
 
 pub only_command : OneCommand
 only_command [] a b x y = absurd x
 only_command (name ∷ words) (command.Check a) (command.Check b) x y = ap (λ (check : Check). command.Check check) (one_check words a b x.1 y.1)
 only_command (name ∷ words) (command.Ask a) (command.Ask b) x y = ap (λ (ask : Ask). command.Ask ask) (one_ask words a b x.1 y.1)
 only_command (name ∷ words) (command.Replay a) (command.Replay b) x y = ap (λ (replay : Replay). command.Replay replay) (one_replay words a b x.1 y.1)
-only_command (name ∷ words) (command.Check a) (command.Ask b) x y = absurd (cc (sym x.0 ∙ y.0))
-only_command (name ∷ words) (command.Check a) (command.Replay b) x y = absurd (cc (sym x.0 ∙ y.0))
-only_command (name ∷ words) (command.Ask a) (command.Check b) x y = absurd (cc (sym x.0 ∙ y.0))
-only_command (name ∷ words) (command.Ask a) (command.Replay b) x y = absurd (cc (sym x.0 ∙ y.0))
-only_command (name ∷ words) (command.Replay a) (command.Check b) x y = absurd (cc (sym x.0 ∙ y.0))
-only_command (name ∷ words) (command.Replay a) (command.Ask b) x y = absurd (cc (sym x.0 ∙ y.0))
+only_command (name ∷ words) (command.Serve a) (command.Serve b) x y = ap (λ (serve : Serve). command.Serve serve) (one_serve words a b x.1 y.1)
+only_command (name ∷ words) (command.Plan a) (command.Plan b) x y = ap (λ (plan : Plan). command.Plan plan) (one_plan words a b x.1 y.1)
+only_command (name ∷ words) (command.Check a) (command.Ask b) x y = absurd (apart name _ _ refl x.0 y.0)
+only_command (name ∷ words) (command.Check a) (command.Replay b) x y = absurd (apart name _ _ refl x.0 y.0)
+only_command (name ∷ words) (command.Ask a) (command.Check b) x y = absurd (apart name _ _ refl x.0 y.0)
+only_command (name ∷ words) (command.Ask a) (command.Replay b) x y = absurd (apart name _ _ refl x.0 y.0)
+only_command (name ∷ words) (command.Replay a) (command.Check b) x y = absurd (apart name _ _ refl x.0 y.0)
+only_command (name ∷ words) (command.Replay a) (command.Ask b) x y = absurd (apart name _ _ refl x.0 y.0)
+only_command (name ∷ words) (command.Check a) (command.Serve b) x y = absurd (apart name _ _ refl x.0 y.0)
+only_command (name ∷ words) (command.Check a) (command.Plan b) x y = absurd (apart name _ _ refl x.0 y.0)
+only_command (name ∷ words) (command.Ask a) (command.Serve b) x y = absurd (apart name _ _ refl x.0 y.0)
+only_command (name ∷ words) (command.Ask a) (command.Plan b) x y = absurd (apart name _ _ refl x.0 y.0)
+only_command (name ∷ words) (command.Replay a) (command.Serve b) x y = absurd (apart name _ _ refl x.0 y.0)
+only_command (name ∷ words) (command.Replay a) (command.Plan b) x y = absurd (apart name _ _ refl x.0 y.0)
+only_command (name ∷ words) (command.Serve a) (command.Check b) x y = absurd (apart name _ _ refl x.0 y.0)
+only_command (name ∷ words) (command.Serve a) (command.Ask b) x y = absurd (apart name _ _ refl x.0 y.0)
+only_command (name ∷ words) (command.Serve a) (command.Replay b) x y = absurd (apart name _ _ refl x.0 y.0)
+only_command (name ∷ words) (command.Serve a) (command.Plan b) x y = absurd (apart name _ _ refl x.0 y.0)
+only_command (name ∷ words) (command.Plan a) (command.Check b) x y = absurd (apart name _ _ refl x.0 y.0)
+only_command (name ∷ words) (command.Plan a) (command.Ask b) x y = absurd (apart name _ _ refl x.0 y.0)
+only_command (name ∷ words) (command.Plan a) (command.Replay b) x y = absurd (apart name _ _ refl x.0 y.0)
+only_command (name ∷ words) (command.Plan a) (command.Serve b) x y = absurd (apart name _ _ refl x.0 y.0)

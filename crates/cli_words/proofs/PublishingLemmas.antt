@@ -10,7 +10,7 @@ use Rattle.fragmenter.specs.declared.cutting.Cutting.{Cutting}
 use Rattle.fragmenter.specs.declared.cutting.Cutting.TheVariants as ways
 use Rattle.lc_time.proofs.OneTextLemmas.{one_moment}
 use Rattle.cli_words.specs.Options.{bounded_said}
-use Rattle.cli_words.specs.Publishing.{SaysBase, SaysBehind, SaysCutting, SaysPublishing}
+use Rattle.cli_words.specs.Publishing.{SaysBase, SaysBehind, SaysCutting, SaysPublishingOr}
 use Rattle.cli_words.specs.declared.command.Publishing.{Publishing}
 use Rattle.cli_words.proofs.MadeLemmas.{same_made}
 use Rattle.cli_words.proofs.WordsLemmas.{same_number}
@@ -63,14 +63,14 @@ one_cutting text ways.Whole (ways.Span b) p q = absurd (not_whole_span q.digits 
 one_cutting text ways.Whole (ways.Count b) p q = absurd (not_whole_count q.digits (sym p ∙ q.written))
 one_cutting text ways.Whole ways.Whole p q = λ i. ways.Whole
 
-one_base_said : (text : List ℕ) (a b : BaseParts) → SaysBase text a → SaysBase text b → a ≡ b
+pub one_base_said : (text : List ℕ) (a b : BaseParts) → SaysBase text a → SaysBase text b → a ≡ b
 one_base_said text a b p q =
     let read = sym p.reads.parsed ∙ q.reads.parsed in
     let one : p.url ≡ q.url = cc in
     p.is ∙ ap base_of one ∙ sym q.is
 
-pub one_publishing : (a : App) (words : List (List ℕ)) (x y : Publishing) → SaysPublishing a words x → SaysPublishing a words y → x ≡ y
-one_publishing a words x y p q =
+pub one_publishing : (default_base : List ℕ) (a : App) (words : List (List ℕ)) (x y : Publishing) → SaysPublishingOr default_base a words x → SaysPublishingOr default_base a words y → x ≡ y
+one_publishing default_base a words x y p q =
     let base = one_base_said _ x.base y.base p.base_said q.base_said in
     let moment = one_moment _ x.base_moment y.base_moment p.moment_said q.moment_said in
     let cutting = one_cutting _ x.cutting y.cutting p.cutting_said q.cutting_said in

@@ -1,6 +1,7 @@
 -- What was read is what the words say.
-use Rattle.std.proofs.Common.{◌≡◌, ◌∙◌, ℕ, ◌-◌, ◌≤◌, ap, ap₂, arith, drop, get_or, length, take, Some, String, List, [], ◌∷◌, codes, refl, subst, sym, true}
+use Rattle.std.proofs.Common.{◌≡◌, ◌∙◌, ℕ, ◌-◌, ◌≤◌, ap, ap₂, arith, drop, get_or, length, take, Some, String, List, [], ◌∷◌, codes, eq-eqb, false, nat_eq, refl, subst, sym, true}
 use Rattle.std.proofs.Math.Seq.{take-length}
+use Rattle.std.proofs.lemmas.Bool.{false≢true}
 use Rattle.std.specs.String.{string_bytes}
 use Rattle.std.specs.declared.alloc.Global.{Global}
 use Rattle.clap.specs.Faults.{is_simple_and_free}
@@ -17,21 +18,34 @@ use Rattle.cli_words.specs.declared.command.Command.{Command}
 use Rattle.cli_words.specs.declared.command.Command.TheVariants as command
 
 -- the lines are simple ones
-pub check_is_simple : is_simple_and_free (line (codes "check") (codes "feed" ∷ codes "first" ∷ []) (codes "days" ∷ codes "zone" ∷ codes "change" ∷ [])) ≡ true
+pub check_is_simple : is_simple_and_free (line (codes "check") (codes "feed" ∷ codes "first" ∷ []) (codes "days" ∷ codes "zone" ∷ codes "change" ∷ []) []) ≡ true
 unfolding line
 check_is_simple = refl
 
-pub ask_is_simple : is_simple_and_free (line (codes "ask") (codes "feed" ∷ codes "from" ∷ codes "to" ∷ codes "moment" ∷ []) (codes "days" ∷ codes "zone" ∷ codes "change" ∷ codes "horizon" ∷ codes "known" ∷ codes "base" ∷ codes "base-moment" ∷ codes "cuts" ∷ codes "cache" ∷ codes "update" ∷ [])) ≡ true
+pub ask_is_simple : is_simple_and_free (line (codes "ask") (codes "feed" ∷ codes "from" ∷ codes "to" ∷ codes "moment" ∷ []) (codes "days" ∷ codes "zone" ∷ codes "change" ∷ codes "horizon" ∷ codes "known" ∷ codes "base" ∷ codes "base-moment" ∷ codes "cuts" ∷ codes "cache" ∷ codes "update" ∷ []) []) ≡ true
 unfolding line
 ask_is_simple = refl
 
-pub replay_is_simple : is_simple_and_free (line (codes "replay") (codes "feed" ∷ codes "first" ∷ codes "script" ∷ []) (codes "days" ∷ codes "zone" ∷ codes "change" ∷ codes "base" ∷ codes "base-moment" ∷ codes "cuts" ∷ codes "cache" ∷ [])) ≡ true
+pub replay_is_simple : is_simple_and_free (line (codes "replay") (codes "feed" ∷ codes "first" ∷ codes "script" ∷ []) (codes "days" ∷ codes "zone" ∷ codes "change" ∷ codes "base" ∷ codes "base-moment" ∷ codes "cuts" ∷ codes "cache" ∷ []) []) ≡ true
 unfolding line
 replay_is_simple = refl
+
+pub serve_is_simple : is_simple_and_free (line (codes "serve") (codes "feed" ∷ codes "first" ∷ []) (codes "days" ∷ codes "zone" ∷ codes "change" ∷ codes "base" ∷ codes "base-moment" ∷ codes "cuts" ∷ codes "update" ∷ codes "port" ∷ codes "connections" ∷ []) (codes "accept-updates" ∷ [])) ≡ true
+unfolding line
+serve_is_simple = refl
+
+pub plan_is_simple : is_simple_and_free (line (codes "plan") (codes "url" ∷ codes "asks" ∷ []) (codes "cache" ∷ []) []) ≡ true
+unfolding line
+plan_is_simple = refl
 
 -- two texts that are one value are one
 pub same_text : (a b : List ℕ) → Some a ≡ Some b → a ≡ b
 same_text a b e = cc
+
+-- no word is one of two that begin with different letters
+pub apart : (name a b : List ℕ) → nat_eq (get_or a 0 0) (get_or b 0 0) ≡ false → name ≡ a → name ≡ b → ⊥
+apart name a b other p q =
+    false≢true (sym other ∙ eq-eqb (get_or a 0 0) (get_or b 0 0) (ap (λ (t : List ℕ). get_or t 0 0) (sym p ∙ q)))
 
 -- two numbers that are one value are one
 pub same_number : (a b : ℕ) → Some a ≡ Some b → a ≡ b
@@ -64,6 +78,8 @@ pub no_ask : (texts rest : List (List ℕ)) (name : List ℕ) → texts ≡ name
 no_ask texts rest name parts is none said says = asked rest name is none said (subst (λ (t : List (List ℕ)). SaysCommand t said) parts says)
   where
     asked : (rest : List (List ℕ)) (name : List ℕ) → name ≡ codes "ask" → ((ask : Ask) → SaysAsk rest ask → ⊥) → (said : Command) → SaysCommand (name ∷ rest) said → ⊥
-    asked rest name is none (command.Check check) says = absurd (cc (sym is ∙ says.0))
+    asked rest name is none (command.Check check) says = absurd (apart name _ _ refl is says.0)
     asked rest name is none (command.Ask ask) says = none ask says.1
-    asked rest name is none (command.Replay replay) says = absurd (cc (sym is ∙ says.0))
+    asked rest name is none (command.Replay replay) says = absurd (apart name _ _ refl is says.0)
+    asked rest name is none (command.Serve serve) says = absurd (apart name _ _ refl is says.0)
+    asked rest name is none (command.Plan plan) says = absurd (apart name _ _ refl is says.0)

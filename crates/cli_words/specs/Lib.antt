@@ -6,9 +6,11 @@ pub mod Finds
 pub mod Laws
 pub mod Line
 pub mod Options
+pub mod Plan
 pub mod Publishing
 pub mod Question
 pub mod Replay
+pub mod Serve
 pub mod Update
 pub mod Window
 pub mod Words

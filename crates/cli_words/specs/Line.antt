@@ -6,7 +6,7 @@ use Rattle.clap.specs.Faults.{fault_of}
 use Rattle.clap.specs.Matches.{first_value, found_of}
 use Rattle.clap.specs.Simple.{App, matches_of, new_rule, new_shape}
 use Rattle.clap.specs.Walk.{Rule, Text, first_of}
-use Rattle.clap.specs.declared.builder.action.ArgAction.TheVariants.{Set}
+use Rattle.clap.specs.declared.builder.action.ArgAction.TheVariants.{Set, SetTrue}
 use Rattle.clap.specs.declared.parser.matches.ArgMatches.{ArgMatches}
 
 -- the words as texts
@@ -21,11 +21,15 @@ placed name = record (new_rule name) { action = Some Set; required = true }
 abbrev pub named : Text → Rule
 named name = record (new_rule name) { long = Some name; action = Some Set }
 
--- a command with these plain words and these options, and no help
-unfoldable pub line : Text → List Text → List Text → App
-line name places options = record {
+-- an option without a value, `--name`, which says `true` where it stands and `false` where it does not
+abbrev pub flagged : Text → Rule
+flagged name = record (new_rule name) { long = Some name; action = Some SetTrue }
+
+-- a command with these plain words, these options with values and these without, and no help
+unfoldable pub line : Text → List Text → List Text → List Text → App
+line name places options flags = record {
   top = record (new_shape name) {
-    rules = map placed places ++ map named options;
+    rules = map placed places ++ map named options ++ map flagged flags;
     no_binary_name = true;
     disable_help_flag = true;
   };
@@ -56,17 +60,28 @@ pub record IsLine (a : App) (words : List Text) : Type 0 where
 -- the line of `check FEED FIRST` with its options
 unfoldable pub check_line : App
 check_line =
-    line (codes "check") (codes "feed" ∷ codes "first" ∷ []) (codes "days" ∷ codes "zone" ∷ codes "change" ∷ [])
+    line (codes "check") (codes "feed" ∷ codes "first" ∷ []) (codes "days" ∷ codes "zone" ∷ codes "change" ∷ []) []
 
 -- the line of `ask FEED FROM TO MOMENT` with its options
 unfoldable pub ask_line : App
 ask_line =
     line (codes "ask") (codes "feed" ∷ codes "from" ∷ codes "to" ∷ codes "moment" ∷ [])
     (codes "days" ∷ codes "zone" ∷ codes "change" ∷ codes "horizon" ∷ codes "known" ∷ codes "base" ∷ codes "base-moment"
-    ∷ codes "cuts" ∷ codes "cache" ∷ codes "update" ∷ [])
+    ∷ codes "cuts" ∷ codes "cache" ∷ codes "update" ∷ []) []
 
 -- the line of `replay FEED FIRST SCRIPT` with its options
 unfoldable pub replay_line : App
 replay_line =
     line (codes "replay") (codes "feed" ∷ codes "first" ∷ codes "script" ∷ [])
-    (codes "days" ∷ codes "zone" ∷ codes "change" ∷ codes "base" ∷ codes "base-moment" ∷ codes "cuts" ∷ codes "cache" ∷ [])
+    (codes "days" ∷ codes "zone" ∷ codes "change" ∷ codes "base" ∷ codes "base-moment" ∷ codes "cuts" ∷ codes "cache" ∷ []) []
+
+-- the line of `serve FEED FIRST` with its options
+unfoldable pub serve_line : App
+serve_line =
+    line (codes "serve") (codes "feed" ∷ codes "first" ∷ [])
+    (codes "days" ∷ codes "zone" ∷ codes "change" ∷ codes "base" ∷ codes "base-moment" ∷ codes "cuts" ∷ codes "update"
+    ∷ codes "port" ∷ codes "connections" ∷ []) (codes "accept-updates" ∷ [])
+
+-- the line of `plan URL ASKS` with its option
+unfoldable pub plan_line : App
+plan_line = line (codes "plan") (codes "url" ∷ codes "asks" ∷ []) (codes "cache" ∷ []) []

@@ -1,6 +1,7 @@
 -- What the values of options say.
 use Rattle.std.specs.Prelude.{◌≡◌, ℕ, ◌==◌, ◌&&◌, nat_le, not, Bool, false, if◌then◌else◌, List, [], ◌∷◌, codes, Option, Some, None}
 use Rattle.std.specs.Option.{option_and_then}
+use Rattle.std.specs.Str.{bytes_eq}
 use Rattle.clap.specs.Simple.{App}
 use Rattle.lc_time.specs.Digits.{u32_said}
 use Rattle.cli_words.specs.Line.{value_at}
@@ -17,6 +18,16 @@ bounded_said low high text = option_and_then (within low high) (u32_said text)
 abbrev pub number_said : ℕ → ℕ → ℕ → Option (List ℕ) → Option ℕ
 number_said default low high None = Some default
 number_said default low high (Some text) = bounded_said low high text
+
+-- the number that an option says which has to be there
+abbrev pub required_said : ℕ → ℕ → Option (List ℕ) → Option ℕ
+required_said low high None = None
+required_said low high (Some text) = bounded_said low high text
+
+-- an option without a value is there
+abbrev pub flag_said : Option (List ℕ) → Bool
+flag_said None = false
+flag_said (Some text) = bytes_eq text (codes "true")
 
 -- the text that an option says, or its default where it is not there
 abbrev pub text_said : List ℕ → Option (List ℕ) → List ℕ

@@ -31,7 +31,11 @@ SaysCutting text (ways.Span way) = SaysBehind (codes "span:") 1 86_400 text way.
 SaysCutting text (ways.Count way) = SaysBehind (codes "count:") 1 1_000_000 text way.count
 
 -- `--base`, `--base-moment` and `--cuts`, with these texts where they are not there
-pub record SaysPublishing (a : App) (words : List (List ℕ)) (publishing : Publishing) : Type 0 where
-  pub base_said : SaysBase (text_said (codes "http://lc.example/") (value_at a words (codes "base"))) publishing.base
+pub record SaysPublishingOr (default_base : List ℕ) (a : App) (words : List (List ℕ)) (publishing : Publishing) : Type 0 where
+  pub base_said : SaysBase (text_said default_base (value_at a words (codes "base"))) publishing.base
   pub moment_said : SaysMoment (text_said (codes "1970-01-01T00:00:00Z") (value_at a words (codes "base-moment"))) publishing.base_moment
   pub cutting_said : SaysCutting (text_said (codes "span:1800") (value_at a words (codes "cuts"))) publishing.cutting
+
+-- the same of a publisher in the process, whose base need not be the address of a server
+abbrev pub SaysPublishing : App → List (List ℕ) → Publishing → Type 0
+SaysPublishing a words publishing = SaysPublishingOr (codes "http://lc.example/") a words publishing

@@ -2,7 +2,9 @@
 use Rattle.std.specs.Prelude.{◌≡◌, ℕ, List, [], ◌∷◌, codes}
 use Rattle.cli_words.specs.Ask.{SaysAsk}
 use Rattle.cli_words.specs.Check.{SaysCheck}
+use Rattle.cli_words.specs.Plan.{SaysPlan}
 use Rattle.cli_words.specs.Replay.{SaysReplay}
+use Rattle.cli_words.specs.Serve.{SaysServe}
 use Rattle.cli_words.specs.declared.command.Command.{Command}
 use Rattle.cli_words.specs.declared.command.Command.TheVariants as command
 
@@ -12,3 +14,5 @@ SaysCommand [] said = ⊥
 SaysCommand (name ∷ words) (command.Check check) = (name ≡ codes "check") × SaysCheck words check
 SaysCommand (name ∷ words) (command.Ask ask) = (name ≡ codes "ask") × SaysAsk words ask
 SaysCommand (name ∷ words) (command.Replay replay) = (name ≡ codes "replay") × SaysReplay words replay
+SaysCommand (name ∷ words) (command.Serve serve) = (name ≡ codes "serve") × SaysServe words serve
+SaysCommand (name ∷ words) (command.Plan plan) = (name ≡ codes "plan") × SaysPlan words plan

@@ -41,7 +41,7 @@ pub(crate) fn read_ask(alloc: Global, words: &[String]) -> Result<Option<Ask>, N
     ensures { IfOk result (λ ask. MatchOption ask ((ask : Asked) → SaysAsk (texts_of words.now) ask → ⊥)
         (SaysAsk (texts_of words.now))) }
 {
-    match read_line(alloc, "ask", &PLACES, &OPTIONS, words)? {
+    match read_line(alloc, "ask", &PLACES, &OPTIONS, &[], words)? {
         Some(found) => found_ask(alloc, &found),
         None => Ok(None),
     }

@@ -20,7 +20,7 @@ pub(crate) fn read_check(alloc: Global, words: &[String]) -> Result<Option<Check
     ensures { IfOk result (λ check. MatchOption check ((check : Checked) → SaysCheck (texts_of words.now) check → ⊥)
         (SaysCheck (texts_of words.now))) }
 {
-    match read_line(alloc, "check", &PLACES, &OPTIONS, words)? {
+    match read_line(alloc, "check", &PLACES, &OPTIONS, &[], words)? {
         Some(found) => found_check(alloc, &found),
         None => Ok(None),
     }

@@ -11,6 +11,8 @@ pub enum Command {
     Check(Check),
     Ask(Ask),
     Replay(Replay),
+    Serve(Serve),
+    Plan(Plan),
 }
 
 /// `check`: the timetable of a feed in a window of dates.
@@ -73,6 +75,45 @@ pub struct Replay {
     pub ghost two_months: { days ≤ 62 },
     pub ghost window: { IsWindow first days },
     pub ghost within_a_day: { change ≤ 86_400 },
+    pub ghost some_pages: { 1 ≤ cache },
+    pub ghost most_pages: { cache ≤ 10_000 },
+}
+
+/// `serve`: the timetable of a feed in a window of dates, which is published at a port to clients of any kind.
+#[derive(Drop)]
+pub struct Serve {
+    pub feed: Text,
+    pub first: ServiceDate,
+    pub days: u32,
+    /// The word of a zone, as it was said.
+    pub zone: Text,
+    /// The seconds of a change of which the feed says none.
+    pub change: u32,
+    pub publishing: Publishing,
+    /// The name of the file with a realtime message, if one is to be admitted.
+    pub update: Option<Text>,
+    pub port: u16,
+    /// How many connections are served before the command ends.
+    pub connections: u32,
+    /// Whether clients may send realtime messages.
+    pub accept_updates: bool,
+    pub ghost some_days: { 1 ≤ days },
+    pub ghost two_months: { days ≤ 62 },
+    pub ghost window: { IsWindow first days },
+    pub ghost within_a_day: { change ≤ 86_400 },
+    pub ghost some_port: { 1 ≤ port },
+    pub ghost some_connections: { 1 ≤ connections },
+    pub ghost most_connections: { connections ≤ 1_000_000 },
+}
+
+/// `plan`: questions to the publisher under a base, which are asked over the network.
+#[derive(Drop)]
+pub struct Plan {
+    pub base: Base,
+    /// The name of the file with the questions and turns.
+    pub asks: Text,
+    /// How many pages are kept at most.
+    pub cache: u32,
     pub ghost some_pages: { 1 ≤ cache },
     pub ghost most_pages: { cache ≤ 10_000 },
 }

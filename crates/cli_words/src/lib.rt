@@ -18,6 +18,6 @@ mod update;
 mod window;
 mod words;
 
-pub use command::{Ask, Check, Command, Publishing, Replay};
+pub use command::{Ask, Check, Command, Plan, Publishing, Replay, Serve};
 pub use laws::{default_publishing, lines_of_check, one_command};
 pub use words::read_words;

@@ -1,7 +1,7 @@
 ghost use Rattle.std.specs.Prelude.{◌≡◌, ◌↔◌, All, IfOk, IsTrue, MatchOption, map, true, false};
 ghost use Rattle.std.specs.String.{string_bytes};
 ghost use Rattle.clap.specs.Words.{app_of, is_simple_and_free, rule_of};
-ghost use Rattle.cli_words.specs.Line.{HasFound, IsLine, IsNoDash, line, named, placed, texts_of};
+ghost use Rattle.cli_words.specs.Line.{HasFound, IsLine, IsNoDash, flagged, line, named, placed, texts_of};
 
 use clap::error::ErrorKind;
 use clap::{Arg, ArgAction, ArgMatches, Command};
@@ -24,14 +24,24 @@ fn named_arg<'a>(alloc: Global, name: &'a str) -> Arg<'a>
     Arg::new(alloc, name).long(name).action(ArgAction::Set)
 }
 
-/// The line of a command with these plain words and these options, each with a value. `clap`'s own help is off.
+/// An option without a value.
+fn flagged_arg<'a>(alloc: Global, name: &'a str) -> Arg<'a>
+    ensures rule { rule_of result ≡ flagged name.entry.now }
+    ensures local { result.global ≡ false }
+{
+    Arg::new(alloc, name).long(name).action(ArgAction::SetTrue)
+}
+
+/// The line of a command with these plain words and these options, with a value and without. `clap`'s own help is off.
 fn line_of<'a>(
     alloc: Global,
     name: &'a str,
     places: &'a [&'a str],
     options: &'a [&'a str],
+    flags: &'a [&'a str],
 ) -> Result<Command<'a>, NoMemory>
-    ensures { IfOk result (λ command. app_of command ≡ line name.entry.now (map (λ s. s.now) places.entry.now) (map (λ s. s.now) options.entry.now)) }
+    ensures { IfOk result (λ command. app_of command
+        ≡ line name.entry.now (map (λ s. s.now) places.entry.now) (map (λ s. s.now) options.entry.now) (map (λ s. s.now) flags.entry.now)) }
 {
     let mut command = Command::new(alloc, name)
         .no_binary_name(true)
@@ -41,6 +51,9 @@ fn line_of<'a>(
     }
     'options: for option in options {
         command = command.arg(named_arg(alloc, option))?;
+    }
+    'flags: for flag in flags {
+        command = command.arg(flagged_arg(alloc, flag))?;
     }
     Ok(command)
 }
@@ -52,17 +65,18 @@ pub(crate) fn read_line<'a>(
     name: &'a str,
     places: &'a [&'a str],
     options: &'a [&'a str],
+    flags: &'a [&'a str],
     words: &'a [String],
 ) -> Result<Option<ArgMatches<'a>>, NoMemory>
-    requires { is_simple_and_free (line name.now (map (λ s. s.now) places.now) (map (λ s. s.now) options.now)) ≡ true }
-    ensures { let a = line name.entry.now (map (λ s. s.now) places.entry.now) (map (λ s. s.now) options.entry.now) in
+    requires { is_simple_and_free (line name.now (map (λ s. s.now) places.now) (map (λ s. s.now) options.now) (map (λ s. s.now) flags.now)) ≡ true }
+    ensures { let a = line name.entry.now (map (λ s. s.now) places.entry.now) (map (λ s. s.now) options.entry.now) (map (λ s. s.now) flags.entry.now) in
         IfOk result (λ found. MatchOption found (IsLine a (texts_of words.entry.now) → ⊥) (λ found. IsLine a (texts_of words.entry.now)
         × HasFound a (texts_of words.entry.now) found)) }
 {
     if !has_no_dash(words) {
         return Ok(None);
     }
-    let command = line_of(alloc, name, places, options)?;
+    let command = line_of(alloc, name, places, options, flags)?;
     match command.try_get_matches_from(words) {
         Ok(found) => Ok(Some(found)),
         Err(error) if error.kind() == ErrorKind::OutOfMemory => Err(NoMemory),

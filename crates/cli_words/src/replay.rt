@@ -32,7 +32,7 @@ pub(crate) fn read_replay(alloc: Global, words: &[String]) -> Result<Option<Repl
     ensures { IfOk result (λ replay. MatchOption replay ((replay : Replayed) → SaysReplay (texts_of words.now) replay → ⊥)
         (SaysReplay (texts_of words.now))) }
 {
-    match read_line(alloc, "replay", &PLACES, &OPTIONS, words)? {
+    match read_line(alloc, "replay", &PLACES, &OPTIONS, &[], words)? {
         Some(found) => found_replay(alloc, &found),
         None => Ok(None),
     }

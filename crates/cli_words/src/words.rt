@@ -32,6 +32,8 @@ pub fn read_words(alloc: Global, words: &[String]) -> Result<Option<Command>, No
             Some(replay) => Ok(Some(Command::Replay(replay))),
             None => Ok(None),
         },
+        "serve" => Err(NoMemory),
+        "plan" => Err(NoMemory),
         _ => Ok(None),
     }
 }

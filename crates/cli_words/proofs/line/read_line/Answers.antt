@@ -11,7 +11,7 @@ use Rattle.cli_words.proofs.line.read_line.Goals as goal
 pub returns-in-Ok : goal.returns-in-Ok
 unfolding Takes value_at
 returns-in-Ok c =
-    let same : app_of c.in_ok-command.command ≡ line c.args.name.now (map (λ s. s.now) c.args.places.now) (map (λ s. s.now) c.args.options.now) = c.in_ok-command.ensures in
+    let same : app_of c.in_ok-command.command ≡ line c.args.name.now (map (λ s. s.now) c.args.places.now) (map (λ s. s.now) c.args.options.now) (map (λ s. s.now) c.args.flags.now) = c.in_ok-command.ensures in
     let ready = subst (λ (a : App). is_simple_and_free a ≡ true) (sym same) c.requires in
     let rows = (c.in-Ok.ensures.matches (both _ _ ready).0).0 in (
       record {
@@ -24,7 +24,7 @@ returns-in-Ok c =
 
 pub returns : goal.returns
 returns c =
-    let same : app_of c.in_ok-command.command ≡ line c.args.name.now (map (λ s. s.now) c.args.places.now) (map (λ s. s.now) c.args.options.now) = c.in_ok-command.ensures in
+    let same : app_of c.in_ok-command.command ≡ line c.args.name.now (map (λ s. s.now) c.args.places.now) (map (λ s. s.now) c.args.options.now) (map (λ s. s.now) c.args.flags.now) = c.in_ok-command.ensures in
     let ready = subst (λ (a : App). is_simple_and_free a ≡ true) (sym same) c.requires in
     let other : kind_of c.in-Err.error ≡ OutOfMemory → ⊥ = λ e.
     let bad : false ≡ true = rw (c.kind.ensures ∙ e) at c.if-eq.ensures in

@@ -1,0 +1,22 @@
+-- The words of `serve`.
+use Rattle.std.specs.Prelude.{◌≡◌, ℕ, List, ◌++◌, codes, decimal, Some}
+use Rattle.cli_words.specs.FeedWindow.{SaysFeedWindow}
+use Rattle.cli_words.specs.Line.{IsLine, serve_line, value_at}
+use Rattle.cli_words.specs.Options.{flag_said, required_said}
+use Rattle.cli_words.specs.Publishing.{SaysPublishingOr}
+use Rattle.cli_words.specs.Update.{SaysUpdate}
+use Rattle.cli_words.specs.declared.command.Serve.{Serve}
+
+-- the address of a server at this port of the same machine, which stands for `--base` where it is not there
+abbrev pub address_at : ℕ → List ℕ
+address_at port = codes "http://localhost:" ++ decimal port ++ codes "/"
+
+-- the words after `serve` say this
+pub record SaysServe (words : List (List ℕ)) (serve : Serve) : Type 0 where
+  pub is_line : IsLine serve_line words
+  pub feed_window : SaysFeedWindow serve_line words serve.feed serve.first serve.days serve.zone serve.change
+  pub publishing : SaysPublishingOr (address_at serve.port) serve_line words serve.publishing
+  pub update : SaysUpdate serve_line words serve.update
+  pub port_is : required_said 1 65_535 (value_at serve_line words (codes "port")) ≡ Some serve.port
+  pub connections_are : required_said 1 1_000_000 (value_at serve_line words (codes "connections")) ≡ Some serve.connections
+  pub accepts : serve.accept_updates ≡ flag_said (value_at serve_line words (codes "accept-updates"))
