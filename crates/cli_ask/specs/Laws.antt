@@ -1,13 +1,15 @@
--- That what is printed of a question is one, where the replies come as the publisher gave them.
-use Rattle.std.specs.Prelude.{◌≡◌, ℕ, List, ◌++◌, Option}
+-- That what is printed of a question is one, where the replies come as the publisher gave them; and what a publisher has after a message.
+use Rattle.std.specs.Prelude.{◌≡◌, ℕ, Bool, List, ◌++◌, Option}
 use Rattle.laws_replies.specs.Laws.{SayTheSame}
 use Rattle.cli_words.specs.declared.command.Publishing.{Publishing}
+use Rattle.fragmenter.specs.declared.cutting.Cutting.{Cutting}
 use Rattle.lc_io.specs.Counts.{Rose}
 use Rattle.lc_io.specs.declared.file.File.{File}
 use Rattle.lc_model.specs.declared.query.Query.{Query}
 use Rattle.lc_world.specs.Link.{LinkSeen}
 use Rattle.page_client.specs.declared.outcome.Outcome.{Outcome}
 use Rattle.page_client.specs.declared.outcome.Outcome.TheVariants as outcomes
+use Rattle.publisher.specs.Held.{Held}
 use Rattle.publisher_spec.specs.Short.{IsShort}
 use Rattle.timetable.specs.Laws.{AreSame}
 use Rattle.timetable.specs.declared.timetable.Timetable.{Timetable}
@@ -15,7 +17,7 @@ use Rattle.version_store.specs.Store.{Stored}
 use Rattle.cli_ask.specs.Admission.{IsBehind}
 use Rattle.cli_ask.specs.Asked.{IsAsked}
 use Rattle.cli_ask.specs.Block.{client_text_of}
-use Rattle.cli_ask.specs.Publishing.{side_with, store_of}
+use Rattle.cli_ask.specs.Publishing.{PublishesAfter, side_with, store_of}
 use Rattle.cli_ask.specs.declared.end.ClientEnd.{ClientEnd}
 
 -- the client ended by no fault of its link
@@ -54,3 +56,10 @@ OneOutput {X} {Y} seen saw =
     → IsFair b publishing file (saw other).clear (saw other).faults (saw later).faults
     → IsAsked a publishing file query (seen before) (seen after) x d → IsAsked b publishing file query (saw other) (saw later) y e
     → PrintOneClient x y d e
+
+-- a timetable and a message make one publisher, and one line
+abbrev pub OnePublisher : Type 0
+OnePublisher =
+    (made : Timetable) (publishing : Publishing) (accepts : Bool) (file : Option File) (held other : Held Cutting) (line later : List ℕ)
+    → PublishesAfter made publishing accepts file held line → PublishesAfter made publishing accepts file other later
+    → (held ≡ other) × (line ≡ later)

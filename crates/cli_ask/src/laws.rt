@@ -1,4 +1,4 @@
-ghost use Rattle.cli_ask.specs.Laws.{OneOutput};
+ghost use Rattle.cli_ask.specs.Laws.{OneOutput, OnePublisher};
 
 use laws_clients::one_answer;
 use lc_world::Link;
@@ -9,5 +9,12 @@ pub fn one_output<L: Link, M: Link>()
     ensures { OneOutput L.seen M.seen }
 {
     one_answer();
+    one_outcome();
+}
+
+/// What a publisher has after a message is one, and the line that says what became of the message.
+pub fn one_publisher()
+    ensures { OnePublisher }
+{
     one_outcome();
 }

@@ -1,11 +1,14 @@
-ghost use Rattle.std.specs.Prelude.{◌≡◌, IfOk};
-ghost use Rattle.cli_ask.specs.Publishing.{held_with, store_of};
+ghost use Rattle.std.specs.Prelude.{◌≡◌, IfErr, IfOk};
+ghost use Rattle.cli_ask.specs.Admission.{IsFaulty};
+ghost use Rattle.cli_ask.specs.Publishing.{PublishesAfter, held_for, held_with, store_of};
 ghost use Rattle.connection_uri.specs.Base.{BaseParts};
 
+use crate::admission::{MessageFault, admit};
 use cli_words::Publishing;
 use connection_uri::{Base, bases_are_read};
 use fragmenter::Cutting;
 use lc_model::NoMemory;
+use lc_world::File;
 use publisher::{Options, Publisher};
 use std::alloc::Global;
 use timetable::Timetable;
@@ -17,6 +20,35 @@ pub fn publisher_of(
     publishing: Publishing,
 ) -> Result<Publisher<Cutting>, NoMemory>
     ensures { IfOk result (λ publisher. publisher ≡ held_with made publishing (store_of made publishing.base_moment)) }
+{
+    publisher_for(alloc, made, publishing, false)
+}
+
+/// The publisher of a timetable that was given the message of a file, if there is one, and the line that says what became of it. Its
+/// clients may send it messages, or not.
+pub fn serving_publisher(
+    alloc: Global,
+    made: Timetable,
+    publishing: Publishing,
+    accept_updates: bool,
+    file: &Option<File>,
+) -> Result<(Publisher<Cutting>, Vec<u8>), MessageFault>
+    ensures publishes { IfOk result (λ served. PublishesAfter made publishing accept_updates file.now served.0 served.1.items) }
+    ensures faulty { IfErr result (IsFaulty file.now) }
+{
+    let mut publisher = publisher_for(alloc, made, publishing, accept_updates)?;
+    let line = admit(alloc, &mut publisher, file)?;
+    Ok((publisher, line))
+}
+
+/// The publisher of a timetable, to which no message was admitted. It takes messages from its clients, or not.
+fn publisher_for(
+    alloc: Global,
+    made: Timetable,
+    publishing: Publishing,
+    accept_updates: bool,
+) -> Result<Publisher<Cutting>, NoMemory>
+    ensures { IfOk result (λ publisher. publisher ≡ held_for made publishing (store_of made publishing.base_moment) accept_updates) }
 {
     let Timetable {
         zone,
@@ -31,7 +63,7 @@ pub fn publisher_of(
     } = publishing;
     let options = Options {
         base,
-        accept_updates: false,
+        accept_updates,
     };
     Publisher::new(alloc, runs, doc, zone, base_moment, cutting, options)
 }

@@ -5,10 +5,10 @@ ghost use Rattle.cli_ask.specs.Block.{IsPrintable, client_text_of};
 ghost use Rattle.cli_ask.specs.declared.admission.MessageFault.TheVariants.{NoMemory as OutOfMemory};
 
 use crate::ClientEnd;
-use crate::admission::{MessageFault, admit};
+use crate::admission::MessageFault;
 use crate::block::push_client;
 use crate::client::client_end;
-use crate::publishing::{copy_of, publisher_of};
+use crate::publishing::{copy_of, serving_publisher};
 use cli_words::Publishing;
 use connection_uri::Base;
 use fragmenter::Cutting;
@@ -83,8 +83,7 @@ fn prepare_under(
     ensures prepared { IfOk result (λ prepared. IsPrepared made publishing file.now prepared.publisher prepared.base prepared.line.items) }
     ensures faulty { IfErr result (IsFaulty file.now) }
 {
-    let mut publisher = publisher_of(alloc, made, publishing)?;
-    let line = admit(alloc, &mut publisher, file)?;
+    let (publisher, line) = serving_publisher(alloc, made, publishing, false, file)?;
     Ok(Prepared {
         publisher,
         base,
