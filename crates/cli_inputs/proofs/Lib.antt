@@ -1,2 +1,3 @@
 pub mod InputsLemmas
+mod PlanLemmas
 mod ScriptLemmas

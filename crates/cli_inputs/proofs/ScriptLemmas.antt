@@ -1,5 +1,5 @@
 -- How a script is followed, record after record.
-use Rattle.std.proofs.Common.{◌≡◌, ◌∙◌, ◌⊎◌, ◌+◌, ◌<◌, ◌≤◌, ◌++◌, ◌∷◌, ℕ, zero, suc, inl, inr, List, [], None, Some, Option, Ok, Err, ap, arith, length, refl, subst, sym, take}
+use Rattle.std.proofs.Common.{◌≡◌, ◌∙◌, ◌+◌, ◌<◌, ◌++◌, ◌∷◌, ℕ, zero, suc, inl, inr, List, [], Some, ap, arith, length, refl, subst, sym, take, true}
 use Rattle.std.specs.List.{slice_get, slice_index_or}
 use Rattle.std.proofs.lemmas.List.Sums.{sum_by-cons}
 use Rattle.gtfs_tables.specs.Reading.{Keeps}
@@ -15,7 +15,7 @@ use Rattle.timetable.specs.Loading.{Loads}
 use Rattle.timetable.specs.declared.fault.LoadFault.TheVariants as fault
 use Rattle.timetable.specs.declared.scope.Scope.{Scope}
 use Rattle.timetable.specs.declared.timetable.Timetable.{Timetable}
-use Rattle.cli_inputs.specs.Script.{HasScript, HasTimetable, IsEventOf, IsRefusedAt, IsReplayRefused, ReadsEvents, ReadsReplay, ReadsScript, StopsAt}
+use Rattle.cli_inputs.specs.Script.{HasScript, HasTimetable, IsEventOf, IsRefusedAt, IsReplayRefused, IsScriptRefused, ReadsEvents, ReadsReplay, ReadsScript, StopsAt}
 use Rattle.cli_inputs.specs.declared.refusal.Refusal.{Refusal}
 use Rattle.cli_inputs.specs.declared.refusal.Refusal.TheVariants.{Usage, Load, Script, Folder, LongUpdate, BrokenUpdate}
 use Rattle.cli_inputs.proofs.InputsLemmas.{rose_later}
@@ -94,6 +94,19 @@ stops_at count script place row said old now new all refusal is until row_is ref
       refused = subst (λ n. IsRefusedAt count n said now new refusal) (row_is ∙ ap (λ n. n + 1) (sym parts.counted)) refused;
     }
 
+-- where the script is refused, the command is
+pub script_refused : (scope : Scope) (name : List ℕ) (old new : FolderSeen) (refusal : Refusal) → IsScriptRefused true name old new refusal → IsReplayRefused scope name old new refusal
+script_refused scope name old new Usage is = absurd is
+script_refused scope name old new (Load (fault.Broken rule file row)) is = absurd is
+script_refused scope name old new (Load (fault.TooLarge what count)) is = absurd is
+script_refused scope name old new (Load (fault.Folder before after)) is = absurd is
+script_refused scope name old new (Load fault.NoMemory) is = tt
+script_refused scope name old new (Script row) (inl lacks) = inl lacks
+script_refused scope name old new (Script row) (inr wrong) = inr (inl wrong)
+script_refused scope name old new (Folder before after) (fault, fails) = (fault, inl fails)
+script_refused scope name old new (LongUpdate count) is = absurd is
+script_refused scope name old new (BrokenUpdate message found) is = absurd is
+
 -- where an event is a turn, its record is one too, and as many clients asked before it
 record SplitAt (script : List Record) (before : List Event) (client : ℕ) : Type 0 where
   first : List Record
@@ -138,7 +151,7 @@ turns_read script old new all read of_clients before behind client is =
     let split = split_at script old new before behind client (subst (ReadsEvents script old new) is read) in
     subst (λ n. IsClient n client) split.clients (of_clients split.first split.rest client split.are)
 
-module _ (scope : Scope) (name : List ℕ) (old between : FolderSeen) (script : List Record) (read : ReadsScript name old between script) (kept : Keeps old between) where
+module _ (scope : Scope) (name : List ℕ) (old between : FolderSeen) (script : List Record) (read : ReadsScript true name old between script) (kept : Keeps old between) where
   -- the script was read
   pub has_script : HasScript name old between
   has_script = record { script = script; read = read; kept = kept }

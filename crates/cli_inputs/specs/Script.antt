@@ -1,6 +1,6 @@
 -- What a command with a script reads: the script, then the timetable of its feed, and then the files of the messages that the script names,
 -- in its order. Each is tested before the next one is asked for.
-use Rattle.std.specs.Prelude.{◌≡◌, ◌⊎◌, ◌<◌, ℕ, ◌+◌, true, List, [], ◌∷◌, ◌++◌, Ok, Err, length}
+use Rattle.std.specs.Prelude.{◌≡◌, ◌⊎◌, ◌<◌, ℕ, ◌+◌, Bool, true, List, [], ◌∷◌, ◌++◌, Ok, Err, length}
 use Rattle.gtfs_tables.specs.Reading.{Keeps}
 use Rattle.lc_io.specs.Counts.{Rose}
 use Rattle.lc_io.specs.Folder.{FolderSeen}
@@ -21,11 +21,11 @@ use Rattle.cli_inputs.specs.Inputs.{IsReadAs, ReadsFile}
 use Rattle.cli_inputs.specs.declared.refusal.Refusal.{Refusal}
 use Rattle.cli_inputs.specs.declared.refusal.Refusal.TheVariants.{Usage, Load, Script, Folder, LongUpdate, BrokenUpdate}
 
--- the file of this name was read, and says this script
-pub record ReadsScript (name : List ℕ) (old new : FolderSeen) (script : List Record) : Type 0 where
+-- the file of this name was read, and says this script, where messages may be named or not
+pub record ReadsScript (updates : Bool) (name : List ℕ) (old new : FolderSeen) (script : List Record) : Type 0 where
   pub bytes : List ℕ
   pub read : ReadsFile old new name (Ok bytes)
-  pub says : SaysScript bytes true script
+  pub says : SaysScript bytes updates script
 
 -- what the record says as an event; the file of a message was read
 abbrev pub IsEventOf : Record → FolderSeen → FolderSeen → Event → Type 0
@@ -49,7 +49,7 @@ ReadsEvents (said ∷ script) old new (event ∷ more) = (between : FolderSeen) 
 -- the script was read
 pub record HasScript (name : List ℕ) (old new : FolderSeen) : Type 0 where
   pub script : List Record
-  pub read : ReadsScript name old new script
+  pub read : ReadsScript true name old new script
   pub kept : Keeps old new
 
 -- the script was read, and then the timetable was loaded
@@ -67,11 +67,11 @@ pub record ReadsReplay (scope : Scope) (name : List ℕ) (old new : FolderSeen) 
   pub made_is : made ≡ has.made
   pub read : ReadsEvents has.script.script between new all
 
--- a row of the script is no record
-pub record HasWrongRow (name : List ℕ) (old new : FolderSeen) (row : ℕ) : Type 0 where
+-- a row of the script is no record, where messages may be named or not
+pub record HasWrongRow (updates : Bool) (name : List ℕ) (old new : FolderSeen) (row : ℕ) : Type 0 where
   pub bytes : List ℕ
   pub read : ReadsFile old new name (Ok bytes)
-  pub wrong : HasFault bytes true (Wrong row)
+  pub wrong : HasFault bytes updates (Wrong row)
 
 -- the script is absent, which is told as row 0
 pub record LacksScript (name : List ℕ) (old new : FolderSeen) (row : ℕ) : Type 0 where
@@ -146,6 +146,18 @@ pub record IsFolderFault (old new : FolderSeen) (before after : ℕ) : Type 0 wh
 abbrev pub FailsAtScript : List ℕ → FolderSeen → FolderSeen → Type 0
 FailsAtScript name old new = ReadsFile old new name (Err Failed)
 
+-- why a script is refused: it is absent, a row of it is no record, or it could not be read; memory may run out
+abbrev pub IsScriptRefused : Bool → List ℕ → FolderSeen → FolderSeen → Refusal → Type 0
+IsScriptRefused updates name old new Usage = ⊥
+IsScriptRefused updates name old new (Load (fault.Broken rule file row)) = ⊥
+IsScriptRefused updates name old new (Load (fault.TooLarge what count)) = ⊥
+IsScriptRefused updates name old new (Load (fault.Folder before after)) = ⊥
+IsScriptRefused updates name old new (Load fault.NoMemory) = Unit {0}
+IsScriptRefused updates name old new (Script row) = LacksScript name old new row ⊎ HasWrongRow updates name old new row
+IsScriptRefused updates name old new (Folder before after) = IsFolderFault old new before after × FailsAtScript name old new
+IsScriptRefused updates name old new (LongUpdate count) = ⊥
+IsScriptRefused updates name old new (BrokenUpdate message found) = ⊥
+
 -- why a command with a script is refused, each cause in its turn: the script, the feed, the messages; memory may run out
 abbrev pub IsReplayRefused : Scope → List ℕ → FolderSeen → FolderSeen → Refusal → Type 0
 IsReplayRefused scope name old new Usage = ⊥
@@ -153,7 +165,7 @@ IsReplayRefused scope name old new (Load (fault.Broken rule file row)) = FailsTo
 IsReplayRefused scope name old new (Load (fault.TooLarge what count)) = FailsToLoad scope name old new (fault.TooLarge what count)
 IsReplayRefused scope name old new (Load (fault.Folder before after)) = FailsToLoad scope name old new (fault.Folder before after)
 IsReplayRefused scope name old new (Load fault.NoMemory) = Unit {0}
-IsReplayRefused scope name old new (Script row) = LacksScript name old new row ⊎ HasWrongRow name old new row ⊎ StopsAtRecord scope name old new (Script row)
+IsReplayRefused scope name old new (Script row) = LacksScript name old new row ⊎ HasWrongRow true name old new row ⊎ StopsAtRecord scope name old new (Script row)
 IsReplayRefused scope name old new (Folder before after) =
     IsFolderFault old new before after × (FailsAtScript name old new ⊎ StopsAtRecord scope name old new (Folder before after))
 IsReplayRefused scope name old new (LongUpdate count) = StopsAtRecord scope name old new (LongUpdate count)

@@ -1,11 +1,14 @@
-//! What a command reads: the timetable of its feed, a realtime message, and a script with the messages that it names; or why it is refused.
+//! What a command reads: the timetable of its feed, a realtime message, a script with the messages that it names, and one of questions and
+//! turns alone; or why it is refused.
 //! It stands on `timetable`, `script_text` and `laws_replay`.
 #![tactic(auto)]
 
 mod inputs;
+mod plan;
 mod refusal;
 mod script;
 
 pub use inputs::{Inputs, read_inputs};
+pub use plan::read_plan;
 pub use refusal::Refusal;
 pub use script::{ReplayInputs, read_replay};

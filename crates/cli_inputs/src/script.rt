@@ -1,11 +1,10 @@
-ghost use Rattle.std.specs.Prelude.{◌≡◌, IfErr, IfOk, length, ◌<◌, ◌+◌};
+ghost use Rattle.std.specs.Prelude.{◌≡◌, All, IfErr, IfOk, IsFalse, length, ◌<◌, ◌+◌};
 ghost use Rattle.cli_inputs.specs.Inputs.{ReadsFile};
-ghost use Rattle.cli_inputs.specs.Script.{IsEventOf, IsRefusedAt, IsReplayRefused, ReadsEvents, ReadsReplay, ReadsScript, StopsAt, IsMessageOf, IsNone};
+ghost use Rattle.cli_inputs.specs.Script.{IsEventOf, IsRefusedAt, IsReplayRefused, IsScriptRefused, ReadsEvents, ReadsReplay, ReadsScript, StopsAt, IsMessageOf, IsNone};
 ghost use Rattle.gtfs_tables.specs.Reading.{Keeps};
 ghost use Rattle.laws_replay.specs.Events.{TurnsAreOfClients};
-ghost use Rattle.script_text.specs.Script.{TurnsAreOfClients as AreOfClients};
+ghost use Rattle.script_text.specs.Script.{NamesNone, TurnsAreOfClients as AreOfClients};
 ghost use Rattle.timetable.specs.Scope.{IsWindow};
-ghost use Rattle.timetable.specs.declared.scope.Scope.{Scope as Scoped};
 
 use crate::Refusal;
 use cli_ask::MessageFault;
@@ -37,7 +36,7 @@ pub fn read_replay<F: Folder>(
     ensures kept { Keeps (F.seen folder.old) (F.seen folder.new) }
 {
     let before = folder.faults();
-    match read_records(alloc, folder, before, &script) {
+    match read_records(alloc, folder, before, &script, true) {
         Ok(records) => match load(alloc, folder, scope) {
             Ok(made) => match read_events(alloc, folder, before, &records) {
                 Ok(events) => Ok(ReplayInputs { made, events }),
@@ -49,21 +48,23 @@ pub fn read_replay<F: Folder>(
     }
 }
 
-/// Reads the script, where the folder's count of faults was this before.
-fn read_records<F: Folder>(
+/// Reads the script, which may name messages or not, where the folder's count of faults was this before.
+pub(crate) fn read_records<F: Folder>(
     alloc: Global,
     folder: &mut F,
     before: u64,
     name: &Text,
+    updates: bool,
 ) -> Result<Script, Refusal>
     requires { before ≡ (F.seen folder.old).faults }
-    ensures read { IfOk result (ReadsScript name.now (F.seen folder.old) (F.seen folder.new)) }
+    ensures read { IfOk result (ReadsScript updates name.now (F.seen folder.old) (F.seen folder.new)) }
     ensures turns { IfOk result AreOfClients }
-    ensures refused { IfErr result (λ refusal. (scope : Scoped) → IsReplayRefused scope name.now (F.seen folder.old) (F.seen folder.new) refusal) }
+    ensures messages { IsFalse updates → IfOk result (All NamesNone) }
+    ensures refused { IfErr result (IsScriptRefused updates name.now (F.seen folder.old) (F.seen folder.new)) }
     ensures kept { Keeps (F.seen folder.old) (F.seen folder.new) }
 {
     match folder.read(alloc, name.as_str()) {
-        Ok(bytes) => match read_script(alloc, bytes.as_slice(), true) {
+        Ok(bytes) => match read_script(alloc, bytes.as_slice(), updates) {
             Ok(script) => Ok(script),
             Err(ScriptFault::Wrong { row }) => Err(Refusal::Script { row }),
             Err(ScriptFault::NoMemory) => Err(Refusal::from(NoMemory)),

@@ -1,5 +1,4 @@
-use Rattle.std.proofs.Common.{◌≡◌, ◌+◌, ◌<◌, Some, arith, length, refl, subst, sym}
-use Rattle.std.specs.List.{slice_get}
+use Rattle.std.proofs.Common.{◌+◌, ◌<◌, arith, length, refl, subst, sym}
 use Rattle.cli_inputs.specs.Script.{IsRefusedAt}
 use Rattle.cli_inputs.proofs.ScriptLemmas.{at_place, read_more, stops_at}
 use Rattle.cli_inputs.proofs.script.read_events.Goals as goal

@@ -1,5 +1,4 @@
-use Rattle.std.proofs.Common.{refl}
-use Rattle.cli_inputs.proofs.ScriptLemmas.{has_timetable, reads_replay, refused_at, turns_read}
+use Rattle.cli_inputs.proofs.ScriptLemmas.{reads_replay, refused_at, script_refused, turns_read}
 use Rattle.cli_inputs.proofs.script.read_replay.Goals as goal
 
 pub returns-in-Ok-read_events-clause-read : goal.returns-in-Ok-read_events-clause-read
@@ -18,4 +17,5 @@ returns-in-Ok-load-clause-refused g c =
     c.faults-before.ensures c.in-Err-read_events.ensures.stops
 
 pub returns-clause-refused : goal.returns-clause-refused
-returns-clause-refused g c = c.in-Err.ensures.refused c.args.scope.now
+returns-clause-refused g c =
+    script_refused c.args.scope.now c.args.script (g.F.Folder.seen c.args.folder.now) (g.F.Folder.seen c.read_records.new.folder) c.in-Err.refusal c.in-Err.ensures.refused
