@@ -139,12 +139,12 @@ one_replay words a b x y =
 one_serve : (words : List (List ℕ)) (a b : Serve) → SaysServe words a → SaysServe words b → a ≡ b
 one_serve words a b x y =
     let one = one_feed_window serve_line words a.feed b.feed a.first b.first a.days b.days a.zone b.zone a.change b.change x.feed_window y.feed_window in
-    let port = same_number a.port b.port (sym x.port_is ∙ y.port_is) in
+    let port = same_number a.port b.port (sym x.door.port_is ∙ y.door.port_is) in
     let publishing = subst (λ (n : ℕ). SaysPublishingOr (address_at n) serve_line words a.publishing) port x.publishing in
     same_serve a b one.0 one.1 one.2 one.3 one.4
     (one_publishing _ serve_line words a.publishing b.publishing publishing y.publishing)
-    (sym x.update.is ∙ y.update.is) port (same_number a.connections b.connections (sym x.connections_are ∙ y.connections_are))
-    (x.accepts ∙ sym y.accepts)
+    (sym x.update.is ∙ y.update.is) port (same_number a.connections b.connections (sym x.door.connections_are ∙ y.door.connections_are))
+    (x.door.accepts_is ∙ sym y.door.accepts_is)
 
 one_plan : (words : List (List ℕ)) (a b : Plan) → SaysPlan words a → SaysPlan words b → a ≡ b
 one_plan words a b x y =

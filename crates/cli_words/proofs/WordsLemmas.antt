@@ -11,10 +11,12 @@ use Rattle.cli_words.specs.Line.{line, texts_of}
 use Rattle.lc_time.proofs.DateLemmas.{same_date}
 use Rattle.cli_words.specs.Ask.{SaysAsk}
 use Rattle.cli_words.specs.Options.{AreOptions}
+use Rattle.cli_words.specs.Plan.{SaysPlan}
 use Rattle.cli_words.specs.Window.{IsDateAt}
 use Rattle.cli_words.specs.Words.{SaysCommand}
 use Rattle.cli_words.specs.declared.command.Ask.{Ask}
 use Rattle.cli_words.specs.declared.command.Command.{Command}
+use Rattle.cli_words.specs.declared.command.Plan.{Plan}
 use Rattle.cli_words.specs.declared.command.Command.TheVariants as command
 
 -- the lines are simple ones
@@ -78,8 +80,19 @@ pub no_ask : (texts rest : List (List ℕ)) (name : List ℕ) → texts ≡ name
 no_ask texts rest name parts is none said says = asked rest name is none said (subst (λ (t : List (List ℕ)). SaysCommand t said) parts says)
   where
     asked : (rest : List (List ℕ)) (name : List ℕ) → name ≡ codes "ask" → ((ask : Ask) → SaysAsk rest ask → ⊥) → (said : Command) → SaysCommand (name ∷ rest) said → ⊥
-    asked rest name is none (command.Check check) says = absurd (apart name _ _ refl is says.0)
+    asked rest name is none (command.Check check) says = apart name _ _ refl is says.0
     asked rest name is none (command.Ask ask) says = none ask says.1
-    asked rest name is none (command.Replay replay) says = absurd (apart name _ _ refl is says.0)
-    asked rest name is none (command.Serve serve) says = absurd (apart name _ _ refl is says.0)
-    asked rest name is none (command.Plan plan) says = absurd (apart name _ _ refl is says.0)
+    asked rest name is none (command.Replay replay) says = apart name _ _ refl is says.0
+    asked rest name is none (command.Serve serve) says = apart name _ _ refl is says.0
+    asked rest name is none (command.Plan plan) says = apart name _ _ refl is says.0
+
+-- and those that begin with `plan` and say no plan
+pub no_plan : (texts rest : List (List ℕ)) (name : List ℕ) → texts ≡ name ∷ rest → name ≡ codes "plan" → ((plan : Plan) → SaysPlan rest plan → ⊥) → (said : Command) → SaysCommand texts said → ⊥
+no_plan texts rest name parts is none said says = planned rest name is none said (subst (λ (t : List (List ℕ)). SaysCommand t said) parts says)
+  where
+    planned : (rest : List (List ℕ)) (name : List ℕ) → name ≡ codes "plan" → ((plan : Plan) → SaysPlan rest plan → ⊥) → (said : Command) → SaysCommand (name ∷ rest) said → ⊥
+    planned rest name is none (command.Check check) says = apart name _ _ refl is says.0
+    planned rest name is none (command.Ask ask) says = apart name _ _ refl is says.0
+    planned rest name is none (command.Replay replay) says = apart name _ _ refl is says.0
+    planned rest name is none (command.Serve serve) says = apart name _ _ refl is says.0
+    planned rest name is none (command.Plan plan) says = none plan says.1

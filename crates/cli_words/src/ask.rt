@@ -10,14 +10,14 @@ ghost use Rattle.cli_words.specs.declared.command.Ask.{Ask as Asked};
 
 use crate::Ask;
 use crate::feed_window::{FeedWindow, window_texts};
-use crate::line::{read_line, text_of};
+use crate::line::read_line;
 use crate::options::read_options;
 use crate::pages::{Pages, read_pages};
 use crate::question::read_question;
-use crate::update::read_update;
+use crate::update::{copy_of, read_update};
 use crate::window::{date_before, is_window};
 use clap::ArgMatches;
-use lc_model::{Moment, NoMemory, Query, Text};
+use lc_model::{Moment, NoMemory, Query};
 use std::alloc::Global;
 
 /// The plain words of `ask` in their order, and its options.
@@ -130,15 +130,5 @@ fn ask_words<'a>(found: &ArgMatches<'a>, leave: Moment) -> Option<FeedWindow<'a>
         })
     } else {
         None
-    }
-}
-
-/// A text of its own, if there is one.
-fn copy_of(alloc: Global, text: Option<&str>) -> Result<Option<Text>, NoMemory>
-    ensures { IfOk result (λ copy. copy ≡ option_map (λ s. s.now) text.entry) }
-{
-    match text {
-        Some(text) => Ok(Some(text_of(alloc, text)?)),
-        None => Ok(None),
     }
 }

@@ -1,7 +1,7 @@
 ghost use Rattle.std.specs.Prelude.{◌≡◌, ◌≤◌, ℕ, List, MatchOption, option_map};
 ghost use Rattle.clap.specs.Simple.{App};
 ghost use Rattle.cli_words.specs.Line.{HasFound};
-ghost use Rattle.cli_words.specs.Options.{AreOptions, bounded_said, is_name, number_said, text_said, zone_said};
+ghost use Rattle.cli_words.specs.Options.{AreOptions, bounded_said, flag_said, is_name, number_said, required_said, text_said, zone_said};
 
 use clap::ArgMatches;
 use lc_time::read_u32;
@@ -41,6 +41,26 @@ pub(crate) fn number(value: Option<&str>, default: u32, low: u32, high: u32) -> 
     match value {
         Some(text) => bounded(text.as_bytes(), low, high),
         None => Some(default),
+    }
+}
+
+/// The number that an option says which has to be there, if it lies between these. Linear in the text.
+pub(crate) fn required(value: Option<&str>, low: u32, high: u32) -> Option<u32>
+    ensures { result ≡ required_said low high (option_map (λ s. s.now) value.entry) }
+{
+    match value {
+        Some(text) => bounded(text.as_bytes(), low, high),
+        None => None,
+    }
+}
+
+/// Whether an option without a value is there.
+pub(crate) fn flag(value: Option<&str>) -> bool
+    ensures { result ≡ flag_said (option_map (λ s. s.now) value.entry) }
+{
+    match value {
+        Some(text) => text == "true",
+        None => false,
     }
 }
 

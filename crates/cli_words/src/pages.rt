@@ -34,7 +34,7 @@ pub(crate) fn read_pages<'a>(
     let Some(cache) = read_cache(found) else {
         return Ok(None);
     };
-    match read_publishing(alloc, found)? {
+    match read_publishing(alloc, found, "http://lc.example/")? {
         Some(publishing) => Ok(Some(Pages { publishing, cache })),
         None => Ok(None),
     }

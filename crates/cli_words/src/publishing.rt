@@ -3,7 +3,7 @@ ghost use Rattle.clap.specs.Simple.{App};
 ghost use Rattle.fragmenter.specs.declared.cutting.Cutting.{Cutting as Way};
 ghost use Rattle.connection_uri.specs.Base.{BaseParts};
 ghost use Rattle.cli_words.specs.Line.{HasFound};
-ghost use Rattle.cli_words.specs.Publishing.{SaysBase, SaysBehind, SaysCutting, SaysPublishing};
+ghost use Rattle.cli_words.specs.Publishing.{SaysBase, SaysBehind, SaysCutting, SaysPublishingOr};
 ghost use Rattle.cli_words.specs.declared.command.Publishing.{Publishing as Published};
 
 use crate::Publishing;
@@ -15,13 +15,16 @@ use lc_model::NoMemory;
 use lc_time::read_iso;
 use std::alloc::Global;
 
-/// How a timetable is published by the options that were found in a line, or none where one of them is said wrongly.
+/// How a timetable is published by the options that were found in a line, with this base where they say none. None where one of them is
+/// said wrongly.
 pub(crate) fn read_publishing<'a>(
     alloc: Global,
     found: &ArgMatches<'a>,
+    default_base: &str,
 ) -> Result<Option<Publishing>, NoMemory>
     ensures { (a : App) (words : List (List ℕ)) → HasFound a words found.now → IfOk result (λ publishing.
-        MatchOption publishing ((publishing : Published) → SaysPublishing a words publishing → ⊥) (SaysPublishing a words)) }
+        MatchOption publishing ((publishing : Published) → SaysPublishingOr default_base.now a words publishing → ⊥)
+        (SaysPublishingOr default_base.now a words)) }
 {
     let base_moment = text_or(found.get_str("base-moment"), "1970-01-01T00:00:00Z");
     let Some(base_moment) = read_iso(base_moment.as_bytes()) else {
@@ -31,7 +34,7 @@ pub(crate) fn read_publishing<'a>(
     let Some(cutting) = read_cutting(cutting.as_bytes()) else {
         return Ok(None);
     };
-    let base = text_or(found.get_str("base"), "http://lc.example/");
+    let base = text_or(found.get_str("base"), default_base);
     let Some(base) = read_base(alloc, base)? else {
         return Ok(None);
     };
@@ -43,7 +46,7 @@ pub(crate) fn read_publishing<'a>(
 }
 
 /// The base that a text says.
-fn read_base(alloc: Global, text: &str) -> Result<Option<Base>, NoMemory>
+pub(crate) fn read_base(alloc: Global, text: &str) -> Result<Option<Base>, NoMemory>
     ensures { IfOk result (λ base. MatchOption base ((base : BaseParts) → SaysBase text.now base → ⊥) (SaysBase text.now)) }
 {
     Base::read(alloc, text.as_bytes())

@@ -6,7 +6,9 @@ ghost use Rattle.cli_words.specs.declared.command.Command.{Command as Said};
 use crate::Command;
 use crate::ask::read_ask;
 use crate::check::read_check;
+use crate::plan::read_plan;
 use crate::replay::read_replay;
+use crate::serve::read_serve;
 use lc_model::NoMemory;
 use std::alloc::Global;
 
@@ -32,8 +34,14 @@ pub fn read_words(alloc: Global, words: &[String]) -> Result<Option<Command>, No
             Some(replay) => Ok(Some(Command::Replay(replay))),
             None => Ok(None),
         },
-        "serve" => Err(NoMemory),
-        "plan" => Err(NoMemory),
+        "serve" => match read_serve(alloc, rest)? {
+            Some(serve) => Ok(Some(Command::Serve(serve))),
+            None => Ok(None),
+        },
+        "plan" => match read_plan(alloc, rest)? {
+            Some(plan) => Ok(Some(Command::Plan(plan))),
+            None => Ok(None),
+        },
         _ => Ok(None),
     }
 }

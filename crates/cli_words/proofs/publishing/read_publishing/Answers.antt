@@ -11,6 +11,6 @@ returns-in_default c = λ a words found publishing says.
 
 pub returns-in_default-2 : goal.returns-in_default-2
 returns-in_default-2 c = λ a words found publishing says.
-    let same = c.text_or-base.ensures ∙ ap (text_said (codes "http://lc.example/")) (c.get_str-3.ensures ∙ found (codes "base")) in
+    let same = c.text_or-base.ensures ∙ ap (text_said c.args.default_base.now) (c.get_str-3.ensures ∙ found (codes "base")) in
     let none = rw c.in_default-2.is at c.in_ok-base.ensures in
     none publishing.base (subst (λ (t : List ℕ). SaysBase t publishing.base) (sym same) says.base_said)
