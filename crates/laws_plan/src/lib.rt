@@ -1,0 +1,3 @@
+//! Clients that plan over one link, whose side may grow between their exchanges: what it means that each of them ended rightly, and the laws
+//! that they do. It stands on `laws_replay`.
+#![tactic(auto)]
