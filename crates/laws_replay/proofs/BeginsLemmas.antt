@@ -71,21 +71,21 @@ one_given_each side (member ∷ members) [] all = absurd all
 one_given_each side (member ∷ members) (own ∷ given) all = ap suc (one_given_each side members given all.1)
 
 -- a client that begins has asked nothing in vain
-begins_without_failure : (side : Side) (query : Query) (refusal : Option QueryFault) → HasFailedSo side query None [] [] (first_outcome refusal)
+pub begins_without_failure : (side : Side) (query : Query) (refusal : Option QueryFault) → HasFailedSo side query None [] [] (first_outcome refusal)
 begins_without_failure side query None = refl
 begins_without_failure side query (Some fault) = refl
 
 -- and has met nothing
-met_nothing : (outcome : Option Outcome) → HasMet [] outcome
+pub met_nothing : (outcome : Option Outcome) → HasMet [] outcome
 met_nothing outcome = record { ones = []; idle = []; are = refl; each = All-nil IsOne; none = All-nil IsIdle; ended = inl refl; at_last = tt }
 
 -- the last of a list that grew
-last_is : {X : Type 0} (xs : List X) (x y : X) (place : ℕ) → place ≡ length xs → slice_get (xs ++ x ∷ []) place ≡ Some y → y ≡ x
+pub last_is : {X : Type 0} (xs : List X) (x y : X) (place : ℕ) → place ≡ length xs → slice_get (xs ++ x ∷ []) place ≡ Some y → y ≡ x
 last_is xs x y place at has =
     let there : slice_get (xs ++ x ∷ []) place ≡ Some x = subst (λ (i : ℕ). slice_get (xs ++ x ∷ []) i ≡ Some x) (sym at) (slice_get-last xs x) in
     cc
 
-earlier : {X : Type 0} (xs ys : List X) (place : ℕ) (y : X) → place < length xs → slice_get (xs ++ ys) place ≡ Some y → slice_get xs place ≡ Some y
+pub earlier : {X : Type 0} (xs ys : List X) (place : ℕ) (y : X) → place < length xs → slice_get (xs ++ ys) place ≡ Some y → slice_get xs place ≡ Some y
 earlier xs ys place y within has = sym (slice_get-more xs ys place within) ∙ has
 
 is_above : (place count : ℕ) → place ≡ count → count < place + 1

@@ -27,10 +27,10 @@ abbrev Own : ℕ → Met → Type 0
 Own c met = met.client ≡ c
 
 -- an exchange of the client that failed
-abbrev fails : ℕ → Met → Bool
+abbrev pub fails : ℕ → Met → Bool
 fails c met = (met.client == c) && is_none met.made.got
 
-abbrev fails_of : ℕ → List Met → List Met
+abbrev pub fails_of : ℕ → List Met → List Met
 fails_of c all = filter (fails c) all
 
 and_false : (b : Bool) → (b && false) ≡ false
@@ -86,7 +86,7 @@ own_round c round part one =
     ap wants_of here ∙ sym one.failed
 
 -- so the failed exchanges of a client are what failed in its rounds
-fails_in : (c : ℕ) (order : List ℕ) (rounds : List Round) (met : List Met) → AreMetIn order rounds met → wants_of (fails_of c met) ≡ failed_in (rounds_of c order rounds)
+pub fails_in : (c : ℕ) (order : List ℕ) (rounds : List Round) (met : List Met) → AreMetIn order rounds met → wants_of (fails_of c met) ≡ failed_in (rounds_of c order rounds)
 fails_in c [] [] met are = ap (λ (l : List Met). wants_of (fails_of c l)) are
 fails_in c [] (r ∷ rs) met are = absurd are
 fails_in c (k ∷ order) [] met are = absurd are
@@ -129,7 +129,7 @@ is_failure : (c low high : ℕ) (met : List Met) (f : HasFailedBetween c low hig
 is_failure c low high met f = fails_lost c f.exchange f.own f.failed
 
 -- a client whose rounds have one failure has one pair of counts
-one_pair : (c : ℕ) (order : List ℕ) (rounds : List Round) (met : List Met) (w : Want) (low high other later : ℕ) → AreMetIn order rounds met →
+pub one_pair : (c : ℕ) (order : List ℕ) (rounds : List Round) (met : List Met) (w : Want) (low high other later : ℕ) → AreMetIn order rounds met →
     failed_in (rounds_of c order rounds) ≡ w ∷ [] → HasFailedBetween c low high met → HasFailedBetween c other later met → (low ≡ other) × (high ≡ later)
 one_pair c order rounds met w low high other later are one f g =
     let here = among c met f.place f.exchange f.there (is_failure c low high met f) in
@@ -138,14 +138,14 @@ one_pair c order rounds met w low high other later are one f g =
     (sym f.low_is ∙ ap (λ (m : Met). m.low) same ∙ g.low_is, sym f.high_is ∙ ap (λ (m : Met). m.high) same ∙ g.high_is)
 
 -- who failed by what was met failed in its rounds
-none_failed : (c : ℕ) (order : List ℕ) (rounds : List Round) (met : List Met) (low high : ℕ) → AreMetIn order rounds met →
+pub none_failed : (c : ℕ) (order : List ℕ) (rounds : List Round) (met : List Met) (low high : ℕ) → AreMetIn order rounds met →
     failed_in (rounds_of c order rounds) ≡ [] → HasFailedBetween c low high met → ⊥
 none_failed c order rounds met low high are none f =
     let here = among c met f.place f.exchange f.there (is_failure c low high met f) in
     none_there (fails_of c met) here.0 f.exchange (fails_in c order rounds met are ∙ none) here.1
 
 -- whoever failed at something ended by a fault of the link
-only_fault : (side : Side) (query : Query) (version : Option ℕ) (given failed : List Want) (outcome : Outcome) → FailsWith side query version given failed outcome → (failed ≡ [] → ⊥) →
+pub only_fault : (side : Side) (query : Query) (version : Option ℕ) (given failed : List Want) (outcome : Outcome) → FailsWith side query version given failed outcome → (failed ≡ [] → ⊥) →
     (low : ℕ) × (high : ℕ) × (outcome ≡ outcomes.LinkFault low high)
 only_fault side query version given failed (outcomes.Found journey) so some = absurd (some so)
 only_fault side query version given failed outcomes.NoJourney so some = absurd (some so)
@@ -153,7 +153,7 @@ only_fault side query version given failed (outcomes.Refused fault) so some = ab
 only_fault side query version given failed (outcomes.LinkFault low high) so some = (low, high, refl)
 only_fault side query version given failed (outcomes.PeerWrong reply fault) so some = absurd (some so)
 
-one_failed : (side : Side) (query : Query) (version : Option ℕ) (given failed : List Want) (outcome : Outcome) (low high : ℕ) → FailsWith side query version given failed outcome → outcome ≡ outcomes.LinkFault low high →
+pub one_failed : (side : Side) (query : Query) (version : Option ℕ) (given failed : List Want) (outcome : Outcome) (low high : ℕ) → FailsWith side query version given failed outcome → outcome ≡ outcomes.LinkFault low high →
     (want : Want) × (failed ≡ want ∷ [])
 one_failed side query version given failed outcome low high so is =
     let fails = subst (FailsWith side query version given failed) is so in (fails.want, fails.one)

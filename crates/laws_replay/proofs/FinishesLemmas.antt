@@ -38,12 +38,12 @@ use Rattle.laws_replay.proofs.FinishesListLemmas.{length-counted, no_turn, own_r
 use Rattle.laws_replay.proofs.PlayedTo.{IsMemberSo, IsPlayedTo}
 
 -- the client that ended so
-record HasThere (members : List Member) (place : ℕ) (end : ClientEnd) : Type 0 where
-  member : Member
-  is : slice_get members place ≡ Some member
-  so : HasEndedSo member end
+pub record HasThere (members : List Member) (place : ℕ) (end : ClientEnd) : Type 0 where
+  pub member : Member
+  pub is : slice_get members place ≡ Some member
+  pub so : HasEndedSo member end
 
-end_at : (members : List Member) (ends : List ClientEnd) (place : ℕ) (end : ClientEnd) → HaveEndedSo members ends → slice_get ends place ≡ Some end → HasThere members place end
+pub end_at : (members : List Member) (ends : List ClientEnd) (place : ℕ) (end : ClientEnd) → HaveEndedSo members ends → slice_get ends place ≡ Some end → HasThere members place end
 end_at [] [] place end so has = absurd (cc)
 end_at [] (first ∷ ends) place end so has = absurd so
 end_at (member ∷ members) [] place end so has = absurd so

@@ -1,18 +1,18 @@
-mod BeginsLemmas
+pub mod BeginsLemmas
 mod CausedCourseLemmas
-mod CausedEndsLemmas
-mod EventLemmas
-mod FailureLemmas
-mod FaultLemmas
+pub mod CausedEndsLemmas
+pub mod EventLemmas
+pub mod FailureLemmas
+pub mod FaultLemmas
 mod FinishesClientLemmas
-mod FinishesLemmas
-mod FinishesListLemmas
-mod HearsLemmas
+pub mod FinishesLemmas
+pub mod FinishesListLemmas
+pub mod HearsLemmas
 mod HistoryLemmas
-mod OneCourseLemmas
+pub mod OneCourseLemmas
 mod OneHeardLemmas
-mod OneRoundsLemmas
-mod PlayedTo
+pub mod OneRoundsLemmas
+pub mod PlayedTo
 mod PlaysLemmas
-mod TurnsClientLemmas
-mod TurnsLemmas
+pub mod TurnsClientLemmas
+pub mod TurnsLemmas

@@ -40,7 +40,7 @@ use Rattle.laws_replay.proofs.OneHeardLemmas.{of_course, one_course_heard}
 use Rattle.laws_replay.proofs.OneRoundsLemmas.{MetTheSame, as_many_rounds, met_in_all, met_the_same, same_rounds}
 
 -- a client that ended by no fault of the link asked for nothing in vain
-none_failed : (side : Side) (query : Query) (version : Option ℕ) (given failed : List Want) (outcome : Outcome) → FailsWith side query version given failed outcome → IsNoLinkFault outcome → failed ≡ []
+pub none_failed : (side : Side) (query : Query) (version : Option ℕ) (given failed : List Want) (outcome : Outcome) → FailsWith side query version given failed outcome → IsNoLinkFault outcome → failed ≡ []
 none_failed side query version given failed (outcomes.Found journey) fails fine = fails
 none_failed side query version given failed outcomes.NoJourney fails fine = fails
 none_failed side query version given failed (outcomes.Refused fault) fails fine = fails
@@ -57,13 +57,13 @@ are_counted count zero up_to = tt
 are_counted count (suc n) up_to =
     are_more count (counted n) (suc n ∷ []) (are_counted count n (omega (arith, up_to))) (record { from_one = omega arith; at_most = up_to }, tt)
 
-all_are_clients : (all : List Event) → TurnsAreOfClients all → AreClients (length (questions_in all)) (order_of all)
+pub all_are_clients : (all : List Event) → TurnsAreOfClients all → AreClients (length (questions_in all)) (order_of all)
 all_are_clients all turns =
     let count = length (questions_in all) in
     are_more count (turns_in all) (counted count) (turns_of_clients all turns) (are_counted count count (omega arith))
 
 -- what holds of all items holds of one at a place
-at_place : {X : Type 0} (P : X → Type 0) (xs : List X) (place : ℕ) (x : X) → All P xs → slice_get xs place ≡ Some x → P x
+pub at_place : {X : Type 0} (P : X → Type 0) (xs : List X) (place : ℕ) (x : X) → All P xs → slice_get xs place ≡ Some x → P x
 at_place P [] place x all is = absurd (cc)
 at_place P (first ∷ xs) zero x all is =
     let same : first ≡ x = cc in
@@ -71,7 +71,7 @@ at_place P (first ∷ xs) zero x all is =
 at_place P (first ∷ xs) (suc place) x all is = at_place P xs place x (All-tail P first xs all) is
 
 -- lists of one length, whose items at each place fit
-zip_places : {X : Type 0} (R : X → X → Type 0) (xs ys : List X) → length xs ≡ length ys → ((place : ℕ) (x y : X) → slice_get xs place ≡ Some x → slice_get ys place ≡ Some y → R x y) → AllZip R xs ys
+pub zip_places : {X : Type 0} (R : X → X → Type 0) (xs ys : List X) → length xs ≡ length ys → ((place : ℕ) (x y : X) → slice_get xs place ≡ Some x → slice_get ys place ≡ Some y → R x y) → AllZip R xs ys
 zip_places R [] [] same fit = tt
 zip_places R [] (y ∷ ys) same fit = absurd (omega (arith, same))
 zip_places R (x ∷ xs) [] same fit = absurd (omega (arith, same))

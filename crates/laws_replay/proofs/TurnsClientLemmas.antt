@@ -143,7 +143,7 @@ asked_more : (rounds : List Round) (more : Round) → asked_in (rounds ++ more �
 asked_more rounds more = flat_map-append (λ (round : Round). round.asked) rounds (more ∷ []) ∙ ap (λ (l : List Want). asked_in rounds ++ l) (append-nil more.asked)
 
 -- a client that waits is not at its end: it met one want in each of its turns
-all_ones : (rounds : List Round) (outcome : Option Outcome) (met : HasMet rounds outcome) → outcome ≡ None → rounds ≡ met.ones
+pub all_ones : (rounds : List Round) (outcome : Option Outcome) (met : HasMet rounds outcome) → outcome ≡ None → rounds ≡ met.ones
 all_ones rounds outcome met waits = by_end met.ended where
   by_end : (met.idle ≡ []) ⊎ IsSome outcome → rounds ≡ met.ones
   by_end (inl none) = met.are ∙ ap (λ (l : List Round). met.ones ++ l) none ∙ append-nil met.ones
@@ -161,12 +161,12 @@ no_turns (round ∷ rounds) ones none_given none_failed =
     absurd (cc)
 
 -- a client that waits has asked for nothing in vain
-none_in_vain : (side : Side) (query : Query) (version : Option ℕ) (given failed : List Want) (outcome : Option Outcome) → outcome ≡ None → HasFailedSo side query version given failed outcome → failed ≡ []
+pub none_in_vain : (side : Side) (query : Query) (version : Option ℕ) (given failed : List Want) (outcome : Option Outcome) → outcome ≡ None → HasFailedSo side query version given failed outcome → failed ≡ []
 none_in_vain side query version given failed None waits is = is
 none_in_vain side query version given failed (Some ended) waits is = absurd (cc)
 
 -- without a fault of the link nothing is asked for in vain
-in_vain_by_fault : (side : Side) (query : Query) (version : Option ℕ) (given failed : List Want) (outcome : Option Outcome) →
+pub in_vain_by_fault : (side : Side) (query : Query) (version : Option ℕ) (given failed : List Want) (outcome : Option Outcome) →
     ((low high : ℕ) → outcome ≡ Some (outcomes.LinkFault low high) → ⊥) → failed ≡ [] → HasFailedSo side query version given failed outcome
 in_vain_by_fault side query version given failed None not none = none
 in_vain_by_fault side query version given failed (Some (outcomes.Found journey)) not none = none

@@ -41,7 +41,7 @@ use Rattle.laws_replay.proofs.PlayedTo.{IsMemberSo, IsPlayedTo}
 use Rattle.laws_replay.proofs.TurnsClientLemmas.{CameOf, came_of, member_more}
 
 -- a client at a place agrees with the side
-fits_at : (side : Side) (members : List Member) (given : List (List Want)) (place : ℕ) (member : Member) (own : List Want) → AllFit side members given → slice_get members place ≡ Some member →
+pub fits_at : (side : Side) (members : List Member) (given : List (List Want)) (place : ℕ) (member : Member) (own : List Want) → AllFit side members given → slice_get members place ≡ Some member →
     slice_get given place ≡ Some own → FitsSide side member.client own
 fits_at side [] given place member own all has has_own = absurd (cc)
 fits_at side (first ∷ members) [] place member own all has has_own = absurd all

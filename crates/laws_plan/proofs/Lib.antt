@@ -1,0 +1,9 @@
+mod AsksLemmas
+mod FaultVersionLemmas
+mod FaultsLemmas
+mod MetLemmas
+mod PlannedTo
+mod PlansLemmas
+mod SidesLemmas
+mod StepLemmas
+mod TurnLemmas

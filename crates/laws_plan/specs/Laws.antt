@@ -1,0 +1,38 @@
+-- That clients which plan over an honest link end rightly, also where its side grows. X is the type of the link, and `seen` what is promised of it.
+use Rattle.std.specs.Prelude.{◌≡◌, ℕ, ◌+◌, List, Some, length, slice_get}
+use Rattle.cli_ask.specs.declared.end.ClientEnd.{ClientEnd}
+use Rattle.connection_uri.specs.Base.{BaseParts}
+use Rattle.convoy.specs.Finish.{Rounds}
+use Rattle.convoy.specs.State.{ConvoyState, begun}
+use Rattle.laws_plan.specs.Planned.{ArePlanned, NoneIsMessage}
+use Rattle.laws_replay.specs.Caused.{AreCaused}
+use Rattle.laws_replay.specs.Events.{TurnsAreOfClients, questions_in}
+use Rattle.laws_replay.specs.History.{AreMetIn}
+use Rattle.laws_replay.specs.Played.{HaveEndedSo, Plays}
+use Rattle.laws_replay.specs.Rounds.{all_rounds}
+use Rattle.laws_replay.specs.Turns.{order_of}
+use Rattle.laws_replay.specs.declared.event.Event.{Event}
+use Rattle.laws_replies.specs.Met.{HasFailedBetween}
+use Rattle.lc_model.specs.declared.query.Query.{Query}
+use Rattle.lc_world.specs.Link.{IsHonestWith, LinkSeen}
+use Rattle.page_client.specs.declared.outcome.Outcome.TheVariants.{LinkFault}
+use Rattle.publisher_spec.specs.Side.{Side}
+
+-- where the events happened over an honest link, and each client was turned until it ended, each of them ended rightly by what it met
+abbrev pub PlansRight : {X : Type 0} → (X → LinkSeen) → Type 0
+PlansRight {X} seen =
+    (base : BaseParts) (first : Side) (all : List Event) (cache : ℕ) (played ended : ConvoyState) (start behind after : X) (lines : List ℕ) (ends : List ClientEnd)
+    → TurnsAreOfClients all → NoneIsMessage all → IsHonestWith (seen start) base first
+    → (plays : Plays seen all (begun base cache) played start behind lines) → (rounds : Rounds seen (length played.members) played ended behind after) → HaveEndedSo ended.members ends
+    → (caused : AreCaused base all (seen start).told (seen after).told (seen start).faults (seen after).faults ends)
+    → AreMetIn (order_of all) (all_rounds seen all (begun base cache) played ended start behind after lines plays rounds) caused.met
+    → ArePlanned base first all cache (seen start) (seen after) ends caused.met
+
+-- An exchange that failed ended its client, and no other, with the link's counts of faults before and after it.
+abbrev pub PlanFaultsAreOwn : {X : Type 0} → (X → LinkSeen) → Type 0
+PlanFaultsAreOwn {X} seen =
+    (base : BaseParts) (first : Side) (all : List Event) (cache : ℕ) (start after : X) (ends : List ClientEnd)
+    → (caused : AreCaused base all (seen start).told (seen after).told (seen start).faults (seen after).faults ends)
+    → ArePlanned base first all cache (seen start) (seen after) ends caused.met
+    → (place : ℕ) (query : Query) (end : ClientEnd) → slice_get (questions_in all) place ≡ Some query → slice_get ends place ≡ Some end
+    → (low high : ℕ) → HasFailedBetween (place + 1) low high caused.met → end.outcome ≡ LinkFault low high

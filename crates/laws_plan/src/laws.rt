@@ -1,0 +1,20 @@
+ghost use Rattle.laws_plan.specs.Laws.{PlanFaultsAreOwn, PlansRight};
+
+use laws_clients::steps_keep_agreement;
+use laws_convoys::{agreement_begins, turns_keep_agreement};
+use lc_world::Link;
+
+/// Over every honest link, also one whose side grows between exchanges, each client ended rightly: with a best journey by the timetable of
+/// the version that its own time gate exchange named, or with none where there is none.
+pub fn plans_are_right<L: Link>()
+    ensures { PlansRight L.seen }
+{
+    steps_keep_agreement();
+    agreement_begins();
+    turns_keep_agreement::<L>();
+}
+
+/// Over an honest link an exchange that failed ended its own client, with the counts of the link before and after it.
+pub fn plan_faults_are_own<L: Link>()
+    ensures { PlanFaultsAreOwn L.seen }
+{}
