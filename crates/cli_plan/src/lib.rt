@@ -2,6 +2,7 @@
 //! `laws_plan` and `cli_replay`.
 #![tactic(auto)]
 
+mod events;
 mod planning;
 
 pub use planning::{Planned, plan};

@@ -1,10 +1,15 @@
 ghost use Rattle.std.specs.Prelude.{◌≤◌, IfOk};
+ghost use Rattle.cli_plan.specs.Planning.{HaveHappened};
 ghost use Rattle.laws_plan.specs.Planned.{IsPlanned, NoneIsMessage};
 ghost use Rattle.laws_replay.specs.Events.{TurnsAreOfClients};
 
+use crate::events::happen;
 use cli_ask::ClientEnd;
+use cli_replay::{ends_of, text_of};
 use connection_uri::Base;
-use laws_replay::Event;
+use convoy::Convoy;
+use laws_plan::plans_are_right;
+use laws_replay::{Event, courses_are_caused};
 use lc_model::NoMemory;
 use lc_world::Link;
 use std::alloc::Global;
@@ -31,5 +36,32 @@ pub fn plan<L: Link>(
     requires no_messages { NoneIsMessage events.items }
     ensures { IfOk result.0 (λ planned. IsPlanned base events.items cache (L.seen link) (L.seen result.1) planned.text.items planned.ends.items) }
 {
-    (Err(NoMemory), link)
+    plans_are_right::<L>();
+    courses_are_caused::<L>();
+    let mut link = link;
+    let planned = plan_over(alloc, base, events, cache, &mut link);
+    (planned, link)
+}
+
+/// Lets the events happen over a link, turns each client until it ends, and says what is printed.
+fn plan_over<L: Link>(
+    alloc: Global,
+    base: Base,
+    events: Vec<Event>,
+    cache: usize,
+    link: &mut L,
+) -> Result<Planned, NoMemory>
+    requires some_pages { 1 ≤ cache }
+    requires most_pages { cache ≤ 10_000 }
+    requires turns { TurnsAreOfClients events.items }
+    requires no_messages { NoneIsMessage events.items }
+    ensures { IfOk result (λ planned. HaveHappened L.seen base events.items cache link.old link.new planned.text.items planned.ends.items) }
+{
+    courses_are_caused::<L>();
+    let mut convoy = Convoy::new(alloc, base, cache)?;
+    happen(alloc, &mut convoy, events, link)?;
+    convoy.finish(alloc, link)?;
+    let ends = ends_of(alloc, convoy)?;
+    let text = text_of(alloc, Vec::new(alloc), ends.as_slice())?;
+    Ok(Planned { text, ends })
 }

@@ -1,5 +1,5 @@
 mod EndsLemmas
 mod HearingLemmas
-mod PlayedLemmas
+pub mod PlayedLemmas
 mod ReplayedLemmas
 mod TextLemmas

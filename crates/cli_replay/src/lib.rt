@@ -9,4 +9,6 @@ mod hearing;
 mod playing;
 mod text;
 
+pub use ends::ends_of;
 pub use playing::{Replayed, replay};
+pub use text::text_of;

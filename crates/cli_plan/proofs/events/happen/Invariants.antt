@@ -1,0 +1,6 @@
+use Rattle.std.proofs.Common.{[]}
+use Rattle.laws_replay.specs.Played.{Plays}
+use Rattle.cli_plan.proofs.events.happen.Given as goal
+
+abbrev pub invariant-events : goal.invariant-events
+invariant-events g l = Plays g.L.Link.seen l.yielded l.initial.convoy l.convoy l.initial.link l.link []
