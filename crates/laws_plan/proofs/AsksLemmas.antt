@@ -18,13 +18,12 @@ use Rattle.laws_plan.specs.Sides.{sides_of}
 use Rattle.laws_replay.proofs.BeginsLemmas.{begins_without_failure, earlier, last_is, met_nothing, one_given_each}
 use Rattle.laws_replay.proofs.EventLemmas.{AreClients, has_turn, no_turn_yet, requests_of_more, rounds_of-none, tells_none}
 use Rattle.laws_replay.proofs.PlayedTo.{HasFailedSo, HasMet}
-use Rattle.laws_replay.specs.Turns.{requests_in, rounds_of}
+use Rattle.laws_replay.specs.Turns.{rounds_of}
 use Rattle.lc_io.proofs.CountLemmas.{RoseBy-none}
 use Rattle.lc_model.specs.declared.query.Query.{Query}
 use Rattle.lc_world.specs.Link.{IsHonestWith, LinkSeen}
 use Rattle.page_client.specs.Client.{shown}
 use Rattle.page_client.specs.Shown.{Shown}
-use Rattle.page_client.specs.declared.outcome.Outcome.{Outcome}
 use Rattle.page_client.specs.declared.want.Want.{Want}
 use Rattle.publisher_spec.proofs.LaterLemmas.{later_itself}
 use Rattle.publisher_spec.specs.Side.{Side}

@@ -1,5 +1,5 @@
 -- Which clients that were cut off have a version.
-use Rattle.std.proofs.Common.{◌≡◌, ◌∙◌, ◌==◌, ◌&&◌, ◌+◌, ◌↔◌, ℕ, Bool, true, false, List, [], ◌∷◌, ◌++◌, Option, Some, None, ap, cond, is_none, refl, subst, sym}
+use Rattle.std.proofs.Common.{◌≡◌, ◌∙◌, ◌==◌, ◌&&◌, ℕ, Bool, true, false, List, [], ◌∷◌, ◌++◌, Option, Some, None, ap, cond, is_none, refl, subst, sym}
 use Rattle.std.specs.List.{filter}
 use Rattle.std.specs.Prelude.{map}
 use Rattle.std.proofs.lemmas.List.{map-append}
@@ -9,7 +9,7 @@ use Rattle.cli_ask.specs.declared.end.ClientEnd.{ClientEnd}
 use Rattle.connection_uri.specs.Base.{BaseParts}
 use Rattle.laws_clients.specs.Fits.{HasEnded, HasFailed}
 use Rattle.laws_convoys.specs.Names.{Round}
-use Rattle.laws_plan.specs.Planned.{LacksVersionByFault}
+use Rattle.laws_plan.specs.Planned.{VersionFitsFault}
 use Rattle.laws_replay.proofs.FaultLemmas.{fails, fails_in, fails_of}
 use Rattle.laws_replay.specs.History.{AreMetIn, wants_of}
 use Rattle.laws_replay.specs.Right.{FailsWith}
@@ -81,7 +81,7 @@ module _ (side : Side) (base : BaseParts) (query : Query) (client : ℕ) (order 
       none_at_gate base query before now version (met_by client met) low high cut (only_one (lost_in cut.earlier) cut.want wants.Gate lost)
 
   pub lacks_version : (end : ClientEnd) (outcome : Outcome) → HasEnded side (shown_of query end) (given_in own) (Some outcome) → FailsWith side query end.version (given_in own) (failed_in own) outcome →
-      EndsBy base query before now end.version (met_by client met) outcome → LacksVersionByFault outcome (failed_in own) end.version
+      EndsBy base query before now end.version (met_by client met) outcome → VersionFitsFault outcome (failed_in own) end.version
   lacks_version end (outcomes.Found journey) ended fails by = tt
   lacks_version end outcomes.NoJourney ended fails by = tt
   lacks_version end (outcomes.Refused fault) ended fails by = tt

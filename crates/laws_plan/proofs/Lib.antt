@@ -2,6 +2,8 @@ mod AsksLemmas
 mod FaultVersionLemmas
 mod FaultsLemmas
 mod MetLemmas
+mod NearLemmas
+mod OnePlanLemmas
 mod PlannedTo
 mod PlansLemmas
 mod SidesLemmas

@@ -1,13 +1,12 @@
 -- Clients that plan over an honest link, from the first event to the last end, end rightly.
-use Rattle.std.proofs.Common.{◌≡◌, ◌∙◌, ◌+◌, ◌<◌, ◌≤◌, ℕ, List, [], ◌∷◌, ◌++◌, Option, Some, length, refl, ap, sym, subst, arith, append-nil, append_assoc}
-use Rattle.std.specs.List.{All, slice_get}
+use Rattle.std.proofs.Common.{◌≡◌, ◌∙◌, ◌+◌, ◌<◌, ◌≤◌, ℕ, List, [], ◌∷◌, ◌++◌, Option, Some, length, refl, sym, subst, arith, append-nil, append_assoc}
+use Rattle.std.specs.List.{slice_get}
 use Rattle.std.proofs.lemmas.List.Elements.{All-head, All-tail}
 use Rattle.std.proofs.lemmas.Option.{slice_get_within}
 use Rattle.cli_ask.proofs.ClientLemmas.{at_end, same_end}
 use Rattle.cli_ask.specs.Client.{shown_of}
 use Rattle.cli_ask.specs.declared.end.ClientEnd.{ClientEnd}
 use Rattle.connection_uri.specs.Base.{BaseParts}
-use Rattle.convoy.specs.Finish.{Rounds}
 use Rattle.convoy.specs.State.{ConvoyState, begun}
 use Rattle.convoy.specs.declared.member.Member.{Member}
 use Rattle.laws_clients.specs.Fits.{FitsSide, HasEnded}
@@ -15,7 +14,7 @@ use Rattle.laws_clients.specs.Laws.{WantsStay}
 use Rattle.laws_convoys.proofs.PlaceLemmas.{at_place}
 use Rattle.laws_convoys.specs.Laws.{AddedAgrees, EndKeepsAgreement, NoneAgrees, TurnKeepsAgreement}
 use Rattle.laws_convoys.specs.Names.{Round}
-use Rattle.laws_convoys.specs.Rounds.{round_at, rounds_up_to}
+use Rattle.laws_convoys.specs.Rounds.{round_at}
 use Rattle.laws_plan.proofs.AsksLemmas.{asks, begins}
 use Rattle.laws_plan.proofs.FaultVersionLemmas.{lacks_version}
 use Rattle.laws_plan.proofs.MetLemmas.{HasFinished, HasMetAt, HaveFinished}
@@ -38,9 +37,8 @@ use Rattle.laws_replay.specs.declared.event.Event.{Event}
 use Rattle.laws_replay.specs.declared.event.Event.TheVariants as events
 use Rattle.laws_replay.proofs.PlayedTo.{HasFailedSo}
 use Rattle.lc_model.specs.declared.query.Query.{Query}
-use Rattle.lc_world.specs.Link.{IsHonestWith, LinkSeen}
+use Rattle.lc_world.specs.Link.{LinkSeen}
 use Rattle.page_client.specs.Client.{shown}
-use Rattle.page_client.specs.declared.outcome.Outcome.{Outcome}
 use Rattle.page_client.specs.declared.want.Want.{Want}
 use Rattle.publisher_spec.specs.Side.{Side}
 
@@ -108,7 +106,7 @@ module _ (base : BaseParts) (first : Side) (all : List Event) (cache n : ℕ) (e
         each = f.each;
         at_last = f.at_last;
         failed = in_vain;
-        by_gate =
+        fits_fault =
             lacks_version p.last base query (place + 1) (order_of all) rounds caused.met start.faults after.faults met_in end end.outcome is_ended in_vain
             (caused.clients place query end asked has).ends;
       }

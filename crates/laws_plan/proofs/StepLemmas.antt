@@ -1,7 +1,7 @@
 -- A client has a turn, or is turned until it ends: what is said of clients that plan goes on to hold.
-use Rattle.std.proofs.Common.{◌≡◌, ◌≢◌, ◌∙◌, ◌⊎◌, ◌+◌, ◌-◌, ◌<◌, ◌≤◌, ℕ, inl, inr, List, [], ◌∷◌, ◌++◌, Option, Some, None, length, map, refl, ap, ap₂, sym, subst, arith, append-nil, length-append}
+use Rattle.std.proofs.Common.{◌≡◌, ◌∙◌, ◌⊎◌, ◌+◌, ◌-◌, ◌<◌, ◌≤◌, ℕ, inl, inr, List, [], ◌∷◌, ◌++◌, Option, Some, None, length, map, refl, ap, ap₂, sym, subst, arith, append-nil, length-append}
 use Rattle.std.specs.Prelude.{IsSome, set}
-use Rattle.std.specs.List.{All, slice_get}
+use Rattle.std.specs.List.{slice_get}
 use Rattle.std.proofs.lemmas.List.{length-set}
 use Rattle.std.proofs.lemmas.List.Elements.{All-push}
 use Rattle.std.proofs.lemmas.Option.{slice_get_within}
@@ -15,7 +15,7 @@ use Rattle.laws_clients.specs.Laws.{WantsStay}
 use Rattle.laws_clients.specs.Wants.{AreWants}
 use Rattle.laws_convoys.proofs.AloneLemmas.{between_itself}
 use Rattle.laws_convoys.proofs.NamedLemmas.{kept_version}
-use Rattle.laws_convoys.specs.Leaves.{HasFault, HasMoved, LeavesHonest, NoneFailed, OneFailed, StillAgrees}
+use Rattle.laws_convoys.specs.Leaves.{HasMoved, LeavesHonest, NoneFailed, OneFailed, StillAgrees}
 use Rattle.laws_convoys.specs.Names.{Round, asked_of, failures_in, names_after, names_behind, names_of}
 use Rattle.laws_convoys.specs.Requests.{TellsAsked, TellsRequests, request_of}
 use Rattle.laws_convoys.specs.Rounds.{round_with}

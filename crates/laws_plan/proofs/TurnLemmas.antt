@@ -1,5 +1,5 @@
 -- A client has its turn, and, when the events are over, is turned until it ends.
-use Rattle.std.proofs.Common.{◌≡◌, ◌∙◌, ◌⊎◌, ◌-◌, ◌<◌, ◌≤◌, ℕ, zero, suc, inl, inr, List, [], ◌∷◌, ◌++◌, Option, Some, None, length, refl, ap, ap₂, sym, subst, arith, append-nil, append_assoc}
+use Rattle.std.proofs.Common.{◌≡◌, ◌⊎◌, ◌-◌, ◌<◌, ◌≤◌, ℕ, zero, suc, inl, inr, List, [], ◌∷◌, ◌++◌, Option, Some, None, length, ap₂, sym, subst, arith, append-nil, append_assoc}
 use Rattle.std.specs.Prelude.{IsSome}
 use Rattle.connection_uri.specs.Base.{BaseParts}
 use Rattle.convoy.specs.Finish.{Ends, HasOutcome, IsStep, Rounds}
@@ -10,16 +10,15 @@ use Rattle.laws_clients.specs.Fits.{FitsSide}
 use Rattle.laws_clients.specs.Laws.{WantsStay}
 use Rattle.laws_convoys.proofs.TurnLemmas.{honest_still}
 use Rattle.laws_convoys.specs.Laws.{EndKeepsAgreement, TurnKeepsAgreement}
-use Rattle.laws_convoys.specs.Leaves.{EndAgrees, NoneFailed, OneFailed, StillAgrees, TurnAgrees}
+use Rattle.laws_convoys.specs.Leaves.{EndAgrees, NoneFailed, OneFailed, TurnAgrees}
 use Rattle.laws_convoys.specs.Names.{Round}
 use Rattle.laws_convoys.specs.Rounds.{round_at, round_in, rounds_up_to}
-use Rattle.laws_plan.proofs.MetLemmas.{HasFinished, HasMetAt, HaveFinished, finished, met_more}
-use Rattle.laws_plan.proofs.PlannedTo.{IsMemberAt, IsPlannedTo}
+use Rattle.laws_plan.proofs.MetLemmas.{HasMetAt, HaveFinished, finished, met_more}
+use Rattle.laws_plan.proofs.PlannedTo.{IsPlannedTo}
 use Rattle.laws_plan.proofs.StepLemmas.{HasStepped, one_step}
-use Rattle.laws_replay.proofs.PlayedTo.{HasMet}
 use Rattle.laws_replay.proofs.TurnsClientLemmas.{came_of, none_in_vain}
 use Rattle.laws_replay.proofs.TurnsLemmas.{fits_at}
-use Rattle.laws_replay.specs.Turns.{IsIdle, counted, failed_in}
+use Rattle.laws_replay.specs.Turns.{counted, failed_in}
 use Rattle.lc_model.specs.declared.query.Query.{Query}
 use Rattle.lc_world.specs.Link.{LinkSeen}
 use Rattle.page_client.specs.Client.{shown}

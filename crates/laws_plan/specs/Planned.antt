@@ -38,12 +38,12 @@ abbrev pub NoneIsMessage : List Event → Type 0
 NoneIsMessage all = All IsNoMessage all
 
 -- after a fault of the link there is no version exactly where the exchange that failed was with the time gate
-abbrev pub LacksVersionByFault : Outcome → List Want → Option ℕ → Type 0
-LacksVersionByFault (outcomes.Found journey) failed version = Unit {0}
-LacksVersionByFault outcomes.NoJourney failed version = Unit {0}
-LacksVersionByFault (outcomes.Refused fault) failed version = Unit {0}
-LacksVersionByFault (outcomes.LinkFault before after) failed version = (version ≡ None) ↔ (failed ≡ wants.Gate ∷ [])
-LacksVersionByFault (outcomes.PeerWrong reply fault) failed version = Unit {0}
+abbrev pub VersionFitsFault : Outcome → List Want → Option ℕ → Type 0
+VersionFitsFault (outcomes.Found journey) failed version = Unit {0}
+VersionFitsFault outcomes.NoJourney failed version = Unit {0}
+VersionFitsFault (outcomes.Refused fault) failed version = Unit {0}
+VersionFitsFault (outcomes.LinkFault before after) failed version = (version ≡ None) ↔ (failed ≡ wants.Gate ∷ [])
+VersionFitsFault (outcomes.PeerWrong reply fault) failed version = Unit {0}
 
 -- The client of the question had these turns, at these sides, and ended so by the last side. It received exactly its wants, one in each turn, and
 -- none after an exchange that failed. It found a best journey by the timetable of its version, or none where there is none. The version is
@@ -55,7 +55,7 @@ pub record EndsAt (last : Side) (query : Query) (rounds : List Round) (sides : L
   pub each : TakeOneEach rounds
   pub at_last : EndByFailure rounds
   pub failed : FailsWith last query end.version (given_in rounds) (failed_in rounds) end.outcome
-  pub by_gate : LacksVersionByFault end.outcome (failed_in rounds) end.version
+  pub fits_fault : VersionFitsFault end.outcome (failed_in rounds) end.version
 
 -- One side for each turn, from that of the link handed in to the last one. Over a quiet link each is that of the link handed in.
 pub record AreSidesOf (all : List Event) (quiet : Type 0) (first : Side) (sides : List Side) (last : Side) : Type 0 where
@@ -64,7 +64,7 @@ pub record AreSidesOf (all : List Event) (quiet : Type 0) (first : Side) (sides 
   pub one_side : quiet → All (λ (side : Side). side ≡ first) sides
 
 -- One round for each turn, in which all this was met. The names of the cached pages determine what was asked for. The link records these
--- requests, where it records exchanges, and its count of faults increased by the exchanges that failed.
+-- requests, where it records exchanges, and its count of faults increased with each exchange that failed.
 pub record AreRoundsOf (base : BaseParts) (all : List Event) (cache : ℕ) (before after : LinkSeen) (rounds : List Round) (met : List Met) : Type 0 where
   pub one_each : length rounds ≡ length (order_of all)
   pub by_names : AskByNames cache [] rounds

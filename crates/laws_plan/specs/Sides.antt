@@ -6,7 +6,7 @@ use Rattle.page_client.specs.declared.want.Want.{Want}
 use Rattle.page_client.specs.declared.want.Want.TheVariants as wants
 use Rattle.publisher_spec.specs.Side.{IsLater, Side}
 
--- each side is a later one of that before it, from the first to the last
+-- each side is a later one of the side before it, from the first to the last
 abbrev pub AreLater : Side → List Side → Side → Type 0
 AreLater first [] last = IsLater first last
 AreLater first (side ∷ more) last = IsLater first side × AreLater side more last
@@ -17,7 +17,7 @@ sides_of client [] sides = []
 sides_of client (other ∷ more) [] = []
 sides_of client (other ∷ more) (side ∷ sides) = if other == client then side ∷ sides_of client more sides else sides_of client more sides
 
--- a client's version after a turn: if the time gate replied first in it, the one that the turn's side names by the known moment; else as before
+-- a client's version after a turn: where the turn begins with the time gate's reply, the one that its side names; else as before
 abbrev pub version_with : Side → Option ℕ → List Want → Option ℕ → Option ℕ
 version_with side known [] before = before
 version_with side known (wants.Gate ∷ more) before = Some (version_at side known)

@@ -1,6 +1,7 @@
 ghost use Rattle.laws_plan.specs.Laws.{PlanFaultsAreOwn, PlansRight};
+ghost use Rattle.laws_plan.specs.OnePlan.{OnePlan};
 
-use laws_clients::steps_keep_agreement;
+use laws_clients::{one_answer, steps_keep_agreement};
 use laws_convoys::{agreement_begins, turns_keep_agreement};
 use lc_world::Link;
 
@@ -18,3 +19,11 @@ pub fn plans_are_right<L: Link>()
 pub fn plan_faults_are_own<L: Link>()
     ensures { PlanFaultsAreOwn L.seen }
 {}
+
+/// Two plans of the same events over quiet links with one side, in which no exchange failed, come to the same. Nothing but the way of a
+/// journey is left open.
+pub fn one_plan<L: Link, M: Link>()
+    ensures { OnePlan L.seen M.seen }
+{
+    one_answer();
+}

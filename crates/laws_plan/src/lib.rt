@@ -3,5 +3,7 @@
 #![tactic(auto)]
 
 mod laws;
+mod near;
 
-pub use laws::{plan_faults_are_own, plans_are_right};
+pub use laws::{one_plan, plan_faults_are_own, plans_are_right};
+pub use near::{near_plans, worked_plans};

@@ -1,0 +1,47 @@
+-- Near values that the definitions of a plan refuse: wrong versions, wrong sides and wrong counts.
+use Rattle.std.specs.Prelude.{◌≡◌, ◌<◌, ℕ, ◌+◌, List, [], ◌∷◌, Some, None, length}
+use Rattle.cli_ask.specs.declared.end.ClientEnd.{ClientEnd}
+use Rattle.laws_convoys.specs.Names.{Round}
+use Rattle.laws_plan.specs.Planned.{EndsAt}
+use Rattle.laws_plan.specs.Sides.{AreLater, sides_of}
+use Rattle.laws_replay.specs.Turns.{asked_in, failed_in}
+use Rattle.laws_sides.specs.Told.{version_at}
+use Rattle.lc_model.specs.declared.query.Query.{Query}
+use Rattle.lc_versions.specs.declared.update.Update.{Update}
+use Rattle.page_client.specs.declared.outcome.Outcome.TheVariants.{LinkFault}
+use Rattle.page_client.specs.declared.want.Want.{Want}
+use Rattle.page_client.specs.declared.want.Want.TheVariants as wants
+use Rattle.publisher_spec.specs.Side.{Side, newest_of, with_message}
+
+-- A client that received the time gate's reply has not the version that the side of another client's reply names.
+abbrev pub NotAnothersVersion : Type 0
+NotAnothersVersion =
+    (last first second : Side) (query : Query) (round : Round) (more : List Want) (end : ClientEnd)
+    → EndsAt last query (round ∷ []) (sides_of 2 (1 ∷ 2 ∷ []) (first ∷ second ∷ [])) end → round.given ≡ wants.Gate ∷ more
+    → (version_at first query.known ≡ version_at second query.known → ⊥) → end.version ≡ Some (version_at first query.known) → ⊥
+
+-- Nor has a client that names no known moment a newer version than its side has.
+abbrev pub NotNewer : Type 0
+NotNewer =
+    (last side : Side) (query : Query) (round : Round) (more : List Want) (end : ClientEnd) (version : ℕ) → EndsAt last query (round ∷ []) (side ∷ []) end → query.known ≡ None
+    → round.given ≡ wants.Gate ∷ more → newest_of side < version → end.version ≡ Some version → ⊥
+
+-- a side that lost a message of the one before it is not a later one
+abbrev pub NoneIsLost : Type 0
+NoneIsLost = (side last : Side) (update : Update) (bytes : ℕ) (more : List Side) → AreLater (with_message side update bytes) (side ∷ more) last → ⊥
+
+-- one exchange more is none that was made: a client that follows the time gate in place of the next link makes it
+abbrev pub NotOneMore : Type 0
+NotOneMore =
+    (last : Side) (query : Query) (rounds : List Round) (sides : List Side) (end : ClientEnd) → EndsAt last query rounds sides end → end.exchanges ≡ length (asked_in rounds) + 1 → ⊥
+
+-- a client whose exchange with the time gate failed has no version, and one whose other exchange failed has one
+abbrev pub NoVersionAtGate : Type 0
+NoVersionAtGate =
+    (last : Side) (query : Query) (rounds : List Round) (sides : List Side) (end : ClientEnd) (low high version : ℕ) → EndsAt last query rounds sides end
+    → end.outcome ≡ LinkFault low high → failed_in rounds ≡ wants.Gate ∷ [] → end.version ≡ Some version → ⊥
+
+abbrev pub SomeVersionElse : Type 0
+SomeVersionElse =
+    (last : Side) (query : Query) (rounds : List Round) (sides : List Side) (end : ClientEnd) (low high : ℕ) → EndsAt last query rounds sides end
+    → end.outcome ≡ LinkFault low high → failed_in rounds ≡ wants.Stops ∷ [] → end.version ≡ None → ⊥

@@ -1,0 +1,20 @@
+ghost use Rattle.std.specs.Prelude.{ℕ, Option};
+ghost use Rattle.laws_plan.specs.Near.{NoVersionAtGate, NoneIsLost, NotAnothersVersion, NotNewer, NotOneMore, SomeVersionElse};
+ghost use Rattle.laws_plan.specs.Worked.{WorkedSides};
+ghost use Rattle.publisher_spec.specs.Side.{Side};
+
+/// Near values are refused: the version of another client's time gate, or a newer one; a side that lost a message; one exchange more; and
+/// a version after a failure at the time gate, or none after another.
+pub fn near_plans()
+    ensures anothers { NotAnothersVersion }
+    ensures newer { NotNewer }
+    ensures lost { NoneIsLost }
+    ensures one_more { NotOneMore }
+    ensures at_gate { NoVersionAtGate }
+    ensures elsewhere { SomeVersionElse }
+{}
+
+/// Values that the definitions take, worked out by hand.
+pub fn worked_plans()
+    ensures { (a b c : Side) (known : Option ℕ) → WorkedSides a b c known }
+{}
