@@ -1,13 +1,19 @@
--- Events of which none is a message, and what clients come to by them.
-use Rattle.std.proofs.Common.{◌≡◌, ℕ, List, [], ◌∷◌, ◌++◌, subst}
+-- Events of which none is a message, and how clients ended by them.
+use Rattle.std.proofs.Common.{◌≡◌, ℕ, List, [], ◌∷◌, ◌++◌, Result, Ok, Err, subst}
+use Rattle.std.specs.Prelude.{IfOk}
+use Rattle.std.specs.List.{All}
 use Rattle.std.proofs.lemmas.List.Elements.{All-head, All-tail}
+use Rattle.cli_ask.specs.Block.{IsPrintable}
 use Rattle.cli_ask.specs.declared.end.ClientEnd.{ClientEnd}
 use Rattle.connection_uri.specs.Base.{BaseParts}
+use Rattle.convoy.specs.State.{begun}
 use Rattle.cli_plan.specs.Planning.{HaveHappened}
 use Rattle.laws_plan.specs.Laws.{PlansRight}
 use Rattle.laws_plan.specs.Planned.{IsNoMessage, IsPlanned, NoneIsMessage}
 use Rattle.laws_replay.specs.Events.{TurnsAreOfClients}
-use Rattle.laws_replay.specs.Laws.{PlaysCaused}
+use Rattle.laws_replay.specs.Laws.{ArePlayedCaused, PlaysCaused}
+use Rattle.laws_replay.specs.Replayed.{clients_text_of}
+use Rattle.laws_replay.specs.Rounds.{all_rounds}
 use Rattle.laws_replay.specs.declared.event.Event.{Event}
 use Rattle.lc_world.specs.Link.{LinkSeen}
 
@@ -18,17 +24,28 @@ no_message_at all done behind event none are = here done (subst NoneIsMessage ar
   here [] rest = All-head IsNoMessage event behind rest
   here (first ∷ front) rest = here front (All-tail IsNoMessage first (front ++ event ∷ behind) rest)
 
--- what happened over a link is planned
-pub planned : {L : Type 0} (seen : L → LinkSeen) → PlansRight seen → PlaysCaused seen → (base : BaseParts) (all : List Event) (cache : ℕ) (before after : L) (text : List ℕ) (ends : List ClientEnd) →
-    TurnsAreOfClients all → NoneIsMessage all → HaveHappened seen base all cache before after text ends → IsPlanned base all cache (seen before) (seen after) text ends
-planned seen plans_right plays_caused base all cache before after text ends turns none x =
-    let caused = plays_caused base all cache x.turned x.ended before x.between after [] ends turns x.plays x.rounds x.have_ended in
-    record {
-      text_is = x.text_is;
-      one_each = caused.one_each;
-      caused = caused.caused;
-      clear = caused.clear;
-      not_fallen = caused.not_fallen;
-      right = λ first honest.
-          plans_right base first all cache x.turned x.ended before x.between after [] ends turns none honest x.plays x.rounds x.have_ended caused.caused caused.met_in;
-    }
+-- two facts about a value that is there, or none
+pub both : {T E : Type 0} (r : Result T E) (P Q R : T → Type 0) → ((v : T) → P v → Q v → R v) → IfOk r P → IfOk r Q → IfOk r R
+both (Ok v) P Q R join p q = join v p q
+both (Err e) P Q R join p q = tt
+
+module _ {L : Type 0} (seen : L → LinkSeen) (plays_caused : PlaysCaused seen) (base : BaseParts) (all : List Event) (cache : ℕ) (before after : L) (ends : List ClientEnd) (turns : TurnsAreOfClients all)
+    (x : HaveHappened seen base all cache before after ends) where
+  caused : ArePlayedCaused base all (seen before) (seen after) [] ends (all_rounds seen all (begun base cache) x.turned x.ended before x.between after [] x.plays x.rounds)
+  caused = plays_caused base all cache x.turned x.ended before x.between after [] ends turns x.plays x.rounds x.have_ended
+
+  -- how the clients ended can be printed
+  pub printable : All (λ (end : ClientEnd). IsPrintable end.outcome) ends
+  printable = caused.printable
+
+  -- what happened over a link, and was printed so, is planned
+  pub planned : PlansRight seen → NoneIsMessage all → (text : List ℕ) → text ≡ clients_text_of 1 ends → IsPlanned base all cache (seen before) (seen after) text ends
+  planned plans_right none text is = record {
+    text_is = is;
+    one_each = caused.one_each;
+    caused = caused.caused;
+    clear = caused.clear;
+    not_fallen = caused.not_fallen;
+    right = λ first honest.
+        plans_right base first all cache x.turned x.ended before x.between after [] ends turns none honest x.plays x.rounds x.have_ended caused.caused caused.met_in;
+  }

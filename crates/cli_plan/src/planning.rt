@@ -1,7 +1,11 @@
-ghost use Rattle.std.specs.Prelude.{◌≤◌, IfOk};
+ghost use Rattle.std.specs.Prelude.{◌≡◌, ◌≤◌, IfOk};
+ghost use Rattle.std.specs.List.{All};
+ghost use Rattle.cli_ask.specs.Block.{IsPrintable};
+ghost use Rattle.cli_ask.specs.declared.end.ClientEnd.{ClientEnd as End};
 ghost use Rattle.cli_plan.specs.Planning.{HaveHappened};
 ghost use Rattle.laws_plan.specs.Planned.{IsPlanned, NoneIsMessage};
 ghost use Rattle.laws_replay.specs.Events.{TurnsAreOfClients};
+ghost use Rattle.laws_replay.specs.Replayed.{clients_text_of};
 
 use crate::events::happen;
 use cli_ask::ClientEnd;
@@ -40,29 +44,38 @@ pub fn plan<L: Link>(
     plans_are_right::<L>();
     courses_are_caused::<L>();
     let mut link = link;
-    let planned = plan_over(alloc, base, events, cache, &mut link);
-    (planned, link)
+    match ends_over(alloc, base, events, cache, &mut link) {
+        Ok(ends) => (printed(alloc, ends), link),
+        Err(NoMemory) => (Err(NoMemory), link),
+    }
 }
 
-/// Lets the events happen over a link, turns each client until it ends, and says what is printed.
-fn plan_over<L: Link>(
+/// Lets the events happen over a link, turns each client until it ends, and says how each ended.
+fn ends_over<L: Link>(
     alloc: Global,
     base: Base,
     events: Vec<Event>,
     cache: usize,
     link: &mut L,
-) -> Result<Planned, NoMemory>
+) -> Result<Vec<ClientEnd>, NoMemory>
     requires some_pages { 1 ≤ cache }
     requires most_pages { cache ≤ 10_000 }
     requires turns { TurnsAreOfClients events.items }
     requires no_messages { NoneIsMessage events.items }
-    ensures { IfOk result (λ planned. HaveHappened L.seen base events.items cache link.old link.new planned.text.items planned.ends.items) }
+    ensures { IfOk result (λ ends. HaveHappened L.seen base events.items cache link.old link.new ends.items) }
 {
-    courses_are_caused::<L>();
     let mut convoy = Convoy::new(alloc, base, cache)?;
     happen(alloc, &mut convoy, events, link)?;
     convoy.finish(alloc, link)?;
-    let ends = ends_of(alloc, convoy)?;
+    ends_of(alloc, convoy)
+}
+
+/// What is printed of clients that ended so. Linear in the text.
+fn printed(alloc: Global, ends: Vec<ClientEnd>) -> Result<Planned, NoMemory>
+    requires { All (λ (end : End). IsPrintable end.outcome) ends.items }
+    ensures text { IfOk result (λ planned. planned.text.items ≡ clients_text_of 1 ends.items) }
+    ensures ends { IfOk result (λ planned. planned.ends ≡ ends) }
+{
     let text = text_of(alloc, Vec::new(alloc), ends.as_slice())?;
     Ok(Planned { text, ends })
 }

@@ -1,9 +1,16 @@
-use Rattle.std.proofs.lemmas.Result.{IfOk-weaker}
-use Rattle.cli_plan.proofs.HappenLemmas.{planned}
+use Rattle.std.proofs.Common.{List, ap, subst, sym}
+use Rattle.cli_ask.specs.declared.end.ClientEnd.{ClientEnd}
+use Rattle.laws_plan.specs.Planned.{IsPlanned}
+use Rattle.cli_plan.proofs.HappenLemmas.{both, planned, printable}
 use Rattle.cli_plan.proofs.planning.plan.Goals as goal
 
-pub returns : goal.returns
-returns g c =
-    IfOk-weaker c.plan_over-planned.result _ _ (λ made x.
-    planned g.L.Link.seen c.plans_are_right.ensures c.courses_are_caused.ensures c.args.base c.args.events.items c.args.cache c.args.link c.plan_over-planned.new.link made.text.items made.ends.items c.requires.turns
-    c.requires.no_messages x) c.plan_over-planned.ensures
+pub printed-requires : goal.printed-requires
+printed-requires g c =
+    printable g.L.Link.seen c.courses_are_caused.ensures c.args.base c.args.events.items c.args.cache c.args.link c.ends_over.new.link c.in-Ok.ends.items c.requires.turns c.in-Ok.ensures
+
+pub returns-in-Ok : goal.returns-in-Ok
+returns-in-Ok g c =
+    both c.printed.result _ _ _ (λ made text ends.
+    subst (λ (l : List ClientEnd). IsPlanned c.args.base c.args.events.items c.args.cache (g.L.Link.seen c.args.link) (g.L.Link.seen c.ends_over.new.link) made.text.items l) (sym (ap (λ v. v.items) ends))
+    (planned g.L.Link.seen c.courses_are_caused.ensures c.args.base c.args.events.items c.args.cache c.args.link c.ends_over.new.link c.in-Ok.ends.items c.requires.turns c.in-Ok.ensures c.plans_are_right.ensures
+    c.requires.no_messages made.text.items text)) c.printed.ensures.text c.printed.ensures.ends
