@@ -337,7 +337,7 @@ module _ (Turns Next : ℕ → List Round → Option Outcome → Type 0) (base :
     members = members;
   }
 
--- the side of the turn is there, whichever it is
+-- the same at some sides
 pub record HasStepped (Next : ℕ → List Round → Option Outcome → Type 0) (base : BaseParts) (first : Side) (cache : ℕ) (questions : List Query) (order : List ℕ) (convoy : ConvoyState) (start now : LinkSeen)
     (rounds : List Round) : Type 0 where
   pub sides : List Side

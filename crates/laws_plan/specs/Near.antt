@@ -13,14 +13,14 @@ use Rattle.page_client.specs.declared.want.Want.{Want}
 use Rattle.page_client.specs.declared.want.Want.TheVariants as wants
 use Rattle.publisher_spec.specs.Side.{Side, newest_of, with_message}
 
--- A client that received the time gate's reply has not the version that the side of another client's reply names.
+-- A client that received the time gate's reply does not have the version that the side of another client's reply names.
 abbrev pub NotAnothersVersion : Type 0
 NotAnothersVersion =
     (last first second : Side) (query : Query) (round : Round) (more : List Want) (end : ClientEnd)
     → EndsAt last query (round ∷ []) (sides_of 2 (1 ∷ 2 ∷ []) (first ∷ second ∷ [])) end → round.given ≡ wants.Gate ∷ more
     → (version_at first query.known ≡ version_at second query.known → ⊥) → end.version ≡ Some (version_at first query.known) → ⊥
 
--- Nor has a client that names no known moment a newer version than its side has.
+-- A client that names no known moment has no newer version than its side.
 abbrev pub NotNewer : Type 0
 NotNewer =
     (last side : Side) (query : Query) (round : Round) (more : List Want) (end : ClientEnd) (version : ℕ) → EndsAt last query (round ∷ []) (side ∷ []) end → query.known ≡ None
@@ -30,17 +30,18 @@ NotNewer =
 abbrev pub NoneIsLost : Type 0
 NoneIsLost = (side last : Side) (update : Update) (bytes : ℕ) (more : List Side) → AreLater (with_message side update bytes) (side ∷ more) last → ⊥
 
--- one exchange more is none that was made: a client that follows the time gate in place of the next link makes it
+-- no client counts one exchange more, as one would that follows the time gate in place of the next link
 abbrev pub NotOneMore : Type 0
 NotOneMore =
     (last : Side) (query : Query) (rounds : List Round) (sides : List Side) (end : ClientEnd) → EndsAt last query rounds sides end → end.exchanges ≡ length (asked_in rounds) + 1 → ⊥
 
--- a client whose exchange with the time gate failed has no version, and one whose other exchange failed has one
+-- a client whose exchange with the time gate failed has no version
 abbrev pub NoVersionAtGate : Type 0
 NoVersionAtGate =
     (last : Side) (query : Query) (rounds : List Round) (sides : List Side) (end : ClientEnd) (low high version : ℕ) → EndsAt last query rounds sides end
     → end.outcome ≡ LinkFault low high → failed_in rounds ≡ wants.Gate ∷ [] → end.version ≡ Some version → ⊥
 
+-- a client that lacks the stops document, since that exchange failed, has one
 abbrev pub SomeVersionElse : Type 0
 SomeVersionElse =
     (last : Side) (query : Query) (rounds : List Round) (sides : List Side) (end : ClientEnd) (low high : ℕ) → EndsAt last query rounds sides end

@@ -18,8 +18,8 @@ pub record IsQuietPlan (base : BaseParts) (side : Side) (all : List Event) (cach
   pub one_each : length ends ≡ length (questions_in all)
   pub no_fault : All (λ (end : ClientEnd). IsNoLinkFault end.outcome) ends
 
--- Two such plans of the same events have one end for each client: the same version, outcomes that say the same, and so many exchanges. X and Y are
--- the types of the links, and `seen` and `saw` what is promised of them.
+-- Two such plans of the same events have one end for each client: the same version, outcomes that say the same, and the same number of exchanges.
+-- X and Y are the types of the links, and `seen` and `saw` what is promised of them.
 abbrev pub OnePlan : {X Y : Type 0} → (X → LinkSeen) → (Y → LinkSeen) → Type 0
 OnePlan {X} {Y} seen saw =
     (base : BaseParts) (side : Side) (all : List Event) (cache : ℕ) (before after : X) (other later : Y) (ends other_ends : List ClientEnd) (met other_met : List Met)
