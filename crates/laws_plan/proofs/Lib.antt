@@ -1,3 +1,4 @@
+mod AloneLemmas
 mod AsksLemmas
 mod FaultVersionLemmas
 mod FaultsLemmas

@@ -1,10 +1,11 @@
 -- That clients which plan over an honest link end rightly, also where its side grows. X is the type of the link, and `seen` what is promised of it.
-use Rattle.std.specs.Prelude.{◌≡◌, ℕ, ◌+◌, List, Some, length, slice_get}
+use Rattle.std.specs.Prelude.{◌≡◌, ℕ, ◌+◌, List, [], ◌∷◌, Some, length, slice_get}
+use Rattle.cli_ask.specs.Client.{Asks}
 use Rattle.cli_ask.specs.declared.end.ClientEnd.{ClientEnd}
 use Rattle.connection_uri.specs.Base.{BaseParts}
 use Rattle.convoy.specs.Finish.{Rounds}
 use Rattle.convoy.specs.State.{ConvoyState, begun}
-use Rattle.laws_plan.specs.Planned.{ArePlanned, NoneIsMessage}
+use Rattle.laws_plan.specs.Planned.{ArePlanned, IsPlanned, NoneIsMessage}
 use Rattle.laws_replay.specs.Caused.{AreCaused}
 use Rattle.laws_replay.specs.Events.{TurnsAreOfClients, questions_in}
 use Rattle.laws_replay.specs.History.{AreMetIn}
@@ -36,3 +37,10 @@ PlanFaultsAreOwn {X} seen =
     → ArePlanned base first all cache (seen start) (seen after) ends caused.met
     → (place : ℕ) (query : Query) (end : ClientEnd) → slice_get (questions_in all) place ≡ Some query → slice_get ends place ≡ Some end
     → (low high : ℕ) → HasFailedBetween (place + 1) low high caused.met → end.outcome ≡ LinkFault low high
+
+-- Over any link the one client of a plan asked as a client does that asks alone: its replies are those that the link records, where it records
+-- replies.
+abbrev pub OneClientAsks : {X : Type 0} → (X → LinkSeen) → Type 0
+OneClientAsks {X} seen =
+    (base : BaseParts) (all : List Event) (cache : ℕ) (query : Query) (before after : X) (text : List ℕ) (end : ClientEnd) → questions_in all ≡ query ∷ []
+    → IsPlanned base all cache (seen before) (seen after) text (end ∷ []) → Asks base query (seen before) (seen after) end

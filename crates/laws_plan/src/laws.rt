@@ -1,8 +1,9 @@
-ghost use Rattle.laws_plan.specs.Laws.{PlanFaultsAreOwn, PlansRight};
+ghost use Rattle.laws_plan.specs.Laws.{OneClientAsks, PlanFaultsAreOwn, PlansRight};
 ghost use Rattle.laws_plan.specs.OnePlan.{OnePlan};
 
 use laws_clients::{one_answer, steps_keep_agreement};
 use laws_convoys::{agreement_begins, turns_keep_agreement};
+use laws_replies::alone_asks_all;
 use lc_world::Link;
 
 /// Over every honest link, also one whose side grows between exchanges, each client ended rightly: with a best journey by the timetable of
@@ -26,4 +27,12 @@ pub fn one_plan<L: Link, M: Link>()
     ensures { OnePlan L.seen M.seen }
 {
     one_answer();
+}
+
+/// Whatever the link is, a client that plans alone asked as the client of an `ask` does. So where the link records replies and hides none,
+/// its version and its outcome are those that follow from what is recorded.
+pub fn one_client_asks<L: Link>()
+    ensures { OneClientAsks L.seen }
+{
+    alone_asks_all();
 }

@@ -5,5 +5,5 @@
 mod laws;
 mod near;
 
-pub use laws::{one_plan, plan_faults_are_own, plans_are_right};
+pub use laws::{one_client_asks, one_plan, plan_faults_are_own, plans_are_right};
 pub use near::{near_plans, worked_plans};
