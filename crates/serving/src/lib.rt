@@ -1,0 +1,7 @@
+//! The talk of one connection with a publisher: it answers what is fed to it by a session, and keeps the publisher for the next connection. It
+//! stands on `wire_session`, which says what is replied, and on `lc_doors`, by whose trait a connection is served.
+#![tactic(auto)]
+
+mod serving;
+
+pub use serving::Serving;
