@@ -1,0 +1,5 @@
+pub mod Lines
+pub mod Serve
+pub mod Told
+pub mod Visit
+pub mod Written

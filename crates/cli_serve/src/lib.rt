@@ -1,0 +1,9 @@
+//! What `serve` does with a publisher: it listens, serves one connection after the other, and writes what came of it. It stands on `serving`, by
+//! which one connection is served, on `lc_doors` and on `lc_io`.
+#![tactic(auto)]
+
+mod command;
+mod fault;
+
+pub use command::serve;
+pub use fault::ServeFault;
