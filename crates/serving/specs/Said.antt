@@ -1,5 +1,5 @@
 -- The laws of what is said: it is what was sent and is pending, it is one, and it is nothing for no bytes.
-use Rattle.std.proofs.Common.{◌≡◌, ◌≢◌, ◌∙◌, ℕ, Bool, true, false, List, [], ◌++◌, length, refl, sym, ap}
+use Rattle.std.proofs.Common.{◌≡◌, ◌≢◌, ◌∙◌, ℕ, Bool, false, List, [], ◌++◌, length, refl, sym, ap}
 use Rattle.std.specs.List.{concat}
 use Rattle.lc_doors.specs.Talk.{Said}
 use Rattle.publisher.specs.Held.{side_of}
@@ -62,7 +62,8 @@ pub fresh_stands : (side : Side) → Stands fresh side [] [] side
 unfolding Stands
 fresh_stands side = at_start side
 
-none_out : (start : Side) → SaysOut start [] (record { output = []; requests = 0; ended = false })
+-- to no bytes nothing is said
+pub none_out : (start : Side) → SaysOut start [] (record { output = []; requests = 0; ended = false })
 none_out start = out_of start [] [] 0 start false (stands_means fresh start [] [] start (fresh_stands start))
 
 -- nothing is said to no bytes

@@ -1,5 +1,5 @@
 -- A talk that answers requests from a publisher's side.
-use Rattle.std.specs.Prelude.{◌≡◌, ◌≢◌, ◌<◌, ℕ, List, length}
+use Rattle.std.specs.Prelude.{◌≡◌, ◌≢◌, ℕ, List, length}
 use Rattle.std.specs.List.{concat}
 use Rattle.lc_doors.specs.Talk.{Said, TalkSeen}
 use Rattle.publisher.specs.Held.{Held, side_of}
@@ -9,7 +9,7 @@ use Rattle.wire_session.specs.SessionOut.{SessionOut}
 use Rattle.wire_session.specs.SessionOut as session
 use Rattle.wire_session.specs.Stands.{Stands}
 use Rattle.wire_session.specs.Stands as stands
-use Rattle.wire_session.specs.declared.phase.Phase.TheVariants.{Open, Spent}
+use Rattle.wire_session.specs.declared.phase.Phase.TheVariants.{Spent}
 
 -- its session, its publisher, and how many bytes it was fed as long as it goes on
 pub record ServingState (G : Type 0) : Type 0 where

@@ -3,7 +3,7 @@ ghost use Rattle.publisher.specs.Held.{side_of};
 ghost use Rattle.publisher_spec.specs.Side.{Side};
 ghost use Rattle.serving.specs.Serving.{StandsOut};
 ghost use Rattle.wire_session.specs.Phase.{is_ended};
-ghost use Rattle.wire_session.specs.Stands.{IsOutput, Stands, fresh};
+ghost use Rattle.wire_session.specs.Stands.{IsOutput, Means, Stands, fresh};
 
 use fragmenter::Fragmenter;
 use lc_doors::Talk;
@@ -54,6 +54,10 @@ impl<G: Fragmenter + Drop> Serving<G> {
         // Whatever the talk stands for, this is the side that the requests leave.
         ensures left { (start : Side) (fed sent : List ℕ) → StandsOut G.cuts_of self start fed sent
             → IsOutput start fed (sent ++ self.session.pending) self.session.requests (side_of G.cuts_of result) (is_ended self.session.phase) }
+
+        // Where memory has run out too, this is the side of its session.
+        ensures means { (start : Side) (fed sent : List ℕ) → Stands self.session start fed sent (side_of G.cuts_of self.publisher)
+            → Means self.session start fed sent (side_of G.cuts_of result) }
     {
         self.publisher
     }

@@ -1,4 +1,3 @@
-use Rattle.std.proofs.Common.{◌≡◌}
 use Rattle.serving.proofs.FedLemmas.{fed_more}
 use Rattle.serving.proofs.serving.ServingTalk.feed_piece.Goals as goal
 
