@@ -1,5 +1,10 @@
+pub mod Clients
 pub mod Lines
 pub mod Serve
+pub mod Steps
+pub mod Stop
+pub mod Tally
 pub mod Told
 pub mod Visit
+pub mod Visiting
 pub mod Written

@@ -1,4 +1,4 @@
--- What serving comes to.
+-- What serving comes to, by how it ends.
 use Rattle.std.specs.Prelude.{◌≡◌, ◌⊎◌, ℕ, ◌<◌, ◌≤◌, true, false, List, ◌++◌, length, Result, Ok, Err}
 use Rattle.lc_doors.specs.Door.{DoorSeen, GoesOn}
 use Rattle.lc_io.specs.Counts.{Rose}
@@ -11,7 +11,7 @@ use Rattle.cli_serve.specs.Written.{Wrote, WroteFront, WroteThenFront}
 use Rattle.cli_serve.specs.declared.fault.ServeFault.{ServeFault}
 use Rattle.cli_serve.specs.declared.fault.ServeFault.TheVariants.{Door, Sink, NoMemory}
 
--- what is asked for: the side of the publisher at the start, what is written first, the port, and how many connections at most
+-- What is asked for: the side of the publisher at the start, the bytes to be written first, the port, and how many connections at most.
 pub record Asked : Type 0 where
   pub first : Side
   pub opening : List ℕ
@@ -27,7 +27,8 @@ pub record Outside : Type 0 where
 abbrev pub opening_of : Asked → List ℕ
 opening_of asked = asked.opening ++ listening_line asked.port
 
--- The door listens at the port and was visited so, as often as was asked for at most; the last visit is over.
+-- The door listens at the port, and these visits were made, as many as were asked for at most. The last one is over, and a fault of
+-- one has raised the count of the door.
 pub record WasVisited (asked : Asked) (visits : List Visit) (before after : DoorSeen) : Type 0 where
   pub last : Side
   pub visits_are : AreVisits asked.first visits last
@@ -37,33 +38,33 @@ pub record WasVisited (asked : Asked) (visits : List Visit) (before after : Door
   pub nobody : after.connected ≡ false
   pub broken : 0 < faults_of visits → Rose before.broken after.broken
 
--- Memory ran out on no visit, and there were as many as asked for, or no further client waits.
+-- Memory ran out on no visit. There were as many as were asked for, or no further client waits.
 pub record WasServed (asked : Asked) (visits : List Visit) (before after : DoorSeen) : Type 0 where
   pub visited : WasVisited asked visits before after
   pub all : (length visits ≡ asked.connections) ⊎ NoneWaits after.told
   pub none_lost : NoneLost visits
 
--- all visits were served, and both lines written
+-- Ok: all visits were served, and the opening and the line at the end were written whole.
 pub record IsServedWhole (asked : Asked) (before after : Outside) : Type 0 where
   pub visits : List Visit
   pub served : WasServed asked visits before.door after.door
   pub wrote : Wrote before.sink after.sink (opening_of asked ++ line_of visits)
 
--- the door does not listen for this, and nothing was written
+-- the door has not begun to listen, and nothing was written
 pub record IsNotOpened (before after : Outside) : Type 0 where
   pub told : after.door.told ≡ before.door.told
   pub listens : after.door.listens ≡ before.door.listens
   pub connected : after.door.connected ≡ before.door.connected
   pub sink : after.sink ≡ before.sink
 
--- the door listens, nobody was asked in, and a front of the opening was written
+-- the door listens and no client was taken; a front of the opening was written
 pub record IsNotAnnounced (asked : Asked) (before after : Outside) : Type 0 where
   pub told : GoesOn (λ b a. a ≡ opened_at asked.port b) before.door.told after.door.told
   pub listens : after.door.listens ≡ true
   pub connected : after.door.connected ≡ before.door.connected
   pub wrote : WroteFront before.sink after.sink (opening_of asked)
 
--- there were these visits, and nothing was written after the opening
+-- these visits were made, and nothing was written after the opening
 pub record IsStopped (asked : Asked) (visits : List Visit) (before after : Outside) : Type 0 where
   pub visited : WasVisited asked visits before.door after.door
   pub wrote : Wrote before.sink after.sink (opening_of asked)
@@ -74,21 +75,22 @@ pub record IsNotClosed (asked : Asked) (before after : Outside) : Type 0 where
   pub served : WasServed asked visits before.door after.door
   pub wrote : WroteThenFront before.sink after.sink (opening_of asked) (line_of visits)
 
--- the door failed and counted it: it did not listen, or no answer came where one client more was asked for
+-- The door failed, which it counted: it did not begin to listen, or it failed where one client more was asked for. The fault has its
+-- count before and now.
 pub record IsEndedByDoor (asked : Asked) (count now : ℕ) (before after : Outside) : Type 0 where
   pub count_is : count ≡ before.door.faults
   pub now_is : now ≡ after.door.faults
   pub rose : Rose before.door.faults after.door.faults
   pub so_far : IsNotOpened before after ⊎ ((visits : List Visit) × (length visits < asked.connections) × IsStopped asked visits before after)
 
--- the sink failed and counted it, in the opening or in the line at the end
+-- The sink failed, which it counted, in the opening or in the line at the end. The fault has its count before and now.
 pub record IsEndedBySink (asked : Asked) (count now : ℕ) (before after : Outside) : Type 0 where
   pub count_is : count ≡ before.sink.faults
   pub now_is : now ≡ after.sink.faults
   pub rose : Rose before.sink.faults after.sink.faults
   pub so_far : IsNotAnnounced asked before after ⊎ IsNotClosed asked before after
 
--- memory ran out: before the door listened, in the opening, on a visit or after one, or in the line at the end
+-- Memory ran out: before the door listened, in the opening, on a visit or between two, or in the line at the end.
 abbrev pub IsEndedByMemory : Asked → Outside → Outside → Type 0
 IsEndedByMemory asked before after =
     IsNotOpened before after ⊎ IsNotAnnounced asked before after ⊎ ((visits : List Visit) × IsStopped asked visits before after) ⊎ IsNotClosed asked before after

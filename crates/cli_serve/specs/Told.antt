@@ -26,7 +26,7 @@ AreWiresOf [] (wire ∷ wires) = ⊥
 AreWiresOf (visit ∷ visits) [] = ⊥
 AreWiresOf (visit ∷ visits) (wire ∷ wires) = IsWireOf visit wire × AreWiresOf visits wires
 
--- The connections of the visits came, and no others: they were the first ones that waited. The port has not changed.
+-- The connections of the visits came, and no others. They were the first ones that waited, and the port has not changed.
 pub record AreTold (visits : List Visit) (before after : DoorTold) : Type 0 where
   pub wires : List Wire
   pub wires_are : AreWiresOf visits wires

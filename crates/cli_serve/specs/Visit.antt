@@ -36,7 +36,7 @@ pub record IsLost (side : Side) (visit : Visit) : Type 0 where
   pub ended_is : visit.ended ≡ false
   pub failed_is : visit.failed ≡ false
 
--- a visit from a side to the next, by whether memory ran out; where it did, nothing is said of the next side
+-- A visit from a side to the next, by whether memory ran out. Where it did, nothing is said of the next side.
 abbrev pub IsVisit : Bool → Side → Visit → Side → Type 0
 IsVisit false side visit next = IsServed side visit next
 IsVisit true side visit next = IsLost side visit

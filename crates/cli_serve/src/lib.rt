@@ -2,8 +2,13 @@
 //! which one connection is served, on `lc_doors` and on `lc_io`.
 #![tactic(auto)]
 
+mod clients;
 mod command;
 mod fault;
+mod lines;
+mod stop;
+mod tally;
+mod visit;
 
 pub use command::serve;
 pub use fault::ServeFault;

@@ -1,0 +1,191 @@
+-- One client more.
+use Rattle.std.proofs.Common.{◌≡◌, ◌∙◌, ℕ, ◌+◌, ◌<◌, ◌≤◌, ◌^◌, ◌-◌, min, Bool, true, false, List, [], ◌∷◌, ◌++◌, length, Option, None, Some, Result, Ok, Err, refl, sym, ap, subst, arith, inl, inr}
+use Rattle.std.proofs.lemmas.List.Sums.{sum_by-append}
+use Rattle.lc_doors.specs.Door.{Closes, Comes, DoorSeen, DoorTold, GoesOn, Opens, connected_after, hung_up}
+use Rattle.lc_doors.specs.declared.door.DoorFail.{DoorFail}
+use Rattle.lc_doors.specs.declared.door.Next.{Next}
+use Rattle.lc_doors.specs.declared.door.Next.TheVariants.{Connection, Closed}
+use Rattle.lc_doors.specs.declared.serving.Served.{Served}
+use Rattle.lc_io.specs.Counts.{Rose}
+use Rattle.lc_model.specs.declared.memory.NoMemory.{NoMemory}
+use Rattle.publisher_spec.specs.Side.{Side}
+use Rattle.cli_serve.specs.Clients.{HasGone, HasTaken, IsUnderWay}
+use Rattle.cli_serve.specs.Tally.{Fits, IsTallyOf}
+use Rattle.cli_serve.specs.Told.{AreTold, NoneWaits}
+use Rattle.cli_serve.specs.Visit.{AreVisits, IsVisit, Visit, faults_of}
+use Rattle.cli_serve.specs.Visiting.{CameOut, IsOver, Visits}
+use Rattle.cli_serve.specs.declared.tally.Tally.{Tally}
+use Rattle.cli_serve.proofs.ToldLemmas.{goes_then, none_told, over_told, told_one_more}
+
+-- nobody came yet
+none_seen : (told : Option DoorTold) → GoesOn (AreTold []) told told
+none_seen None = refl
+none_seen (Some told) = none_told told
+
+pub none_gone : (side : Side) (door : DoorSeen) → HasGone [] side side door door
+none_gone side door = record {
+  visits_are = refl;
+  told = none_seen door.told;
+  listens = refl;
+  faults = omega arith;
+  broken = omega arith;
+  rose = λ some. absurd (omega arith);
+}
+
+visits_more : (visits : List Visit) (visit : Visit) (first side next : Side) → AreVisits first visits side → IsVisit visit.lost side visit next
+    → AreVisits first (visits ++ visit ∷ []) next
+visits_more [] visit first side next are is =
+    let Goal : Side → Type 0 = λ s. IsVisit visit.lost s visit next in
+    (next, subst Goal are is, refl)
+visits_more (v ∷ visits) visit first side next are is = (are.0, are.1, visits_more visits visit are.0 side next are.2 is)
+
+rose_later : (most before middle after : ℕ) → min (before + 1) most ≤ middle → middle ≤ after → min (before + 1) most ≤ after
+rose_later most before middle after rose later = omega arith
+
+pub rose_before : (most before middle after : ℕ) → before ≤ middle → min (middle + 1) most ≤ after → min (before + 1) most ≤ after
+rose_before most before middle after earlier rose = omega arith
+
+count_none : (visit : Visit) → visit.failed ≡ false → faults_of (visit ∷ []) ≡ 0
+count_none visit well = rw well refl
+
+faults_more : (visits : List Visit) (visit : Visit) → visit.failed ≡ false → faults_of (visits ++ visit ∷ []) ≡ faults_of visits
+faults_more visits visit well =
+    let none : faults_of (visit ∷ []) ≡ 0 = count_none visit well in
+    let both : faults_of (visits ++ visit ∷ []) ≡ faults_of visits + faults_of (visit ∷ []) = sum_by-append _ visits (visit ∷ []) in
+    omega arith
+
+rose_more : (failed : Bool) (visits : List Visit) (visit : Visit) (before middle after : ℕ) → visit.failed ≡ failed → before ≤ middle → middle ≤ after
+    → (0 < faults_of visits → Rose before middle) → (visit.failed ≡ true → Rose middle after) → 0 < faults_of (visits ++ visit ∷ []) → Rose before after
+rose_more true visits visit before middle after is earlier later was now some = rose_before (2 ^ 64 - 1) before middle after earlier (now is)
+rose_more false visits visit before middle after is earlier later was now some =
+    rose_later (2 ^ 64 - 1) before middle after (was (let same = faults_more visits visit is in omega arith)) later
+
+-- what is recorded, where one more came
+told_then : (visits : List Visit) (visit : Visit) (a b c d : Option DoorTold) → GoesOn (AreTold visits) a b → GoesOn Opens b c → GoesOn (IsOver visit) c d
+    → GoesOn (AreTold (visits ++ visit ∷ [])) a d
+told_then visits visit a b c d told opens over =
+    goes_then (AreTold visits) (λ (x y : DoorTold). (m : DoorTold) × Opens x m × IsOver visit m y) (AreTold (visits ++ visit ∷ []))
+    (λ x y z told both. told_one_more visits visit x y both.0 z told both.1 both.2) a b d told
+    (goes_then Opens (IsOver visit) (λ (x y : DoorTold). (m : DoorTold) × Opens x m × IsOver visit m y) (λ x y z p q. (y, p, q)) b c d opens over)
+
+-- one more came, and was served
+pub one_gone : (visits : List Visit) (visit : Visit) (outcome : Result Served NoMemory) (first side next : Side) (before middle opened after : DoorSeen)
+    → HasGone visits first side before middle → GoesOn Opens middle.told opened.told → middle.faults ≤ opened.faults → opened.listens ≡ middle.listens → opened.broken ≡ middle.broken
+    → Visits visit outcome side next opened after → HasGone (visits ++ visit ∷ []) first next before after
+one_gone visits visit outcome first side next before middle opened after gone opens faults listens broken is =
+    let still : opened.faults ≡ after.faults = sym (ap (λ (s : DoorSeen). s.faults) is.others) in
+    let caused : middle.broken ≤ after.broken = let fell = is.broken.not_fallen in omega arith in
+    record {
+      visits_are = visits_more visits visit first side next gone.visits_are is.visit_is;
+      told = told_then visits visit before.told middle.told opened.told after.told gone.told opens is.told;
+      listens = ap (λ (s : DoorSeen). s.listens) is.others ∙ (listens ∙ gone.listens);
+      faults = let was = gone.faults in omega arith;
+      broken = let was = gone.broken in omega arith;
+      rose = rose_more visit.failed visits visit before.broken middle.broken after.broken refl gone.broken caused gone.rose
+          (λ failed. let rose : Rose opened.broken after.broken = is.broken.rose failed in subst (λ (n : ℕ). Rose n after.broken) broken rose);
+    }
+
+over_seen : (visits : List Visit) (a b c : Option DoorTold) → GoesOn (AreTold visits) a b → GoesOn (λ x y. y ≡ hung_up x) b c → GoesOn (AreTold visits) a c
+over_seen visits a b c told is = goes_then (AreTold visits) (λ (x y : DoorTold). y ≡ hung_up x) (AreTold visits) (over_told visits) a b c told is
+
+-- nobody more came
+pub gone_over : (visits : List Visit) (first side : Side) (before middle after : DoorSeen) → HasGone visits first side before middle
+    → GoesOn (λ x y. y ≡ hung_up x) middle.told after.told → middle.faults ≤ after.faults → after.listens ≡ middle.listens → after.broken ≡ middle.broken
+    → HasGone visits first side before after
+gone_over visits first side before middle after gone over faults listens broken = record {
+  visits_are = gone.visits_are;
+  told = over_seen visits before.told middle.told after.told gone.told over;
+  listens = listens ∙ gone.listens;
+  faults = let was = gone.faults in omega arith;
+  broken = let was = gone.broken in omega arith;
+  rose = λ some. subst (λ (n : ℕ). Rose before.broken n) (sym broken) (gone.rose some);
+}
+
+-- no client waits where none comes
+closed_over : (a b : Option DoorTold) → GoesOn Closes a b → GoesOn (λ x y. y ≡ hung_up x) a b
+closed_over None b closes = closes
+closed_over (Some a) None closes = closes
+closed_over (Some a) (Some b) closes = closes.closed
+
+none_waits : (a b : Option DoorTold) → GoesOn Closes a b → NoneWaits b
+none_waits a None closes = tt
+none_waits None (Some b) closes = absurd (cc)
+none_waits (Some a) (Some b) closes = ap (λ (t : DoorTold). t.waiting) closes.closed ∙ closes.none_left
+
+pub closed : (visits : List Visit) (first side : Side) (before middle after : DoorSeen) → HasGone visits first side before middle
+    → GoesOn Closes middle.told after.told → middle.faults ≤ after.faults → after.listens ≡ middle.listens → after.broken ≡ middle.broken
+    → HasGone visits first side before after × NoneWaits after.told
+closed visits first side before middle after gone closes faults listens broken =
+    (gone_over visits first side before middle after gone (closed_over middle.told after.told closes) faults listens broken, none_waits middle.told after.told closes)
+
+-- what `next` has answered
+pub record NextSaid (result : Result Next DoorFail) (before after : DoorSeen) : Type 0 where
+  pub connected : after.connected ≡ connected_after result
+  pub told : GoesOn (Comes result) before.told after.told
+  pub faults : before.faults ≤ after.faults
+  pub listens : after.listens ≡ before.listens
+  pub broken : after.broken ≡ before.broken
+
+-- no client has come yet
+pub starts_out : (side : Side) (connections : ℕ) (tally : Tally) (door : DoorSeen) → IsTallyOf [] tally → Fits tally → IsUnderWay side side connections tally door door
+starts_out side connections tally door is fits = record {
+  visits = [];
+  gone = none_gone side door;
+  tally_is = is;
+  fits = fits;
+  few = let none : tally.connections ≡ 0 = is.connections_are in omega arith;
+  nobody = λ some. let none : tally.connections ≡ 0 = is.connections_are in absurd (omega arith);
+}
+
+-- the door failed
+pub fails_next : (first side : Side) (connections : ℕ) (tally : Tally) (fail : DoorFail) (before middle after : DoorSeen) → IsUnderWay first side connections tally before middle
+    → tally.connections < connections → NextSaid (Err fail) middle after → HasTaken first connections (Err fail) before after
+fails_next first side connections tally fail before middle after way fewer asked = record {
+  visits = way.visits;
+  last = side;
+  gone = gone_over way.visits first side before middle after way.gone asked.told asked.faults asked.listens asked.broken;
+  at_most = let long : tally.connections ≡ length way.visits = way.tally_is.connections_are in omega arith;
+  all = let long : tally.connections ≡ length way.visits = way.tally_is.connections_are in omega arith;
+  nobody = asked.connected;
+}
+
+-- nobody more came
+pub none_next : (first side : Side) (connections : ℕ) (tally : Tally) (before middle after : DoorSeen) → IsUnderWay first side connections tally before middle
+    → tally.connections < connections → NextSaid (Ok Closed) middle after → HasTaken first connections (Ok tally) before after
+none_next first side connections tally before middle after way fewer asked =
+    let over = closed way.visits first side before middle after way.gone asked.told asked.faults asked.listens asked.broken in
+    record {
+      visits = way.visits;
+      last = side;
+      gone = over.0;
+      at_most = let long : tally.connections ≡ length way.visits = way.tally_is.connections_are in omega arith;
+      all = (way.tally_is, inr over.1);
+      nobody = asked.connected;
+    }
+
+-- all have come that were asked for
+pub all_came : (first side : Side) (connections : ℕ) (tally : Tally) (before after : DoorSeen) → IsUnderWay first side connections tally before after
+    → connections ≤ tally.connections → 1 ≤ connections → HasTaken first connections (Ok tally) before after
+all_came first side connections tally before after way all some = record {
+  visits = way.visits;
+  last = side;
+  gone = way.gone;
+  at_most = let long : tally.connections ≡ length way.visits = way.tally_is.connections_are in let few = way.few in omega arith;
+  all = (way.tally_is, inl (let long : tally.connections ≡ length way.visits = way.tally_is.connections_are in let few = way.few in omega arith));
+  nobody = way.nobody (omega arith);
+}
+
+-- one more came
+pub one_next : (visit : Visit) (outcome : Result Served NoMemory) (first side next : Side) (connections : ℕ) (tally counted : Tally) (before middle opened after : DoorSeen)
+    → IsUnderWay first side connections tally before middle → tally.connections < connections → NextSaid (Ok Connection) middle opened
+    → Visits visit outcome side next opened after
+    → ((visits : List Visit) (visit : Visit) → IsTallyOf visits tally → CameOut outcome visit → IsTallyOf (visits ++ visit ∷ []) counted)
+    → counted.connections ≡ tally.connections + 1 → Fits counted → IsUnderWay first next connections counted before after
+one_next visit outcome first side next connections tally counted before middle opened after way fewer asked is more one fits = record {
+  visits = way.visits ++ visit ∷ [];
+  gone = one_gone way.visits visit outcome first side next before middle opened after way.gone asked.told asked.faults asked.listens asked.broken is;
+  tally_is = more way.visits visit way.tally_is is.came_out;
+  fits = fits;
+  few = omega arith;
+  nobody = λ some. ap (λ (s : DoorSeen). s.connected) is.others;
+}

@@ -1,0 +1,5 @@
+mod AnswerLemmas
+mod ClientLemmas
+mod EndLemmas
+mod ToldLemmas
+mod WrittenLemmas

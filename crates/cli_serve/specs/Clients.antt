@@ -1,0 +1,42 @@
+-- How clients are served, one after the other.
+use Rattle.std.specs.Prelude.{◌≡◌, ◌⊎◌, ℕ, ◌<◌, ◌≤◌, false, List, length, Option, Result, Ok, Err}
+use Rattle.lc_doors.specs.Door.{DoorSeen, DoorTold, GoesOn}
+use Rattle.lc_doors.specs.declared.door.DoorFail.{DoorFail}
+use Rattle.lc_io.specs.Counts.{Rose}
+use Rattle.publisher_spec.specs.Side.{Side}
+use Rattle.cli_serve.specs.Tally.{Fits, IsTallyOf}
+use Rattle.cli_serve.specs.Told.{AreTold, NoneWaits}
+use Rattle.cli_serve.specs.Visit.{AreVisits, Visit, faults_of}
+use Rattle.cli_serve.specs.declared.tally.Tally.{Tally}
+
+-- visits from a side to another, one after the other
+pub record HasGone (visits : List Visit) (first last : Side) (before after : DoorSeen) : Type 0 where
+  pub visits_are : AreVisits first visits last
+  pub told : GoesOn (AreTold visits) before.told after.told
+  pub listens : after.listens ≡ before.listens
+  pub faults : before.faults ≤ after.faults
+  pub broken : before.broken ≤ after.broken
+  pub rose : 0 < faults_of visits → Rose before.broken after.broken
+
+-- So many clients at most are served, one after the other: these visits were made so far, and are counted.
+pub record IsUnderWay (first side : Side) (connections : ℕ) (tally : Tally) (before now : DoorSeen) : Type 0 where
+  pub visits : List Visit
+  pub gone : HasGone visits first side before now
+  pub tally_is : IsTallyOf visits tally
+  pub fits : Fits tally
+  pub few : tally.connections ≤ connections
+  pub nobody : 0 < tally.connections → now.connected ≡ false
+
+-- All were served that were asked for, or no further client waits; or the door failed before that.
+abbrev pub AreAll : List Visit → ℕ → Result Tally DoorFail → Option DoorTold → Type 0
+AreAll visits connections (Ok tally) told = IsTallyOf visits tally × ((length visits ≡ connections) ⊎ NoneWaits told)
+AreAll visits connections (Err fail) told = length visits < connections
+
+-- clients were served, one after the other, so many at most
+pub record HasTaken (first : Side) (connections : ℕ) (result : Result Tally DoorFail) (before after : DoorSeen) : Type 0 where
+  pub visits : List Visit
+  pub last : Side
+  pub gone : HasGone visits first last before after
+  pub at_most : length visits ≤ connections
+  pub all : AreAll visits connections result after.told
+  pub nobody : after.connected ≡ false
