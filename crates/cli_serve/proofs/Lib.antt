@@ -1,5 +1,6 @@
 mod AnswerLemmas
 mod ClientLemmas
 mod EndLemmas
+mod LawLemmas
 mod ToldLemmas
 mod WrittenLemmas

@@ -1,4 +1,5 @@
 pub mod Clients
+pub mod Laws
 pub mod Lines
 pub mod Serve
 pub mod Steps

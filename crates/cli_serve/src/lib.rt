@@ -5,6 +5,7 @@
 mod clients;
 mod command;
 mod fault;
+mod laws;
 mod lines;
 mod stop;
 mod tally;
@@ -12,3 +13,4 @@ mod visit;
 
 pub use command::serve;
 pub use fault::ServeFault;
+pub use laws::{near_servings, one_serving};

@@ -1,0 +1,130 @@
+-- What comes of serving is one, and near values are refused.
+use Rattle.std.proofs.Common.{◌≡◌, ◌≢◌, ◌∙◌, ℕ, suc, ◌+◌, Bool, false, List, [], ◌∷◌, ◌++◌, length, length-append, Option, None, Some, inl, inr, refl, sym, ap, subst, append_assoc, append-nil, arith}
+use Rattle.std.specs.List.{concat}
+use Rattle.std.proofs.lemmas.List.{append_cancel_left}
+use Rattle.lc_doors.specs.Door.{DoorTold, GoesOn, Wire}
+use Rattle.publisher_spec.specs.Side.{Side}
+use Rattle.wire_session.specs.Laws.{OneOutput}
+use Rattle.wire_session.specs.SessionOut.{Said, SessionOut}
+use Rattle.cli_serve.specs.Serve.{Asked, IsServedWhole, Outside}
+use Rattle.cli_serve.specs.Told.{AreTold, AreWiresOf, IsWireOf, came, opened_at}
+use Rattle.cli_serve.specs.Visit.{AreVisits, IsServed, IsVisit, NoneLost, Visit}
+
+-- a visit on which memory did not run out was served
+kept : (visit : Visit) (side next : Side) → visit.lost ≡ false → IsVisit visit.lost side visit next → IsServed side visit next
+kept visit side next is visits = subst (λ (b : Bool). IsVisit b side visit next) is visits
+
+same_visit : (a b : Visit) → a.read ≡ b.read → a.sent ≡ b.sent → a.requests ≡ b.requests → a.ended ≡ b.ended → a.failed ≡ b.failed → a.lost ≡ b.lost → a ≡ b
+same_visit a b read sent requests ended failed lost =
+    let Same : Visit → Type 0 = λ v. v ≡ b in
+    rw (read, sent, requests, ended, failed, lost) refl
+
+-- the same bytes from the same side, and the same bytes sent
+one_served : OneOutput → (side next other : Side) (a b : Visit) → a.read ≡ b.read → a.sent ≡ b.sent → a.failed ≡ b.failed → a.lost ≡ b.lost → IsServed side a next
+    → IsServed side b other → (a ≡ b) × (next ≡ other)
+one_served one side next other a b read sent failed lost p q =
+    let said : SessionOut side b.read p.said = subst (λ (l : List ℕ). SessionOut side l p.said) read p.said_is in
+    let same : p.said ≡ q.said = one side b.read p.said q.said said q.said_is in (
+      same_visit a b read sent
+          (p.requests_are ∙ (ap (λ (s : Said). length s.replies) same ∙ sym q.requests_are))
+          (p.ended_is ∙ (ap (λ (s : Said). s.ended) same ∙ sym q.ended_is)) failed lost,
+      p.next_is ∙ (ap (λ (s : Said). s.side) same ∙ sym q.next_is),
+    )
+
+none_lost_first : (visit : Visit) (visits : List Visit) → NoneLost (visit ∷ visits) → visit.lost ≡ false
+none_lost_first visit visits none = none 0 visit (omega arith)
+
+none_lost_rest : (visit : Visit) (visits : List Visit) → NoneLost (visit ∷ visits) → NoneLost visits
+none_lost_rest visit visits none = λ k d h. none (suc k) d (omega arith)
+
+-- the connections and the first side say what the visits are
+one_list : OneOutput → (visits other : List Visit) (wires : List Wire) (first last end : Side) → AreWiresOf visits wires → AreWiresOf other wires → NoneLost visits → NoneLost other
+    → AreVisits first visits last → AreVisits first other end → visits ≡ other
+one_list one [] [] wires first last end wa wb la lb va vb = refl
+one_list one [] (o ∷ other) [] first last end wa wb la lb va vb = absurd wb
+one_list one [] (o ∷ other) (w ∷ wires) first last end wa wb la lb va vb = absurd wa
+one_list one (v ∷ visits) [] [] first last end wa wb la lb va vb = absurd wa
+one_list one (v ∷ visits) [] (w ∷ wires) first last end wa wb la lb va vb = absurd wb
+one_list one (v ∷ visits) (o ∷ other) [] first last end wa wb la lb va vb = absurd wa
+one_list one (v ∷ visits) (o ∷ other) (w ∷ wires) first last end wa wb la lb va vb =
+    let v_kept : v.lost ≡ false = none_lost_first v visits la in
+    let o_kept : o.lost ≡ false = none_lost_first o other lb in
+    let both : (v ≡ o) × (va.0 ≡ vb.0) =
+    one_served one first va.0 vb.0 v o (sym wa.0.read_is ∙ wb.0.read_is) (sym wa.0.sent_is ∙ wb.0.sent_is) (sym wa.0.failed_is ∙ wb.0.failed_is) (v_kept ∙ sym o_kept)
+    (kept v first va.0 v_kept va.1) (kept o first vb.0 o_kept vb.1) in
+    let From : Side → Type 0 = λ s. AreVisits s other end in
+    let rest : visits ≡ other =
+    one_list one visits other wires va.0 last end wa.1 wb.1 (none_lost_rest v visits la) (none_lost_rest o other lb) va.2 (subst From (sym both.1) vb.2) in
+    ap (λ (x : Visit). x ∷ visits) both.0 ∙ ap (λ (l : List Visit). o ∷ l) rest
+
+told_at : (visits : List Visit) (port : ℕ) (a b : Option DoorTold) (x y : DoorTold) → a ≡ Some x → b ≡ Some y → GoesOn (λ s t. AreTold visits (opened_at port s) t) a b
+    → AreTold visits (opened_at port x) y
+told_at visits port None b x y is now told = absurd (cc)
+told_at visits port (Some s) None x y is now told = absurd told
+told_at visits port (Some s) (Some t) x y is now told =
+    let before : s ≡ x = cc in
+    let after : t ≡ y = cc in
+    subst (λ (d : DoorTold). AreTold visits (opened_at port x) d) after (subst (λ (d : DoorTold). AreTold visits (opened_at port d) t) before told)
+
+-- what a door has recorded says what the visits were
+pub one_serving : OneOutput → (asked : Asked) (before after : Outside) (told_before told_after : DoorTold) → before.door.told ≡ Some told_before
+    → after.door.told ≡ Some told_after → (a b : IsServedWhole asked before after) → a.visits ≡ b.visits
+one_serving one asked before after told_before told_after is now a b =
+    let p : AreTold a.visits (opened_at asked.port told_before) told_after =
+    told_at a.visits asked.port before.door.told after.door.told told_before told_after is now a.served.visited.told in
+    let q : AreTold b.visits (opened_at asked.port told_before) told_after =
+    told_at b.visits asked.port before.door.told after.door.told told_before told_after is now b.served.visited.told in
+    let wires : p.wires ≡ q.wires = append_cancel_left (came told_before) p.wires q.wires (sym p.came_more ∙ q.came_more) in
+    one_list one a.visits b.visits q.wires asked.first a.served.visited.last b.served.visited.last
+    (subst (λ (w : List Wire). AreWiresOf a.visits w) wires p.wires_are) q.wires_are a.served.none_lost b.served.none_lost a.served.visited.visits_are b.served.visited.visits_are
+
+pub one_visit : OneOutput → (side next : Side) (visit : Visit) (said : Said) → SessionOut side visit.read said → visit.lost ≡ false → visit.failed ≡ false
+    → IsVisit visit.lost side visit next → (visit.sent ≡ concat said.replies) × (next ≡ said.side)
+one_visit one side next visit said says is well visits =
+    let served : IsServed side visit next = kept visit side next is visits in
+    let same : served.said ≡ said = one side visit.read served.said said served.said_is says in
+    (served.all_sent well ∙ ap (λ (s : Said). concat s.replies) same, served.next_is ∙ ap (λ (s : Said). s.side) same)
+
+left_by : OneOutput → (side next : Side) (visit : Visit) (said : Said) → SessionOut side visit.read said → visit.lost ≡ false
+    → IsVisit visit.lost side visit next → next ≡ said.side
+left_by one side next visit said says is visits =
+    let served : IsServed side visit next = kept visit side next is visits in
+    served.next_is ∙ ap (λ (s : Said). s.side) (one side visit.read served.said said served.said_is says)
+
+pub none_forgotten : OneOutput → (first last : Side) (one two : Visit) (said after : Said) → SessionOut first one.read said → SessionOut said.side two.read after
+    → one.lost ≡ false → two.lost ≡ false → two.failed ≡ false → two.sent ≢ concat after.replies → ¬ AreVisits first (one ∷ two ∷ []) last
+none_forgotten law first last one two said after says then one_kept two_kept well other visits =
+    let left : visits.0 ≡ said.side = left_by law first visits.0 one said says one_kept visits.1 in
+    let From : Side → Type 0 = λ s. IsVisit two.lost s two visits.2.0 in
+    other (one_visit law said.side visits.2.0 two after then two_kept well (subst From left visits.2.1)).0
+
+more_is_other : (sent : List ℕ) (byte : ℕ) (rest : List ℕ) → sent ≢ sent ++ byte ∷ rest
+more_is_other sent byte rest same =
+    let long : length (sent ++ byte ∷ rest) ≡ length sent + length (byte ∷ rest) = length-append sent (byte ∷ rest) in
+    let same_long : length sent ≡ length (sent ++ byte ∷ rest) = ap length same in
+    absurd (omega arith)
+
+pub none_unsent : OneOutput → (side next : Side) (visit : Visit) (said : Said) (byte : ℕ) (rest : List ℕ) → SessionOut side visit.read said → visit.lost ≡ false → visit.failed ≡ false
+    → concat said.replies ≡ visit.sent ++ byte ∷ rest → ¬ IsVisit visit.lost side visit next
+none_unsent one side next visit said byte rest says is well more visits =
+    more_is_other visit.sent byte rest ((one_visit one side next visit said says is well visits).0 ∙ more)
+
+pub none_unread : (visit : Visit) (wire : Wire) (byte : ℕ) (rest : List ℕ) → visit.lost ≡ false → visit.failed ≡ false → visit.ended ≡ false
+    → wire.to_come ≡ byte ∷ rest → ¬ IsWireOf visit wire
+none_unread visit wire byte rest is well goes_on more wire_is =
+    elim (wire_is.heard well is) [ inl none ↦ absurd (cc) | inr ended ↦ absurd (cc) ]
+
+no_front : (front rest : List ℕ) → front ++ rest ≡ [] → front ≡ []
+no_front [] rest is = refl
+no_front (x ∷ front) rest is = absurd (cc)
+
+pub none_twice : OneOutput → (side next : Side) (visit : Visit) (said : Said) (reply : List ℕ) → SessionOut side visit.read said → visit.lost ≡ false → reply ≢ []
+    → visit.sent ≡ concat said.replies ++ reply → ¬ IsVisit visit.lost side visit next
+none_twice one side next visit said reply says is some twice visits =
+    let served : IsServed side visit next = kept visit side next is visits in
+    let same : served.said ≡ said = one side visit.read served.said said served.said_is says in
+    let text : List ℕ = concat said.replies in
+    let front : text ≡ visit.sent ++ served.sent_is.rest = sym (ap (λ (s : Said). concat s.replies) same) ∙ served.sent_is.is in
+    let again : text ≡ text ++ (reply ++ served.sent_is.rest) = front ∙ (ap (λ (l : List ℕ). l ++ served.sent_is.rest) twice ∙ append_assoc text reply served.sent_is.rest) in
+    let nothing : reply ++ served.sent_is.rest ≡ [] = sym (append_cancel_left text [] (reply ++ served.sent_is.rest) (append-nil text ∙ again)) in
+    some (no_front reply served.sent_is.rest nothing)

@@ -1,0 +1,44 @@
+-- The laws of serving: what comes of it is one where the door records, and near values are refused.
+use Rattle.std.specs.Prelude.{◌≡◌, ◌≢◌, ℕ, false, List, [], ◌∷◌, ◌++◌, Some}
+use Rattle.std.specs.List.{concat}
+use Rattle.lc_doors.specs.Door.{DoorTold, Wire}
+use Rattle.publisher_spec.specs.Side.{Side}
+use Rattle.wire_session.specs.SessionOut.{Said, SessionOut}
+use Rattle.cli_serve.specs.Serve.{Asked, IsServedWhole, Outside}
+use Rattle.cli_serve.specs.Told.{IsWireOf}
+use Rattle.cli_serve.specs.Visit.{AreVisits, IsVisit, Visit}
+
+-- where the door records, the visits are one, and so is the line that counts them
+abbrev pub OneServing : Type 0
+OneServing =
+    (asked : Asked) (before after : Outside) (told_before told_after : DoorTold) → before.door.told ≡ Some told_before → after.door.told ≡ Some told_after
+    → (a b : IsServedWhole asked before after) → a.visits ≡ b.visits
+
+-- the bytes sent on a visit without a fault, on which memory did not run out, are the replies from its side
+abbrev pub OneVisit : Type 0
+OneVisit = (side next : Side) (visit : Visit) (said : Said) → SessionOut side visit.read said → visit.lost ≡ false → visit.failed ≡ false → IsVisit visit.lost side visit next
+    → (visit.sent ≡ concat said.replies) × (next ≡ said.side)
+
+-- a second visit that is not answered from the side that the first one has left
+abbrev pub NoneForgotten : Type 0
+NoneForgotten =
+    (first last : Side) (one two : Visit) (said after : Said) → SessionOut first one.read said → SessionOut said.side two.read after
+    → one.lost ≡ false → two.lost ≡ false → two.failed ≡ false → two.sent ≢ concat after.replies → ¬ AreVisits first (one ∷ two ∷ []) last
+
+-- a visit that was hung up without a fault before all was sent
+abbrev pub NoneUnsent : Type 0
+NoneUnsent =
+    (side next : Side) (visit : Visit) (said : Said) (byte : ℕ) (rest : List ℕ) → SessionOut side visit.read said → visit.lost ≡ false → visit.failed ≡ false
+    → concat said.replies ≡ visit.sent ++ byte ∷ rest → ¬ IsVisit visit.lost side visit next
+
+-- a visit that was hung up without a fault before all was read, while the session went on
+abbrev pub NoneUnread : Type 0
+NoneUnread =
+    (visit : Visit) (wire : Wire) (byte : ℕ) (rest : List ℕ) → visit.lost ≡ false → visit.failed ≡ false → visit.ended ≡ false
+    → wire.to_come ≡ byte ∷ rest → ¬ IsWireOf visit wire
+
+-- a reply that is sent twice, with a fault or without
+abbrev pub NoneTwice : Type 0
+NoneTwice =
+    (side next : Side) (visit : Visit) (said : Said) (reply : List ℕ) → SessionOut side visit.read said → visit.lost ≡ false → reply ≢ []
+    → visit.sent ≡ concat said.replies ++ reply → ¬ IsVisit visit.lost side visit next
