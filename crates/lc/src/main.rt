@@ -1,13 +1,10 @@
-//! The program `lc`: it runs the command of its words over the system's files and its output. It stands on `lc_cli`.
+//! The program `lc`: it runs the command of its words over the system's files, its output and its sockets. It stands on `lc_cli`.
 #![tactic(auto)]
 
 mod words;
 
-use cli_inputs::Refusal;
 use lc_cli::{Status, code, refuse, run};
-use lc_edge::{ClosedLink, DirFolder, StdSink};
-use lc_model::NoMemory;
-use lc_world::SureDoor;
+use lc_edge::{DirFolder, StdSink, TcpDoor, TcpLink};
 use std::process::ExitCode;
 use words::words_of;
 
@@ -23,17 +20,8 @@ fn carried_out(rt: &HostRuntime, out: &mut StdSink<HostRuntime>) -> Status {
         Ok(words) => words,
         Err(refusal) => return refuse(alloc, refusal, out),
     };
-    let Ok(mut door) = SureDoor::new(alloc, Vec::new(alloc)) else {
-        return refuse(alloc, Refusal::from(NoMemory), out);
-    };
     let mut folder = DirFolder::new(rt);
-    let (status, _) = run(
-        alloc,
-        &words,
-        &mut folder,
-        ClosedLink::new(),
-        &mut door,
-        out,
-    );
+    let mut door = TcpDoor::new(rt);
+    let (status, _) = run(alloc, &words, &mut folder, TcpLink::new(rt), &mut door, out);
     status
 }

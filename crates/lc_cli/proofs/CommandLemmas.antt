@@ -8,6 +8,7 @@ use Rattle.cli_inputs.specs.declared.refusal.Refusal.{Refusal}
 use Rattle.cli_words.specs.Words.{SaysCommand}
 use Rattle.cli_words.specs.declared.command.Ask.{Ask}
 use Rattle.cli_words.specs.declared.command.Command.{Command}
+use Rattle.cli_words.specs.declared.command.Command.TheVariants as commands
 use Rattle.cli_words.specs.declared.command.Replay.{Replay}
 use Rattle.lc_io.specs.Folder.{FolderSeen}
 use Rattle.lc_io.specs.declared.file.File.{File}
@@ -15,8 +16,10 @@ use Rattle.lc_world.specs.Link.{LinkSeen}
 use Rattle.laws_replay.specs.Replayed.{IsReplayed}
 use Rattle.laws_replay.specs.declared.event.Event.{Event}
 use Rattle.timetable.specs.declared.timetable.Timetable.{Timetable}
-use Rattle.lc_cli.specs.Command.{IsAskBlock, IsRefusedAs, IsReplayBlock, IsRightBlock, IsRightRefusal, Prints, ask_scope, replay_scope}
+use Rattle.lc_cli.specs.Command.{IsAskBlock, IsRefusedAs, IsReplayBlock, IsRightRefusal, IsRightWork, Prints, ResultsIn, ask_scope, replay_scope}
 use Rattle.lc_cli.specs.declared.block.Block.{Block}
+use Rattle.lc_cli.specs.declared.work.Work.{Work}
+use Rattle.lc_cli.specs.declared.work.Work.TheVariants as works
 
 -- what is printed of a question
 pub ask_block_of : (ask : Ask) (old new : FolderSeen) (before after : LinkSeen) (made : Timetable) (file : Option File) → ReadsInputs (ask_scope ask) ask.update old new made file
@@ -42,13 +45,31 @@ replay_block_of replay old new before after made all inputs text ends block text
       (subst (λ e. IsReplayed made replay.publishing all replay.cache before after text.items e.items) (sym ends_is) replayed);
 }
 
--- what words that say a command come to
-pub said_blocks : (words : List (List ℕ)) (old new : FolderSeen) (before after : LinkSeen) (command : Command) (result : Result Block Refusal) → SaysCommand words command
-    → IfOk result (Prints command old new before after) → IfOk result (IsRightBlock words old new before after)
-said_blocks words old new before after command (Ok block) says is = record { command = command; says = says; prints = is }
-said_blocks words old new before after command (Err refusal) says is = tt
+-- a block that a command prints, and a refusal of it, as what it results in
+pub results_printed : (old new : FolderSeen) (before after : LinkSeen) (command : Command) (block : Result Block Refusal) (result : Result Work Refusal)
+    → IfOk block (Prints command old new before after) → IfOk block (λ b. result ≡ Ok (works.Print b)) → IfErr block (λ r. result ≡ Err r) → IfOk result (ResultsIn command old new before after)
+results_printed old new before after command (Ok block) result prints work refused =
+    subst (λ (r : Result Work Refusal). IfOk r (ResultsIn command old new before after)) (sym work) prints
+results_printed old new before after command (Err refusal) result prints work refused =
+    subst (λ (r : Result Work Refusal). IfOk r (ResultsIn command old new before after)) (sym refused) tt
 
-pub said_refusals : (words : List (List ℕ)) (old new : FolderSeen) (command : Command) (result : Result Block Refusal) → SaysCommand words command
+pub refused_printed : (old new : FolderSeen) (command : Command) (block : Result Block Refusal) (result : Result Work Refusal) → IfErr block (IsRefusedAs command old new)
+    → IfOk block (λ b. result ≡ Ok (works.Print b)) → IfErr block (λ r. result ≡ Err r) → IfErr result (IsRefusedAs command old new)
+refused_printed old new command (Ok block) result is work refused = subst (λ (r : Result Work Refusal). IfErr r (IsRefusedAs command old new)) (sym work) tt
+refused_printed old new command (Err refusal) result is work refused = subst (λ (r : Result Work Refusal). IfErr r (IsRefusedAs command old new)) (sym refused) is
+
+-- what words that say a command result in
+pub said_works : (words : List (List ℕ)) (old new : FolderSeen) (before after : LinkSeen) (command : Command) (result : Result Work Refusal) → SaysCommand words command
+    → IfOk result (ResultsIn command old new before after) → IfOk result (IsRightWork words old new before after)
+said_works words old new before after command (Ok (works.Print block)) says is = record { command = command; says = says; prints = is }
+said_works words old new before after (commands.Check check) (Ok (works.Serve server)) says is = absurd is
+said_works words old new before after (commands.Ask ask) (Ok (works.Serve server)) says is = absurd is
+said_works words old new before after (commands.Replay replay) (Ok (works.Serve server)) says is = absurd is
+said_works words old new before after (commands.Serve serve) (Ok (works.Serve server)) says is = record { serve = serve; says = says; is = is }
+said_works words old new before after (commands.Plan plan) (Ok (works.Serve server)) says is = absurd is
+said_works words old new before after command (Err refusal) says is = tt
+
+pub said_refusals : (words : List (List ℕ)) (old new : FolderSeen) (command : Command) (result : Result Work Refusal) → SaysCommand words command
     → IfErr result (IsRefusedAs command old new) → IfErr result (IsRightRefusal words old new)
-said_refusals words old new command (Ok block) says is = tt
+said_refusals words old new command (Ok work) says is = tt
 said_refusals words old new command (Err refusal) says is = inr (inr (record { command = command; says = says; refused = is }))

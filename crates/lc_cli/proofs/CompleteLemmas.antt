@@ -20,14 +20,16 @@ use Rattle.timetable.specs.declared.scope.Scope.{Scope}
 use Rattle.timetable.specs.declared.timetable.Timetable.{Timetable}
 use Rattle.version_store.specs.Laws.{OneOutcome}
 use Rattle.lc_cli.specs.Block.{IsBlockEnd, client_status_of}
-use Rattle.lc_cli.specs.Clear.{IsAnswered, IsClear, IsHeard}
-use Rattle.lc_cli.specs.Command.{IsRefusedAs, IsRightRefusal, Prints, ask_scope, check_scope, scope_of}
+use Rattle.lc_cli.specs.Clear.{IsAnswered, IsClear, IsFed, IsHeard}
+use Rattle.lc_cli.specs.Command.{IsRefusedAs, IsRightRefusal, Prints, ask_scope, check_scope, serve_scope}
 use Rattle.lc_cli.specs.Refusal.{IsRefusalEnd, status_of}
 use Rattle.lc_cli.specs.Top.{IsRight, Past}
 use Rattle.lc_cli.specs.declared.status.Status.{Status}
 use Rattle.lc_cli.specs.declared.status.Status.TheVariants.{NoMemory}
+use Rattle.lc_cli.proofs.PlanLemmas.{plan_fine, plan_never_refused}
 use Rattle.lc_cli.proofs.ReplayLemmas.{course_fine, never_refused}
-use Rattle.lc_cli.proofs.TopLemmas.{AreNoFaults, IsHeardBy, answered, heard, heard_nothing, no_fault, not_absent, not_broken_update, not_long}
+use Rattle.lc_cli.proofs.ServingLemmas.{served_answered}
+use Rattle.lc_cli.proofs.TopLemmas.{AreNoFaults, IsHeardBy, answered, heard, heard_nothing, heard_served, no_fault, not_absent, not_broken_update, not_long}
 
 -- a command without a script whose feed and message are fine is refused for memory alone
 module _ (not_broken : NotBroken) (not_too_large : NotTooLarge) (one_outcome : OneOutcome) (told : List File) (scope : Scope) (update : Option (List ℕ)) (old new : FolderSeen)
@@ -62,34 +64,44 @@ module _ (one_command : OneCommand) (loads_told : LoadsTold) (not_broken : NotBr
     fine (commands.Replay replay) says prints =
         course_fine loads_told clear.told replay p.folder_before p.folder_after (seen p.link_before) (seen p.link_after) x.block prints clear.unhindered.tells
         (clear.unhindered.fair_course replay says)
+    fine (commands.Serve serve) says prints = absurd prints
+    fine (commands.Plan plan) says prints =
+        plan_fine plan p.folder_before p.folder_after (seen p.link_before) (seen p.link_after) x.block prints (clear.unhindered.fair_plan plan says)
 
     by : IsBlockEnd x.block p.sink_before p.sink_after status → IsAnswered status
     by (inl whole) = by_status status (client_status_of 1 x.block.ends.items) whole.status_is (answered 1 x.block.ends.items (fine x.right.command x.right.says x.right.prints))
     by (inr (inl cut)) = absurd (clear.unhindered.no_sink_fault cut.rose)
     by (inr (inr cut)) = by_status status NoMemory cut.status_is tt
-  complete seen p status (inr x) clear = by x.right x.end where
+  complete seen p status (inr (inr x)) clear =
+      served_answered x.server p.door_before p.door_after p.sink_before p.sink_after status x.end clear.unhindered.no_door_fault clear.unhindered.no_sink_fault
+  complete seen p status (inr (inl x)) clear = by x.right x.end where
     memory : (refusal : Refusal) → status_of refusal ≡ NoMemory → IsRefusalEnd refusal p.sink_before p.sink_after status → IsAnswered status
     memory refusal is (inl said) = by_status status NoMemory (said.status_is ∙ is) tt
     memory refusal is (inr lacks) = by_status status NoMemory lacks.status_is tt
 
     -- whatever the command is, it is refused for memory alone
-    never_as : (command : Command) → IsSound clear.told (scope_of command) clear.made → IsHeard clear.told command → IsRefusedAs command p.folder_before p.folder_after x.refusal
+    never_as : (command : Command) → IsFed clear.told command → IsHeard clear.told command → IsRefusedAs command p.folder_before p.folder_after x.refusal
         → (status_of x.refusal ≡ NoMemory) ⊎ ⊥
-    never_as (commands.Check check) sound is refused_is =
-        never not_broken not_too_large one_outcome clear.told (check_scope check) None p.folder_before p.folder_after clear.made clear.unhindered.tells sound
-        (heard_nothing clear.told (store_of clear.made 0)) clear.unhindered.no_folder_fault x.refusal refused_is
-    never_as (commands.Ask ask) sound is refused_is =
-        never not_broken not_too_large one_outcome clear.told (ask_scope ask) ask.update p.folder_before p.folder_after clear.made clear.unhindered.tells sound
+    never_as (commands.Check check) fed is refused_is =
+        never not_broken not_too_large one_outcome clear.told (check_scope check) None p.folder_before p.folder_after fed.made clear.unhindered.tells fed.sound
+        (heard_nothing clear.told (store_of fed.made 0)) clear.unhindered.no_folder_fault x.refusal refused_is
+    never_as (commands.Ask ask) fed is refused_is =
+        never not_broken not_too_large one_outcome clear.told (ask_scope ask) ask.update p.folder_before p.folder_after fed.made clear.unhindered.tells fed.sound
         (heard clear.told ask is) clear.unhindered.no_folder_fault x.refusal refused_is
-    never_as (commands.Replay replay) sound (made, all, course) refused_is =
+    never_as (commands.Replay replay) fed (made, all, course) refused_is =
         never_refused one_script never_both not_broken not_too_large clear.told replay p.folder_before p.folder_after clear.unhindered.tells made all course
         clear.unhindered.no_folder_fault x.refusal refused_is
+    never_as (commands.Serve serve) fed is refused_is =
+        never not_broken not_too_large one_outcome clear.told (serve_scope serve) serve.update p.folder_before p.folder_after fed.made clear.unhindered.tells fed.sound
+        (heard_served clear.told serve is) clear.unhindered.no_folder_fault x.refusal refused_is
+    never_as (commands.Plan plan) fed (all, asks) refused_is =
+        plan_never_refused never_both clear.told plan.asks p.folder_before p.folder_after clear.unhindered.tells all asks clear.unhindered.no_folder_fault x.refusal refused_is
 
     by : IsRightRefusal p.words p.folder_before p.folder_after x.refusal → IsRefusalEnd x.refusal p.sink_before p.sink_after status → IsAnswered status
     by (inl usage) end = absurd (usage.says_none clear.command clear.says)
     by (inr (inl first)) end = memory x.refusal (ap status_of first.is) end
     by (inr (inr is)) end =
-        either (never_as clear.command clear.sound clear.heard (subst (λ (c : Command). IsRefusedAs c p.folder_before p.folder_after x.refusal) same is.refused)) where
+        either (never_as clear.command clear.fed clear.heard (subst (λ (c : Command). IsRefusedAs c p.folder_before p.folder_after x.refusal) same is.refused)) where
           same : is.command ≡ clear.command
           same = one_command p.words is.command clear.command is.says clear.says
 

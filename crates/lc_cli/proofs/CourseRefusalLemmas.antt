@@ -107,7 +107,7 @@ pub record StopsTold (told : List File) (script : List Record) (s : Status) : Ty
 -- the script is told
 pub record HasToldScript (told : List File) (replay : Replay) : Type 0 where
   script : List Record
-  is_told : IsToldScript told replay.script script
+  is_told : IsToldScript told replay.script true script
 
 -- the script is told and wrong in this row
 pub record IsWrongTold (told : List File) (replay : Replay) (s : Status) : Type 0 where

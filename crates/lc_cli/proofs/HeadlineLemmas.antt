@@ -1,5 +1,5 @@
 -- Where `ask` ended with status Done, it wrote a best journey, or that there is none.
-use Rattle.std.proofs.Common.{◌≡◌, ◌∙◌, ◌+◌, ◌∷◌, ℕ, zero, suc, inl, inr, List, [], Some, Option, ap, arith, length, map, refl, subst, sym}
+use Rattle.std.proofs.Common.{◌≡◌, ◌∙◌, ◌⊎◌, ◌+◌, ◌∷◌, ℕ, zero, suc, inl, inr, List, [], Some, Option, ap, arith, length, map, refl, subst, sym}
 use Rattle.std.proofs.lemmas.List.{length-map}
 use Rattle.std.proofs.lemmas.List.Elements.{All-cons, All-nil}
 use Rattle.std.specs.List.{All, slice_get}
@@ -35,7 +35,7 @@ use Rattle.lc_cli.specs.Block.{IsBlockEnd, IsWrittenWhole, client_status_of, fai
 use Rattle.lc_cli.specs.Clear.{IsAskedSide}
 use Rattle.lc_cli.specs.Command.{IsAskBlock, Prints, ask_scope}
 use Rattle.lc_cli.specs.Headline.{EndsBest, Headline, StaysShort, WroteBest, outcome_of, version_meant}
-use Rattle.lc_cli.specs.Top.{HasPrinted, Past}
+use Rattle.lc_cli.specs.Top.{HasPrinted, HasServed, Past}
 use Rattle.lc_cli.specs.Writing.{Wrote}
 use Rattle.lc_cli.specs.declared.block.Block.{Block}
 use Rattle.lc_cli.specs.declared.status.Status.{Status}
@@ -173,4 +173,7 @@ module _ (loads_told : LoadsTold) {X : Type 0} (seen : X → LinkSeen) (p : Past
 
 pub headline : {X : Type 0} (seen : X → LinkSeen) → OneCommand → LoadsTold → Headline seen
 headline seen one_command loads_told p ask files says tells clear short right =
-    by_printed loads_told seen p ask files tells clear short one_command says (done_is_printed seen p right)
+    by (done_is_printed seen p right) where
+      by : HasPrinted seen p Done ⊎ HasServed p Done → WroteBest p ask files
+      by (inl x) = by_printed loads_told seen p ask files tells clear short one_command says x
+      by (inr x) = let other : commands.Serve x.right.serve ≡ commands.Ask ask = one_command p.words (commands.Serve x.right.serve) (commands.Ask ask) x.right.says says in absurd (cc)

@@ -1,5 +1,5 @@
 -- Where `replay` ended with status Done, it wrote a best journey for each client, or that there is none.
-use Rattle.std.proofs.Common.{◌≡◌, ◌+◌, ℕ, List, Some, subst}
+use Rattle.std.proofs.Common.{◌≡◌, ◌⊎◌, ◌+◌, ℕ, inl, inr, List, Some, subst}
 use Rattle.cli_ask.specs.Client.{shown_of}
 use Rattle.cli_ask.specs.Publishing.{side_with, store_of}
 use Rattle.cli_ask.specs.declared.end.ClientEnd.{ClientEnd}
@@ -25,7 +25,7 @@ use Rattle.version_store.specs.Store.{Stored}
 use Rattle.lc_cli.specs.Block.{IsBlockEnd}
 use Rattle.lc_cli.specs.Command.{IsReplayBlock, Prints}
 use Rattle.lc_cli.specs.Headline.{EndsBestThen, HeadlineOfReplay, StaysShortThroughout, WroteEachBest, version_meant}
-use Rattle.lc_cli.specs.Top.{HasPrinted, Past}
+use Rattle.lc_cli.specs.Top.{HasPrinted, HasServed, Past}
 use Rattle.lc_cli.specs.Writing.{Wrote}
 use Rattle.lc_cli.specs.declared.block.Block.{Block}
 use Rattle.lc_cli.specs.declared.status.Status.TheVariants.{Done}
@@ -106,4 +106,7 @@ module _ (loads_told : LoadsTold) (one_outcome : OneOutcome) {X : Type 0} (seen 
 
 pub headline_of_replay : {X : Type 0} (seen : X → LinkSeen) → OneCommand → LoadsTold → OneOutcome → HeadlineOfReplay seen
 headline_of_replay seen one_command loads_told one_outcome p replay files says tells clear short right =
-    by_printed loads_told one_outcome seen p replay files tells clear short one_command says (done_is_printed seen p right)
+    by (done_is_printed seen p right) where
+      by : HasPrinted seen p Done ⊎ HasServed p Done → WroteEachBest p replay files
+      by (inl x) = by_printed loads_told one_outcome seen p replay files tells clear short one_command says x
+      by (inr x) = let other : commands.Serve x.right.serve ≡ commands.Replay replay = one_command p.words (commands.Serve x.right.serve) (commands.Replay replay) x.right.says says in absurd (cc)

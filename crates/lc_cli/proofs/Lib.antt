@@ -3,13 +3,16 @@ pub mod CompleteLemmas
 pub mod CourseRefusalLemmas
 pub mod EarlierSideLemmas
 pub mod HeadlineLemmas
+pub mod HeadlineOfPlanLemmas
 pub mod HeadlineOfReplayLemmas
 pub mod InputsLemmas
 pub mod NearHeadlineLemmas
 pub mod OneReplayLemmas
 pub mod OneRunLemmas
 pub mod OneStatusLemmas
+pub mod PlanLemmas
 pub mod ReplayLemmas
+pub mod ServingLemmas
 pub mod TinyLemmas
 pub mod TopLemmas
 pub mod WindowLemmas

@@ -80,7 +80,7 @@ one_list_of_events told (said ∷ script) (first ∷ a) (second ∷ b) x y =
     ap (λ (e : Event). let l : List Event = e ∷ a in l) (one_event told said first second x.0 y.0) ∙ ap (λ (l : List Event). second ∷ l) rest
 
 -- told files say one script under a name, and so one course
-pub one_told_script : OneScript → (told : List File) (name : List ℕ) (a b : List Record) → IsToldScript told name a → IsToldScript told name b → a ≡ b
+pub one_told_script : OneScript → (told : List File) (name : List ℕ) (a b : List Record) → IsToldScript told name true a → IsToldScript told name true b → a ≡ b
 one_told_script one_script told name a b x y =
     let same : Some x.bytes ≡ Some y.bytes = sym x.is_told ∙ y.is_told in
     let bytes : x.bytes ≡ y.bytes = cc in

@@ -91,7 +91,7 @@ module _ {X Y : Type 0} (seen : X → LinkSeen) (saw : Y → LinkSeen) (one_time
   module _ (one_command : OneCommand) (one_script : OneScript) (one_course : OneCourse) where
     -- runs over these words and files that print something print one output
     pub one_run : OneRun seen saw
-    one_run p q told words at to s t x y = by x.right.command x.right.says x.right.prints other where
+    one_run p q told words home at to s t x y = by x.right.command x.right.says x.right.prints other where
       same : y.right.command ≡ x.right.command
       same = one_command p.words y.right.command x.right.command (subst (λ w. SaysCommand w y.right.command) (sym words) y.right.says) x.right.says
 
@@ -108,6 +108,8 @@ module _ {X Y : Type 0} (seen : X → LinkSeen) (saw : Y → LinkSeen) (one_time
           one_replay loads_told one_timetable one_script one_course told replay p.folder_before p.folder_after q.folder_before q.folder_after (seen p.link_before) (seen p.link_after)
           (saw q.link_before) (saw q.link_after) x.block y.block a b at.tells to.tells (at.fair_course replay says)
           (to.fair_course replay (subst (λ w. SaysCommand w (commands.Replay replay)) words says))
+      by (commands.Serve serve) says a b = absurd a
+      by (commands.Plan plan) says a b = absurd (home (commands.Plan plan) says)
       by (commands.Ask ask) says a b =
           let fair = at.fair ask says in
           let other_fair = to.fair ask (subst (λ w. SaysCommand w (commands.Ask ask)) words says) in (

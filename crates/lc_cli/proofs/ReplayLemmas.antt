@@ -1,13 +1,12 @@
 -- What a course comes to over told files that nothing hinders.
-use Rattle.std.proofs.Common.{◌≡◌, ◌∙◌, ◌⊎◌, ◌<◌, ◌+◌, ◌++◌, ◌∷◌, ℕ, zero, suc, true, inl, inr, List, [], None, Some, Option, Ok, Err, arith, length, refl, subst, sym}
+use Rattle.std.proofs.Common.{◌≡◌, ◌∙◌, ◌⊎◌, ◌<◌, ◌++◌, ◌∷◌, ℕ, zero, suc, true, inl, inr, List, [], Some, Option, arith, length, refl, subst, sym}
 use Rattle.std.specs.List.{slice_get}
 use Rattle.cli_ask.specs.Client.{shown_of}
-use Rattle.cli_ask.specs.Publishing.{side_with}
 use Rattle.cli_ask.specs.declared.end.ClientEnd.{ClientEnd}
 use Rattle.laws_clients.specs.Fits.{HasEnded}
 use Rattle.laws_replies.specs.Ends.{EndsBy}
 use Rattle.laws_replies.specs.Made.{Made}
-use Rattle.cli_inputs.specs.Script.{IsEventOf, IsRefusedAt, IsReplayRefused, ReadsEvents, ReadsReplay, StopsAtRecord}
+use Rattle.cli_inputs.specs.Script.{IsEventOf, IsReplayRefused, ReadsEvents, ReadsReplay, StopsAtRecord}
 use Rattle.cli_inputs.specs.declared.refusal.Refusal.{Refusal}
 use Rattle.cli_inputs.specs.declared.refusal.Refusal.TheVariants as refused
 use Rattle.cli_inputs.proofs.InputsLemmas.{rose_later}
@@ -22,7 +21,6 @@ use Rattle.page_client.specs.declared.outcome.Outcome.TheVariants as outcomes
 use Rattle.page_client.specs.declared.want.Want.{Want}
 use Rattle.publisher_spec.specs.Side.{Side}
 use Rattle.laws_replay.specs.Events.{questions_in}
-use Rattle.laws_replay.specs.Replayed.{IsReplayed}
 use Rattle.laws_replay.specs.declared.event.Event.{Event}
 use Rattle.laws_replay.specs.declared.event.Event.TheVariants as events
 use Rattle.laws_replay.specs.declared.message.Message.{Message}
@@ -34,11 +32,10 @@ use Rattle.script_text.specs.declared.script.Record.TheVariants as records
 use Rattle.timetable.specs.Told.{IsSound}
 use Rattle.timetable.specs.Laws.{LoadsTold, NotBroken, NotTooLarge}
 use Rattle.timetable.specs.declared.fault.LoadFault.TheVariants as fault
-use Rattle.timetable.specs.declared.scope.Scope.{Scope}
 use Rattle.timetable.specs.declared.timetable.Timetable.{Timetable}
 use Rattle.trip_updates.specs.Faults.{fault_of}
 use Rattle.trip_updates.specs.declared.fault.RtFault.{RtFault}
-use Rattle.lc_cli.specs.Clear.{AreToldEvents, HasFairCourse, IsToldCourse, IsToldEvent, IsToldScript}
+use Rattle.lc_cli.specs.Clear.{AreToldEvents, HasFairCourse, IsToldCourse, IsToldEvent}
 use Rattle.lc_cli.specs.Command.{IsReplayBlock, replay_scope}
 use Rattle.lc_cli.specs.Refusal.{status_of}
 use Rattle.lc_cli.specs.declared.block.Block.{Block}
@@ -83,7 +80,7 @@ told_message told said name event is are = by event (subst (λ (r : Record). IsT
   by (events.Turn client) are = absurd are
 
 -- another list of the same length has something at the place too
-some_at : {A B : Type 0} (a : List A) (b : List B) (place : ℕ) (x : A) → length a ≡ length b → slice_get a place ≡ Some x → (y : B) × (slice_get b place ≡ Some y)
+pub some_at : {A B : Type 0} (a : List A) (b : List B) (place : ℕ) (x : A) → length a ≡ length b → slice_get a place ≡ Some x → (y : B) × (slice_get b place ≡ Some y)
 some_at [] b place x same is = absurd (none place is) where
   none : (n : ℕ) → slice_get [] n ≡ Some x → ⊥
   none n e = cc
@@ -92,12 +89,12 @@ some_at (first ∷ a) (second ∷ b) zero x same is = (second, refl)
 some_at (first ∷ a) (second ∷ b) (suc n) x same is = some_at a b n x (cc) is
 
 -- what is so at each place is so of all
-no_faults_at : (ends : List ClientEnd) → ((place : ℕ) (end : ClientEnd) → slice_get ends place ≡ Some end → IsNoFault end.outcome) → AreNoFaults ends
+pub no_faults_at : (ends : List ClientEnd) → ((place : ℕ) (end : ClientEnd) → slice_get ends place ≡ Some end → IsNoFault end.outcome) → AreNoFaults ends
 no_faults_at [] at = tt
 no_faults_at (end ∷ more) at = (at 0 end refl, no_faults_at more (λ place other is. at (suc place) other is))
 
 -- over a link in whose exchanges no fault was counted a client that ended rightly has no fault
-no_fault_of : (side : Side) (given : List Want) (query : Query) (end : ClientEnd) (base : _) (before after : ℕ) (version : Option ℕ) (made : List Made) (outcome : Outcome) → EndsBy base query before after version made outcome
+pub no_fault_of : (side : Side) (given : List Want) (query : Query) (end : ClientEnd) (base : _) (before after : ℕ) (version : Option ℕ) (made : List Made) (outcome : Outcome) → EndsBy base query before after version made outcome
     → HasEnded side (shown_of query end) given (Some outcome) → (Rose before after → ⊥) → IsNoFault outcome
 no_fault_of side given query end base before after version made (outcomes.Found journey) ends ended no_fault = tt
 no_fault_of side given query end base before after version made outcomes.NoJourney ends ended no_fault = tt

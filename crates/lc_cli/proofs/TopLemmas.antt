@@ -3,12 +3,12 @@ use Rattle.std.proofs.Common.{◌≡◌, ◌∙◌, ◌⊎◌, ◌+◌, ◌∷�
 use Rattle.std.specs.Option.{unwrap_or}
 use Rattle.cli_ask.specs.Admission.{IsBehind, IsIgnored}
 use Rattle.cli_ask.specs.Client.{shown_of}
-use Rattle.cli_ask.specs.Publishing.{side_with, store_of}
+use Rattle.cli_ask.specs.Publishing.{side_for, side_with, store_of}
 use Rattle.laws_clients.specs.Fits.{HasEnded}
 use Rattle.laws_replies.specs.Ends.{EndsBy}
-use Rattle.cli_words.specs.Laws.{OneCommand}
 use Rattle.cli_words.specs.Words.{SaysCommand}
 use Rattle.cli_words.specs.declared.command.Ask.{Ask}
+use Rattle.cli_words.specs.declared.command.Serve.{Serve}
 use Rattle.cli_words.specs.declared.command.Command.{Command}
 use Rattle.cli_words.specs.declared.command.Command.TheVariants as commands
 use Rattle.lc_io.specs.Folder.{FolderSeen, bytes_named}
@@ -24,7 +24,6 @@ use Rattle.publisher_spec.specs.Side.{Side}
 use Rattle.timetable.specs.Laws.{LoadsTold}
 use Rattle.timetable.specs.declared.fault.LoadFault.TheVariants as fault
 use Rattle.timetable.specs.declared.scope.Scope.{Scope}
-use Rattle.timetable.specs.declared.timetable.Timetable.{Timetable}
 use Rattle.trip_updates.specs.declared.fault.RtFault.{RtFault}
 use Rattle.version_store.specs.Admission.{IsRefused, IsTaken}
 use Rattle.version_store.specs.Laws.{OneOutcome}
@@ -33,12 +32,13 @@ use Rattle.version_store.specs.declared.admission.AdmitFault.{AdmitFault}
 use Rattle.version_store.specs.declared.admission.AdmitFault.TheVariants as faults
 use Rattle.cli_ask.specs.declared.end.ClientEnd.{ClientEnd}
 use Rattle.lc_cli.specs.Block.{IsBlockEnd, client_status_of, failed_status_of}
-use Rattle.lc_cli.specs.Clear.{HasFairLink, IsAnswered, IsAskedSide, IsHeard, IsToldFile}
-use Rattle.lc_cli.specs.Command.{IsAskBlock, IsRightRefusal, ask_scope}
-use Rattle.cli_inputs.specs.Inputs.{AsksForUpdate, IsBrokenUpdate, IsLongUpdate, IsRefusedFor}
+use Rattle.lc_cli.specs.Clear.{HasFairLink, IsAnswered, IsAskedSide, IsHeard, IsServedSide, IsToldFile}
+use Rattle.lc_cli.specs.Command.{IsAskBlock, IsRightRefusal, IsServer, ask_scope, serve_scope}
+use Rattle.cli_inputs.specs.Inputs.{AsksForUpdate, IsBrokenUpdate, IsLongUpdate}
 use Rattle.lc_cli.specs.Refusal.{IsRefusalEnd, status_of}
 use Rattle.lc_cli.specs.Top.{IsEarlyRefusal, IsRight, Past}
 use Rattle.lc_cli.specs.declared.block.Block.{Block}
+use Rattle.lc_cli.specs.declared.server.Server.{Server}
 use Rattle.cli_inputs.specs.declared.refusal.Refusal.{Refusal}
 use Rattle.cli_inputs.specs.declared.refusal.Refusal.TheVariants as refused
 use Rattle.lc_cli.specs.declared.status.Status.{Status}
@@ -48,7 +48,8 @@ use Rattle.lc_cli.proofs.InputsLemmas.{absent_told, bytes_told, inputs_told, sti
 -- every other status has a command that the words say
 pub usage_only : {X : Type 0} (seen : X → LinkSeen) (p : Past X) (status : Status) → IsRight seen p status → ((command : Command) → SaysCommand p.words command → ⊥) → (status ≡ Usage) ⊎ (status ≡ NoMemory)
 usage_only seen p status (inl printed) none = absurd (none printed.right.command printed.right.says)
-usage_only seen p status (inr x) none = by x.right x.end where
+usage_only seen p status (inr (inr served)) none = absurd (none (commands.Serve served.right.serve) served.right.says)
+usage_only seen p status (inr (inl x)) none = by x.right x.end where
   ends : (refusal : Refusal) (other : Status) → status_of refusal ≡ other → IsRefusalEnd refusal p.sink_before p.sink_after status → (status ≡ other) ⊎ (status ≡ NoMemory)
   ends refusal other is (inl said) = inl (said.status_is ∙ is)
   ends refusal other is (inr lacks) = inr lacks.status_is
@@ -115,6 +116,20 @@ module _ (loads_told : LoadsTold) where
         by side given (outcomes.LinkFault count later) ends ended = absurd (fair.link.no_fault (omega (arith, ends.from, ends.rose, ends.up_to)))
         by side given (outcomes.PeerWrong reply fault) ends ended = absurd ended
 
+-- the side that is served first is the one of the told files
+pub side_served : LoadsTold → (told : List File) (serve : Serve) (old new : FolderSeen) (server : Server) → old.files ≡ Some told → (x : IsServer serve old new server)
+    → IsServedSide told serve (side_for x.made serve.publishing x.publishes.store serve.accept_updates)
+side_served loads_told told serve old new server tells x = record {
+  made = x.made;
+  sound = loads_told told (serve_scope serve) old x.inputs.between x.made tells x.inputs.loaded;
+  file = x.file;
+  is_told = inputs_told told (serve_scope serve) serve.update old new x.made x.file tells x.inputs;
+  store = x.publishes.store;
+  line = server.line.items;
+  behind = x.publishes.behind;
+  is = refl;
+}
+
 -- The file of the message is told, if there is a name, and this store is behind it.
 pub record IsHeardBy (told : List File) (update : Option (List ℕ)) : Type 0 where
   pub file : Option File
@@ -133,6 +148,16 @@ heard told ask (side, is) = record {
   file = is.file;
   is_told = is.is_told;
   old = store_of is.made ask.publishing.base_moment;
+  new = is.store;
+  line = is.line;
+  behind = is.behind;
+}
+
+pub heard_served : (told : List File) (serve : Serve) → IsHeard told (commands.Serve serve) → IsHeardBy told serve.update
+heard_served told serve (side, is) = record {
+  file = is.file;
+  is_told = is.is_told;
+  old = store_of is.made serve.publishing.base_moment;
   new = is.store;
   line = is.line;
   behind = is.behind;

@@ -1,16 +1,20 @@
--- What a command comes to before anything is written: a text to print, or a refusal. Each has its cause.
-use Rattle.std.specs.Prelude.{◌≡◌, ◌⊎◌, ℕ, List, [], ◌∷◌, Option, None}
+-- What a command results in before anything is written: a text to print, a publisher to serve, or a refusal. Each has its cause.
+use Rattle.std.specs.Prelude.{◌≡◌, ◌⊎◌, ℕ, false, List, [], ◌∷◌, Option, None}
 use Rattle.cli_ask.specs.Asked.{IsAsked}
+use Rattle.cli_ask.specs.Publishing.{PublishesAfter}
 use Rattle.cli_ask.specs.declared.end.ClientEnd.{ClientEnd}
 use Rattle.cli_words.specs.Words.{SaysCommand}
 use Rattle.cli_words.specs.declared.command.Ask.{Ask}
 use Rattle.cli_words.specs.declared.command.Check.{Check}
+use Rattle.cli_words.specs.declared.command.Plan.{Plan}
 use Rattle.cli_words.specs.declared.command.Replay.{Replay}
+use Rattle.cli_words.specs.declared.command.Serve.{Serve}
 use Rattle.cli_words.specs.declared.command.Command.{Command}
 use Rattle.cli_words.specs.declared.command.Command.TheVariants as commands
 use Rattle.lc_io.specs.Folder.{FolderSeen}
 use Rattle.lc_io.specs.declared.file.File.{File}
 use Rattle.lc_world.specs.Link.{LinkSeen}
+use Rattle.laws_plan.specs.Planned.{IsPlanned}
 use Rattle.laws_replay.specs.Replayed.{IsReplayed}
 use Rattle.laws_replay.specs.declared.event.Event.{Event}
 use Rattle.timetable.specs.Loading.{Loads}
@@ -19,8 +23,12 @@ use Rattle.timetable.specs.declared.scope.Scope.{Scope}
 use Rattle.timetable.specs.declared.timetable.Timetable.{Timetable}
 use Rattle.lc_cli.specs.CheckText.{check_text_of}
 use Rattle.cli_inputs.specs.Inputs.{IsRefusedFor, ReadsInputs}
-use Rattle.cli_inputs.specs.Script.{IsReplayRefused, ReadsReplay}
+use Rattle.cli_inputs.specs.Plan.{ReadsPlan}
+use Rattle.cli_inputs.specs.Script.{IsReplayRefused, IsScriptRefused, ReadsReplay}
 use Rattle.lc_cli.specs.declared.block.Block.{Block}
+use Rattle.lc_cli.specs.declared.server.Server.{Server}
+use Rattle.lc_cli.specs.declared.work.Work.{Work}
+use Rattle.lc_cli.specs.declared.work.Work.TheVariants as works
 use Rattle.cli_inputs.specs.declared.refusal.Refusal.{Refusal}
 use Rattle.cli_inputs.specs.declared.refusal.Refusal.TheVariants.{Usage, Load}
 
@@ -36,11 +44,9 @@ ask_scope ask = record { feed = ask.feed; zone = ask.zone; first = ask.first; da
 abbrev pub replay_scope : Replay → Scope
 replay_scope replay = record { feed = replay.feed; zone = replay.zone; first = replay.first; days = replay.days; change = replay.change }
 
--- what a command asks of its feed
-abbrev pub scope_of : Command → Scope
-scope_of (commands.Check check) = check_scope check
-scope_of (commands.Ask ask) = ask_scope ask
-scope_of (commands.Replay replay) = replay_scope replay
+-- what `serve` asks of its feed
+abbrev pub serve_scope : Serve → Scope
+serve_scope serve = record { feed = serve.feed; zone = serve.zone; first = serve.first; days = serve.days; change = serve.change }
 
 -- the timetable of the command's feed was loaded, and what is printed are its counts
 pub record IsCheckBlock (check : Check) (old new : FolderSeen) (block : Block) : Type 0 where
@@ -67,11 +73,19 @@ pub record IsReplayBlock (replay : Replay) (old new : FolderSeen) (before after 
   pub inputs : ReadsReplay (replay_scope replay) replay.script old new made all
   pub replayed : IsReplayed made replay.publishing all replay.cache before after block.text.items block.ends.items
 
+-- The questions and turns were read, and happened over the link. What is printed are the lines of the clients.
+pub record IsPlanBlock (plan : Plan) (old new : FolderSeen) (before after : LinkSeen) (block : Block) : Type 0 where
+  pub all : List Event
+  pub inputs : ReadsPlan plan.asks old new all
+  pub planned : IsPlanned plan.base all plan.cache before after block.text.items block.ends.items
+
 -- what the command prints
 abbrev pub Prints : Command → FolderSeen → FolderSeen → LinkSeen → LinkSeen → Block → Type 0
 Prints (commands.Check check) old new before after block = IsCheckBlock check old new block
 Prints (commands.Ask ask) old new before after block = IsAskBlock ask old new before after block
 Prints (commands.Replay replay) old new before after block = IsReplayBlock replay old new before after block
+Prints (commands.Serve serve) old new before after block = ⊥
+Prints (commands.Plan plan) old new before after block = IsPlanBlock plan old new before after block
 
 -- the words say a command, and the block is what it prints
 pub record IsRightBlock (words : List (List ℕ)) (old new : FolderSeen) (before after : LinkSeen) (block : Block) : Type 0 where
@@ -79,11 +93,47 @@ pub record IsRightBlock (words : List (List ℕ)) (old new : FolderSeen) (before
   pub says : SaysCommand words command
   pub prints : Prints command old new before after block
 
+-- The timetable and the message of `serve` were read. Its publisher is that of the timetable after the message, and takes messages where the
+-- arguments say so. The line says what became of the message. The port and the number of connections are those of the arguments.
+pub record IsServer (serve : Serve) (old new : FolderSeen) (server : Server) : Type 0 where
+  pub made : Timetable
+  pub file : Option File
+  pub inputs : ReadsInputs (serve_scope serve) serve.update old new made file
+  pub publishes : PublishesAfter made serve.publishing serve.accept_updates file server.publisher server.line.items
+  pub port_is : server.port ≡ serve.port
+  pub connections_are : server.connections ≡ serve.connections
+
+-- what the command serves
+abbrev pub Serves : Command → FolderSeen → FolderSeen → Server → Type 0
+Serves (commands.Check check) old new server = ⊥
+Serves (commands.Ask ask) old new server = ⊥
+Serves (commands.Replay replay) old new server = ⊥
+Serves (commands.Serve serve) old new server = IsServer serve old new server
+Serves (commands.Plan plan) old new server = ⊥
+
+-- what the command results in
+abbrev pub ResultsIn : Command → FolderSeen → FolderSeen → LinkSeen → LinkSeen → Work → Type 0
+ResultsIn command old new before after (works.Print block) = Prints command old new before after block
+ResultsIn command old new before after (works.Serve server) = Serves command old new server
+
+-- the words say `serve`, and this is what serves it
+pub record IsRightServer (words : List (List ℕ)) (old new : FolderSeen) (server : Server) : Type 0 where
+  pub serve : Serve
+  pub says : SaysCommand words (commands.Serve serve)
+  pub is : IsServer serve old new server
+
+-- what the command of the words results in
+abbrev pub IsRightWork : List (List ℕ) → FolderSeen → FolderSeen → LinkSeen → LinkSeen → Work → Type 0
+IsRightWork words old new before after (works.Print block) = IsRightBlock words old new before after block
+IsRightWork words old new before after (works.Serve server) = IsRightServer words old new server
+
 -- why a command is refused
 abbrev pub IsRefusedAs : Command → FolderSeen → FolderSeen → Refusal → Type 0
 IsRefusedAs (commands.Check check) old new refusal = IsRefusedFor (check_scope check) None old new refusal
 IsRefusedAs (commands.Ask ask) old new refusal = IsRefusedFor (ask_scope ask) ask.update old new refusal
 IsRefusedAs (commands.Replay replay) old new refusal = IsReplayRefused (replay_scope replay) replay.script old new refusal
+IsRefusedAs (commands.Serve serve) old new refusal = IsRefusedFor (serve_scope serve) serve.update old new refusal
+IsRefusedAs (commands.Plan plan) old new refusal = IsScriptRefused false plan.asks old new refusal
 
 -- the words say a command, which is refused for this
 pub record IsRefusedCommand (words : List (List ℕ)) (old new : FolderSeen) (refusal : Refusal) : Type 0 where

@@ -1,19 +1,25 @@
--- The main promise: where `ask` or `replay` ends with status Done, it wrote best journeys by the timetable as it was known.
-use Rattle.std.specs.Prelude.{◌≡◌, ℕ, ◌+◌, List, ◌++◌, Some, length, slice_get}
+-- The main promise: where `ask`, `replay` or `plan` ends with status Done, it wrote best journeys by the timetable as it was known.
+use Rattle.std.specs.Prelude.{◌≡◌, ℕ, ◌+◌, List, ◌∷◌, ◌++◌, Some, length, slice_get}
 use Rattle.cli_ask.specs.Block.{client_text_of}
 use Rattle.cli_ask.specs.Publishing.{side_with, store_of}
 use Rattle.cli_ask.specs.declared.end.ClientEnd.{ClientEnd}
 use Rattle.cli_words.specs.Words.{SaysCommand}
 use Rattle.cli_words.specs.declared.command.Ask.{Ask}
 use Rattle.cli_words.specs.declared.command.Command.TheVariants as commands
+use Rattle.cli_words.specs.declared.command.Plan.{Plan}
 use Rattle.cli_words.specs.declared.command.Publishing.{Publishing}
 use Rattle.cli_words.specs.declared.command.Replay.{Replay}
 use Rattle.laws_clients.specs.Answered.{AnswersAt, NeededAt}
+use Rattle.laws_convoys.specs.Names.{Round}
+use Rattle.laws_plan.specs.Planned.{ArePlanned}
+use Rattle.laws_plan.specs.Sides.{sides_of}
 use Rattle.laws_replay.specs.Events.{before_turn_of, questions_in}
 use Rattle.laws_replay.specs.OneCourse.{IsPlayedOut}
 use Rattle.laws_replay.specs.Replayed.{clients_text_of}
+use Rattle.laws_replay.specs.Turns.{order_of, rounds_of}
 use Rattle.laws_replay.specs.Versions.{AreShort, HasHeard}
 use Rattle.laws_replay.specs.declared.event.Event.{Event}
+use Rattle.laws_replies.specs.Met.{Met}
 use Rattle.lc_io.specs.declared.file.File.{File}
 use Rattle.lc_model.specs.declared.answer.Answer.{Answer}
 use Rattle.lc_model.specs.declared.answer.Answer.TheVariants as answers
@@ -21,14 +27,16 @@ use Rattle.lc_model.specs.declared.page.PageName.{PageName}
 use Rattle.lc_model.specs.declared.query.Query.{Query}
 use Rattle.lc_versions.specs.History.{moments_of}
 use Rattle.lc_versions.specs.Named.{version_named}
-use Rattle.lc_world.specs.Link.{LinkSeen}
+use Rattle.lc_world.specs.Link.{IsHonestWith, LinkSeen}
 use Rattle.page_client.specs.declared.outcome.Outcome.{Outcome}
 use Rattle.page_client.specs.declared.outcome.Outcome.TheVariants as outcomes
+use Rattle.page_client.specs.declared.want.Want.{Want}
+use Rattle.page_client.specs.declared.want.Want.TheVariants as wants
 use Rattle.publisher_spec.specs.Short.{IsShort}
 use Rattle.publisher_spec.specs.Side.{Side}
 use Rattle.timetable.specs.declared.timetable.Timetable.{Timetable}
 use Rattle.version_store.specs.Store.{Stored}
-use Rattle.lc_cli.specs.Clear.{IsAskedSide, IsToldCourse}
+use Rattle.lc_cli.specs.Clear.{AreToldAsks, IsAskedSide, IsToldCourse}
 use Rattle.lc_cli.specs.Top.{IsRight, Past}
 use Rattle.lc_cli.specs.Writing.{Wrote}
 use Rattle.lc_cli.specs.declared.status.Status.TheVariants.{Done}
@@ -110,3 +118,46 @@ HeadlineOfReplay {X} seen =
     → StaysShortThroughout files replay
     → IsRight seen p Done
     → WroteEachBest p replay files
+
+-- In one of these turns the time gate replied first, and the link had this side then.
+pub record IsGateSide (rounds : List Round) (sides : List Side) (side : Side) : Type 0 where
+  pub turn : ℕ
+  pub round : Round
+  pub round_is : slice_get rounds turn ≡ Some round
+  pub more : List Want
+  pub gate : round.given ≡ wants.Gate ∷ more
+  pub side_is : slice_get sides turn ≡ Some side
+
+-- The client had these turns, at these sides. By the last side, it ended with a best journey at the version that its question means at the side of
+-- its own time gate exchange, or with none where none exists.
+pub record EndsBestAt (rounds : List Round) (sides : List Side) (last : Side) (query : Query) (end : ClientEnd) : Type 0 where
+  pub side : Side
+  pub is_gate_side : IsGateSide rounds sides side
+  pub version_is : end.version ≡ Some (version_meant side query)
+  pub answer : Answer
+  pub is_best : AnswersAt last (version_meant side query) query answer
+  pub outcome_is : end.outcome ≡ outcome_of answer
+
+-- `plan` let the clients of its script have their turns over the link, and wrote the block of each client, which ended best.
+pub record PlannedEachBest {X : Type 0} (seen : X → LinkSeen) (p : Past X) (plan : Plan) (files : List File) (first : Side) : Type 0 where
+  pub all : List Event
+  pub recorded : AreToldAsks files plan.asks all
+  pub ends : List ClientEnd
+  pub one_each : length ends ≡ length (questions_in all)
+  pub met : List Met
+  pub planned : ArePlanned plan.base first all plan.cache (seen p.link_before) (seen p.link_after) ends met
+  pub best :
+      (place : ℕ) (query : Query) (end : ClientEnd) → slice_get (questions_in all) place ≡ Some query → slice_get ends place ≡ Some end
+      → EndsBestAt (rounds_of (place + 1) (order_of all) planned.rounds) (sides_of (place + 1) (order_of all) planned.sides) planned.last query end
+  pub wrote : Wrote p.sink_before p.sink_after (clients_text_of 1 ends)
+
+-- Over recorded files and a link that is honest under the base, also one whose side grows, status Done of `plan` means that it wrote a best
+-- journey for each client that asked, or that none exists.
+abbrev pub HeadlineOfPlan : {X : Type 0} → (X → LinkSeen) → Type 0
+HeadlineOfPlan {X} seen =
+    (p : Past X) (plan : Plan) (files : List File) (first : Side)
+    → SaysCommand p.words (commands.Plan plan)
+    → p.folder_before.files ≡ Some files
+    → IsHonestWith (seen p.link_before) plan.base first
+    → IsRight seen p Done
+    → PlannedEachBest seen p plan files first

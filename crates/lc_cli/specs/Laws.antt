@@ -3,13 +3,14 @@ use Rattle.std.specs.Prelude.{◌≡◌, ◌⊎◌, ℕ, List, ◌++◌}
 use Rattle.std.specs.List.{AllZip}
 use Rattle.cli_ask.specs.Laws.{AreOneEnd, PrintOneClient}
 use Rattle.cli_ask.specs.declared.end.ClientEnd.{ClientEnd}
+use Rattle.cli_words.specs.Words.{SaysCommand}
 use Rattle.cli_words.specs.declared.command.Command.{Command}
 use Rattle.cli_words.specs.declared.command.Command.TheVariants as commands
 use Rattle.lc_io.specs.declared.file.File.{File}
 use Rattle.lc_world.specs.Link.{LinkSeen}
 use Rattle.laws_replay.specs.Replayed.{clients_text_of}
 use Rattle.lc_cli.specs.Clear.{IsClear, IsUnhindered}
-use Rattle.lc_cli.specs.Top.{HasPrinted, IsRight, Past}
+use Rattle.lc_cli.specs.Top.{HasPrinted, HasServed, IsRight, Past}
 use Rattle.lc_cli.specs.declared.block.Block.{Block}
 use Rattle.lc_cli.specs.declared.status.Status.{Status}
 use Rattle.lc_cli.specs.declared.status.Status.TheVariants.{Done, NoMemory}
@@ -21,28 +22,42 @@ pub record PrintOneCourse (x y : Block) : Type 0 where
   pub second_is : y.text.items ≡ lines ++ clients_text_of 1 y.ends.items
   pub one_each : AllZip AreOneEnd x.ends.items y.ends.items
 
--- the outputs of a command are one: the same counts, or the same lines of messages and clients whose ends are one
+-- the command asks an in-process publisher, or none
+abbrev pub IsInProcess : Command → Type 0
+IsInProcess (commands.Check check) = Unit {0}
+IsInProcess (commands.Ask ask) = Unit {0}
+IsInProcess (commands.Replay replay) = Unit {0}
+IsInProcess (commands.Serve serve) = ⊥
+IsInProcess (commands.Plan plan) = ⊥
+
+-- the words say no other command
+abbrev pub AreInProcess : List (List ℕ) → Type 0
+AreInProcess words = (command : Command) → SaysCommand words command → IsInProcess command
+
+-- The outputs of such a command are one: the same counts, or the same lines of messages and clients whose ends are one.
 abbrev pub PrintOne : Command → Block → Block → Type 0
+PrintOne (commands.Serve serve) x y = ⊥
+PrintOne (commands.Plan plan) x y = ⊥
 PrintOne (commands.Check check) x y = x.text.items ≡ y.text.items
 PrintOne (commands.Replay replay) x y = PrintOneCourse x y
 PrintOne (commands.Ask ask) x y = (first : ClientEnd) × (second : ClientEnd) × PrintOneClient x.text.items y.text.items first second
 
--- a run that is done has printed its output
+-- a run that is done has printed its output, or served its connections
 abbrev pub DoneIsPrinted : {X : Type 0} → (X → LinkSeen) → Type 0
-DoneIsPrinted {X} seen = (p : Past X) → IsRight seen p Done → HasPrinted seen p Done
+DoneIsPrinted {X} seen = (p : Past X) → IsRight seen p Done → HasPrinted seen p Done ⊎ HasServed p Done
 
--- Runs of the same words over the same files, which nothing hindered, print one output where they have one to print. X and Y are the types of their
--- links, and `seen` and `saw` what is promised of these.
+-- Runs of the same words over the same files, which nothing hindered, print one output where they have one to print and ask an in-process
+-- publisher. X and Y are the types of their links, and `seen` and `saw` what is promised of these.
 abbrev pub OneRun : {X Y : Type 0} → (X → LinkSeen) → (Y → LinkSeen) → Type 0
 OneRun {X} {Y} seen saw =
-    (p : Past X) (q : Past Y) (told : List File) → p.words ≡ q.words → IsUnhindered seen p told → IsUnhindered saw q told
+    (p : Past X) (q : Past Y) (told : List File) → p.words ≡ q.words → AreInProcess p.words → IsUnhindered seen p told → IsUnhindered saw q told
     → (s t : Status) (x : HasPrinted seen p s) (y : HasPrinted saw q t) → PrintOne x.right.command x.block y.block
 
 -- Runs of the same words over the same files, which nothing hindered, end with one status, memory apart: each status comes exactly where it has
 -- its cause.
 abbrev pub OneStatus : {X Y : Type 0} → (X → LinkSeen) → (Y → LinkSeen) → Type 0
 OneStatus {X} {Y} seen saw =
-    (p : Past X) (q : Past Y) (told : List File) → p.words ≡ q.words → IsUnhindered seen p told → IsUnhindered saw q told
+    (p : Past X) (q : Past Y) (told : List File) → p.words ≡ q.words → AreInProcess p.words → IsUnhindered seen p told → IsUnhindered saw q told
     → (s t : Status) → IsRight seen p s → IsRight saw q t → (s ≡ t) ⊎ ((s ≡ NoMemory) ⊎ (t ≡ NoMemory))
 
 -- each run that is done over told files, which nothing hindered, is clear

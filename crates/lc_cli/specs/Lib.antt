@@ -6,6 +6,7 @@ pub mod Headline
 pub mod Laws
 pub mod NearHeadline
 pub mod Refusal
+pub mod Serving
 pub mod Status
 pub mod Tiny
 pub mod Top

@@ -1,7 +1,7 @@
 -- The exit status of each end of a run.
 use Rattle.std.specs.Prelude.{ℕ}
 use Rattle.lc_cli.specs.declared.status.Status.{Status}
-use Rattle.lc_cli.specs.declared.status.Status.TheVariants.{Done, Usage, FeedBroken, UpdateBroken, FolderFault, SinkFault, LinkFault, PeerWrong, QueryRefused, ScriptWrong, TooLarge, NoMemory}
+use Rattle.lc_cli.specs.declared.status.Status.TheVariants.{Done, Usage, FeedBroken, UpdateBroken, FolderFault, SinkFault, LinkFault, PeerWrong, QueryRefused, DoorFault, ScriptWrong, TooLarge, NoMemory}
 
 -- the number of a status
 abbrev pub code_of : Status → ℕ
@@ -14,6 +14,7 @@ code_of (SinkFault before after) = 6
 code_of (LinkFault client before after) = 7
 code_of (PeerWrong client reply fault) = 8
 code_of (QueryRefused client fault) = 9
+code_of (DoorFault before after) = 10
 code_of (ScriptWrong row) = 11
 code_of NoMemory = 12
 code_of (TooLarge what count) = 13

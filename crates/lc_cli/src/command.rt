@@ -1,52 +1,102 @@
-ghost use Rattle.std.specs.Prelude.{◌≡◌, ◌≢◌, [], ◌∷◌, IfErr, IfOk, None};
+ghost use Rattle.std.specs.Prelude.{◌≡◌, ◌≢◌, [], ◌∷◌, Err, IfErr, IfOk, None, Ok, false};
 ghost use Rattle.cli_ask.specs.Admission.{IsFaulty};
 ghost use Rattle.cli_ask.specs.declared.admission.MessageFault.TheVariants as messages;
 ghost use Rattle.cli_words.specs.Line.{texts_of};
 ghost use Rattle.cli_words.specs.Words.{SaysCommand};
 ghost use Rattle.cli_words.specs.declared.command.Check.{Check as Said};
 ghost use Rattle.cli_words.specs.declared.command.Command.TheVariants as commands;
+ghost use Rattle.cli_words.specs.declared.command.Serve.{Serve as Served};
 ghost use Rattle.gtfs_tables.specs.Reading.{Keeps};
-ghost use Rattle.lc_cli.specs.Command.{IsAskBlock, IsCheckBlock, IsReplayBlock, IsRightBlock, IsRightRefusal, ask_scope, check_scope, replay_scope};
+ghost use Rattle.lc_cli.specs.Command.{IsAskBlock, IsCheckBlock, IsPlanBlock, IsRefusedAs, IsReplayBlock, IsRightRefusal, IsRightWork, IsServer, ResultsIn, ask_scope, check_scope, replay_scope, serve_scope};
+ghost use Rattle.lc_cli.specs.declared.work.Work.TheVariants as works;
 ghost use Rattle.cli_inputs.specs.Inputs.{IsMessageRefusal, IsRefusedFor};
-ghost use Rattle.cli_inputs.specs.Script.{IsReplayRefused};
+ghost use Rattle.cli_inputs.specs.Script.{IsReplayRefused, IsScriptRefused};
 ghost use Rattle.cli_inputs.specs.declared.refusal.Refusal.TheVariants.{Load};
 ghost use Rattle.timetable.specs.Scope.{IsWindow};
 ghost use Rattle.timetable.specs.declared.fault.LoadFault.TheVariants.{NoMemory as OutOfMemory};
 
 use crate::block::Block;
 use crate::check_text::check_text;
-use cli_ask::{Asked, MessageFault};
-use cli_inputs::{Inputs, Refusal, ReplayInputs, read_inputs, read_replay};
+use crate::server::Server;
+use crate::work::Work;
+use cli_ask::{Asked, MessageFault, serving_publisher};
+use cli_inputs::{Inputs, Refusal, ReplayInputs, read_inputs, read_plan, read_replay};
+use cli_plan::Planned;
 use cli_replay::Replayed;
-use cli_words::{Ask, Check, Command, Replay, one_command, read_words};
+use cli_words::{Ask, Check, Command, Plan, Replay, Serve, one_command, read_words};
 use lc_model::NoMemory;
 use lc_world::{File, Folder, Link};
 use std::alloc::Global;
 use timetable::{LoadFault, Scope, load};
 
-/// What the command of these words comes to, and the link, as it is left. Nothing is written yet.
+/// What the command of these words results in, and the link, as it is left. Nothing is written yet, and nothing is served.
 pub(crate) fn outcome<F: Folder, L: Link>(
     alloc: Global,
     words: &[String],
     folder: &mut F,
     link: L,
-) -> (Result<Block, Refusal>, L)
-    ensures block { IfOk result.0 (IsRightBlock (texts_of words.now) (F.seen folder.old) (F.seen folder.new) (L.seen link) (L.seen result.1)) }
+) -> (Result<Work, Refusal>, L)
+    ensures work { IfOk result.0 (IsRightWork (texts_of words.now) (F.seen folder.old) (F.seen folder.new) (L.seen link) (L.seen result.1)) }
     ensures refused { IfErr result.0 (IsRightRefusal (texts_of words.now) (F.seen folder.old) (F.seen folder.new)) }
     ensures kept { Keeps (F.seen folder.old) (F.seen folder.new) }
     ensures check_leaves_link { (check : Said) → SaysCommand (texts_of words.now) (commands.Check check) → result.1 ≡ link }
+    ensures serve_leaves_link { (serve : Served) → SaysCommand (texts_of words.now) (commands.Serve serve) → result.1 ≡ link }
     ensures refusal_leaves_link { IfErr result.0 (λ refusal. refusal ≢ Load OutOfMemory → result.1 ≡ link) }
 {
     one_command();
     match read_words(alloc, words) {
-        Ok(Some(Command::Check(check))) => match check_block(alloc, folder, check) {
-            Ok(block) => (Ok(block), link),
-            Err(fault) => (Err(Refusal::Load(fault)), link),
-        },
-        Ok(Some(Command::Ask(ask))) => ask_block(alloc, folder, ask, link),
-        Ok(Some(Command::Replay(replay))) => replay_block(alloc, folder, replay, link),
+        Ok(Some(command)) => result_of(alloc, folder, command, link),
         Ok(None) => (Err(Refusal::Usage), link),
         Err(NoMemory) => (Err(Refusal::from(NoMemory)), link),
+    }
+}
+
+/// What the command results in, and the link, as it is left.
+fn result_of<F: Folder, L: Link>(
+    alloc: Global,
+    folder: &mut F,
+    command: Command,
+    link: L,
+) -> (Result<Work, Refusal>, L)
+    ensures work { IfOk result.0 (ResultsIn command (F.seen folder.old) (F.seen folder.new) (L.seen link) (L.seen result.1)) }
+    ensures refused { IfErr result.0 (IsRefusedAs command (F.seen folder.old) (F.seen folder.new)) }
+    ensures kept { Keeps (F.seen folder.old) (F.seen folder.new) }
+    ensures check_leaves_link { (check : Said) → command ≡ commands.Check check → result.1 ≡ link }
+    ensures serve_leaves_link { (serve : Served) → command ≡ commands.Serve serve → result.1 ≡ link }
+    ensures refusal_leaves_link { IfErr result.0 (λ refusal. refusal ≢ Load OutOfMemory → result.1 ≡ link) }
+{
+    match command {
+        Command::Check(check) => match check_block(alloc, folder, check) {
+            Ok(block) => (Ok(Work::Print(block)), link),
+            Err(fault) => (Err(Refusal::Load(fault)), link),
+        },
+        Command::Ask(ask) => {
+            let (block, link) = ask_block(alloc, folder, ask, link);
+            (printed(block), link)
+        }
+        Command::Replay(replay) => {
+            let (block, link) = replay_block(alloc, folder, replay, link);
+            (printed(block), link)
+        }
+        Command::Serve(serve) => match server(alloc, folder, serve) {
+            Ok(server) => (Ok(Work::Serve(server)), link),
+            Err(refusal) => (Err(refusal), link),
+        },
+        Command::Plan(plan) => {
+            let (block, link) = plan_block(alloc, folder, plan, link);
+            (printed(block), link)
+        }
+    }
+}
+
+/// A block as what a command results in.
+fn printed(block: Result<Block, Refusal>) -> Result<Work, Refusal>
+    ensures work { IfOk block (λ block. result ≡ Ok (works.Print block)) }
+    ensures refused { IfErr block (λ refusal. result ≡ Err refusal) }
+{
+    match block {
+        Ok(block) => Ok(Work::Print(block)),
+        Err(refusal) => Err(refusal),
     }
 }
 
@@ -206,6 +256,78 @@ fn course_block(replayed: Replayed) -> Block
 {
     let Replayed { text, ends } = replayed;
     Block { text, ends }
+}
+
+/// Reads what is to be served, and makes its publisher.
+fn server<F: Folder>(alloc: Global, folder: &mut F, serve: Serve) -> Result<Server, Refusal>
+    ensures server { IfOk result (IsServer serve (F.seen folder.old) (F.seen folder.new)) }
+    ensures refused { IfErr result (IsRefusedFor (serve_scope serve) serve.update (F.seen folder.old) (F.seen folder.new)) }
+    ensures kept { Keeps (F.seen folder.old) (F.seen folder.new) }
+{
+    let Serve {
+        feed,
+        first,
+        days,
+        zone,
+        change,
+        publishing,
+        update,
+        port,
+        connections,
+        accept_updates,
+        ..
+    } = serve;
+    let scope = Scope {
+        feed,
+        zone,
+        first,
+        days,
+        change,
+    };
+    match read_inputs(alloc, folder, &scope, update) {
+        Ok(Inputs { made, file }) => {
+            match serving_publisher(alloc, made, publishing, accept_updates, &file) {
+                Ok((publisher, line)) => Ok(Server {
+                    publisher,
+                    line,
+                    port,
+                    connections,
+                }),
+                Err(fault) => Err(message_refusal(fault, file)),
+            }
+        }
+        Err(refusal) => Err(refusal),
+    }
+}
+
+/// Reads questions and turns, and lets the clients ask over the link.
+fn plan_block<F: Folder, L: Link>(
+    alloc: Global,
+    folder: &mut F,
+    plan: Plan,
+    link: L,
+) -> (Result<Block, Refusal>, L)
+    ensures block { IfOk result.0 (IsPlanBlock plan (F.seen folder.old) (F.seen folder.new) (L.seen link) (L.seen result.1)) }
+    ensures refused { IfErr result.0 (IsScriptRefused false plan.asks (F.seen folder.old) (F.seen folder.new)) }
+    ensures kept { Keeps (F.seen folder.old) (F.seen folder.new) }
+    ensures refusal_leaves_link { IfErr result.0 (λ refusal. refusal ≢ Load OutOfMemory → result.1 ≡ link) }
+{
+    let Plan {
+        base,
+        asks,
+        cache,
+        ..
+    } = plan;
+    match read_plan(alloc, folder, asks) {
+        Ok(events) => {
+            let (planned, link) = cli_plan::plan(alloc, base, events, cache as usize, link);
+            match planned {
+                Ok(Planned { text, ends }) => (Ok(Block { text, ends }), link),
+                Err(NoMemory) => (Err(Refusal::from(NoMemory)), link),
+            }
+        }
+        Err(refusal) => (Err(refusal), link),
+    }
 }
 
 /// Why a file is no message.

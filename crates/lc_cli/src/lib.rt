@@ -1,5 +1,5 @@
-//! The commands of `lc`: they check feeds, and plan journeys over pages that a publisher of the feed gives. It stands on the words,
-//! the timetable of a feed, `cli_ask` and `cli_replay`.
+//! The commands of `lc`: they check feeds, publish them, and plan journeys over pages that a publisher gives. It stands on the words, the
+//! timetable of a feed, `cli_ask`, `cli_replay`, `cli_serve` and `cli_plan`.
 #![tactic(auto)]
 
 mod block;
@@ -7,8 +7,11 @@ mod check_text;
 mod command;
 mod laws;
 mod refusal;
+mod serve;
+mod server;
 mod status;
 mod top;
+mod work;
 mod worked;
 
 pub use laws::{headline, one_run, one_status};

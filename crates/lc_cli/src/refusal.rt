@@ -11,7 +11,7 @@ use std::alloc::Global;
 use timetable::LoadFault;
 use trip_updates::RtFault;
 
-const NO_MEMORY: &[u8] = b"error no memory\n";
+pub(crate) const NO_MEMORY: &[u8] = b"error no memory\n";
 
 /// Says the refusal in one line, which is tried once, and ends with its status, whatever becomes of the line; or out of memory
 /// where there is none to make the line.
@@ -94,7 +94,7 @@ fn status(refusal: Refusal) -> Status
 }
 
 /// Tries the line once.
-fn say<S: Sink>(line: &[u8], out: &mut S)
+pub(crate) fn say<S: Sink>(line: &[u8], out: &mut S)
     ensures said { Said (S.seen out.old) (S.seen out.new) line.now }
     ensures kept { NeitherFell (S.seen out.old) (S.seen out.new) }
 {

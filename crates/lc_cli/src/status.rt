@@ -51,6 +51,11 @@ pub enum Status {
         client: usize,
         fault: QueryFault,
     },
+    /// The door failed to open, or to take the next client: its count of faults before and after.
+    DoorFault {
+        before: u64,
+        after: u64,
+    },
     /// This row of the script is wrong, or names a file that is absent. Row 0: the script itself is absent, or the file of `--update`.
     ScriptWrong {
         row: u64,
@@ -77,6 +82,7 @@ pub fn code(status: &Status) -> u8
         Status::LinkFault { .. } => 7,
         Status::PeerWrong { .. } => 8,
         Status::QueryRefused { .. } => 9,
+        Status::DoorFault { .. } => 10,
         Status::ScriptWrong { .. } => 11,
         Status::NoMemory => 12,
         Status::TooLarge { .. } => 13,

@@ -4,6 +4,8 @@ ghost use Rattle.cli_words.specs.Words.{SaysCommand};
 ghost use Rattle.cli_words.specs.declared.command.Check.{Check};
 ghost use Rattle.cli_words.specs.declared.command.Command.{Command};
 ghost use Rattle.cli_words.specs.declared.command.Command.TheVariants as commands;
+ghost use Rattle.cli_words.specs.declared.command.Serve.{Serve as Served};
+ghost use Rattle.cli_serve.specs.Serve.{DoorNeverFell};
 ghost use Rattle.gtfs_tables.specs.Reading.{Keeps};
 ghost use Rattle.lc_cli.specs.Clear.{IsAnswered, IsClear};
 ghost use Rattle.lc_cli.specs.Top.{IsEarlyRefusal, IsRight};
@@ -12,7 +14,9 @@ ghost use Rattle.lc_cli.specs.Writing.{NeitherFell};
 use crate::block::write_block;
 use crate::command::outcome;
 use crate::refusal::refuse;
+use crate::serve::serve;
 use crate::status::Status;
+use crate::work::Work;
 use cli_words::one_command;
 use lc_world::{Door, Folder, Link, Sink};
 use script_text::one_script;
@@ -27,7 +31,10 @@ use version_store::one_outcome;
 /// client ask this publisher: it prints a best journey from one stop to another that leaves at the moment or later and arrives within the
 /// horizon, or that there is none, by the timetable as it was known then. Each reply is handed on over the link.
 /// `replay FEED FIRST SCRIPT` plays the day of a script to such a publisher: messages come in between the exchanges of many clients that share a
-/// cache of pages, and each client's answer is best by the timetable as it was known when it first asked. The door is not used.
+/// cache of pages, and each client's answer is best by the timetable as it was known when it first asked.
+/// `serve FEED FIRST --port P --connections N` publishes a timetable at the door: it answers the requests of so many connections, one
+/// after the other, and prints how many there were. With `--accept-updates` clients may post messages.
+/// `plan URL ASKS` lets the clients of a script ask the publisher under the URL, over the link handed in, and prints their answers.
 pub fn run<F: Folder, L: Link, D: Door, S: Sink>(
     alloc: Global,
     words: &[String],
@@ -42,6 +49,8 @@ pub fn run<F: Folder, L: Link, D: Door, S: Sink>(
       folder_after = F.seen folder.new;
       link_before = link;
       link_after = result.1;
+      door_before = D.seen door.old;
+      door_after = D.seen door.new;
       sink_before = S.seen out.old;
       sink_after = S.seen out.new;
     }) result.0 }
@@ -51,24 +60,28 @@ pub fn run<F: Folder, L: Link, D: Door, S: Sink>(
         → (result.0 ≡ Status.Usage) ⊎ (result.0 ≡ Status.NoMemory) }
 
     // Nothing but memory keeps the output from being printed where no rule refuses the feed, the script and the messages, no fault is
-    // counted, and a question or a course has a clear link.
+    // counted, and clients have a clear link, or those of `plan` an honest one. What fails on a connection of `serve` does not hinder it.
     ensures complete { IsClear L.seen (record {
       words = texts_of words.now;
       folder_before = F.seen folder.old;
       folder_after = F.seen folder.new;
       link_before = link;
       link_after = result.1;
+      door_before = D.seen door.old;
+      door_after = D.seen door.new;
       sink_before = S.seen out.old;
       sink_after = S.seen out.new;
     }) → IsAnswered result.0 }
 
-    // The folder has the same files, and no count has fallen.
+    // The folder has the same files, and no count has fallen. The door is as it was, but for `serve`.
     ensures folder { Keeps (F.seen folder.old) (F.seen folder.new) }
     ensures sink { NeitherFell (S.seen out.old) (S.seen out.new) }
-    ensures door { door.new ≡ door.old }
+    ensures door { ((serve : Served) → SaysCommand (texts_of words.now) (commands.Serve serve) → ⊥) → door.new ≡ door.old }
+    ensures door_counts { DoorNeverFell (D.seen door.old) (D.seen door.new) }
 
-    // `check` asks nothing of the link, and nor does what is refused before its client asks.
+    // `check` and `serve` ask nothing of the link, and nor does what is refused before its client asks.
     ensures check_leaves_link { (check : Check) → SaysCommand (texts_of words.now) (commands.Check check) → result.1 ≡ link }
+    ensures serve_leaves_link { (serve : Served) → SaysCommand (texts_of words.now) (commands.Serve serve) → result.1 ≡ link }
     ensures refusal_leaves_link { IsEarlyRefusal result.0 → result.1 ≡ link }
 {
     one_command();
@@ -77,7 +90,8 @@ pub fn run<F: Folder, L: Link, D: Door, S: Sink>(
     one_script();
     let (came, link) = outcome(alloc, words, folder, link);
     match came {
-        Ok(block) => (write_block(block, out), link),
+        Ok(Work::Print(block)) => (write_block(block, out), link),
+        Ok(Work::Serve(server)) => (serve(alloc, server, door, out), link),
         Err(refusal) => (refuse(alloc, refusal, out), link),
     }
 }

@@ -1,4 +1,5 @@
 use Rattle.lc_cli.proofs.HeadlineLemmas.{headline}
+use Rattle.lc_cli.proofs.HeadlineOfPlanLemmas.{headline_of_plan}
 use Rattle.lc_cli.proofs.HeadlineOfReplayLemmas.{headline_of_replay}
 use Rattle.lc_cli.proofs.laws.headline.Goals as goal
 
@@ -8,3 +9,6 @@ returns-clause-ask g c = headline g.L.Link.seen c.one_command.ensures c.one_time
 pub returns-clause-replay : goal.returns-clause-replay
 returns-clause-replay g c =
     headline_of_replay g.L.Link.seen c.one_command.ensures c.one_timetable.ensures.loads_told c.one_outcome.ensures.one
+
+pub returns-clause-plan : goal.returns-clause-plan
+returns-clause-plan g c = headline_of_plan g.L.Link.seen c.one_command.ensures

@@ -1,0 +1,60 @@
+-- What `plan` reads and comes to over told files that nothing hinders.
+use Rattle.std.proofs.Common.{◌≡◌, ◌∙◌, ◌⊎◌, ℕ, false, inl, inr, List, Some, refl, subst, sym}
+use Rattle.cli_inputs.specs.Plan.{ReadsPlan}
+use Rattle.cli_inputs.specs.Script.{IsScriptRefused}
+use Rattle.cli_inputs.specs.declared.refusal.Refusal.{Refusal}
+use Rattle.cli_inputs.specs.declared.refusal.Refusal.TheVariants as refused
+use Rattle.cli_words.specs.declared.command.Plan.{Plan}
+use Rattle.laws_replay.specs.Events.{questions_in}
+use Rattle.laws_replay.specs.declared.event.Event.{Event}
+use Rattle.lc_io.specs.Counts.{Rose}
+use Rattle.lc_io.specs.Folder.{FolderSeen}
+use Rattle.lc_io.specs.declared.file.File.{File}
+use Rattle.lc_world.specs.Link.{LinkSeen}
+use Rattle.script_text.specs.Laws.{NeverBoth}
+use Rattle.script_text.specs.Reading.{HasFault}
+use Rattle.script_text.specs.declared.fault.ScriptFault.TheVariants.{Wrong}
+use Rattle.timetable.specs.declared.fault.LoadFault.TheVariants as fault
+use Rattle.lc_cli.specs.Clear.{AreToldAsks, HasHonestLink}
+use Rattle.lc_cli.specs.Command.{IsPlanBlock}
+use Rattle.lc_cli.specs.Refusal.{status_of}
+use Rattle.lc_cli.specs.declared.block.Block.{Block}
+use Rattle.lc_cli.specs.declared.status.Status.TheVariants.{NoMemory}
+use Rattle.lc_cli.proofs.InputsLemmas.{absent_told, bytes_told}
+use Rattle.lc_cli.proofs.ReplayLemmas.{no_fault_of, no_faults_at, some_at}
+use Rattle.lc_cli.proofs.TopLemmas.{AreNoFaults}
+
+-- the questions and turns that were read are those of the told files
+pub asks_told : (told : List File) (name : List ℕ) (old new : FolderSeen) (all : List Event) → old.files ≡ Some told → ReadsPlan name old new all → AreToldAsks told name all
+asks_told told name old new all tells x = record {
+  script = x.script;
+  is_told = record { bytes = x.read.bytes; is_told = bytes_told told old new name x.read.bytes tells x.read.read; says = x.read.says };
+  say = x.say;
+}
+
+-- over an honest link no exchange failed and no reply
+pub plan_fine : (plan : Plan) (old new : FolderSeen) (before after : LinkSeen) (block : Block) → IsPlanBlock plan old new before after block → HasHonestLink plan before after → AreNoFaults block.ends.items
+plan_fine plan old new before after block x fair =
+    let right = x.planned.right fair.first fair.was_honest in
+    no_faults_at block.ends.items (λ place end is.
+    let query = some_at block.ends.items (questions_in x.all) place end x.planned.one_each is in
+    let ends = right.clients place query.0 end query.1 is in
+    no_fault_of _ _ query.0 end plan.base before.faults after.faults end.version _ end.outcome (x.planned.caused.clients place query.0 end query.1 is).ends ends.ended fair.no_fault)
+
+-- told questions and turns are refused for no cause but memory
+module _ (never_both : NeverBoth) (told : List File) (name : List ℕ) (old new : FolderSeen) (tells : old.files ≡ Some told) (all : List Event) (asks : AreToldAsks told name all)
+    (no_fault : Rose old.faults new.faults → ⊥) where
+  pub plan_never_refused : (refusal : Refusal) → IsScriptRefused false name old new refusal → (status_of refusal ≡ NoMemory) ⊎ ⊥
+  plan_never_refused refused.Usage is = inr is
+  plan_never_refused (refused.Load (fault.Broken rule file row)) is = inr is
+  plan_never_refused (refused.Load (fault.TooLarge what count)) is = inr is
+  plan_never_refused (refused.Load (fault.Folder before after)) is = inr is
+  plan_never_refused (refused.Load fault.NoMemory) is = inl refl
+  plan_never_refused (refused.Script row) (inl lacks) = inr (let e = sym (absent_told told old new name tells lacks.read) ∙ asks.is_told.is_told in cc)
+  plan_never_refused (refused.Script row) (inr wrong) =
+      let same : Some wrong.bytes ≡ Some asks.is_told.bytes = sym (bytes_told told old new name wrong.bytes tells wrong.read) ∙ asks.is_told.is_told in
+      let bytes : wrong.bytes ≡ asks.is_told.bytes = cc in
+      inr (never_both asks.is_told.bytes false asks.script (Wrong row) asks.is_told.says (subst (λ (b : List ℕ). HasFault b false (Wrong row)) bytes wrong.wrong))
+  plan_never_refused (refused.Folder before after) is = inr (no_fault (subst (λ count. Rose count new.faults) is.0.before_is (subst (λ count. Rose before count) is.0.after_is is.0.rose)))
+  plan_never_refused (refused.LongUpdate count) is = inr is
+  plan_never_refused (refused.BrokenUpdate broken found) is = inr is

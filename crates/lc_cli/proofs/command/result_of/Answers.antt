@@ -1,0 +1,33 @@
+use Rattle.cli_words.specs.declared.command.Command.TheVariants as commands
+use Rattle.lc_cli.proofs.CommandLemmas.{refused_printed, results_printed}
+use Rattle.lc_cli.proofs.command.result_of.Goals as goal
+
+pub returns-in-Ask-clause-work : goal.returns-in-Ask-clause-work
+returns-in-Ask-clause-work g c =
+    rw c.in-Ask.is
+    (results_printed _ _ _ _ (commands.Ask c.in-Ask.ask) c.ask_block-block.result.0 c.printed.result c.ask_block-block.ensures.block c.printed.ensures.work c.printed.ensures.refused)
+
+pub returns-in-Ask-clause-refused : goal.returns-in-Ask-clause-refused
+returns-in-Ask-clause-refused g c =
+    rw c.in-Ask.is
+    (refused_printed _ _ (commands.Ask c.in-Ask.ask) c.ask_block-block.result.0 c.printed.result c.ask_block-block.ensures.refused c.printed.ensures.work c.printed.ensures.refused)
+
+pub returns-in-Replay-clause-work : goal.returns-in-Replay-clause-work
+returns-in-Replay-clause-work g c =
+    rw c.in-Replay.is
+    (results_printed _ _ _ _ (commands.Replay c.in-Replay.replay) c.replay_block-block.result.0 c.printed-in-Replay.result c.replay_block-block.ensures.block c.printed-in-Replay.ensures.work c.printed-in-Replay.ensures.refused)
+
+pub returns-in-Replay-clause-refused : goal.returns-in-Replay-clause-refused
+returns-in-Replay-clause-refused g c =
+    rw c.in-Replay.is
+    (refused_printed _ _ (commands.Replay c.in-Replay.replay) c.replay_block-block.result.0 c.printed-in-Replay.result c.replay_block-block.ensures.refused c.printed-in-Replay.ensures.work c.printed-in-Replay.ensures.refused)
+
+pub returns-in-Plan-clause-work : goal.returns-in-Plan-clause-work
+returns-in-Plan-clause-work g c =
+    rw c.in-Plan.is
+    (results_printed _ _ _ _ (commands.Plan c.in-Plan.plan) c.plan_block-block.result.0 c.printed-in-Plan.result c.plan_block-block.ensures.block c.printed-in-Plan.ensures.work c.printed-in-Plan.ensures.refused)
+
+pub returns-in-Plan-clause-refused : goal.returns-in-Plan-clause-refused
+returns-in-Plan-clause-refused g c =
+    rw c.in-Plan.is
+    (refused_printed _ _ (commands.Plan c.in-Plan.plan) c.plan_block-block.result.0 c.printed-in-Plan.result c.plan_block-block.ensures.refused c.printed-in-Plan.ensures.work c.printed-in-Plan.ensures.refused)
