@@ -1,5 +1,7 @@
+mod AddressLemmas
 mod DefaultLemmas
 mod FindsLemmas
+mod FlagLemmas
 mod LineLemmas
 mod MadeLemmas
 mod OneCommandLemmas

@@ -44,7 +44,7 @@ plan_is_simple = refl
 pub same_text : (a b : List ℕ) → Some a ≡ Some b → a ≡ b
 same_text a b e = cc
 
--- no word is one of two that begin with different letters
+-- no text is equal to two that begin with different letters
 pub apart : (name a b : List ℕ) → nat_eq (get_or a 0 0) (get_or b 0 0) ≡ false → name ≡ a → name ≡ b → ⊥
 apart name a b other p q =
     false≢true (sym other ∙ eq-eqb (get_or a 0 0) (get_or b 0 0) (ap (λ (t : List ℕ). get_or t 0 0) (sym p ∙ q)))

@@ -3,6 +3,7 @@ pub mod Cache
 pub mod Check
 pub mod FeedWindow
 pub mod Finds
+pub mod Flag
 pub mod Laws
 pub mod Line
 pub mod Options

@@ -21,11 +21,11 @@ placed name = record (new_rule name) { action = Some Set; required = true }
 abbrev pub named : Text → Rule
 named name = record (new_rule name) { long = Some name; action = Some Set }
 
--- an option without a value, `--name`, which says `true` where it stands and `false` where it does not
+-- an option without a value, `--name`, which gives `true` where it is there and `false` where it is not
 abbrev pub flagged : Text → Rule
 flagged name = record (new_rule name) { long = Some name; action = Some SetTrue }
 
--- a command with these plain words, these options with values and these without, and no help
+-- a command with these plain arguments, these options with a value and these without, and no help
 unfoldable pub line : Text → List Text → List Text → List Text → App
 line name places options flags = record {
   top = record (new_shape name) {

@@ -1,14 +1,14 @@
--- The words of `plan`.
+-- The arguments of `plan`.
 use Rattle.std.specs.Prelude.{◌≡◌, ℕ, List, codes, Some}
 use Rattle.cli_words.specs.Cache.{cache_said}
 use Rattle.cli_words.specs.Line.{IsLine, plan_line, value_at}
 use Rattle.cli_words.specs.Publishing.{SaysBase}
 use Rattle.cli_words.specs.declared.command.Plan.{Plan}
 
--- The words after `plan` say this. URL says the base of a publisher, and ASKS is any text.
+-- The arguments after `plan` say this. URL says the base of a publisher, and ASKS is any text.
 pub record SaysPlan (words : List (List ℕ)) (plan : Plan) : Type 0 where
   pub is_line : IsLine plan_line words
-  -- the word of the base
+  -- the text of the base
   pub url : List ℕ
   pub url_is : value_at plan_line words (codes "url") ≡ Some url
   pub base_said : SaysBase url plan.base

@@ -30,12 +30,12 @@ SaysCutting text ways.Whole = text ≡ codes "whole"
 SaysCutting text (ways.Span way) = SaysBehind (codes "span:") 1 86_400 text way.seconds
 SaysCutting text (ways.Count way) = SaysBehind (codes "count:") 1 1_000_000 text way.count
 
--- `--base`, `--base-moment` and `--cuts`, with these texts where they are not there
+-- `--base`, `--base-moment` and `--cuts`, where they are not there with this text for the base and with these for the others
 pub record SaysPublishingOr (default_base : List ℕ) (a : App) (words : List (List ℕ)) (publishing : Publishing) : Type 0 where
   pub base_said : SaysBase (text_said default_base (value_at a words (codes "base"))) publishing.base
   pub moment_said : SaysMoment (text_said (codes "1970-01-01T00:00:00Z") (value_at a words (codes "base-moment"))) publishing.base_moment
   pub cutting_said : SaysCutting (text_said (codes "span:1800") (value_at a words (codes "cuts"))) publishing.cutting
 
--- the same of a publisher in the process, whose base need not be the address of a server
+-- those of an in-process publisher, whose base need not be the address of a server
 abbrev pub SaysPublishing : App → List (List ℕ) → Publishing → Type 0
 SaysPublishing a words publishing = SaysPublishingOr (codes "http://lc.example/") a words publishing

@@ -1,4 +1,4 @@
--- The words of `serve`.
+-- The arguments of `serve`.
 use Rattle.std.specs.Prelude.{◌≡◌, ℕ, Bool, List, ◌++◌, codes, decimal, Some}
 use Rattle.cli_words.specs.FeedWindow.{SaysFeedWindow}
 use Rattle.cli_words.specs.Line.{IsLine, serve_line, value_at}
@@ -7,7 +7,7 @@ use Rattle.cli_words.specs.Publishing.{SaysPublishingOr}
 use Rattle.cli_words.specs.Update.{SaysUpdate}
 use Rattle.cli_words.specs.declared.command.Serve.{Serve}
 
--- the address of a server at this port of the same machine, which stands for `--base` where it is not there
+-- the address of a server at this port of the same machine, the base where `--base` is not there
 abbrev pub address_at : ℕ → List ℕ
 address_at port = codes "http://localhost:" ++ decimal port ++ codes "/"
 
@@ -17,7 +17,7 @@ pub record SaysDoor (words : List (List ℕ)) (port connections : ℕ) (accepts 
   pub connections_are : required_said 1 1_000_000 (value_at serve_line words (codes "connections")) ≡ Some connections
   pub accepts_is : accepts ≡ flag_said (value_at serve_line words (codes "accept-updates"))
 
--- the words after `serve` say this
+-- the arguments after `serve` say this
 pub record SaysServe (words : List (List ℕ)) (serve : Serve) : Type 0 where
   pub is_line : IsLine serve_line words
   pub feed_window : SaysFeedWindow serve_line words serve.feed serve.first serve.days serve.zone serve.change

@@ -11,12 +11,12 @@ use clap::ArgMatches;
 use lc_model::NoMemory;
 use std::alloc::Global;
 
-/// The plain words of `plan` in their order, and its option.
+/// The plain arguments of `plan` in their order, and its option.
 static PLACES: [&str; 2] = ["url", "asks"];
 
 static OPTIONS: [&str; 1] = ["cache"];
 
-/// What the words behind `plan` say. None exactly where they say no such command.
+/// What the arguments after `plan` say. None exactly where they say no such command.
 pub(crate) fn read_plan(alloc: Global, words: &[String]) -> Result<Option<Plan>, NoMemory>
     ensures { IfOk result (λ plan. MatchOption plan ((plan : Planned) → SaysPlan (texts_of words.now) plan → ⊥)
         (SaysPlan (texts_of words.now))) }

@@ -19,7 +19,7 @@ use clap::ArgMatches;
 use lc_model::NoMemory;
 use std::alloc::Global;
 
-/// The plain words of `serve` in their order, and its options, with a value and without.
+/// The plain arguments of `serve` in their order, and its options, with a value and without.
 static PLACES: [&str; 2] = ["feed", "first"];
 
 static OPTIONS: [&str; 9] = [
@@ -36,7 +36,7 @@ static OPTIONS: [&str; 9] = [
 
 static FLAGS: [&str; 1] = ["accept-updates"];
 
-/// What the words behind `serve` say. None exactly where they say no such command.
+/// What the arguments after `serve` say. None exactly where they say no such command.
 pub(crate) fn read_serve(alloc: Global, words: &[String]) -> Result<Option<Serve>, NoMemory>
     ensures { IfOk result (λ serve. MatchOption serve ((serve : Served) → SaysServe (texts_of words.now) serve → ⊥)
         (SaysServe (texts_of words.now))) }
