@@ -1,4 +1,5 @@
 //! What the words of each command say.
+use crate::network::{PLANS, SERVES, put_plan, put_serve};
 use crate::words::{Side, command_of, put_publishing, put_read};
 use cli_words::{Ask, Check, Command, Replay, read_words};
 use lc_model::{NoMemory, Query, ServiceDate};
@@ -107,14 +108,18 @@ const REPLAYS: [&str; 32] = [
 
 /// A line for each row of these tables, and one for no word.
 pub fn put_commands(alloc: Global, draft: &mut Draft) {
-    for words in &COMMANDS {
-        put_words(alloc, draft, *words);
-    }
-    for words in &REPLAYS {
-        put_words(alloc, draft, *words);
-    }
+    put_table(alloc, draft, &COMMANDS);
+    put_table(alloc, draft, &REPLAYS);
+    put_table(alloc, draft, &SERVES);
+    put_table(alloc, draft, &PLANS);
     draft.put("no word: ");
     put_read(draft, read_words(alloc, &[]), Side::Words);
+}
+
+fn put_table(alloc: Global, draft: &mut Draft, table: &[&str]) {
+    for words in table {
+        put_words(alloc, draft, *words);
+    }
 }
 
 fn put_words(alloc: Global, draft: &mut Draft, words: &str) {
@@ -130,6 +135,8 @@ pub fn put_said(draft: &mut Draft, read: &Result<Option<Command>, NoMemory>) {
         Ok(Some(Command::Check(check))) => put_check(draft, check),
         Ok(Some(Command::Ask(ask))) => put_ask(draft, ask),
         Ok(Some(Command::Replay(replay))) => put_replay(draft, replay),
+        Ok(Some(Command::Serve(serve))) => put_serve(draft, serve),
+        Ok(Some(Command::Plan(plan))) => put_plan(draft, plan),
         Ok(None) => draft.put("none"),
         Err(_) => draft.lose(),
     }
@@ -145,12 +152,13 @@ fn put_check(draft: &mut Draft, check: &Check) {
 }
 
 /// A space, and what is shown behind it.
-fn put_word<T: Display>(draft: &mut Draft, shown: &T) {
+pub fn put_word<T: Display>(draft: &mut Draft, shown: &T) {
     draft.put(" ");
     draft.put_shown(shown);
 }
 
-fn put_date(draft: &mut Draft, date: ServiceDate) {
+/// A space, and a date.
+pub fn put_date(draft: &mut Draft, date: ServiceDate) {
     let date = date_text(date);
     draft.put(" ");
     draft.put(from_utf8(&date).unwrap_or("?"));

@@ -3,6 +3,7 @@
 #![tactic(auto)]
 
 mod commands;
+mod network;
 mod options;
 mod words;
 

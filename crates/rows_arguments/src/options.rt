@@ -100,6 +100,8 @@ fn put_other(draft: &mut Draft, read: &Result<Option<Command>, NoMemory>) {
         Ok(Some(Command::Check(_))) => draft.put("check"),
         Ok(Some(Command::Ask(_))) => draft.put("ask"),
         Ok(Some(Command::Replay(_))) => draft.put("replay"),
+        Ok(Some(Command::Serve(_))) => draft.put("serve"),
+        Ok(Some(Command::Plan(_))) => draft.put("plan"),
         Ok(None) => draft.put("none"),
         Err(_) => draft.lose(),
     }

@@ -1,0 +1,124 @@
+//! What the arguments of the commands over the network say.
+use crate::commands::{put_date, put_word};
+use crate::words::put_publishing;
+use cli_words::{Plan, Serve};
+use rows_common::Draft;
+
+/// Arguments of `serve`.
+pub const SERVES: [&str; 49] = [
+    "serve tiny 20240501 --port 8080 --connections 3",
+    "serve --port=80 --connections=1 tiny 20240501",
+    "serve tiny --port 08080 20240501 --connections 0001000000",
+    "serve tiny 20240501 --port 1 --connections 1 --accept-updates",
+    "serve --accept-updates --port 65535 --connections=2 -- tiny 20240501",
+    "serve tiny --accept-updates 20240501 --port 8080 --connections 3",
+    "serve tiny 20240501 --days 14 --zone file:x --change 60 --base http://x/lc/ --base-moment 2024-05-01T06:00:00Z --cuts count:4 --update d60.pb --port 8080 --connections 3",
+    "serve tiny 20240501 --days=062 --zone=posix:UTC0 --change=0 --base=http://x:8080/ --base-moment=1970-01-01T00:00:00Z --cuts=whole --update=a=b --port=80 --connections=3 --accept-updates",
+    "serve tiny 20240501 --port 443 --connections 3 --base http://localhost:80/",
+    "serve --port 8080 --connections 3 -- -tiny 20240501",
+    "serve --port 8080 --connections 3  20240501",
+    "serve -- tiny 20240501 --port 8080 --connections 3",
+    "serve tiny 20240501",
+    "serve tiny 20240501 --port 8080",
+    "serve tiny 20240501 --connections 3",
+    "serve tiny 20240501 --port 0 --connections 3",
+    "serve tiny 20240501 --port 65536 --connections 3",
+    "serve tiny 20240501 --port= --connections 3",
+    "serve tiny 20240501 --port=-80 --connections 3",
+    "serve tiny 20240501 --port 80x --connections 3",
+    "serve tiny 20240501 --port 8080 --connections 0",
+    "serve tiny 20240501 --port 8080 --connections 1000001",
+    "serve tiny 20240501 --port 8080 --connections 00000000001",
+    "serve tiny 20240501 --port 8080 --port 8080 --connections 3",
+    "serve tiny 20240501 --port 8080 --connections 3 --connections=3",
+    "serve tiny 20240501 --port 8080 --connections 3 --accept-updates --accept-updates",
+    "serve tiny 20240501 --port 8080 --connections 3 --accept-updates=true",
+    "serve tiny 20240501 --port 8080 --connections 3 --accept-updates=",
+    "serve tiny 20240501 --port 8080 --connections 3 --accept-updates yes",
+    "serve tiny 20240501 --port 8080 --connections 3 --accept",
+    "serve tiny --port 8080 --connections 3",
+    "serve tiny 20240501 x --port 8080 --connections 3",
+    "serve tiny 20240230 --port 8080 --connections 3",
+    "serve tiny 99991210 --port 8080 --connections 3",
+    "serve - 20240501 --port 8080 --connections 3",
+    "serve --port 8080 --connections 3 -- - 20240501",
+    "serve tiny 20240501 --port 8080 --connections 3 --days 63",
+    "serve tiny 20240501 --port 8080 --connections 3 --change 86401",
+    "serve tiny 20240501 --port 8080 --connections 3 --zone=-x",
+    "serve tiny 20240501 --port 8080 --connections 3 --base x",
+    "serve tiny 20240501 --port 8080 --connections 3 --cuts span:0",
+    "serve tiny 20240501 --port 8080 --connections 3 --base-moment yesterday",
+    "serve tiny 20240501 --port 8080 --connections 3 --update=",
+    "serve tiny 20240501 --port 8080 --connections 3 --update=-x",
+    "serve tiny 20240501 --port 8080 --connections 3 --cache 5",
+    "serve tiny 20240501 --port 8080 --connections 3 --horizon=60",
+    "serve tiny 20240501 --port 8080 --connections 3 --help",
+    "server tiny 20240501 --port 8080 --connections 3",
+    "replay tiny 20240501 s.csv --accept-updates",
+];
+
+/// Arguments of `plan`.
+pub const PLANS: [&str; 30] = [
+    "plan http://localhost:8080/ asks.csv",
+    "plan http://localhost:80/ asks.csv --cache 1",
+    "plan HTTP://LocalHost:8080 asks.csv",
+    "plan --cache=0010000 http://x a",
+    "plan -- http://x/lc/ -a",
+    "plan http://x/ ",
+    "plan http://x/",
+    "plan",
+    "plan http://x/ a b",
+    "plan a http://x/",
+    "plan https://x/ a",
+    "plan http://x/lc a",
+    "plan http://x/?q a",
+    "plan http://u@x/ a",
+    "plan http://x:65536/ a",
+    "plan  a",
+    "plan http://x/ a --cache 0",
+    "plan http://x/ a --cache 10001",
+    "plan http://x/ a --cache=",
+    "plan http://x/ a --cache",
+    "plan http://x/ a --cache 5 --cache=5",
+    "plan http://x/ -",
+    "plan - a",
+    "plan -- http://x/ -",
+    "plan http://x/ -a",
+    "plan http://x/ a --base http://x/",
+    "plan http://x/ a --days 3",
+    "plan http://x/ a --accept-updates",
+    "plan --help",
+    "plans http://x/ a",
+];
+
+/// A server: its feed and window, how it publishes, its port and connections, the message, and whether it takes messages.
+pub fn put_serve(draft: &mut Draft, serve: &Serve) {
+    draft.put("serve ");
+    draft.put(serve.feed.as_str());
+    put_date(draft, serve.first);
+    put_word(draft, &serve.days);
+    put_word(draft, &serve.zone.as_str());
+    put_word(draft, &serve.change);
+    draft.put(" ");
+    put_publishing(draft, &serve.publishing);
+    put_door(draft, serve);
+}
+
+fn put_door(draft: &mut Draft, serve: &Serve) {
+    put_word(draft, &serve.port);
+    put_word(draft, &serve.connections);
+    draft.put(" ");
+    draft.put(match &serve.update {
+        Some(name) => name.as_str(),
+        None => "-",
+    });
+    draft.put(if serve.accept_updates { " yes" } else { " no" });
+}
+
+/// A plan: its base, the name of its questions, and how many pages it keeps.
+pub fn put_plan(draft: &mut Draft, plan: &Plan) {
+    draft.put("plan ");
+    draft.put(plan.base.text());
+    put_word(draft, &plan.asks.as_str());
+    put_word(draft, &plan.cache);
+}
