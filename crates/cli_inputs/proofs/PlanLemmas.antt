@@ -51,7 +51,7 @@ no_messages [] (event ∷ all) say = absurd say
 no_messages (said ∷ script) [] say = absurd say
 no_messages (said ∷ script) (event ∷ all) (one, more) = All-cons IsNoMessage event all (no_message said event one) (no_messages script all more)
 
--- what a record says is its event, for which the folder is not asked
+-- what a record says is its event, for which nothing is read
 is_event : (folder : FolderSeen) (said : Record) (event : Event) → SaysEvent said event → IsEventOf said folder folder event
 is_event folder (records.Ask query) (events.Ask asked) is = (is, refl)
 is_event folder (records.Ask query) (events.Message message) is = absurd is
