@@ -1,3 +1,4 @@
 pub mod InputsLemmas
+mod OnePlanLemmas
 mod PlanLemmas
 mod ScriptLemmas

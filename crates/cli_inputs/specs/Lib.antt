@@ -1,3 +1,4 @@
 pub mod Inputs
+pub mod Laws
 pub mod Plan
 pub mod Script

@@ -4,11 +4,13 @@
 #![tactic(auto)]
 
 mod inputs;
+mod laws;
 mod plan;
 mod refusal;
 mod script;
 
 pub use inputs::{Inputs, read_inputs};
+pub use laws::one_plan;
 pub use plan::read_plan;
 pub use refusal::Refusal;
 pub use script::{ReplayInputs, read_replay};

@@ -1,0 +1,10 @@
+ghost use Rattle.cli_inputs.specs.Laws.{OnePlan};
+
+use script_text::one_script;
+
+/// The same files say one script of questions and turns.
+pub fn one_plan()
+    ensures { OnePlan }
+{
+    one_script();
+}
