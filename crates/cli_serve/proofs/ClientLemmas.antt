@@ -6,7 +6,8 @@ use Rattle.lc_doors.specs.declared.door.DoorFail.{DoorFail}
 use Rattle.lc_doors.specs.declared.door.Next.{Next}
 use Rattle.lc_doors.specs.declared.door.Next.TheVariants.{Connection, Closed}
 use Rattle.lc_doors.specs.declared.serving.Served.{Served}
-use Rattle.lc_io.specs.Counts.{Rose}
+use Rattle.lc_io.proofs.CountLemmas.{RoseBy-none, RoseBy-then}
+use Rattle.lc_io.specs.Counts.{Rose, RoseBy}
 use Rattle.lc_model.specs.declared.memory.NoMemory.{NoMemory}
 use Rattle.publisher_spec.specs.Side.{Side}
 use Rattle.cli_serve.specs.Clients.{HasGone, HasTaken, IsUnderWay}
@@ -29,7 +30,7 @@ none_gone side door = record {
   listens = refl;
   faults = omega arith;
   broken = omega arith;
-  rose = λ some. absurd (omega arith);
+  rose = RoseBy-none door.broken door.broken (omega arith);
 }
 
 visits_more : (visits : List Visit) (visit : Visit) (first side next : Side) → AreVisits first visits side → IsVisit visit.lost side visit next
@@ -39,26 +40,25 @@ visits_more [] visit first side next are is =
     (next, subst Goal are is, refl)
 visits_more (v ∷ visits) visit first side next are is = (are.0, are.1, visits_more visits visit are.0 side next are.2 is)
 
-rose_later : (most before middle after : ℕ) → min (before + 1) most ≤ middle → middle ≤ after → min (before + 1) most ≤ after
-rose_later most before middle after rose later = omega arith
-
 pub rose_before : (most before middle after : ℕ) → before ≤ middle → min (middle + 1) most ≤ after → min (before + 1) most ≤ after
 rose_before most before middle after earlier rose = omega arith
 
 count_none : (visit : Visit) → visit.failed ≡ false → faults_of (visit ∷ []) ≡ 0
 count_none visit well = rw well refl
 
-faults_more : (visits : List Visit) (visit : Visit) → visit.failed ≡ false → faults_of (visits ++ visit ∷ []) ≡ faults_of visits
-faults_more visits visit well =
-    let none : faults_of (visit ∷ []) ≡ 0 = count_none visit well in
-    let both : faults_of (visits ++ visit ∷ []) ≡ faults_of visits + faults_of (visit ∷ []) = sum_by-append _ visits (visit ∷ []) in
-    omega arith
+count_one : (visit : Visit) → visit.failed ≡ true → faults_of (visit ∷ []) ≡ 1
+count_one visit failed = rw failed refl
 
-rose_more : (failed : Bool) (visits : List Visit) (visit : Visit) (before middle after : ℕ) → visit.failed ≡ failed → before ≤ middle → middle ≤ after
-    → (0 < faults_of visits → Rose before middle) → (visit.failed ≡ true → Rose middle after) → 0 < faults_of (visits ++ visit ∷ []) → Rose before after
-rose_more true visits visit before middle after is earlier later was now some = rose_before (2 ^ 64 - 1) before middle after earlier (now is)
-rose_more false visits visit before middle after is earlier later was now some =
-    rose_later (2 ^ 64 - 1) before middle after (was (let same = faults_more visits visit is in omega arith)) later
+-- a fault of the visit was counted
+rose_once : (failed : Bool) (visit : Visit) (middle after : ℕ) → visit.failed ≡ failed → middle ≤ after → (visit.failed ≡ true → Rose middle after) → RoseBy (faults_of (visit ∷ [])) middle after
+rose_once true visit middle after is later now = subst (λ (n : ℕ). RoseBy n middle after) (sym (count_one visit is)) (now is)
+rose_once false visit middle after is later now = subst (λ (n : ℕ). RoseBy n middle after) (sym (count_none visit is)) (RoseBy-none middle after later)
+
+rose_more : (visits : List Visit) (visit : Visit) (before middle after : ℕ) → middle ≤ after → RoseBy (faults_of visits) before middle → (visit.failed ≡ true → Rose middle after)
+    → RoseBy (faults_of (visits ++ visit ∷ [])) before after
+rose_more visits visit before middle after later was now =
+    subst (λ (n : ℕ). RoseBy n before after) (sym (sum_by-append _ visits (visit ∷ [])))
+    (RoseBy-then (faults_of visits) (faults_of (visit ∷ [])) before middle after was (rose_once visit.failed visit middle after refl later now))
 
 -- what is recorded, where one more came
 told_then : (visits : List Visit) (visit : Visit) (a b c d : Option DoorTold) → GoesOn (AreTold visits) a b → GoesOn Opens b c → GoesOn (IsOver visit) c d
@@ -81,7 +81,7 @@ one_gone visits visit outcome first side next before middle opened after gone op
       listens = ap (λ (s : DoorSeen). s.listens) is.others ∙ (listens ∙ gone.listens);
       faults = let was = gone.faults in omega arith;
       broken = let was = gone.broken in omega arith;
-      rose = rose_more visit.failed visits visit before.broken middle.broken after.broken refl gone.broken caused gone.rose
+      rose = rose_more visits visit before.broken middle.broken after.broken caused gone.rose
           (λ failed. let rose : Rose opened.broken after.broken = is.broken.rose failed in subst (λ (n : ℕ). Rose n after.broken) broken rose);
     }
 
@@ -98,7 +98,7 @@ gone_over visits first side before middle after gone over faults listens broken 
   listens = listens ∙ gone.listens;
   faults = let was = gone.faults in omega arith;
   broken = let was = gone.broken in omega arith;
-  rose = λ some. subst (λ (n : ℕ). Rose before.broken n) (sym broken) (gone.rose some);
+  rose = subst (λ (n : ℕ). RoseBy (faults_of visits) before.broken n) (sym broken) gone.rose;
 }
 
 -- no client waits where none comes

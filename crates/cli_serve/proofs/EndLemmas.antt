@@ -3,7 +3,7 @@ use Rattle.std.proofs.Common.{◌≡◌, ◌∙◌, ℕ, ◌≤◌, ◌-◌, ◌
 use Rattle.lc_doors.specs.Door.{DoorSeen, DoorTold, GoesOn}
 use Rattle.lc_doors.specs.declared.door.DoorFail.{DoorFail}
 use Rattle.lc_doors.specs.declared.door.DoorFail.TheVariants as doors
-use Rattle.lc_io.specs.Counts.{HasCause, Rose}
+use Rattle.lc_io.specs.Counts.{HasCause, Rose, RoseBy}
 use Rattle.lc_io.specs.Sink.{SinkSeen}
 use Rattle.cli_serve.specs.Clients.{HasTaken}
 use Rattle.cli_serve.specs.Lines.{line_of, served_line}
@@ -12,7 +12,7 @@ use Rattle.cli_serve.specs.Steps.{Announces, Closes, ClosesKept, IsAnnounced, Is
 use Rattle.cli_serve.specs.Stop.{stop_of_door}
 use Rattle.cli_serve.specs.Tally.{IsTallyOf}
 use Rattle.cli_serve.specs.Told.{AreTold, opened_at}
-use Rattle.cli_serve.specs.Visit.{Visit, requests_of}
+use Rattle.cli_serve.specs.Visit.{Visit, faults_of, requests_of}
 use Rattle.cli_serve.specs.Written.{Wrote, WroteFront, WroteThenFront}
 use Rattle.cli_serve.specs.declared.stop.Stop.{Stop}
 use Rattle.cli_serve.specs.declared.stop.Stop.TheVariants.{Door, Sink, NoMemory}
@@ -43,7 +43,7 @@ visited asked outcome before middle after announced broken taken = record {
   told = told_since asked.port taken.visits before.door.told middle.door.told after.told announced.told taken.gone.told;
   listens = taken.gone.listens ∙ announced.listens;
   nobody = taken.nobody;
-  broken = λ some. subst (λ (n : ℕ). Rose n after.broken) broken (taken.gone.rose some);
+  broken = subst (λ (n : ℕ). RoseBy (faults_of taken.visits) n after.broken) broken taken.gone.rose;
 }
 
 -- so it was where memory ran out on a visit

@@ -2,7 +2,7 @@
 use Rattle.std.specs.Prelude.{◌≡◌, ◌⊎◌, ℕ, ◌<◌, ◌≤◌, false, List, length, Option, Result, Ok, Err}
 use Rattle.lc_doors.specs.Door.{DoorSeen, DoorTold, GoesOn}
 use Rattle.lc_doors.specs.declared.door.DoorFail.{DoorFail}
-use Rattle.lc_io.specs.Counts.{Rose}
+use Rattle.lc_io.specs.Counts.{RoseBy}
 use Rattle.publisher_spec.specs.Side.{Side}
 use Rattle.cli_serve.specs.Tally.{Fits, IsTallyOf}
 use Rattle.cli_serve.specs.Told.{AreTold, NoneWaits}
@@ -16,7 +16,7 @@ pub record HasGone (visits : List Visit) (first last : Side) (before after : Doo
   pub listens : after.listens ≡ before.listens
   pub faults : before.faults ≤ after.faults
   pub broken : before.broken ≤ after.broken
-  pub rose : 0 < faults_of visits → Rose before.broken after.broken
+  pub rose : RoseBy (faults_of visits) before.broken after.broken
 
 -- So many clients at most are served, one after the other: these visits were made so far, and are counted.
 pub record IsUnderWay (first side : Side) (connections : ℕ) (tally : Tally) (before now : DoorSeen) : Type 0 where

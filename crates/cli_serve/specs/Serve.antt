@@ -1,7 +1,7 @@
 -- What serving comes to, by how it ends.
 use Rattle.std.specs.Prelude.{◌≡◌, ◌⊎◌, ℕ, ◌<◌, ◌≤◌, true, false, List, ◌++◌, length, Result, Ok, Err}
 use Rattle.lc_doors.specs.Door.{DoorSeen, GoesOn}
-use Rattle.lc_io.specs.Counts.{Rose}
+use Rattle.lc_io.specs.Counts.{Rose, RoseBy}
 use Rattle.lc_io.specs.Sink.{SinkSeen}
 use Rattle.publisher_spec.specs.Side.{Side}
 use Rattle.cli_serve.specs.Lines.{line_of, listening_line}
@@ -36,7 +36,7 @@ pub record WasVisited (asked : Asked) (visits : List Visit) (before after : Door
   pub told : GoesOn (λ b a. AreTold visits (opened_at asked.port b) a) before.told after.told
   pub listens : after.listens ≡ true
   pub nobody : after.connected ≡ false
-  pub broken : 0 < faults_of visits → Rose before.broken after.broken
+  pub broken : RoseBy (faults_of visits) before.broken after.broken
 
 -- Memory ran out on no visit. There were as many as were asked for, or no further client waits.
 pub record WasServed (asked : Asked) (visits : List Visit) (before after : DoorSeen) : Type 0 where
