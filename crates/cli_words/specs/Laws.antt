@@ -1,5 +1,8 @@
--- Arguments say one command at most; and what the base of a server is.
-use Rattle.std.specs.Prelude.{◌≡◌, ◌≢◌, ℕ, ◌<◌, ◌^◌, ◌++◌, List, codes, decimal}
+-- Words say one command at most, each command's words have a grammar, and what the base of a server is.
+use Rattle.std.specs.Prelude.{◌≡◌, ◌≢◌, ℕ, ◌<◌, ◌^◌, ◌++◌, List, [], ◌∷◌, codes, decimal}
+use Rattle.clap.specs.Walk.{Text}
+use Rattle.cli_words.specs.Grammar.{HasGrammar, IsTable}
+use Rattle.cli_words.specs.Line.{ask_line, check_line, line, plan_line, replay_line, serve_line}
 use Rattle.cli_words.specs.Publishing.{SaysBase}
 use Rattle.cli_words.specs.Serve.{address_at}
 use Rattle.cli_words.specs.Words.{SaysCommand}
@@ -18,3 +21,38 @@ AddressesAreBases =
 -- The port of http itself, 80, is left out of the base.
 abbrev pub Address80 : Type 0
 Address80 = SaysBase (address_at 80) (record { text = codes "http://localhost/"; authority = codes "localhost"; path = codes "/" })
+
+-- a line has the grammar of its names
+abbrev pub LinesHaveGrammar : Type 0
+LinesHaveGrammar =
+    (name : Text) (places options flags : List Text) → IsTable places options flags
+    → HasGrammar (line name places options flags) places options flags
+
+-- the grammar of `check`
+abbrev pub CheckGrammar : Type 0
+CheckGrammar =
+    HasGrammar check_line (codes "feed" ∷ codes "first" ∷ []) (codes "days" ∷ codes "zone" ∷ codes "change" ∷ []) []
+
+-- the grammar of `ask`
+abbrev pub AskGrammar : Type 0
+AskGrammar =
+    HasGrammar ask_line (codes "feed" ∷ codes "from" ∷ codes "to" ∷ codes "moment" ∷ [])
+    (codes "days" ∷ codes "zone" ∷ codes "change" ∷ codes "horizon" ∷ codes "known" ∷ codes "base" ∷ codes "base-moment"
+    ∷ codes "cuts" ∷ codes "cache" ∷ codes "update" ∷ []) []
+
+-- the grammar of `replay`
+abbrev pub ReplayGrammar : Type 0
+ReplayGrammar =
+    HasGrammar replay_line (codes "feed" ∷ codes "first" ∷ codes "script" ∷ [])
+    (codes "days" ∷ codes "zone" ∷ codes "change" ∷ codes "base" ∷ codes "base-moment" ∷ codes "cuts" ∷ codes "cache" ∷ []) []
+
+-- the grammar of `serve`
+abbrev pub ServeGrammar : Type 0
+ServeGrammar =
+    HasGrammar serve_line (codes "feed" ∷ codes "first" ∷ [])
+    (codes "days" ∷ codes "zone" ∷ codes "change" ∷ codes "base" ∷ codes "base-moment" ∷ codes "cuts" ∷ codes "update"
+    ∷ codes "port" ∷ codes "connections" ∷ []) (codes "accept-updates" ∷ [])
+
+-- the grammar of `plan`
+abbrev pub PlanGrammar : Type 0
+PlanGrammar = HasGrammar plan_line (codes "url" ∷ codes "asks" ∷ []) (codes "cache" ∷ []) []

@@ -2,8 +2,7 @@ pub mod Ask
 pub mod Cache
 pub mod Check
 pub mod FeedWindow
-pub mod Finds
-pub mod Flag
+pub mod Grammar
 pub mod Laws
 pub mod Line
 pub mod Options

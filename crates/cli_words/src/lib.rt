@@ -22,5 +22,5 @@ mod window;
 mod words;
 
 pub use command::{Ask, Check, Command, Plan, Publishing, Replay, Serve};
-pub use laws::{default_address, default_publishing, lines_of_check, lines_of_serve, one_command};
+pub use laws::{default_address, default_publishing, one_command, words_are_lines};
 pub use words::read_words;
