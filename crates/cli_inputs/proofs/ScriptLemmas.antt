@@ -1,5 +1,5 @@
 -- How a script is followed, record after record.
-use Rattle.std.proofs.Common.{◌≡◌, ◌∙◌, ◌+◌, ◌<◌, ◌++◌, ◌∷◌, ℕ, zero, suc, inl, inr, List, [], Some, ap, arith, length, refl, subst, sym, take, true}
+use Rattle.std.proofs.Common.{◌≡◌, ◌∙◌, ◌+◌, ◌<◌, ◌++◌, ◌∷◌, ℕ, zero, suc, inl, inr, IfErr, List, [], Some, Result, Ok, Err, ap, arith, length, refl, subst, sym, take, true}
 use Rattle.std.specs.List.{slice_get, slice_index_or}
 use Rattle.std.proofs.lemmas.List.Sums.{sum_by-cons}
 use Rattle.gtfs_tables.specs.Reading.{Keeps}
@@ -11,11 +11,13 @@ use Rattle.laws_replay.specs.declared.event.Event.TheVariants as events
 use Rattle.script_text.specs.Script.{IsClient, TurnsAreOfClients as AreOfClients, clients_in, clients_of}
 use Rattle.script_text.specs.declared.script.Record.{Record}
 use Rattle.script_text.specs.declared.script.Record.TheVariants as records
-use Rattle.timetable.specs.Loading.{Loads}
+use Rattle.timetable.specs.Loading.{Loads, LoadsSo}
+use Rattle.timetable.specs.declared.fault.LoadFault.{LoadFault}
 use Rattle.timetable.specs.declared.fault.LoadFault.TheVariants as fault
 use Rattle.timetable.specs.declared.scope.Scope.{Scope}
 use Rattle.timetable.specs.declared.timetable.Timetable.{Timetable}
-use Rattle.cli_inputs.specs.Script.{HasScript, HasTimetable, IsEventOf, IsRefusedAt, IsReplayRefused, IsScriptRefused, ReadsEvents, ReadsReplay, ReadsScript, StopsAt}
+use Rattle.cli_inputs.specs.Inputs.{ReadsFile}
+use Rattle.cli_inputs.specs.Script.{HasScript, HasTimetable, IsEventOf, IsNone, IsRefusedAt, IsReplayRefused, IsScriptRefused, ReadsEvents, ReadsReplay, ReadsScript, RunsOutAt, StopsAt, fault_since}
 use Rattle.cli_inputs.specs.declared.refusal.Refusal.{Refusal}
 use Rattle.cli_inputs.specs.declared.refusal.Refusal.TheVariants.{Usage, Load, Script, Folder, LongUpdate, BrokenUpdate}
 use Rattle.cli_inputs.proofs.InputsLemmas.{rose_later}
@@ -94,13 +96,43 @@ stops_at count script place row said old now new all refusal is until row_is ref
       refused = subst (λ n. IsRefusedAt count n said now new refusal) (row_is ∙ ap (λ n. n + 1) (sym parts.counted)) refused;
     }
 
+-- behind a record that was read memory may run out
+pub out_behind : (said : Record) (old new : FolderSeen) (event : Event) → IsEventOf said old new event → RunsOutAt said old new
+out_behind (records.Ask query) old new (events.Ask asked) is = inl is.1
+out_behind (records.Ask query) old new (events.Message message) is = absurd is
+out_behind (records.Ask query) old new (events.Turn client) is = absurd is
+out_behind (records.Update name) old new (events.Ask asked) is = absurd is
+out_behind (records.Update name) old new (events.Message message) is = inr (name, Ok message.file.bytes, refl, is.read)
+out_behind (records.Update name) old new (events.Turn client) is = absurd is
+out_behind (records.Turn other) old new (events.Ask asked) is = absurd is
+out_behind (records.Turn other) old new (events.Message message) is = absurd is
+out_behind (records.Turn other) old new (events.Turn client) is = inl is.1
+
+-- a record is refused whose file is no message
+pub none_refused : (count row : ℕ) (said : Record) (old new : FolderSeen) (name copy bytes : List ℕ) (result : Result Event Refusal) → said ≡ records.Update name
+    → IfErr result (IsNone copy bytes) → copy ≡ name → ReadsFile old new name (Ok bytes) → IfErr result (IsRefusedAt count row said old new)
+none_refused count row said old new name copy bytes (Ok event) named none same read = tt
+none_refused count row said old new name copy bytes (Err refusal) named none same read = by refusal none where
+  by : (refusal : Refusal) → IsNone copy bytes refusal → IsRefusedAt count row said old new refusal
+  by Usage is = absurd is
+  by (Load (fault.Broken rule file at)) is = absurd is
+  by (Load (fault.TooLarge what many)) is = absurd is
+  by (Load (fault.Folder before after)) is = absurd is
+  by (Load fault.NoMemory) is = inr (name, Ok bytes, named, read)
+  by (Script at) is = absurd is
+  by (Folder before after) is = absurd is
+  by (LongUpdate many) is = (name, bytes, named, read, is.0, is.1)
+  by (BrokenUpdate broken found) is =
+      let there : broken ≡ name = is.0 ∙ same in
+      (bytes, named ∙ ap (λ (n : List ℕ). records.Update n) (sym there), subst (λ (n : List ℕ). ReadsFile old new n (Ok bytes)) (sym there) read, is.1)
+
 -- where the script is refused, the command is
 pub script_refused : (scope : Scope) (name : List ℕ) (old new : FolderSeen) (refusal : Refusal) → IsScriptRefused true name old new refusal → IsReplayRefused scope name old new refusal
 script_refused scope name old new Usage is = absurd is
 script_refused scope name old new (Load (fault.Broken rule file row)) is = absurd is
 script_refused scope name old new (Load (fault.TooLarge what count)) is = absurd is
 script_refused scope name old new (Load (fault.Folder before after)) is = absurd is
-script_refused scope name old new (Load fault.NoMemory) is = tt
+script_refused scope name old new (Load fault.NoMemory) is = inl is
 script_refused scope name old new (Script row) (inl lacks) = inl lacks
 script_refused scope name old new (Script row) (inr wrong) = inr (inl wrong)
 script_refused scope name old new (Folder before after) (fault, fails) = (fault, inl fails)
@@ -156,6 +188,22 @@ module _ (scope : Scope) (name : List ℕ) (old between : FolderSeen) (script : 
   pub has_script : HasScript name old between
   has_script = record { script = script; read = read; kept = kept }
 
+  -- where the loading fails, the command is refused, with the count at the start
+  pub load_refused : (new : FolderSeen) (count : ℕ) (found : LoadFault) → count ≡ old.faults → LoadsSo scope between new (Err found) → IsReplayRefused scope name old new (Load (fault_since count found))
+  unfolding has_script
+  load_refused new count (fault.Broken rule file row) is ended = record { between = between; script = has_script; ended = ended }
+  load_refused new count (fault.TooLarge what many) is ended = record { between = between; script = has_script; ended = ended }
+  load_refused new count (fault.Folder before after) is ended = (
+    record {
+      before_is = is;
+      after_is = ended.1;
+      rose = subst (λ n. Rose n after) (sym is) (subst (Rose old.faults) (sym ended.1)
+          (rose_later old.faults between.faults new.faults kept.faults (subst (λ n. Rose n new.faults) ended.0 (subst (Rose before) ended.1 ended.2))));
+    },
+    record { between = between; script = has_script; fails = ended.3 },
+  )
+  load_refused new count fault.NoMemory is ended = inr (inl (record { between = between; script = has_script; ended = ended }))
+
   module _ (loaded_at : FolderSeen) (made : Timetable) (loads : Loads scope between loaded_at made) (kept_on : Keeps between loaded_at) where
     -- and the timetable was loaded
     pub has_timetable : HasTimetable scope name old loaded_at
@@ -175,7 +223,7 @@ module _ (scope : Scope) (name : List ℕ) (old between : FolderSeen) (script : 
       by (Load (fault.Broken rule file at)) x = absurd x.refused
       by (Load (fault.TooLarge what many)) x = absurd x.refused
       by (Load (fault.Folder before after)) x = absurd x.refused
-      by (Load fault.NoMemory) x = tt
+      by (Load fault.NoMemory) x = inr (inr (inl (record { between = loaded_at; has = has_timetable; stops = x })))
       by (Script row) x = inr (inr (record { between = loaded_at; has = has_timetable; stops = x }))
       by (Folder before after) x =
           let at = x.refused in (

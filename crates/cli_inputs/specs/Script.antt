@@ -1,9 +1,10 @@
 -- What a command with a script reads: the script, then the timetable of its feed, and then the files of the messages that the script names,
 -- in its order. Each is tested before the next one is asked for.
-use Rattle.std.specs.Prelude.{◌≡◌, ◌⊎◌, ◌<◌, ℕ, ◌+◌, Bool, true, List, [], ◌∷◌, ◌++◌, Ok, Err, length}
+use Rattle.std.specs.Prelude.{◌≡◌, ◌⊎◌, ◌<◌, ℕ, ◌+◌, Bool, true, List, [], ◌∷◌, ◌++◌, Result, Ok, Err, length}
 use Rattle.gtfs_tables.specs.Reading.{Keeps}
 use Rattle.lc_io.specs.Counts.{Rose}
 use Rattle.lc_io.specs.Folder.{FolderSeen}
+use Rattle.lc_io.specs.declared.folder.FolderFail.{FolderFail}
 use Rattle.lc_io.specs.declared.folder.FolderFail.TheVariants.{Absent, Failed}
 use Rattle.laws_replay.specs.declared.event.Event.{Event}
 use Rattle.laws_replay.specs.declared.event.Event.TheVariants as events
@@ -11,7 +12,7 @@ use Rattle.script_text.specs.Reading.{HasFault, SaysScript}
 use Rattle.script_text.specs.declared.fault.ScriptFault.TheVariants.{Wrong}
 use Rattle.script_text.specs.declared.script.Record.{Record}
 use Rattle.script_text.specs.declared.script.Record.TheVariants as records
-use Rattle.timetable.specs.Loading.{Loads, LoadsSo}
+use Rattle.timetable.specs.Loading.{FailsAt, Loads, LoadsSo}
 use Rattle.timetable.specs.declared.fault.LoadFault.{LoadFault}
 use Rattle.timetable.specs.declared.fault.LoadFault.TheVariants as fault
 use Rattle.timetable.specs.declared.scope.Scope.{Scope}
@@ -84,6 +85,19 @@ pub record FailsToLoad (scope : Scope) (name : List ℕ) (old new : FolderSeen) 
   pub script : HasScript name old between
   pub ended : LoadsSo scope between new (Err found)
 
+-- the fault of a loading, where the folder's count was this at the start
+abbrev pub fault_since : ℕ → LoadFault → LoadFault
+fault_since count (fault.Broken rule file row) = fault.Broken rule file row
+fault_since count (fault.TooLarge what many) = fault.TooLarge what many
+fault_since count (fault.Folder before after) = fault.Folder count after
+fault_since count fault.NoMemory = fault.NoMemory
+
+-- the script was read, and then a file of the zone or of the feed could not be read
+pub record FailsAtFeed (scope : Scope) (name : List ℕ) (old new : FolderSeen) : Type 0 where
+  pub between : FolderSeen
+  pub script : HasScript name old between
+  pub fails : FailsAt scope between new
+
 -- the event is the message of a file of this name with these bytes
 abbrev pub IsMessageOf : List ℕ → List ℕ → Event → Type 0
 IsMessageOf name bytes (events.Ask asked) = ⊥
@@ -102,14 +116,19 @@ IsNone name bytes (Folder before after) = ⊥
 IsNone name bytes (LongUpdate many) = (16_777_216 < length bytes) × (many ≡ length bytes)
 IsNone name bytes (BrokenUpdate broken found) = (broken ≡ name) × IsBroken bytes found
 
+-- memory ran out at the record: the folder was not asked for its file, or it was, with this end
+abbrev pub RunsOutAt : Record → FolderSeen → FolderSeen → Type 0
+RunsOutAt said old new =
+    (new ≡ old) ⊎ ((name : List ℕ) × (result : Result (List ℕ) FolderFail) × (said ≡ records.Update name) × ReadsFile old new name result)
+
 -- The record in this row is no event, for this cause, where the count of faults was this at the start: it names a file that is absent or
--- cannot be read, or that is no message. Memory may run out.
+-- cannot be read, or that is no message; or memory ran out.
 abbrev pub IsRefusedAt : ℕ → ℕ → Record → FolderSeen → FolderSeen → Refusal → Type 0
 IsRefusedAt count row said old new Usage = ⊥
 IsRefusedAt count row said old new (Load (fault.Broken rule file at)) = ⊥
 IsRefusedAt count row said old new (Load (fault.TooLarge what many)) = ⊥
 IsRefusedAt count row said old new (Load (fault.Folder before after)) = ⊥
-IsRefusedAt count row said old new (Load fault.NoMemory) = Unit {0}
+IsRefusedAt count row said old new (Load fault.NoMemory) = RunsOutAt said old new
 IsRefusedAt count row said old new (Script at) = (at ≡ row) × (name : List ℕ) × (said ≡ records.Update name) × ReadsFile old new name (Err Absent)
 IsRefusedAt count row said old new (Folder before after) =
     (before ≡ count) × (after ≡ new.faults) × (name : List ℕ) × (said ≡ records.Update name) × ReadsFile old new name (Err Failed)
@@ -146,25 +165,40 @@ pub record IsFolderFault (old new : FolderSeen) (before after : ℕ) : Type 0 wh
 abbrev pub FailsAtScript : List ℕ → FolderSeen → FolderSeen → Type 0
 FailsAtScript name old new = ReadsFile old new name (Err Failed)
 
--- why a script is refused: it is absent, a row of it is no record, or it could not be read; memory may run out
+-- memory ran out at the script, which was asked for, with this end, or behind it
+abbrev pub RunsOutAtScript : List ℕ → FolderSeen → FolderSeen → Type 0
+RunsOutAtScript name old new = (result : Result (List ℕ) FolderFail) × ReadsFile old new name result
+
+-- why a script is refused: it is absent, a row of it is no record, or it could not be read; or memory ran out
 abbrev pub IsScriptRefused : Bool → List ℕ → FolderSeen → FolderSeen → Refusal → Type 0
 IsScriptRefused updates name old new Usage = ⊥
 IsScriptRefused updates name old new (Load (fault.Broken rule file row)) = ⊥
 IsScriptRefused updates name old new (Load (fault.TooLarge what count)) = ⊥
 IsScriptRefused updates name old new (Load (fault.Folder before after)) = ⊥
-IsScriptRefused updates name old new (Load fault.NoMemory) = Unit {0}
+IsScriptRefused updates name old new (Load fault.NoMemory) = RunsOutAtScript name old new
 IsScriptRefused updates name old new (Script row) = LacksScript name old new row ⊎ HasWrongRow updates name old new row
 IsScriptRefused updates name old new (Folder before after) = IsFolderFault old new before after × FailsAtScript name old new
 IsScriptRefused updates name old new (LongUpdate count) = ⊥
 IsScriptRefused updates name old new (BrokenUpdate message found) = ⊥
 
--- why a command with a script is refused, each cause in its turn: the script, the feed, the messages; memory may run out
+-- all was read
+pub record HasReplay (scope : Scope) (name : List ℕ) (old new : FolderSeen) : Type 0 where
+  pub made : Timetable
+  pub all : List Event
+  pub read : ReadsReplay scope name old new made all
+
+-- memory ran out: at the script, or behind it in the loading, or behind that at a record of the script, or behind all that was to be read
+abbrev pub RunsOutOnTheWay : Scope → List ℕ → FolderSeen → FolderSeen → Type 0
+RunsOutOnTheWay scope name old new =
+    RunsOutAtScript name old new ⊎ FailsToLoad scope name old new fault.NoMemory ⊎ StopsAtRecord scope name old new (Load fault.NoMemory) ⊎ HasReplay scope name old new
+
+-- why a command with a script is refused, each cause in its turn: the script, the feed, the messages; or memory ran out
 abbrev pub IsReplayRefused : Scope → List ℕ → FolderSeen → FolderSeen → Refusal → Type 0
 IsReplayRefused scope name old new Usage = ⊥
 IsReplayRefused scope name old new (Load (fault.Broken rule file row)) = FailsToLoad scope name old new (fault.Broken rule file row)
 IsReplayRefused scope name old new (Load (fault.TooLarge what count)) = FailsToLoad scope name old new (fault.TooLarge what count)
-IsReplayRefused scope name old new (Load (fault.Folder before after)) = FailsToLoad scope name old new (fault.Folder before after)
-IsReplayRefused scope name old new (Load fault.NoMemory) = Unit {0}
+IsReplayRefused scope name old new (Load (fault.Folder before after)) = IsFolderFault old new before after × FailsAtFeed scope name old new
+IsReplayRefused scope name old new (Load fault.NoMemory) = RunsOutOnTheWay scope name old new
 IsReplayRefused scope name old new (Script row) = LacksScript name old new row ⊎ HasWrongRow true name old new row ⊎ StopsAtRecord scope name old new (Script row)
 IsReplayRefused scope name old new (Folder before after) =
     IsFolderFault old new before after × (FailsAtScript name old new ⊎ StopsAtRecord scope name old new (Folder before after))

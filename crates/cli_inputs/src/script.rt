@@ -1,6 +1,6 @@
 ghost use Rattle.std.specs.Prelude.{◌≡◌, All, IfErr, IfOk, IsFalse, length, ◌<◌, ◌+◌};
 ghost use Rattle.cli_inputs.specs.Inputs.{ReadsFile};
-ghost use Rattle.cli_inputs.specs.Script.{IsEventOf, IsRefusedAt, IsReplayRefused, IsScriptRefused, ReadsEvents, ReadsReplay, ReadsScript, StopsAt, IsMessageOf, IsNone};
+ghost use Rattle.cli_inputs.specs.Script.{IsEventOf, IsRefusedAt, IsReplayRefused, IsScriptRefused, ReadsEvents, ReadsReplay, ReadsScript, StopsAt, IsMessageOf, IsNone, fault_since};
 ghost use Rattle.gtfs_tables.specs.Reading.{Keeps};
 ghost use Rattle.laws_replay.specs.Events.{TurnsAreOfClients};
 ghost use Rattle.script_text.specs.Script.{NamesNone, TurnsAreOfClients as AreOfClients};
@@ -13,7 +13,7 @@ use lc_model::{Bytes, NoMemory, PlainData, Text};
 use lc_world::{File, Folder, FolderFail};
 use script_text::{Record, Script, ScriptFault, read_script};
 use std::alloc::Global;
-use timetable::{Scope, Timetable, load};
+use timetable::{LoadFault, Scope, Timetable, load};
 
 /// What a course is played from: the timetable of the feed, and what happens one after the other.
 #[derive(Drop)]
@@ -42,9 +42,19 @@ pub fn read_replay<F: Folder>(
                 Ok(events) => Ok(ReplayInputs { made, events }),
                 Err(refusal) => Err(refusal),
             },
-            Err(fault) => Err(Refusal::Load(fault)),
+            Err(fault) => Err(Refusal::Load(fault_from(before, fault))),
         },
         Err(refusal) => Err(refusal),
+    }
+}
+
+/// The fault of a loading, where the folder's count of faults was this at the start.
+fn fault_from(before: u64, fault: LoadFault) -> LoadFault
+    ensures { result ≡ fault_since before fault }
+{
+    match fault {
+        LoadFault::Folder { before: _, after } => LoadFault::Folder { before, after },
+        fault => fault,
     }
 }
 

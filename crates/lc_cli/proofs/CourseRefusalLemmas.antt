@@ -5,7 +5,6 @@ use Rattle.cli_ask.specs.Publishing.{store_of}
 use Rattle.cli_inputs.specs.Script.{IsReplayRefused, StopsAtRecord}
 use Rattle.cli_inputs.specs.declared.refusal.Refusal.{Refusal}
 use Rattle.cli_inputs.specs.declared.refusal.Refusal.TheVariants as refused
-use Rattle.cli_inputs.proofs.InputsLemmas.{rose_later}
 use Rattle.cli_words.specs.declared.command.Replay.{Replay}
 use Rattle.gtfs_tables.specs.declared.what.What.TheVariants as what
 use Rattle.lc_io.specs.Counts.{Rose}
@@ -225,8 +224,7 @@ module _ (told : List File) (replay : Replay) (old new : FolderSeen) (tells : ol
   course_refused (refused.Load (fault.Broken rule file row)) is status = inr (fails (fault.Broken rule file row) tt is status)
   course_refused (refused.Load (fault.TooLarge kind count)) is status = inr (fails (fault.TooLarge kind count) tt is status)
   course_refused (refused.Load (fault.Folder before after)) is status =
-      absurd (no_fault (rose_later old.faults is.between.faults new.faults is.script.kept.faults
-      (subst (λ count. Rose count new.faults) is.ended.0 (subst (λ count. Rose before count) is.ended.1 is.ended.2))))
+      absurd (no_fault (subst (λ count. Rose count new.faults) is.0.before_is (subst (λ count. Rose before count) is.0.after_is is.0.rose)))
   course_refused (refused.Load fault.NoMemory) is status = inl status
   course_refused (refused.Script row) (inl lacks) status =
       inr (inl (absent_told told old new replay.script tells lacks.read, status ∙ ap (λ (n : ℕ). ScriptWrong n) lacks.row_is))

@@ -9,7 +9,6 @@ use Rattle.laws_replies.specs.Made.{Made}
 use Rattle.cli_inputs.specs.Script.{IsEventOf, IsReplayRefused, ReadsEvents, ReadsReplay, StopsAtRecord}
 use Rattle.cli_inputs.specs.declared.refusal.Refusal.{Refusal}
 use Rattle.cli_inputs.specs.declared.refusal.Refusal.TheVariants as refused
-use Rattle.cli_inputs.proofs.InputsLemmas.{rose_later}
 use Rattle.cli_words.specs.declared.command.Replay.{Replay}
 use Rattle.lc_io.specs.Counts.{Rose}
 use Rattle.lc_io.specs.Folder.{FolderSeen, bytes_named}
@@ -169,7 +168,7 @@ module _ (one_script : OneScript) (never_both : NeverBoth) (not_broken : NotBrok
   never_refused (refused.Load (fault.TooLarge what count)) is =
       inr (not_too_large told (replay_scope replay) is.between new made what count (still_told told old is.between tells is.script.kept) course.sound is.ended)
   never_refused (refused.Load (fault.Folder before after)) is =
-      inr (no_fault (rose_later old.faults is.between.faults new.faults is.script.kept.faults (subst (λ count. Rose count new.faults) is.ended.0 (subst (λ count. Rose before count) is.ended.1 is.ended.2))))
+      inr (no_fault (subst (λ count. Rose count new.faults) is.0.before_is (subst (λ count. Rose before count) is.0.after_is is.0.rose)))
   never_refused (refused.Load fault.NoMemory) is = inl refl
   never_refused (refused.Script row) (inl lacks) = inr (let e = sym (absent_told told old new replay.script tells lacks.read) ∙ course.is_told.is_told in cc)
   never_refused (refused.Script row) (inr (inl wrong)) =
