@@ -4,6 +4,7 @@ use Rattle.std.specs.List.{slice_get}
 use Rattle.laws_plan.specs.Laws.{OneClientAsks}
 use Rattle.laws_replies.specs.Laws.{AloneAsksAll}
 use Rattle.laws_replies.specs.Met.{AreMet, met_by}
+use Rattle.laws_replies.proofs.AloneLemmas.{met_alone}
 use Rattle.lc_model.specs.declared.query.Query.{Query}
 use Rattle.lc_world.specs.Link.{LinkSeen}
 
@@ -21,4 +22,5 @@ one_client_asks seen asks_all base all cache query before after text end one pla
       told = alone.1;
       clear = planned.clear;
       not_fallen = planned.not_fallen;
+      along = record { met = c.met; are = met_alone c.met met.by_clients; along = met.counted; fault = by.fault };
     }

@@ -38,7 +38,7 @@ is_first met one = let from_one = one.from_one in let at_most = one.at_most in o
 by_first : (all : List Met) → All (IsByOneOf 1) all → All (λ (met : Met). is_by 1 met ≡ true) all
 by_first all are = All-weaker (IsByOneOf 1) (λ (met : Met). is_by 1 met ≡ true) (λ met one. eq-eqb met.client 1 (is_first met one)) all are
 
-met_alone : (all : List Met) → All (IsByOneOf 1) all → met_by 1 all ≡ map (λ (met : Met). met.made) all
+pub met_alone : (all : List Met) → All (IsByOneOf 1) all → met_by 1 all ≡ map (λ (met : Met). met.made) all
 met_alone all are = ap (map (λ (met : Met). met.made)) (filter_all (is_by 1) all (by_first all are))
 
 counted_alone : (all : List Met) → All (IsByOneOf 1) all → All IsAsked all → exchanges_by 1 all ≡ length (met_by 1 all)

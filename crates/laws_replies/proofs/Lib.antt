@@ -1,4 +1,5 @@
 pub mod AloneLemmas
+mod AroundLemmas
 pub mod ClientsLemmas
 pub mod CourseLemmas
 pub mod MadeLemmas

@@ -10,10 +10,11 @@ use Rattle.convoy.specs.declared.turn.Turn.{Turn}
 use Rattle.lc_model.specs.declared.query.Query.{Query}
 use Rattle.lc_world.specs.Link.{LinkSeen}
 use Rattle.page_client.specs.Client.{shown}
+use Rattle.page_client.specs.declared.outcome.Outcome.{Outcome}
 use Rattle.laws_replies.specs.Ends.{EndsBy}
 use Rattle.laws_replies.specs.Met.{Met, met_by}
 use Rattle.laws_replies.specs.Run.{EndsByItsReplies, HasRun}
-use Rattle.laws_replies.proofs.AloneLemmas.{alone_asks_all}
+use Rattle.laws_replies.proofs.AloneLemmas.{alone_asks_all, met_alone}
 use Rattle.laws_replies.proofs.ClientsLemmas.{AreSo, IsClientSo, are_asked, are_begun, has_ended, turn_meets}
 use Rattle.laws_replies.proofs.StepLemmas.{AtEnd}
 
@@ -61,6 +62,12 @@ has_run base query before after end all member so is some =
         told = own.1;
         clear = so.grown.clear;
         not_fallen = so.grown.not_fallen;
+        along = record {
+          met = all;
+          are = met_alone all so.met.by_clients;
+          along = so.met.counted;
+          fault = λ low high fault_is. client.fault low high (e.ended ∙ ap (λ (o : Outcome). Some o) fault_is);
+        };
       };
     }
 

@@ -1,5 +1,5 @@
 -- That how a client ended is one for the replies that it got, and these are those that a link tells.
-use Rattle.std.specs.Prelude.{◌≡◌, ℕ, List, [], ◌∷◌, ◌++◌, length, map, Option, Some}
+use Rattle.std.specs.Prelude.{◌≡◌, ℕ, ◌+◌, ◌-◌, ◌^◌, ◌<◌, List, [], ◌∷◌, ◌++◌, length, map, Option, Some}
 use Rattle.std.specs.List.{All}
 use Rattle.lc_model.specs.Journey.{arrives_at}
 use Rattle.lc_model.specs.declared.query.Query.{Query}
@@ -65,3 +65,24 @@ AloneAsksAll =
     (base : BaseParts) (query : Query) (before after : Option (List Entry)) (faults now_faults : ℕ) (version : Option ℕ) (all : List Met) (outcome : Outcome)
     → AreMet base (query ∷ []) before after faults now_faults all → EndsBy base query faults now_faults version (met_by 1 all) outcome
     → (exchanges_by 1 all ≡ length (met_by 1 all)) × TellsAll base query (met_by 1 all) before after
+
+-- The counts are those around the last of so many exchanges: the second is the count now; and the first is that before, where there is one
+-- exchange, or where the count rose by one in all, and not to its last value.
+pub record AreAroundLast (exchanges before now low high : ℕ) : Type 0 where
+  pub now_is : high ≡ now
+  pub before_is : exchanges ≡ 1 → low ≡ before
+  pub by_one : now ≡ before + 1 → now < 2 ^ 64 - 1 → low ≡ before
+
+-- the counts of a fault of the link are those around the last exchange of the client that asked
+abbrev pub FaultsAreAroundLast : {X : Type 0} → (X → LinkSeen) → Type 0
+FaultsAreAroundLast {X} seen =
+    (base : BaseParts) (query : Query) (before after : X) (version : Option ℕ) (exchanges low high : ℕ)
+    → HasAsked base query (seen before) (seen after) version exchanges (outcomes.LinkFault low high)
+    → AreAroundLast exchanges (seen before).faults (seen after).faults low high
+
+-- a near value: shrunken counts, of which the second is less, are those of no fault
+abbrev pub NoFaultIsShrunken : {X : Type 0} → (X → LinkSeen) → Type 0
+NoFaultIsShrunken {X} seen =
+    (base : BaseParts) (query : Query) (before after : X) (version : Option ℕ) (exchanges low high : ℕ)
+    → HasAsked base query (seen before) (seen after) version exchanges (outcomes.LinkFault low high)
+    → HasAsked base query (seen before) (seen after) version exchanges (outcomes.LinkFault (low + 1) (high - 1)) → ⊥

@@ -1,4 +1,4 @@
-ghost use Rattle.laws_replies.specs.Laws.{AloneAsksAll, GotIsTold, OneEnd, OneToldEnd};
+ghost use Rattle.laws_replies.specs.Laws.{AloneAsksAll, FaultsAreAroundLast, GotIsTold, NoFaultIsShrunken, OneEnd, OneToldEnd};
 ghost use Rattle.laws_replies.specs.Run.{EndsByItsReplies};
 
 use lc_world::Link;
@@ -27,4 +27,11 @@ pub fn one_told_end<L: Link>()
 /// asked as a client that asks alone.
 pub fn alone_asks_all()
     ensures { AloneAsksAll }
+{}
+
+/// The counts of a fault of the link are those around the last exchange of a client that asks alone: the second is the link's count now. Shrunken
+/// counts are refused.
+pub fn faults_are_around_last<L: Link>()
+    ensures around { FaultsAreAroundLast L.seen }
+    ensures shrunken { NoFaultIsShrunken L.seen }
 {}
