@@ -4,3 +4,4 @@ pub mod OneAnswerLemmas
 pub mod OneOutputLemmas
 pub mod OnePublisherLemmas
 pub mod SideLemmas
+mod WantsLemmas

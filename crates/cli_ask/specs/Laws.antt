@@ -1,16 +1,23 @@
 -- That what is printed of a question is one, where the replies come as the publisher gave them; and what a publisher has after a message.
-use Rattle.std.specs.Prelude.{◌≡◌, ℕ, Bool, List, ◌++◌, Option}
+use Rattle.std.specs.Prelude.{◌≡◌, ◌⊎◌, ℕ, Bool, List, [], ◌∷◌, ◌++◌, Option}
+use Rattle.laws_clients.specs.Fits.{IsCutShort}
+use Rattle.laws_clients.specs.Wants.{AreWants, wants_of}
 use Rattle.laws_replies.specs.Laws.{SayTheSame}
 use Rattle.cli_words.specs.declared.command.Publishing.{Publishing}
 use Rattle.fragmenter.specs.declared.cutting.Cutting.{Cutting}
 use Rattle.lc_io.specs.Counts.{Rose}
 use Rattle.lc_io.specs.declared.file.File.{File}
+use Rattle.lc_model.specs.declared.page.PageName.{PageName}
 use Rattle.lc_model.specs.declared.query.Query.{Query}
 use Rattle.lc_world.specs.Link.{LinkSeen}
 use Rattle.page_client.specs.declared.outcome.Outcome.{Outcome}
 use Rattle.page_client.specs.declared.outcome.Outcome.TheVariants as outcomes
+use Rattle.page_client.specs.Shown.{Shown}
+use Rattle.page_client.specs.declared.want.Want.{Want}
+use Rattle.page_client.specs.declared.want.Want.TheVariants as wants
 use Rattle.publisher.specs.Held.{Held}
 use Rattle.publisher_spec.specs.Short.{IsShort}
+use Rattle.publisher_spec.specs.Side.{IsValidSide, Side}
 use Rattle.timetable.specs.Laws.{AreSame}
 use Rattle.timetable.specs.declared.timetable.Timetable.{Timetable}
 use Rattle.version_store.specs.Store.{Stored}
@@ -63,3 +70,26 @@ OnePublisher =
     (made : Timetable) (publishing : Publishing) (accepts : Bool) (file : Option File) (held other : Held Cutting) (line later : List ℕ)
     → PublishesAfter made publishing accepts file held line → PublishesAfter made publishing accepts file other later
     → (held ≡ other) × (line ≡ later)
+
+-- A valid side does not fail to have a list of wants for each question, at each of its versions. This is said by a double negation.
+abbrev pub NoWantsAreLacking : Type 0
+NoWantsAreLacking = (side : Side) (version : ℕ) (query : Query) → IsValidSide side → ((all : List Want) → AreWants side version query all → ⊥) → ⊥
+
+-- these wants are those of a question, and what a client was given stands in front of what it asked for in vain, and both in front of the rest
+pub record StandsInFront (side : Side) (version : ℕ) (query : Query) (given all : List Want) : Type 0 where
+  pub are_wants : AreWants side version query all
+  pub asked : Want
+  pub more : List Want
+  pub is : all ≡ given ++ asked ∷ more
+
+-- so who failed behind the time gate does not fail to have been given what stands in front of some wants, and nothing else
+abbrev pub NoFrontIsLacking : Type 0
+NoFrontIsLacking =
+    (side : Side) (s : Shown) (given : List Want) (version : ℕ) → IsValidSide side → IsCutShort side s given version
+    → ((all : List Want) → StandsInFront side version s.query given all → ⊥) → ⊥
+
+-- By that they stand in order: the time gate alone, or it and the stops document and then pages. Any other list is a near value, which is refused.
+abbrev pub AreGivenInOrder : Type 0
+AreGivenInOrder =
+    (side : Side) (s : Shown) (given : List Want) (version : ℕ) → IsValidSide side → IsCutShort side s given version
+    → (given ≡ wants.Gate ∷ []) ⊎ ((names : List PageName) × (given ≡ wants_of names))

@@ -1,7 +1,8 @@
-ghost use Rattle.cli_ask.specs.Laws.{OneOutput, OnePublisher};
+ghost use Rattle.cli_ask.specs.Laws.{AreGivenInOrder, NoFrontIsLacking, NoWantsAreLacking, OneOutput, OnePublisher};
 
 use laws_clients::one_answer;
 use lc_world::Link;
+use publisher::some_timetable;
 use version_store::one_outcome;
 
 /// What is printed of a question is one, but for the way of the journey, where the replies come as the publisher gave them.
@@ -17,4 +18,14 @@ pub fn one_publisher()
     ensures { OnePublisher }
 {
     one_outcome();
+}
+
+/// A valid side does not fail to have a list of wants for each question. So what is said of all wants of a client that failed is said of something:
+/// it was given what stands in front of some, in the order of the time gate, the stops document and pages.
+pub fn some_wants()
+    ensures wants { NoWantsAreLacking }
+    ensures front { NoFrontIsLacking }
+    ensures in_order { AreGivenInOrder }
+{
+    some_timetable();
 }

@@ -13,6 +13,6 @@ mod question;
 pub use admission::{MessageFault, give};
 pub use block::push_client;
 pub use end::ClientEnd;
-pub use laws::{one_output, one_publisher};
+pub use laws::{one_output, one_publisher, some_wants};
 pub use publishing::{copy_of, publisher_of, serving_publisher};
 pub use question::{Asked, ask};
