@@ -1,7 +1,8 @@
-ghost use Rattle.std.specs.Prelude.{◌≡◌, [], ◌∷◌, ◌++◌, None, Some, IfOk, OnErr, OnOk, IsErrOf, IsTrue, slice_get};
-ghost use Rattle.lc_io.specs.Counts.{HasCause};
+ghost use Rattle.std.specs.Prelude.{◌≡◌, ◌⊎◌, ◌↔◌, [], ◌∷◌, ◌++◌, Contains, None, Some, IfOk, OnErr, OnOk, IsErrOf, IsTrue, slice_get};
+ghost use Rattle.lc_io.specs.Counts.{HasCause, one_more};
 ghost use Rattle.lc_world.specs.Link.{Tells};
-ghost use Rattle.lc_world.specs.ListLink.{Fails, Gives, IsUsedUp, Keeps, entry_of};
+ghost use Rattle.lc_world.specs.ListLink.{Fails, Gives, IsListed, IsUsedUp, Keeps, with_call};
+ghost use Rattle.lc_world.specs.declared.entry.ToldReply.TheVariants.{Reply};
 ghost use Rattle.lc_world.specs.declared.link.LinkFail.TheVariants.{Failed, NoMemory as OutOfMemory};
 
 use crate::{Entry, Link, LinkFail, ToldReply};
@@ -9,11 +10,21 @@ use lc_model::{Bytes, NoMemory, Text};
 use std::alloc::Global;
 use std::marker::Model;
 
-/// A link that gives the replies of a list in order, whatever is asked, and fails after the last of them.
+/// Whether the call after so many is one of those that fail. Linear in their numbers.
+fn is_listed(fails: &[u64], calls: u64) -> bool
+    ensures { IsTrue result ↔ Contains fails.now (one_more calls) }
+{
+    let next = calls.saturating_add(1);
+    fails.contains(&next)
+}
+
+/// A link that gives the replies of a list in order, whatever is asked, and fails after the last of them. Some of its calls fail too.
 #[derive(Drop)]
 pub struct ListLink {
     replies: Vec<Bytes>,
+    fails: Vec<u64>,
     given: usize,
+    calls: u64,
     told: Vec<Entry>,
     faults: u64,
 }
@@ -23,17 +34,39 @@ impl Model for ListLink {
 
     ghost Value = { ListLinkState };
 
-    ghost view = { λ l. record { replies = l.replies.items; given = l.given; told = l.told.items; faults = l.faults } };
+    ghost view = { λ l. record {
+      replies = l.replies.items;
+      fails = l.fails.items;
+      given = l.given;
+      calls = l.calls;
+      told = l.told.items;
+      faults = l.faults;
+    } };
 }
 
 impl ListLink {
+    /// A link of which no call fails but for want of a reply.
     pub fn new(replies: Vec<Bytes>) -> Result<ListLink, NoMemory>
-        ensures { IfOk result (λ link. link ≡ record { replies = replies.items; given = 0; told = []; faults = 0 }) }
+        ensures { IfOk result (λ link. link ≡ record { replies = replies.items; fails = []; given = 0; calls = 0; told = []; faults = 0 }) }
     {
         let alloc = *replies.allocator();
+        ListLink::with_fails(alloc, replies, Vec::new(alloc))
+    }
+
+    /// A link of which the calls with these numbers fail, exchanges and those that hand on together, from 1. A call that runs out of
+    /// memory does not count.
+    pub fn with_fails(
+        alloc: Global,
+        replies: Vec<Bytes>,
+        fails: Vec<u64>,
+    ) -> Result<ListLink, NoMemory>
+        ensures { IfOk result (λ link. link ≡ record { replies = replies.items; fails = fails.items; given = 0; calls = 0; told = []; faults = 0 }) }
+    {
         Ok(ListLink {
             replies,
+            fails,
             given: 0,
+            calls: 0,
             told: Vec::new(alloc),
             faults: 0,
         })
@@ -59,7 +92,14 @@ impl ListLink {
         Ok(true)
     }
 
-    /// Tells an exchange. Linear in the request.
+    /// Whether the next call is one that fails. Linear in the numbers.
+    fn fails_now(&self) -> bool
+        ensures { IsTrue result ↔ IsListed self.now }
+    {
+        is_listed(self.fails.as_slice(), self.calls)
+    }
+
+    /// Counts a call and records it. Linear in the request.
     fn tell(
         &mut self,
         alloc: Global,
@@ -67,7 +107,7 @@ impl ListLink {
         request: &[u8],
         reply: ToldReply,
     ) -> Result<(), NoMemory>
-        ensures ok { OnOk result (self.new ≡ record self.old { told = self.old.told ++ entry_of authority.now request.now reply ∷ [] }) }
+        ensures ok { OnOk result (self.new ≡ with_call self.old authority.now request.now reply) }
         ensures err { OnErr result (self.new ≡ self.old) }
     {
         let entry = Entry {
@@ -76,7 +116,38 @@ impl ListLink {
             reply,
         };
         self.told.push(entry)?;
+        self.calls = self.calls.saturating_add(1);
         Ok(())
+    }
+
+    /// Records an exchange with this answer. Linear in it and in the request.
+    fn tell_answer(
+        &mut self,
+        alloc: Global,
+        authority: &str,
+        request: &[u8],
+        reply: &[u8],
+    ) -> Result<(), NoMemory>
+        ensures ok { OnOk result (self.new ≡ with_call self.old authority.now request.now (Reply reply.now)) }
+        ensures err { OnErr result (self.new ≡ self.old) }
+    {
+        let answer = Bytes::from_list(reply.to_vec(alloc)?);
+        self.tell(alloc, authority, request, ToldReply::Reply(answer))
+    }
+
+    /// Fails at a call, unless there is no memory to record it.
+    fn fail(&mut self, alloc: Global, authority: &str, request: &[u8]) -> LinkFail
+        ensures failed { result ≡ Failed → Fails self.old self.new authority.now request.now }
+        ensures no_memory { result ≡ OutOfMemory → self.new ≡ self.old }
+        ensures faults { HasCause self.old.faults self.new.faults (result ≡ Failed) }
+    {
+        match self.tell(alloc, authority, request, ToldReply::Failed) {
+            Ok(()) => {
+                self.faults = self.faults.saturating_add(1);
+                LinkFail::Failed
+            }
+            Err(NoMemory) => LinkFail::NoMemory,
+        }
     }
 
     /// Gives the next reply, or says that there is none. After running out of memory nothing has changed but `reply`.
@@ -94,8 +165,7 @@ impl ListLink {
         if !self.put_next(reply)? {
             return Ok(false);
         }
-        let given = Bytes::from_list(reply.as_slice().to_vec(alloc)?);
-        self.tell(alloc, authority, request, ToldReply::Reply(given))?;
+        self.tell_answer(alloc, authority, request, reply.as_slice())?;
         self.given = self.given.saturating_add(1);
         Ok(true)
     }
@@ -109,16 +179,19 @@ impl ListLink {
         reply: &mut Vec<u8>,
     ) -> Result<(), LinkFail>
         ensures gives { OnOk result (Gives self.old self.new authority.now request.now reply.new.items) }
-        ensures ended { IsErrOf result Failed → Fails self.old self.new authority.now request.now }
+        ensures not_listed { OnOk result (¬ IsListed self.old) }
+        ensures failed { IsErrOf result Failed → Fails self.old self.new authority.now request.now }
+        ensures cause { IsErrOf result Failed → IsListed self.old ⊎ IsUsedUp self.old }
         ensures no_memory { IsErrOf result OutOfMemory → self.new ≡ self.old }
         ensures faults { HasCause self.old.faults self.new.faults (IsErrOf result Failed) }
     {
+        if self.fails_now() {
+            return Err(self.fail(alloc, authority, request));
+        }
         if self.give_next(alloc, authority, request, reply)? {
             return Ok(());
         }
-        self.tell(alloc, authority, request, ToldReply::Failed)?;
-        self.faults = self.faults.saturating_add(1);
-        Err(LinkFail::Failed)
+        Err(self.fail(alloc, authority, request))
     }
 
     /// What `pass` does, with `reply` as it comes after an error.
@@ -128,17 +201,24 @@ impl ListLink {
         authority: &str,
         request: &[u8],
         reply: &mut Vec<u8>,
-    ) -> Result<(), NoMemory>
+    ) -> Result<(), LinkFail>
         ensures gives { OnOk result (¬ IsUsedUp self.old → Gives self.old self.new authority.now request.now reply.new.items) }
         ensures keeps { OnOk result (IsUsedUp self.old → Keeps self.old self.new authority.now request.now reply.old.items
             × (reply.new.items ≡ reply.old.items)) }
-        ensures no_memory { OnErr result (self.new ≡ self.old) }
+        ensures not_listed { OnOk result (¬ IsListed self.old) }
+        ensures failed { IsErrOf result Failed → Fails self.old self.new authority.now request.now }
+        ensures listed { IsErrOf result Failed → IsListed self.old }
+        ensures no_memory { IsErrOf result OutOfMemory → self.new ≡ self.old }
+        ensures faults { HasCause self.old.faults self.new.faults (IsErrOf result Failed) }
     {
+        if self.fails_now() {
+            return Err(self.fail(alloc, authority, request));
+        }
         if self.give_next(alloc, authority, request, reply)? {
             return Ok(());
         }
-        let answer = Bytes::from_list(reply.as_slice().to_vec(alloc)?);
-        self.tell(alloc, authority, request, ToldReply::Reply(answer))
+        self.tell_answer(alloc, authority, request, reply.as_slice())?;
+        Ok(())
     }
 }
 
@@ -146,7 +226,7 @@ impl Link for ListLink {
     ghost use Rattle.std.specs.Prelude.{◌≡◌, Some, None};
     ghost use Rattle.lc_world.specs.ListLink.{IsUsedUp};
 
-    /// It tells its exchanges with their replies, and no side.
+    /// It records its exchanges with their replies, and tells no side.
     ghost seen = { λ l. record {
       side = None;
       told = Some l.told;
@@ -164,7 +244,9 @@ impl Link for ListLink {
         reply: &mut Vec<u8>,
     ) -> Result<(), LinkFail>
         ensures gives { OnOk result (Gives self.old self.new authority.now request.now reply.new.items) }
-        ensures ended { IsErrOf result Failed → Fails self.old self.new authority.now request.now }
+        ensures not_listed { OnOk result (¬ IsListed self.old) }
+        ensures failed { IsErrOf result Failed → Fails self.old self.new authority.now request.now }
+        ensures cause { IsErrOf result Failed → IsListed self.old ⊎ IsUsedUp self.old }
         ensures no_memory { IsErrOf result OutOfMemory → self.new ≡ self.old }
         ensures clear { IsUsedUp self.old → IsUsedUp self.new }
         ensures told { Tells (Some self.old.told) (Some self.new.told) authority.now request.now reply.new.items result }
@@ -180,7 +262,7 @@ impl Link for ListLink {
         }
     }
 
-    /// Where no reply is left the answer is told, and stays as it is.
+    /// Where no reply is left the answer is recorded, and stays as it is.
     fn pass(
         &mut self,
         alloc: Global,
@@ -191,7 +273,10 @@ impl Link for ListLink {
         ensures gives { OnOk result (¬ IsUsedUp self.old → Gives self.old self.new authority.now request.now reply.new.items) }
         ensures keeps { OnOk result (IsUsedUp self.old → Keeps self.old self.new authority.now request.now reply.old.items
             × (reply.new.items ≡ reply.old.items)) }
-        ensures no_memory { OnErr result ((result ≡ Err LinkFail.NoMemory) × (self.new ≡ self.old)) }
+        ensures not_listed { OnOk result (¬ IsListed self.old) }
+        ensures failed { IsErrOf result Failed → Fails self.old self.new authority.now request.now }
+        ensures listed { IsErrOf result Failed → IsListed self.old }
+        ensures no_memory { IsErrOf result OutOfMemory → self.new ≡ self.old }
         ensures clear { IsUsedUp self.old → IsUsedUp self.new }
         ensures told { Tells (Some self.old.told) (Some self.new.told) authority.now request.now reply.new.items result }
         ensures empty { OnErr result (reply.new.items ≡ []) }
@@ -199,9 +284,9 @@ impl Link for ListLink {
     {
         match self.keep(alloc, authority, request, reply) {
             Ok(()) => Ok(()),
-            Err(_) => {
+            Err(fail) => {
                 reply.clear();
-                Err(LinkFail::NoMemory)
+                Err(fail)
             }
         }
     }

@@ -24,6 +24,41 @@ pub fn put_links(alloc: Global, text: &mut String) -> Result<(), Unmade> {
     put_exchanges(alloc, text, &mut link)
 }
 
+/// One reply, and the calls 1 and 3 fail. The reply is given by the call between these, and the last call leaves the answer.
+pub fn put_failing(alloc: Global, text: &mut String) -> Result<(), Unmade> {
+    let only = bytes(alloc, "one")?;
+    let replies = vec![in alloc; only]?;
+    let fails = vec![in alloc; 1u64, 3]?;
+    let mut link = ListLink::with_fails(alloc, replies, fails)?;
+    let mut reply = Vec::new(alloc);
+    put_failures(alloc, text, &mut link, &mut reply)
+}
+
+fn put_failures(
+    alloc: Global,
+    text: &mut String,
+    link: &mut ListLink,
+    reply: &mut Vec<u8>,
+) -> Result<(), Unmade> {
+    put_asked(alloc, text, link, "GET 1", reply)?;
+    put_asked(alloc, text, link, "GET 2", reply)?;
+    put_passed(alloc, text, link, "lc.example", "GET 3", reply)?;
+    put_answer(alloc, text, link, reply)
+}
+
+/// An answer that is handed on behind the failures, and all that is told.
+fn put_answer(
+    alloc: Global,
+    text: &mut String,
+    link: &mut ListLink,
+    reply: &mut Vec<u8>,
+) -> Result<(), Unmade> {
+    reply.push(b'!')?;
+    put_passed(alloc, text, link, "lc.example", "GET 4", reply)?;
+    put_number(text, "faults of the link", link.faults())?;
+    put_told(text, link.told())
+}
+
 fn put_exchanges(alloc: Global, text: &mut String, link: &mut ListLink) -> Result<(), Unmade> {
     match b"what was there".as_slice().to_vec(alloc) {
         Ok(mut reply) => put_replies(alloc, text, link, &mut reply),

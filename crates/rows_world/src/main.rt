@@ -17,5 +17,6 @@ fn main(rt: HostRuntime) -> ExitCode {
 
 fn put_cases(alloc: Global, text: &mut String) -> Result<(), Unmade> {
     links::put_links(alloc, text)?;
+    links::put_failing(alloc, text)?;
     cache::put_caches(alloc, text)
 }
