@@ -31,5 +31,6 @@ given seen home was now file line is same behind stops valid = record {
   honest = λ base honest. honest;
   quiet = λ base quiet. quiet;
   clear = λ clear. clear;
+  still = λ still. still;
   faults = refl;
 }

@@ -32,6 +32,8 @@ pub record IsExchange (base : BaseParts) (s : Shown) (before after : LinkSeen) (
   pub asks : Asks base (target_of base s.query (want_of s.phase)) (known_at s.query (want_of s.phase)) request
   pub honest : (under : BaseParts) (side : Side) → IsGet request → IsHonestWith before under side → Exchanges before after under side request (bytes_of got) (result_of got)
   pub clear : before.clear → after.clear
+  pub still : before.still → after.still
+  pub side : before.still → IsGet request → after.side ≡ before.side
   pub told : Tells before.told after.told base.authority request (bytes_of got) (result_of got)
   pub faults : HasCause before.faults after.faults (IsErrOf (result_of got) Failed)
 

@@ -32,6 +32,7 @@ pub record IsGiven (before after : LinkSeen) (file : File) (line : List ℕ) : T
   pub honest : (base : BaseParts) → before.honest base → after.honest base
   pub quiet : (base : BaseParts) → before.quiet base → after.quiet base
   pub clear : before.clear → after.clear
+  pub still : before.still → after.still
   pub faults : after.faults ≡ before.faults
 
 -- all this happened, one after the other, and these are the lines of the messages

@@ -40,6 +40,7 @@ impl Link for ClosedLink {
       honest = λ _. ⊥;
       quiet = λ _. ⊥;
       clear = Unit {0};
+      still = Unit {0};
       faults = c.faults;
     } };
 

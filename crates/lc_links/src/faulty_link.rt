@@ -71,6 +71,7 @@ impl<L: Link> Link for FaultyLink<L> {
       honest = (L.seen f.inner).honest;
       quiet = (L.seen f.inner).quiet;
       clear = (L.seen f.inner).clear;
+      still = (L.seen f.inner).still;
       faults = f.faults;
     } };
 
@@ -90,6 +91,8 @@ impl<L: Link> Link for FaultyLink<L> {
         ensures honest { (base : BaseParts) (side : Side) → IsGet request.now → IsHonestWith (L.seen self.old.inner) base side
             → Exchanges (L.seen self.old.inner) (L.seen self.new.inner) base side request.now reply.new.items result }
         ensures clear { (L.seen self.old.inner).clear → (L.seen self.new.inner).clear }
+        ensures still { (L.seen self.old.inner).still → (L.seen self.new.inner).still }
+        ensures side { (L.seen self.old.inner).still → IsGet request.now → (L.seen self.new.inner).side ≡ (L.seen self.old.inner).side }
         ensures told { Tells None None authority.now request.now reply.new.items result }
         ensures empty { OnErr result (reply.new.items ≡ []) }
         ensures faults { HasCause self.old.faults self.new.faults (IsErrOf result Failed) }
@@ -126,6 +129,7 @@ impl<L: Link> Link for FaultyLink<L> {
         ensures quiet { (base : BaseParts) → (L.seen self.old.inner).quiet base → (L.seen self.new.inner).quiet base }
         ensures answer { OnOk result ((L.seen self.old.inner).clear → reply.new.items ≡ reply.old.items) }
         ensures clear { (L.seen self.old.inner).clear → (L.seen self.new.inner).clear }
+        ensures still { (L.seen self.old.inner).still → (L.seen self.new.inner).still }
         ensures told { Tells None None authority.now request.now reply.new.items result }
         ensures empty { OnErr result (reply.new.items ≡ []) }
         ensures faults { HasCause self.old.faults self.new.faults (IsErrOf result Failed) }

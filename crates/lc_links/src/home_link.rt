@@ -56,13 +56,15 @@ impl<G: Fragmenter + Drop, L: Link> Link for HomeLink<G, L> {
     ghost use Rattle.std.specs.Prelude.{Some};
     ghost use Rattle.publisher.specs.Held.{side_of};
 
-    /// It tells the side of its publisher, and what the outer link tells of exchanges. It is honest where the outer link is clear.
+    /// It tells the side of its publisher, and what the outer link records of exchanges. It is honest where the outer link is clear, and its
+    /// side stays at a GET whatever the outer link does.
     ghost seen = { λ h. record {
       side = Some (side_of G.cuts_of h.local.publisher);
       told = (L.seen h.outer).told;
       honest = λ _. (L.seen h.outer).clear;
       quiet = λ _. (L.seen h.outer).clear;
       clear = (L.seen h.outer).clear;
+      still = Unit {0};
       faults = (L.seen h.outer).faults;
     } };
 

@@ -109,6 +109,7 @@ impl<G: Fragmenter + Drop> Link for LocalLink<G> {
       honest = λ _. Unit {0};
       quiet = λ _. Unit {0};
       clear = Unit {0};
+      still = Unit {0};
       faults = 0;
     } };
 
@@ -130,6 +131,7 @@ impl<G: Fragmenter + Drop> Link for LocalLink<G> {
             → IsHonest (Some (side_of G.cuts_of self.old.publisher)) (Unit {0}) base side
             → StaysHonest base side (Unit {0}) (Some (side_of G.cuts_of self.new.publisher)) (Unit {0}) (Unit {0})
             request.now reply.new.items result }
+        ensures side { IsGet request.now → side_of G.cuts_of self.new.publisher ≡ side_of G.cuts_of self.old.publisher }
         ensures told { Tells (Some self.old.told) (Some self.new.told) authority.now request.now reply.new.items result }
         ensures empty { OnErr result (reply.new.items ≡ []) }
         ensures faults { HasCause 0 0 (IsErrOf result Failed) }

@@ -14,13 +14,14 @@ use Rattle.lc_world.specs.declared.link.LinkFail.TheVariants.{Failed, NoMemory}
 
 -- The side at the other end, where the link tells it; the exchanges, where it tells them; under which bases it is honest, as far as
 -- its side does not say it, and under which its side also stays as it is; whether it leaves an answer that is handed on as it is;
--- and how often it has failed.
+-- whether a GET leaves its side as it is, whatever it replies; and how often it has failed.
 pub record LinkSeen : Type 1 where
   pub side : Option Side
   pub told : Option (List Entry)
   pub honest : BaseParts → Type 0
   pub quiet : BaseParts → Type 0
   pub clear : Type 0
+  pub still : Type 0
   pub faults : ℕ
 
 -- a link that tells this side and of which this is said is honest under the base with a side that stands there

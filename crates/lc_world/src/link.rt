@@ -41,6 +41,9 @@ pub trait Link {
         ensures honest { (base : BaseParts) (side : Side) → IsGet request.now → IsHonestWith (seen self.old) base side
             → Exchanges (seen self.old) (seen self.new) base side request.now reply.new.items result }
         ensures clear { (seen self.old).clear → (seen self.new).clear }
+        ensures still { (seen self.old).still → (seen self.new).still }
+        // Also where the link is not honest, and so whatever is replied.
+        ensures side { (seen self.old).still → IsGet request.now → (seen self.new).side ≡ (seen self.old).side }
         ensures told { Tells (seen self.old).told (seen self.new).told authority.now request.now reply.new.items result }
         ensures empty { OnErr result (reply.new.items ≡ []) }
         ensures faults { HasCause (seen self.old).faults (seen self.new).faults (IsErrOf result Failed) };
@@ -58,6 +61,7 @@ pub trait Link {
         ensures honest { (base : BaseParts) → (seen self.old).honest base → (seen self.new).honest base }
         ensures quiet { (base : BaseParts) → (seen self.old).quiet base → (seen self.new).quiet base }
         ensures clear { (seen self.old).clear → (seen self.new).clear }
+        ensures still { (seen self.old).still → (seen self.new).still }
         ensures answer { OnOk result ((seen self.old).clear → reply.new.items ≡ reply.old.items) }
         ensures told { Tells (seen self.old).told (seen self.new).told authority.now request.now reply.new.items result }
         ensures empty { OnErr result (reply.new.items ≡ []) }

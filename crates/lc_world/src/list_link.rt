@@ -233,6 +233,7 @@ impl Link for ListLink {
       honest = λ _. ⊥;
       quiet = λ _. ⊥;
       clear = IsUsedUp l;
+      still = Unit {0};
       faults = l.faults;
     } };
 

@@ -13,6 +13,8 @@ returns-in-Ok-clause-replied g c =
         asks = c.in_ok-request.ensures;
         honest = given.honest;
         clear = given.clear;
+        still = given.still;
+        side = given.side;
         told = given.told;
         faults = given.faults;
       };
@@ -30,6 +32,8 @@ returns-in-Err-Failed-clause-failed g c =
         asks = c.in_ok-request.ensures;
         honest = given.honest;
         clear = given.clear;
+        still = given.still;
+        side = given.side;
         told = given.told;
         faults = given.faults;
       };
