@@ -9,7 +9,7 @@ use Rattle.lc_links.specs.HomeLink.{HomeLinkState}
 use Rattle.lc_world.specs.Link.{LinkSeen}
 use Rattle.publisher.specs.Held.{Held, side_of}
 use Rattle.publisher_spec.specs.Side.{IsValidSide}
-use Rattle.laws_replay.specs.Laws.{IsQuietAt, PlaysCaused, PlaysRight}
+use Rattle.laws_replay.specs.Laws.{IsQuietAt, IsStillAt, PlaysCaused, PlaysHeard, PlaysRight}
 use Rattle.laws_replay.specs.Events.{TurnsAreOfClients}
 use Rattle.laws_replay.specs.Replayed.{IsReplayed}
 use Rattle.laws_replay.specs.declared.event.Event.{Event}
@@ -17,10 +17,14 @@ use Rattle.timetable.specs.declared.timetable.Timetable.{Timetable}
 use Rattle.cli_replay.specs.Course.{IsPlayed}
 use Rattle.cli_replay.specs.Home.{home_seen}
 
-module _ {L : Type 0} (seen : L → LinkSeen) (plays_right : PlaysRight (home_seen seen)) (plays_caused : PlaysCaused (home_seen seen)) (made : Timetable) (publishing : Publishing)
+module _ {L : Type 0} (seen : L → LinkSeen) (plays_heard : PlaysHeard (home_seen seen)) (plays_right : PlaysRight (home_seen seen)) (plays_caused : PlaysCaused (home_seen seen)) (made : Timetable) (publishing : Publishing)
     (all : List Event) (cache : ℕ) (before after : HomeLinkState Cutting L) (text : List ℕ) (ends : List ClientEnd) (turns : TurnsAreOfClients all)
     (held : before.local.publisher ≡ held_with made publishing (store_of made publishing.base_moment)) (valid : IsValidSide (side_with made publishing (store_of made publishing.base_moment)))
     (x : IsPlayed (home_seen seen) publishing.base all cache before after text ends) where
+  -- a link at home keeps its side whatever the outer one is
+  still_at : IsStillAt made publishing (home_seen seen before)
+  still_at = record { tells = ap (λ (h : Held Cutting). Some (side_of chosen_cuts h)) held; still = tt }
+
   -- a link at home is quiet where the outer one is clear
   quiet_at : (seen before.outer).clear → IsQuietAt made publishing (home_seen seen before)
   quiet_at clear = record {
@@ -35,7 +39,7 @@ module _ {L : Type 0} (seen : L → LinkSeen) (plays_right : PlaysRight (home_se
       let caused = plays_caused publishing.base all cache x.played x.ended before x.behind after x.lines ends turns x.plays x.rounds x.have_ended in
       record {
         lines = x.lines;
-        have_lines = caused.have_lines;
+        heard = plays_heard made publishing all cache x.played before x.behind x.lines still_at x.plays;
         text_is = x.text_is;
         one_each = caused.one_each;
         caused = caused.caused;

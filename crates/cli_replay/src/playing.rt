@@ -9,7 +9,7 @@ use cli_ask::{ClientEnd, copy_of, publisher_of};
 use cli_words::Publishing;
 use connection_uri::Base;
 use fragmenter::Cutting;
-use laws_replay::{Event, courses_are_caused, courses_are_right};
+use laws_replay::{Event, courses_are_caused, courses_are_heard, courses_are_right};
 use lc_links::{HomeLink, LocalLink};
 use lc_model::NoMemory;
 use lc_world::Link;
@@ -46,6 +46,7 @@ pub fn replay<L: Link>(
     requires turns { TurnsAreOfClients events.items }
     ensures { IfOk result.0 (λ replayed. IsReplayed made publishing events.items cache (L.seen link) (L.seen result.1) replayed.text.items replayed.ends.items) }
 {
+    courses_are_heard::<HomeLink<Cutting, L>>();
     courses_are_right::<HomeLink<Cutting, L>>();
     courses_are_caused::<HomeLink<Cutting, L>>();
     match prepare(alloc, made, publishing) {

@@ -1,7 +1,7 @@
 pub mod AloneLemmas
 mod AskedLemmas
 pub mod BeginLemmas
-mod HonestLemmas
+pub mod HonestLemmas
 mod MemberLemmas
 pub mod NamedLemmas
 mod NamesLemmas

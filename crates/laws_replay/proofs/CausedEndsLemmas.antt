@@ -29,7 +29,6 @@ use Rattle.laws_replay.specs.Events.{questions_in, turns_in}
 use Rattle.laws_replay.specs.History.{AreMetIn}
 use Rattle.laws_replay.specs.Played.{HasEndedSo, HaveEndedSo, Plays}
 use Rattle.laws_replay.specs.Turns.{counted}
-use Rattle.laws_replay.specs.Versions.{HaveLines}
 use Rattle.laws_replay.specs.declared.event.Event.{Event}
 use Rattle.laws_replay.specs.declared.event.Event.TheVariants as events
 use Rattle.laws_replay.specs.Laws.{PlaysCaused}
@@ -37,14 +36,6 @@ use Rattle.laws_replay.specs.Rounds.{rounds_along}
 use Rattle.laws_replay.proofs.CausedCourseLemmas.{AreFromOne, HadRounds, Played, are_played, had_rounds}
 use Rattle.laws_replay.proofs.EventLemmas.{AreClients, turns_of_clients}
 use Rattle.laws_replay.proofs.HistoryLemmas.{met_in-append}
-
--- each message has its line
-have_lines : {X : Type 0} (seen : X → LinkSeen) (all : List Event) (old new : ConvoyState) (before after : X) (lines : List ℕ) → Plays seen all old new before after lines → HaveLines all lines
-have_lines seen [] old new before after lines (same, same_link, none) = none
-have_lines seen (events.Ask query ∷ more) old new before after lines (between, adds, plays) = have_lines seen more between new before after lines plays
-have_lines seen (events.Message message ∷ more) old new before after lines (link, line, rest, given, plays, is) =
-    (given.held.store, given.store, line, rest, given.behind, have_lines seen more old new link after rest plays, is)
-have_lines seen (events.Turn client ∷ more) old new before after lines (between, link, turn, step, plays) = have_lines seen more between new link after lines plays
 
 -- each client has its end
 one_end_each : (members : List Member) (ends : List ClientEnd) → HaveEndedSo members ends → length ends ≡ length members
@@ -136,7 +127,6 @@ courses_caused seen base all cache played ended start behind after lines ends tu
     had_rounds seen base (seen start) (questions_in all) (length played.members) played ended behind after p.more p.so rounds in
     let met : List Met = p.more ++ r.more in
     record {
-      have_lines = have_lines seen all (begun base cache) played start behind lines plays;
       one_each = one_each base (questions_in all) (seen start) (seen after) ended met ends r.so have;
       caused = record {
         met = met;

@@ -46,7 +46,7 @@ use Rattle.laws_replay.specs.declared.message.Message.{Message}
 
 -- messages leave the stops of a store
 
-stops_behind : (file : File) (old new : Stored) (line : List ℕ) → IsBehind (Some file) old new line → new.stops ≡ old.stops
+pub stops_behind : (file : File) (old new : Stored) (line : List ℕ) → IsBehind (Some file) old new line → new.stops ≡ old.stops
 stops_behind file old new line (inl admitted) = ap (λ (store : Stored). store.stops) admitted.admits.appended
 stops_behind file old new line (inr passed) = ap (λ (store : Stored). store.stops) passed.same
 

@@ -22,7 +22,7 @@ use Rattle.laws_replay.specs.History.{AreMetIn}
 use Rattle.laws_replay.specs.Played.{HaveEndedSo, Plays}
 use Rattle.laws_replay.specs.Right.{ArePlayedRight}
 use Rattle.laws_replay.specs.Turns.{order_of}
-use Rattle.laws_replay.specs.Versions.{AreShort, HaveLines}
+use Rattle.laws_replay.specs.Versions.{AreHeard, AreShort}
 use Rattle.laws_replay.specs.declared.event.Event.{Event}
 use Rattle.laws_replay.specs.Rounds.{all_rounds}
 
@@ -42,10 +42,9 @@ PlaysRight {X} seen =
     → HaveEndedSo ended.members ends → AreMetIn (order_of all) (all_rounds seen all (begun publishing.base cache) played ended start behind after lines plays rounds) met
     → ArePlayedRight made publishing all cache (seen start).told (seen after).told (seen start).faults (seen after).faults lines ends met
 
--- Each message has its line. There is one end for each question, which has its cause, by what was met in these rounds, and can be printed. A
--- clear link is clear still, and its count has not fallen.
-pub record ArePlayedCaused (base : BaseParts) (all : List Event) (before after : LinkSeen) (lines : List ℕ) (ends : List ClientEnd) (rounds : List Round) : Type 0 where
-  pub have_lines : HaveLines all lines
+-- There is one end for each question, which has its cause, by what was met in these rounds, and can be printed. A clear link is clear still, and
+-- its count has not fallen.
+pub record ArePlayedCaused (base : BaseParts) (all : List Event) (before after : LinkSeen) (ends : List ClientEnd) (rounds : List Round) : Type 0 where
   pub one_each : length ends ≡ length (questions_in all)
   pub caused : AreCaused base all before.told after.told before.faults after.faults ends
   pub met_in : AreMetIn (order_of all) rounds caused.met
@@ -59,7 +58,22 @@ PlaysCaused {X} seen =
     (base : BaseParts) (all : List Event) (cache : ℕ) (played ended : ConvoyState) (start behind after : X) (lines : List ℕ) (ends : List ClientEnd)
     → TurnsAreOfClients all → (plays : Plays seen all (begun base cache) played start behind lines) → (rounds : Rounds seen (length played.members) played ended behind after)
     → HaveEndedSo ended.members ends
-    → ArePlayedCaused base all (seen start) (seen after) lines ends (all_rounds seen all (begun base cache) played ended start behind after lines plays rounds)
+    → ArePlayedCaused base all (seen start) (seen after) ends (all_rounds seen all (begun base cache) played ended start behind after lines plays rounds)
+
+-- the link has that publisher at its other end, whose side stays when a client asks it
+pub record IsStillAt (made : Timetable) (publishing : Publishing) (link : LinkSeen) : Type 0 where
+  pub tells : link.side ≡ Some (side_with made publishing (store_of made publishing.base_moment))
+  pub still : link.still
+
+-- whatever replies came over such a link, the publisher heard the messages of the course one after the other, and these are their lines
+abbrev pub PlaysHeard : {X : Type 0} → (X → LinkSeen) → Type 0
+PlaysHeard {X} seen =
+    (made : Timetable) (publishing : Publishing) (all : List Event) (cache : ℕ) (played : ConvoyState) (start behind : X) (lines : List ℕ)
+    → IsStillAt made publishing (seen start) → Plays seen all (begun publishing.base cache) played start behind lines → AreHeard made publishing all lines
+
+-- the lines of the messages are one text
+abbrev pub OneHearing : Type 0
+OneHearing = (made : Timetable) (publishing : Publishing) (all : List Event) (lines other : List ℕ) → AreHeard made publishing all lines → AreHeard made publishing all other → lines ≡ other
 
 -- Over a clear link an exchange that failed ended its client, and no other, with the counts of the link before and behind it.
 abbrev pub FaultsAreOwn : Type 0

@@ -8,7 +8,7 @@ use Rattle.cli_ask.specs.declared.end.ClientEnd.{ClientEnd}
 use Rattle.laws_replay.specs.Caused.{AreCaused}
 use Rattle.laws_replay.specs.Events.{questions_in}
 use Rattle.laws_replay.specs.Right.{ArePlayedRight}
-use Rattle.laws_replay.specs.Versions.{AreShort, HaveLines}
+use Rattle.laws_replay.specs.Versions.{AreHeard, AreShort}
 use Rattle.laws_replay.specs.declared.event.Event.{Event}
 
 -- the lines of client k, and of those behind it
@@ -17,11 +17,11 @@ clients_text_of k [] = []
 clients_text_of k (end ∷ ends) = client_text_of k end ++ clients_text_of (k + 1) ends
 
 -- The course was played to a publisher of the timetable, over the link, with a cache of so many pages. The text is the lines of the messages,
--- and then those of the clients, each of which has ended by the replies that it got. Where the link is clear and the publisher's texts fit into
--- replies, the course was played rightly by what the clients met.
+-- which the publisher heard one after the other whatever the link is, and then those of the clients, each of which has ended by the replies
+-- that it got. Where the link is clear and the publisher's texts fit into replies, the course was played rightly by what the clients met.
 pub record IsReplayed (made : Timetable) (publishing : Publishing) (all : List Event) (cache : ℕ) (before after : LinkSeen) (text : List ℕ) (ends : List ClientEnd) : Type 0 where
   pub lines : List ℕ
-  pub have_lines : HaveLines all lines
+  pub heard : AreHeard made publishing all lines
   pub text_is : text ≡ lines ++ clients_text_of 1 ends
   pub one_each : length ends ≡ length (questions_in all)
   pub caused : AreCaused publishing.base all before.told after.told before.faults after.faults ends

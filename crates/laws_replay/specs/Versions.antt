@@ -21,13 +21,10 @@ HasHeard (events.Message message ∷ more) old new lines =
     (between : Stored) × (line : List ℕ) × (rest : List ℕ) × IsBehind (Some message.file) old between line × HasHeard more between new rest × (lines ≡ line ++ rest)
 HasHeard (events.Turn client ∷ more) old new lines = HasHeard more old new lines
 
--- each message has a line, by some store
-abbrev pub HaveLines : List Event → List ℕ → Type 0
-HaveLines [] lines = lines ≡ []
-HaveLines (events.Ask query ∷ more) lines = HaveLines more lines
-HaveLines (events.Message message ∷ more) lines =
-    (old : Stored) × (new : Stored) × (line : List ℕ) × (rest : List ℕ) × IsBehind (Some message.file) old new line × HaveLines more rest × (lines ≡ line ++ rest)
-HaveLines (events.Turn client ∷ more) lines = HaveLines more lines
+-- the messages of a course, heard by a publisher of the timetable that had heard nothing, have these lines
+pub record AreHeard (made : Timetable) (publishing : Publishing) (all : List Event) (lines : List ℕ) : Type 0 where
+  pub store : Stored
+  pub heard : HasHeard all (store_of made publishing.base_moment) store lines
 
 -- The version of a client of the question that was given this: the one that it means by what was heard before its first turn, or by all
 -- messages where it has none; and none where it was given nothing.

@@ -1,4 +1,4 @@
-ghost use Rattle.laws_replay.specs.Laws.{FaultsAreOwn, PlaysCaused, PlaysRight};
+ghost use Rattle.laws_replay.specs.Laws.{FaultsAreOwn, OneHearing, PlaysCaused, PlaysHeard, PlaysRight};
 ghost use Rattle.laws_replay.specs.OneCourse.{OneCourse};
 
 use laws_clients::{one_answer, steps_keep_agreement};
@@ -14,6 +14,18 @@ pub fn courses_are_right<L: Link>()
     steps_keep_agreement();
     agreement_begins();
     turns_keep_agreement::<L>();
+}
+
+/// Whatever a link replies whose side stays at a GET, the publisher behind it heard the messages of a course one after the other.
+pub fn courses_are_heard<L: Link>()
+    ensures { PlaysHeard L.seen }
+{}
+
+/// So the lines of the messages are one, whatever the link is and however many pages are kept: neither changes what was heard.
+pub fn one_hearing()
+    ensures { OneHearing }
+{
+    one_outcome();
 }
 
 /// Whatever the link is, each client of a course ended with a cause, and so that it can be printed.

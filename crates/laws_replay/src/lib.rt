@@ -7,5 +7,8 @@ mod laws;
 mod message;
 
 pub use event::Event;
-pub use laws::{courses_are_caused, courses_are_right, faults_are_own, one_course};
+pub use laws::{
+    courses_are_caused, courses_are_heard, courses_are_right, faults_are_own, one_course,
+    one_hearing,
+};
 pub use message::{Message, test_message};

@@ -15,5 +15,5 @@ returns-in-Ok g c =
     IfOk-weaker c.play_out-replayed.result _ _ (λ replayed x.
     let played = subst (λ (base : BaseParts). IsPlayed (home_seen g.L.Link.seen) base c.args.events.items c.args.cache c.new-home.result c.play_out-replayed.new.home replayed.text.items replayed.ends.items)
     c.in-Ok.ensures.base x in
-    replayed_over g.L.Link.seen c.courses_are_right.ensures c.courses_are_caused.ensures c.args.made c.args.publishing c.args.events.items c.args.cache c.new-home.result c.play_out-replayed.new.home
+    replayed_over g.L.Link.seen c.courses_are_heard.ensures c.courses_are_right.ensures c.courses_are_caused.ensures c.args.made c.args.publishing c.args.events.items c.args.cache c.new-home.result c.play_out-replayed.new.home
     replayed.text.items replayed.ends.items c.requires.turns held c.in-Ok.ensures.valid played c.args.link c.into_outer.result outer c.into_outer.ensures) c.play_out-replayed.ensures
