@@ -159,4 +159,5 @@ module _ (base : BaseParts) (query : Query) (new : ConvoyState) (before after : 
         asks = asked_for side query member alone.given alone.asked end.outcome (sym outcome) alone.exact;
         exchanges = exchanges ∙ alone.count;
         tells = alone.told;
+        replied = alone.replied;
       }

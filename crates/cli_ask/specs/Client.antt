@@ -5,6 +5,7 @@ use Rattle.laws_clients.specs.Fits.{HasEnded}
 use Rattle.laws_replies.specs.Run.{HasAsked}
 use Rattle.connection_uri.specs.Base.{BaseParts}
 use Rattle.laws_convoys.specs.OneClient.{IsNext, version_of}
+use Rattle.laws_convoys.specs.Replies.{TellsReplies}
 use Rattle.laws_convoys.specs.Requests.{TellsAsked}
 use Rattle.lc_model.specs.declared.query.Query.{Query}
 use Rattle.lc_world.specs.Link.{LinkSeen}
@@ -41,7 +42,8 @@ AsksFor side query given asked (outcomes.PeerWrong reply fault) = asked ≡ give
 
 -- It was given exactly its wants: the gate, the stops document and the needed pages of the version that is meant by its known
 -- moment. What it found is a best journey by the timetable of that version, and where it found none there is none; a refusal was
--- deserved, and no reply failed a test. Where an exchange failed it was given the wants in front of that one.
+-- deserved, and no reply failed a test. Where an exchange failed it was given the wants in front of that one. A link that records replies
+-- has recorded those of the side.
 pub record EndsRight (side : Side) (base : BaseParts) (query : Query) (told now_told : Option (List Entry)) (end : ClientEnd) : Type 0 where
   pub given : List Want
   pub ended : HasEnded side (shown_of query end) given (Some end.outcome)
@@ -50,3 +52,4 @@ pub record EndsRight (side : Side) (base : BaseParts) (query : Query) (told now_
   pub asks : AsksFor side query given asked end.outcome
   pub exchanges : end.exchanges ≡ length asked
   pub tells : TellsAsked told now_told base query asked
+  pub replied : TellsReplies side told now_told

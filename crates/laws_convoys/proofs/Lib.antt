@@ -8,6 +8,7 @@ mod NamesLemmas
 mod NoFaultLemmas
 pub mod OneClientLemmas
 pub mod PlaceLemmas
+pub mod RepliesLemmas
 mod RequestLemmas
 pub mod RoundLemmas
 pub mod RoundsLemmas

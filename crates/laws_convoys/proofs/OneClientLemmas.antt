@@ -36,6 +36,7 @@ use Rattle.laws_convoys.specs.Rounds.{round_at}
 use Rattle.laws_convoys.proofs.AloneLemmas.{BeginsAtGate, is_next, no_fault_yet, page_not_given, version_is}
 use Rattle.laws_convoys.proofs.BeginLemmas.{added_agrees, none_agrees}
 use Rattle.laws_convoys.proofs.NamesLemmas.{were_wanted}
+use Rattle.laws_convoys.proofs.RepliesLemmas.{turns_replied}
 use Rattle.laws_convoys.proofs.TurnLemmas.{honest_still, nothing_yet, nothing_yet_is, one_at, one_turn_more, one_turn_more_is, turn_agrees}
 
 -- exactly what was given was asked for, or one more where the link failed
@@ -276,6 +277,7 @@ alone_ends seen side query start new before after only quiet is none begins none
       exact = s.exact;
       count = a.gone.count ∙ ap (λ (n : ℕ). n + length a.asked) no_exchange ∙ none_before (length a.asked);
       told = subst (λ (q : Query). TellsAsked (seen before).told (seen after).told start.base q a.asked) query_is a.gone.told;
+      replied = (turns_replied seen start.base side 1 ends.steps start new before after refl quiet ends.turns).replied.tells;
       fault = λ low high some.
           fault_came begins.refusal (shown a.was.client).outcome (shown a.is.client).outcome low high (RoseWithin (seen before).faults (seen after).faults low high) first a.gone.moved.outcome
           (λ had. a.gone.moved.fault low high had some) some;

@@ -3,6 +3,7 @@ pub mod Laws
 pub mod Leaves
 pub mod Names
 pub mod OneClient
+pub mod Replies
 pub mod Requests
 pub mod Rounds
 pub mod Worked

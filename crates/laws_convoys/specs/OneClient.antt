@@ -15,6 +15,7 @@ use Rattle.convoy.specs.Finish.{HasOutcome, Rounds}
 use Rattle.convoy.specs.State.{Adds, ConvoyState, begun}
 use Rattle.convoy.specs.declared.member.Member.{Member}
 use Rattle.laws_convoys.specs.Leaves.{HasFault, RoseWithin}
+use Rattle.laws_convoys.specs.Replies.{TellsReplies}
 use Rattle.laws_convoys.specs.Requests.{TellsAsked}
 
 -- the version of a client that was given this: none where it was given nothing, and else the one that its question means
@@ -41,7 +42,7 @@ pub record AskedOneMore (side : Side) (query : Query) (member : Member) (given a
 
 -- What one client alone comes to over a quiet link with this side: it agrees with the side, and was given these wants; it has its outcome,
 -- and the version that its question means; what was asked is what it was given, and the one that failed; each exchange is counted, and told
--- where the link tells exchanges; and the link is as it was but for that.
+-- where the link tells exchanges, with the side's own reply; and the link is as it was but for that.
 pub record IsAlone (side : Side) (base : BaseParts) (query : Query) (new : ConvoyState) (before after : LinkSeen) : Type 0 where
   pub member : Member
   pub only : new.members ≡ member ∷ []
@@ -54,6 +55,7 @@ pub record IsAlone (side : Side) (base : BaseParts) (query : Query) (new : Convo
   pub exact : AskedAll member given asked ⊎ AskedOneMore side query member given asked
   pub count : member.exchanges ≡ length asked
   pub told : TellsAsked before.told after.told base query asked
+  pub replied : TellsReplies side before.told after.told
   pub fault : (low high : ℕ) → (shown member.client).outcome ≡ Some (LinkFault low high) → RoseWithin before.faults after.faults low high
   pub quiet : IsQuietWith after base side
   pub clear : before.clear → after.clear

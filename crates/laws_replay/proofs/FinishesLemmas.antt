@@ -29,6 +29,7 @@ use Rattle.timetable.specs.declared.timetable.Timetable.{Timetable}
 use Rattle.laws_replay.specs.Events.{questions_in, turns_in}
 use Rattle.laws_replay.specs.History.{AreMetIn}
 use Rattle.laws_replay.specs.Played.{HasEndedSo, HaveEndedSo}
+use Rattle.laws_replay.specs.Replied.{TellsOwn}
 use Rattle.laws_replay.specs.Right.{ArePlayedRight, EndsSo}
 use Rattle.laws_replay.specs.Turns.{counted, order_of, requests_in, rounds_of}
 use Rattle.laws_replay.specs.declared.event.Event.{Event}
@@ -57,7 +58,7 @@ end_at (member ∷ members) (first ∷ ends) (suc place) end so has =
 module _ (made : Timetable) (publishing : Publishing) (cache : ℕ) (all : List Event) (played ended : ConvoyState) (start behind after : LinkSeen) (lines : List ℕ) (ends : List ClientEnd)
     (met : List Met) (front rest : List Round) (p : IsPlayedTo made publishing cache all played start behind lines front)
     (r : RoundsAgree (side_with made publishing p.store) played ended p.given (length played.members) behind after rest) (have_ended : HaveEndedSo ended.members ends)
-    (met_in : AreMetIn (order_of all) (front ++ rest) met) where
+    (met_in : AreMetIn (order_of all) (front ++ rest) met) (replied : TellsOwn made publishing all (front ++ rest) start.told after.told) where
   abbrev side : Side
   side = side_with made publishing p.store
 
@@ -137,6 +138,7 @@ module _ (made : Timetable) (publishing : Publishing) (cache : ℕ) (all : List 
     one_each = one_each;
     by_names = by_names;
     tells = tells;
+    replied = replied;
     rose = rose;
     met_in = met_in;
     clients = clients;
@@ -147,9 +149,10 @@ pub finishes :
     {X : Type 0} (seen : X → LinkSeen) (made : Timetable) (publishing : Publishing) (cache : ℕ) (all : List Event) (played ended : ConvoyState) (start : LinkSeen) (behind after : X) (lines : List ℕ)
     (ends : List ClientEnd) (met : List Met) (front : List Round) → IsPlayedTo made publishing cache all played start (seen behind) lines front →
     (rounds : Rounds seen (length played.members) played ended behind after) → HaveEndedSo ended.members ends →
-    AreMetIn (order_of all) (front ++ rounds_up_to seen (length played.members) played ended behind after rounds) met → RoundsKeepAgreement seen →
+    AreMetIn (order_of all) (front ++ rounds_up_to seen (length played.members) played ended behind after rounds) met →
+    TellsOwn made publishing all (front ++ rounds_up_to seen (length played.members) played ended behind after rounds) start.told (seen after).told → RoundsKeepAgreement seen →
     ArePlayedRight made publishing all cache start.told (seen after).told start.faults (seen after).faults lines ends met
-finishes seen made publishing cache all played ended start behind after lines ends met front p rounds have_ended met_in keeps =
+finishes seen made publishing cache all played ended start behind after lines ends met front p rounds have_ended met_in replied keeps =
     let honest = honest_still publishing.base played.base (side_with made publishing p.store) (seen behind) p.base p.quiet.as_honest in
     rounds_finish made publishing cache all played ended start (seen behind) (seen after) lines ends met front (rounds_up_to seen (length played.members) played ended behind after rounds) p
-    (keeps (side_with made publishing p.store) played ended p.given (length played.members) behind after honest p.fits rounds) have_ended met_in
+    (keeps (side_with made publishing p.store) played ended p.given (length played.members) behind after honest p.fits rounds) have_ended met_in replied

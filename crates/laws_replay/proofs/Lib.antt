@@ -15,5 +15,6 @@ mod OneHeardLemmas
 pub mod OneRoundsLemmas
 pub mod PlayedTo
 mod PlaysLemmas
+mod RepliedLemmas
 pub mod TurnsClientLemmas
 pub mod TurnsLemmas

@@ -25,9 +25,11 @@ use Rattle.laws_replay.proofs.BeginsLemmas.{asks, begins}
 use Rattle.laws_replay.proofs.EventLemmas.{turns_in_front}
 use Rattle.laws_replay.proofs.HearsLemmas.{hears}
 use Rattle.laws_replay.proofs.PlayedTo.{IsPlayedTo}
+use Rattle.laws_replay.proofs.RepliedLemmas.{tells_own}
 use Rattle.laws_replay.specs.Events.{TurnsAreOfClients, questions_in}
 use Rattle.laws_replay.specs.History.{AreMetIn}
 use Rattle.laws_replay.specs.Played.{HaveEndedSo, Plays}
+use Rattle.laws_replay.specs.Replied.{TellsOwn}
 use Rattle.laws_replay.specs.Right.{ArePlayedRight}
 use Rattle.laws_replay.specs.Turns.{order_of}
 use Rattle.laws_replay.specs.Versions.{AreShort, HasHeard}
@@ -98,6 +100,7 @@ FinishesRight {X} seen =
     (front : List Round) → TurnsAreOfClients all → IsPlayedTo made publishing cache all played (seen start) (seen behind) lines front
     → (rounds : Rounds seen (length played.members) played ended behind after) → HaveEndedSo ended.members ends
     → AreMetIn (order_of all) (front ++ rounds_up_to seen (length played.members) played ended behind after rounds) met
+    → TellsOwn made publishing all (front ++ rounds_up_to seen (length played.members) played ended behind after rounds) (seen start).told (seen after).told
     → ArePlayedRight made publishing all cache (seen start).told (seen after).told (seen start).faults (seen after).faults lines ends met
 
 pub plays_right : {X : Type 0} (seen : X → LinkSeen) → NoneAgrees → AddedAgrees → LaterAgrees → WantsStay
@@ -105,3 +108,4 @@ pub plays_right : {X : Type 0} (seen : X → LinkSeen) → NoneAgrees → AddedA
 plays_right seen none added later wants_stay go_on finishes made publishing all cache played ended start behind after lines ends met turns quiet short course rounds have_ended met_in =
     finishes made publishing all cache played ended start behind after lines ends met (rounds_along seen all (begun publishing.base cache) played start behind lines course) turns
     (plays seen made publishing cache start added later wants_stay (go_on made publishing cache start) all played behind lines none turns quiet short course) rounds have_ended met_in
+    (tells_own seen made publishing all cache played ended start behind after lines quiet short course rounds)

@@ -6,6 +6,7 @@ pub mod Message
 pub mod OneCourse
 pub mod Played
 pub mod Replayed
+pub mod Replied
 pub mod Right
 pub mod Rounds
 pub mod Turns

@@ -21,6 +21,7 @@ use Rattle.cli_ask.specs.Publishing.{side_with, store_of}
 use Rattle.cli_ask.specs.declared.end.ClientEnd.{ClientEnd}
 use Rattle.laws_replay.specs.Events.{questions_in}
 use Rattle.laws_replay.specs.History.{AreMetIn}
+use Rattle.laws_replay.specs.Replied.{TellsOwn}
 use Rattle.laws_replay.specs.Turns.{EndByFailure, TakeOneEach, asked_in, failed_in, given_in, order_of, requests_in, rounds_of}
 use Rattle.laws_replay.specs.Versions.{HasHeard, IsMeant}
 use Rattle.laws_replay.specs.declared.event.Event.{Event}
@@ -52,8 +53,8 @@ pub record EndsSo (made : Timetable) (publishing : Publishing) (all : List Event
   pub failed : FailsWith side query end.version (given_in rounds) (failed_in rounds) end.outcome
 
 -- The course was played rightly: the lines are those of its messages; in each turn the names of the pages that are kept tell what was asked
--- for; that is told where the link tells exchanges, and the count of its faults rose by the exchanges that failed; it is what the clients met;
--- and each client ended rightly.
+-- for; that is recorded where the link records exchanges, with the publisher's own replies, and the count of its faults increased by the exchanges that
+-- failed; it is what the clients met; and each client ended rightly.
 pub record ArePlayedRight (made : Timetable) (publishing : Publishing) (all : List Event) (cache : ℕ) (told now_told : Option (List Entry)) (faults now_faults : ℕ)
     (lines : List ℕ) (ends : List ClientEnd) (met : List Met) : Type 0 where
   pub store : Stored
@@ -62,6 +63,7 @@ pub record ArePlayedRight (made : Timetable) (publishing : Publishing) (all : Li
   pub one_each : length rounds ≡ length (order_of all)
   pub by_names : AskByNames cache [] rounds
   pub tells : TellsRequests told now_told publishing.base.authority (requests_in publishing.base (questions_in all) (order_of all) rounds)
+  pub replied : TellsOwn made publishing all rounds told now_told
   pub rose : RoseBy (failures_in rounds) faults now_faults
   pub met_in : AreMetIn (order_of all) rounds met
   pub clients : (place : ℕ) (query : Query) (end : ClientEnd) → slice_get (questions_in all) place ≡ Some query → slice_get ends place ≡ Some end

@@ -11,5 +11,5 @@ returns g c =
     let keeps = c.turns_keep_agreement.ensures in
     plays_right seen agree.none agree.added agree.later wants_stay
     (λ made publishing cache start. turns seen made publishing cache (seen start) keeps.turn)
-    (λ made publishing all cache played ended start behind after lines ends met front of_clients played_to rounds have_ended met_in.
-    finishes seen made publishing cache all played ended (seen start) behind after lines ends met front played_to rounds have_ended met_in keeps.rounds)
+    (λ made publishing all cache played ended start behind after lines ends met front of_clients played_to rounds have_ended met_in replied.
+    finishes seen made publishing cache all played ended (seen start) behind after lines ends met front played_to rounds have_ended met_in replied keeps.rounds)

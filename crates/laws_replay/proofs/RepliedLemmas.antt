@@ -1,0 +1,122 @@
+-- What a quiet link records of the replies in a course.
+use Rattle.std.proofs.Common.{◌≡◌, ℕ, suc, List, [], ◌∷◌, ◌++◌, length, take, Option, Some, None, refl, ap, sym, subst, ◌∙◌}
+use Rattle.std.specs.List.{All}
+use Rattle.std.specs.Option.{option_map}
+use Rattle.std.proofs.lemmas.List.{append-nil, append_assoc}
+use Rattle.cli_ask.specs.Admission.{IsBehind}
+use Rattle.cli_ask.specs.Publishing.{side_with, store_of}
+use Rattle.cli_words.specs.declared.command.Publishing.{Publishing}
+use Rattle.convoy.specs.Finish.{Rounds}
+use Rattle.convoy.specs.State.{ConvoyState, begun}
+use Rattle.convoy.specs.declared.turn.Turn.{Turn}
+use Rattle.laws_convoys.specs.Names.{Round}
+use Rattle.laws_convoys.specs.Replies.{IsRepliedBy}
+use Rattle.laws_convoys.specs.Rounds.{rounds_up_to}
+use Rattle.laws_convoys.proofs.RepliesLemmas.{rounds_replied, told_then, turn_replied}
+use Rattle.lc_world.specs.Link.{IsQuietWith, LinkSeen}
+use Rattle.lc_world.specs.declared.entry.Entry.{Entry}
+use Rattle.publisher_spec.specs.Short.{IsShort}
+use Rattle.publisher_spec.specs.Side.{IsValidSide}
+use Rattle.timetable.specs.declared.timetable.Timetable.{Timetable}
+use Rattle.version_store.specs.Store.{Stored}
+use Rattle.laws_replay.specs.Laws.{IsQuietAt}
+use Rattle.laws_replay.specs.Played.{Plays}
+use Rattle.laws_replay.specs.Replied.{AreReplied, TellsOwn}
+use Rattle.laws_replay.specs.Rounds.{rounds_along}
+use Rattle.laws_replay.specs.Versions.{AreShort, HasHeard}
+use Rattle.laws_replay.specs.declared.event.Event.{Event}
+use Rattle.laws_replay.specs.declared.event.Event.TheVariants as events
+use Rattle.laws_replay.specs.declared.message.Message.{Message}
+use Rattle.laws_replay.proofs.HeardLemmas.{behind, side_is, stops_then, tells_then}
+
+-- the publisher's texts fit into replies, whatever is heard from this store on
+abbrev AreShortOn : Timetable → Publishing → List Event → Stored → Type 0
+AreShortOn made publishing all store = (n : ℕ) (next : Stored) (lines : List ℕ) → HasHeard (take n all) store next lines → IsShort (side_with made publishing next)
+
+-- what is recorded from a store on, while the link is quiet with its side
+record RepliedOn (made : Timetable) (publishing : Publishing) (all : List Event) (store : Stored) (rounds : List Round) (new : ConvoyState) (before after : LinkSeen) : Type 0 where
+  last : Stored
+  entries : List Entry
+  is : after.told ≡ option_map (λ (told : List Entry). told ++ entries) before.told
+  quiet : IsQuietWith after publishing.base (side_with made publishing last)
+  base_is : new.base ≡ publishing.base
+  on : (tail : List Entry) (more : List Round) → All (IsRepliedBy (side_with made publishing last)) tail → AreReplied made publishing all store (rounds ++ more) (entries ++ tail)
+
+told_no_more : (told : Option (List Entry)) → told ≡ option_map (λ (entries : List Entry). entries ++ []) told
+told_no_more None = refl
+told_no_more (Some entries) = ap Some (sym (append-nil entries))
+
+replied_on :
+    {X : Type 0} (seen : X → LinkSeen) (made : Timetable) (publishing : Publishing) (all : List Event) (store : Stored) (old new : ConvoyState) (before after : X) (lines : List ℕ) → store.stops ≡ made.doc.stops →
+    AreShortOn made publishing all store → IsQuietWith (seen before) publishing.base (side_with made publishing store) → old.base ≡ publishing.base → (plays : Plays seen all old new before after lines) →
+    RepliedOn made publishing all store (rounds_along seen all old new before after lines plays) new (seen before) (seen after)
+replied_on {X} seen made publishing [] store old new before after lines stops short quiet base (same, still, none) =
+    subst (λ (x : X). RepliedOn made publishing [] store [] new (seen before) (seen x)) (sym still)
+    (record {
+      last = store;
+      entries = [];
+      is = told_no_more (seen before).told;
+      quiet = quiet;
+      base_is = ap (λ (c : ConvoyState). c.base) same ∙ base;
+      on = λ tail more own. own;
+    })
+replied_on seen made publishing (events.Ask query ∷ more) store old new before after lines stops short quiet base (between, adds, plays) =
+    let rest = replied_on seen made publishing more store between new before after lines stops (λ n next all heard. short (suc n) next all heard) quiet (ap (λ (c : ConvoyState). c.base) adds.is ∙ base) plays in
+    record { last = rest.last; entries = rest.entries; is = rest.is; quiet = rest.quiet; base_is = rest.base_is; on = rest.on }
+replied_on seen made publishing (events.Message message ∷ more) store old new before after lines stops short quiet base (link, line, others, given, plays, all_lines) =
+    let tells = quiet.as_honest.tells in
+    let heard : IsBehind (Some message.file) store given.store line = behind made publishing message.file store stops (seen before) (seen link) line tells given in
+    let side = side_is made publishing message.file store stops (seen before) (seen link) line tells given in
+    let valid : IsValidSide (side_with made publishing given.store) = subst IsValidSide side given.valid in
+    let now_short : AreShortOn made publishing more given.store = λ n next all on. short (suc n) next (line ++ all) (given.store, line, all, heard, on, refl) in
+    let now_quiet : IsQuietWith (seen link) publishing.base (side_with made publishing given.store) = record {
+      as_honest = record {
+        tells = tells_then made publishing message.file store stops (seen before) (seen link) line tells given;
+        stands = record { is_base = refl; valid = valid; short = now_short 0 given.store [] (refl, refl) };
+        honest = given.honest publishing.base quiet.as_honest.honest;
+      };
+      quiet = given.quiet publishing.base quiet.quiet;
+    } in
+    let rest = replied_on seen made publishing more given.store old new link after others (stops_then made publishing message.file store stops (seen before) (seen link) line tells given) now_short now_quiet base
+    plays in
+    record {
+      last = rest.last;
+      entries = rest.entries;
+      is = rest.is ∙ ap (option_map (λ (told : List Entry). told ++ rest.entries)) given.told;
+      quiet = rest.quiet;
+      base_is = rest.base_is;
+      on = λ tail further own. (given.store, line, heard, rest.on tail further own);
+    }
+replied_on seen made publishing (events.Turn client ∷ more) store old new before after lines stops short quiet base (between, link, turn, step, plays) =
+    let one = turn_replied seen publishing.base (side_with made publishing store) client turn old between before link base quiet step in
+    let rest = replied_on seen made publishing more store between new link after lines stops (λ n next all heard. short (suc n) next all heard) one.quiet (step.turned.base ∙ base) plays in
+    let own = one.tells.replies.entries in
+    record {
+      last = rest.last;
+      entries = own ++ rest.entries;
+      is = rest.is ∙ ap (option_map (λ (told : List Entry). told ++ rest.entries)) one.tells.replies.is ∙ told_then (seen before).told own rest.entries;
+      quiet = rest.quiet;
+      base_is = rest.base_is;
+      on = λ tail further are. (own, rest.entries ++ tail, append_assoc own rest.entries tail, one.tells.count_is, one.tells.replies.own, rest.on tail further are);
+    }
+
+-- a course over a quiet link, to the end of its clients
+pub tells_own :
+    {X : Type 0} (seen : X → LinkSeen) (made : Timetable) (publishing : Publishing) (all : List Event) (cache : ℕ) (played ended : ConvoyState) (start behind_it after : X) (lines : List ℕ) →
+    IsQuietAt made publishing (seen start) → AreShort made publishing all → (plays : Plays seen all (begun publishing.base cache) played start behind_it lines) →
+    (rounds : Rounds seen (length played.members) played ended behind_it after) →
+    TellsOwn made publishing all (rounds_along seen all (begun publishing.base cache) played start behind_it lines plays ++ rounds_up_to seen (length played.members) played ended behind_it after rounds)
+    (seen start).told (seen after).told
+tells_own seen made publishing all cache played ended start behind_it after lines quiet short plays rounds =
+    let store = store_of made publishing.base_moment in
+    let at : IsQuietWith (seen start) publishing.base (side_with made publishing store) = record {
+      as_honest = record { tells = quiet.tells; stands = record { is_base = refl; valid = quiet.valid; short = short 0 store [] (refl, refl) }; honest = quiet.honest };
+      quiet = quiet.quiet;
+    } in
+    let on = replied_on seen made publishing all store (begun publishing.base cache) played start behind_it lines refl short at refl plays in
+    let tail = (rounds_replied seen publishing.base (side_with made publishing on.last) (length played.members) played ended behind_it after on.base_is on.quiet rounds).replied.tells in
+    record {
+      entries = on.entries ++ tail.entries;
+      replied = on.on tail.entries (rounds_up_to seen (length played.members) played ended behind_it after rounds) tail.own;
+      is = tail.is ∙ ap (option_map (λ (told : List Entry). told ++ tail.entries)) on.is ∙ told_then (seen start).told on.entries tail.entries;
+    }
