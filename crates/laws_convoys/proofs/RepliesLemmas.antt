@@ -1,7 +1,6 @@
 -- That a link with a publisher at its other end records what the publisher's side replied, turn after turn.
 use Rattle.std.proofs.Common.{◌≡◌, ℕ, zero, suc, inl, inr, List, [], ◌∷◌, ◌++◌, length, Option, Some, None, refl, ap, sym, subst, ◌∙◌}
 use Rattle.std.specs.Prelude.{◌⊎◌, OnOk}
-use Rattle.std.specs.List.{All}
 use Rattle.std.specs.Option.{option_map}
 use Rattle.std.proofs.lemmas.List.{append-nil, append_assoc}
 use Rattle.std.proofs.lemmas.List.Elements.{All-append, All-cons, All-nil}
@@ -9,7 +8,7 @@ use Rattle.connection_uri.specs.Base.{BaseParts}
 use Rattle.lc_world.specs.Link.{Exchanges, IsHonestWith, IsQuietWith, LinkSeen, Tells, TellsMore, told_of}
 use Rattle.lc_world.specs.declared.entry.Entry.{Entry}
 use Rattle.lc_world.specs.declared.entry.ToldReply.{ToldReply}
-use Rattle.lc_world.specs.declared.entry.ToldReply.TheVariants.{Failed, Hidden, Reply}
+use Rattle.lc_world.specs.declared.entry.ToldReply.TheVariants.{Hidden, Reply}
 use Rattle.page_client.specs.Client.{shown}
 use Rattle.page_client.specs.Shown.{Shown, want_of}
 use Rattle.page_client.specs.declared.client.Client.{Client}
@@ -22,8 +21,7 @@ use Rattle.publisher_spec.specs.Side.{Side}
 use Rattle.convoy.specs.Exchange.{Got, IsExchange, bytes_of, result_of}
 use Rattle.convoy.specs.Finish.{IsStep, Rounds, Step, TurnsOf}
 use Rattle.convoy.specs.State.{ConvoyState}
-use Rattle.convoy.specs.Turn.{Asks, IsExchanged, Turned}
-use Rattle.convoy.specs.declared.member.Member.{Member}
+use Rattle.convoy.specs.Turn.{Asks, Turned}
 use Rattle.convoy.specs.declared.turn.Turn.{Turn}
 use Rattle.convoy.specs.declared.turn.Turn.TheVariants.{Cached, Exchanged, Finished}
 use Rattle.laws_convoys.specs.Replies.{IsRepliedBy, TellsReplies, TellsSoMany}

@@ -27,10 +27,8 @@ use Rattle.page_client.specs.declared.outcome.Outcome.TheVariants as outcomes
 use Rattle.laws_replay.specs.Caused.{EndsByMet}
 use Rattle.laws_replay.specs.Events.{questions_in, turns_in}
 use Rattle.laws_replay.specs.History.{AreMetIn}
-use Rattle.laws_replay.specs.Played.{HasEndedSo, HaveEndedSo, Plays}
+use Rattle.laws_replay.specs.Played.{HasEndedSo, HaveEndedSo}
 use Rattle.laws_replay.specs.Turns.{counted}
-use Rattle.laws_replay.specs.declared.event.Event.{Event}
-use Rattle.laws_replay.specs.declared.event.Event.TheVariants as events
 use Rattle.laws_replay.specs.Laws.{PlaysCaused}
 use Rattle.laws_replay.specs.Rounds.{rounds_along}
 use Rattle.laws_replay.proofs.CausedCourseLemmas.{AreFromOne, HadRounds, Played, are_played, had_rounds}

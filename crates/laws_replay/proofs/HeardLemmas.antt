@@ -25,7 +25,6 @@ use Rattle.laws_replay.specs.Played.{IsGiven, Plays}
 use Rattle.laws_replay.specs.Versions.{HasHeard}
 use Rattle.laws_replay.specs.declared.event.Event.{Event}
 use Rattle.laws_replay.specs.declared.event.Event.TheVariants as events
-use Rattle.laws_replay.specs.declared.message.Message.{Message}
 use Rattle.laws_replay.proofs.HearsLemmas.{own_store, side_then, stops_behind}
 
 -- an exchange leaves the side of a link that keeps it
@@ -74,7 +73,7 @@ record HeardOn (all : List Event) (old : Stored) (lines : List ℕ) : Type 0 whe
 heard_on :
     {X : Type 0} (seen : X → LinkSeen) (made : Timetable) (publishing : Publishing) (all : List Event) (store : Stored) (old new : ConvoyState) (before after : X) (lines : List ℕ) → store.stops ≡ made.doc.stops →
     (seen before).side ≡ Some (side_with made publishing store) → (seen before).still → Plays seen all old new before after lines → HeardOn all store lines
-heard_on seen made publishing [] store old new before after lines stops tells still (same, same_link, none) = record { store = store; heard = (refl, none) }
+heard_on seen made publishing [] store old new before after lines stops tells still (_, _, none) = record { store = store; heard = (refl, none) }
 heard_on seen made publishing (events.Ask query ∷ more) store old new before after lines stops tells still (between, adds, plays) =
     let rest = heard_on seen made publishing more store between new before after lines stops tells still plays in
     record { store = rest.store; heard = rest.heard }

@@ -8,7 +8,6 @@ use Rattle.cli_ask.specs.Publishing.{side_with, store_of}
 use Rattle.cli_words.specs.declared.command.Publishing.{Publishing}
 use Rattle.convoy.specs.Finish.{Rounds}
 use Rattle.convoy.specs.State.{ConvoyState, begun}
-use Rattle.convoy.specs.declared.turn.Turn.{Turn}
 use Rattle.laws_convoys.specs.Names.{Round}
 use Rattle.laws_convoys.specs.Replies.{IsRepliedBy}
 use Rattle.laws_convoys.specs.Rounds.{rounds_up_to}
@@ -26,7 +25,6 @@ use Rattle.laws_replay.specs.Rounds.{rounds_along}
 use Rattle.laws_replay.specs.Versions.{AreShort, HasHeard}
 use Rattle.laws_replay.specs.declared.event.Event.{Event}
 use Rattle.laws_replay.specs.declared.event.Event.TheVariants as events
-use Rattle.laws_replay.specs.declared.message.Message.{Message}
 use Rattle.laws_replay.proofs.HeardLemmas.{behind, side_is, stops_then, tells_then}
 
 -- the publisher's texts fit into replies, whatever is heard from this store on

@@ -23,7 +23,7 @@ impl From<NoMemory> for LinkFail {
     }
 }
 
-/// A link to a publisher, by which requests are answered. Honest, quiet and clear are said of what it holds now: what each call
+/// A link to a publisher, by which requests are answered. Honest, quiet, clear and still are said of what it holds now: what each call
 /// leaves is said of the call.
 pub trait Link {
     /// What is known of the link.

@@ -1,4 +1,4 @@
-ghost use Rattle.std.specs.Prelude.{◌≡◌, ◌⊎◌, ◌↔◌, [], ◌∷◌, ◌++◌, Contains, None, Some, IfOk, OnErr, OnOk, IsErrOf, IsTrue, slice_get};
+ghost use Rattle.std.specs.Prelude.{◌≡◌, ◌⊎◌, ◌↔◌, [], Contains, None, Some, IfOk, OnErr, OnOk, IsErrOf, IsTrue, slice_get};
 ghost use Rattle.lc_io.specs.Counts.{HasCause, one_more};
 ghost use Rattle.lc_world.specs.Link.{Tells};
 ghost use Rattle.lc_world.specs.ListLink.{Fails, Gives, IsListed, IsUsedUp, Keeps, with_call};
