@@ -14,7 +14,8 @@ use Rattle.clap.specs.Walk.{Row, Rule, Text, finished, first_of, has_row, nothin
 use Rattle.cli_words.specs.Grammar.{is_among}
 use Rattle.cli_words.specs.Line.{flagged, line, named, placed, value_at}
 use Rattle.cli_words.proofs.StepLemmas.{flag_rule, option_rule, place_rule, same_text, shape}
-use Rattle.cli_words.proofs.TableLemmas.{built_rules, first_or_rest, left_false, numbered, or_true, right_false, rules_of}
+use Rattle.cli_words.proofs.TableLemmas.{built_rules, first_or_rest, numbered, rules_of}
+use Rattle.cli_words.proofs.TestLemmas.{left_false, or_true, right_false}
 
 -- a command without subcommands enters none
 enters_none : (top : Shape) (stop : Option (Text × List Text)) → is_some (entered (record { top = top; subs = [] }) stop) ≡ false

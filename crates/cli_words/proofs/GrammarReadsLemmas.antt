@@ -16,7 +16,7 @@ use Rattle.cli_words.proofs.EndLemmas.{check_met, line_fault, met_all, only_flag
 use Rattle.cli_words.proofs.GrammarTakesLemmas.{at_none, has_names}
 use Rattle.cli_words.proofs.PassLemmas.{held_after}
 use Rattle.cli_words.proofs.RowLemmas.{at, passed}
-use Rattle.cli_words.proofs.StepLemmas.{first_none, flag_rule, holds, second_none, shape, stands}
+use Rattle.cli_words.proofs.StepLemmas.{first_none, flag_rule, holds, second_none, shape, walk_at}
 use Rattle.cli_words.proofs.TableLemmas.{rules_of}
 use Rattle.cli_words.proofs.TakenLemmas.{read}
 
@@ -26,12 +26,12 @@ unfolding line.Takes
 lines_are_words name places options flags table words utf8 is =
     let c : List Rule = rules_of places options flags in
     let names = has_names places options flags table in
-    let end = held_after c (stands (holds [] None) idle 1 false) words in
+    let end = held_after c (walk_at (holds [] None) idle 1 false) words in
     let rows : List Row = settled_rows c end.pending end.rows in
     let none = sym (line_fault name places options flags words) ∙ is.taken in
-    let walks : walk_fault (shape name c) [] (stands (holds [] None) idle 1 false) words ≡ [] = first_none _ _ none in
+    let walks : walk_fault (shape name c) [] (walk_at (holds [] None) idle 1 false) words ≡ [] = first_none _ _ none in
     let rest : or_else (settle_fault c false end) (or_else (defaults_fault (settled c end).rows c) (check_fault (shape name c) (finished c end) false)) ≡ [] =
-    second_none (walk_fault (shape name c) [] (stands (holds [] None) idle 1 false) words) _ none in
+    second_none (walk_fault (shape name c) [] (walk_at (holds [] None) idle 1 false) words) _ none in
     let settles : settle_fault c false end ≡ [] = first_none _ _ rest in
     let check : check_fault (shape name c) (finished c end) false ≡ [] =
     second_none (defaults_fault (settled c end).rows c) _ (second_none (settle_fault c false end) _ rest) in

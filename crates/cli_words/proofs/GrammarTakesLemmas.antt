@@ -17,8 +17,9 @@ use Rattle.cli_words.specs.Line.{IsLine, Takes, line, value_at}
 use Rattle.cli_words.proofs.EndLemmas.{all_met, check_passes, line_fault, line_value, only_flags, places_quiet}
 use Rattle.cli_words.proofs.PassLemmas.{held_after, reads}
 use Rattle.cli_words.proofs.RowLemmas.{AreMade, at, falsely, kept, no_value_of, passed, same_names, same_values}
-use Rattle.cli_words.proofs.StepLemmas.{flag_rule, holds, stands}
-use Rattle.cli_words.proofs.TableLemmas.{HasOptions, HasPlaces, has_options, has_places, names_apart, or_true, rules_of}
+use Rattle.cli_words.proofs.StepLemmas.{flag_rule, holds, walk_at}
+use Rattle.cli_words.proofs.TableLemmas.{HasOptions, HasPlaces, has_options, has_places, names_apart, rules_of}
+use Rattle.cli_words.proofs.TestLemmas.{or_true}
 
 -- what is found in a line whose names are apart
 pub record HasNames (places options flags : List Text) : Type 0 where
@@ -99,7 +100,7 @@ words_are_taken name places options flags table words values are =
     let c : List Rule = rules_of places options flags in
     let names = has_names places options flags table in
     let p = reads name c options flags names.found_options table.option_names table.flag_names are.reads [] None 1 names.found_places refl are.once (λ q e. refl) in
-    let end = held_after c (stands (holds [] None) idle 1 false) words in
+    let end = held_after c (walk_at (holds [] None) idle 1 false) words in
     let final : finished c end ≡ fold with_default p.more (map flag_rule flags) = ap (λ rows. fold with_default rows c) p.all ∙ only_flags 1 places options flags p.more in
     let given : (q : Text) → is_among places q ≡ true → is_given q (finished c end) ≡ true = λ q e.
     let has : has_row q p.more ≡ true = same_names p.more values p.made q ∙ read_all are.reads q e in

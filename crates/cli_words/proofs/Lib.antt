@@ -8,6 +8,7 @@ mod LineLemmas
 mod LooksLemmas
 mod MadeLemmas
 mod OneCommandLemmas
+mod NearLemmas
 mod PassLemmas
 mod PublishingLemmas
 mod QuestionLemmas
@@ -15,4 +16,5 @@ mod RowLemmas
 mod StepLemmas
 mod TableLemmas
 mod TakenLemmas
+mod TestLemmas
 mod WordsLemmas

@@ -9,7 +9,8 @@ use Rattle.clap.specs.Walk.{Text}
 use Rattle.clap.proofs.CutLemmas.{Lacks}
 use Rattle.clap.proofs.LexerLemmas.{name_and_value-at, name_and_value-without}
 use Rattle.cli_words.specs.Grammar.{IsPlainWord, is_among, is_option_name}
-use Rattle.cli_words.proofs.TableLemmas.{first_or_rest, left_false, left_true, right_false, right_true, not_false}
+use Rattle.cli_words.proofs.TableLemmas.{first_or_rest}
+use Rattle.cli_words.proofs.TestLemmas.{left_false, left_true, right_false, right_true, not_false}
 
 abbrev no_equals : Text → Type 0
 no_equals text = list_any (λ byte. byte == 61) text ≡ false

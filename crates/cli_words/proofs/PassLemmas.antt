@@ -3,6 +3,7 @@ use Rattle.std.proofs.Common.{◌≡◌, ◌∙◌, ℕ, ◌+◌, min, true, fal
 use Rattle.std.specs.Prelude.{fold}
 use Rattle.std.specs.List.{list_all}
 use Rattle.std.specs.Str.{bytes_eq}
+use Rattle.std.proofs.lemmas.List.{append-nil}
 use Rattle.std.proofs.lemmas.List.Folds.{list_any-append}
 use Rattle.clap.specs.Lexer.{usize_max}
 use Rattle.clap.specs.Kinds.{or_else}
@@ -11,9 +12,10 @@ use Rattle.clap.specs.Walk.{Held, Row, Rule, Text, Waiting, Walk, arg_by_id, has
 use Rattle.cli_words.specs.Grammar as g
 use Rattle.cli_words.specs.Grammar.{FillsPlaces, Reads, Value, are_apart, is_among, is_option_name, names_of}
 use Rattle.cli_words.proofs.LooksLemmas.{is_name, joined_word, named_word}
-use Rattle.cli_words.proofs.RowLemmas.{AreMade, IsMore, flag_used, nothing_more, option_used, place_used}
-use Rattle.cli_words.proofs.StepLemmas.{apart_step, dashes_step, flag_rule, flag_step, holds, joined_step, option_rule, place_rule, plain_step, same_text, shape, stands, trailing_step, value_step}
-use Rattle.cli_words.proofs.TableLemmas.{HasOptions, HasPlaces, left_true, not_false, or_true, other, right_true}
+use Rattle.cli_words.proofs.RowLemmas.{AreMade, IsMore, flag_used, option_used, place_used}
+use Rattle.cli_words.proofs.StepLemmas.{apart_step, dashes_step, flag_rule, flag_step, holds, joined_step, option_rule, place_rule, plain_step, same_text, shape, walk_at, trailing_step, value_step}
+use Rattle.cli_words.proofs.TableLemmas.{HasOptions, HasPlaces, other}
+use Rattle.cli_words.proofs.TestLemmas.{left_true, not_false, or_true, right_true}
 
 -- what is held after words
 abbrev pub held_after : List Rule → Walk → List Text → Held
@@ -77,10 +79,10 @@ module _ (name : Text) (c : List Rule) where
   fills : {places words : List Text} {values : List Value} → FillsPlaces places words values
       → (rows : List Row) (pending : Option (Text × List Text)) (waiting : Waiting) (i : ℕ) → HasPlaces c i places
       → settle_fault c false (holds rows pending) ≡ [] → are_apart (names_of values) ≡ true → IsFresh (settled_rows c pending rows) values
-      → Passes name c (stands (holds rows pending) waiting i true) words (settled_rows c pending rows) values
+      → Passes name c (walk_at (holds rows pending) waiting i true) words (settled_rows c pending rows) values
   unfolding walk_fault
   fills g.none_left rows pending waiting i has settles apart fresh =
-      record { walks = refl; settles = settles; more = []; made = tt; all = sym (nothing_more (settled_rows c pending rows)) }
+      record { walks = refl; settles = settles; more = []; made = tt; all = sym (append-nil (settled_rows c pending rows)) }
   fills (g.filled {place} {word} {places} {words} {values} r) rows pending waiting i has settles apart fresh =
       let s : List Row = settled_rows c pending rows in
       let step = trailing_step name c rows pending i waiting place word has.0 in
@@ -96,10 +98,10 @@ module _ (name : Text) (c : List Rule) (options flags : List Text) (has_options 
   pub reads : {places words : List Text} {values : List Value} → Reads options flags places words values
       → (rows : List Row) (pending : Option (Text × List Text)) (i : ℕ) → HasPlaces c i places
       → settle_fault c false (holds rows pending) ≡ [] → are_apart (names_of values) ≡ true → IsFresh (settled_rows c pending rows) values
-      → Passes name c (stands (holds rows pending) idle i false) words (settled_rows c pending rows) values
+      → Passes name c (walk_at (holds rows pending) idle i false) words (settled_rows c pending rows) values
   unfolding walk_fault
   reads g.ended rows pending i has settles apart fresh =
-      record { walks = refl; settles = settles; more = []; made = tt; all = sym (nothing_more (settled_rows c pending rows)) }
+      record { walks = refl; settles = settles; more = []; made = tt; all = sym (append-nil (settled_rows c pending rows)) }
   reads (g.trailing {places} {words} {values} r) rows pending i has settles apart fresh =
       let step = dashes_step name c rows pending i idle in
       one_step name c _ _ (codes "--") words (settled_rows c pending rows) values step.0 step.1 (fills name c r rows pending idle i has settles apart fresh)

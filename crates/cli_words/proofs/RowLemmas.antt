@@ -4,6 +4,7 @@ use Rattle.std.specs.Prelude.{option_and_then, slice_get, find, fold, if◌then�
 use Rattle.std.specs.Str.{bytes_eq}
 use Rattle.std.proofs.lemmas.Bool.{false≢true}
 use Rattle.std.proofs.lemmas.Slice.Eq.{bytes_eq-Decides}
+use Rattle.std.proofs.lemmas.List.{append-nil}
 use Rattle.std.proofs.lemmas.List.Folds.{list_any-append}
 use Rattle.clap.specs.Faults.{use_fault}
 use Rattle.clap.specs.Takes.{is_given}
@@ -14,6 +15,7 @@ use Rattle.clap.specs.declared.error.kind.ErrorKind.TheVariants as kind
 use Rattle.clap.specs.declared.parser.matches.ValueSource.{ValueSource}
 use Rattle.clap.specs.declared.parser.matches.ValueSource.TheVariants.{CommandLine, DefaultValue}
 use Rattle.cli_words.specs.Grammar.{Value, is_among, names_of, value_of}
+use Rattle.cli_words.proofs.TestLemmas.{left_false, right_false}
 use Rattle.cli_words.proofs.StepLemmas.{flag_rule, option_rule, place_rule}
 
 -- the row has this one value, from the words
@@ -28,10 +30,6 @@ AreMade [] [] = Unit {0}
 AreMade [] (v ∷ vs) = ⊥
 AreMade (r ∷ rs) [] = ⊥
 AreMade (r ∷ rs) (v ∷ vs) = IsMadeRow r v × AreMade rs vs
-
-pub nothing_more : {X : Type 0} (xs : List X) → xs ++ [] ≡ xs
-nothing_more [] = refl
-nothing_more (x ∷ xs) = ap (λ rest. x ∷ rest) (nothing_more xs)
 
 -- where no row has the id, a row comes to the end
 new_row : (id : Text) (change : Row → List Row) (missing rows : List Row) → has_row id rows ≡ false → at_row id change missing rows ≡ rows ++ missing
@@ -49,7 +47,7 @@ made source how value = record { id = value.0; values = value.1 ∷ []; count = 
 new_use : (id : Text) (how : Reading) (value : Text) (rows : List Row) → has_row id rows ≡ false
     → with_values id how CommandLine (value ∷ []) (without id rows) ≡ rows ++ made CommandLine how (id, value) ∷ []
 new_use id how value rows e =
-    ap (λ rows. with_values id how CommandLine (value ∷ []) rows) (new_row id (λ _. []) [] rows e ∙ nothing_more rows)
+    ap (λ rows. with_values id how CommandLine (value ∷ []) rows) (new_row id (λ _. []) [] rows e ∙ append-nil rows)
     ∙ new_row id (more_values CommandLine (value ∷ [])) _ rows e
 
 -- a row more
@@ -135,7 +133,7 @@ no_value_of flags (v ∷ vs) id e = by (bytes_eq v.0 id) refl e (λ e. no_value_
     by true t e rest = absurd (false≢true (sym e))
     by false t e rest = rw t (rest e)
 
--- ---- what stands where an argument was not used
+-- ---- rows of arguments that were not used
 
 -- a row of another id changes nothing of this one
 other_row : (id : Text) (rows : List Row) (r : Row) → bytes_eq r.id id ≡ false → find (λ r. bytes_eq r.id id) (rows ++ r ∷ []) ≡ find (λ r. bytes_eq r.id id) rows
@@ -176,18 +174,6 @@ not_there flag rows e = simp e (new_row flag (more_values DefaultValue (codes "f
 
 there : (flag : Text) (rows : List Row) → has_row flag rows ≡ true → with_default rows (flag_rule flag) ≡ rows
 there flag rows e = simp e
-
-or_true : (b : Bool) → (b || true) ≡ true
-or_true true = refl
-or_true false = refl
-
-right_false : (a b : Bool) → (a || b) ≡ false → b ≡ false
-right_false true b e = absurd (false≢true (sym e))
-right_false false b e = e
-
-left_false : (a b : Bool) → (a || b) ≡ false → a ≡ false
-left_false true b e = absurd (false≢true (sym e))
-left_false false b e = refl
 
 -- the rows with a flag's default: as they were, or with its row
 data Defaulted (flag : Text) (rows : List Row) : Type 0 where

@@ -49,8 +49,8 @@ shape name c = record {
 abbrev pub holds : List Row → Option (Text × List Text) → Held
 holds rows pending = record { rows = rows; pending = pending; skip = 0 }
 
-abbrev pub stands : Held → Waiting → ℕ → Bool → Walk
-stands h waiting i trailing = record { held = h; waiting = waiting; position = i; is_trailing = trailing; stopped = None }
+abbrev pub walk_at : Held → Waiting → ℕ → Bool → Walk
+walk_at h waiting i trailing = record { held = h; waiting = waiting; position = i; is_trailing = trailing; stopped = None }
 
 pub same_text : (n : Text) → bytes_eq n n ≡ true
 same_text n = (bytes_eq-Decides n n).1 refl
@@ -82,20 +82,20 @@ module _ (name : Text) (c : List Rule) (rows : List Row) (pending : Option (Text
 
   -- a plain word goes to its place
   pub plain_step : (place word : Text) → IsPlainWord word → arg_by_index c i ≡ Some (place_rule i place)
-      → (turn_fault (shape name c) [] (stands h idle i false) word ≡ settle_fault c false h)
-      × (walked c [] (stands h idle i false) word
-      ≡ stands (holds (settled_rows c pending rows) (Some (place, word ∷ []))) idle (min (i + 1) usize_max) false)
+      → (turn_fault (shape name c) [] (walk_at h idle i false) word ≡ settle_fault c false h)
+      × (walked c [] (walk_at h idle i false) word
+      ≡ walk_at (holds (settled_rows c pending rows) (Some (place, word ∷ []))) idle (min (i + 1) usize_max) false)
   unfolding clap_on_literals
   plain_step place word is here =
       let p = plain word is in
       let b = and_false (is_pending (place_rule i place) pending) in
       (simp (p.0, p.1, here, b), simp (p.0, p.1, here, b))
 
-  -- behind the dashes a word goes to its place
+  -- after the first `--` a word goes to its place
   pub trailing_step : (waiting : Waiting) (place word : Text) → arg_by_index c i ≡ Some (place_rule i place)
-      → (turn_fault (shape name c) [] (stands h waiting i true) word ≡ settle_fault c false h)
-      × (walked c [] (stands h waiting i true) word
-      ≡ stands (holds (settled_rows c pending rows) (Some (place, word ∷ []))) idle (min (i + 1) usize_max) true)
+      → (turn_fault (shape name c) [] (walk_at h waiting i true) word ≡ settle_fault c false h)
+      × (walked c [] (walk_at h waiting i true) word
+      ≡ walk_at (holds (settled_rows c pending rows) (Some (place, word ∷ []))) idle (min (i + 1) usize_max) true)
   unfolding clap_on_literals
   trailing_step waiting place word here =
       let b = and_false (is_pending (place_rule i place) pending) in
@@ -103,23 +103,23 @@ module _ (name : Text) (c : List Rule) (rows : List Row) (pending : Option (Text
 
   -- a word for which no place is left
   pub stray_step : (word : Text) → IsPlainWord word → arg_by_index c i ≡ None
-      → turn_fault (shape name c) [] (stands h idle i false) word ≡ [] → ⊥
+      → turn_fault (shape name c) [] (walk_at h idle i false) word ≡ [] → ⊥
   unfolding clap_on_literals
   stray_step word is none e =
       let p = plain word is in
-      let f : turn_fault (shape name c) [] (stands h idle i false) word ≡ kind.UnknownArgument ∷ [] = simp (p.0, p.1, none) in
+      let f : turn_fault (shape name c) [] (walk_at h idle i false) word ≡ kind.UnknownArgument ∷ [] = simp (p.0, p.1, none) in
       absurd (cc (f, e))
 
   pub stray_trailing : (waiting : Waiting) (word : Text) → arg_by_index c i ≡ None
-      → turn_fault (shape name c) [] (stands h waiting i true) word ≡ [] → ⊥
+      → turn_fault (shape name c) [] (walk_at h waiting i true) word ≡ [] → ⊥
   unfolding clap_on_literals
   stray_trailing waiting word none e =
-      let f : turn_fault (shape name c) [] (stands h waiting i true) word ≡ kind.UnknownArgument ∷ [] = simp (none) in
+      let f : turn_fault (shape name c) [] (walk_at h waiting i true) word ≡ kind.UnknownArgument ∷ [] = simp (none) in
       absurd (cc (f, e))
 
   -- the first `--`
-  pub dashes_step : (waiting : Waiting) → (turn_fault (shape name c) [] (stands h waiting i false) (45 ∷ 45 ∷ []) ≡ [])
-      × (walked c [] (stands h waiting i false) (45 ∷ 45 ∷ []) ≡ stands h waiting i true)
+  pub dashes_step : (waiting : Waiting) → (turn_fault (shape name c) [] (walk_at h waiting i false) (45 ∷ 45 ∷ []) ≡ [])
+      × (walked c [] (walk_at h waiting i false) (45 ∷ 45 ∷ []) ≡ walk_at h waiting i true)
   unfolding clap_on_literals
   dashes_step idle = (refl, refl)
   dashes_step (option id) = (refl, refl)
@@ -128,28 +128,28 @@ module _ (name : Text) (c : List Rule) (rows : List Row) (pending : Option (Text
   -- a word `--name` or `--name=value`
   module _ (word long : Text) (no_dashes : bytes_eq word (45 ∷ 45 ∷ []) ≡ false) where
     pub joined_step : (value : Text) → long_of word ≡ Some (long, Some value) → arg_by_long c long ≡ Some (option_rule long)
-        → (turn_fault (shape name c) [] (stands h idle i false) word
+        → (turn_fault (shape name c) [] (walk_at h idle i false) word
         ≡ or_else (settle_fault c false h) (use_fault false (option_rule long) (value ∷ []) (settled_rows c pending rows)))
-        × (walked c [] (stands h idle i false) word ≡ stands (holds (used (option_rule long) (value ∷ []) (settled_rows c pending rows)) None) idle i false)
+        × (walked c [] (walk_at h idle i false) word ≡ walk_at (holds (used (option_rule long) (value ∷ []) (settled_rows c pending rows)) None) idle i false)
     unfolding clap_on_literals
     joined_step value is found = (simp (no_dashes, is, found) (no_more _), simp (no_dashes, is, found))
 
     pub apart_step : long_of word ≡ Some (long, None) → arg_by_long c long ≡ Some (option_rule long)
-        → (turn_fault (shape name c) [] (stands h idle i false) word ≡ settle_fault c false h)
-        × (walked c [] (stands h idle i false) word ≡ stands (holds (settled_rows c pending rows) (Some (long, []))) (option long) i false)
+        → (turn_fault (shape name c) [] (walk_at h idle i false) word ≡ settle_fault c false h)
+        × (walked c [] (walk_at h idle i false) word ≡ walk_at (holds (settled_rows c pending rows) (Some (long, []))) (option long) i false)
     unfolding clap_on_literals
     apart_step is found = (simp (no_dashes, is, found) (no_more _), simp (no_dashes, is, found))
 
     pub flag_step : long_of word ≡ Some (long, None) → arg_by_long c long ≡ Some (flag_rule long)
-        → (turn_fault (shape name c) [] (stands h idle i false) word
+        → (turn_fault (shape name c) [] (walk_at h idle i false) word
         ≡ or_else (settle_fault c false h) (use_fault false (flag_rule long) [] (settled_rows c pending rows)))
-        × (walked c [] (stands h idle i false) word ≡ stands (holds (used (flag_rule long) [] (settled_rows c pending rows)) None) idle i false)
+        × (walked c [] (walk_at h idle i false) word ≡ walk_at (holds (used (flag_rule long) [] (settled_rows c pending rows)) None) idle i false)
     unfolding clap_on_literals
     flag_step is found = (simp (no_dashes, is, found) (no_more _), simp (no_dashes, is, found))
 
     -- where such a word is taken, so is the argument's use
     pub long_turn : (waiting : Waiting) (value : Option Text) → long_of word ≡ Some (long, value)
-        → turn_fault (shape name c) [] (stands h waiting i false) word ≡ [] → long_fault c false (arg_by_long c long) value h ≡ []
+        → turn_fault (shape name c) [] (walk_at h waiting i false) word ≡ [] → long_fault c false (arg_by_long c long) value h ≡ []
     unfolding clap_on_literals
     long_turn idle value is e = first_none _ _ (simp (no_dashes, is) at e)
     long_turn (option id) value is e = first_none _ _ (simp (no_dashes, is) at e)
@@ -157,7 +157,7 @@ module _ (name : Text) (c : List Rule) (rows : List Row) (pending : Option (Text
 
   -- and of a word `-abc`
   pub short_turn : (waiting : Waiting) (word flags : Text) → bytes_eq word (45 ∷ 45 ∷ []) ≡ false → long_of word ≡ None → short_of word ≡ Some flags
-      → turn_fault (shape name c) [] (stands h waiting i false) word ≡ [] → bundle_fault c false flags h ≡ []
+      → turn_fault (shape name c) [] (walk_at h waiting i false) word ≡ [] → bundle_fault c false flags h ≡ []
   unfolding clap_on_literals
   short_turn idle word flags no_dashes no_long is e = first_none _ _ (simp (no_dashes, no_long, is) at e)
   short_turn (option id) word flags no_dashes no_long is e = first_none _ _ (simp (no_dashes, no_long, is) at e)
@@ -165,13 +165,13 @@ module _ (name : Text) (c : List Rule) (rows : List Row) (pending : Option (Text
 
 -- the value of an option in a word of its own
 pub value_step : (name : Text) (c : List Rule) (rows : List Row) (i : ℕ) (id word : Text) → IsPlainWord word → arg_by_id c id ≡ Some (option_rule id)
-    → (turn_fault (shape name c) [] (stands (holds rows (Some (id, []))) (option id) i false) word ≡ [])
-    × (walked c [] (stands (holds rows (Some (id, []))) (option id) i false) word ≡ stands (holds rows (Some (id, word ∷ []))) idle i false)
+    → (turn_fault (shape name c) [] (walk_at (holds rows (Some (id, []))) (option id) i false) word ≡ [])
+    × (walked c [] (walk_at (holds rows (Some (id, []))) (option id) i false) word ≡ walk_at (holds rows (Some (id, word ∷ []))) idle i false)
 unfolding clap_on_literals
 value_step name c rows i id word is found =
     let p = plain word is in
     let e = same_text id in
-    (simp (p.0, p.1, found, e), simp (p.0, p.1, found, e))
+    (simp (p.0, p.1), simp (p.0, p.1, found, e))
 
 -- an option that has no value yet is not settled
 pub no_value : (c : List Rule) (rows : List Row) (id : Text) → arg_by_id c id ≡ Some (option_rule id) → settle_fault c false (holds rows (Some (id, []))) ≡ [] → ⊥

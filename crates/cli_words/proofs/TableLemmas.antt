@@ -12,6 +12,7 @@ use Rattle.clap.specs.Simple.{filled_from}
 use Rattle.clap.specs.Walk.{Rule, Text, has_long, has_short, arg_by_id, arg_by_index, arg_by_long, arg_by_short}
 use Rattle.cli_words.specs.Grammar.{are_apart, is_among}
 use Rattle.cli_words.specs.Line.{flagged, named, placed}
+use Rattle.cli_words.proofs.TestLemmas.{left_false, right_false, left_true, right_true, not_false, or_true}
 use Rattle.cli_words.proofs.StepLemmas.{flag_rule, option_rule, place_rule, same_text}
 
 -- places, numbered from i on
@@ -40,30 +41,6 @@ pub built_rules : (places options flags : List Text) → filled_from 1 (map plac
 built_rules places options flags = ap (filled_from 1) (append_assoc (map placed places) (map named options) (map flagged flags)) ∙ filled_places 1 places options flags
 
 -- ---- names
-
-pub right_false : (a b : Bool) → (a || b) ≡ false → b ≡ false
-right_false true b e = absurd (false≢true (sym e))
-right_false false b e = e
-
-pub left_false : (a b : Bool) → (a || b) ≡ false → a ≡ false
-left_false true b e = absurd (false≢true (sym e))
-left_false false b e = refl
-
-pub left_true : (a b : Bool) → (a && b) ≡ true → a ≡ true
-left_true true b e = refl
-left_true false b e = absurd (false≢true e)
-
-pub right_true : (a b : Bool) → (a && b) ≡ true → b ≡ true
-right_true true b e = e
-right_true false b e = absurd (false≢true e)
-
-pub or_true : (a : Bool) → (a || true) ≡ true
-or_true true = refl
-or_true false = refl
-
-pub not_false : (a : Bool) → not a ≡ true → a ≡ false
-not_false true e = absurd (false≢true e)
-not_false false e = refl
 
 -- a name that is none of these is neither the first nor one of the rest
 pub neither : (x : Text) (xs : List Text) (q : Text) → is_among (x ∷ xs) q ≡ false → (bytes_eq x q ≡ false) × (is_among xs q ≡ false)
@@ -218,7 +195,7 @@ has_options places options flags no_place no_flag = record {
     no_option : (n : Text) → is_among flags n ≡ true → is_among options n ≡ false
     no_option n e = by (is_among options n) (is_among flags n) (no_flag n) e
 
--- nothing of these stands at place i or later
+-- none of these has place i or a later one
 abbrev Below : ℕ → List Rule → Type 0
 Below i front = (k : ℕ) → i ≤ k → find (by_index k) front ≡ None
 
@@ -234,12 +211,13 @@ has_places_after : (front : List Rule) (i : ℕ) (places : List Text) (options f
 has_places_after front i [] options flags fit below apart new = in_two (by_index i) front _ (below i (omega arith)) ∙ no_option_index i options flags
 has_places_after front i (p ∷ ps) options flags fit below apart new =
     let tail : List Rule = numbered (min (i + 1) usize_max) ps ++ (map option_rule options ++ map flag_rule flags) in
+    let here : i ≤ i = omega arith in
     let same : (i == i) ≡ true = grind (arith, nat_tests) in
     let next : min (i + 1) usize_max ≡ i + 1 = omega arith in
     let fit' : (i + 1) + length ps ≤ usize_max = omega arith in
     let rest = has_places_after (front ++ place_rule i p ∷ []) (i + 1) ps options flags fit' (later i front p below) (right_true _ _ apart)
     (λ q e. in_two (by_id q) front _ (new q (old q e)) ∙ simp (differs q e)) in (
-      in_two (by_index i) front (place_rule i p ∷ tail) (below i (omega arith)) ∙ simp same,
+      in_two (by_index i) front (place_rule i p ∷ tail) (below i here) ∙ simp same,
       in_two (by_id p) front (place_rule i p ∷ tail) (new p (simp (same_text p))) ∙ simp (same_text p),
       subst (λ (j : ℕ). HasPlaces (front ++ (place_rule i p ∷ (numbered j ps ++ options_of))) j ps) (sym next)
           (subst (λ (c : List Rule). HasPlaces c (i + 1) ps) (append_assoc front (place_rule i p ∷ []) (numbered (i + 1) ps ++ options_of)) rest),

@@ -18,8 +18,9 @@ use Rattle.cli_words.proofs.LooksLemmas as look
 use Rattle.cli_words.proofs.LooksLemmas.{Looks, looks, spelled}
 use Rattle.cli_words.proofs.PassLemmas.{IsFresh, held_after, pending_fault, pending_rows}
 use Rattle.cli_words.proofs.RowLemmas.{IsMore, flag_once, flag_used, option_once, option_used, place_used}
-use Rattle.cli_words.proofs.StepLemmas.{apart_step, dashes_step, first_none, flag_rule, flag_step, holds, joined_step, long_turn, no_value, option_rule, place_rule, plain_step, same_text, second_none, shape, short_turn, stands, stray_step, stray_trailing, trailing_step, value_step}
-use Rattle.cli_words.proofs.TableLemmas.{HasOptions, HasPlaces, left_false, left_true, not_false, or_true, other, right_false, right_true}
+use Rattle.cli_words.proofs.StepLemmas.{apart_step, dashes_step, first_none, flag_rule, flag_step, holds, joined_step, long_turn, no_value, option_rule, place_rule, plain_step, same_text, second_none, shape, short_turn, walk_at, stray_step, stray_trailing, trailing_step, value_step}
+use Rattle.cli_words.proofs.TableLemmas.{HasOptions, HasPlaces, other}
+use Rattle.cli_words.proofs.TestLemmas.{left_false, left_true, not_false, or_true, right_false, right_true}
 
 -- the characters of a text that is not empty
 some_char : (x : ℕ) (xs : Text) → IsUtf8 (45 ∷ x ∷ xs) → chars (x ∷ xs) ≡ [] → ⊥
@@ -109,10 +110,10 @@ extend rows rows' value values is new once fresh = (
     by q false t among = left_false (has_row q rows) (bytes_eq value.0 q) (sym (more_has rows rows' value q is) ∙ fresh q among)
 
 module _ (name : Text) (c : List Rule) (all : List Text) where
-  -- behind the dashes
+  -- after the first `--`
   fill : (places words : List Text) (rows : List Row) (pending : Option (Text × List Text)) (waiting : Waiting) (i : ℕ) → HasPlaces c i places → are_apart places ≡ true
       → ((q : Text) → is_among places q ≡ true → is_among all q ≡ true) → Awaits (settled_rows c pending rows) places
-      → Takes name c all (stands (holds rows pending) waiting i true) words → Fills c rows pending places words
+      → Takes name c all (walk_at (holds rows pending) waiting i true) words → Fills c rows pending places words
   fill [] [] rows pending waiting i has apart sub awaits t =
       record { settles = t.settles; values = []; fills = g.none_left; once = refl; fresh = λ q e. absurd (false≢true e) }
   fill (p ∷ ps) [] rows pending waiting i has apart sub awaits t =
@@ -143,7 +144,7 @@ module _ (name : Text) (c : List Rule) (all : List Text) where
 
   -- before them what waits is settled
   trailing_settles : (places words : List Text) (rows : List Row) (pending : Option (Text × List Text)) (waiting : Waiting) (i : ℕ) → HasPlaces c i places
-      → Takes name c all (stands (holds rows pending) waiting i true) words → settle_fault c false (holds rows pending) ≡ []
+      → Takes name c all (walk_at (holds rows pending) waiting i true) words → settle_fault c false (holds rows pending) ≡ []
   trailing_settles places [] rows pending waiting i has t = t.settles
   trailing_settles [] (word ∷ words) rows pending waiting i has t =
       absurd (stray_trailing name c rows pending i waiting word has (first_step name c all _ word words t))
@@ -191,7 +192,7 @@ module _ (name : Text) (c : List Rule) (all options flags : List Text) (has_opti
   Reader words =
       (places : List Text) (rows : List Row) (pending : Option (Text × List Text)) (i : ℕ) → HasPlaces c i places → are_apart places ≡ true
       → ((q : Text) → is_among places q ≡ true → is_among all q ≡ true) → Awaits (settled_rows c pending rows) places
-      → All IsUtf8 words → All IsNoDash words → Takes name c all (stands (holds rows pending) idle i false) words
+      → All IsUtf8 words → All IsNoDash words → Takes name c all (walk_at (holds rows pending) idle i false) words
       → Finds options flags c rows pending places words
 
   read_none : Reader []
@@ -288,20 +289,20 @@ module _ (name : Text) (c : List Rule) (all options flags : List Text) (has_opti
 
   -- what follows an option as its value does not begin with a dash
   plain_value : (long value : Text) (words places : List Text) (rows : List Row) (i : ℕ) → is_among options long ≡ true → HasPlaces c i places → IsUtf8 value → IsNoDash value
-      → Takes name c all (stands (holds rows (Some (long, []))) (option long) i false) (value ∷ words) → IsPlainWord value
+      → Takes name c all (walk_at (holds rows (Some (long, []))) (option long) i false) (value ∷ words) → IsPlainWord value
   plain_value long value words places rows i among has utf8 no_dash t = by (looks value)
     where
       id : arg_by_id c long ≡ Some (option_rule long)
       id = has_options.option_id long among
 
-      turn : turn_fault (shape name c) [] (stands (holds rows (Some (long, []))) (option long) i false) value ≡ []
+      turn : turn_fault (shape name c) [] (walk_at (holds rows (Some (long, []))) (option long) i false) value ≡ []
       turn = first_step name c all _ value words t
 
       by : Looks value → IsPlainWord value
       by (look.plain is) = is
       by (look.dash is) = absurd (no_dash is)
       by (look.dashes is) =
-          let t' = subst (λ (w : Text). Takes name c all (stands (holds rows (Some (long, []))) (option long) i false) (w ∷ words)) is t in
+          let t' = subst (λ (w : Text). Takes name c all (walk_at (holds rows (Some (long, []))) (option long) i false) (w ∷ words)) is t in
           let after = next_steps name c all _ _ (codes "--") words (dashes_step name c rows (Some (long, [])) i (option long)).1 t' in
           absurd (no_value c rows long id (trailing_settles name c all places words rows (Some (long, [])) (option long) i has after))
       by (look.long n v no_dashes is text) =

@@ -73,7 +73,7 @@ pub record HasGrammar (a : App) (places options flags : List Text) : Type 0 wher
   -- words that say values are a line with these values
   pub takes : (words : List Text) (values : List Value) → SayValues places options flags words values
       → IsLine a words × ((name : Text) → value_at a words name ≡ value_of flags values name)
-  -- and the words of a line say values
+  -- the words of a line say values, where they are UTF-8, as the bytes of a `String` are
   pub reads : (words : List Text) → All IsUtf8 words → IsLine a words → (values : List Value) × SayValues places options flags words values
 
 -- the name of an option or a flag: it is not empty and has no equals sign
@@ -88,3 +88,13 @@ pub record IsTable (places options flags : List Text) : Type 0 where
   pub flag_names : IsTrue (list_all is_option_name flags)
   -- `clap` counts places in 64 bits
   pub fit : IsTrue (nat_lt (length places) usize_max)
+
+-- the word is one of an option or a flag: `--name`, or `--name=value` of an option
+pub data IsOptionWord (options flags : List Text) : Text → Type 0 where
+  alone : {name : Text} → IsTrue (is_among options name) → IsOptionWord options flags (codes "--" ++ name)
+  with_value : (name value : Text) → IsTrue (is_among options name) → IsOptionWord options flags (codes "--" ++ name ++ codes "=" ++ value)
+  switch : {name : Text} → IsTrue (is_among flags name) → IsOptionWord options flags (codes "--" ++ name)
+
+-- the word begins with a dash, and is not `--`
+abbrev pub IsDashWord : Text → Type 0
+IsDashWord word = (rest : Text) × (word ≡ 45 ∷ rest) × (word ≢ codes "--")

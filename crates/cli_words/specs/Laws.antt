@@ -1,8 +1,9 @@
 -- Words say one command at most, each command's words have a grammar, and what the base of a server is.
-use Rattle.std.specs.Prelude.{◌≡◌, ◌≢◌, ℕ, ◌<◌, ◌^◌, ◌++◌, List, [], ◌∷◌, codes, decimal}
+use Rattle.std.specs.Prelude.{◌≡◌, ◌≢◌, ℕ, ◌<◌, ◌^◌, ◌++◌, List, [], ◌∷◌, codes, decimal, All}
+use Rattle.std.specs.Str.{IsUtf8}
 use Rattle.clap.specs.Walk.{Text}
-use Rattle.cli_words.specs.Grammar.{HasGrammar, IsTable}
-use Rattle.cli_words.specs.Line.{ask_line, check_line, line, plan_line, replay_line, serve_line}
+use Rattle.cli_words.specs.Grammar.{HasGrammar, IsDashWord, IsOptionWord, IsTable}
+use Rattle.cli_words.specs.Line.{IsLine, ask_line, check_line, line, plan_line, replay_line, serve_line}
 use Rattle.cli_words.specs.Publishing.{SaysBase}
 use Rattle.cli_words.specs.Serve.{address_at}
 use Rattle.cli_words.specs.Words.{SaysCommand}
@@ -27,6 +28,13 @@ abbrev pub LinesHaveGrammar : Type 0
 LinesHaveGrammar =
     (name : Text) (places options flags : List Text) → IsTable places options flags
     → HasGrammar (line name places options flags) places options flags
+
+-- before the first `--` each word of a line that begins with a dash is one of an option or a flag of the command
+abbrev pub DashWordsAreOptions : Type 0
+DashWordsAreOptions =
+    (name : Text) (places options flags : List Text) → IsTable places options flags → (front : List Text) (word : Text) (back : List Text)
+    → All (λ word. word ≢ codes "--") front → IsDashWord word → All IsUtf8 (front ++ word ∷ back)
+    → IsLine (line name places options flags) (front ++ word ∷ back) → IsOptionWord options flags word
 
 -- the grammar of `check`
 abbrev pub CheckGrammar : Type 0

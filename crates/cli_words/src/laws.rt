@@ -2,7 +2,7 @@ ghost use Rattle.std.specs.Prelude.{◌≡◌, codes};
 ghost use Rattle.lc_time.specs.Iso.{SaysMoment};
 ghost use Rattle.fragmenter.specs.declared.by_span.BySpan.{BySpan};
 ghost use Rattle.fragmenter.specs.declared.cutting.Cutting.TheVariants as ways;
-ghost use Rattle.cli_words.specs.Laws.{Address80, AddressesAreBases, AskGrammar, CheckGrammar, LinesHaveGrammar, OneCommand, PlanGrammar, ReplayGrammar, ServeGrammar};
+ghost use Rattle.cli_words.specs.Laws.{Address80, AddressesAreBases, AskGrammar, CheckGrammar, DashWordsAreOptions, LinesHaveGrammar, OneCommand, PlanGrammar, ReplayGrammar, ServeGrammar};
 ghost use Rattle.cli_words.specs.Publishing.{SaysBase, SaysCutting};
 
 /// Words say one command at most.
@@ -11,9 +11,10 @@ pub fn one_command()
 {}
 
 /// The words of each command are those of a grammar: `clap` takes exactly the words that the grammar reads, and finds in them
-/// the values that the grammar gives.
+/// the values that the grammar gives. Before the first `--` it takes no word that begins with a dash and is no option.
 pub fn words_are_lines()
     ensures lines { LinesHaveGrammar }
+    ensures dashes { DashWordsAreOptions }
     ensures check { CheckGrammar }
     ensures ask { AskGrammar }
     ensures replay { ReplayGrammar }
