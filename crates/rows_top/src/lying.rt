@@ -1,5 +1,6 @@
 //! Replies of a publisher of Tiny of which one lies, and pages without end.
 use crate::links::reply_at;
+use crate::planning::{ASK, put_planned};
 use crate::running::{A_TO_D, over_tiny, put_line, put_list, run_list};
 use lc_world::ListLink;
 use rows_common::{Draft, Unmade};
@@ -119,6 +120,7 @@ fn put_other(
         said_at(honest, page, liar, other),
     ];
     put_list(alloc, draft, &over_tiny(A_TO_D, &[]), &replies);
+    put_planned(alloc, draft, ASK, &replies);
 }
 
 fn said_at<'a>(honest: &'a ListLink, number: usize, liar: usize, other: &'a str) -> &'a str {
@@ -164,4 +166,5 @@ fn put_pages_without_end(alloc: Global, draft: &mut Draft, honest: &ListLink) {
         page_of_a_second!("4", "5"),
     ];
     put_list(alloc, draft, &over_tiny(WITHIN_3, &[]), &replies);
+    put_planned(alloc, draft, "ask,A,D,2024-05-01T08:00:00Z,,3", &replies);
 }

@@ -2,13 +2,16 @@
 //! it has to print stands in `stdout`.
 #![tactic(auto)]
 
+mod doors;
 mod feeds;
 mod folders;
 mod links;
 mod lying;
 mod messages;
+mod planning;
 mod playing;
 mod running;
+mod servers;
 mod words;
 
 use rows_common::{Draft, exit_code};
@@ -29,4 +32,6 @@ fn put_cases(alloc: Global, draft: &mut Draft) {
     feeds::put_feeds(alloc, draft);
     links::put_links(alloc, draft);
     lying::put_lies(alloc, draft);
+    planning::put_plans(alloc, draft);
+    servers::put_servings(alloc, draft);
 }

@@ -24,7 +24,7 @@ const SCRIPT: &str = "ask,A,D,2024-05-01T08:00:00Z\nask,A,D,2024-05-01T08:00:00Z
 
 /// What fails, and the words. The third exchange ends the client that made it, and the other one has its answer. The status is that of the
 /// first.
-static FAILURES: [(&str, Fails, &str); 3] = [
+static FAILURES: [(&str, Fails, &str); 2] = [
     (
         "the third exchange fails",
         Fails {
@@ -33,15 +33,6 @@ static FAILURES: [(&str, Fails, &str); 3] = [
             write: 0,
         },
         "replay tiny 20240501 s.csv",
-    ),
-    (
-        "the second read fails",
-        Fails {
-            read: 2,
-            exchange: 0,
-            write: 0,
-        },
-        A_TO_D,
     ),
     (
         "the first write fails",
@@ -56,12 +47,27 @@ static FAILURES: [(&str, Fails, &str); 3] = [
 
 pub fn put_failures(alloc: Global, draft: &mut Draft) {
     for (what, fails, words) in &FAILURES {
-        put_line(draft, *what);
-        put_failing(
-            alloc,
-            draft,
-            &over_tiny(*words, &[("s.csv", SCRIPT)]),
-            *fails,
-        );
+        put_failure(alloc, draft, *what, *fails, *words);
     }
+    for read in 1..8 {
+        put_unread(alloc, draft, read);
+    }
+}
+
+fn put_failure(alloc: Global, draft: &mut Draft, what: &str, fails: Fails, words: &str) {
+    put_line(draft, what);
+    put_failing(alloc, draft, &over_tiny(words, &[("s.csv", SCRIPT)]), fails);
+}
+
+/// Seven files are read for a question, of which Tiny has four.
+fn put_unread(alloc: Global, draft: &mut Draft, read: u64) {
+    draft.put("read ");
+    draft.put_shown(&read);
+    draft.put(" fails\n");
+    let fails = Fails {
+        read,
+        exchange: 0,
+        write: 0,
+    };
+    put_failing(alloc, draft, &over_tiny(A_TO_D, &[]), fails);
 }

@@ -3,7 +3,7 @@ use crate::folders::folder_of;
 use lc_cli::{Status, code, run};
 use lc_links::{ClosedLink, FaultyLink};
 use lc_model::Bytes;
-use lc_world::{Link, ListLink, MemFolder, MemSink, SureDoor};
+use lc_world::{Door, Link, ListLink, MemFolder, MemSink, SureDoor};
 use rows_common::{Draft, Unmade};
 use std::alloc::Global;
 use tiny_feed::TINY;
@@ -36,18 +36,17 @@ pub struct Fails {
     pub write: u64,
 }
 
-const NONE: Fails = Fails {
+pub const NONE: Fails = Fails {
     read: 0,
     exchange: 0,
     write: 0,
 };
 
-/// What a command runs over, beside its link.
+/// What a command runs over, beside its link and its door.
 #[derive(Drop)]
-struct Stage {
+pub struct Stage {
     words: Vec<String>,
     folder: MemFolder,
-    door: SureDoor,
     out: MemSink,
 }
 
@@ -67,7 +66,7 @@ pub fn put_failing(alloc: Global, draft: &mut Draft, case: &Case<'_>, fails: Fai
 fn put_faulty(alloc: Global, draft: &mut Draft, stage: &mut Stage, fails: u64) {
     match Vec::from_array(alloc, [fails]) {
         Ok(fails) => {
-            let _ = put_over(
+            let _ = put_linked(
                 alloc,
                 draft,
                 stage,
@@ -104,7 +103,7 @@ fn run_stage(
     replies: &[&str],
 ) -> Result<ListLink, Unmade> {
     let link = link_of(alloc, replies)?;
-    Ok(put_over(alloc, draft, stage, link))
+    Ok(put_linked(alloc, draft, stage, link))
 }
 
 fn link_of(alloc: Global, replies: &[&str]) -> Result<ListLink, Unmade> {
@@ -124,26 +123,11 @@ fn push_reply(alloc: Global, list: &mut Vec<Bytes>, reply: &str) -> Result<(), U
     Ok(())
 }
 
-fn stage_of(alloc: Global, case: &Case<'_>, fails: Fails) -> Result<Stage, Unmade> {
+pub fn stage_of(alloc: Global, case: &Case<'_>, fails: Fails) -> Result<Stage, Unmade> {
     let folder = folder_of(alloc, case, fails.read)?;
     let words = words_of(alloc, case.words)?;
-    stage_with(alloc, folder, words, fails.write)
-}
-
-fn stage_with(
-    alloc: Global,
-    folder: MemFolder,
-    words: Vec<String>,
-    fails: u64,
-) -> Result<Stage, Unmade> {
-    let door = SureDoor::new(alloc, Vec::new(alloc))?;
-    let out = sink_of(alloc, fails)?;
-    Ok(Stage {
-        words,
-        folder,
-        door,
-        out,
-    })
+    let out = sink_of(alloc, fails.write)?;
+    Ok(Stage { words, folder, out })
 }
 
 fn sink_of(alloc: Global, fails: u64) -> Result<MemSink, Unmade> {
@@ -151,12 +135,20 @@ fn sink_of(alloc: Global, fails: u64) -> Result<MemSink, Unmade> {
     Ok(MemSink::new(alloc, fails)?)
 }
 
-fn words_of(alloc: Global, words: &str) -> Result<Vec<String>, Unmade> {
+/// The words between spaces. An empty text has none.
+pub fn words_of(alloc: Global, words: &str) -> Result<Vec<String>, Unmade> {
     let mut list = Vec::new(alloc);
-    for word in words.split(' ') {
-        push_word(alloc, &mut list, word)?;
+    if !words.is_empty() {
+        push_words(alloc, &mut list, words)?;
     }
     Ok(list)
+}
+
+fn push_words(alloc: Global, list: &mut Vec<String>, words: &str) -> Result<(), Unmade> {
+    for word in words.split(' ') {
+        push_word(alloc, list, word)?;
+    }
+    Ok(())
 }
 
 fn push_word(alloc: Global, list: &mut Vec<String>, word: &str) -> Result<(), Unmade> {
@@ -164,34 +156,58 @@ fn push_word(alloc: Global, list: &mut Vec<String>, word: &str) -> Result<(), Un
     Ok(())
 }
 
-/// Runs the words of the stage over a link, which is given back.
-fn put_over<L: Link>(alloc: Global, draft: &mut Draft, stage: &mut Stage, link: L) -> L {
+/// Runs the words of the stage over a link, which is given back, and a door to which nobody comes.
+pub fn put_linked<L: Link>(alloc: Global, draft: &mut Draft, stage: &mut Stage, link: L) -> L {
+    match SureDoor::new(alloc, Vec::new(alloc)) {
+        Ok(mut door) => {
+            let link = put_over(alloc, draft, stage, &mut door, link);
+            draft.put("\n");
+            link
+        }
+        Err(_) => {
+            draft.lose();
+            link
+        }
+    }
+}
+
+/// Runs the words of the stage over a door and a link, and gives the link back.
+pub fn put_over<L: Link, D: Door>(
+    alloc: Global,
+    draft: &mut Draft,
+    stage: &mut Stage,
+    door: &mut D,
+    link: L,
+) -> L {
     let (status, link) = run(
         alloc,
         stage.words.as_slice(),
         &mut stage.folder,
         link,
-        &mut stage.door,
+        door,
         &mut stage.out,
     );
     put_end(draft, &status, stage.out.written());
     link
 }
 
-/// Adds the status and the output, and a line that is empty.
+/// Adds the counts of a fault, the status and the output.
 fn put_end(draft: &mut Draft, status: &Status, output: &[u8]) {
-    if let Status::SinkFault { before, after } = status {
-        put_counts(draft, *before, *after);
+    match status {
+        Status::FolderFault { before, after } => put_counts(draft, "folder", *before, *after),
+        Status::SinkFault { before, after } => put_counts(draft, "sink", *before, *after),
+        Status::DoorFault { before, after } => put_counts(draft, "door", *before, *after),
+        _ => {}
     }
     draft.put("=> ");
     draft.put_shown(&code(status));
     draft.put("\n");
     draft.put(text_of(output));
-    draft.put("\n");
 }
 
-fn put_counts(draft: &mut Draft, before: u64, after: u64) {
-    draft.put("sink fault ");
+fn put_counts(draft: &mut Draft, what: &str, before: u64, after: u64) {
+    draft.put(what);
+    draft.put(" fault ");
     draft.put_shown(&before);
     draft.put(" ");
     draft.put_shown(&after);

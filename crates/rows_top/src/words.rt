@@ -1,8 +1,8 @@
 //! Words that are run over the feed Tiny.
 
 /// A line for each case: by hand from the ten minutes of Tiny at B and its two minutes of change. A page has half an hour of departures:
-/// those of 08:00, 09:00 and 10:00. The last three lines tell how many exchanges a question takes: with a page for each departure, with
-/// one page, and with half an hour in each.
+/// those of 08:00, 09:00 and 10:00. The lines with `--cuts` tell how many exchanges a question takes: with a page for each departure, with
+/// one page, and with half an hour in each. A blank line has no word at all.
 pub const WORDS: &str = "ask tiny A D 2024-05-01T08:00:00Z
 ask --days=3 tiny -- A D 2024-05-01T08:00:00Z
 ask tiny A D 2024-05-01T08:00:01Z
@@ -30,4 +30,20 @@ check tiny 20240501 --zone file:none
 check tiny 20240230
 ask tiny A D 2024-05-01T08:00:00Z --cuts count:1
 ask tiny A D 2024-05-01T08:00:00Z --cuts whole
-ask tiny A D 2024-05-01T08:00:00Z --cuts span:1800";
+ask tiny A D 2024-05-01T08:00:00Z --cuts span:1800
+ask --cache=5 tiny A D 2024-05-01T08:00:00Z
+ask tiny -- A D 2024-05-01T08:00:00Z
+ask tiny A D 2024-05-01T08:00:00Z --cache 5 --cache 5
+ask --help
+
+serve tiny 20240501 --port 8080
+serve tiny 20240501 --connections 1
+serve tiny 20240501 --port 0 --connections 1
+serve tiny 20240501 --port 65536 --connections 1
+serve tiny 20240501 --port 8080 --connections 0
+serve tiny 20240501 --port 8080 --connections 1 --accept-updates=yes
+serve tiny 20240501 --port 8080 --connections 1 --cache 5
+serve tiny 20240240 --port 8080 --connections 1
+plan http://lc.example/
+plan http://lc.example/?a a.csv
+plan lc.example a.csv";
