@@ -24,7 +24,7 @@ use Rattle.lc_cli.specs.Block.{IsBlockEnd}
 use Rattle.lc_cli.specs.Command.{IsPlanBlock, Prints}
 use Rattle.lc_cli.specs.Headline.{EndsBestAt, HeadlineOfPlan, IsGateSide, PlannedEachBest}
 use Rattle.lc_cli.specs.Top.{HasPrinted, HasServed, Past}
-use Rattle.lc_cli.specs.Writing.{Wrote}
+use Rattle.cli_serve.specs.Written.{Wrote}
 use Rattle.lc_cli.specs.declared.block.Block.{Block}
 use Rattle.lc_cli.specs.declared.status.Status.TheVariants.{Done}
 use Rattle.lc_cli.proofs.HeadlineLemmas.{HasAnswer, answer_at, has_answered, is_whole}

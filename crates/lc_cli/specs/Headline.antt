@@ -38,7 +38,7 @@ use Rattle.timetable.specs.declared.timetable.Timetable.{Timetable}
 use Rattle.version_store.specs.Store.{Stored}
 use Rattle.lc_cli.specs.Clear.{AreToldAsks, IsAskedSide, IsToldCourse}
 use Rattle.lc_cli.specs.Top.{IsRight, Past}
-use Rattle.lc_cli.specs.Writing.{Wrote}
+use Rattle.cli_serve.specs.Written.{Wrote}
 use Rattle.lc_cli.specs.declared.status.Status.TheVariants.{Done}
 
 -- A question means the last version at or before the moment that it names, else the base. Where it names no moment, it means the newest.

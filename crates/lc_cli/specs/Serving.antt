@@ -8,7 +8,8 @@ use Rattle.lc_doors.specs.Door.{DoorSeen}
 use Rattle.lc_io.specs.Sink.{SinkSeen}
 use Rattle.publisher.specs.Held.{side_of}
 use Rattle.lc_cli.specs.Refusal.{no_memory_line}
-use Rattle.lc_cli.specs.Writing.{NeitherFell, Said}
+use Rattle.cli_serve.specs.Written.{SinkNeverFell}
+use Rattle.lc_cli.specs.Writing.{Said}
 use Rattle.lc_cli.specs.declared.server.Server.{Server}
 use Rattle.lc_cli.specs.declared.status.Status.{Status}
 use Rattle.lc_cli.specs.declared.status.Status.TheVariants.{Done, DoorFault, SinkFault, NoMemory}
@@ -40,7 +41,7 @@ IsSaidLast (Err faults.NoMemory) before after = Said before after no_memory_line
 pub record IsServingEnd (server : Server) (door_before door_after : DoorSeen) (before after : SinkSeen) (status : Status) : Type 0 where
   pub result : Result (Unit {0}) ServeFault
   pub between : SinkSeen
-  pub never_fell : NeitherFell before between
+  pub never_fell : SinkNeverFell before between
   pub serves : ServesTo (asked_of server) (record { door = door_before; sink = before }) (record { door = door_after; sink = between }) result
   pub said : IsSaidLast result between after
   pub status_is : status ≡ served_status_of result

@@ -1,6 +1,6 @@
 ghost use Rattle.std.specs.Prelude.{◌≡◌, ◌+◌, ◌<◌, ◌^◌};
 ghost use Rattle.lc_cli.specs.Block.{IsBlockEnd, client_status_of, failed_status_of};
-ghost use Rattle.lc_cli.specs.Writing.{NeitherFell};
+ghost use Rattle.cli_serve.specs.Written.{SinkNeverFell};
 
 use crate::status::Status;
 use cli_ask::ClientEnd;
@@ -17,7 +17,7 @@ pub struct Block {
 /// Writes the block whole, and ends with the status of its clients.
 pub(crate) fn write_block<S: Sink>(block: Block, out: &mut S) -> Status
     ensures end { IsBlockEnd block (S.seen out.old) (S.seen out.new) result }
-    ensures kept { NeitherFell (S.seen out.old) (S.seen out.new) }
+    ensures kept { SinkNeverFell (S.seen out.old) (S.seen out.new) }
 {
     let before = out.faults();
     match put_all(out, block.text.as_slice()) {

@@ -1,6 +1,7 @@
 ghost use Rattle.std.specs.Prelude.{◌≡◌, IfNone, IfOk, IfSome};
 ghost use Rattle.lc_cli.specs.Refusal.{HasMadeLine, IsRefusalEnd, error_line_of, feed_line_of, large_line_of, script_line_of, status_of, update_line_of};
-ghost use Rattle.lc_cli.specs.Writing.{NeitherFell, Said};
+ghost use Rattle.cli_serve.specs.Written.{SinkNeverFell};
+ghost use Rattle.lc_cli.specs.Writing.{Said};
 
 use crate::status::Status;
 use cli_inputs::Refusal;
@@ -17,7 +18,7 @@ pub(crate) const NO_MEMORY: &[u8] = b"error no memory\n";
 /// where there is none to make the line.
 pub fn refuse<S: Sink>(alloc: Global, refusal: Refusal, out: &mut S) -> Status
     ensures end { IsRefusalEnd refusal (S.seen out.old) (S.seen out.new) result }
-    ensures kept { NeitherFell (S.seen out.old) (S.seen out.new) }
+    ensures kept { SinkNeverFell (S.seen out.old) (S.seen out.new) }
 {
     match fixed_line(&refusal) {
         Some(line) => {
@@ -96,7 +97,7 @@ fn status(refusal: Refusal) -> Status
 /// Tries the line once.
 pub(crate) fn say<S: Sink>(line: &[u8], out: &mut S)
     ensures said { Said (S.seen out.old) (S.seen out.new) line.now }
-    ensures kept { NeitherFell (S.seen out.old) (S.seen out.new) }
+    ensures kept { SinkNeverFell (S.seen out.old) (S.seen out.new) }
 {
     match put_all(out, line) {
         Ok(()) | Err(SinkFail::Failed) | Err(SinkFail::NoMemory) => {}

@@ -1,6 +1,6 @@
 ghost use Rattle.cli_serve.specs.Serve.{DoorNeverFell};
 ghost use Rattle.lc_cli.specs.Serving.{IsServingEnd};
-ghost use Rattle.lc_cli.specs.Writing.{NeitherFell};
+ghost use Rattle.cli_serve.specs.Written.{SinkNeverFell};
 
 use crate::refusal::{NO_MEMORY, say};
 use crate::server::Server;
@@ -17,7 +17,7 @@ pub(crate) fn serve<D: Door, S: Sink>(
     out: &mut S,
 ) -> Status
     ensures end { IsServingEnd server (D.seen door.old) (D.seen door.new) (S.seen out.old) (S.seen out.new) result }
-    ensures kept { NeitherFell (S.seen out.old) (S.seen out.new) }
+    ensures kept { SinkNeverFell (S.seen out.old) (S.seen out.new) }
     ensures door_counts { DoorNeverFell (D.seen door.old) (D.seen door.new) }
 {
     let Server {

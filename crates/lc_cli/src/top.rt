@@ -9,7 +9,7 @@ ghost use Rattle.cli_serve.specs.Serve.{DoorNeverFell};
 ghost use Rattle.gtfs_tables.specs.Reading.{Keeps};
 ghost use Rattle.lc_cli.specs.Clear.{IsAnswered, IsClear};
 ghost use Rattle.lc_cli.specs.Top.{IsEarlyRefusal, IsRight};
-ghost use Rattle.lc_cli.specs.Writing.{NeitherFell};
+ghost use Rattle.cli_serve.specs.Written.{SinkNeverFell};
 
 use crate::block::write_block;
 use crate::command::outcome;
@@ -75,7 +75,7 @@ pub fn run<F: Folder, L: Link, D: Door, S: Sink>(
 
     // The folder has the same files, and no count has fallen. The door is as it was, but for `serve`.
     ensures folder { Keeps (F.seen folder.old) (F.seen folder.new) }
-    ensures sink { NeitherFell (S.seen out.old) (S.seen out.new) }
+    ensures sink { SinkNeverFell (S.seen out.old) (S.seen out.new) }
     ensures door { ((serve : Served) → SaysCommand (texts_of words.now) (commands.Serve serve) → ⊥) → door.new ≡ door.old }
     ensures door_counts { DoorNeverFell (D.seen door.old) (D.seen door.new) }
 
