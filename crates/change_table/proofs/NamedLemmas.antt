@@ -24,7 +24,7 @@ use Rattle.gtfs_calendars.specs.declared.transfer.Transfer.{Transfer}
 use Rattle.change_table.specs.ChangeRule.{are_together, given_seconds, is_same_station, said_seconds, usual_seconds}
 use Rattle.change_table.specs.Pairs.{changes_to, timed_change}
 use Rattle.change_table.specs.Partners.{Gains, IsOf, named_ids, stops_at}
-use Rattle.change_table.specs.Rows.{AreSortedRows, row_cmp, row_for, row_to, rows_from, seconds_by, target, told}
+use Rattle.change_table.specs.Rows.{AreSortedRows, row_cmp, row_for, row_to, rows_from, seconds_by, target, recorded}
 use Rattle.change_table.specs.declared.rows.Row.{Row}
 use Rattle.lc_model.proofs.ListLemmas.{AllPairs-map, AllPairs-weaker, All-from_contains, ComesFrom-map, Contains-here, Contains-map, Contains-nil}
 use Rattle.change_table.proofs.ListLemmas.{AllPairs-filter_map, Contains-filter_map, IsKept-find, IsMade-filter_map}
@@ -52,7 +52,7 @@ record GoesTo (rows : List Row) (to : Option (List ℕ)) : Type 0 where
 goes_to : (rows : List Row) (to : Option (List ℕ)) (t : Transfer) → row_to rows to ≡ Some t → GoesTo rows to
 goes_to rows None t e = absurd (cc)
 goes_to rows (Some id) t e =
-    let found = IsKept-find (λ (t : Transfer). is_same_id t.to id) (told rows) t e in
+    let found = IsKept-find (λ (t : Transfer). is_same_id t.to id) (recorded rows) t e in
     let goes : t.to ≡ id = (bytes_eq-Decides t.to id).0 found.passes in
     let of = ComesFrom-map row rows t found.stands in
     record { id = id; is = refl; stands = subst (λ v. Contains (map target rows) v) (ap (λ (t : Transfer). t.to) of.is ∙ goes) (Contains-map target rows of.from of.stands) }

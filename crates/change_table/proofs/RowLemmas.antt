@@ -22,7 +22,7 @@ use Rattle.lc_model.specs.declared.stop.Stop.{Stop}
 use Rattle.lc_model.proofs.SearchLemmas.{same_id}
 use Rattle.gtfs_calendars.specs.declared.transfer.Transfer.{Transfer}
 use Rattle.change_table.specs.ChangeRule.{first_row, given_seconds, has_known_kind, is_between, said_seconds, usual_seconds, are_together}
-use Rattle.change_table.specs.Rows.{AreSortedRows, row_cmp, row_for, row_to, rows_from, seconds_by, target, told}
+use Rattle.change_table.specs.Rows.{AreSortedRows, row_cmp, row_for, row_to, rows_from, seconds_by, target, recorded}
 use Rattle.change_table.specs.declared.rows.Row.{Row}
 use Rattle.change_table.proofs.ListLemmas.{find-filter, find-map, find_first, find_same, find_stable}
 
@@ -76,7 +76,7 @@ flipped false true = refl
 flipped false false = refl
 
 -- the rows of known kinds, once they are sorted
-pub AreSortedRows-sorted : (transfers : List Transfer) (rows sorted : List Row) → told rows ≡ filter has_known_kind transfers
+pub AreSortedRows-sorted : (transfers : List Transfer) (rows sorted : List Row) → recorded rows ≡ filter has_known_kind transfers
     → IsPermutation rows sorted → IsSorted row_cmp sorted → IsStableBy (λ x y. is_lt (row_cmp x y)) rows sorted → AreSortedRows transfers sorted
 AreSortedRows-sorted transfers rows sorted are moved up stable = record {
   sorted = up;
@@ -142,7 +142,7 @@ seconds_are_given transfers rows are default from to =
 
 -- the first of the rows to a stop is the first of those that go there
 pub first_to : (rows of : List Row) (to : List ℕ) (first : Option Row) → of ≡ filter (λ r. is_same_id (target r) to) rows → first ≡ slice_get of 0
-    → option_map row first ≡ find (λ (t : Transfer). is_same_id t.to to) (told rows)
+    → option_map row first ≡ find (λ (t : Transfer). is_same_id t.to to) (recorded rows)
 first_to rows of to first are is =
     ap (option_map row) (is ∙ ap (λ (v : List Row). slice_get v 0) are ∙ sym (find_first (λ r. is_same_id (target r) to) rows))
     ∙ sym (find-map row (λ (t : Transfer). is_same_id t.to to) rows)

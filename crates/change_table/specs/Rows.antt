@@ -12,8 +12,8 @@ use Rattle.change_table.specs.ChangeRule.{are_together, has_known_kind, is_betwe
 use Rattle.change_table.specs.declared.rows.Row.{Row}
 
 -- the rows themselves
-abbrev pub told : List Row → List Transfer
-told rows = map (λ (r : Row). r.transfer.now) rows
+abbrev pub recorded : List Row → List Transfer
+recorded rows = map (λ (r : Row). r.transfer.now) rows
 
 -- where a row goes
 abbrev pub target : Row → List ℕ
@@ -26,13 +26,13 @@ row_cmp = then_cmp (on (λ r. r.transfer.now.from) id_cmp) (on target id_cmp)
 -- the rows are sorted, and of those from one stop to another the first is the first in the file
 pub record AreSortedRows (transfers : List Transfer) (rows : List Row) : Type 0 where
   pub sorted : IsSorted row_cmp rows
-  pub first : (from to : List ℕ) → find (is_between from to) (told rows)
+  pub first : (from to : List ℕ) → find (is_between from to) (recorded rows)
       ≡ find (λ row. is_between from to row && has_known_kind row) transfers
 
 -- the first of the rows that goes there
 abbrev pub row_to : List Row → Option (List ℕ) → Option Transfer
 row_to rows None = None
-row_to rows (Some to) = find (λ (t : Transfer). is_same_id t.to to) (told rows)
+row_to rows (Some to) = find (λ (t : Transfer). is_same_id t.to to) (recorded rows)
 
 -- the first of the rows to a stop, else the first to its parent
 abbrev pub row_for : List Row → Stop → Option Transfer

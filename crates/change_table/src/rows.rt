@@ -5,7 +5,7 @@ ghost use Rattle.std.specs.Ordering.{on};
 ghost use Rattle.lc_model.specs.Change.{is_same_id};
 ghost use Rattle.lc_model.specs.Text.{id_cmp};
 ghost use Rattle.change_table.specs.ChangeRule.{has_known_kind};
-ghost use Rattle.change_table.specs.Rows.{AreSortedRows, row_cmp, row_to, target, told};
+ghost use Rattle.change_table.specs.Rows.{AreSortedRows, row_cmp, row_to, target, recorded};
 
 use gtfs_calendars::Transfer;
 use lc_model::{Id, Keyed, NoMemory};
@@ -28,7 +28,7 @@ impl Keyed for Row<'_> {
 
 /// Adds a row, if it is of a kind that is known.
 fn push_known<'a>(rows: &mut Vec<Row<'a>>, transfer: &'a Transfer) -> Result<(), NoMemory>
-    ensures { OnOk result (told rows.new.items ≡ told rows.old.items ++ filter has_known_kind (transfer.now ∷ [])) }
+    ensures { OnOk result (recorded rows.new.items ≡ recorded rows.old.items ++ filter has_known_kind (transfer.now ∷ [])) }
 {
     if transfer.kind <= 3 {
         rows.push(Row { transfer })?;
@@ -37,7 +37,7 @@ fn push_known<'a>(rows: &mut Vec<Row<'a>>, transfer: &'a Transfer) -> Result<(),
 }
 
 fn known_rows<'a>(alloc: Global, transfers: &'a [Transfer]) -> Result<Vec<Row<'a>>, NoMemory>
-    ensures { IfOk result (λ rows. told rows.items ≡ filter has_known_kind transfers.now) }
+    ensures { IfOk result (λ rows. recorded rows.items ≡ filter has_known_kind transfers.now) }
 {
     let mut rows = Vec::new(alloc);
     'transfers: for transfer in transfers {

@@ -144,7 +144,7 @@ module _ (base : BaseParts) (query : Query) (new : ConvoyState) (before after : 
       (subst (λ n. HasAsked base query before after (shown run.member.client).version n end.outcome) (sym exchanges)
       (subst (HasAsked base query before after (shown run.member.client).version run.member.exchanges) (sym outcome) run.asked))
 
-  pub right : (side : Side) → IsAlone side base query new before after → EndsRight side base query before.told after.told end
+  pub right : (side : Side) → IsAlone side base query new before after → EndsRight side base query before.recorded after.recorded end
   right side alone =
       let member = alone.member in
       let version = first_is new.members member k (λ (m : Member). end.version ≡ (shown m.client).version) alone.only one said.version in
@@ -158,6 +158,6 @@ module _ (base : BaseParts) (query : Query) (new : ConvoyState) (before after : 
         asked = alone.asked;
         asks = asked_for side query member alone.given alone.asked end.outcome (sym outcome) alone.exact;
         exchanges = exchanges ∙ alone.count;
-        tells = alone.told;
+        tells = alone.recorded;
         replied = alone.replied;
       }

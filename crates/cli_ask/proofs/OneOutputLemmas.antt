@@ -5,7 +5,7 @@ use Rattle.lc_model.specs.declared.query.Query.{Query}
 use Rattle.lc_versions.specs.History.{Entry}
 use Rattle.lc_time.specs.declared.zone.Zone.{Zone}
 use Rattle.lc_world.specs.Link.{LinkSeen}
-use Rattle.lc_world.specs.declared.entry.Entry.{Entry as Told}
+use Rattle.lc_world.specs.declared.entry.Entry.{Entry as Recorded}
 use Rattle.laws_clients.specs.Laws.{OneArrivalAt, OneListOfNeededAt}
 use Rattle.laws_replies.specs.Ends.{EndsBy}
 use Rattle.laws_replies.specs.Made.{Made}
@@ -44,9 +44,9 @@ no_link_fault base query before after version made (outcomes.PeerWrong reply fau
 
 module _ (one_arrival : OneArrivalAt) (one_needed : OneListOfNeededAt) (one_outcome : OneOutcome) where
   -- the ends by two sides, of which the first differs from the second in its zone alone, which shows the same dates
-  one_end : (side : Side) (zone : Zone) → date_in zone ≡ date_in side.zone → (base : BaseParts) (query : Query) (told now_told other later : Option (List Told)) (d e : ClientEnd)
-      → EndsRight (in_zone side zone) base query told now_told d → EndsRight side base query other later e → IsNoLinkFault d.outcome → IsNoLinkFault e.outcome → AreOneEnd d e
-  one_end side zone same base query told now_told other later d e x y f i =
+  one_end : (side : Side) (zone : Zone) → date_in zone ≡ date_in side.zone → (base : BaseParts) (query : Query) (recorded now_recorded other later : Option (List Recorded)) (d e : ClientEnd)
+      → EndsRight (in_zone side zone) base query recorded now_recorded d → EndsRight side base query other later e → IsNoLinkFault d.outcome → IsNoLinkFault e.outcome → AreOneEnd d e
+  one_end side zone same base query recorded now_recorded other later d e x y f i =
       let at : d.version ≡ version_of side query x.given = x.version_is ∙ same_version (in_zone side zone) side query x.given refl in
       let one = alike one_arrival one_needed side side query d e x.given y.given at y.version_is d.outcome e.outcome
       (ended_at side zone same query d x.given d.outcome x.ended f) y.ended f i in
@@ -70,11 +70,11 @@ module _ (one_arrival : OneArrivalAt) (one_needed : OneListOfNeededAt) (one_outc
       ∙ ap (λ (h : List Entry). side_with a publishing (store_with a moment h)) one.heard.history
       ∙ same_side a b publishing moment q.store.history same in
       let there : side_with b publishing q.store ≡ side = ap (side_with b publishing) (of_history file (store_of b moment) q.store q.line q.behind) in
-      let first = subst (λ s. EndsRight s publishing.base query (seen before).told (seen after).told d) here (p.right fair.was_clear (fair.short p.store p.line p.behind)) in
-      let second = subst (λ s. EndsRight s publishing.base query (saw other).told (saw later).told e) there (q.right other_fair.was_clear (other_fair.short q.store q.line q.behind)) in
+      let first = subst (λ s. EndsRight s publishing.base query (seen before).recorded (seen after).recorded d) here (p.right fair.was_clear (fair.short p.store p.line p.behind)) in
+      let second = subst (λ s. EndsRight s publishing.base query (saw other).recorded (saw later).recorded e) there (q.right other_fair.was_clear (other_fair.short q.store q.line q.behind)) in
       record {
         line = p.line;
         first_is = p.text_is;
         second_is = q.text_is ∙ ap (λ (line : List ℕ). line ++ client_text_of 1 e) (sym one.line);
-        one = one_end side a.zone (dates_of a b same) publishing.base query (seen before).told (seen after).told (saw other).told (saw later).told d e first second f i;
+        one = one_end side a.zone (dates_of a b same) publishing.base query (seen before).recorded (seen after).recorded (saw other).recorded (saw later).recorded d e first second f i;
       }

@@ -61,7 +61,7 @@ pub record IsNoMessage (file : Option File) (fault : RtFault) : Type 0 where
   pub is : file ≡ Some there
   pub broken : IsBroken there.bytes fault
 
--- why a file is no message of which a publisher is told; memory may run out
+-- why a file is no message of which a publisher is recorded; memory may run out
 abbrev pub IsFaulty : Option File → MessageFault → Type 0
 IsFaulty file (messages.TooLong count) = IsTooLong file count
 IsFaulty file (messages.Broken fault) = IsNoMessage file fault

@@ -26,7 +26,7 @@ pub record IsAsked (made : Timetable) (publishing : Publishing) (file : Option F
   pub line : List ℕ
   pub behind : IsBehind file (store_of made publishing.base_moment) store line
   pub asks : Asks publishing.base query before after end
-  pub right : before.clear → IsShort (side_with made publishing store) → EndsRight (side_with made publishing store) publishing.base query before.told after.told end
+  pub right : before.clear → IsShort (side_with made publishing store) → EndsRight (side_with made publishing store) publishing.base query before.recorded after.recorded end
   pub text_is : text ≡ line ++ client_text_of 1 end
 
 -- the publisher has the store behind the message, and its base again
@@ -39,6 +39,6 @@ pub record IsPrepared (made : Timetable) (publishing : Publishing) (file : Optio
 -- the publisher was asked by the client alone, over the link, and the text is this line and those of the client
 pub record AsksPublisher (held : Held Cutting) (base : BaseParts) (line : List ℕ) (query : Query) (before after : LinkSeen) (text : List ℕ) (end : ClientEnd) : Type 0 where
   pub asks : Asks base query before after end
-  pub right : before.clear → StandsUnder base (side_of chosen_cuts held) → EndsRight (side_of chosen_cuts held) base query before.told after.told end
+  pub right : before.clear → StandsUnder base (side_of chosen_cuts held) → EndsRight (side_of chosen_cuts held) base query before.recorded after.recorded end
   pub valid : IsValidSide (side_of chosen_cuts held)
   pub text_is : text ≡ line ++ client_text_of 1 end

@@ -44,12 +44,12 @@ AsksFor side query given asked (outcomes.PeerWrong reply fault) = asked ≡ give
 -- moment. What it found is a best journey by the timetable of that version, and where it found none there is none; a refusal was
 -- deserved, and no reply failed a test. Where an exchange failed it was given the wants in front of that one. A link that records replies
 -- has recorded those of the side.
-pub record EndsRight (side : Side) (base : BaseParts) (query : Query) (told now_told : Option (List Entry)) (end : ClientEnd) : Type 0 where
+pub record EndsRight (side : Side) (base : BaseParts) (query : Query) (recorded now_recorded : Option (List Entry)) (end : ClientEnd) : Type 0 where
   pub given : List Want
   pub ended : HasEnded side (shown_of query end) given (Some end.outcome)
   pub version_is : end.version ≡ version_of side query given
   pub asked : List Want
   pub asks : AsksFor side query given asked end.outcome
   pub exchanges : end.exchanges ≡ length asked
-  pub tells : TellsAsked told now_told base query asked
-  pub replied : TellsReplies side told now_told
+  pub tells : TellsAsked recorded now_recorded base query asked
+  pub replied : TellsReplies side recorded now_recorded

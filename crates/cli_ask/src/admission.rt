@@ -11,7 +11,7 @@ use publisher::{AdmitFault, Admitted, Publisher};
 use std::alloc::Global;
 use trip_updates::RtFault;
 
-/// Why a file is no message of which a publisher is told.
+/// Why a file is no message of which a publisher is recorded.
 #[derive(Clone, Copy, PartialEq, Eq)]
 pub enum MessageFault {
     /// It has so many bytes, which are too many.

@@ -26,7 +26,7 @@ pub(crate) fn client_end<L: Link>(
     ensures asks { IfOk result (Asks base query (L.seen link.old) (L.seen link.new)) }
     ensures printable { IfOk result (λ end. IsPrintable end.outcome) }
     ensures right { IfOk result (λ end. (side : Side) → IsQuietWith (L.seen link.old) base side
-        → EndsRight side base query (L.seen link.old).told (L.seen link.new).told end) }
+        → EndsRight side base query (L.seen link.old).recorded (L.seen link.new).recorded end) }
 {
     alone_over_any_link::<L>();
     one_client::<L>();

@@ -61,7 +61,7 @@ pub record AsksForUpdate (scope : Scope) (update : Option (List ℕ)) (old new :
   pub named : update ≡ Some name
   pub read : ReadsFile between new name result
 
--- the file is absent, which is told as row 0
+-- the file is absent, which is recorded as row 0
 pub record LacksUpdate (scope : Scope) (update : Option (List ℕ)) (old new : FolderSeen) (row : ℕ) : Type 0 where
   pub asks : AsksForUpdate scope update old new (Err Absent)
   pub row_is : row ≡ 0

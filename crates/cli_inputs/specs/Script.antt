@@ -74,7 +74,7 @@ pub record HasWrongRow (updates : Bool) (name : List ℕ) (old new : FolderSeen)
   pub read : ReadsFile old new name (Ok bytes)
   pub wrong : HasFault bytes updates (Wrong row)
 
--- the script is absent, which is told as row 0
+-- the script is absent, which is recorded as row 0
 pub record LacksScript (name : List ℕ) (old new : FolderSeen) (row : ℕ) : Type 0 where
   pub read : ReadsFile old new name (Err Absent)
   pub row_is : row ≡ 0

@@ -13,7 +13,7 @@ use Rattle.cli_replay.specs.Home.{home_seen}
 
 -- a link at home whose publisher has become another one
 abbrev pub with_publisher : {L : Type 0} → HomeLinkState Cutting L → Held Cutting → HomeLinkState Cutting L
-with_publisher home held = record { local = record { publisher = held; told = home.local.told; asked = home.local.asked }; outer = home.outer }
+with_publisher home held = record { local = record { publisher = held; recorded = home.local.recorded; asked = home.local.asked }; outer = home.outer }
 
 -- what was given to the publisher was given over the link
 pub given : {L : Type 0} (seen : L → LinkSeen) (home : HomeLinkState Cutting L) (was now : Held Cutting) (file : File) (line : List ℕ) → was ≡ home.local.publisher
@@ -27,7 +27,7 @@ given seen home was now file line is same behind stops valid = record {
   behind = behind;
   side_is = ap (λ (h : Held Cutting). Some (side_of chosen_cuts h)) same;
   valid = subst (λ (h : Held Cutting). IsValidSide (side_of chosen_cuts h)) same valid;
-  told = refl;
+  recorded = refl;
   honest = λ base honest. honest;
   quiet = λ base quiet. quiet;
   clear = λ clear. clear;

@@ -12,7 +12,7 @@ use Rattle.publisher.specs.Held.{side_of}
 abbrev pub home_seen : {L : Type 0} → (L → LinkSeen) → HomeLinkState Cutting L → LinkSeen
 home_seen {L} seen home = record {
   side = Some (side_of chosen_cuts home.local.publisher);
-  told = (seen home.outer).told;
+  recorded = (seen home.outer).recorded;
   honest = λ (base : BaseParts). (seen home.outer).clear;
   quiet = λ (base : BaseParts). (seen home.outer).clear;
   clear = (seen home.outer).clear;

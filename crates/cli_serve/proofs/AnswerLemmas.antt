@@ -3,7 +3,7 @@ use Rattle.std.proofs.Common.{◌≡◌, ◌∙◌, ℕ, Bool, true, false, List
 use Rattle.std.specs.Result.{IsOkAnd}
 use Rattle.fragmenter.specs.Cutting.{chosen_cuts}
 use Rattle.fragmenter.specs.declared.cutting.Cutting.{Cutting}
-use Rattle.lc_doors.specs.Door.{DoorSeen, DoorTold, GoesOn, OnCurrent, Wire}
+use Rattle.lc_doors.specs.Door.{DoorSeen, DoorRecorded, GoesOn, OnCurrent, Wire}
 use Rattle.lc_doors.specs.Serving.{Exchanges, Halts, NothingToCome, SendsFront, Serves}
 use Rattle.lc_doors.specs.Serving as serve_one
 use Rattle.lc_doors.specs.declared.serving.Served.{Served}
@@ -28,9 +28,9 @@ none_current None = refl
 none_current (Some a) = no_exchange a
 
 -- nothing was exchanged
-none_told : (a : Option DoorTold) → GoesOn (OnCurrent (Exchanges [] [] false)) a a
-none_told None = refl
-none_told (Some a) = record { others = refl; current = none_current a.current }
+none_recorded : (a : Option DoorRecorded) → GoesOn (OnCurrent (Exchanges [] [] false)) a a
+none_recorded None = refl
+none_recorded (Some a) = record { others = refl; current = none_current a.current }
 
 -- a visit on which memory ran out
 abbrev lost_visit : List ℕ → List ℕ → Visit
@@ -49,12 +49,12 @@ is_lost side read sent front = record {
 }
 
 loses : (side next : Side) (read sent : List ℕ) (before after : DoorSeen) (fault : NoMemory) → SendsFront (SaysOut side) read sent
-    → GoesOn (OnCurrent (Exchanges read sent false)) before.told after.told → HasCause before.broken after.broken ⊥ → after ≡ record before { told = after.told; broken = after.broken }
+    → GoesOn (OnCurrent (Exchanges read sent false)) before.recorded after.recorded → HasCause before.broken after.broken ⊥ → after ≡ record before { recorded = after.recorded; broken = after.broken }
     → Answers (lost_visit read sent) (Err fault) side next before after
-loses side next read sent before after fault front told broken others = record {
+loses side next read sent before after fault front recorded broken others = record {
   visit_is = is_lost side read sent front;
   came_out = (refl, refl, refl);
-  told = told;
+  recorded = recorded;
   heard = λ failed lost. absurd (cc);
   broken = record { not_fallen = broken.not_fallen; rose = λ failed. absurd (cc) };
   others = others;
@@ -66,7 +66,7 @@ none_answered side door fault = (
   lost_visit [] [],
   loses side side [] [] door door fault
       (record { heard = []; said = record { output = []; requests = 0; ended = false }; heard_is = record { rest = []; is = refl }; is_said = none_out side; sent_is = record { rest = []; is = refl } })
-      (none_told door.told) (record { not_fallen = omega arith; rose = λ no. absurd no }) refl,
+      (none_recorded door.recorded) (record { not_fallen = omega arith; rose = λ no. absurd no }) refl,
 )
 
 -- a session that was fed nothing stands for no bytes
@@ -101,12 +101,12 @@ not_true b well = λ (failed : b ≡ true). absurd (cc)
 
 -- what is known of a call of `serve_one`
 pub record Called (served : Result Served NoMemory) (talk after : ServingState Cutting) (door door_after : DoorSeen) : Type 0 where
-  pub serves : IfOk served (λ s. Serves stands_out SaysOut s.fault talk after (serving_seen after) door.told door_after.told)
-  pub whole : IfOk served (λ s. ¬ IsTrue s.fault → serve_one.IsServed (serving_seen after) door_after.told)
+  pub serves : IfOk served (λ s. Serves stands_out SaysOut s.fault talk after (serving_seen after) door.recorded door_after.recorded)
+  pub whole : IfOk served (λ s. ¬ IsTrue s.fault → serve_one.IsServed (serving_seen after) door_after.recorded)
   pub requests : IfOk served (λ s. s.requests ≡ (serving_seen after).requests)
-  pub out_of_memory : OnErr served (Halts stands_out SaysOut talk door.told door_after.told)
+  pub out_of_memory : OnErr served (Halts stands_out SaysOut talk door.recorded door_after.recorded)
   pub broken : HasCause door.broken door_after.broken (IsOkAnd served (λ s. IsTrue s.fault))
-  pub others : door_after ≡ record door { told = door_after.told; broken = door_after.broken }
+  pub others : door_after ≡ record door { recorded = door_after.recorded; broken = door_after.broken }
 
 -- what was answered by a talk at its start is a visit
 pub all_answered : (served : Result Served NoMemory) (side next : Side) (talk after : ServingState Cutting) (door door_after : DoorSeen) → StandsOut chosen_cuts talk side [] []
@@ -121,14 +121,14 @@ all_answered (Ok s) side next talk after door door_after start left call =
       record {
         visit_is = is_served side next fed sent after.session.pending after.session.requests (is_ended after.session.phase) s.fault out (λ well. (call.whole (not_true s.fault well)).all_sent);
         came_out = (refl, sym call.requests, refl);
-        told = call.serves.door;
+        recorded = call.serves.door;
         heard = λ well kept. (call.whole (not_true s.fault well)).ended;
         broken = record { not_fallen = call.broken.not_fallen; rose = λ failed. call.broken.rose failed };
         others = call.others;
       },
     )
 all_answered (Err fault) side next talk after door door_after start left call =
-    let halts : Halts stands_out SaysOut talk door.told door_after.told = call.out_of_memory in (
+    let halts : Halts stands_out SaysOut talk door.recorded door_after.recorded = call.out_of_memory in (
       lost_visit halts.read halts.sent,
       loses side next halts.read halts.sent door door_after fault (halts.front side [] [] start) halts.door call.broken call.others,
     )

@@ -1,7 +1,7 @@
 -- One client more.
 use Rattle.std.proofs.Common.{◌≡◌, ◌∙◌, ℕ, ◌+◌, ◌<◌, ◌≤◌, ◌^◌, ◌-◌, min, Bool, true, false, List, [], ◌∷◌, ◌++◌, length, Option, None, Some, Result, Ok, Err, refl, sym, ap, subst, arith, inl, inr}
 use Rattle.std.proofs.lemmas.List.Sums.{sum_by-append}
-use Rattle.lc_doors.specs.Door.{Closes, Comes, DoorSeen, DoorTold, GoesOn, Opens, connected_after, hung_up}
+use Rattle.lc_doors.specs.Door.{Closes, Comes, DoorSeen, DoorRecorded, GoesOn, Opens, connected_after, hung_up}
 use Rattle.lc_doors.specs.declared.door.DoorFail.{DoorFail}
 use Rattle.lc_doors.specs.declared.door.Next.{Next}
 use Rattle.lc_doors.specs.declared.door.Next.TheVariants.{Connection, Closed}
@@ -12,21 +12,21 @@ use Rattle.lc_model.specs.declared.memory.NoMemory.{NoMemory}
 use Rattle.publisher_spec.specs.Side.{Side}
 use Rattle.cli_serve.specs.Clients.{HasGone, HasTaken, IsUnderWay}
 use Rattle.cli_serve.specs.Tally.{Fits, IsTallyOf}
-use Rattle.cli_serve.specs.Told.{AreTold, NoneWaits}
+use Rattle.cli_serve.specs.Recorded.{AreRecorded, NoneWaits}
 use Rattle.cli_serve.specs.Visit.{AreVisits, IsVisit, Visit, faults_of}
 use Rattle.cli_serve.specs.Visiting.{CameOut, IsOver, Visits}
 use Rattle.cli_serve.specs.declared.tally.Tally.{Tally}
-use Rattle.cli_serve.proofs.ToldLemmas.{goes_then, none_told, over_told, told_one_more}
+use Rattle.cli_serve.proofs.RecordedLemmas.{goes_then, none_recorded, over_recorded, recorded_one_more}
 
 -- nobody came yet
-none_seen : (told : Option DoorTold) → GoesOn (AreTold []) told told
+none_seen : (recorded : Option DoorRecorded) → GoesOn (AreRecorded []) recorded recorded
 none_seen None = refl
-none_seen (Some told) = none_told told
+none_seen (Some recorded) = none_recorded recorded
 
 pub none_gone : (side : Side) (door : DoorSeen) → HasGone [] side side door door
 none_gone side door = record {
   visits_are = refl;
-  told = none_seen door.told;
+  recorded = none_seen door.recorded;
   listens = refl;
   faults = omega arith;
   broken = omega arith;
@@ -61,23 +61,23 @@ rose_more visits visit before middle after later was now =
     (RoseBy-then (faults_of visits) (faults_of (visit ∷ [])) before middle after was (rose_once visit.failed visit middle after refl later now))
 
 -- what is recorded, where one more came
-told_then : (visits : List Visit) (visit : Visit) (a b c d : Option DoorTold) → GoesOn (AreTold visits) a b → GoesOn Opens b c → GoesOn (IsOver visit) c d
-    → GoesOn (AreTold (visits ++ visit ∷ [])) a d
-told_then visits visit a b c d told opens over =
-    goes_then (AreTold visits) (λ (x y : DoorTold). (m : DoorTold) × Opens x m × IsOver visit m y) (AreTold (visits ++ visit ∷ []))
-    (λ x y z told both. told_one_more visits visit x y both.0 z told both.1 both.2) a b d told
-    (goes_then Opens (IsOver visit) (λ (x y : DoorTold). (m : DoorTold) × Opens x m × IsOver visit m y) (λ x y z p q. (y, p, q)) b c d opens over)
+recorded_then : (visits : List Visit) (visit : Visit) (a b c d : Option DoorRecorded) → GoesOn (AreRecorded visits) a b → GoesOn Opens b c → GoesOn (IsOver visit) c d
+    → GoesOn (AreRecorded (visits ++ visit ∷ [])) a d
+recorded_then visits visit a b c d recorded opens over =
+    goes_then (AreRecorded visits) (λ (x y : DoorRecorded). (m : DoorRecorded) × Opens x m × IsOver visit m y) (AreRecorded (visits ++ visit ∷ []))
+    (λ x y z recorded both. recorded_one_more visits visit x y both.0 z recorded both.1 both.2) a b d recorded
+    (goes_then Opens (IsOver visit) (λ (x y : DoorRecorded). (m : DoorRecorded) × Opens x m × IsOver visit m y) (λ x y z p q. (y, p, q)) b c d opens over)
 
 -- one more came, and was served
 pub one_gone : (visits : List Visit) (visit : Visit) (outcome : Result Served NoMemory) (first side next : Side) (before middle opened after : DoorSeen)
-    → HasGone visits first side before middle → GoesOn Opens middle.told opened.told → middle.faults ≤ opened.faults → opened.listens ≡ middle.listens → opened.broken ≡ middle.broken
+    → HasGone visits first side before middle → GoesOn Opens middle.recorded opened.recorded → middle.faults ≤ opened.faults → opened.listens ≡ middle.listens → opened.broken ≡ middle.broken
     → Visits visit outcome side next opened after → HasGone (visits ++ visit ∷ []) first next before after
 one_gone visits visit outcome first side next before middle opened after gone opens faults listens broken is =
     let still : opened.faults ≡ after.faults = sym (ap (λ (s : DoorSeen). s.faults) is.others) in
     let caused : middle.broken ≤ after.broken = let fell = is.broken.not_fallen in omega arith in
     record {
       visits_are = visits_more visits visit first side next gone.visits_are is.visit_is;
-      told = told_then visits visit before.told middle.told opened.told after.told gone.told opens is.told;
+      recorded = recorded_then visits visit before.recorded middle.recorded opened.recorded after.recorded gone.recorded opens is.recorded;
       listens = ap (λ (s : DoorSeen). s.listens) is.others ∙ (listens ∙ gone.listens);
       faults = let was = gone.faults in omega arith;
       broken = let was = gone.broken in omega arith;
@@ -85,16 +85,16 @@ one_gone visits visit outcome first side next before middle opened after gone op
           (λ failed. let rose : Rose opened.broken after.broken = is.broken.rose failed in subst (λ (n : ℕ). Rose n after.broken) broken rose);
     }
 
-over_seen : (visits : List Visit) (a b c : Option DoorTold) → GoesOn (AreTold visits) a b → GoesOn (λ x y. y ≡ hung_up x) b c → GoesOn (AreTold visits) a c
-over_seen visits a b c told is = goes_then (AreTold visits) (λ (x y : DoorTold). y ≡ hung_up x) (AreTold visits) (over_told visits) a b c told is
+over_seen : (visits : List Visit) (a b c : Option DoorRecorded) → GoesOn (AreRecorded visits) a b → GoesOn (λ x y. y ≡ hung_up x) b c → GoesOn (AreRecorded visits) a c
+over_seen visits a b c recorded is = goes_then (AreRecorded visits) (λ (x y : DoorRecorded). y ≡ hung_up x) (AreRecorded visits) (over_recorded visits) a b c recorded is
 
 -- nobody more came
 pub gone_over : (visits : List Visit) (first side : Side) (before middle after : DoorSeen) → HasGone visits first side before middle
-    → GoesOn (λ x y. y ≡ hung_up x) middle.told after.told → middle.faults ≤ after.faults → after.listens ≡ middle.listens → after.broken ≡ middle.broken
+    → GoesOn (λ x y. y ≡ hung_up x) middle.recorded after.recorded → middle.faults ≤ after.faults → after.listens ≡ middle.listens → after.broken ≡ middle.broken
     → HasGone visits first side before after
 gone_over visits first side before middle after gone over faults listens broken = record {
   visits_are = gone.visits_are;
-  told = over_seen visits before.told middle.told after.told gone.told over;
+  recorded = over_seen visits before.recorded middle.recorded after.recorded gone.recorded over;
   listens = listens ∙ gone.listens;
   faults = let was = gone.faults in omega arith;
   broken = let was = gone.broken in omega arith;
@@ -102,26 +102,26 @@ gone_over visits first side before middle after gone over faults listens broken 
 }
 
 -- no client waits where none comes
-closed_over : (a b : Option DoorTold) → GoesOn Closes a b → GoesOn (λ x y. y ≡ hung_up x) a b
+closed_over : (a b : Option DoorRecorded) → GoesOn Closes a b → GoesOn (λ x y. y ≡ hung_up x) a b
 closed_over None b closes = closes
 closed_over (Some a) None closes = closes
 closed_over (Some a) (Some b) closes = closes.closed
 
-none_waits : (a b : Option DoorTold) → GoesOn Closes a b → NoneWaits b
+none_waits : (a b : Option DoorRecorded) → GoesOn Closes a b → NoneWaits b
 none_waits a None closes = tt
 none_waits None (Some b) closes = absurd (cc)
-none_waits (Some a) (Some b) closes = ap (λ (t : DoorTold). t.waiting) closes.closed ∙ closes.none_left
+none_waits (Some a) (Some b) closes = ap (λ (t : DoorRecorded). t.waiting) closes.closed ∙ closes.none_left
 
 pub closed : (visits : List Visit) (first side : Side) (before middle after : DoorSeen) → HasGone visits first side before middle
-    → GoesOn Closes middle.told after.told → middle.faults ≤ after.faults → after.listens ≡ middle.listens → after.broken ≡ middle.broken
-    → HasGone visits first side before after × NoneWaits after.told
+    → GoesOn Closes middle.recorded after.recorded → middle.faults ≤ after.faults → after.listens ≡ middle.listens → after.broken ≡ middle.broken
+    → HasGone visits first side before after × NoneWaits after.recorded
 closed visits first side before middle after gone closes faults listens broken =
-    (gone_over visits first side before middle after gone (closed_over middle.told after.told closes) faults listens broken, none_waits middle.told after.told closes)
+    (gone_over visits first side before middle after gone (closed_over middle.recorded after.recorded closes) faults listens broken, none_waits middle.recorded after.recorded closes)
 
 -- what `next` has answered
 pub record NextSaid (result : Result Next DoorFail) (before after : DoorSeen) : Type 0 where
   pub connected : after.connected ≡ connected_after result
-  pub told : GoesOn (Comes result) before.told after.told
+  pub recorded : GoesOn (Comes result) before.recorded after.recorded
   pub faults : before.faults ≤ after.faults
   pub listens : after.listens ≡ before.listens
   pub broken : after.broken ≡ before.broken
@@ -143,7 +143,7 @@ pub fails_next : (first side : Side) (connections : ℕ) (tally : Tally) (fail :
 fails_next first side connections tally fail before middle after way fewer asked = record {
   visits = way.visits;
   last = side;
-  gone = gone_over way.visits first side before middle after way.gone asked.told asked.faults asked.listens asked.broken;
+  gone = gone_over way.visits first side before middle after way.gone asked.recorded asked.faults asked.listens asked.broken;
   at_most = let long : tally.connections ≡ length way.visits = way.tally_is.connections_are in omega arith;
   all = let long : tally.connections ≡ length way.visits = way.tally_is.connections_are in omega arith;
   nobody = asked.connected;
@@ -153,7 +153,7 @@ fails_next first side connections tally fail before middle after way fewer asked
 pub none_next : (first side : Side) (connections : ℕ) (tally : Tally) (before middle after : DoorSeen) → IsUnderWay first side connections tally before middle
     → tally.connections < connections → NextSaid (Ok Closed) middle after → HasTaken first connections (Ok tally) before after
 none_next first side connections tally before middle after way fewer asked =
-    let over = closed way.visits first side before middle after way.gone asked.told asked.faults asked.listens asked.broken in
+    let over = closed way.visits first side before middle after way.gone asked.recorded asked.faults asked.listens asked.broken in
     record {
       visits = way.visits;
       last = side;
@@ -183,7 +183,7 @@ pub one_next : (visit : Visit) (outcome : Result Served NoMemory) (first side ne
     → counted.connections ≡ tally.connections + 1 → Fits counted → IsUnderWay first next connections counted before after
 one_next visit outcome first side next connections tally counted before middle opened after way fewer asked is more one fits = record {
   visits = way.visits ++ visit ∷ [];
-  gone = one_gone way.visits visit outcome first side next before middle opened after way.gone asked.told asked.faults asked.listens asked.broken is;
+  gone = one_gone way.visits visit outcome first side next before middle opened after way.gone asked.recorded asked.faults asked.listens asked.broken is;
   tally_is = more way.visits visit way.tally_is is.came_out;
   fits = fits;
   few = omega arith;

@@ -1,6 +1,6 @@
 -- How serving ends, by how its parts have ended.
 use Rattle.std.proofs.Common.{◌≡◌, ◌∙◌, ℕ, ◌≤◌, ◌-◌, ◌^◌, Bool, true, false, List, ◌++◌, length, Option, Result, Ok, Err, inl, inr, refl, sym, ap, subst, IsErrOf}
-use Rattle.lc_doors.specs.Door.{DoorSeen, DoorTold, GoesOn}
+use Rattle.lc_doors.specs.Door.{DoorSeen, DoorRecorded, GoesOn}
 use Rattle.lc_doors.specs.declared.door.DoorFail.{DoorFail}
 use Rattle.lc_doors.specs.declared.door.DoorFail.TheVariants as doors
 use Rattle.lc_io.specs.Counts.{HasCause, Rose, RoseBy}
@@ -11,14 +11,14 @@ use Rattle.cli_serve.specs.Serve.{Asked, IsEndedByMemory, IsNotClosed, IsServedW
 use Rattle.cli_serve.specs.Steps.{Announces, Closes, ClosesKept, IsAnnounced, IsLeft, PutsLine, StopsTo, line_for}
 use Rattle.cli_serve.specs.Stop.{stop_of_door}
 use Rattle.cli_serve.specs.Tally.{IsTallyOf}
-use Rattle.cli_serve.specs.Told.{AreTold, opened_at}
+use Rattle.cli_serve.specs.Recorded.{AreRecorded, opened_at}
 use Rattle.cli_serve.specs.Visit.{Visit, faults_of, requests_of}
 use Rattle.cli_serve.specs.Written.{Wrote, WroteFront, WroteThenFront}
 use Rattle.cli_serve.specs.declared.stop.Stop.{Stop}
 use Rattle.cli_serve.specs.declared.stop.Stop.TheVariants.{Door, Sink, NoMemory}
 use Rattle.cli_serve.specs.declared.tally.Tally.{Tally}
 use Rattle.cli_serve.proofs.ClientLemmas.{rose_before}
-use Rattle.cli_serve.proofs.ToldLemmas.{goes_then}
+use Rattle.cli_serve.proofs.RecordedLemmas.{goes_then}
 use Rattle.cli_serve.proofs.WrittenLemmas.{then_front, then_whole}
 
 -- the opening was not written whole
@@ -27,11 +27,11 @@ not_announced asked before after Door is = record { count_is = refl; now_is = re
 not_announced asked before after Sink is = record { count_is = refl; now_is = refl; rose = is.0; so_far = inl is.1 }
 not_announced asked before after NoMemory is = elim is [ inl closed ↦ inl closed | inr front ↦ inr (inl front) ]
 
-told_since : (port : ℕ) (visits : List Visit) (a b c : Option DoorTold) → GoesOn (λ x y. y ≡ opened_at port x) a b → GoesOn (AreTold visits) b c
-    → GoesOn (λ x y. AreTold visits (opened_at port x) y) a c
-told_since port visits a b c announced told =
-    goes_then (λ (x y : DoorTold). y ≡ opened_at port x) (AreTold visits) (λ (x y : DoorTold). AreTold visits (opened_at port x) y)
-    (λ x y z is told. subst (λ (t : DoorTold). AreTold visits t z) is told) a b c announced told
+recorded_since : (port : ℕ) (visits : List Visit) (a b c : Option DoorRecorded) → GoesOn (λ x y. y ≡ opened_at port x) a b → GoesOn (AreRecorded visits) b c
+    → GoesOn (λ x y. AreRecorded visits (opened_at port x) y) a c
+recorded_since port visits a b c announced recorded =
+    goes_then (λ (x y : DoorRecorded). y ≡ opened_at port x) (AreRecorded visits) (λ (x y : DoorRecorded). AreRecorded visits (opened_at port x) y)
+    (λ x y z is recorded. subst (λ (t : DoorRecorded). AreRecorded visits t z) is recorded) a b c announced recorded
 
 -- the door was visited so since it listened
 pub visited : (asked : Asked) (outcome : Result Tally DoorFail) (before middle : Outside) (after : DoorSeen) → IsAnnounced asked before middle
@@ -40,7 +40,7 @@ visited asked outcome before middle after announced broken taken = record {
   last = taken.last;
   visits_are = taken.gone.visits_are;
   at_most = taken.at_most;
-  told = told_since asked.port taken.visits before.door.told middle.door.told after.told announced.told taken.gone.told;
+  recorded = recorded_since asked.port taken.visits before.door.recorded middle.door.recorded after.recorded announced.recorded taken.gone.recorded;
   listens = taken.gone.listens ∙ announced.listens;
   nobody = taken.nobody;
   broken = subst (λ (n : ℕ). RoseBy (faults_of taken.visits) n after.broken) broken taken.gone.rose;

@@ -2,12 +2,12 @@
 use Rattle.std.proofs.Common.{◌≡◌, ◌≢◌, ◌∙◌, ℕ, suc, ◌+◌, Bool, false, List, [], ◌∷◌, ◌++◌, length, length-append, Option, None, Some, inl, inr, refl, sym, ap, subst, append_assoc, append-nil, arith}
 use Rattle.std.specs.List.{concat}
 use Rattle.std.proofs.lemmas.List.{append_cancel_left}
-use Rattle.lc_doors.specs.Door.{DoorTold, GoesOn, Wire}
+use Rattle.lc_doors.specs.Door.{DoorRecorded, GoesOn, Wire}
 use Rattle.publisher_spec.specs.Side.{Side}
 use Rattle.wire_session.specs.Laws.{OneOutput}
 use Rattle.wire_session.specs.SessionOut.{Said, SessionOut}
 use Rattle.cli_serve.specs.Serve.{Asked, IsServedWhole, Outside}
-use Rattle.cli_serve.specs.Told.{AreTold, AreWiresOf, IsWireOf, came, opened_at}
+use Rattle.cli_serve.specs.Recorded.{AreRecorded, AreWiresOf, IsWireOf, came, opened_at}
 use Rattle.cli_serve.specs.Visit.{AreVisits, IsServed, IsVisit, NoneLost, Visit}
 
 -- a visit on which memory did not run out was served
@@ -57,24 +57,24 @@ one_list one (v ∷ visits) (o ∷ other) (w ∷ wires) first last end wa wb la 
     one_list one visits other wires va.0 last end wa.1 wb.1 (none_lost_rest v visits la) (none_lost_rest o other lb) va.2 (subst From (sym both.1) vb.2) in
     ap (λ (x : Visit). x ∷ visits) both.0 ∙ ap (λ (l : List Visit). o ∷ l) rest
 
-told_at : (visits : List Visit) (port : ℕ) (a b : Option DoorTold) (x y : DoorTold) → a ≡ Some x → b ≡ Some y → GoesOn (λ s t. AreTold visits (opened_at port s) t) a b
-    → AreTold visits (opened_at port x) y
-told_at visits port None b x y is now told = absurd (cc)
-told_at visits port (Some s) None x y is now told = absurd told
-told_at visits port (Some s) (Some t) x y is now told =
+recorded_at : (visits : List Visit) (port : ℕ) (a b : Option DoorRecorded) (x y : DoorRecorded) → a ≡ Some x → b ≡ Some y → GoesOn (λ s t. AreRecorded visits (opened_at port s) t) a b
+    → AreRecorded visits (opened_at port x) y
+recorded_at visits port None b x y is now recorded = absurd (cc)
+recorded_at visits port (Some s) None x y is now recorded = absurd recorded
+recorded_at visits port (Some s) (Some t) x y is now recorded =
     let before : s ≡ x = cc in
     let after : t ≡ y = cc in
-    subst (λ (d : DoorTold). AreTold visits (opened_at port x) d) after (subst (λ (d : DoorTold). AreTold visits (opened_at port d) t) before told)
+    subst (λ (d : DoorRecorded). AreRecorded visits (opened_at port x) d) after (subst (λ (d : DoorRecorded). AreRecorded visits (opened_at port d) t) before recorded)
 
 -- what a door has recorded says what the visits were
-pub one_serving : OneOutput → (asked : Asked) (before after : Outside) (told_before told_after : DoorTold) → before.door.told ≡ Some told_before
-    → after.door.told ≡ Some told_after → (a b : IsServedWhole asked before after) → a.visits ≡ b.visits
-one_serving one asked before after told_before told_after is now a b =
-    let p : AreTold a.visits (opened_at asked.port told_before) told_after =
-    told_at a.visits asked.port before.door.told after.door.told told_before told_after is now a.served.visited.told in
-    let q : AreTold b.visits (opened_at asked.port told_before) told_after =
-    told_at b.visits asked.port before.door.told after.door.told told_before told_after is now b.served.visited.told in
-    let wires : p.wires ≡ q.wires = append_cancel_left (came told_before) p.wires q.wires (sym p.came_more ∙ q.came_more) in
+pub one_serving : OneOutput → (asked : Asked) (before after : Outside) (recorded_before recorded_after : DoorRecorded) → before.door.recorded ≡ Some recorded_before
+    → after.door.recorded ≡ Some recorded_after → (a b : IsServedWhole asked before after) → a.visits ≡ b.visits
+one_serving one asked before after recorded_before recorded_after is now a b =
+    let p : AreRecorded a.visits (opened_at asked.port recorded_before) recorded_after =
+    recorded_at a.visits asked.port before.door.recorded after.door.recorded recorded_before recorded_after is now a.served.visited.recorded in
+    let q : AreRecorded b.visits (opened_at asked.port recorded_before) recorded_after =
+    recorded_at b.visits asked.port before.door.recorded after.door.recorded recorded_before recorded_after is now b.served.visited.recorded in
+    let wires : p.wires ≡ q.wires = append_cancel_left (came recorded_before) p.wires q.wires (sym p.came_more ∙ q.came_more) in
     one_list one a.visits b.visits q.wires asked.first a.served.visited.last b.served.visited.last
     (subst (λ (w : List Wire). AreWiresOf a.visits w) wires p.wires_are) q.wires_are a.served.none_lost b.served.none_lost a.served.visited.visits_are b.served.visited.visits_are
 

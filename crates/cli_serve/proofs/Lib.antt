@@ -2,5 +2,5 @@ mod AnswerLemmas
 mod ClientLemmas
 mod EndLemmas
 mod LawLemmas
-mod ToldLemmas
+mod RecordedLemmas
 mod WrittenLemmas

@@ -1,18 +1,18 @@
 -- How clients are served, one after the other.
 use Rattle.std.specs.Prelude.{◌≡◌, ◌⊎◌, ℕ, ◌<◌, ◌≤◌, false, List, length, Option, Result, Ok, Err}
-use Rattle.lc_doors.specs.Door.{DoorSeen, DoorTold, GoesOn}
+use Rattle.lc_doors.specs.Door.{DoorSeen, DoorRecorded, GoesOn}
 use Rattle.lc_doors.specs.declared.door.DoorFail.{DoorFail}
 use Rattle.lc_io.specs.Counts.{RoseBy}
 use Rattle.publisher_spec.specs.Side.{Side}
 use Rattle.cli_serve.specs.Tally.{Fits, IsTallyOf}
-use Rattle.cli_serve.specs.Told.{AreTold, NoneWaits}
+use Rattle.cli_serve.specs.Recorded.{AreRecorded, NoneWaits}
 use Rattle.cli_serve.specs.Visit.{AreVisits, Visit, faults_of}
 use Rattle.cli_serve.specs.declared.tally.Tally.{Tally}
 
 -- visits from a side to another, one after the other
 pub record HasGone (visits : List Visit) (first last : Side) (before after : DoorSeen) : Type 0 where
   pub visits_are : AreVisits first visits last
-  pub told : GoesOn (AreTold visits) before.told after.told
+  pub recorded : GoesOn (AreRecorded visits) before.recorded after.recorded
   pub listens : after.listens ≡ before.listens
   pub faults : before.faults ≤ after.faults
   pub broken : before.broken ≤ after.broken
@@ -28,9 +28,9 @@ pub record IsUnderWay (first side : Side) (connections : ℕ) (tally : Tally) (b
   pub nobody : 0 < tally.connections → now.connected ≡ false
 
 -- All were served that were asked for, or no further client waits; or the door failed before that.
-abbrev pub AreAll : List Visit → ℕ → Result Tally DoorFail → Option DoorTold → Type 0
-AreAll visits connections (Ok tally) told = IsTallyOf visits tally × ((length visits ≡ connections) ⊎ NoneWaits told)
-AreAll visits connections (Err fail) told = length visits < connections
+abbrev pub AreAll : List Visit → ℕ → Result Tally DoorFail → Option DoorRecorded → Type 0
+AreAll visits connections (Ok tally) recorded = IsTallyOf visits tally × ((length visits ≡ connections) ⊎ NoneWaits recorded)
+AreAll visits connections (Err fail) recorded = length visits < connections
 
 -- clients were served, one after the other, so many at most
 pub record HasTaken (first : Side) (connections : ℕ) (result : Result Tally DoorFail) (before after : DoorSeen) : Type 0 where
@@ -38,5 +38,5 @@ pub record HasTaken (first : Side) (connections : ℕ) (result : Result Tally Do
   pub last : Side
   pub gone : HasGone visits first last before after
   pub at_most : length visits ≤ connections
-  pub all : AreAll visits connections result after.told
+  pub all : AreAll visits connections result after.recorded
   pub nobody : after.connected ≡ false

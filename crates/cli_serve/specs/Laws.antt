@@ -1,17 +1,17 @@
 -- The laws of serving: what comes of it is one where the door records, and near values are refused.
 use Rattle.std.specs.Prelude.{◌≡◌, ◌≢◌, ℕ, false, List, [], ◌∷◌, ◌++◌, Some}
 use Rattle.std.specs.List.{concat}
-use Rattle.lc_doors.specs.Door.{DoorTold, Wire}
+use Rattle.lc_doors.specs.Door.{DoorRecorded, Wire}
 use Rattle.publisher_spec.specs.Side.{Side}
 use Rattle.wire_session.specs.SessionOut.{Said, SessionOut}
 use Rattle.cli_serve.specs.Serve.{Asked, IsServedWhole, Outside}
-use Rattle.cli_serve.specs.Told.{IsWireOf}
+use Rattle.cli_serve.specs.Recorded.{IsWireOf}
 use Rattle.cli_serve.specs.Visit.{AreVisits, IsVisit, Visit}
 
 -- where the door records, the visits are one, and so is the line that counts them
 abbrev pub OneServing : Type 0
 OneServing =
-    (asked : Asked) (before after : Outside) (told_before told_after : DoorTold) → before.door.told ≡ Some told_before → after.door.told ≡ Some told_after
+    (asked : Asked) (before after : Outside) (recorded_before recorded_after : DoorRecorded) → before.door.recorded ≡ Some recorded_before → after.door.recorded ≡ Some recorded_after
     → (a b : IsServedWhole asked before after) → a.visits ≡ b.visits
 
 -- the bytes sent on a visit without a fault, on which memory did not run out, are the replies from its side

@@ -5,7 +5,7 @@ pub mod Serve
 pub mod Steps
 pub mod Stop
 pub mod Tally
-pub mod Told
+pub mod Recorded
 pub mod Visit
 pub mod Visiting
 pub mod Written

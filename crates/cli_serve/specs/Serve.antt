@@ -5,7 +5,7 @@ use Rattle.lc_io.specs.Counts.{Rose, RoseBy}
 use Rattle.lc_io.specs.Sink.{SinkSeen}
 use Rattle.publisher_spec.specs.Side.{Side}
 use Rattle.cli_serve.specs.Lines.{line_of, listening_line}
-use Rattle.cli_serve.specs.Told.{AreTold, NoneWaits, opened_at}
+use Rattle.cli_serve.specs.Recorded.{AreRecorded, NoneWaits, opened_at}
 use Rattle.cli_serve.specs.Visit.{AreVisits, NoneLost, Visit, faults_of}
 use Rattle.cli_serve.specs.Written.{Wrote, WroteFront, WroteThenFront}
 use Rattle.cli_serve.specs.declared.fault.ServeFault.{ServeFault}
@@ -33,7 +33,7 @@ pub record WasVisited (asked : Asked) (visits : List Visit) (before after : Door
   pub last : Side
   pub visits_are : AreVisits asked.first visits last
   pub at_most : length visits ≤ asked.connections
-  pub told : GoesOn (λ b a. AreTold visits (opened_at asked.port b) a) before.told after.told
+  pub recorded : GoesOn (λ b a. AreRecorded visits (opened_at asked.port b) a) before.recorded after.recorded
   pub listens : after.listens ≡ true
   pub nobody : after.connected ≡ false
   pub broken : RoseBy (faults_of visits) before.broken after.broken
@@ -41,7 +41,7 @@ pub record WasVisited (asked : Asked) (visits : List Visit) (before after : Door
 -- Memory ran out on no visit. There were as many as were asked for, or no further client waits.
 pub record WasServed (asked : Asked) (visits : List Visit) (before after : DoorSeen) : Type 0 where
   pub visited : WasVisited asked visits before after
-  pub all : (length visits ≡ asked.connections) ⊎ NoneWaits after.told
+  pub all : (length visits ≡ asked.connections) ⊎ NoneWaits after.recorded
   pub none_lost : NoneLost visits
 
 -- Ok: all visits were served, and the opening and the line at the end were written whole.
@@ -52,14 +52,14 @@ pub record IsServedWhole (asked : Asked) (before after : Outside) : Type 0 where
 
 -- the door has not begun to listen, and nothing was written
 pub record IsNotOpened (before after : Outside) : Type 0 where
-  pub told : after.door.told ≡ before.door.told
+  pub recorded : after.door.recorded ≡ before.door.recorded
   pub listens : after.door.listens ≡ before.door.listens
   pub connected : after.door.connected ≡ before.door.connected
   pub sink : after.sink ≡ before.sink
 
 -- the door listens and no client was taken; a front of the opening was written
 pub record IsNotAnnounced (asked : Asked) (before after : Outside) : Type 0 where
-  pub told : GoesOn (λ b a. a ≡ opened_at asked.port b) before.door.told after.door.told
+  pub recorded : GoesOn (λ b a. a ≡ opened_at asked.port b) before.door.recorded after.door.recorded
   pub listens : after.door.listens ≡ true
   pub connected : after.door.connected ≡ before.door.connected
   pub wrote : WroteFront before.sink after.sink (opening_of asked)

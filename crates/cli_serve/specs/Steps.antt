@@ -9,7 +9,7 @@ use Rattle.lc_io.specs.declared.sink.SinkFail.TheVariants as sinks
 use Rattle.cli_serve.specs.Lines.{served_line}
 use Rattle.cli_serve.specs.Serve.{Asked, IsEndedByDoor, IsEndedByMemory, IsEndedBySink, IsNotAnnounced, IsNotOpened, IsServedWhole, Outside, opening_of}
 use Rattle.cli_serve.specs.Stop.{stop_of_door}
-use Rattle.cli_serve.specs.Told.{opened_at}
+use Rattle.cli_serve.specs.Recorded.{opened_at}
 use Rattle.cli_serve.specs.Written.{Wrote, WroteFront}
 use Rattle.cli_serve.specs.declared.stop.Stop.{Stop}
 use Rattle.cli_serve.specs.declared.stop.Stop.TheVariants.{Door, Sink, NoMemory}
@@ -27,7 +27,7 @@ line_for tally = served_line tally.connections tally.requests tally.faults
 
 -- the door listens at the port and no client was taken; the opening was written
 pub record IsAnnounced (asked : Asked) (before after : Outside) : Type 0 where
-  pub told : GoesOn (λ b a. a ≡ opened_at asked.port b) before.door.told after.door.told
+  pub recorded : GoesOn (λ b a. a ≡ opened_at asked.port b) before.door.recorded after.door.recorded
   pub listens : after.door.listens ≡ true
   pub wrote : Wrote before.sink after.sink (opening_of asked)
 

@@ -1,6 +1,6 @@
 -- How one client is served.
 use Rattle.std.specs.Prelude.{◌≡◌, ◌⊎◌, true, false, Option, Some, Result, Ok, Err}
-use Rattle.lc_doors.specs.Door.{DoorSeen, DoorTold, GoesOn, OnCurrent, hung_up}
+use Rattle.lc_doors.specs.Door.{DoorSeen, DoorRecorded, GoesOn, OnCurrent, hung_up}
 use Rattle.lc_doors.specs.Serving.{Exchanges, NothingToCome}
 use Rattle.lc_doors.specs.declared.serving.Served.{Served}
 use Rattle.lc_io.specs.Counts.{HasCause}
@@ -14,21 +14,21 @@ CameOut (Ok served) visit = (visit.lost ≡ false) × (visit.requests ≡ served
 CameOut (Err fault) visit = (visit.lost ≡ true) × (visit.requests ≡ 0) × (visit.failed ≡ false)
 
 -- without a fault the bytes of the current connection were read to their end, or the session ended
-abbrev pub WasHeard : Visit → Option DoorTold → Type 0
-WasHeard visit told = visit.failed ≡ false → visit.lost ≡ false → NothingToCome told ⊎ (visit.ended ≡ true)
+abbrev pub WasHeard : Visit → Option DoorRecorded → Type 0
+WasHeard visit recorded = visit.failed ≡ false → visit.lost ≡ false → NothingToCome recorded ⊎ (visit.ended ≡ true)
 
 -- a visit from a side to the next one on the current connection, which is not over
 pub record Answers (visit : Visit) (outcome : Result Served NoMemory) (side next : Side) (before after : DoorSeen) : Type 0 where
   pub visit_is : IsVisit visit.lost side visit next
   pub came_out : CameOut outcome visit
-  pub told : GoesOn (OnCurrent (Exchanges visit.read visit.sent visit.failed)) before.told after.told
-  pub heard : WasHeard visit after.told
+  pub recorded : GoesOn (OnCurrent (Exchanges visit.read visit.sent visit.failed)) before.recorded after.recorded
+  pub heard : WasHeard visit after.recorded
   pub broken : HasCause before.broken after.broken (visit.failed ≡ true)
-  pub others : after ≡ record before { told = after.told; broken = after.broken }
+  pub others : after ≡ record before { recorded = after.recorded; broken = after.broken }
 
 -- the bytes of a visit were exchanged on the current connection, and it was hung up
-pub record IsOver (visit : Visit) (before after : DoorTold) : Type 0 where
-  pub at_end : DoorTold
+pub record IsOver (visit : Visit) (before after : DoorRecorded) : Type 0 where
+  pub at_end : DoorRecorded
   pub exchanged : OnCurrent (Exchanges visit.read visit.sent visit.failed) before at_end
   pub heard : WasHeard visit (Some at_end)
   pub over : after ≡ hung_up at_end
@@ -37,6 +37,6 @@ pub record IsOver (visit : Visit) (before after : DoorTold) : Type 0 where
 pub record Visits (visit : Visit) (outcome : Result Served NoMemory) (side next : Side) (before after : DoorSeen) : Type 0 where
   pub visit_is : IsVisit visit.lost side visit next
   pub came_out : CameOut outcome visit
-  pub told : GoesOn (IsOver visit) before.told after.told
+  pub recorded : GoesOn (IsOver visit) before.recorded after.recorded
   pub broken : HasCause before.broken after.broken (visit.failed ≡ true)
-  pub others : after ≡ record before { connected = false; told = after.told; broken = after.broken }
+  pub others : after ≡ record before { connected = false; recorded = after.recorded; broken = after.broken }

@@ -34,7 +34,7 @@ pub record IsExchange (base : BaseParts) (s : Shown) (before after : LinkSeen) (
   pub clear : before.clear → after.clear
   pub still : before.still → after.still
   pub side : before.still → IsGet request → after.side ≡ before.side
-  pub told : Tells before.told after.told base.authority request (bytes_of got) (result_of got)
+  pub recorded : Tells before.recorded after.recorded base.authority request (bytes_of got) (result_of got)
   pub faults : HasCause before.faults after.faults (IsErrOf (result_of got) Failed)
 
 -- where it failed the client has ended, with both counts of the link

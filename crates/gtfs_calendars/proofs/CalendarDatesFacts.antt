@@ -42,13 +42,13 @@ parts_are (Some s) None date r e = cc
 parts_are None added date r e = cc
 
 -- what is read by values is read by values that are the same
-pub reads_date_row : (service name : Option (List ℕ)) (again twice : Bool) (added told : Option Bool) (date day : Option ServiceDate) (r : Result DateRow ℕ)
-    → service ≡ name → again ≡ twice → added ≡ told → date ≡ day
+pub reads_date_row : (service name : Option (List ℕ)) (again twice : Bool) (added recorded : Option Bool) (date day : Option ServiceDate) (r : Result DateRow ℕ)
+    → service ≡ name → again ≡ twice → added ≡ recorded → date ≡ day
     → ReadsItem (first_of (date_row_rules service again added date)) (date_row_of service added date) r
-    → ReadsItem (first_of (date_row_rules name twice told day)) (date_row_of name told day) r
-reads_date_row service name again twice added told date day r a b c d h =
-    subst (λ (x : Option (List ℕ)). ReadsItem (first_of (date_row_rules x twice told day)) (date_row_of x told day) r) a
-    (subst (λ (x : Bool). ReadsItem (first_of (date_row_rules service x told day)) (date_row_of service told day) r) b
+    → ReadsItem (first_of (date_row_rules name twice recorded day)) (date_row_of name recorded day) r
+reads_date_row service name again twice added recorded date day r a b c d h =
+    subst (λ (x : Option (List ℕ)). ReadsItem (first_of (date_row_rules x twice recorded day)) (date_row_of x recorded day) r) a
+    (subst (λ (x : Bool). ReadsItem (first_of (date_row_rules service x recorded day)) (date_row_of service recorded day) r) b
     (subst (λ (x : Option Bool). ReadsItem (first_of (date_row_rules service again x day)) (date_row_of service x day) r) c
     (subst (λ (x : Option ServiceDate). ReadsItem (first_of (date_row_rules service again added x)) (date_row_of service added x) r) d h)))
 

@@ -36,13 +36,13 @@ service_is (Some s) None from to w e = cc
 service_is None days from to w e = cc
 
 -- what is read by values is read by values that are the same
-pub reads_weekly : (service name : Option (List ℕ)) (again twice : Bool) (days told : Option (List Bool)) (from first to last : Option ServiceDate) (r : Result Weekly ℕ)
-    → service ≡ name → again ≡ twice → days ≡ told → from ≡ first → to ≡ last
+pub reads_weekly : (service name : Option (List ℕ)) (again twice : Bool) (days recorded : Option (List Bool)) (from first to last : Option ServiceDate) (r : Result Weekly ℕ)
+    → service ≡ name → again ≡ twice → days ≡ recorded → from ≡ first → to ≡ last
     → ReadsItem (first_of (weekly_rules service again days from to)) (weekly_of service days from to) r
-    → ReadsItem (first_of (weekly_rules name twice told first last)) (weekly_of name told first last) r
-reads_weekly service name again twice days told from first to last r a b c d e h =
-    subst (λ (x : Option (List ℕ)). ReadsItem (first_of (weekly_rules x twice told first last)) (weekly_of x told first last) r) a
-    (subst (λ (x : Bool). ReadsItem (first_of (weekly_rules service x told first last)) (weekly_of service told first last) r) b
+    → ReadsItem (first_of (weekly_rules name twice recorded first last)) (weekly_of name recorded first last) r
+reads_weekly service name again twice days recorded from first to last r a b c d e h =
+    subst (λ (x : Option (List ℕ)). ReadsItem (first_of (weekly_rules x twice recorded first last)) (weekly_of x recorded first last) r) a
+    (subst (λ (x : Bool). ReadsItem (first_of (weekly_rules service x recorded first last)) (weekly_of service recorded first last) r) b
     (subst (λ (x : Option (List Bool)). ReadsItem (first_of (weekly_rules service again x first last)) (weekly_of service x first last) r) c
     (subst (λ (x : Option ServiceDate). ReadsItem (first_of (weekly_rules service again days x last)) (weekly_of service days x last) r) d
     (subst (λ (x : Option ServiceDate). ReadsItem (first_of (weekly_rules service again days from x)) (weekly_of service days from x) r) e h))))

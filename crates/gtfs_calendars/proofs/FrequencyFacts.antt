@@ -5,13 +5,13 @@ use Rattle.gtfs_fields.specs.Fields.{ReadsItem}
 use Rattle.gtfs_calendars.specs.Frequencies.{frequency_of, frequency_rules}
 use Rattle.gtfs_calendars.specs.declared.frequency.Frequency.{Frequency}
 
-pub reads_frequency : (trip name : Option (List ℕ)) (unknown missing : Bool) (headway told : Option ℕ) (from first to last : Option ℕ) (r : Result Frequency ℕ)
-    → trip ≡ name → unknown ≡ missing → headway ≡ told → from ≡ first → to ≡ last
+pub reads_frequency : (trip name : Option (List ℕ)) (unknown missing : Bool) (headway recorded : Option ℕ) (from first to last : Option ℕ) (r : Result Frequency ℕ)
+    → trip ≡ name → unknown ≡ missing → headway ≡ recorded → from ≡ first → to ≡ last
     → ReadsItem (first_of (frequency_rules trip unknown headway from to)) (frequency_of trip headway from to) r
-    → ReadsItem (first_of (frequency_rules name missing told first last)) (frequency_of name told first last) r
-reads_frequency trip name unknown missing headway told from first to last r a b c d e h =
-    subst (λ (x : Option (List ℕ)). ReadsItem (first_of (frequency_rules x missing told first last)) (frequency_of x told first last) r) a
-    (subst (λ (x : Bool). ReadsItem (first_of (frequency_rules trip x told first last)) (frequency_of trip told first last) r) b
+    → ReadsItem (first_of (frequency_rules name missing recorded first last)) (frequency_of name recorded first last) r
+reads_frequency trip name unknown missing headway recorded from first to last r a b c d e h =
+    subst (λ (x : Option (List ℕ)). ReadsItem (first_of (frequency_rules x missing recorded first last)) (frequency_of x recorded first last) r) a
+    (subst (λ (x : Bool). ReadsItem (first_of (frequency_rules trip x recorded first last)) (frequency_of trip recorded first last) r) b
     (subst (λ (x : Option ℕ). ReadsItem (first_of (frequency_rules trip unknown x first last)) (frequency_of trip x first last) r) c
     (subst (λ (x : Option ℕ). ReadsItem (first_of (frequency_rules trip unknown headway x last)) (frequency_of trip headway x last) r) d
     (subst (λ (x : Option ℕ). ReadsItem (first_of (frequency_rules trip unknown headway from x)) (frequency_of trip headway from x) r) e h))))

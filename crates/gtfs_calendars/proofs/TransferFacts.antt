@@ -34,14 +34,14 @@ module _ {Row Item : Type 0} (rule_at : ℕ → Option ℕ) (said : Row → Opti
   pub kept_all : (place : ℕ) (items : List Item) → length rows ≤ place → AreKept place items → items ≡ filter_map said rows
   kept_all place items past so_far = so_far.listed ∙ ap (filter_map said) (take_all place rows past)
 
-pub reads_transfer : (passed left : Bool) (unknown missing : Bool) (from first to last : Option (List ℕ)) (kind told : Option ℕ) (seconds time : Option (Option ℕ)) (r : Result (Option Transfer) ℕ)
-    → passed ≡ left → unknown ≡ missing → from ≡ first → to ≡ last → kind ≡ told → seconds ≡ time
+pub reads_transfer : (passed left : Bool) (unknown missing : Bool) (from first to last : Option (List ℕ)) (kind recorded : Option ℕ) (seconds time : Option (Option ℕ)) (r : Result (Option Transfer) ℕ)
+    → passed ≡ left → unknown ≡ missing → from ≡ first → to ≡ last → kind ≡ recorded → seconds ≡ time
     → ReadsItem (first_of (transfer_rules passed unknown kind seconds)) (Some (transfer_of passed from to kind seconds)) r
-    → ReadsItem (first_of (transfer_rules left missing told time)) (Some (transfer_of left first last told time)) r
-reads_transfer passed left unknown missing from first to last kind told seconds time r a b c d e f h =
-    subst (λ (x : Bool). ReadsItem (first_of (transfer_rules x missing told time)) (Some (transfer_of x first last told time)) r) a
-    (subst (λ (x : Bool). ReadsItem (first_of (transfer_rules passed x told time)) (Some (transfer_of passed first last told time)) r) b
-    (subst (λ (x : Option (List ℕ)). ReadsItem (first_of (transfer_rules passed unknown told time)) (Some (transfer_of passed x last told time)) r) c
-    (subst (λ (x : Option (List ℕ)). ReadsItem (first_of (transfer_rules passed unknown told time)) (Some (transfer_of passed from x told time)) r) d
+    → ReadsItem (first_of (transfer_rules left missing recorded time)) (Some (transfer_of left first last recorded time)) r
+reads_transfer passed left unknown missing from first to last kind recorded seconds time r a b c d e f h =
+    subst (λ (x : Bool). ReadsItem (first_of (transfer_rules x missing recorded time)) (Some (transfer_of x first last recorded time)) r) a
+    (subst (λ (x : Bool). ReadsItem (first_of (transfer_rules passed x recorded time)) (Some (transfer_of passed first last recorded time)) r) b
+    (subst (λ (x : Option (List ℕ)). ReadsItem (first_of (transfer_rules passed unknown recorded time)) (Some (transfer_of passed x last recorded time)) r) c
+    (subst (λ (x : Option (List ℕ)). ReadsItem (first_of (transfer_rules passed unknown recorded time)) (Some (transfer_of passed from x recorded time)) r) d
     (subst (λ (x : Option ℕ). ReadsItem (first_of (transfer_rules passed unknown x time)) (Some (transfer_of passed from to x time)) r) e
     (subst (λ (x : Option (Option ℕ)). ReadsItem (first_of (transfer_rules passed unknown kind x)) (Some (transfer_of passed from to kind x)) r) f h)))))

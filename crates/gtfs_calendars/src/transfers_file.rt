@@ -1,6 +1,6 @@
 ghost use Rattle.std.specs.Prelude.{◌≡◌, ◌<◌, ◌⊎◌, ◌++◌, ℕ, ◌||◌, ◌&&◌, Some, IfErr, IfOk, List, OnOk, length, not, option_to_list};
 ghost use Rattle.std.specs.List.{filter_map};
-ghost use Rattle.lc_model.specs.declared.stop.Stop.{Stop as ToldStop};
+ghost use Rattle.lc_model.specs.declared.stop.Stop.{Stop as RecordedStop};
 ghost use Rattle.gtfs_fields.specs.Columns.{row_at};
 ghost use Rattle.gtfs_fields.specs.Places.{is_unknown as is_none_of};
 ghost use Rattle.gtfs_fields.specs.Rules.{IsUnbroken, first_of};
@@ -104,7 +104,7 @@ fn transfer_at<'a>(
 ) -> Result<Option<Transfer>, FileFault>
     requires there { place < length rows.now.rows }
     requires columns { AreTransferColumns rows.now columns }
-    ensures { (stops : List ToldStop) → HavePlaces (ids_of_stops stops) places.now → ReadsRow (transfers_rule stops rows.now place) (Some (transfer_said rows.now (row_at rows.now place))) place result }
+    ensures { (stops : List RecordedStop) → HavePlaces (ids_of_stops stops) places.now → ReadsRow (transfers_rule stops rows.now place) (Some (transfer_said rows.now (row_at rows.now place))) place result }
 {
     let from = text(rows, place, columns.from);
     let to = text(rows, place, columns.to);

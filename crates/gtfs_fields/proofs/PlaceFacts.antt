@@ -13,12 +13,12 @@ position_drop test (key ∷ keys) (suc place) from d inside =
     rest ∙ ap (λ n. cond (test (get_or keys place d)) (Some from) (position_from test (from + 1) (drop n (key ∷ keys)))) (sym e)
 
 -- a test of keys is the same test of what they stand for
-pub position_map : {Key Value : Type 0} (value_of : Key → Value) (test : Key → Bool) (told : Value → Bool) → ((key : Key) → test key ≡ told (value_of key))
-    → (keys : List Key) (from : ℕ) → position_from test from keys ≡ position_from told from (map value_of keys)
-position_map value_of test told same [] from = refl
-position_map value_of test told same (key ∷ keys) from =
+pub position_map : {Key Value : Type 0} (value_of : Key → Value) (test : Key → Bool) (recorded : Value → Bool) → ((key : Key) → test key ≡ recorded (value_of key))
+    → (keys : List Key) (from : ℕ) → position_from test from keys ≡ position_from recorded from (map value_of keys)
+position_map value_of test recorded same [] from = refl
+position_map value_of test recorded same (key ∷ keys) from =
     ap (λ b. cond b (Some from) (position_from test (from + 1) keys)) (same key)
-    ∙ ap (λ p. cond (told (value_of key)) (Some from) p) (position_map value_of test told same keys (from + 1))
+    ∙ ap (λ p. cond (recorded (value_of key)) (Some from) p) (position_map value_of test recorded same keys (from + 1))
 
 -- a key that passes has a first place, which is not after it
 pub place_at_most : {Key : Type 0} (test : Key → Bool) (keys : List Key) (place from : ℕ) (d : Key) → place < length keys → test (get_or keys place d) ≡ true

@@ -7,6 +7,6 @@ said_is P None None law said exact = refl
 said_is P (Some y) None law said exact = exact y ((law y).0 refl)
 
 -- what `is_none` tells of an option is `is_none`
-pub none_told : {A : Type 0} (o : Option A) (told : Bool) → is_some o ≡ not told → told ≡ is_none o
-none_told o true e = sym (ap not e)
-none_told o false e = sym (ap not e)
+pub none_recorded : {A : Type 0} (o : Option A) (recorded : Bool) → is_some o ≡ not recorded → recorded ≡ is_none o
+none_recorded o true e = sym (ap not e)
+none_recorded o false e = sym (ap not e)

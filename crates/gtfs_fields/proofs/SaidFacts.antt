@@ -2,7 +2,7 @@
 use Rattle.std.proofs.Common.{◌≡◌, ◌∙◌, ℕ, ◌+◌, ◌<◌, ◌≤◌, ◌⊎◌, List, [], ◌∷◌, ◌++◌, Option, Some, None, Ok, ap, ap₂, below_more, get_or, inl, inr, length, map, refl, sym, take}
 use Rattle.std.proofs.lemmas.List.{map_more, map_push, take_all}
 use Rattle.gtfs_fields.specs.Rules.{IsUnbroken}
-use Rattle.gtfs_fields.specs.Fields.{IsToldOf, ReadsRow}
+use Rattle.gtfs_fields.specs.Fields.{IsRecordedOf, ReadsRow}
 use Rattle.gtfs_fields.specs.Table.{IsRowFault}
 use Rattle.gtfs_fields.specs.declared.fault.FileFault.{FileFault}
 use Rattle.gtfs_fields.specs.declared.fault.FileFault.TheVariants.{Broken, TooMany, NoMemory}
@@ -32,12 +32,12 @@ lists_of_some {A} (x ∷ xs) (y ∷ ys) e =
     tail_is e = cc
 
 -- the fault of a row before which none is broken is the first
-pub told_first : (rule_at : ℕ → Option ℕ) (count place : ℕ) (fault : FileFault) → place < count → IsUnbroken rule_at place → IsToldOf (rule_at place) place fault
+pub recorded_first : (rule_at : ℕ → Option ℕ) (count place : ℕ) (fault : FileFault) → place < count → IsUnbroken rule_at place → IsRecordedOf (rule_at place) place fault
     → (fault ≡ NoMemory) ⊎ IsRowFault rule_at count fault
-told_first rule_at count place (Broken rule row) inside before (broken, at) =
+recorded_first rule_at count place (Broken rule row) inside before (broken, at) =
     inr (place, record { there = inside; broken = broken; before = before }, at)
-told_first rule_at count place (TooMany n) inside before told = absurd told
-told_first rule_at count place NoMemory inside before told = inl refl
+recorded_first rule_at count place (TooMany n) inside before recorded = absurd recorded
+recorded_first rule_at count place NoMemory inside before recorded = inl refl
 
 module _ {Row Item : Type 0} (rule_at : ℕ → Option ℕ) (said : Row → Option Item) (rows : List Row) where
   -- so many rows break no rule, and these are the items that they say

@@ -88,16 +88,16 @@ module _ (columns : List (List ℕ)) (most : ℕ) (bytes : List ℕ) where
   pub small_tables_are_one : (a b : Sheet) → IsSmallTable columns most bytes a → IsSmallTable columns most bytes b → a ≡ b
   small_tables_are_one a b h k = sheets_are_one bytes a b h.table.read k.table.read
 
-  -- what a fault of the rows is told as
-  pub told : (found : RowFault) (fault : FileFault) → IsFaultOf found fault → (found ≡ row_faults.NoMemory) ⊎ Breaks bytes columns found
+  -- what a fault of the rows is recorded as
+  pub recorded : (found : RowFault) (fault : FileFault) → IsFaultOf found fault → (found ≡ row_faults.NoMemory) ⊎ Breaks bytes columns found
       → (fault ≡ NoMemory) ⊎ IsTableFault columns most bytes fault
-  told found (Broken rule row) is (inl none) = let e : None ≡ Some (rule, row) = sym (ap rule_of_fault none) ∙ is in absurd (none_is_not_some (rule, row) e)
+  recorded found (Broken rule row) is (inl none) = let e : None ≡ Some (rule, row) = sym (ap rule_of_fault none) ∙ is in absurd (none_is_not_some (rule, row) e)
     where
       none_is_not_some : (x : ℕ × ℕ) → (◌≡◌ {A = Option (ℕ × ℕ)} None (Some x)) → ⊥
       none_is_not_some x e = cc
-  told found (Broken rule row) is (inr breaks) = inr (record { fault = found; breaks = breaks; numbered = is })
-  told found (TooMany n) is h = absurd is
-  told found NoMemory is h = inl refl
+  recorded found (Broken rule row) is (inr breaks) = inr (record { fault = found; breaks = breaks; numbered = is })
+  recorded found (TooMany n) is h = absurd is
+  recorded found NoMemory is h = inl refl
 
   module _ (rule_at : Sheet → ℕ → Option ℕ) where
     row_not_table : (a b : FileFault) → BreaksRow columns most rule_at bytes a → IsTableFault columns most bytes b → ⊥

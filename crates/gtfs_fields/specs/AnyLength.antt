@@ -18,7 +18,7 @@ IsNoTable columns bytes (Broken rule row) = BreaksTable columns bytes rule row
 IsNoTable columns bytes (TooMany count) = ⊥
 IsNoTable columns bytes NoMemory = ⊥
 
--- the bytes are a table with these columns, but a row breaks a rule, and the first is told
+-- the bytes are a table with these columns, but a row breaks a rule, and the first is recorded
 pub record HasBrokenRow (columns : List (List ℕ)) (rule_at : Sheet → ℕ → Option ℕ) (bytes : List ℕ) (fault : FileFault) : Type 0 where
   pub sheet : Sheet
   pub table : IsTable bytes columns sheet

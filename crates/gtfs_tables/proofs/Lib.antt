@@ -3,5 +3,5 @@ pub mod FeedLaws
 pub mod FeedWalkLemmas
 pub mod OneTablesLaws
 pub mod StepLemmas
-pub mod ToldLemmas
+pub mod RecordedLemmas
 pub mod WalkLemmas

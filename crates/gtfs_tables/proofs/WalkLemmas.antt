@@ -19,7 +19,7 @@ use Rattle.gtfs_tables.specs.declared.end.End.TheVariants.{Failed, NoMemory, Wro
 use Rattle.gtfs_tables.specs.declared.feed_file.FeedFile.{FeedFile}
 use Rattle.gtfs_tables.specs.declared.feed_file.FeedFile.TheVariants as file
 use Rattle.gtfs_tables.specs.declared.tables.Tables.{Tables}
-use Rattle.gtfs_tables.specs.Parts.{Each, GoesOn, PartEnds, SoFar, Told, Walked}
+use Rattle.gtfs_tables.specs.Parts.{Each, GoesOn, PartEnds, SoFar, Recorded, Walked}
 use Rattle.gtfs_tables.proofs.CountLemmas.{rose_and_kept, rose_before, rose_none, rose_once_more}
 
 -- the place of a file in the order of reading
@@ -54,10 +54,10 @@ put_is : (all found : Found) (at other : FeedFile) (x : Option (List ℕ)) (same
 put_is all found at other x true same here there = here ∙ ap all (same_file at other (eqb-true (place_of at) (place_of other) same))
 put_is all found at other x false same here there = there
 
-put_told : (told : Option (List File)) (feed : List ℕ) (found : Found) (at : FeedFile) (x : Option (List ℕ)) → Told told feed found
-    → IfSome told (λ files. x ≡ files_of files feed at) → Told told feed (put found at x)
-put_told None feed found at x there here = tt
-put_told (Some files) feed found at x there here =
+put_recorded : (recorded : Option (List File)) (feed : List ℕ) (found : Found) (at : FeedFile) (x : Option (List ℕ)) → Recorded recorded feed found
+    → IfSome recorded (λ files. x ≡ files_of files feed at) → Recorded recorded feed (put found at x)
+put_recorded None feed found at x there here = tt
+put_recorded (Some files) feed found at x there here =
     λ other. put_is (files_of files feed) found at other x (eqb (place_of at) (place_of other)) refl here (there other)
 
 -- what is found before anything was asked
@@ -65,9 +65,9 @@ abbrev pub found_first : Option (List File) → List ℕ → Found
 found_first None feed at = None
 found_first (Some files) feed at = files_of files feed at
 
-told_first : (told : Option (List File)) (feed : List ℕ) → Told told feed (found_first told feed)
-told_first None feed = tt
-told_first (Some files) feed = λ at. refl
+recorded_first : (recorded : Option (List File)) (feed : List ℕ) → Recorded recorded feed (found_first recorded feed)
+recorded_first None feed = tt
+recorded_first (Some files) feed = λ at. refl
 
 each_all : {X : Type 0} (P : X → Type 0) (xs : List X) → Each P xs → All P xs
 each_all P [] each = All-nil P
@@ -120,10 +120,10 @@ counted : (times a b c : ℕ) (x : Option (List ℕ)) → RoseBy times a b → b
 counted times a b c None before kept rose = rose_once_more times a b c before (rose refl)
 counted times a b c (Some bytes) before kept rose = omega arith
 
-told_more : (old mid : FolderSeen) (feed : List ℕ) (found : Found) (at : FeedFile) (x : Option (List ℕ)) → Keeps old mid
-    → Told old.files feed found → IfSome mid.files (λ files. x ≡ files_of files feed at) → Told old.files feed (put found at x)
-told_more old mid feed found at x kept told there =
-    put_told old.files feed found at x told (subst (λ (told : Option (List File)). IfSome told (λ files. x ≡ files_of files feed at)) kept.files there)
+recorded_more : (old mid : FolderSeen) (feed : List ℕ) (found : Found) (at : FeedFile) (x : Option (List ℕ)) → Keeps old mid
+    → Recorded old.files feed found → IfSome mid.files (λ files. x ≡ files_of files feed at) → Recorded old.files feed (put found at x)
+recorded_more old mid feed found at x kept recorded there =
+    put_recorded old.files feed found at x recorded (subst (λ (recorded : Option (List File)). IfSome recorded (λ files. x ≡ files_of files feed at)) kept.files there)
 
 absences_more : (a b c : ℕ) (found : Found) (place : ℕ) (at : FeedFile) (x : Option (List ℕ)) → Stands place at → RoseBy (absent_among found place) a b
     → b ≤ c → (IsNone x → Rose b c) → RoseBy (absent_among (put found at x) (suc place)) a c
@@ -136,7 +136,7 @@ walked_more : (old mid new : FolderSeen) (feed : List ℕ) (found : Found) (plac
     → Walked old new feed (put found at x) (suc place)
 walked_more old mid new feed found place at x stands walked kept finds is = record {
   kept = keeps_all old mid new walked.kept kept;
-  told = told_more old mid feed found at x walked.kept walked.told finds.there;
+  recorded = recorded_more old mid feed found at x walked.kept walked.recorded finds.there;
   in_turn = asked_more old.asked mid.asked new.asked feed place at stands walked.in_turn finds.asked;
   right = subst (Each (IsRightAt (put found at x))) (sym stands.next) (each_more (IsRightAt (put found at x)) (take place feed_files) at (stands.right_before found x walked.right) is);
   absences = absences_more old.absences mid.absences new.absences found place at x stands walked.absences kept.absences finds.counted;
@@ -155,7 +155,7 @@ right_to found few many less each = each_all (IsRightAt found) (take few feed_fi
 pub reads_walked : (old new : FolderSeen) (feed : List ℕ) (found : Found) (count : ℕ) → count ≤ 7 → Walked old new feed found count
     → Reads old new feed found count count
 reads_walked old new feed found count low walked = record {
-  found_there = walked.told;
+  found_there = walked.recorded;
   in_turn = walked.in_turn;
   right_before = right_to found (count - 1) count (omega arith) walked.right;
   absences_counted = walked.absences;
@@ -168,7 +168,7 @@ reads_walked old new feed found count low walked = record {
 reads_unasked : (old mid new : FolderSeen) (feed : List ℕ) (found : Found) (place : ℕ) (at : FeedFile) → Stands place at
     → Walked old mid feed found place → Keeps mid new → new.asked ≡ mid.asked → Reads old new feed found place place
 reads_unasked old mid new feed found place at stands walked kept same = record {
-  found_there = walked.told;
+  found_there = walked.recorded;
   in_turn = same ∙ walked.in_turn;
   right_before = right_to found (place - 1) place (omega arith) walked.right;
   absences_counted = rose_and_kept (absent_among found place) old.absences mid.absences new.absences walked.absences kept.absences;
@@ -182,7 +182,7 @@ reads_unanswered : (old mid new : FolderSeen) (feed : List ℕ) (found : Found) 
     → Walked old mid feed found place → Keeps mid new → new.asked ≡ asked_after mid.asked (path_of feed at)
     → Reads old new feed found (suc place) place
 reads_unanswered old mid new feed found place at stands walked kept asked = record {
-  found_there = walked.told;
+  found_there = walked.recorded;
   in_turn = asked_more old.asked mid.asked new.asked feed place at stands walked.in_turn asked;
   right_before = right_to found (suc place - 1) place (omega arith) walked.right;
   absences_counted = rose_and_kept (absent_among found place) old.absences mid.absences new.absences walked.absences kept.absences;
@@ -195,7 +195,7 @@ reads_unanswered old mid new feed found place at stands walked kept asked = reco
 reads_found : (old mid new : FolderSeen) (feed : List ℕ) (found : Found) (place : ℕ) (at : FeedFile) (x : Option (List ℕ)) → Stands place at
     → Walked old mid feed found place → Keeps mid new → Finds mid new feed at x → Reads old new feed (put found at x) (suc place) (suc place)
 reads_found old mid new feed found place at x stands walked kept finds = record {
-  found_there = told_more old mid feed found at x walked.kept walked.told finds.there;
+  found_there = recorded_more old mid feed found at x walked.kept walked.recorded finds.there;
   in_turn = asked_more old.asked mid.asked new.asked feed place at stands walked.in_turn finds.asked;
   right_before = right_to (put found at x) (suc place - 1) place (omega arith) (stands.right_before found x walked.right);
   absences_counted = absences_more old.absences mid.absences new.absences found place at x stands walked.absences kept.absences finds.counted;
@@ -240,7 +240,7 @@ begun {old} {feed} = record {
   found = found_first old.files feed;
   walked = record {
     kept = record { files = refl; faults = omega arith; absences = omega arith };
-    told = told_first old.files feed;
+    recorded = recorded_first old.files feed;
     in_turn = same_asked old.asked;
     right = tt;
     absences = rose_none old.absences old.absences (omega arith);

@@ -19,8 +19,8 @@ use Rattle.gtfs_tables.specs.declared.feed_file.FeedFile.{FeedFile}
 use Rattle.gtfs_tables.specs.declared.feed_file.FeedFile.TheVariants as file
 
 -- what was found is what the folder tells, where it tells its files
-abbrev pub Told : Option (List File) → List ℕ → Found → Type 0
-Told told feed found = IfSome told (λ files. (at : FeedFile) → found at ≡ files_of files feed at)
+abbrev pub Recorded : Option (List File) → List ℕ → Found → Type 0
+Recorded recorded feed found = IfSome recorded (λ files. (at : FeedFile) → found at ≡ files_of files feed at)
 
 -- it holds of each item, by the items
 abbrev pub Each : {X : Type 0} → (X → Type 0) → List X → Type 0
@@ -30,7 +30,7 @@ Each P (x ∷ xs) = P x × Each P xs
 -- the first files, so many, were asked for and found as they have to be
 pub record Walked (old new : FolderSeen) (feed : List ℕ) (found : Found) (count : ℕ) : Type 0 where
   pub kept : Keeps old new
-  pub told : Told old.files feed found
+  pub recorded : Recorded old.files feed found
   pub in_turn : new.asked ≡ option_map (λ names. names ++ first_paths feed count) old.asked
   pub right : Each (IsRightAt found) (take count feed_files)
   pub absences : RoseBy (absent_among found count) old.absences new.absences

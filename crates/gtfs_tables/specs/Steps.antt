@@ -83,7 +83,7 @@ pub record IsWalk (old new : FolderSeen) (feed : List ℕ) (result : Result Tabl
   pub kept : Keeps old new
   pub ends : WalkEnds old new feed result
 
--- the end can be told as a fault: a file with too many rows is one whose rows have a limit, and no fault is running out of memory
+-- the end can be recorded as a fault: a file with too many rows is one whose rows have a limit, and no fault is running out of memory
 abbrev pub IsTellable : End → Type 0
 IsTellable (Wrong named (wrong.Broken rule row)) = Unit {0}
 IsTellable (Wrong named (wrong.TooMany count)) = IsSome (what_of named)
@@ -91,7 +91,7 @@ IsTellable (Wrong named wrong.NoMemory) = ⊥
 IsTellable Failed = Unit {0}
 IsTellable NoMemory = Unit {0}
 
--- how the end is told as a fault
+-- how the end is recorded as a fault
 abbrev pub IsFaultOf : End → ℕ → ℕ → FeedFault → Type 0
 IsFaultOf (Wrong at (wrong.Broken broken place)) first last (fault.Broken rule file row) = (rule ≡ broken) × (file ≡ at) × (row ≡ place)
 IsFaultOf (Wrong at (wrong.TooMany rows)) first last (fault.TooLarge what count) = (what_of at ≡ Some what) × (count ≡ rows)

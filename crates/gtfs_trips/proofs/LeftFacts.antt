@@ -24,10 +24,10 @@ module _ {X : Type 0} (text_of : X → List ℕ) (xs : List X) (text : List ℕ)
       (found.0, found.1, found.2, found.3, (bytes_eq-Decides (text_of found.1) text).0 found.4)
 
 -- a search answers as the test
-pub search_tells : (left : List (Bor (List ℕ))) (trip : List ℕ) (told : Bool) → (IsTrue told → Any (λ (x : Bor (List ℕ)). x.now ≡ trip) left) → (Any (λ (x : Bor (List ℕ)). x.now ≡ trip) left → IsTrue told)
-    → told ≡ is_in left trip
-search_tells left trip told there back =
-    same_bool told (is_in left trip) (λ t. any_found (λ (x : Bor (List ℕ)). x.now) left trip (there t)) (λ t. back (found_any (λ (x : Bor (List ℕ)). x.now) left trip t))
+pub search_tells : (left : List (Bor (List ℕ))) (trip : List ℕ) (recorded : Bool) → (IsTrue recorded → Any (λ (x : Bor (List ℕ)). x.now ≡ trip) left) → (Any (λ (x : Bor (List ℕ)). x.now ≡ trip) left → IsTrue recorded)
+    → recorded ≡ is_in left trip
+search_tells left trip recorded there back =
+    same_bool recorded (is_in left trip) (λ t. any_found (λ (x : Bor (List ℕ)). x.now) left trip (there t)) (λ t. back (found_any (λ (x : Bor (List ℕ)). x.now) left trip t))
 
 -- two lists of the same texts are tested alike
 pub tested_alike : (left : List (Bor (List ℕ))) (stopless : List Stopless) (trip : List ℕ)

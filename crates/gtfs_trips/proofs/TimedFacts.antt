@@ -73,10 +73,10 @@ kept_once p trips kept are once = subst HaveOneRowATrip (sym are) (pairs_filtere
 pub left_out_is : (visits seen : List Visit) (stopless given : List Stopless) (left : List (Bor (List ℕ))) → seen ≡ visits → given ≡ stopless → AreSorted left
     → ((trip : List ℕ) → is_in left trip ≡ list_any (λ (s : Stopless). is_same_id s.trip trip) given)
     → ((trip : List ℕ) → list_any (λ (s : Stopless). is_same_id s.trip trip) stopless ≡ is_left_out seen trip) → AreLeftOut visits left
-left_out_is visits seen stopless given left same_visits same_stopless sorted tested told = record {
+left_out_is visits seen stopless given left same_visits same_stopless sorted tested recorded = record {
   sorted = sorted;
   are = λ trip.
-      tested trip ∙ ap (λ (l : List Stopless). list_any (λ (s : Stopless). is_same_id s.trip trip) l) same_stopless ∙ told trip
+      tested trip ∙ ap (λ (l : List Stopless). list_any (λ (s : Stopless). is_same_id s.trip trip) l) same_stopless ∙ recorded trip
       ∙ ap (λ (l : List Visit). is_left_out l trip) same_visits;
 }
 

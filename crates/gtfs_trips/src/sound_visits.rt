@@ -34,7 +34,7 @@ pub(crate) struct Ids<'a> {
 
 /// What a row says, and where its trip stands.
 #[derive(Drop)]
-pub(crate) struct Told {
+pub(crate) struct Recorded {
     visit: Visit,
     trip: usize,
 }
@@ -74,7 +74,7 @@ pub(crate) fn sound_visits(
     requires { AreStopTimeColumns rows.now columns }
     ensures { IfOk result (λ found. IfSome found (λ visits. AreSoundVisits stops.now trips.now rows.now visits.items)) }
 {
-    let Some(visits) = told_visits(alloc, rows, columns, stops, trips)? else {
+    let Some(visits) = recorded_visits(alloc, rows, columns, stops, trips)? else {
         return Ok(None);
     };
     let sorted = by_trip(visits)?;
@@ -106,7 +106,7 @@ fn are_apart(visits: &[Visit]) -> bool
 }
 
 // The visits of the rows, in their order, if none of the rows breaks a rule by itself.
-fn told_visits<'a>(
+fn recorded_visits<'a>(
     alloc: Global,
     rows: &'a Rows,
     columns: StopTimeColumns,
@@ -114,8 +114,8 @@ fn told_visits<'a>(
     trips: &'a [TripRow],
 ) -> Result<Option<Vec<Visit>>, NoMemory>
     requires { AreStopTimeColumns rows.now columns }
-    ensures said { IfOk result (λ told. IfSome told (λ visits. visits.items ≡ visits_of_rows rows.now)) }
-    ensures sound { IfOk result (λ told. IfSome told (λ _. AreSoundAlone stops.now trips.now rows.now)) }
+    ensures said { IfOk result (λ recorded. IfSome recorded (λ visits. visits.items ≡ visits_of_rows rows.now)) }
+    ensures sound { IfOk result (λ recorded. IfSome recorded (λ _. AreSoundAlone stops.now trips.now rows.now)) }
 {
     let ids = ids_of(alloc, stops, trips)?;
     visits_with(alloc, rows, columns, stops, trips, &ids)
@@ -132,17 +132,18 @@ fn visits_with<'a>(
 ) -> Result<Option<Vec<Visit>>, NoMemory>
     requires columns { AreStopTimeColumns rows.now columns }
     requires ids { HaveIds stops.now trips.now ids.now }
-    ensures said { IfOk result (λ told. IfSome told (λ visits. visits.items ≡ visits_of_rows rows.now)) }
-    ensures sound { IfOk result (λ told. IfSome told (λ _. AreSoundAlone stops.now trips.now rows.now)) }
+    ensures said { IfOk result (λ recorded. IfSome recorded (λ visits. visits.items ≡ visits_of_rows rows.now)) }
+    ensures sound { IfOk result (λ recorded. IfSome recorded (λ _. AreSoundAlone stops.now trips.now rows.now)) }
 {
     let mut visits = Vec::with_capacity(alloc, rows.len())?;
     let mut near = 0;
     'rows: for place in 0..rows.len() {
-        let Some(told) = told_visit(alloc, rows, columns, stops, trips, ids, near, place)? else {
+        let Some(recorded) = recorded_visit(alloc, rows, columns, stops, trips, ids, near, place)?
+        else {
             return Ok(None);
         };
-        near = told.trip;
-        visits.push(told.visit)?;
+        near = recorded.trip;
+        visits.push(recorded.visit)?;
     }
     Ok(Some(visits))
 }
@@ -157,7 +158,7 @@ fn ids_of<'a>(alloc: Global, stops: &'a [Stop], trips: &'a [TripRow]) -> Result<
 }
 
 // What the row at this place says, if it breaks no rule by itself. Its trip may be the one at the place `near`.
-fn told_visit<'a>(
+fn recorded_visit<'a>(
     alloc: Global,
     rows: &'a Rows,
     columns: StopTimeColumns,
@@ -166,11 +167,11 @@ fn told_visit<'a>(
     ids: &Ids<'a>,
     near: usize,
     place: usize,
-) -> Result<Option<Told>, NoMemory>
+) -> Result<Option<Recorded>, NoMemory>
     requires there { place < length rows.now.rows }
     requires columns { AreStopTimeColumns rows.now columns }
     requires ids { HaveIds stops.now trips.now ids.now }
-    ensures { IfOk result (λ told. IfSome told (λ t. SaysVisit stops.now trips.now rows.now place t.visit)) }
+    ensures { IfOk result (λ recorded. IfSome recorded (λ t. SaysVisit stops.now trips.now rows.now place t.visit)) }
 {
     // There are fewer rows than `usize` counts.
     let _count = rows.len();
@@ -192,7 +193,7 @@ fn told_visit<'a>(
         alight: rights.alight,
         row: (place + 1) as u64,
     };
-    Ok(Some(Told {
+    Ok(Some(Recorded {
         visit,
         trip: said.trip,
     }))
@@ -277,8 +278,8 @@ fn stop_said<'a>(
     text: &'a [u8],
 ) -> Result<Option<Option<Id>>, NoMemory>
     requires { HavePlaces (ids_of_stops stops.now) places.now }
-    ensures value { IfOk result (λ told. IfSome told (λ id. id ≡ (if length text.now == 0 then None else Some text.now))) }
-    ensures known { IfOk result (λ told. IfSome told (λ _. is_unknown (ids_of_stops stops.now) text.now ≡ false)) }
+    ensures value { IfOk result (λ recorded. IfSome recorded (λ id. id ≡ (if length text.now == 0 then None else Some text.now))) }
+    ensures known { IfOk result (λ recorded. IfSome recorded (λ _. is_unknown (ids_of_stops stops.now) text.now ≡ false)) }
 {
     if text.is_empty() {
         return Ok(Some(None));

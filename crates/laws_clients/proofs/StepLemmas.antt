@@ -37,10 +37,10 @@ use Rattle.publisher_spec.specs.PageAt.{linked, named, page_among}
 use Rattle.publisher_spec.specs.Response.{IsPageOf}
 use Rattle.publisher_spec.specs.Short.{StandsUnder}
 use Rattle.publisher_spec.specs.Side.{IsValidSide, Side, has_version}
-use Rattle.laws_sides.specs.Told.{IsSentTo, IsToldTo, version_at}
-use Rattle.laws_sides.proofs.GateLemmas.{gate_is_told}
-use Rattle.laws_sides.proofs.PageLemmas.{page_is_told}
-use Rattle.laws_sides.proofs.StopsLemmas.{stops_are_told}
+use Rattle.laws_sides.specs.Recorded.{IsSentTo, IsRecordedTo, version_at}
+use Rattle.laws_sides.proofs.GateLemmas.{gate_is_recorded}
+use Rattle.laws_sides.proofs.PageLemmas.{page_is_recorded}
+use Rattle.laws_sides.proofs.StopsLemmas.{stops_are_recorded}
 use Rattle.laws_clients.specs.Fits.{FitsAt, FitsSide, HasEnded, HasFailed, IsAtGate, IsCutShort, IsOfSide, IsSentOn, IsUnderWay}
 use Rattle.laws_clients.specs.Laws.{IsAmong}
 use Rattle.laws_clients.specs.Steps.{GateKeepsIt, GetsVersion, IsReplyTo, KeepsVersion, LinkFaultKeepsIt, PageIsOwn, PageKeepsIt, SaysOwnPage, SpentKeepsIt, StopsKeepIt}
@@ -98,9 +98,9 @@ last_is_one p base (x ∷ later) = by_test (p x) refl (last_is_one p x later) (l
 has_meant : (side : Side) (known : Option ℕ) → has_version side (version_at side known) ≡ true
 has_meant side known = last_is_one (is_by known) side.base_moment (moments_of side.history)
 
--- the reply to what is asked for is told
-told_to : (side : Side) (query : Query) (want : Want) (reply : List ℕ) → IsReplyTo side side.base query want reply → IsToldTo side (target_of side.base query want) (known_at query want) reply
-told_to side query want reply is = record { request = is.request; asks = is.asks; replies = is.replies }
+-- the reply to what is asked for is recorded
+recorded_to : (side : Side) (query : Query) (want : Want) (reply : List ℕ) → IsReplyTo side side.base query want reply → IsRecordedTo side (target_of side.base query want) (known_at query want) reply
+recorded_to side query want reply is = record { request = is.request; asks = is.asks; replies = is.replies }
 
 -- the gate's reply
 module _ (side : Side) (old new : Client) (wanted : List Want) (reply : List ℕ) (said : Result PageName PeerFault) where
@@ -108,7 +108,7 @@ module _ (side : Side) (old new : Client) (wanted : List Want) (reply : List ℕ
       shown new ≡ after_gate reply said (shown old) → FitsSide side new (wanted ++ wants.Gate ∷ []) × GetsVersion side (shown old) (shown new)
   gate_under stands at_gate replies is_said is =
       let query = old.query in
-      let sent : IsSentTo side old.query reply = gate_is_told side old.query reply stands (told_to side old.query wants.Gate reply replies) in
+      let sent : IsSentTo side old.query reply = gate_is_recorded side old.query reply stands (recorded_to side old.query wants.Gate reply replies) in
       let version = version_at side old.query.known in
       let among : IsAmong side (version_at side old.query.known) old.query.leave sent.is_gate_page.page = pages_are_among side version query.leave sent.is_gate_page.page sent.is_gate_page.is_page in
       let departs = (page_for among.published.first among.published.rest query.leave).departs in
@@ -199,7 +199,7 @@ stops_keep_it side base old new wanted reply said stands fits wants_stops replie
     let phase = waits_for_stops old.phase wants_stops in
     let sent : IsSentOn side (shown old) wanted phase.0 = subst (FitsAt side old wanted) phase.1 fits.fits in
     let P : BaseParts → Type 0 = λ b. StandsUnder b side → IsReplyTo side b (shown old).query wants.Stops reply → IsStopsReply reply (Ok side.doc) in
-    let under : P side.base = λ s r. stops_are_told side reply s (told_to side old.query wants.Stops reply r) in
+    let under : P side.base = λ s r. stops_are_recorded side reply s (recorded_to side old.query wants.Stops reply r) in
     let is : IsStopsReply reply (Ok side.doc) = subst P stands.is_base under stands replies in
     let same : said ≡ Ok side.doc = one_stops_reply reply said (Ok side.doc) is_said is in
     let doc : AfterDoc old side.doc new = subst (λ (r : Result StopsDoc PeerFault). AfterStops old reply r new) same after in
@@ -225,10 +225,10 @@ module _ (side : Side) (client : Client) (wanted : List Want) (name : PageName) 
             sym (ap (λ (pages : List CutPage). linked name.version by (page_among pages u.page.departs)) u.is_published.are_pages
             ∙ ap (linked name.version by) (found side name.version p stands.valid u.is_published _ u.page u.behind parts));
       } in
-      let is_told = page_is_told side page reply stands has (subst IsSoundName u.is_page u.sound) is_page (subst (λ (n : PageName). IsToldTo side (page_target_of side.base n) None reply) u.is_page (told_to side client.query (wants.Page name) reply replies)) in
+      let is_recorded = page_is_recorded side page reply stands has (subst IsSoundName u.is_page u.sound) is_page (subst (λ (n : PageName). IsRecordedTo side (page_target_of side.base n) None reply) u.is_page (recorded_to side client.query (wants.Page name) reply replies)) in
       let same : said ≡ Ok page =
-      one_page_reply side.base (named name.version u.page.departs) reply said (Ok page) (subst (λ (n : PageName). IsPageReply side.base n reply said) u.is_page is_said) is_told.0 in
-      subst (SaysOwnPage side name) (sym same) (sym u.is_page, record { has = has; is_page = is_page; sound = is_told.1 })
+      one_page_reply side.base (named name.version u.page.departs) reply said (Ok page) (subst (λ (n : PageName). IsPageReply side.base n reply said) u.is_page is_said) is_recorded.0 in
+      subst (SaysOwnPage side name) (sym same) (sym u.is_page, record { has = has; is_page = is_page; sound = is_recorded.1 })
 
 pub page_is_own : PageIsOwn
 page_is_own side base client wanted name reply said stands fits wants_page replies is_said =

@@ -21,7 +21,7 @@ use Rattle.page_client.specs.declared.want.Want.TheVariants as wants
 use Rattle.publisher_spec.specs.Reply.{IsReply}
 use Rattle.publisher_spec.specs.Short.{StandsUnder}
 use Rattle.publisher_spec.specs.Side.{IsValidSide, Side}
-use Rattle.laws_sides.specs.Told.{version_at}
+use Rattle.laws_sides.specs.Recorded.{version_at}
 use Rattle.laws_clients.specs.Answered.{NeededAt, answer_of}
 use Rattle.laws_clients.specs.Fits.{FitsSide, HasAnswered, HasFailed, IsDenied}
 use Rattle.laws_clients.specs.Published.{IsOwnPage}

@@ -23,7 +23,7 @@ use Rattle.page_client.proofs.PageLemmas.{waits_for}
 use Rattle.publisher_spec.specs.PageAt.{named}
 use Rattle.publisher_spec.specs.Side.{IsLater, IsValidSide, Side}
 use Rattle.publisher_spec.proofs.LaterLemmas.{with_more}
-use Rattle.laws_sides.specs.Told.{version_at}
+use Rattle.laws_sides.specs.Recorded.{version_at}
 use Rattle.laws_clients.specs.Answered.{names_at}
 use Rattle.laws_clients.specs.Fits.{FitsAt, FitsSide, IsUnderWay}
 use Rattle.laws_clients.specs.Wants.{AreWants, IsItsVersion, wants_of}

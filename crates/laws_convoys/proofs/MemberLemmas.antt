@@ -86,7 +86,7 @@ module _ (base : BaseParts) (side : Side) (was is : Member) (own : List Want) (k
             fault = λ low high none some. absurd (no_outcome_and_one (shown was.client).outcome low high none some);
           };
           count = none_more was.exchanges;
-          told = tells_nothing link.told base (shown was.client).query;
+          recorded = tells_nothing link.recorded base (shown was.client).query;
         };
         gave = record { had = f.had; same = refl; none_given = refl; none_asked = refl };
         version = refl;
@@ -107,8 +107,8 @@ module _ (base : BaseParts) (side : Side) (was is : Member) (own : List Want) (k
     -- a client that was given one thing
     given_one : (left : Side) (want : Want) (before after : LinkSeen) (asked : List Want) → (shown is.client).query ≡ (shown was.client).query →
         VersionAfter side left (shown was.client) (want ∷ []) (shown is.client).version → ¬ HasFault (shown is.client) → is.exchanges ≡ was.exchanges + length asked →
-        TellsAsked before.told after.told base (shown was.client).query asked → HasGone base side left was is before after (want ∷ []) asked
-    given_one left want before after asked query version no_fault count told = record {
+        TellsAsked before.recorded after.recorded base (shown was.client).query asked → HasGone base side left was is before after (want ∷ []) asked
+    given_one left want before after asked query version no_fault count recorded = record {
       moved = record {
         query = query;
         outcome = no_outcome_stays;
@@ -116,7 +116,7 @@ module _ (base : BaseParts) (side : Side) (was is : Member) (own : List Want) (k
         fault = λ low high had some. absurd (no_fault (record { low = low; high = high; is = some }));
       };
       count = count;
-      told = told;
+      recorded = recorded;
     }
 
   -- a client that takes a page which is kept
@@ -136,7 +136,7 @@ module _ (base : BaseParts) (side : Side) (was is : Member) (own : List Want) (k
         given = wants.Page name ∷ [];
         failed = [];
         asked = [];
-        gone = given_one c.had_none side (wants.Page name) link link [] keeps.1.query keeps.1.version no_fault (c.same_count ∙ none_more was.exchanges) (tells_nothing link.told base (shown was.client).query);
+        gone = given_one c.had_none side (wants.Page name) link link [] keeps.1.query keeps.1.version no_fault (c.same_count ∙ none_more was.exchanges) (tells_nothing link.recorded base (shown was.client).query);
         gave = record {
           waited = λ e. waits (shown was.client) name wants_it e;
           is_given = ap (λ (w : Want). w ∷ []) (sym wants_it);
@@ -210,7 +210,7 @@ module _ (base : BaseParts) (side : Side) (was is : Member) (own : List Want) (k
     failed = [];
     asked = want ∷ [];
     gone = given_one base side was is own kept after_kept none (exchanged (Some reply) ex).side want before after (want ∷ []) query version no_fault count
-        (tells_one before.told after.told base (shown was.client).query want ex.request (Some reply) (request_is (Some reply) ex want wants_it) ex.told);
+        (tells_one before.recorded after.recorded base (shown was.client).query want ex.request (Some reply) (request_is (Some reply) ex want wants_it) ex.recorded);
     gave = inl (record {
       waited = λ e. not (sym wants_it ∙ e);
       is_given = ap (λ (w : Want). w ∷ []) (sym wants_it);
@@ -247,7 +247,7 @@ module _ (base : BaseParts) (side : Side) (was is : Member) (own : List Want) (k
             fault = λ low high had some. rose_within (shown is.client).outcome before.faults after.faults low high outcome some (ex.faults.rose refl);
           };
           count = count;
-          told = tells_one before.told after.told base (shown was.client).query want ex.request None (request_is None ex want wants_it) ex.told;
+          recorded = tells_one before.recorded after.recorded base (shown was.client).query want ex.request None (request_is None ex want wants_it) ex.recorded;
         };
         gave = inr (record {
           waited = waits;

@@ -6,7 +6,7 @@ use Rattle.page_client.specs.declared.want.Want.{Want}
 use Rattle.page_client.specs.declared.want.Want.TheVariants as wants
 use Rattle.publisher_spec.specs.Side.{IsLater, Side}
 use Rattle.publisher_spec.proofs.LaterLemmas.{later_itself, later_on}
-use Rattle.laws_sides.specs.Told.{version_at}
+use Rattle.laws_sides.specs.Recorded.{version_at}
 use Rattle.laws_convoys.specs.Leaves.{IsNamedBetween, VersionAfter}
 
 -- this does not begin with the gate

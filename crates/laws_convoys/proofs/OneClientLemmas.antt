@@ -276,7 +276,7 @@ alone_ends seen side query start new before after only quiet is none begins none
       asked = a.asked;
       exact = s.exact;
       count = a.gone.count ∙ ap (λ (n : ℕ). n + length a.asked) no_exchange ∙ none_before (length a.asked);
-      told = subst (λ (q : Query). TellsAsked (seen before).told (seen after).told start.base q a.asked) query_is a.gone.told;
+      recorded = subst (λ (q : Query). TellsAsked (seen before).recorded (seen after).recorded start.base q a.asked) query_is a.gone.recorded;
       replied = (turns_replied seen start.base side 1 ends.steps start new before after refl quiet ends.turns).replied.tells;
       fault = λ low high some.
           fault_came begins.refusal (shown a.was.client).outcome (shown a.is.client).outcome low high (RoseWithin (seen before).faults (seen after).faults low high) first a.gone.moved.outcome

@@ -5,10 +5,10 @@ use Rattle.std.specs.Option.{option_map}
 use Rattle.std.proofs.lemmas.List.{append-nil, append_assoc}
 use Rattle.std.proofs.lemmas.List.Elements.{All-append, All-cons, All-nil}
 use Rattle.connection_uri.specs.Base.{BaseParts}
-use Rattle.lc_world.specs.Link.{Exchanges, IsHonestWith, IsQuietWith, LinkSeen, Tells, TellsMore, told_of}
+use Rattle.lc_world.specs.Link.{Exchanges, IsHonestWith, IsQuietWith, LinkSeen, Tells, TellsMore, recorded_of}
 use Rattle.lc_world.specs.declared.entry.Entry.{Entry}
-use Rattle.lc_world.specs.declared.entry.ToldReply.{ToldReply}
-use Rattle.lc_world.specs.declared.entry.ToldReply.TheVariants.{Hidden, Reply}
+use Rattle.lc_world.specs.declared.entry.RecordedReply.{RecordedReply}
+use Rattle.lc_world.specs.declared.entry.RecordedReply.TheVariants.{Hidden, Reply}
 use Rattle.page_client.specs.Client.{shown}
 use Rattle.page_client.specs.Shown.{Shown, want_of}
 use Rattle.page_client.specs.declared.client.Client.{Client}
@@ -29,11 +29,11 @@ use Rattle.laws_convoys.specs.Rounds.{round_asked, round_at}
 use Rattle.laws_convoys.proofs.HonestLemmas.{is_get}
 
 -- what is recorded of a reply is the reply
-replied_by : (side : Side) (request : List ℕ) (got : Got) (told : ToldReply) (reply : List ℕ) → OnOk (result_of got) (IsReply side request (bytes_of got)) → (told ≡ Hidden) ⊎ (told ≡ told_of got)
-    → told ≡ Reply reply → IsReply side request reply
-replied_by side request got told reply replied (inl hidden) is = absurd (cc)
-replied_by side request None told reply replied (inr failed) is = absurd (cc)
-replied_by side request (Some bytes) told reply replied (inr given) is = (let same : bytes ≡ reply = cc in subst (IsReply side request) same replied)
+replied_by : (side : Side) (request : List ℕ) (got : Got) (recorded : RecordedReply) (reply : List ℕ) → OnOk (result_of got) (IsReply side request (bytes_of got)) → (recorded ≡ Hidden) ⊎ (recorded ≡ recorded_of got)
+    → recorded ≡ Reply reply → IsReply side request reply
+replied_by side request got recorded reply replied (inl hidden) is = absurd (cc)
+replied_by side request None recorded reply replied (inr failed) is = absurd (cc)
+replied_by side request (Some bytes) recorded reply replied (inr given) is = (let same : bytes ≡ reply = cc in subst (IsReply side request) same replied)
 
 -- an exchange that ended is recorded
 one_more : (before after : Option (List Entry)) (authority request : List ℕ) (got : Got) → Tells before after authority request (bytes_of got) (result_of got) → TellsMore before after authority request got
@@ -42,38 +42,38 @@ one_more before after authority request (Some reply) tells = tells
 
 -- what is recorded so far, and the link that is quiet still
 pub record Replied (base : BaseParts) (side : Side) (before after : LinkSeen) : Type 0 where
-  pub tells : TellsReplies side before.told after.told
+  pub tells : TellsReplies side before.recorded after.recorded
   pub quiet : IsQuietWith after base side
 
-told_no_more : (told : Option (List Entry)) → told ≡ option_map (λ (entries : List Entry). entries ++ []) told
-told_no_more None = refl
-told_no_more (Some entries) = ap Some (sym (append-nil entries))
+recorded_no_more : (recorded : Option (List Entry)) → recorded ≡ option_map (λ (entries : List Entry). entries ++ []) recorded
+recorded_no_more None = refl
+recorded_no_more (Some entries) = ap Some (sym (append-nil entries))
 
-pub told_then : (told : Option (List Entry)) (first second : List Entry) →
-    option_map (λ (entries : List Entry). entries ++ second) (option_map (λ (entries : List Entry). entries ++ first) told) ≡ option_map (λ (entries : List Entry). entries ++ (first ++ second)) told
-told_then None first second = refl
-told_then (Some entries) first second = ap Some (append_assoc entries first second)
+pub recorded_then : (recorded : Option (List Entry)) (first second : List Entry) →
+    option_map (λ (entries : List Entry). entries ++ second) (option_map (λ (entries : List Entry). entries ++ first) recorded) ≡ option_map (λ (entries : List Entry). entries ++ (first ++ second)) recorded
+recorded_then None first second = refl
+recorded_then (Some entries) first second = ap Some (append_assoc entries first second)
 
 -- nothing was asked
 replied_none : (base : BaseParts) (side : Side) (link : LinkSeen) → IsQuietWith link base side → Replied base side link link
-replied_none base side link quiet = record { tells = record { entries = []; own = All-nil (IsRepliedBy side); is = told_no_more link.told }; quiet = quiet }
+replied_none base side link quiet = record { tells = record { entries = []; own = All-nil (IsRepliedBy side); is = recorded_no_more link.recorded }; quiet = quiet }
 
 -- and then more
 pub tells_replies_then : (side : Side) (a b c : Option (List Entry)) → TellsReplies side a b → TellsReplies side b c → TellsReplies side a c
 tells_replies_then side a b c one two = record {
   entries = one.entries ++ two.entries;
   own = All-append (IsRepliedBy side) one.entries two.entries one.own two.own;
-  is = two.is ∙ ap (option_map (λ (entries : List Entry). entries ++ two.entries)) one.is ∙ told_then a one.entries two.entries;
+  is = two.is ∙ ap (option_map (λ (entries : List Entry). entries ++ two.entries)) one.is ∙ recorded_then a one.entries two.entries;
 }
 
 -- so many were recorded in a turn, and the link is quiet still
 pub record RepliedInTurn (base : BaseParts) (side : Side) (count : ℕ) (before after : LinkSeen) : Type 0 where
-  pub tells : TellsSoMany side count before.told after.told
+  pub tells : TellsSoMany side count before.recorded after.recorded
   pub quiet : IsQuietWith after base side
 
 in_no_turn : (base : BaseParts) (side : Side) (link : LinkSeen) → IsQuietWith link base side → RepliedInTurn base side 0 link link
 in_no_turn base side link quiet = record {
-  tells = record { replies = record { entries = []; own = All-nil (IsRepliedBy side); is = told_no_more link.told }; count_is = refl };
+  tells = record { replies = record { entries = []; own = All-nil (IsRepliedBy side); is = recorded_no_more link.recorded }; count_is = refl };
   quiet = quiet;
 }
 
@@ -82,7 +82,7 @@ exchange_replied : (base : BaseParts) (side : Side) (s : Shown) (before after : 
 exchange_replied base side s before after got quiet ex =
     let x : Exchanges before after base side ex.request (bytes_of got) (result_of got) = ex.honest base side (is_get base _ _ ex.request ex.asks) quiet.as_honest in
     let same : x.side ≡ side = x.same quiet.quiet in
-    let more : TellsMore before.told after.told base.authority ex.request got = one_more before.told after.told base.authority ex.request got ex.told in
+    let more : TellsMore before.recorded after.recorded base.authority ex.request got = one_more before.recorded after.recorded base.authority ex.request got ex.recorded in
     let entry : Entry = record { authority = base.authority; request = ex.request; reply = more.reply } in
     let own : IsRepliedBy side entry =
     subst (λ (at : Side). IsRepliedBy at entry) same (λ reply is. replied_by x.side ex.request got more.reply reply x.replied more.is_given is) in
@@ -147,7 +147,7 @@ module _ {X : Type 0} (seen : X → LinkSeen) (base : BaseParts) (side : Side) (
       let second = turn_replied step.turn step.convoy new step.link after first.base_is first.replied.quiet last in
       record {
         replied = record {
-          tells = tells_replies_then side (seen before).told (seen step.link).told (seen after).told first.replied.tells second.tells.replies;
+          tells = tells_replies_then side (seen before).recorded (seen step.link).recorded (seen after).recorded first.replied.tells second.tells.replies;
           quiet = second.quiet;
         };
         base_is = last.turned.base ∙ first.base_is;
@@ -162,7 +162,7 @@ rounds_replied seen base side (suc n) old new before after under quiet (convoy, 
     let second = turns_replied seen base side (suc n) ends.steps convoy new link after first.base_is first.replied.quiet ends.turns in
     record {
       replied = record {
-        tells = tells_replies_then side (seen before).told (seen link).told (seen after).told first.replied.tells second.replied.tells;
+        tells = tells_replies_then side (seen before).recorded (seen link).recorded (seen after).recorded first.replied.tells second.replied.tells;
         quiet = second.replied.quiet;
       };
       base_is = second.base_is;

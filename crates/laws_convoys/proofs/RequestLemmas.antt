@@ -17,13 +17,13 @@ use Rattle.laws_convoys.specs.Requests.{TellsAsked, TellsRequests, request_of, r
 abbrev asked_at : List ℕ → Entry → Type 0
 asked_at authority entry = entry.authority ≡ authority
 
-nothing_told : (told : Option (List Entry)) → told ≡ option_map (λ (entries : List Entry). entries ++ []) told
-nothing_told None = refl
-nothing_told (Some entries) = ap Some (sym (append-nil entries))
+nothing_recorded : (recorded : Option (List Entry)) → recorded ≡ option_map (λ (entries : List Entry). entries ++ []) recorded
+nothing_recorded None = refl
+nothing_recorded (Some entries) = ap Some (sym (append-nil entries))
 
 -- nothing was asked
-pub tells_nothing : (told : Option (List Entry)) (base : BaseParts) (query : Query) → TellsAsked told told base query []
-tells_nothing told base query = record { entries = []; are = refl; authorities = All-nil (asked_at base.authority); is = nothing_told told }
+pub tells_nothing : (recorded : Option (List Entry)) (base : BaseParts) (query : Query) → TellsAsked recorded recorded base query []
+tells_nothing recorded base query = record { entries = []; are = refl; authorities = All-nil (asked_at base.authority); is = nothing_recorded recorded }
 
 -- one thing was asked
 pub tells_one : (before after : Option (List Entry)) (base : BaseParts) (query : Query) (want : Want) (request : List ℕ) (given : Option (List ℕ)) → request ≡ request_of base query want →
@@ -37,10 +37,10 @@ tells_one before after base query want request given same more =
       is = more.is;
     }
 
-told_then : (told : Option (List Entry)) (first second : List Entry) →
-    option_map (λ (entries : List Entry). entries ++ second) (option_map (λ (entries : List Entry). entries ++ first) told) ≡ option_map (λ (entries : List Entry). entries ++ (first ++ second)) told
-told_then None first second = refl
-told_then (Some entries) first second = ap Some (append_assoc entries first second)
+recorded_then : (recorded : Option (List Entry)) (first second : List Entry) →
+    option_map (λ (entries : List Entry). entries ++ second) (option_map (λ (entries : List Entry). entries ++ first) recorded) ≡ option_map (λ (entries : List Entry). entries ++ (first ++ second)) recorded
+recorded_then None first second = refl
+recorded_then (Some entries) first second = ap Some (append_assoc entries first second)
 
 -- and then other requests
 pub requests_then : (a b c : Option (List Entry)) (authority : List ℕ) (first second : List (List ℕ)) → TellsRequests a b authority first → TellsRequests b c authority second →
@@ -49,7 +49,7 @@ requests_then a b c authority first second one two = record {
   entries = one.entries ++ two.entries;
   are = map-append (λ (entry : Entry). entry.request) one.entries two.entries ∙ ap₂ (λ (x y : List (List ℕ)). x ++ y) one.are two.are;
   authorities = All-append (asked_at authority) one.entries two.entries one.authorities two.authorities;
-  is = two.is ∙ ap (option_map (λ (entries : List Entry). entries ++ two.entries)) one.is ∙ told_then a one.entries two.entries;
+  is = two.is ∙ ap (option_map (λ (entries : List Entry). entries ++ two.entries)) one.is ∙ recorded_then a one.entries two.entries;
 }
 
 -- and then more was asked
@@ -60,9 +60,9 @@ tells_then a b c base query first second one two =
     (requests_then a b c base.authority (map (request_of base query) first) (map (request_of base query) second) one two)
 
 -- nobody asked
-pub no_requests : (told : Option (List Entry)) (base : BaseParts) (members : List Member) → TellsRequests told told base.authority (requests_of base members [])
-no_requests told base [] = record { entries = []; are = refl; authorities = All-nil (asked_at base.authority); is = nothing_told told }
-no_requests told base (member ∷ members) = record { entries = []; are = refl; authorities = All-nil (asked_at base.authority); is = nothing_told told }
+pub no_requests : (recorded : Option (List Entry)) (base : BaseParts) (members : List Member) → TellsRequests recorded recorded base.authority (requests_of base members [])
+no_requests recorded base [] = record { entries = []; are = refl; authorities = All-nil (asked_at base.authority); is = nothing_recorded recorded }
+no_requests recorded base (member ∷ members) = record { entries = []; are = refl; authorities = All-nil (asked_at base.authority); is = nothing_recorded recorded }
 
 -- the requests of one client more
 pub requests_more : (base : BaseParts) (members : List Member) (rounds : List Round) (member : Member) (more : Round) → slice_get members (length rounds) ≡ Some member →

@@ -162,15 +162,15 @@ module _ (side : Side) (old mid new : ConvoyState) (so_far : List (List Want)) (
         (λ version at. has_own first.left came.is.client.version version at came.client.of_side) one)
 
   -- what was asked for the first clients, and then for this one
-  tells : TellsRequests a.told c.told old.base.authority (requests_of old.base old.members (rounds ++ round ∷ []))
+  tells : TellsRequests a.recorded c.recorded old.base.authority (requests_of old.base old.members (rounds ++ round ∷ []))
   tells =
       let at_n : slice_get mid.members n ≡ Some second.was = subst (λ (i : ℕ). slice_get mid.members i ≡ Some second.was) (minus n) second.had in
       let was_there : slice_get old.members (length rounds) ≡ Some second.was =
       subst (λ (i : ℕ). slice_get old.members i ≡ Some second.was) (sym first.one_each) (sym (first.others n (no_less n)) ∙ at_n) in
-      let told : TellsAsked b.told c.told old.base (shown second.was.client).query second.asked =
-      subst (λ (base : BaseParts). TellsAsked b.told c.told base (shown second.was.client).query second.asked) first.base second.gone.told in
-      subst (TellsRequests a.told c.told old.base.authority) (sym (requests_more old.base old.members rounds second.was round was_there))
-      (requests_then a.told b.told c.told old.base.authority (requests_of old.base old.members rounds) (map (request_of old.base (shown second.was.client).query) second.asked) first.told told)
+      let recorded : TellsAsked b.recorded c.recorded old.base (shown second.was.client).query second.asked =
+      subst (λ (base : BaseParts). TellsAsked b.recorded c.recorded base (shown second.was.client).query second.asked) first.base second.gone.recorded in
+      subst (TellsRequests a.recorded c.recorded old.base.authority) (sym (requests_more old.base old.members rounds second.was round was_there))
+      (requests_then a.recorded b.recorded c.recorded old.base.authority (requests_of old.base old.members rounds) (map (request_of old.base (shown second.was.client).query) second.asked) first.recorded recorded)
 
   -- the names of the pages that are kept then
   names_then : names_of new.kept.pages ≡ names_after old.kept.capacity (names_behind old.kept.capacity (names_of old.kept.pages) rounds) second.given
@@ -193,7 +193,7 @@ module _ (side : Side) (old mid new : ConvoyState) (so_far : List (List Want)) (
         });
     capacity = second.by_names.capacity ∙ first.capacity;
     names = names_then ∙ sym (names_behind-more old.kept.capacity (names_of old.kept.pages) rounds round);
-    told = tells;
+    recorded = tells;
     faults =
         subst (λ (n : ℕ). RoseBy n a.faults c.faults) (sym (failures_more rounds round))
         (RoseBy-then (failures_in rounds) (length second.failed) a.faults b.faults c.faults first.faults
@@ -222,7 +222,7 @@ rounds_agree {X} seen side old new so_far zero before after honest fits rounds =
       by_names = tt;
       capacity = refl;
       names = refl;
-      told = no_requests (seen before).told old.base old.members;
+      recorded = no_requests (seen before).recorded old.base old.members;
       faults = RoseBy-none (seen before).faults (seen before).faults (no_less (seen before).faults);
       came = λ place was lt had. absurd (none_below place lt);
       others = λ place beyond_it. refl;

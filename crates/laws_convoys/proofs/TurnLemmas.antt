@@ -189,9 +189,9 @@ pub gone_then :
 gone_then base side mid left was between is a b c first second first_asked second_asked one two went goes no_gate = record {
   moved = moved_then side mid left (shown was.client) (shown between.client) (shown is.client) a b c first second base one two went.moved goes.moved no_gate;
   count = count_then was.exchanges between.exchanges is.exchanges first_asked second_asked went.count goes.count;
-  told =
-      tells_then a.told b.told c.told base (shown was.client).query first_asked second_asked went.told
-      (subst (λ (q : Query). TellsAsked b.told c.told base q second_asked) went.moved.query goes.told);
+  recorded =
+      tells_then a.recorded b.recorded c.recorded base (shown was.client).query first_asked second_asked went.recorded
+      (subst (λ (q : Query). TellsAsked b.recorded c.recorded base q second_asked) went.moved.query goes.recorded);
 }
 
 -- no turn yet
@@ -224,7 +224,7 @@ nothing_yet side convoy so_far k link member honest fits has =
           fault = λ low high none some. absurd (no_outcome_and_one (shown member.client).outcome low high none some);
         };
         count = none_more member.exchanges;
-        told = tells_nothing link.told convoy.base (shown member.client).query;
+        recorded = tells_nothing link.recorded convoy.base (shown member.client).query;
       };
       by_names = asks_nothing side (shown member.client) convoy.kept at.own;
       client = client;

@@ -11,7 +11,7 @@ use Rattle.page_client.specs.declared.outcome.Outcome.TheVariants.{LinkFault}
 use Rattle.page_client.specs.declared.want.Want.{Want}
 use Rattle.page_client.specs.declared.want.Want.TheVariants as wants
 use Rattle.publisher_spec.specs.Side.{IsLater, Side}
-use Rattle.laws_sides.specs.Told.{version_at}
+use Rattle.laws_sides.specs.Recorded.{version_at}
 use Rattle.laws_clients.specs.Fits.{FitsSide}
 use Rattle.laws_clients.specs.Wants.{AreWants}
 use Rattle.convoy.specs.Finish.{HasOutcome}
@@ -77,11 +77,11 @@ pub record HasMoved (side left : Side) (old new : Shown) (before after : LinkSee
   pub version : VersionAfter side left old given new.version
   pub fault : (low high : ℕ) → old.outcome ≡ None → new.outcome ≡ Some (LinkFault low high) → RoseWithin before.faults after.faults low high
 
--- the same where it alone asked, and for these wants: each exchange is counted, and told where the link tells exchanges
+-- the same where it alone asked, and for these wants: each exchange is counted, and recorded where the link tells exchanges
 pub record HasGone (base : BaseParts) (side left : Side) (old new : Member) (before after : LinkSeen) (given asked : List Want) : Type 0 where
   pub moved : HasMoved side left (shown old.client) (shown new.client) before after given
   pub count : new.exchanges ≡ old.exchanges + length asked
-  pub told : TellsAsked before.told after.told base (shown old.client).query asked
+  pub recorded : TellsAsked before.recorded after.recorded base (shown old.client).query asked
 
 -- nothing was given or asked: it had its outcome
 pub record IsIdle (old new : Member) (given asked : List Want) : Type 0 where
@@ -196,7 +196,7 @@ pub record HasCome (side left : Side) (was : Member) (new : ConvoyState) (so_far
   pub client : FitsSide left is.client (own ++ round.given)
 
 -- What these rounds of the first n clients leave of a convoy that agreed with the link's side: it agrees with the side that is left, each of these
--- clients came to its outcome; what was asked for the one after the other, as the names of the kept pages tell, is told where the link
+-- clients came to its outcome; what was asked for the one after the other, as the names of the kept pages tell, is recorded where the link
 -- tells exchanges; and the count of the link rose as often as an exchange failed.
 pub record RoundsAgree (side : Side) (old new : ConvoyState) (so_far : List (List Want)) (n : ℕ) (before after : LinkSeen) (rounds : List Round) : Type 0 where
   pub left : Side
@@ -208,7 +208,7 @@ pub record RoundsAgree (side : Side) (old new : ConvoyState) (so_far : List (Lis
   pub by_names : AskByNames old.kept.capacity (names_of old.kept.pages) rounds
   pub capacity : new.kept.capacity ≡ old.kept.capacity
   pub names : names_of new.kept.pages ≡ names_behind old.kept.capacity (names_of old.kept.pages) rounds
-  pub told : TellsRequests before.told after.told old.base.authority (requests_of old.base old.members rounds)
+  pub recorded : TellsRequests before.recorded after.recorded old.base.authority (requests_of old.base old.members rounds)
   pub faults : RoseBy (failures_in rounds) before.faults after.faults
   pub came : (place : ℕ) (was : Member) → place < n → slice_get old.members place ≡ Some was → HasCome side left was new so_far now rounds place before after
   pub others : (place : ℕ) → n ≤ place → slice_get new.members place ≡ slice_get old.members place

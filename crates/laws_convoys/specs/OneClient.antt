@@ -8,7 +8,7 @@ use Rattle.page_client.specs.declared.outcome.Outcome.TheVariants.{LinkFault}
 use Rattle.page_client.specs.declared.want.Want.{Want}
 use Rattle.page_client.specs.declared.want.Want.TheVariants as wants
 use Rattle.publisher_spec.specs.Side.{Side}
-use Rattle.laws_sides.specs.Told.{version_at}
+use Rattle.laws_sides.specs.Recorded.{version_at}
 use Rattle.laws_clients.specs.Fits.{FitsSide}
 use Rattle.laws_clients.specs.Wants.{AreWants}
 use Rattle.convoy.specs.Finish.{HasOutcome, Rounds}
@@ -41,7 +41,7 @@ pub record AskedOneMore (side : Side) (query : Query) (member : Member) (given a
   pub are : asked ≡ given ++ want ∷ []
 
 -- What one client alone comes to over a quiet link with this side: it agrees with the side, and was given these wants; it has its outcome,
--- and the version that its question means; what was asked is what it was given, and the one that failed; each exchange is counted, and told
+-- and the version that its question means; what was asked is what it was given, and the one that failed; each exchange is counted, and recorded
 -- where the link tells exchanges, with the side's own reply; and the link is as it was but for that.
 pub record IsAlone (side : Side) (base : BaseParts) (query : Query) (new : ConvoyState) (before after : LinkSeen) : Type 0 where
   pub member : Member
@@ -54,8 +54,8 @@ pub record IsAlone (side : Side) (base : BaseParts) (query : Query) (new : Convo
   pub asked : List Want
   pub exact : AskedAll member given asked ⊎ AskedOneMore side query member given asked
   pub count : member.exchanges ≡ length asked
-  pub told : TellsAsked before.told after.told base query asked
-  pub replied : TellsReplies side before.told after.told
+  pub recorded : TellsAsked before.recorded after.recorded base query asked
+  pub replied : TellsReplies side before.recorded after.recorded
   pub fault : (low high : ℕ) → (shown member.client).outcome ≡ Some (LinkFault low high) → RoseWithin before.faults after.faults low high
   pub quiet : IsQuietWith after base side
   pub clear : before.clear → after.clear

@@ -2,7 +2,7 @@
 use Rattle.std.specs.Prelude.{◌≡◌, ℕ, List, ◌++◌, length, Option, option_map}
 use Rattle.std.specs.List.{All}
 use Rattle.lc_world.specs.declared.entry.Entry.{Entry}
-use Rattle.lc_world.specs.declared.entry.ToldReply.TheVariants.{Reply}
+use Rattle.lc_world.specs.declared.entry.RecordedReply.TheVariants.{Reply}
 use Rattle.publisher_spec.specs.Reply.{IsReply}
 use Rattle.publisher_spec.specs.Side.{Side}
 
@@ -14,7 +14,7 @@ IsRepliedBy side entry = (reply : List ℕ) → entry.reply ≡ Reply reply → 
 pub record TellsReplies (side : Side) (before after : Option (List Entry)) : Type 0 where
   pub entries : List Entry
   pub own : All (IsRepliedBy side) entries
-  pub is : after ≡ option_map (λ (told : List Entry). told ++ entries) before
+  pub is : after ≡ option_map (λ (recorded : List Entry). recorded ++ entries) before
 
 -- and so many they were
 pub record TellsSoMany (side : Side) (count : ℕ) (before after : Option (List Entry)) : Type 0 where

@@ -15,12 +15,12 @@ use Rattle.laws_convoys.specs.Names.{Round}
 abbrev pub request_of : BaseParts → Query → Want → List ℕ
 request_of base query want = request_text_of base.authority (target_of base query want) (known_at query want)
 
--- these requests, in this order, were made to the authority, and are told besides those before, where exchanges are told
+-- these requests, in this order, were made to the authority, and are recorded besides those before, where exchanges are recorded
 pub record TellsRequests (before after : Option (List Entry)) (authority : List ℕ) (requests : List (List ℕ)) : Type 0 where
   pub entries : List Entry
   pub are : map (λ (entry : Entry). entry.request) entries ≡ requests
   pub authorities : All (λ (entry : Entry). entry.authority ≡ authority) entries
-  pub is : after ≡ option_map (λ (told : List Entry). told ++ entries) before
+  pub is : after ≡ option_map (λ (recorded : List Entry). recorded ++ entries) before
 
 -- the requests of clients in their rounds, first those of the first one, then those of the next, and so on
 abbrev pub requests_of : BaseParts → List Member → List Round → List (List ℕ)
@@ -28,6 +28,6 @@ requests_of base [] rounds = []
 requests_of base (member ∷ others) [] = []
 requests_of base (member ∷ others) (round ∷ more) = map (request_of base (shown member.client).query) round.asked ++ requests_of base others more
 
--- what was asked for a client of the question is told
+-- what was asked for a client of the question is recorded
 abbrev pub TellsAsked : Option (List Entry) → Option (List Entry) → BaseParts → Query → List Want → Type 0
 TellsAsked before after base query asked = TellsRequests before after base.authority (map (request_of base query) asked)

@@ -62,7 +62,7 @@ OneListOfNeeded =
     (runs : List Run) (query : Query) (doc : StopsDoc) (first : CutPage) (rest a b : List CutPage) → AreNeeded (IsRideAt runs) query doc first rest a →
     AreNeeded (IsRideAt runs) query doc first rest b → a ≡ b
 
--- Whether one is over after a page is told by what was taken as well as by all connections.
+-- Whether one is over after a page is recorded by what was taken as well as by all connections.
 abbrev pub OverIsOver : Type 0
 OverIsOver =
     (list : List Connection) (first : CutPage) (rest : List CutPage) (query : Query) (doc : StopsDoc) (before : List CutPage) (page : CutPage) (left : List CutPage) (taken_best best : Option ℕ) (last : ℕ) →

@@ -63,7 +63,7 @@ begins base first cache start none_agrees honest = record {
   sides_each = refl;
   by_names = tt;
   names = refl;
-  requests = tells_none start.told base.authority;
+  requests = tells_none start.recorded base.authority;
   increased = RoseBy-none start.faults start.faults (no_less start.faults);
   members = λ place query member own asks is_member is_own. absurd (not_at_nothing place query asks);
 }
@@ -118,7 +118,7 @@ module _ (base : BaseParts) (first : Side) (cache : ℕ) (questions : List Query
     sides_each = p.sides_each;
     by_names = p.by_names;
     names = p.names;
-    requests = subst (TellsRequests start.told now.told base.authority) (sym (requests_of_more base questions (query ∷ []) order rounds are_clients)) p.requests;
+    requests = subst (TellsRequests start.recorded now.recorded base.authority) (sym (requests_of_more base questions (query ∷ []) order rounds are_clients)) p.requests;
     increased = p.increased;
     members = λ place asked member own is_asked is_member is_own. so place asked member own (push_cases questions query place asked is_asked) is_member is_own;
   }

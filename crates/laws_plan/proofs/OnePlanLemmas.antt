@@ -27,7 +27,7 @@ use Rattle.laws_replay.specs.Turns.{asked_in, failed_in, given_in, order_of, rou
 use Rattle.laws_replay.specs.declared.event.Event.{Event}
 use Rattle.laws_replies.specs.Laws.{SayTheSame}
 use Rattle.laws_replies.specs.Met.{Met}
-use Rattle.laws_sides.specs.Told.{version_at}
+use Rattle.laws_sides.specs.Recorded.{version_at}
 use Rattle.lc_model.specs.declared.page.PageName.{PageName}
 use Rattle.lc_model.specs.declared.query.Query.{Query}
 use Rattle.lc_world.specs.Link.{LinkSeen}

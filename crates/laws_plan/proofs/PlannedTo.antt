@@ -44,7 +44,7 @@ pub record IsPlannedTo (Turns : ℕ → List Round → Option Outcome → Type 0
   pub sides_each : length sides ≡ length order
   pub by_names : AskByNames cache [] rounds
   pub names : names_of convoy.kept.pages ≡ names_behind cache [] rounds
-  pub requests : TellsRequests start.told now.told base.authority (requests_in base questions order rounds)
+  pub requests : TellsRequests start.recorded now.recorded base.authority (requests_in base questions order rounds)
   pub increased : RoseBy (failures_in rounds) start.faults now.faults
   pub members : (place : ℕ) (query : Query) (member : Member) (own : List Want) → slice_get questions place ≡ Some query → slice_get convoy.members place ≡ Some member
       → slice_get given place ≡ Some own

@@ -285,13 +285,13 @@ module _ (Turns Next : ℕ → List Round → Option Outcome → Type 0) (base :
         (other_stays place query m own (rounds_of (place + 1) order rounds) (sides_of (place + 1) order sides) not was_there (p.members place query m own asked was_there own_there)))
 
   -- what the link recorded
-  requests : TellsRequests start.told after.told base.authority (requests_in base questions then_order then_rounds)
+  requests : TellsRequests start.recorded after.recorded base.authority (requests_in base questions then_order then_rounds)
   requests =
-      let own : TellsAsked before.told after.told base asks.0 agrees.asked =
-      subst (λ (q : Query). TellsAsked before.told after.told base q agrees.asked) member.question
-      (subst (λ (b : BaseParts). TellsAsked before.told after.told b (shown agrees.was.client).query agrees.asked) p.base_is agrees.gone.told) in
-      subst (TellsRequests start.told after.told base.authority) (sym (requests_in-more base questions order client asks.0 rounds round p.one_each asks.1))
-      (requests_then start.told before.told after.told base.authority (requests_in base questions order rounds) (map (request_of base asks.0) agrees.asked) p.requests own)
+      let own : TellsAsked before.recorded after.recorded base asks.0 agrees.asked =
+      subst (λ (q : Query). TellsAsked before.recorded after.recorded base q agrees.asked) member.question
+      (subst (λ (b : BaseParts). TellsAsked before.recorded after.recorded b (shown agrees.was.client).query agrees.asked) p.base_is agrees.gone.recorded) in
+      subst (TellsRequests start.recorded after.recorded base.authority) (sym (requests_in-more base questions order client asks.0 rounds round p.one_each asks.1))
+      (requests_then start.recorded before.recorded after.recorded base.authority (requests_in base questions order rounds) (map (request_of base asks.0) agrees.asked) p.requests own)
 
   increased : RoseBy (failures_in then_rounds) start.faults after.faults
   increased =

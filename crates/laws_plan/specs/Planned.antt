@@ -68,7 +68,7 @@ pub record AreSidesOf (all : List Event) (quiet : Type 0) (first : Side) (sides 
 pub record AreRoundsOf (base : BaseParts) (all : List Event) (cache : ℕ) (before after : LinkSeen) (rounds : List Round) (met : List Met) : Type 0 where
   pub one_each : length rounds ≡ length (order_of all)
   pub by_names : AskByNames cache [] rounds
-  pub requests : TellsRequests before.told after.told base.authority (requests_in base (questions_in all) (order_of all) rounds)
+  pub requests : TellsRequests before.recorded after.recorded base.authority (requests_in base (questions_in all) (order_of all) rounds)
   pub increased : RoseBy (failures_in rounds) before.faults after.faults
   pub met_in : AreMetIn (order_of all) rounds met
 
@@ -89,7 +89,7 @@ pub record ArePlanned (base : BaseParts) (first : Side) (all : List Event) (cach
 pub record IsPlanned (base : BaseParts) (all : List Event) (cache : ℕ) (before after : LinkSeen) (text : List ℕ) (ends : List ClientEnd) : Type 0 where
   pub text_is : text ≡ clients_text_of 1 ends
   pub one_each : length ends ≡ length (questions_in all)
-  pub caused : AreCaused base all before.told after.told before.faults after.faults ends
+  pub caused : AreCaused base all before.recorded after.recorded before.faults after.faults ends
   pub clear : before.clear → after.clear
   pub not_fallen : before.faults ≤ after.faults
   pub right : (first : Side) → IsHonestWith before base first → ArePlanned base first all cache before after ends caused.met

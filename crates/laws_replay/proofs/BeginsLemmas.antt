@@ -58,7 +58,7 @@ begins made publishing cache start none_agrees quiet short = record {
   one_each = refl;
   by_names = tt;
   names = refl;
-  tells = tells_none start.told publishing.base.authority;
+  tells = tells_none start.recorded publishing.base.authority;
   rose = RoseBy-none start.faults start.faults (no_less start.faults);
   members = λ place query member own asks is_member is_own. absurd (not_at_nothing place query asks);
 }
@@ -184,7 +184,7 @@ module _ (made : Timetable) (publishing : Publishing) (cache : ℕ) (done : List
     one_each = played.one_each ∙ sym (ap length (turns_behind_ask done query));
     by_names = played.by_names;
     names = played.names;
-    tells = subst (TellsRequests start.told now.told publishing.base.authority) (sym requests_stay) played.tells;
+    tells = subst (TellsRequests start.recorded now.recorded publishing.base.authority) (sym requests_stay) played.tells;
     rose = played.rose;
     members = λ place asked member own is_asked is_member is_own.
         subst (λ (order : List ℕ). IsMemberSo made publishing (done ++ events.Ask query ∷ []) (side_with made publishing played.store) (place + 1) asked member own (rounds_of (place + 1) order rounds))

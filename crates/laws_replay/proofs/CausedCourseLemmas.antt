@@ -195,7 +195,7 @@ module _ {X : Type 0} (seen : X → LinkSeen) (base : BaseParts) (first : LinkSe
       }
   are_played (events.Message message ∷ more) questions old new link after lines all from_one so (behind, line, rest, given, plays, is) =
       are_played more questions old new behind after rest all from_one
-      (are_later base questions first (seen link) (seen behind) old all so (given_grows (seen link) (seen behind) message.file line given) given.told given.faults) plays
+      (are_later base questions first (seen link) (seen behind) old all so (given_grows (seen link) (seen behind) message.file line given) given.recorded given.faults) plays
   are_played (events.Turn client ∷ more) questions old new link after lines all from_one so (between, behind, turn, step, plays) =
       let own : 1 ≤ client = All-head (λ (c : ℕ). 1 ≤ c) client (turns_in more) from_one in
       let m = turn_meets seen base questions first client own old between link behind all so turn step in

@@ -219,19 +219,19 @@ pub failures_in-append : (rounds rest : List Round) → failures_in (rounds ++ r
 failures_in-append [] rest = omega arith
 failures_in-append (round ∷ rounds) rest = omega (arith, failures_in-append rounds rest)
 
--- requests that are told, one after the other
+-- requests that are recorded, one after the other
 
-nothing_told : (told : Option (List Entry)) → told ≡ option_map (λ (entries : List Entry). entries ++ []) told
-nothing_told None = refl
-nothing_told (Some entries) = ap Some (sym (append-nil entries))
+nothing_recorded : (recorded : Option (List Entry)) → recorded ≡ option_map (λ (entries : List Entry). entries ++ []) recorded
+nothing_recorded None = refl
+nothing_recorded (Some entries) = ap Some (sym (append-nil entries))
 
-pub tells_none : (told : Option (List Entry)) (authority : List ℕ) → TellsRequests told told authority []
-tells_none told authority = record { entries = []; are = refl; authorities = All-nil (λ (entry : Entry). entry.authority ≡ authority); is = nothing_told told }
+pub tells_none : (recorded : Option (List Entry)) (authority : List ℕ) → TellsRequests recorded recorded authority []
+tells_none recorded authority = record { entries = []; are = refl; authorities = All-nil (λ (entry : Entry). entry.authority ≡ authority); is = nothing_recorded recorded }
 
-told_then : (told : Option (List Entry)) (first second : List Entry) →
-    option_map (λ (entries : List Entry). entries ++ second) (option_map (λ (entries : List Entry). entries ++ first) told) ≡ option_map (λ (entries : List Entry). entries ++ (first ++ second)) told
-told_then None first second = refl
-told_then (Some entries) first second = ap Some (append_assoc entries first second)
+recorded_then : (recorded : Option (List Entry)) (first second : List Entry) →
+    option_map (λ (entries : List Entry). entries ++ second) (option_map (λ (entries : List Entry). entries ++ first) recorded) ≡ option_map (λ (entries : List Entry). entries ++ (first ++ second)) recorded
+recorded_then None first second = refl
+recorded_then (Some entries) first second = ap Some (append_assoc entries first second)
 
 pub requests_then : (a b c : Option (List Entry)) (authority : List ℕ) (first second : List (List ℕ)) → TellsRequests a b authority first → TellsRequests b c authority second →
     TellsRequests a c authority (first ++ second)
@@ -239,7 +239,7 @@ requests_then a b c authority first second one two = record {
   entries = one.entries ++ two.entries;
   are = map-append (λ (entry : Entry). entry.request) one.entries two.entries ∙ ap₂ (λ (x y : List (List ℕ)). x ++ y) one.are two.are;
   authorities = All-append (λ (entry : Entry). entry.authority ≡ authority) one.entries two.entries one.authorities two.authorities;
-  is = two.is ∙ ap (option_map (λ (entries : List Entry). entries ++ two.entries)) one.is ∙ told_then a one.entries two.entries;
+  is = two.is ∙ ap (option_map (λ (entries : List Entry). entries ++ two.entries)) one.is ∙ recorded_then a one.entries two.entries;
 }
 
 -- turns of clients that have asked

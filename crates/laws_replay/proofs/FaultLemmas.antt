@@ -160,7 +160,7 @@ one_failed side query version given failed outcome low high so is =
 
 -- so a client ended by a fault of the link with the counts of each exchange of its own that failed
 pub faults_are_own : FaultsAreOwn
-faults_are_own made publishing all cache told now_told faults now_faults lines ends caused right place query end asks ended low high fell =
+faults_are_own made publishing all cache recorded now_recorded faults now_faults lines ends caused right place query end asks ended low high fell =
     let so = right.clients place query end asks ended in
     let side : Side = side_with made publishing right.store in
     let own : List Round = rounds_of (place + 1) (order_of all) right.rounds in

@@ -58,7 +58,7 @@ end_at (member ∷ members) (first ∷ ends) (suc place) end so has =
 module _ (made : Timetable) (publishing : Publishing) (cache : ℕ) (all : List Event) (played ended : ConvoyState) (start behind after : LinkSeen) (lines : List ℕ) (ends : List ClientEnd)
     (met : List Met) (front rest : List Round) (p : IsPlayedTo made publishing cache all played start behind lines front)
     (r : RoundsAgree (side_with made publishing p.store) played ended p.given (length played.members) behind after rest) (have_ended : HaveEndedSo ended.members ends)
-    (met_in : AreMetIn (order_of all) (front ++ rest) met) (replied : TellsOwn made publishing all (front ++ rest) start.told after.told) where
+    (met_in : AreMetIn (order_of all) (front ++ rest) met) (replied : TellsOwn made publishing all (front ++ rest) start.recorded after.recorded) where
   abbrev side : Side
   side = side_with made publishing p.store
 
@@ -89,17 +89,17 @@ module _ (made : Timetable) (publishing : Publishing) (cache : ℕ) (all : List 
       let m = p.members place asked.0 member at.own asked.1 has at.is in
       asked.1 ∙ ap Some (sym m.question)
 
-  tells : TellsRequests start.told after.told publishing.base.authority (requests_in publishing.base (questions_in all) (order_of all) rounds)
+  tells : TellsRequests start.recorded after.recorded publishing.base.authority (requests_in publishing.base (questions_in all) (order_of all) rounds)
   tells =
       let own : requests_in publishing.base (questions_in all) (counted (length (questions_in all))) rest ≡ requests_of publishing.base played.members rest =
       requests_counted publishing.base (questions_in all) (length (questions_in all)) played.members rest p.clients question_at in
-      let told : TellsRequests behind.told after.told publishing.base.authority (requests_of publishing.base played.members rest) =
-      subst (λ (base : BaseParts). TellsRequests behind.told after.told base.authority (requests_of base played.members rest)) p.base r.told in
-      subst (TellsRequests start.told after.told publishing.base.authority)
+      let recorded : TellsRequests behind.recorded after.recorded publishing.base.authority (requests_of publishing.base played.members rest) =
+      subst (λ (base : BaseParts). TellsRequests behind.recorded after.recorded base.authority (requests_of base played.members rest)) p.base r.recorded in
+      subst (TellsRequests start.recorded after.recorded publishing.base.authority)
       (ap (λ (l : List (List ℕ)). requests_in publishing.base (questions_in all) (turns_in all) front ++ l) (sym own)
       ∙ sym (requests_in-append publishing.base (questions_in all) (turns_in all) (counted (length (questions_in all))) front rest p.one_each))
-      (requests_then start.told behind.told after.told publishing.base.authority (requests_in publishing.base (questions_in all) (turns_in all) front) (requests_of publishing.base played.members rest)
-      p.tells told)
+      (requests_then start.recorded behind.recorded after.recorded publishing.base.authority (requests_in publishing.base (questions_in all) (turns_in all) front) (requests_of publishing.base played.members rest)
+      p.tells recorded)
 
   rose : RoseBy (failures_in rounds) start.faults after.faults
   rose =
@@ -130,7 +130,7 @@ module _ (made : Timetable) (publishing : Publishing) (cache : ℕ) (all : List 
       client_ends place query end was.0 asked has was.1
       (subst (λ (left : Side). HasCome side left was.0 ended p.given r.now rest place behind after) same_side (r.came place was.0 within was.1))
 
-  pub rounds_finish : ArePlayedRight made publishing all cache start.told after.told start.faults after.faults lines ends met
+  pub rounds_finish : ArePlayedRight made publishing all cache start.recorded after.recorded start.faults after.faults lines ends met
   rounds_finish = record {
     store = p.store;
     heard = p.heard;
@@ -150,8 +150,8 @@ pub finishes :
     (ends : List ClientEnd) (met : List Met) (front : List Round) → IsPlayedTo made publishing cache all played start (seen behind) lines front →
     (rounds : Rounds seen (length played.members) played ended behind after) → HaveEndedSo ended.members ends →
     AreMetIn (order_of all) (front ++ rounds_up_to seen (length played.members) played ended behind after rounds) met →
-    TellsOwn made publishing all (front ++ rounds_up_to seen (length played.members) played ended behind after rounds) start.told (seen after).told → RoundsKeepAgreement seen →
-    ArePlayedRight made publishing all cache start.told (seen after).told start.faults (seen after).faults lines ends met
+    TellsOwn made publishing all (front ++ rounds_up_to seen (length played.members) played ended behind after rounds) start.recorded (seen after).recorded → RoundsKeepAgreement seen →
+    ArePlayedRight made publishing all cache start.recorded (seen after).recorded start.faults (seen after).faults lines ends met
 finishes seen made publishing cache all played ended start behind after lines ends met front p rounds have_ended met_in replied keeps =
     let honest = honest_still publishing.base played.base (side_with made publishing p.store) (seen behind) p.base p.quiet.as_honest in
     rounds_finish made publishing cache all played ended start (seen behind) (seen after) lines ends met front (rounds_up_to seen (length played.members) played ended behind after rounds) p

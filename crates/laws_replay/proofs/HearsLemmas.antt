@@ -21,7 +21,7 @@ use Rattle.lc_model.specs.declared.stop.Stop.{Stop}
 use Rattle.lc_time.specs.declared.zone.Zone.{Zone}
 use Rattle.lc_versions.specs.History.{Entry}
 use Rattle.lc_world.specs.Link.{LinkSeen}
-use Rattle.lc_world.specs.declared.entry.Entry.{Entry as ToldEntry}
+use Rattle.lc_world.specs.declared.entry.Entry.{Entry as RecordedEntry}
 use Rattle.page_client.specs.Client.{shown}
 use Rattle.page_client.specs.declared.outcome.Outcome.{Outcome}
 use Rattle.page_client.specs.declared.outcome.Outcome.TheVariants as outcomes
@@ -58,8 +58,8 @@ stops_heard (events.Message message ∷ done) old new lines (between, line, rest
 stops_heard (events.Turn client ∷ done) old new lines heard = stops_heard done old new lines heard
 
 -- a side is one
-one_side : (told : Option Side) (a b : Side) → told ≡ Some a → told ≡ Some b → a ≡ b
-one_side told a b first second = cc
+one_side : (recorded : Option Side) (a b : Side) → recorded ≡ Some a → recorded ≡ Some b → a ≡ b
+one_side recorded a b first second = cc
 
 -- stores whose parts are the same are one
 same_store : (a b : Stored) → a.runs ≡ b.runs → a.stops ≡ b.stops → a.zone ≡ b.zone → a.base ≡ b.base → a.history ≡ b.history → a ≡ b
@@ -203,8 +203,8 @@ module _
     by_names = played.by_names;
     names = played.names;
     tells =
-        subst (λ (told : Option (List ToldEntry)). TellsRequests start.told told publishing.base.authority (requests_in publishing.base (questions_in (done ++ events.Message message ∷ [])) (turns_in (done ++ events.Message message ∷ [])) rounds))
-        (sym given.told) (subst (TellsRequests start.told before.told publishing.base.authority) (sym requests_stay) played.tells);
+        subst (λ (recorded : Option (List RecordedEntry)). TellsRequests start.recorded recorded publishing.base.authority (requests_in publishing.base (questions_in (done ++ events.Message message ∷ [])) (turns_in (done ++ events.Message message ∷ [])) rounds))
+        (sym given.recorded) (subst (TellsRequests start.recorded before.recorded publishing.base.authority) (sym requests_stay) played.tells);
     rose = subst (RoseBy (failures_in rounds) start.faults) (sym given.faults) played.rose;
     members = λ place query member own is_asked is_member is_own.
         subst (λ (order : List ℕ). IsMemberSo made publishing (done ++ events.Message message ∷ []) (side_with made publishing given.store) (place + 1) query member own (rounds_of (place + 1) order rounds))

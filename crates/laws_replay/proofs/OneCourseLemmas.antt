@@ -25,7 +25,7 @@ use Rattle.page_client.specs.declared.outcome.Outcome.TheVariants as outcomes
 use Rattle.page_client.specs.declared.want.Want.{Want}
 use Rattle.publisher_spec.specs.Side.{Side}
 use Rattle.script_text.specs.Script.{IsClient}
-use Rattle.laws_sides.specs.Told.{version_at}
+use Rattle.laws_sides.specs.Recorded.{version_at}
 use Rattle.timetable.specs.Laws.{AreSame}
 use Rattle.timetable.specs.declared.timetable.Timetable.{Timetable}
 use Rattle.version_store.specs.Laws.{OneOutcome}

@@ -61,7 +61,7 @@ pub record IsPlayedTo (made : Timetable) (publishing : Publishing) (cache : ℕ)
   pub one_each : length rounds ≡ length (turns_in done)
   pub by_names : AskByNames cache [] rounds
   pub names : names_of convoy.kept.pages ≡ names_behind cache [] rounds
-  pub tells : TellsRequests start.told now.told publishing.base.authority (requests_in publishing.base (questions_in done) (turns_in done) rounds)
+  pub tells : TellsRequests start.recorded now.recorded publishing.base.authority (requests_in publishing.base (questions_in done) (turns_in done) rounds)
   pub rose : RoseBy (failures_in rounds) start.faults now.faults
   pub members : (place : ℕ) (query : Query) (member : Member) (own : List Want) → slice_get (questions_in done) place ≡ Some query
       → slice_get convoy.members place ≡ Some member → slice_get given place ≡ Some own

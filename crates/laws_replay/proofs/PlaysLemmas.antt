@@ -100,8 +100,8 @@ FinishesRight {X} seen =
     (front : List Round) → TurnsAreOfClients all → IsPlayedTo made publishing cache all played (seen start) (seen behind) lines front
     → (rounds : Rounds seen (length played.members) played ended behind after) → HaveEndedSo ended.members ends
     → AreMetIn (order_of all) (front ++ rounds_up_to seen (length played.members) played ended behind after rounds) met
-    → TellsOwn made publishing all (front ++ rounds_up_to seen (length played.members) played ended behind after rounds) (seen start).told (seen after).told
-    → ArePlayedRight made publishing all cache (seen start).told (seen after).told (seen start).faults (seen after).faults lines ends met
+    → TellsOwn made publishing all (front ++ rounds_up_to seen (length played.members) played ended behind after rounds) (seen start).recorded (seen after).recorded
+    → ArePlayedRight made publishing all cache (seen start).recorded (seen after).recorded (seen start).faults (seen after).faults lines ends met
 
 pub plays_right : {X : Type 0} (seen : X → LinkSeen) → NoneAgrees → AddedAgrees → LaterAgrees → WantsStay
     → ((made : Timetable) (publishing : Publishing) (cache : ℕ) (start : X) → TurnsGoOn seen made publishing cache start) → FinishesRight seen → PlaysRight seen

@@ -11,7 +11,7 @@ use Rattle.convoy.specs.State.{ConvoyState, begun}
 use Rattle.laws_convoys.specs.Names.{Round}
 use Rattle.laws_convoys.specs.Replies.{IsRepliedBy}
 use Rattle.laws_convoys.specs.Rounds.{rounds_up_to}
-use Rattle.laws_convoys.proofs.RepliesLemmas.{rounds_replied, told_then, turn_replied}
+use Rattle.laws_convoys.proofs.RepliesLemmas.{rounds_replied, recorded_then, turn_replied}
 use Rattle.lc_world.specs.Link.{IsQuietWith, LinkSeen}
 use Rattle.lc_world.specs.declared.entry.Entry.{Entry}
 use Rattle.publisher_spec.specs.Short.{IsShort}
@@ -35,14 +35,14 @@ AreShortOn made publishing all store = (n : ℕ) (next : Stored) (lines : List �
 record RepliedOn (made : Timetable) (publishing : Publishing) (all : List Event) (store : Stored) (rounds : List Round) (new : ConvoyState) (before after : LinkSeen) : Type 0 where
   last : Stored
   entries : List Entry
-  is : after.told ≡ option_map (λ (told : List Entry). told ++ entries) before.told
+  is : after.recorded ≡ option_map (λ (recorded : List Entry). recorded ++ entries) before.recorded
   quiet : IsQuietWith after publishing.base (side_with made publishing last)
   base_is : new.base ≡ publishing.base
   on : (tail : List Entry) (more : List Round) → All (IsRepliedBy (side_with made publishing last)) tail → AreReplied made publishing all store (rounds ++ more) (entries ++ tail)
 
-told_no_more : (told : Option (List Entry)) → told ≡ option_map (λ (entries : List Entry). entries ++ []) told
-told_no_more None = refl
-told_no_more (Some entries) = ap Some (sym (append-nil entries))
+recorded_no_more : (recorded : Option (List Entry)) → recorded ≡ option_map (λ (entries : List Entry). entries ++ []) recorded
+recorded_no_more None = refl
+recorded_no_more (Some entries) = ap Some (sym (append-nil entries))
 
 replied_on :
     {X : Type 0} (seen : X → LinkSeen) (made : Timetable) (publishing : Publishing) (all : List Event) (store : Stored) (old new : ConvoyState) (before after : X) (lines : List ℕ) → store.stops ≡ made.doc.stops →
@@ -53,7 +53,7 @@ replied_on {X} seen made publishing [] store old new before after lines stops sh
     (record {
       last = store;
       entries = [];
-      is = told_no_more (seen before).told;
+      is = recorded_no_more (seen before).recorded;
       quiet = quiet;
       base_is = ap (λ (c : ConvoyState). c.base) same ∙ base;
       on = λ tail more own. own;
@@ -80,7 +80,7 @@ replied_on seen made publishing (events.Message message ∷ more) store old new 
     record {
       last = rest.last;
       entries = rest.entries;
-      is = rest.is ∙ ap (option_map (λ (told : List Entry). told ++ rest.entries)) given.told;
+      is = rest.is ∙ ap (option_map (λ (recorded : List Entry). recorded ++ rest.entries)) given.recorded;
       quiet = rest.quiet;
       base_is = rest.base_is;
       on = λ tail further own. (given.store, line, heard, rest.on tail further own);
@@ -92,7 +92,7 @@ replied_on seen made publishing (events.Turn client ∷ more) store old new befo
     record {
       last = rest.last;
       entries = own ++ rest.entries;
-      is = rest.is ∙ ap (option_map (λ (told : List Entry). told ++ rest.entries)) one.tells.replies.is ∙ told_then (seen before).told own rest.entries;
+      is = rest.is ∙ ap (option_map (λ (recorded : List Entry). recorded ++ rest.entries)) one.tells.replies.is ∙ recorded_then (seen before).recorded own rest.entries;
       quiet = rest.quiet;
       base_is = rest.base_is;
       on = λ tail further are. (own, rest.entries ++ tail, append_assoc own rest.entries tail, one.tells.count_is, one.tells.replies.own, rest.on tail further are);
@@ -104,7 +104,7 @@ pub tells_own :
     IsQuietAt made publishing (seen start) → AreShort made publishing all → (plays : Plays seen all (begun publishing.base cache) played start behind_it lines) →
     (rounds : Rounds seen (length played.members) played ended behind_it after) →
     TellsOwn made publishing all (rounds_along seen all (begun publishing.base cache) played start behind_it lines plays ++ rounds_up_to seen (length played.members) played ended behind_it after rounds)
-    (seen start).told (seen after).told
+    (seen start).recorded (seen after).recorded
 tells_own seen made publishing all cache played ended start behind_it after lines quiet short plays rounds =
     let store = store_of made publishing.base_moment in
     let at : IsQuietWith (seen start) publishing.base (side_with made publishing store) = record {
@@ -116,5 +116,5 @@ tells_own seen made publishing all cache played ended start behind_it after line
     record {
       entries = on.entries ++ tail.entries;
       replied = on.on tail.entries (rounds_up_to seen (length played.members) played ended behind_it after rounds) tail.own;
-      is = tail.is ∙ ap (option_map (λ (told : List Entry). told ++ tail.entries)) on.is ∙ told_then (seen start).told on.entries tail.entries;
+      is = tail.is ∙ ap (option_map (λ (recorded : List Entry). recorded ++ tail.entries)) on.is ∙ recorded_then (seen start).recorded on.entries tail.entries;
     }

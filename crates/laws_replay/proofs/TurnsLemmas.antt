@@ -121,8 +121,8 @@ member_stays made publishing done side client other query member own rounds stor
 
 -- what is so of the turn
 module _ {X : Type 0} (seen : X → LinkSeen) (made : Timetable) (publishing : Publishing) (cache : ℕ) (done : List Event) (client : ℕ) (old new : ConvoyState) (start : LinkSeen) (before after : X)
-    (lines : List ℕ) (before_it : List Round) (turn : Turn) (told : Round) (p : IsPlayedTo made publishing cache done old start (seen before) lines before_it) (is_client : IsClient (length (questions_in done)) client)
-    (step : IsStep seen client old new before after turn) (turned : TurnAgrees (side_with made publishing p.store) old new p.given client (seen before) (seen after) turn told) where
+    (lines : List ℕ) (before_it : List Round) (turn : Turn) (recorded : Round) (p : IsPlayedTo made publishing cache done old start (seen before) lines before_it) (is_client : IsClient (length (questions_in done)) client)
+    (step : IsStep seen client old new before after turn) (turned : TurnAgrees (side_with made publishing p.store) old new p.given client (seen before) (seen after) turn recorded) where
   abbrev side : Side
   side = side_with made publishing p.store
 
@@ -220,19 +220,19 @@ module _ {X : Type 0} (seen : X → LinkSeen) (made : Timetable) (publishing : P
         subst (IsMemberSo made publishing then_done (side_with made publishing p.store) (place + 1) query m own) (other_turns (place + 1) not_this)
         (member_stays made publishing done (side_with made publishing p.store) (place + 1) client query m own before_it p.store lines not_this p.heard (p.members place query m own asked_there was_there own_there))
 
-  -- what was told
-  tells : TellsRequests start.told (seen after).told publishing.base.authority (requests_in publishing.base (questions_in then_done) (turns_in then_done) rounds)
+  -- what was recorded
+  tells : TellsRequests start.recorded (seen after).recorded publishing.base.authority (requests_in publishing.base (questions_in then_done) (turns_in then_done) rounds)
   tells =
-      let asked : TellsAsked (seen before).told (seen after).told publishing.base asks.0 turned.agrees.asked =
-      subst (λ (q : Query). TellsAsked (seen before).told (seen after).told publishing.base q turned.agrees.asked) member.question
-      (subst (λ (base : BaseParts). TellsAsked (seen before).told (seen after).told base (shown turned.agrees.was.client).query turned.agrees.asked) p.base turned.agrees.gone.told) in
-      let both = requests_then start.told (seen before).told (seen after).told publishing.base.authority (requests_in publishing.base (questions_in done) (turns_in done) before_it)
+      let asked : TellsAsked (seen before).recorded (seen after).recorded publishing.base asks.0 turned.agrees.asked =
+      subst (λ (q : Query). TellsAsked (seen before).recorded (seen after).recorded publishing.base q turned.agrees.asked) member.question
+      (subst (λ (base : BaseParts). TellsAsked (seen before).recorded (seen after).recorded base (shown turned.agrees.was.client).query turned.agrees.asked) p.base turned.agrees.gone.recorded) in
+      let both = requests_then start.recorded (seen before).recorded (seen after).recorded publishing.base.authority (requests_in publishing.base (questions_in done) (turns_in done) before_it)
       (map (request_of publishing.base asks.0) turned.agrees.asked) p.tells asked in
       let whole : requests_in publishing.base (questions_in then_done) (turns_in then_done) rounds ≡
       requests_in publishing.base (questions_in done) (turns_in done) before_it ++ map (request_of publishing.base asks.0) turned.agrees.asked =
       ap₂ (λ (questions : List Query) (order : List ℕ). requests_in publishing.base questions order rounds) (questions_behind_turn done client) (turns_in-append done (events.Turn client ∷ []))
       ∙ requests_in-more publishing.base (questions_in done) (turns_in done) client asks.0 before_it round p.one_each asks.1 in
-      subst (TellsRequests start.told (seen after).told publishing.base.authority) (sym whole) both
+      subst (TellsRequests start.recorded (seen after).recorded publishing.base.authority) (sym whole) both
 
   one_longer : length (before_it ++ round ∷ []) ≡ length (turns_in done ++ client ∷ [])
   one_longer = omega (arith, p.one_each, length-append before_it (round ∷ []), length-append (turns_in done) (client ∷ []))
@@ -287,7 +287,7 @@ module _ {X : Type 0} (seen : X → LinkSeen) (made : Timetable) (publishing : P
     members = members;
   }
 
-  pub played : IsPlayedTo made publishing cache then_done new start (seen after) lines (before_it ++ told ∷ [])
+  pub played : IsPlayedTo made publishing cache then_done new start (seen after) lines (before_it ++ recorded ∷ [])
   played = subst (λ (r : Round). IsPlayedTo made publishing cache then_done new start (seen after) lines (before_it ++ r ∷ [])) turned.round_is so_played
 
 -- a turn of a client over a quiet link

@@ -39,10 +39,10 @@ pub record EndsByMet (base : BaseParts) (query : Query) (faults now_faults : ℕ
   pub exchanges : end.exchanges ≡ exchanges_by number met
   pub fault : (low high : ℕ) → end.outcome ≡ LinkFault low high → HasFailedBetween number low high met
 
--- The clients of a course ended so over a link that told these exchanges, and had these counts of faults.
-pub record AreCaused (base : BaseParts) (all : List Event) (told now_told : Option (List Entry)) (faults now_faults : ℕ) (ends : List ClientEnd) : Type 0 where
+-- The clients of a course ended so over a link that recorded these exchanges, and had these counts of faults.
+pub record AreCaused (base : BaseParts) (all : List Event) (recorded now_recorded : Option (List Entry)) (faults now_faults : ℕ) (ends : List ClientEnd) : Type 0 where
   pub met : List Met
   pub in_turns : AreMetInTurns (turns_in all) met
-  pub by_replies : AreMet base (questions_in all) told now_told faults now_faults met
+  pub by_replies : AreMet base (questions_in all) recorded now_recorded faults now_faults met
   pub clients : (place : ℕ) (query : Query) (end : ClientEnd) → slice_get (questions_in all) place ≡ Some query → slice_get ends place ≡ Some end
       → EndsByMet base query faults now_faults (place + 1) met end

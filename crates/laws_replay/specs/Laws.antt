@@ -40,13 +40,13 @@ PlaysRight {X} seen =
     → TurnsAreOfClients all → IsQuietAt made publishing (seen start) → AreShort made publishing all
     → (plays : Plays seen all (begun publishing.base cache) played start behind lines) → (rounds : Rounds seen (length played.members) played ended behind after)
     → HaveEndedSo ended.members ends → AreMetIn (order_of all) (all_rounds seen all (begun publishing.base cache) played ended start behind after lines plays rounds) met
-    → ArePlayedRight made publishing all cache (seen start).told (seen after).told (seen start).faults (seen after).faults lines ends met
+    → ArePlayedRight made publishing all cache (seen start).recorded (seen after).recorded (seen start).faults (seen after).faults lines ends met
 
 -- There is one end for each question, which has its cause, by what was met in these rounds, and can be printed. A clear link is clear still, and
 -- its count has not fallen.
 pub record ArePlayedCaused (base : BaseParts) (all : List Event) (before after : LinkSeen) (ends : List ClientEnd) (rounds : List Round) : Type 0 where
   pub one_each : length ends ≡ length (questions_in all)
-  pub caused : AreCaused base all before.told after.told before.faults after.faults ends
+  pub caused : AreCaused base all before.recorded after.recorded before.faults after.faults ends
   pub met_in : AreMetIn (order_of all) rounds caused.met
   pub printable : All (λ (end : ClientEnd). IsPrintable end.outcome) ends
   pub clear : before.clear → after.clear
@@ -78,8 +78,8 @@ OneHearing = (made : Timetable) (publishing : Publishing) (all : List Event) (li
 -- Over a clear link an exchange that failed ended its client, and no other, with the counts of the link before and behind it.
 abbrev pub FaultsAreOwn : Type 0
 FaultsAreOwn =
-    (made : Timetable) (publishing : Publishing) (all : List Event) (cache : ℕ) (told now_told : Option (List Entry)) (faults now_faults : ℕ) (lines : List ℕ) (ends : List ClientEnd)
-    → (caused : AreCaused publishing.base all told now_told faults now_faults ends)
-    → ArePlayedRight made publishing all cache told now_told faults now_faults lines ends caused.met
+    (made : Timetable) (publishing : Publishing) (all : List Event) (cache : ℕ) (recorded now_recorded : Option (List Entry)) (faults now_faults : ℕ) (lines : List ℕ) (ends : List ClientEnd)
+    → (caused : AreCaused publishing.base all recorded now_recorded faults now_faults ends)
+    → ArePlayedRight made publishing all cache recorded now_recorded faults now_faults lines ends caused.met
     → (place : ℕ) (query : Query) (end : ClientEnd) → slice_get (questions_in all) place ≡ Some query → slice_get ends place ≡ Some end
     → (low high : ℕ) → HasFailedBetween (place + 1) low high caused.met → end.outcome ≡ LinkFault low high

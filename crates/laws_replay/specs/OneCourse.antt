@@ -12,15 +12,15 @@ use Rattle.laws_replay.specs.Events.{TurnsAreOfClients, questions_in}
 use Rattle.laws_replay.specs.Right.{ArePlayedRight}
 use Rattle.laws_replay.specs.declared.event.Event.{Event}
 
--- The course was played rightly, whatever was told of it, however the count of faults rose and whatever was met, to these lines and to one
+-- The course was played rightly, whatever was recorded of it, however the count of faults rose and whatever was met, to these lines and to one
 -- end for each question, of which none is a fault of the link.
 pub record IsPlayedOut (made : Timetable) (publishing : Publishing) (all : List Event) (cache : ℕ) (lines : List ℕ) (ends : List ClientEnd) : Type 0 where
-  pub told : Option (List Entry)
-  pub now_told : Option (List Entry)
+  pub recorded : Option (List Entry)
+  pub now_recorded : Option (List Entry)
   pub faults : ℕ
   pub now_faults : ℕ
   pub met : List Met
-  pub right : ArePlayedRight made publishing all cache told now_told faults now_faults lines ends met
+  pub right : ArePlayedRight made publishing all cache recorded now_recorded faults now_faults lines ends met
   pub one_each : length ends ≡ length (questions_in all)
   pub no_fault : All (λ (end : ClientEnd). IsNoLinkFault end.outcome) ends
 

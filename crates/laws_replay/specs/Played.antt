@@ -28,7 +28,7 @@ pub record IsGiven (before after : LinkSeen) (file : File) (line : List ℕ) : T
   pub behind : IsBehind (Some file) held.store store line
   pub side_is : after.side ≡ Some (side_of chosen_cuts (record held { store = store }))
   pub valid : IsValidSide (side_of chosen_cuts (record held { store = store }))
-  pub told : after.told ≡ before.told
+  pub recorded : after.recorded ≡ before.recorded
   pub honest : (base : BaseParts) → before.honest base → after.honest base
   pub quiet : (base : BaseParts) → before.quiet base → after.quiet base
   pub clear : before.clear → after.clear

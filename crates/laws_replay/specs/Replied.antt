@@ -25,7 +25,7 @@ AreReplied made publishing (events.Turn client ∷ more) store (round ∷ rounds
     × AreReplied made publishing more store rounds rest
 
 -- where the link records exchanges, those of the course are recorded besides those before, with the publisher's own replies
-pub record TellsOwn (made : Timetable) (publishing : Publishing) (all : List Event) (rounds : List Round) (told now_told : Option (List Entry)) : Type 0 where
+pub record TellsOwn (made : Timetable) (publishing : Publishing) (all : List Event) (rounds : List Round) (recorded now_recorded : Option (List Entry)) : Type 0 where
   pub entries : List Entry
   pub replied : AreReplied made publishing all (store_of made publishing.base_moment) rounds entries
-  pub is : now_told ≡ option_map (λ (before : List Entry). before ++ entries) told
+  pub is : now_recorded ≡ option_map (λ (before : List Entry). before ++ entries) recorded

@@ -55,15 +55,15 @@ pub record EndsSo (made : Timetable) (publishing : Publishing) (all : List Event
 -- The course was played rightly: the lines are those of its messages; in each turn the names of the pages that are kept tell what was asked
 -- for; that is recorded where the link records exchanges, with the publisher's own replies, and the count of its faults increased by the exchanges that
 -- failed; it is what the clients met; and each client ended rightly.
-pub record ArePlayedRight (made : Timetable) (publishing : Publishing) (all : List Event) (cache : ℕ) (told now_told : Option (List Entry)) (faults now_faults : ℕ)
+pub record ArePlayedRight (made : Timetable) (publishing : Publishing) (all : List Event) (cache : ℕ) (recorded now_recorded : Option (List Entry)) (faults now_faults : ℕ)
     (lines : List ℕ) (ends : List ClientEnd) (met : List Met) : Type 0 where
   pub store : Stored
   pub heard : HasHeard all (store_of made publishing.base_moment) store lines
   pub rounds : List Round
   pub one_each : length rounds ≡ length (order_of all)
   pub by_names : AskByNames cache [] rounds
-  pub tells : TellsRequests told now_told publishing.base.authority (requests_in publishing.base (questions_in all) (order_of all) rounds)
-  pub replied : TellsOwn made publishing all rounds told now_told
+  pub tells : TellsRequests recorded now_recorded publishing.base.authority (requests_in publishing.base (questions_in all) (order_of all) rounds)
+  pub replied : TellsOwn made publishing all rounds recorded now_recorded
   pub rose : RoseBy (failures_in rounds) faults now_faults
   pub met_in : AreMetIn (order_of all) rounds met
   pub clients : (place : ℕ) (query : Query) (end : ClientEnd) → slice_get (questions_in all) place ≡ Some query → slice_get ends place ≡ Some end

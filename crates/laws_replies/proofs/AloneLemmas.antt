@@ -18,7 +18,7 @@ use Rattle.laws_replies.specs.Course.{HasComeTo}
 use Rattle.laws_replies.specs.Ends.{EndsBy, HasAnswered, HasReadStops}
 use Rattle.laws_replies.specs.Laws.{AloneAsksAll}
 use Rattle.laws_replies.specs.Made.{AreEntriesOf, IsEntryOf, Made, TellsAll, failure_of, reply_to}
-use Rattle.laws_replies.specs.Met.{AreToldOf, IsByOneOf, Met, TakeKept, TellsMet, WasKept, asked_in, exchanges_by, is_by, met_by}
+use Rattle.laws_replies.specs.Met.{AreRecordedOf, IsByOneOf, Met, TakeKept, TellsMet, WasKept, asked_in, exchanges_by, is_by, met_by}
 use Rattle.laws_replies.proofs.CourseLemmas.{AreNew, IsForEarlier, IsNew, come_new, new_more}
 
 -- what holds of all holds at a place
@@ -53,25 +53,25 @@ counted_alone all are asked =
           (ap₂ (λ (a b : Bool). a && b) (eq-eqb met.client 1 (is_first met (All-head (IsByOneOf 1) met all are))) (All-head IsAsked met all asked))
           (each all (All-tail (IsByOneOf 1) met all are) (All-tail IsAsked met all asked))
 
--- its exchanges are told
-told_alone : (base : BaseParts) (query : Query) (all : List Met) (entries : List Entry) → All (IsByOneOf 1) all → AreToldOf base (query ∷ []) all entries →
+-- its exchanges are recorded
+recorded_alone : (base : BaseParts) (query : Query) (all : List Met) (entries : List Entry) → All (IsByOneOf 1) all → AreRecordedOf base (query ∷ []) all entries →
     AreEntriesOf base query (map (λ (met : Met). met.made) all) entries
-told_alone base query [] [] are told = tt
-told_alone base query [] (e ∷ entries) are told = absurd told
-told_alone base query (met ∷ all) [] are told = absurd told
-told_alone base query (met ∷ all) (e ∷ entries) are told =
-    let one = told.0 in
+recorded_alone base query [] [] are recorded = tt
+recorded_alone base query [] (e ∷ entries) are recorded = absurd recorded
+recorded_alone base query (met ∷ all) [] are recorded = absurd recorded
+recorded_alone base query (met ∷ all) (e ∷ entries) are recorded =
+    let one = recorded.0 in
     let first : met.client ≡ 1 = is_first met (All-head (IsByOneOf 1) met all are) in
     let asks : slice_get (query ∷ []) 0 ≡ Some one.query = subst (λ (n : ℕ). slice_get (query ∷ []) (n - 1) ≡ Some one.query) first one.asks in
     let same : one.query ≡ query = cc in
-    (subst (λ (q : Query). IsEntryOf base q met.made e) same one.tells, told_alone base query all entries (All-tail (IsByOneOf 1) met all are) told.1)
+    (subst (λ (q : Query). IsEntryOf base q met.made e) same one.tells, recorded_alone base query all entries (All-tail (IsByOneOf 1) met all are) recorded.1)
 
 tells_alone : (base : BaseParts) (query : Query) (all : List Met) (before after : Option (List Entry)) → All (IsByOneOf 1) all → All IsAsked all → TellsMet base (query ∷ []) (asked_in all) before after →
     TellsAll base query (met_by 1 all) before after
 tells_alone base query all before after are asked tells = record {
   entries = tells.entries;
   are = subst (λ (l : List Made). AreEntriesOf base query l tells.entries) (sym (met_alone all are))
-      (told_alone base query all tells.entries are (subst (λ (l : List Met). AreToldOf base (query ∷ []) l tells.entries) (filter_all (λ (met : Met). met.asked) all asked) tells.are));
+      (recorded_alone base query all tells.entries are (subst (λ (l : List Met). AreRecordedOf base (query ∷ []) l tells.entries) (filter_all (λ (met : Met). met.asked) all asked) tells.are));
   is = tells.is;
 }
 
@@ -129,4 +129,4 @@ pub alone_asks_all : AloneAsksAll
 alone_asks_all base query before after faults now version all outcome met ends =
     let new : AreNew [] (made_in all) = subst (AreNew []) (met_alone all met.by_clients) (ends_new base query faults now version (met_by 1 all) outcome ends) in
     let asked : All IsAsked all = all_asked base [] all met.kept new in
-    (counted_alone all met.by_clients asked, tells_alone base query all before after met.by_clients asked met.told)
+    (counted_alone all met.by_clients asked, tells_alone base query all before after met.by_clients asked met.recorded)

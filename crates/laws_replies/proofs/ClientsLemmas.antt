@@ -84,7 +84,7 @@ pub record AreSo (base : BaseParts) (questions : List Query) (first now : LinkSe
   pub members : (place : ℕ) (query : Query) (member : Member) → slice_get questions place ≡ Some query → slice_get convoy.members place ≡ Some member
       → IsClientSo base query first.faults now.faults member (suc place) all
   pub said : All (IsSaid base all) convoy.kept.pages
-  pub met : AreMet base questions first.told now.told first.faults now.faults all
+  pub met : AreMet base questions first.recorded now.recorded first.faults now.faults all
   pub grown : HasGrown first now
 
 -- how a client ended stays so while the count rises
@@ -174,7 +174,7 @@ are_begun base cache link = record {
   met = record {
     by_clients = All-nil (IsByOneOf 0);
     kept = tt;
-    told = tells_met_none base [] link.told;
+    recorded = tells_met_none base [] link.recorded;
     counted = refl;
   };
   grown = grown_not link;
@@ -248,16 +248,16 @@ module _ (base : BaseParts) (questions : List Query) (first now : LinkSeen) (old
       by_clients = All-weaker (IsByOneOf (length questions)) (IsByOneOf (length (questions ++ query ∷ [])))
           (λ met one. record { from_one = one.from_one; at_most = (let at_most = one.at_most in omega (arith, one_question_more)) }) all so.met.by_clients;
       kept = so.met.kept;
-      told = tells_with_more base questions (query ∷ []) (asked_in all) first.told now.told so.met.told;
+      recorded = tells_with_more base questions (query ∷ []) (asked_in all) first.recorded now.recorded so.met.recorded;
       counted = so.met.counted;
     };
     grown = so.grown;
   }
 
--- the link has grown, told nothing more, and counted no fault more
-pub are_later : (base : BaseParts) (questions : List Query) (first now later : LinkSeen) (convoy : ConvoyState) (all : List Met) → AreSo base questions first now convoy all → HasGrown now later → later.told ≡ now.told → later.faults ≡ now.faults →
+-- the link has grown, recorded nothing more, and counted no fault more
+pub are_later : (base : BaseParts) (questions : List Query) (first now later : LinkSeen) (convoy : ConvoyState) (all : List Met) → AreSo base questions first now convoy all → HasGrown now later → later.recorded ≡ now.recorded → later.faults ≡ now.faults →
     AreSo base questions first later convoy all
-are_later base questions first now later convoy all so grown told same_faults = record {
+are_later base questions first now later convoy all so grown recorded same_faults = record {
   base_is = so.base_is;
   clients = so.clients;
   members = λ place query member asks is. so_later base query first.faults now.faults later.faults member (suc place) all grown.not_fallen (so.members place query member asks is);
@@ -265,7 +265,7 @@ are_later base questions first now later convoy all so grown told same_faults = 
   met = record {
     by_clients = so.met.by_clients;
     kept = so.met.kept;
-    told = subst (TellsMet base questions (asked_in all) first.told) (sym told) so.met.told;
+    recorded = subst (TellsMet base questions (asked_in all) first.recorded) (sym recorded) so.met.recorded;
     counted = subst (λ (n : ℕ). CountAlong first.faults n all) (sym same_faults) so.met.counted;
   };
   grown = grown_then first now later so.grown grown;
@@ -411,7 +411,7 @@ module _ (base : BaseParts) (questions : List Query) (query : Query) (first link
   -- the convoy with more that was met
   with_more : (more : List Met) → IsClientSo base query first.faults after.faults is k (all ++ more)
       → ((number : ℕ) (q : Query) (m : Member) → (k ≡ number → ⊥) → IsClientSo base q first.faults link.faults m number all → IsClientSo base q first.faults link.faults m number (all ++ more))
-      → All (IsSaid base (all ++ more)) new.kept.pages → AreMet base questions first.told after.told first.faults after.faults (all ++ more) → AreSo base questions first after new (all ++ more)
+      → All (IsSaid base (all ++ more)) new.kept.pages → AreMet base questions first.recorded after.recorded first.faults after.faults (all ++ more) → AreSo base questions first after new (all ++ more)
   with_more more now others said met = record {
     base_is = same_base ∙ so.base_is;
     clients = ap (λ (l : List Member). length l) members ∙ length-set old.members (k - 1) is ∙ so.clients;
@@ -425,7 +425,7 @@ module _ (base : BaseParts) (questions : List Query) (query : Query) (first link
   module _ (turn : Turn) (one : Met) (own : one.client ≡ k) (met_in : MeetsIn turn k was is (one ∷ [])) (waited : (shown was.client).outcome ≡ None)
       (moves : Moves base first.faults after.faults was.client is.client (met_by k all ++ one.made ∷ [])) (counted : is.exchanges ≡ exchanges_by k (all ++ one ∷ []))
       (fault : (low high : ℕ) → (shown is.client).outcome ≡ Some (outcomes.LinkFault low high) → HasFailedBetween k low high (all ++ one ∷ []))
-      (said : All (IsSaid base (all ++ one ∷ [])) new.kept.pages) (met : AreMet base questions first.told after.told first.faults after.faults (all ++ one ∷ [])) where
+      (said : All (IsSaid base (all ++ one ∷ [])) new.kept.pages) (met : AreMet base questions first.recorded after.recorded first.faults after.faults (all ++ one ∷ [])) where
     meets_one : Meets base questions first after new k was is all turn
     meets_one =
         let now : IsClientSo base query first.faults after.faults is k (all ++ one ∷ []) = record {
@@ -484,7 +484,7 @@ module _ (base : BaseParts) (questions : List Query) (query : Query) (first link
       no_fault = λ low high fault. some_is_none reply (sym some ∙ failed_last base first.faults after.faults is.client (met_by k all) one.made low high moves.at fault);
     })
 
-    exchange_met : AreMet base questions first.told after.told first.faults after.faults (all ++ one ∷ [])
+    exchange_met : AreMet base questions first.recorded after.recorded first.faults after.faults (all ++ one ∷ [])
     exchange_met =
         let asked : Asks base (target_of base query want) (known_at query want) x.request =
         subst (λ (q : Query). Asks base (target_of base q want) (known_at q want) x.request) it_was.question
@@ -492,8 +492,8 @@ module _ (base : BaseParts) (questions : List Query) (query : Query) (first link
         record {
           by_clients = All-push (IsByOneOf (length questions)) all one so.met.by_clients (record { from_one = from_one; at_most = by_one_of });
           kept = take_kept_more base [] all one so.met.kept (λ none. absurd (not_both none));
-          told = subst (λ (l : List Met). TellsMet base questions l first.told after.told) (sym (asked_more all one refl))
-              (tells_met_more base questions query (asked_in all) one x.request first.told link.told after.told so.met.told asks asked x.told);
+          recorded = subst (λ (l : List Met). TellsMet base questions l first.recorded after.recorded) (sym (asked_more all one refl))
+              (tells_met_more base questions query (asked_in all) one x.request first.recorded link.recorded after.recorded so.met.recorded asks asked x.recorded);
           counted = along_more first.faults link.faults after.faults all one so.met.counted refl (λ none. absurd (not_both none)) (rose_by got refl) refl;
         }
 
@@ -577,8 +577,8 @@ module _ (base : BaseParts) (questions : List Query) (query : Query) (first link
         (page_said asks.name asks.got asks.got refl asks.takes)
 
   -- nothing was wanted any more
-  pub met_none : IsFinished was is old.kept new.kept → after.faults ≡ link.faults → after.told ≡ link.told → Meets base questions first after new k was is all Finished
-  met_none t faults told =
+  pub met_none : IsFinished was is old.kept new.kept → after.faults ≡ link.faults → after.recorded ≡ link.recorded → Meets base questions first after new k was is all Finished
+  met_none t faults recorded =
       let now : IsClientSo base query first.faults after.faults is k (all ++ []) =
       subst (λ (l : List Met). IsClientSo base query first.faults after.faults is k l) (sym (append-nil all))
       (subst (λ (m : Member). IsClientSo base query first.faults after.faults m k all) (sym t.member)
@@ -587,16 +587,16 @@ module _ (base : BaseParts) (questions : List Query) (query : Query) (first link
         more = [];
         so = with_more [] now (λ number q m other before. subst (λ (l : List Met). IsClientSo base q first.faults link.faults m number l) (sym (append-nil all)) before)
             (subst (λ (l : List Met). All (IsSaid base l) new.kept.pages) (sym (append-nil all)) (subst (λ (kept : Kept). All (IsSaid base all) kept.pages) (sym t.cache) so.said))
-            (subst (AreMet base questions first.told after.told first.faults after.faults) (sym (append-nil all))
-            (subst (λ (n : ℕ). AreMet base questions first.told after.told first.faults n all) (sym faults)
-            (subst (λ (entries : Option (List Entry)). AreMet base questions first.told entries first.faults link.faults all) (sym told) so.met)));
+            (subst (AreMet base questions first.recorded after.recorded first.faults after.faults) (sym (append-nil all))
+            (subst (λ (n : ℕ). AreMet base questions first.recorded after.recorded first.faults n all) (sym faults)
+            (subst (λ (entries : Option (List Entry)). AreMet base questions first.recorded entries first.faults link.faults all) (sym recorded) so.met)));
         how = inr (record { none = refl; had = t.had; has = subst HasOutcome (sym t.member) t.had });
         met = refl;
       }
 
   -- a page of the cache was taken
-  pub took_kept : IsCached was is old.kept new.kept → after.faults ≡ link.faults → after.told ≡ link.told → Meets base questions first after new k was is all Cached
-  took_kept t faults told =
+  pub took_kept : IsCached was is old.kept new.kept → after.faults ≡ link.faults → after.recorded ≡ link.recorded → Meets base questions first after new k was is all Cached
+  took_kept t faults recorded =
       let h = t.holds in
       let at : AtPage base (shown was.client) was.client (met_by k all) h.name = it_waited (phases.Page h.name) (waits_for (shown was.client).phase h.name h.wants) in
       let same : h.page.name ≡ h.name = named old.kept.pages h.name h.page h.holds in
@@ -616,10 +616,10 @@ module _ (base : BaseParts) (questions : List Query) (query : Query) (first link
         asked = said.asked;
         same = said.made ∙ ap (λ (n : PageName). reply_to (wants.Page n) said.reply) same;
       } in
-      let met : AreMet base questions first.told link.told first.faults link.faults (all ++ one ∷ []) = record {
+      let met : AreMet base questions first.recorded link.recorded first.faults link.faults (all ++ one ∷ []) = record {
         by_clients = All-push (IsByOneOf (length questions)) all one so.met.by_clients (record { from_one = from_one; at_most = by_one_of });
         kept = take_kept_more base [] all one so.met.kept (λ none. was_kept);
-        told = subst (λ (l : List Met). TellsMet base questions l first.told link.told) (sym (not_asked_more all one refl)) so.met.told;
+        recorded = subst (λ (l : List Met). TellsMet base questions l first.recorded link.recorded) (sym (not_asked_more all one refl)) so.met.recorded;
         counted = along_more first.faults link.faults link.faults all one so.met.counted refl (λ none. refl) (RoseBy-none link.faults link.faults (no_less link.faults)) refl;
       } in
       let moves = page_taken base first.faults after.faults was.client is.client (met_by k all) h.name at said.reply h.page says h.takes in
@@ -632,8 +632,8 @@ module _ (base : BaseParts) (questions : List Query) (query : Query) (first link
       (λ low high some. absurd (no_fault low high some))
       (subst (λ (kept : Kept). All (IsSaid base (all ++ one ∷ [])) kept.pages) (sym h.used)
       (All-with_used (IsSaid base (all ++ one ∷ [])) old.kept.pages h.name (said_more base all (one ∷ []) old.kept.pages so.said)))
-      (subst (λ (n : ℕ). AreMet base questions first.told after.told first.faults n (all ++ one ∷ [])) (sym faults)
-      (subst (λ (entries : Option (List Entry)). AreMet base questions first.told entries first.faults link.faults (all ++ one ∷ [])) (sym told) met))
+      (subst (λ (n : ℕ). AreMet base questions first.recorded after.recorded first.faults n (all ++ one ∷ [])) (sym faults)
+      (subst (λ (entries : Option (List Entry)). AreMet base questions first.recorded entries first.faults link.faults (all ++ one ∷ [])) (sym recorded) met))
 
 -- what an exchange leaves of the link
 exchange_grows : (base : BaseParts) (old new : Client) (kept after_kept : Kept) (link after : LinkSeen) → AsksOne base old new kept after_kept link after → HasGrown link after
@@ -655,13 +655,13 @@ module _ {X : Type 0} (seen : X → LinkSeen) (base : BaseParts) (questions : Li
       let still : after ≡ link = step.idle (λ e. cc) in
       let query = asks_it s.was s.had in
       met_none base questions query.0 first (seen link) (seen after) old new k from_one s.was s.is all so query.1 s.had s.members s.base
-      (subst (λ (x : X). HasGrown (seen link) (seen x)) (sym still) (grown_not (seen link))) t (ap (λ (x : X). (seen x).faults) still) (ap (λ (x : X). (seen x).told) still)
+      (subst (λ (x : X). HasGrown (seen link) (seen x)) (sym still) (grown_not (seen link))) t (ap (λ (x : X). (seen x).faults) still) (ap (λ (x : X). (seen x).recorded) still)
   by_turn Cached step t =
       let s = step.turned in
       let still : after ≡ link = step.idle (λ e. cc) in
       let query = asks_it s.was s.had in
       took_kept base questions query.0 first (seen link) (seen after) old new k from_one s.was s.is all so query.1 s.had s.members s.base
-      (subst (λ (x : X). HasGrown (seen link) (seen x)) (sym still) (grown_not (seen link))) t (ap (λ (x : X). (seen x).faults) still) (ap (λ (x : X). (seen x).told) still)
+      (subst (λ (x : X). HasGrown (seen link) (seen x)) (sym still) (grown_not (seen link))) t (ap (λ (x : X). (seen x).faults) still) (ap (λ (x : X). (seen x).recorded) still)
   by_turn Exchanged step t =
       let s = step.turned in
       let query = asks_it s.was s.had in

@@ -7,4 +7,4 @@ pub mod MetLemmas
 pub mod OneEndLemmas
 pub mod RunLemmas
 pub mod StepLemmas
-pub mod ToldLemmas
+pub mod RecordedLemmas

@@ -11,8 +11,8 @@ use Rattle.lc_model.specs.declared.query.Query.{Query}
 use Rattle.lc_world.specs.Link.{Tells, TellsMore}
 use Rattle.lc_world.specs.declared.entry.Entry.{Entry}
 use Rattle.page_client.specs.Request.{Asks, known_at, target_of}
-use Rattle.laws_replies.specs.Met.{AreToldOf, CountAlong, IsToldOf, Met, TakeKept, TellsMet, WasKept, asked_in, exchanges_by, failures_in, is_by, met_by}
-use Rattle.laws_replies.proofs.MadeLemmas.{grows, stays, told_by}
+use Rattle.laws_replies.specs.Met.{AreRecordedOf, CountAlong, IsRecordedOf, Met, TakeKept, TellsMet, WasKept, asked_in, exchanges_by, failures_in, is_by, met_by}
+use Rattle.laws_replies.proofs.MadeLemmas.{grows, stays, recorded_by}
 
 -- one more passes a filter, or is left out
 filter_with : {X : Type 0} (p : X → Bool) (xs : List X) (x : X) → p x ≡ true → filter p (xs ++ x ∷ []) ≡ filter p xs ++ x ∷ []
@@ -94,39 +94,39 @@ take_kept_more base before [] met take kept = (λ none. subst (λ (l : List Met)
 take_kept_more base before (m ∷ all) met take kept =
     (take.0, take_kept_more base (before ++ m ∷ []) all met take.1 (λ none. subst (λ (l : List Met). WasKept base l met.made) (sym (append_assoc before (m ∷ []) all)) (kept none)))
 
--- one exchange more is told
-told_more : (base : BaseParts) (questions : List Query) (all : List Met) (entries : List Entry) (met : Met) (entry : Entry) → AreToldOf base questions all entries → IsToldOf base questions met entry →
-    AreToldOf base questions (all ++ met ∷ []) (entries ++ entry ∷ [])
-told_more base questions [] [] met entry are is = (is, tt)
-told_more base questions [] (e ∷ entries) met entry are is = absurd are
-told_more base questions (m ∷ all) [] met entry are is = absurd are
-told_more base questions (m ∷ all) (e ∷ entries) met entry are is = (are.0, told_more base questions all entries met entry are.1 is)
+-- one exchange more is recorded
+recorded_more : (base : BaseParts) (questions : List Query) (all : List Met) (entries : List Entry) (met : Met) (entry : Entry) → AreRecordedOf base questions all entries → IsRecordedOf base questions met entry →
+    AreRecordedOf base questions (all ++ met ∷ []) (entries ++ entry ∷ [])
+recorded_more base questions [] [] met entry are is = (is, tt)
+recorded_more base questions [] (e ∷ entries) met entry are is = absurd are
+recorded_more base questions (m ∷ all) [] met entry are is = absurd are
+recorded_more base questions (m ∷ all) (e ∷ entries) met entry are is = (are.0, recorded_more base questions all entries met entry are.1 is)
 
-pub tells_met_none : (base : BaseParts) (questions : List Query) (told : Option (List Entry)) → TellsMet base questions [] told told
-tells_met_none base questions told = record { entries = []; are = tt; is = stays told }
+pub tells_met_none : (base : BaseParts) (questions : List Query) (recorded : Option (List Entry)) → TellsMet base questions [] recorded recorded
+tells_met_none base questions recorded = record { entries = []; are = tt; is = stays recorded }
 
 pub tells_met_more :
     (base : BaseParts) (questions : List Query) (query : Query) (exchanges : List Met) (met : Met) (request : List ℕ) (start before after : Option (List Entry)) →
     TellsMet base questions exchanges start before → slice_get questions (met.client - 1) ≡ Some query → Asks base (target_of base query met.made.want) (known_at query met.made.want) request →
     Tells before after base.authority request (bytes_of met.made.got) (result_of met.made.got) → TellsMet base questions (exchanges ++ met ∷ []) start after
 tells_met_more base questions query exchanges met request start before after all asks asked tells =
-    let more : TellsMore before after base.authority request met.made.got = told_by before after base.authority request met.made.got tells in
+    let more : TellsMore before after base.authority request met.made.got = recorded_by before after base.authority request met.made.got tells in
     let entry : Entry = record { authority = base.authority; request = request; reply = more.reply } in
     record {
       entries = all.entries ++ entry ∷ [];
-      are = told_more base questions exchanges all.entries met entry all.are (record { query = query; asks = asks; tells = record { authority = refl; asks = asked; reply = more.is_given } });
-      is = more.is ∙ ap (option_map (λ (told : List Entry). told ++ entry ∷ [])) all.is ∙ grows start all.entries entry;
+      are = recorded_more base questions exchanges all.entries met entry all.are (record { query = query; asks = asks; tells = record { authority = refl; asks = asked; reply = more.is_given } });
+      is = more.is ∙ ap (option_map (λ (recorded : List Entry). recorded ++ entry ∷ [])) all.is ∙ grows start all.entries entry;
     }
 
 -- who asks later changes nothing of it
-told_with_more : (base : BaseParts) (questions more : List Query) (all : List Met) (entries : List Entry) → AreToldOf base questions all entries → AreToldOf base (questions ++ more) all entries
-told_with_more base questions more [] [] are = tt
-told_with_more base questions more [] (e ∷ entries) are = absurd are
-told_with_more base questions more (m ∷ all) [] are = absurd are
-told_with_more base questions more (m ∷ all) (e ∷ entries) are =
+recorded_with_more : (base : BaseParts) (questions more : List Query) (all : List Met) (entries : List Entry) → AreRecordedOf base questions all entries → AreRecordedOf base (questions ++ more) all entries
+recorded_with_more base questions more [] [] are = tt
+recorded_with_more base questions more [] (e ∷ entries) are = absurd are
+recorded_with_more base questions more (m ∷ all) [] are = absurd are
+recorded_with_more base questions more (m ∷ all) (e ∷ entries) are =
     let one = are.0 in
-    (record { query = one.query; asks = slice_get-append questions more (m.client - 1) one.query one.asks; tells = one.tells }, told_with_more base questions more all entries are.1)
+    (record { query = one.query; asks = slice_get-append questions more (m.client - 1) one.query one.asks; tells = one.tells }, recorded_with_more base questions more all entries are.1)
 
 pub tells_with_more : (base : BaseParts) (questions more : List Query) (exchanges : List Met) (start now : Option (List Entry)) → TellsMet base questions exchanges start now →
     TellsMet base (questions ++ more) exchanges start now
-tells_with_more base questions more exchanges start now all = record { entries = all.entries; are = told_with_more base questions more exchanges all.entries all.are; is = all.is }
+tells_with_more base questions more exchanges start now all = record { entries = all.entries; are = recorded_with_more base questions more exchanges all.entries all.are; is = all.is }

@@ -48,7 +48,7 @@ has_run base query before after end all member so is some =
     has_ended base before.faults after.faults member.client (met_by 1 all) (shown member.client) (shown member.client).phase client.at some in
     let ends : EndsBy base query before.faults after.faults (shown member.client).version (met_by 1 all) e.outcome =
     subst (λ (q : Query). EndsBy base q before.faults after.faults (shown member.client).version (met_by 1 all) e.outcome) client.question e.ends in
-    let own = alone_asks_all base query before.told after.told before.faults after.faults (shown member.client).version all e.outcome so.met ends in
+    let own = alone_asks_all base query before.recorded after.recorded before.faults after.faults (shown member.client).version all e.outcome so.met ends in
     record {
       member = member;
       alone = one_alone end.members member so.clients is;
@@ -59,7 +59,7 @@ has_run base query before after end all member so is some =
         made = met_by 1 all;
         counted = client.counted ∙ own.0;
         ends = ends;
-        told = own.1;
+        recorded = own.1;
         clear = so.grown.clear;
         not_fallen = so.grown.not_fallen;
         along = record {

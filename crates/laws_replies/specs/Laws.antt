@@ -4,9 +4,9 @@ use Rattle.std.specs.List.{All}
 use Rattle.lc_model.specs.Journey.{arrives_at}
 use Rattle.lc_model.specs.declared.query.Query.{Query}
 use Rattle.connection_uri.specs.Base.{BaseParts}
-use Rattle.lc_world.specs.Link.{LinkSeen, told_of}
+use Rattle.lc_world.specs.Link.{LinkSeen, recorded_of}
 use Rattle.lc_world.specs.declared.entry.Entry.{Entry}
-use Rattle.lc_world.specs.declared.entry.ToldReply.TheVariants.{Hidden}
+use Rattle.lc_world.specs.declared.entry.RecordedReply.TheVariants.{Hidden}
 use Rattle.page_client.specs.declared.outcome.Outcome.{Outcome}
 use Rattle.page_client.specs.declared.outcome.Outcome.TheVariants as outcomes
 use Rattle.laws_replies.specs.Ends.{EndsBy}
@@ -45,21 +45,21 @@ OneEnd =
 abbrev pub TellsReply : Entry → Type 0
 TellsReply entry = entry.reply ≡ Hidden → ⊥
 
--- entries of which none hides its reply tell what was got, exchange for exchange: a failure is told of no exchange that was replied to
-abbrev pub GotIsTold : Type 0
-GotIsTold =
+-- entries of which none hides its reply tell what was got, exchange for exchange: a failure is recorded of no exchange that was replied to
+abbrev pub GotIsRecorded : Type 0
+GotIsRecorded =
     (base : BaseParts) (query : Query) (made : List Made) (entries : List Entry) → AreEntriesOf base query made entries → All TellsReply entries
-    → map (λ (entry : Entry). entry.reply) entries ≡ map told_of (replies_of made)
+    → map (λ (entry : Entry). entry.reply) entries ≡ map recorded_of (replies_of made)
 
--- so where a link told exchanges, and hid no reply of them, a client of the question ended in one way by what is told
-abbrev pub OneToldEnd : {X : Type 0} → (X → LinkSeen) → Type 0
-OneToldEnd {X} seen =
-    (base : BaseParts) (query : Query) (before after : X) (told entries : List Entry) (version_a version_b : Option ℕ) (exchanges_a exchanges_b : ℕ) (a b : Outcome)
-    → (seen before).told ≡ Some told → (seen after).told ≡ Some (told ++ entries) → All TellsReply entries
+-- so where a link recorded exchanges, and hid no reply of them, a client of the question ended in one way by what is recorded
+abbrev pub OneRecordedEnd : {X : Type 0} → (X → LinkSeen) → Type 0
+OneRecordedEnd {X} seen =
+    (base : BaseParts) (query : Query) (before after : X) (recorded entries : List Entry) (version_a version_b : Option ℕ) (exchanges_a exchanges_b : ℕ) (a b : Outcome)
+    → (seen before).recorded ≡ Some recorded → (seen after).recorded ≡ Some (recorded ++ entries) → All TellsReply entries
     → (asked_a : HasAsked base query (seen before) (seen after) version_a exchanges_a a) (asked_b : HasAsked base query (seen before) (seen after) version_b exchanges_b b)
     → IsOneEnd asked_a.made asked_b.made version_a version_b a b
 
--- who is alone among the clients met all by exchanges of its own: they are counted, and told where the link tells exchanges
+-- who is alone among the clients met all by exchanges of its own: they are counted, and recorded where the link tells exchanges
 abbrev pub AloneAsksAll : Type 0
 AloneAsksAll =
     (base : BaseParts) (query : Query) (before after : Option (List Entry)) (faults now_faults : ℕ) (version : Option ℕ) (all : List Met) (outcome : Outcome)

@@ -2,9 +2,9 @@
 use Rattle.std.specs.Prelude.{◌≡◌, ◌⊎◌, ℕ, List, [], ◌∷◌, ◌++◌, Option, Some, None, option_map}
 use Rattle.lc_model.specs.declared.query.Query.{Query}
 use Rattle.connection_uri.specs.Base.{BaseParts}
-use Rattle.lc_world.specs.Link.{told_of}
+use Rattle.lc_world.specs.Link.{recorded_of}
 use Rattle.lc_world.specs.declared.entry.Entry.{Entry}
-use Rattle.lc_world.specs.declared.entry.ToldReply.TheVariants.{Hidden}
+use Rattle.lc_world.specs.declared.entry.RecordedReply.TheVariants.{Hidden}
 use Rattle.page_client.specs.Request.{Asks, known_at, target_of}
 use Rattle.page_client.specs.declared.want.Want.{Want}
 
@@ -26,7 +26,7 @@ failure_of want = record { want = want; got = None }
 pub record IsEntryOf (base : BaseParts) (query : Query) (made : Made) (entry : Entry) : Type 0 where
   pub authority : entry.authority ≡ base.authority
   pub asks : Asks base (target_of base query made.want) (known_at query made.want) entry.request
-  pub reply : (entry.reply ≡ Hidden) ⊎ (entry.reply ≡ told_of made.got)
+  pub reply : (entry.reply ≡ Hidden) ⊎ (entry.reply ≡ recorded_of made.got)
 
 -- there is one entry for each exchange, in their order
 abbrev pub AreEntriesOf : BaseParts → Query → List Made → List Entry → Type 0
@@ -35,8 +35,8 @@ AreEntriesOf base query [] (entry ∷ entries) = ⊥
 AreEntriesOf base query (made ∷ more) [] = ⊥
 AreEntriesOf base query (made ∷ more) (entry ∷ entries) = IsEntryOf base query made entry × AreEntriesOf base query more entries
 
--- where the link tells exchanges, these were told, behind those before
+-- where the link tells exchanges, these were recorded, behind those before
 pub record TellsAll (base : BaseParts) (query : Query) (made : List Made) (before after : Option (List Entry)) : Type 0 where
   pub entries : List Entry
   pub are : AreEntriesOf base query made entries
-  pub is : after ≡ option_map (λ (told : List Entry). told ++ entries) before
+  pub is : after ≡ option_map (λ (recorded : List Entry). recorded ++ entries) before

@@ -81,28 +81,28 @@ TakeKept base before [] = Unit {0}
 TakeKept base before (met ∷ more) = (met.asked ≡ false → WasKept base before met.made) × TakeKept base (before ++ met ∷ []) more
 
 -- the entry tells the exchange of one who asked one of these questions
-pub record IsToldOf (base : BaseParts) (questions : List Query) (met : Met) (entry : Entry) : Type 0 where
+pub record IsRecordedOf (base : BaseParts) (questions : List Query) (met : Met) (entry : Entry) : Type 0 where
   pub query : Query
   pub asks : slice_get questions (met.client - 1) ≡ Some query
   pub tells : IsEntryOf base query met.made entry
 
 -- there is one entry for each exchange, in their order
-abbrev pub AreToldOf : BaseParts → List Query → List Met → List Entry → Type 0
-AreToldOf base questions [] [] = Unit {0}
-AreToldOf base questions [] (entry ∷ entries) = ⊥
-AreToldOf base questions (met ∷ more) [] = ⊥
-AreToldOf base questions (met ∷ more) (entry ∷ entries) = IsToldOf base questions met entry × AreToldOf base questions more entries
+abbrev pub AreRecordedOf : BaseParts → List Query → List Met → List Entry → Type 0
+AreRecordedOf base questions [] [] = Unit {0}
+AreRecordedOf base questions [] (entry ∷ entries) = ⊥
+AreRecordedOf base questions (met ∷ more) [] = ⊥
+AreRecordedOf base questions (met ∷ more) (entry ∷ entries) = IsRecordedOf base questions met entry × AreRecordedOf base questions more entries
 
--- where the link tells exchanges, these were told, behind those before
+-- where the link tells exchanges, these were recorded, behind those before
 pub record TellsMet (base : BaseParts) (questions : List Query) (exchanges : List Met) (before after : Option (List Entry)) : Type 0 where
   pub entries : List Entry
-  pub are : AreToldOf base questions exchanges entries
-  pub is : after ≡ option_map (λ (told : List Entry). told ++ entries) before
+  pub are : AreRecordedOf base questions exchanges entries
+  pub is : after ≡ option_map (λ (recorded : List Entry). recorded ++ entries) before
 
--- The clients of these questions met all this over a link: each exchange is told, where the link tells exchanges, and its count of faults
+-- The clients of these questions met all this over a link: each exchange is recorded, where the link tells exchanges, and its count of faults
 -- went from the one to the other.
 pub record AreMet (base : BaseParts) (questions : List Query) (before after : Option (List Entry)) (faults now_faults : ℕ) (all : List Met) : Type 0 where
   pub by_clients : All (IsByOneOf (length questions)) all
   pub kept : TakeKept base [] all
-  pub told : TellsMet base questions (asked_in all) before after
+  pub recorded : TellsMet base questions (asked_in all) before after
   pub counted : CountAlong faults now_faults all

@@ -22,12 +22,12 @@ pub record IsCounted (faults now : ℕ) (made : List Made) (outcome : Outcome) :
   pub fault : (low high : ℕ) → outcome ≡ LinkFault low high → HasFailedBetween 1 low high met
 
 -- A client of the question asked over the link, and ended so: with this version, after so many exchanges, with this outcome. The
--- exchanges were told, where the link tells any; a clear link is clear still; and its count of faults has not fallen, and went along them.
+-- exchanges were recorded, where the link tells any; a clear link is clear still; and its count of faults has not fallen, and went along them.
 pub record HasAsked (base : BaseParts) (query : Query) (before after : LinkSeen) (version : Option ℕ) (exchanges : ℕ) (outcome : Outcome) : Type 0 where
   pub made : List Made
   pub counted : exchanges ≡ length made
   pub ends : EndsBy base query before.faults after.faults version made outcome
-  pub told : TellsAll base query made before.told after.told
+  pub recorded : TellsAll base query made before.recorded after.recorded
   pub clear : before.clear → after.clear
   pub not_fallen : before.faults ≤ after.faults
   pub along : IsCounted before.faults after.faults made outcome

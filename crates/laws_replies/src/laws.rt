@@ -1,4 +1,4 @@
-ghost use Rattle.laws_replies.specs.Laws.{AloneAsksAll, FaultsAreAroundLast, GotIsTold, NoFaultIsShrunken, OneEnd, OneToldEnd};
+ghost use Rattle.laws_replies.specs.Laws.{AloneAsksAll, FaultsAreAroundLast, GotIsRecorded, NoFaultIsShrunken, OneEnd, OneRecordedEnd};
 ghost use Rattle.laws_replies.specs.Run.{EndsByItsReplies};
 
 use lc_world::Link;
@@ -16,14 +16,14 @@ pub fn one_end()
     ensures { OneEnd }
 {}
 
-/// Where a link tells exchanges and hides none of their replies, what a client got is told, failures too, and so by what is told it
+/// Where a link tells exchanges and hides none of their replies, what a client got is recorded, failures too, and so by what is recorded it
 /// ended in one way.
-pub fn one_told_end<L: Link>()
-    ensures got { GotIsTold }
-    ensures end { OneToldEnd L.seen }
+pub fn one_recorded_end<L: Link>()
+    ensures got { GotIsRecorded }
+    ensures end { OneRecordedEnd L.seen }
 {}
 
-/// Whoever is alone among the clients never comes to want a page twice, and so met all by exchanges of its own, which are told: it has
+/// Whoever is alone among the clients never comes to want a page twice, and so met all by exchanges of its own, which are recorded: it has
 /// asked as a client that asks alone.
 pub fn alone_asks_all()
     ensures { AloneAsksAll }

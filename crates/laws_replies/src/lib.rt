@@ -5,5 +5,5 @@
 mod laws;
 
 pub use laws::{
-    alone_asks_all, alone_over_any_link, faults_are_around_last, one_end, one_told_end,
+    alone_asks_all, alone_over_any_link, faults_are_around_last, one_end, one_recorded_end,
 };

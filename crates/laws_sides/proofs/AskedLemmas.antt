@@ -20,7 +20,7 @@ use Rattle.publisher_spec.specs.declared.asked.Asked.{Asked}
 use Rattle.publisher_spec.specs.declared.asked.Asked.TheVariants as kinds
 use Rattle.publisher_spec.specs.declared.response.Response.{Response}
 use Rattle.publisher_spec.proofs.AskedLemmas.{same_behind}
-use Rattle.laws_sides.specs.Told.{IsToldTo, version_at}
+use Rattle.laws_sides.specs.Recorded.{IsRecordedTo, version_at}
 use Rattle.memento.specs.Negotiation.{Negotiates}
 
 -- ---- what the paths ask for
@@ -63,17 +63,17 @@ pub record Answers (side : Side) (target : List ℕ) (known : Option ℕ) (asked
   pub text_is : reply ≡ reply_text_of (parts_of side.base side.doc true response)
 
 pub answers : (side : Side) (target : List ℕ) (known : Option ℕ) (asked : Asked) (reply : List ℕ) → asked_of side.base side.accepts_updates (path_of target) (codes "GET") ≡ asked
-    → IsToldTo side target known reply → Answers side target known asked reply
-answers side target known asked reply is told =
-    let request = told.asks.request in
-    let says = told.asks.says in
-    let response = told.replies.0 in
-    let has = told.replies.1 in
-    let same : has.request ≡ request = one_request told.request has.request request has.whole told.asks.is_whole in
-    let body = drop request.body_from told.request in
+    → IsRecordedTo side target known reply → Answers side target known asked reply
+answers side target known asked reply is recorded =
+    let request = recorded.asks.request in
+    let says = recorded.asks.says in
+    let response = recorded.replies.0 in
+    let has = recorded.replies.1 in
+    let same : has.request ≡ request = one_request recorded.request has.request request has.whole recorded.asks.is_whole in
+    let body = drop request.body_from recorded.request in
     let asks : asked_of side.base side.accepts_updates request.path request.method ≡ asked =
     ap₂ (λ (path method : List ℕ). asked_of side.base side.accepts_updates path method) says.path_is says.method_is ∙ is in
-    let said : IsResponse side request body response = subst (λ (r : Request). IsResponse side r (drop r.body_from told.request) response) same has.said in
+    let said : IsResponse side request body response = subst (λ (r : Request). IsResponse side r (drop r.body_from recorded.request) response) same has.said in
     let text : reply ≡ text_said side request response = subst (λ (r : Request). reply ≡ text_said side r response) same has.text_is in
     record {
       request = request;

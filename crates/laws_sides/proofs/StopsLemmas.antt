@@ -14,7 +14,7 @@ use Rattle.publisher_spec.specs.Short.{StandsUnder}
 use Rattle.publisher_spec.specs.Side.{Side}
 use Rattle.publisher_spec.specs.declared.asked.Asked.TheVariants as kinds
 use Rattle.publisher_spec.specs.declared.response.Response.{Response}
-use Rattle.laws_sides.specs.Told.{StopsAreTold}
+use Rattle.laws_sides.specs.Recorded.{StopsAreRecorded}
 use Rattle.laws_sides.proofs.AskedLemmas.{answers, stops_asked}
 use Rattle.laws_sides.proofs.TextLemmas.{CanBeRead, body_said, ok_len, says_parts}
 
@@ -30,12 +30,12 @@ can_be_read side stands = record {
   body_fits = stands.short.doc;
 }
 
-pub stops_are_told : StopsAreTold
-stops_are_told side reply stands told =
+pub stops_are_recorded : StopsAreRecorded
+stops_are_recorded side reply stands recorded =
     let base = side.base in
     let doc = side.doc in
     let path = (targets_are_read base stands.valid.base).stops.path_is in
-    let a = answers side (stops_target_of base) None kinds.Stops reply (ap (λ (p : List ℕ). asked_of base side.accepts_updates p (codes "GET")) path ∙ stops_asked base side.accepts_updates) told in
+    let a = answers side (stops_target_of base) None kinds.Stops reply (ap (λ (p : List ℕ). asked_of base side.accepts_updates p (codes "GET")) path ∙ stops_asked base side.accepts_updates) recorded in
     let parts = stops_parts base true doc in
     let text : reply ≡ reply_text_of parts = a.text_is ∙ ap (λ (r : Response). reply_text_of (parts_of base doc true r)) a.said.is in
     let body : body_of reply (reply_said parts reply) ≡ stops_text_of base doc = body_said parts reply text in

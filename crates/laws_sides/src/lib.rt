@@ -4,4 +4,4 @@
 
 mod laws;
 
-pub use laws::{gate_is_told, pages_are_told, replies_are_read, stops_are_told};
+pub use laws::{gate_is_recorded, pages_are_recorded, replies_are_read, stops_are_recorded};

@@ -13,8 +13,8 @@ use Rattle.lc_io.specs.Folder.{FolderSeen}
 use Rattle.lc_io.specs.declared.file.File.{File}
 use Rattle.lc_world.specs.Link.{LinkSeen}
 use Rattle.script_text.specs.Laws.{NeverBoth, OneScript}
-use Rattle.timetable.specs.Told.{IsSound}
-use Rattle.timetable.specs.Laws.{LoadsTold, NotBroken, NotTooLarge}
+use Rattle.timetable.specs.Recorded.{IsSound}
+use Rattle.timetable.specs.Laws.{LoadsRecorded, NotBroken, NotTooLarge}
 use Rattle.timetable.specs.declared.fault.LoadFault.TheVariants as fault
 use Rattle.timetable.specs.declared.scope.Scope.{Scope}
 use Rattle.timetable.specs.declared.timetable.Timetable.{Timetable}
@@ -32,24 +32,24 @@ use Rattle.lc_cli.proofs.ServingLemmas.{served_answered}
 use Rattle.lc_cli.proofs.TopLemmas.{AreNoFaults, IsHeardBy, answered, heard, heard_nothing, heard_served, no_fault, not_absent, not_broken_update, not_long}
 
 -- a command without a script whose feed and message are fine is refused for memory alone
-module _ (not_broken : NotBroken) (not_too_large : NotTooLarge) (one_outcome : OneOutcome) (told : List File) (scope : Scope) (update : Option (List ℕ)) (old new : FolderSeen)
-    (made : Timetable) (tells : old.files ≡ Some told) (sound : IsSound told scope made) (heard_is : IsHeardBy told update) (no_fault_is : Rose old.faults new.faults → ⊥) where
+module _ (not_broken : NotBroken) (not_too_large : NotTooLarge) (one_outcome : OneOutcome) (recorded : List File) (scope : Scope) (update : Option (List ℕ)) (old new : FolderSeen)
+    (made : Timetable) (tells : old.files ≡ Some recorded) (sound : IsSound recorded scope made) (heard_is : IsHeardBy recorded update) (no_fault_is : Rose old.faults new.faults → ⊥) where
   never : (refusal : Refusal) → IsRefusedFor scope update old new refusal → (status_of refusal ≡ NoMemory) ⊎ ⊥
   never refused.Usage is = inr is
-  never (refused.Load (fault.Broken rule file row)) is = inr (not_broken told scope old new made rule file row tells sound is)
-  never (refused.Load (fault.TooLarge what count)) is = inr (not_too_large told scope old new made what count tells sound is)
+  never (refused.Load (fault.Broken rule file row)) is = inr (not_broken recorded scope old new made rule file row tells sound is)
+  never (refused.Load (fault.TooLarge what count)) is = inr (not_too_large recorded scope old new made what count tells sound is)
   never (refused.Load (fault.Folder before after)) is = inr (no_fault_is (subst (λ count. Rose count new.faults) is.0 (subst (λ count. Rose before count) is.1 is.2)))
   never (refused.Load fault.NoMemory) is = inl refl
-  never (refused.Script row) is = inr (not_absent one_outcome told scope update old new tells heard_is is.asks)
+  never (refused.Script row) is = inr (not_absent one_outcome recorded scope update old new tells heard_is is.asks)
   never (refused.Folder before after) is = inr (no_fault_is (subst (λ count. Rose count new.faults) is.before_is (subst (λ count. Rose before count) is.after_is is.rose)))
-  never (refused.LongUpdate count) is = inr (not_long one_outcome told scope update old new tells heard_is count is)
-  never (refused.BrokenUpdate name found) is = inr (not_broken_update one_outcome told scope update old new tells heard_is name found is)
+  never (refused.LongUpdate count) is = inr (not_long one_outcome recorded scope update old new tells heard_is count is)
+  never (refused.BrokenUpdate name found) is = inr (not_broken_update one_outcome recorded scope update old new tells heard_is name found is)
 
 -- the run ended with what is answered, or out of memory
 by_status : (status other : Status) → status ≡ other → IsAnswered other → IsAnswered status
 by_status status other is fine = subst IsAnswered (sym is) fine
 
-module _ (one_command : OneCommand) (loads_told : LoadsTold) (not_broken : NotBroken) (not_too_large : NotTooLarge) (one_outcome : OneOutcome) (one_script : OneScript)
+module _ (one_command : OneCommand) (loads_recorded : LoadsRecorded) (not_broken : NotBroken) (not_too_large : NotTooLarge) (one_outcome : OneOutcome) (one_script : OneScript)
     (never_both : NeverBoth) where
   -- nothing but memory keeps the output from being printed
   pub complete : {X : Type 0} (seen : X → LinkSeen) (p : Past X) (status : Status) → IsRight seen p status → IsClear seen p → IsAnswered status
@@ -60,9 +60,9 @@ module _ (one_command : OneCommand) (loads_told : LoadsTold) (not_broken : NotBr
     fine : (command : Command) → SaysCommand p.words command → Prints command p.folder_before p.folder_after (seen p.link_before) (seen p.link_after) x.block → AreNoFaults x.block.ends.items
     fine (commands.Check check) says prints = subst AreNoFaults (sym prints.no_client) tt
     fine (commands.Ask ask) says prints =
-        no_fault loads_told clear.told ask p.folder_before p.folder_after (seen p.link_before) (seen p.link_after) x.block prints clear.unhindered.tells (clear.unhindered.fair ask says)
+        no_fault loads_recorded clear.recorded ask p.folder_before p.folder_after (seen p.link_before) (seen p.link_after) x.block prints clear.unhindered.tells (clear.unhindered.fair ask says)
     fine (commands.Replay replay) says prints =
-        course_fine loads_told clear.told replay p.folder_before p.folder_after (seen p.link_before) (seen p.link_after) x.block prints clear.unhindered.tells
+        course_fine loads_recorded clear.recorded replay p.folder_before p.folder_after (seen p.link_before) (seen p.link_after) x.block prints clear.unhindered.tells
         (clear.unhindered.fair_course replay says)
     fine (commands.Serve serve) says prints = absurd prints
     fine (commands.Plan plan) says prints =
@@ -80,22 +80,22 @@ module _ (one_command : OneCommand) (loads_told : LoadsTold) (not_broken : NotBr
     memory refusal is (inr lacks) = by_status status NoMemory lacks.status_is tt
 
     -- whatever the command is, it is refused for memory alone
-    never_as : (command : Command) → IsFed clear.told command → IsHeard clear.told command → IsRefusedAs command p.folder_before p.folder_after x.refusal
+    never_as : (command : Command) → IsFed clear.recorded command → IsHeard clear.recorded command → IsRefusedAs command p.folder_before p.folder_after x.refusal
         → (status_of x.refusal ≡ NoMemory) ⊎ ⊥
     never_as (commands.Check check) fed is refused_is =
-        never not_broken not_too_large one_outcome clear.told (check_scope check) None p.folder_before p.folder_after fed.made clear.unhindered.tells fed.sound
-        (heard_nothing clear.told (store_of fed.made 0)) clear.unhindered.no_folder_fault x.refusal refused_is
+        never not_broken not_too_large one_outcome clear.recorded (check_scope check) None p.folder_before p.folder_after fed.made clear.unhindered.tells fed.sound
+        (heard_nothing clear.recorded (store_of fed.made 0)) clear.unhindered.no_folder_fault x.refusal refused_is
     never_as (commands.Ask ask) fed is refused_is =
-        never not_broken not_too_large one_outcome clear.told (ask_scope ask) ask.update p.folder_before p.folder_after fed.made clear.unhindered.tells fed.sound
-        (heard clear.told ask is) clear.unhindered.no_folder_fault x.refusal refused_is
+        never not_broken not_too_large one_outcome clear.recorded (ask_scope ask) ask.update p.folder_before p.folder_after fed.made clear.unhindered.tells fed.sound
+        (heard clear.recorded ask is) clear.unhindered.no_folder_fault x.refusal refused_is
     never_as (commands.Replay replay) fed (made, all, course) refused_is =
-        never_refused one_script never_both not_broken not_too_large clear.told replay p.folder_before p.folder_after clear.unhindered.tells made all course
+        never_refused one_script never_both not_broken not_too_large clear.recorded replay p.folder_before p.folder_after clear.unhindered.tells made all course
         clear.unhindered.no_folder_fault x.refusal refused_is
     never_as (commands.Serve serve) fed is refused_is =
-        never not_broken not_too_large one_outcome clear.told (serve_scope serve) serve.update p.folder_before p.folder_after fed.made clear.unhindered.tells fed.sound
-        (heard_served clear.told serve is) clear.unhindered.no_folder_fault x.refusal refused_is
+        never not_broken not_too_large one_outcome clear.recorded (serve_scope serve) serve.update p.folder_before p.folder_after fed.made clear.unhindered.tells fed.sound
+        (heard_served clear.recorded serve is) clear.unhindered.no_folder_fault x.refusal refused_is
     never_as (commands.Plan plan) fed (all, asks) refused_is =
-        plan_never_refused never_both clear.told plan.asks p.folder_before p.folder_after clear.unhindered.tells all asks clear.unhindered.no_folder_fault x.refusal refused_is
+        plan_never_refused never_both clear.recorded plan.asks p.folder_before p.folder_after clear.unhindered.tells all asks clear.unhindered.no_folder_fault x.refusal refused_is
 
     by : IsRightRefusal p.words p.folder_before p.folder_after x.refusal → IsRefusalEnd x.refusal p.sink_before p.sink_after status → IsAnswered status
     by (inl usage) end = absurd (usage.says_none clear.command clear.says)

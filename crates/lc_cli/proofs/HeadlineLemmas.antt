@@ -30,7 +30,7 @@ use Rattle.page_client.specs.declared.outcome.Outcome.TheVariants as outcomes
 use Rattle.page_client.specs.declared.want.Want.{Want}
 use Rattle.page_client.specs.declared.want.Want.TheVariants as wants
 use Rattle.publisher_spec.specs.Side.{Side}
-use Rattle.timetable.specs.Laws.{LoadsTold}
+use Rattle.timetable.specs.Laws.{LoadsRecorded}
 use Rattle.lc_cli.specs.Block.{IsBlockEnd, IsWrittenWhole, client_status_of, failed_status_of}
 use Rattle.lc_cli.specs.Clear.{IsAskedSide}
 use Rattle.lc_cli.specs.Command.{IsAskBlock, Prints, ask_scope}
@@ -40,7 +40,7 @@ use Rattle.cli_serve.specs.Written.{Wrote}
 use Rattle.lc_cli.specs.declared.block.Block.{Block}
 use Rattle.lc_cli.specs.declared.status.Status.{Status}
 use Rattle.lc_cli.specs.declared.status.Status.TheVariants.{Done, NoMemory, SinkFault}
-use Rattle.lc_cli.proofs.InputsLemmas.{inputs_told}
+use Rattle.lc_cli.proofs.InputsLemmas.{inputs_recorded}
 use Rattle.lc_cli.proofs.OneStatusLemmas.{done_is_printed}
 
 -- the outcome is that of an answer
@@ -110,7 +110,7 @@ own_version side query end given answer version x at =
     cc
 
 -- a client that ended rightly with an answer ended best
-module _ (side : Side) (base : _) (query : Query) (told now_told : Option (List Entry)) (end : ClientEnd) (right : EndsRight side base query told now_told end) (found : HasAnswer end.outcome) where
+module _ (side : Side) (base : _) (query : Query) (recorded now_recorded : Option (List Entry)) (end : ClientEnd) (right : EndsRight side base query recorded now_recorded end) (found : HasAnswer end.outcome) where
   pub has : HasAnswered side (shown_of query end) right.given found.answer
   has = has_answered side (shown_of query end) right.given end.outcome found right.ended
 
@@ -136,16 +136,16 @@ module _ (side : Side) (base : _) (query : Query) (told now_told : Option (List 
       right.exchanges ∙ ap (λ (l : List Want). length l) (all_asked side query right.given right.asked end.outcome found right.asks ∙ has.given)
       ∙ count_wants has.names
 
-module _ (loads_told : LoadsTold) {X : Type 0} (seen : X → LinkSeen) (p : Past X) (ask : Ask) (files : List File) (tells : p.folder_before.files ≡ Some files) (clear : (seen p.link_before).clear) (short : StaysShort files ask) where
+module _ (loads_recorded : LoadsRecorded) {X : Type 0} (seen : X → LinkSeen) (p : Past X) (ask : Ask) (files : List File) (tells : p.folder_before.files ≡ Some files) (clear : (seen p.link_before).clear) (short : StaysShort files ask) where
   -- what was written is the block of a best journey
   wrote_best : (block : Block) → IsAskBlock ask p.folder_before p.folder_after (seen p.link_before) (seen p.link_after) block → IsBlockEnd block p.sink_before p.sink_after Done → WroteBest p ask files
   wrote_best block x end =
       let side = side_with x.made ask.publishing x.asked.store in
       let asked : IsAskedSide files ask (side_with x.made ask.publishing x.asked.store) = record {
         made = x.made;
-        sound = loads_told files (ask_scope ask) p.folder_before x.inputs.between x.made tells x.inputs.loaded;
+        sound = loads_recorded files (ask_scope ask) p.folder_before x.inputs.between x.made tells x.inputs.loaded;
         file = x.file;
-        is_told = inputs_told files (ask_scope ask) ask.update p.folder_before p.folder_after x.made x.file tells x.inputs;
+        is_recorded = inputs_recorded files (ask_scope ask) ask.update p.folder_before p.folder_after x.made x.file tells x.inputs;
         store = x.asked.store;
         line = x.asked.line;
         behind = x.asked.behind;
@@ -158,10 +158,10 @@ module _ (loads_told : LoadsTold) {X : Type 0} (seen : X → LinkSeen) (p : Past
         side = side;
         asked = asked;
         end = x.end;
-        best = ends_best side ask.publishing.base ask.query (seen p.link_before).told (seen p.link_after).told x.end right found;
-        pages = (has side ask.publishing.base ask.query (seen p.link_before).told (seen p.link_after).told x.end right found).names;
-        are_needed = needed side ask.publishing.base ask.query (seen p.link_before).told (seen p.link_after).told x.end right found;
-        exchanges = exchanges side ask.publishing.base ask.query (seen p.link_before).told (seen p.link_after).told x.end right found;
+        best = ends_best side ask.publishing.base ask.query (seen p.link_before).recorded (seen p.link_after).recorded x.end right found;
+        pages = (has side ask.publishing.base ask.query (seen p.link_before).recorded (seen p.link_after).recorded x.end right found).names;
+        are_needed = needed side ask.publishing.base ask.query (seen p.link_before).recorded (seen p.link_after).recorded x.end right found;
+        exchanges = exchanges side ask.publishing.base ask.query (seen p.link_before).recorded (seen p.link_after).recorded x.end right found;
         wrote = subst (Wrote p.sink_before p.sink_after) x.asked.text_is whole.wrote;
       }
 
@@ -171,9 +171,9 @@ module _ (loads_told : LoadsTold) {X : Type 0} (seen : X → LinkSeen) (p : Past
       (subst (λ (c : Command). Prints c p.folder_before p.folder_after (seen p.link_before) (seen p.link_after) x.block)
       (one_command p.words x.right.command (commands.Ask ask) x.right.says says) x.right.prints) x.end
 
-pub headline : {X : Type 0} (seen : X → LinkSeen) → OneCommand → LoadsTold → Headline seen
-headline seen one_command loads_told p ask files says tells clear short right =
+pub headline : {X : Type 0} (seen : X → LinkSeen) → OneCommand → LoadsRecorded → Headline seen
+headline seen one_command loads_recorded p ask files says tells clear short right =
     by (done_is_printed seen p right) where
       by : HasPrinted seen p Done ⊎ HasServed p Done → WroteBest p ask files
-      by (inl x) = by_printed loads_told seen p ask files tells clear short one_command says x
+      by (inl x) = by_printed loads_recorded seen p ask files tells clear short one_command says x
       by (inr x) = let other : commands.Serve x.right.serve ≡ commands.Ask ask = one_command p.words (commands.Serve x.right.serve) (commands.Ask ask) x.right.says says in absurd (cc)

@@ -13,7 +13,7 @@ use Rattle.laws_convoys.specs.Names.{Round}
 use Rattle.laws_plan.specs.Planned.{EndsAt}
 use Rattle.laws_plan.specs.Sides.{version_after, version_with}
 use Rattle.laws_replay.specs.Turns.{given_in}
-use Rattle.laws_sides.specs.Told.{version_at}
+use Rattle.laws_sides.specs.Recorded.{version_at}
 use Rattle.lc_io.specs.declared.file.File.{File}
 use Rattle.lc_model.specs.declared.query.Query.{Query}
 use Rattle.lc_world.specs.Link.{IsHonestWith, LinkSeen}
@@ -29,7 +29,7 @@ use Rattle.lc_cli.specs.declared.block.Block.{Block}
 use Rattle.lc_cli.specs.declared.status.Status.TheVariants.{Done}
 use Rattle.lc_cli.proofs.HeadlineLemmas.{HasAnswer, answer_at, has_answered, is_whole}
 use Rattle.lc_cli.proofs.OneStatusLemmas.{done_is_printed}
-use Rattle.lc_cli.proofs.PlanLemmas.{asks_told}
+use Rattle.lc_cli.proofs.PlanLemmas.{asks_recorded}
 
 -- the side of a turn that the time gate began, which names this version
 record NamedAt (known : Option ℕ) (rounds : List Round) (sides : List Side) (version : ℕ) : Type 0 where
@@ -107,7 +107,7 @@ module _ {X : Type 0} (seen : X → LinkSeen) (p : Past X) (plan : Plan) (files 
       let whole = is_whole block p.sink_before p.sink_after end in
       record {
         all = x.all;
-        recorded = asks_told files plan.asks p.folder_before p.folder_after x.all tells x.inputs;
+        recorded = asks_recorded files plan.asks p.folder_before p.folder_after x.all tells x.inputs;
         ends = block.ends.items;
         one_each = x.planned.one_each;
         met = x.planned.caused.met;

@@ -18,7 +18,7 @@ use Rattle.laws_replay.specs.declared.event.Event.{Event}
 use Rattle.lc_io.specs.declared.file.File.{File}
 use Rattle.lc_model.specs.declared.query.Query.{Query}
 use Rattle.lc_world.specs.Link.{LinkSeen}
-use Rattle.timetable.specs.Laws.{LoadsTold}
+use Rattle.timetable.specs.Laws.{LoadsRecorded}
 use Rattle.timetable.specs.declared.timetable.Timetable.{Timetable}
 use Rattle.version_store.specs.Laws.{OneOutcome}
 use Rattle.version_store.specs.Store.{Stored}
@@ -32,7 +32,7 @@ use Rattle.lc_cli.specs.declared.status.Status.TheVariants.{Done}
 use Rattle.lc_cli.proofs.EarlierSideLemmas.{HasMore, Rises, answers_before, more_since, rises_first, rises_heard}
 use Rattle.lc_cli.proofs.HeadlineLemmas.{HasAnswer, answer_at, has_answered, is_whole, no_link_faults, own_version}
 use Rattle.lc_cli.proofs.OneStatusLemmas.{done_is_printed}
-use Rattle.lc_cli.proofs.ReplayLemmas.{course_told}
+use Rattle.lc_cli.proofs.ReplayLemmas.{course_recorded}
 
 -- a client that ended rightly with an answer ended best by the messages before its first turn
 module _ (one_outcome : OneOutcome) (made : Timetable) (publishing : Publishing) (all : List Event) (store : Stored) (lines : List ℕ) (heard : HasHeard all (store_of made publishing.base_moment) store lines)
@@ -67,13 +67,13 @@ module _ (one_outcome : OneOutcome) (made : Timetable) (publishing : Publishing)
     };
   }
 
-module _ (loads_told : LoadsTold) (one_outcome : OneOutcome) {X : Type 0} (seen : X → LinkSeen) (p : Past X) (replay : Replay) (files : List File) (tells : p.folder_before.files ≡ Some files)
+module _ (loads_recorded : LoadsRecorded) (one_outcome : OneOutcome) {X : Type 0} (seen : X → LinkSeen) (p : Past X) (replay : Replay) (files : List File) (tells : p.folder_before.files ≡ Some files)
     (clear : (seen p.link_before).clear) (short : StaysShortThroughout files replay) where
   -- what was written are the blocks of best journeys
   wrote_each_best : (block : Block) → IsReplayBlock replay p.folder_before p.folder_after (seen p.link_before) (seen p.link_after) block → IsBlockEnd block p.sink_before p.sink_after Done
       → WroteEachBest p replay files
   wrote_each_best block x end =
-      let course = course_told loads_told files replay p.folder_before p.folder_after x.made x.all tells x.inputs in
+      let course = course_recorded loads_recorded files replay p.folder_before p.folder_after x.made x.all tells x.inputs in
       let right = x.replayed.right clear (short x.made x.all course) in
       let whole = is_whole block p.sink_before p.sink_after end in
       record {
@@ -83,8 +83,8 @@ module _ (loads_told : LoadsTold) (one_outcome : OneOutcome) {X : Type 0} (seen 
         lines = x.replayed.lines;
         ends = block.ends.items;
         played = record {
-          told = (seen p.link_before).told;
-          now_told = (seen p.link_after).told;
+          recorded = (seen p.link_before).recorded;
+          now_recorded = (seen p.link_after).recorded;
           faults = (seen p.link_before).faults;
           now_faults = (seen p.link_after).faults;
           met = x.replayed.caused.met;
@@ -104,9 +104,9 @@ module _ (loads_told : LoadsTold) (one_outcome : OneOutcome) {X : Type 0} (seen 
       (subst (λ (c : Command). Prints c p.folder_before p.folder_after (seen p.link_before) (seen p.link_after) x.block)
       (one_command p.words x.right.command (commands.Replay replay) x.right.says says) x.right.prints) x.end
 
-pub headline_of_replay : {X : Type 0} (seen : X → LinkSeen) → OneCommand → LoadsTold → OneOutcome → HeadlineOfReplay seen
-headline_of_replay seen one_command loads_told one_outcome p replay files says tells clear short right =
+pub headline_of_replay : {X : Type 0} (seen : X → LinkSeen) → OneCommand → LoadsRecorded → OneOutcome → HeadlineOfReplay seen
+headline_of_replay seen one_command loads_recorded one_outcome p replay files says tells clear short right =
     by (done_is_printed seen p right) where
       by : HasPrinted seen p Done ⊎ HasServed p Done → WroteEachBest p replay files
-      by (inl x) = by_printed loads_told one_outcome seen p replay files tells clear short one_command says x
+      by (inl x) = by_printed loads_recorded one_outcome seen p replay files tells clear short one_command says x
       by (inr x) = let other : commands.Serve x.right.serve ≡ commands.Replay replay = one_command p.words (commands.Serve x.right.serve) (commands.Replay replay) x.right.says says in absurd (cc)

@@ -15,14 +15,14 @@ use Rattle.lc_model.specs.declared.run.Run.{Run}
 use Rattle.lc_world.specs.Link.{LinkSeen}
 use Rattle.laws_replay.specs.OneCourse.{OneCourse}
 use Rattle.script_text.specs.Laws.{OneScript}
-use Rattle.timetable.specs.Laws.{AreSame, LoadsTold, OneTimetable}
+use Rattle.timetable.specs.Laws.{AreSame, LoadsRecorded, OneTimetable}
 use Rattle.timetable.specs.declared.timetable.Timetable.{Timetable}
 use Rattle.lc_cli.specs.CheckText.{check_text_of, count_line_of}
-use Rattle.lc_cli.specs.Clear.{HasFairLink, IsToldFile}
+use Rattle.lc_cli.specs.Clear.{HasFairLink, IsRecordedFile}
 use Rattle.lc_cli.specs.Command.{IsAskBlock, Prints, ask_scope, check_scope}
 use Rattle.lc_cli.specs.Laws.{OneRun, PrintOne}
 use Rattle.lc_cli.specs.declared.block.Block.{Block}
-use Rattle.lc_cli.proofs.InputsLemmas.{inputs_told}
+use Rattle.lc_cli.proofs.InputsLemmas.{inputs_recorded}
 use Rattle.lc_cli.proofs.OneReplayLemmas.{one_replay}
 
 -- the counts of timetables that are the same
@@ -35,38 +35,38 @@ same_counts a b same =
     count_line_of (codes "stops") (stops i) ++ count_line_of (codes "trips") (same.trips i + same.left_out i) ++ count_line_of (codes "left out") (same.left_out i)
     ++ count_line_of (codes "runs") (runs i) ++ count_line_of (codes "connections") (same.connections i) ++ count_line_of (codes "changes") (changes i) ++ codes "ok\n"
 
--- the told file of a name is one
-one_file : (told : List File) (update : Option (List ℕ)) (a b : Option File) → IsToldFile told update a → IsToldFile told update b → a ≡ b
-one_file told None None None x y = refl
-one_file told None None (Some b) x y = absurd y
-one_file told None (Some a) b x y = absurd x
-one_file told (Some name) None b x y = absurd x
-one_file told (Some name) (Some a) None x y = absurd y
-one_file told (Some name) (Some a) (Some b) x y =
+-- the recorded file of a name is one
+one_file : (recorded : List File) (update : Option (List ℕ)) (a b : Option File) → IsRecordedFile recorded update a → IsRecordedFile recorded update b → a ≡ b
+one_file recorded None None None x y = refl
+one_file recorded None None (Some b) x y = absurd y
+one_file recorded None (Some a) b x y = absurd x
+one_file recorded (Some name) None b x y = absurd x
+one_file recorded (Some name) (Some a) None x y = absurd y
+one_file recorded (Some name) (Some a) (Some b) x y =
     let bytes : Some a.bytes ≡ Some b.bytes = sym x.1 ∙ y.1 in
     let same : a.bytes ≡ b.bytes = cc in
     let file = λ (n c : List ℕ). let f : Option File = Some (record { name = n; bytes = c }) in f in
     λ i. file ((x.0 ∙ sym y.0) i) (same i)
 
-module _ {X Y : Type 0} (seen : X → LinkSeen) (saw : Y → LinkSeen) (one_timetable : OneTimetable) (loads_told : LoadsTold) (one_output : OneOutput seen saw) where
+module _ {X Y : Type 0} (seen : X → LinkSeen) (saw : Y → LinkSeen) (one_timetable : OneTimetable) (loads_recorded : LoadsRecorded) (one_output : OneOutput seen saw) where
   -- timetables that were loaded over the same files are the same
-  same_timetables : (told : List File) (ask : Ask) (old new other later : FolderSeen) (before after from to : LinkSeen) (x y : Block)
-      (a : IsAskBlock ask old new before after x) (b : IsAskBlock ask other later from to y) → old.files ≡ Some told → other.files ≡ Some told → AreSame a.made b.made
-  same_timetables told ask old new other later before after from to x y a b tells tell =
-      one_timetable told (ask_scope ask) a.made b.made (loads_told told (ask_scope ask) old a.inputs.between a.made tells a.inputs.loaded)
-      (loads_told told (ask_scope ask) other b.inputs.between b.made tell b.inputs.loaded)
+  same_timetables : (recorded : List File) (ask : Ask) (old new other later : FolderSeen) (before after from to : LinkSeen) (x y : Block)
+      (a : IsAskBlock ask old new before after x) (b : IsAskBlock ask other later from to y) → old.files ≡ Some recorded → other.files ≡ Some recorded → AreSame a.made b.made
+  same_timetables recorded ask old new other later before after from to x y a b tells tell =
+      one_timetable recorded (ask_scope ask) a.made b.made (loads_recorded recorded (ask_scope ask) old a.inputs.between a.made tells a.inputs.loaded)
+      (loads_recorded recorded (ask_scope ask) other b.inputs.between b.made tell b.inputs.loaded)
 
   -- a fair link is one for what was asked
-  fair_asked : (told : List File) (ask : Ask) (old new : FolderSeen) (before after : LinkSeen) (block : Block) (x : IsAskBlock ask old new before after block) → old.files ≡ Some told
-      → HasFairLink told ask before.clear before.faults after.faults → IsFair x.made ask.publishing x.file before.clear before.faults after.faults
-  fair_asked told ask old new before after block x tells fair = record {
+  fair_asked : (recorded : List File) (ask : Ask) (old new : FolderSeen) (before after : LinkSeen) (block : Block) (x : IsAskBlock ask old new before after block) → old.files ≡ Some recorded
+      → HasFairLink recorded ask before.clear before.faults after.faults → IsFair x.made ask.publishing x.file before.clear before.faults after.faults
+  fair_asked recorded ask old new before after block x tells fair = record {
     was_clear = fair.link.was_clear;
     no_fault = fair.link.no_fault;
     short = λ store line behind. fair.short (side_with x.made ask.publishing store) (record {
       made = x.made;
-      sound = loads_told told (ask_scope ask) old x.inputs.between x.made tells x.inputs.loaded;
+      sound = loads_recorded recorded (ask_scope ask) old x.inputs.between x.made tells x.inputs.loaded;
       file = x.file;
-      is_told = inputs_told told (ask_scope ask) ask.update old new x.made x.file tells x.inputs;
+      is_recorded = inputs_recorded recorded (ask_scope ask) ask.update old new x.made x.file tells x.inputs;
       store = store;
       line = line;
       behind = behind;
@@ -75,23 +75,23 @@ module _ {X Y : Type 0} (seen : X → LinkSeen) (saw : Y → LinkSeen) (one_time
   }
 
   -- what is printed of one question over the same files is one
-  pub one_client : (told : List File) (ask : Ask) (old new other later : FolderSeen) (before after : X) (from to : Y) (x y : Block)
-      (a : IsAskBlock ask old new (seen before) (seen after) x) (b : IsAskBlock ask other later (saw from) (saw to) y) → old.files ≡ Some told → other.files ≡ Some told
-      → HasFairLink told ask (seen before).clear (seen before).faults (seen after).faults → HasFairLink told ask (saw from).clear (saw from).faults (saw to).faults
+  pub one_client : (recorded : List File) (ask : Ask) (old new other later : FolderSeen) (before after : X) (from to : Y) (x y : Block)
+      (a : IsAskBlock ask old new (seen before) (seen after) x) (b : IsAskBlock ask other later (saw from) (saw to) y) → old.files ≡ Some recorded → other.files ≡ Some recorded
+      → HasFairLink recorded ask (seen before).clear (seen before).faults (seen after).faults → HasFairLink recorded ask (saw from).clear (saw from).faults (saw to).faults
       → PrintOneClient x.text.items y.text.items a.end b.end
-  one_client told ask old new other later before after from to x y a b tells tell fair other_fair =
-      let file : b.file ≡ a.file = one_file told ask.update b.file a.file (inputs_told told (ask_scope ask) ask.update other later b.made b.file tell b.inputs)
-      (inputs_told told (ask_scope ask) ask.update old new a.made a.file tells a.inputs) in
+  one_client recorded ask old new other later before after from to x y a b tells tell fair other_fair =
+      let file : b.file ≡ a.file = one_file recorded ask.update b.file a.file (inputs_recorded recorded (ask_scope ask) ask.update other later b.made b.file tell b.inputs)
+      (inputs_recorded recorded (ask_scope ask) ask.update old new a.made a.file tells a.inputs) in
       one_output a.made b.made ask.publishing a.file ask.query before after from to x.text.items y.text.items a.end b.end
-      (same_timetables told ask old new other later (seen before) (seen after) (saw from) (saw to) x y a b tells tell)
-      (fair_asked told ask old new (seen before) (seen after) x a tells fair)
-      (subst (λ f. IsFair b.made ask.publishing f (saw from).clear (saw from).faults (saw to).faults) file (fair_asked told ask other later (saw from) (saw to) y b tell other_fair)) a.asked
+      (same_timetables recorded ask old new other later (seen before) (seen after) (saw from) (saw to) x y a b tells tell)
+      (fair_asked recorded ask old new (seen before) (seen after) x a tells fair)
+      (subst (λ f. IsFair b.made ask.publishing f (saw from).clear (saw from).faults (saw to).faults) file (fair_asked recorded ask other later (saw from) (saw to) y b tell other_fair)) a.asked
       (subst (λ f. IsAsked b.made ask.publishing f ask.query (saw from) (saw to) y.text.items b.end) file b.asked)
 
   module _ (one_command : OneCommand) (one_script : OneScript) (one_course : OneCourse) where
     -- runs over these words and files that print something print one output
     pub one_run : OneRun seen saw
-    one_run p q told words home at to s t x y = by x.right.command x.right.says x.right.prints other where
+    one_run p q recorded words home at to s t x y = by x.right.command x.right.says x.right.prints other where
       same : y.right.command ≡ x.right.command
       same = one_command p.words y.right.command x.right.command (subst (λ w. SaysCommand w y.right.command) (sym words) y.right.says) x.right.says
 
@@ -101,11 +101,11 @@ module _ {X Y : Type 0} (seen : X → LinkSeen) (saw : Y → LinkSeen) (one_time
       by : (command : Command) → SaysCommand p.words command → Prints command p.folder_before p.folder_after (seen p.link_before) (seen p.link_after) x.block
           → Prints command q.folder_before q.folder_after (saw q.link_before) (saw q.link_after) y.block → PrintOne command x.block y.block
       by (commands.Check check) says a b =
-          let made = one_timetable told (check_scope check) a.made b.made (loads_told told (check_scope check) p.folder_before p.folder_after a.made at.tells a.loaded)
-          (loads_told told (check_scope check) q.folder_before q.folder_after b.made to.tells b.loaded) in
+          let made = one_timetable recorded (check_scope check) a.made b.made (loads_recorded recorded (check_scope check) p.folder_before p.folder_after a.made at.tells a.loaded)
+          (loads_recorded recorded (check_scope check) q.folder_before q.folder_after b.made to.tells b.loaded) in
           a.text ∙ same_counts a.made b.made made ∙ sym b.text
       by (commands.Replay replay) says a b =
-          one_replay loads_told one_timetable one_script one_course told replay p.folder_before p.folder_after q.folder_before q.folder_after (seen p.link_before) (seen p.link_after)
+          one_replay loads_recorded one_timetable one_script one_course recorded replay p.folder_before p.folder_after q.folder_before q.folder_after (seen p.link_before) (seen p.link_after)
           (saw q.link_before) (saw q.link_after) x.block y.block a b at.tells to.tells (at.fair_course replay says)
           (to.fair_course replay (subst (λ w. SaysCommand w (commands.Replay replay)) words says))
       by (commands.Serve serve) says a b = absurd a
@@ -115,5 +115,5 @@ module _ {X Y : Type 0} (seen : X → LinkSeen) (saw : Y → LinkSeen) (one_time
           let other_fair = to.fair ask (subst (λ w. SaysCommand w (commands.Ask ask)) words says) in (
             a.end,
             b.end,
-            one_client told ask p.folder_before p.folder_after q.folder_before q.folder_after p.link_before p.link_after q.link_before q.link_after x.block y.block a b at.tells to.tells fair other_fair,
+            one_client recorded ask p.folder_before p.folder_after q.folder_before q.folder_after p.link_before p.link_after q.link_before q.link_after x.block y.block a b at.tells to.tells fair other_fair,
           )

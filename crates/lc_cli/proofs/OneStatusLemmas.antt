@@ -23,7 +23,7 @@ use Rattle.page_client.specs.declared.outcome.Outcome.TheVariants as outcomes
 use Rattle.laws_replay.specs.OneCourse.{OneCourse}
 use Rattle.laws_replay.specs.declared.event.Event.{Event}
 use Rattle.script_text.specs.Laws.{NeverBoth, OneFault, OneScript}
-use Rattle.timetable.specs.Laws.{AreSameEnds, IsOfFiles, LoadsTold, OneEnd, OneTimetable}
+use Rattle.timetable.specs.Laws.{AreSameEnds, IsOfFiles, LoadsRecorded, OneEnd, OneTimetable}
 use Rattle.timetable.specs.Loading.{Loads, LoadsSo}
 use Rattle.timetable.specs.declared.fault.LoadFault.{LoadFault}
 use Rattle.timetable.specs.declared.fault.LoadFault.TheVariants as fault
@@ -33,7 +33,7 @@ use Rattle.version_store.specs.Laws.{OneOutcome}
 use Rattle.version_store.specs.declared.admission.AdmitFault.{AdmitFault}
 use Rattle.version_store.specs.declared.admission.AdmitFault.TheVariants as faults
 use Rattle.lc_cli.specs.Block.{IsBlockEnd, client_status_of, failed_status_of}
-use Rattle.lc_cli.specs.Clear.{HasTimetable, IsClear, IsToldCourse, IsToldFile, IsUnhindered}
+use Rattle.lc_cli.specs.Clear.{HasTimetable, IsClear, IsRecordedCourse, IsRecordedFile, IsUnhindered}
 use Rattle.lc_cli.specs.Command.{IsRefusedAs, IsRightBlock, IsRightRefusal, Prints, ask_scope, check_scope, serve_scope}
 use Rattle.cli_inputs.specs.Inputs.{AsksForUpdate, IsRefusedFor}
 use Rattle.lc_cli.specs.Laws.{AreInProcess, DoneIsClear, DoneIsPrinted, IsInProcess, OneStatus}
@@ -44,12 +44,12 @@ use Rattle.cli_inputs.specs.declared.refusal.Refusal.{Refusal}
 use Rattle.cli_inputs.specs.declared.refusal.Refusal.TheVariants as refused
 use Rattle.lc_cli.specs.declared.status.Status.{Status}
 use Rattle.lc_cli.specs.declared.status.Status.TheVariants.{Done, NoMemory, ScriptWrong, UpdateBroken, Usage}
-use Rattle.lc_cli.proofs.CourseRefusalLemmas.{HasLoaded, IsCourseRefused, IsToldCause, course_refused, not_refused, one_course_refusal, one_wrong, status_by, status_in}
-use Rattle.lc_cli.proofs.InputsLemmas.{absent_told, bytes_told, inputs_told, still_told}
+use Rattle.lc_cli.proofs.CourseRefusalLemmas.{HasLoaded, IsCourseRefused, IsRecordedCause, course_refused, not_refused, one_course_refusal, one_wrong, status_by, status_in}
+use Rattle.lc_cli.proofs.InputsLemmas.{absent_recorded, bytes_recorded, inputs_recorded, still_recorded}
 use Rattle.lc_cli.proofs.OneReplayLemmas.{one_replay}
 use Rattle.lc_cli.proofs.OneRunLemmas.{one_client}
-use Rattle.lc_cli.proofs.PlanLemmas.{asks_told}
-use Rattle.lc_cli.proofs.ReplayLemmas.{course_fine, course_told}
+use Rattle.lc_cli.proofs.PlanLemmas.{asks_recorded}
+use Rattle.lc_cli.proofs.ReplayLemmas.{course_fine, course_recorded}
 use Rattle.lc_cli.proofs.TopLemmas.{AreNoFaults, IsHeardBy, IsNoFault, heard_fine, heard_nothing, no_fault, side_asked, side_served}
 
 -- the block was printed whole
@@ -71,42 +71,42 @@ record LoadFails {X : Type 0} (scope : Scope) (p : Past X) (s : Status) : Type 0
   status_is : s ≡ status_in found
 
 -- the timetable was loaded, and the message is wrong
-record UpdateFails {X : Type 0} (scope : Scope) (update : Option (List ℕ)) (told : List File) (p : Past X) (s : Status) : Type 0 where
+record UpdateFails {X : Type 0} (scope : Scope) (update : Option (List ℕ)) (recorded : List File) (p : Past X) (s : Status) : Type 0 where
   between : FolderSeen
   made : Timetable
   loaded : Loads scope p.folder_before between made
   name : List ℕ
   named : update ≡ Some name
   cause : Option AdmitFault
-  is : IsToldCause told name cause
+  is : IsRecordedCause recorded name cause
   status_is : s ≡ status_by 0 name cause
 
 -- the files refuse the feed or the message
 abbrev Fails : {X : Type 0} → Scope → Option (List ℕ) → List File → Past X → Status → Type 0
-Fails scope update told p s = LoadFails scope p s ⊎ UpdateFails scope update told p s
+Fails scope update recorded p s = LoadFails scope p s ⊎ UpdateFails scope update recorded p s
 
 -- what the files refuse: the feed or the message of a command, or its course
 abbrev IsRefusedSo : {X : Type 0} → List File → Past X → Status → Command → Type 0
-IsRefusedSo told p s (commands.Check check) = Fails (check_scope check) None told p s
-IsRefusedSo told p s (commands.Ask ask) = Fails (ask_scope ask) ask.update told p s
-IsRefusedSo told p s (commands.Replay replay) = IsCourseRefused told replay s
-IsRefusedSo told p s (commands.Serve serve) = Unit {0}
-IsRefusedSo told p s (commands.Plan plan) = Unit {0}
+IsRefusedSo recorded p s (commands.Check check) = Fails (check_scope check) None recorded p s
+IsRefusedSo recorded p s (commands.Ask ask) = Fails (ask_scope ask) ask.update recorded p s
+IsRefusedSo recorded p s (commands.Replay replay) = IsCourseRefused recorded replay s
+IsRefusedSo recorded p s (commands.Serve serve) = Unit {0}
+IsRefusedSo recorded p s (commands.Plan plan) = Unit {0}
 
 -- a command is refused by its files
-record IsRefusedByFiles {X : Type 0} (told : List File) (p : Past X) (s : Status) : Type 0 where
+record IsRefusedByFiles {X : Type 0} (recorded : List File) (p : Past X) (s : Status) : Type 0 where
   command : Command
   says : SaysCommand p.words command
-  by : IsRefusedSo told p s command
+  by : IsRefusedSo recorded p s command
 
 -- how a run ended that nothing hindered, memory apart
 abbrev Ended : {X : Type 0} → (X → LinkSeen) → List File → Past X → Status → Type 0
-Ended seen told p s = Whole seen p s ⊎ NoCommand p s ⊎ IsRefusedByFiles told p s
+Ended seen recorded p s = Whole seen p s ⊎ NoCommand p s ⊎ IsRefusedByFiles recorded p s
 
-module _ {X : Type 0} (seen : X → LinkSeen) (p : Past X) (told : List File) (at : IsUnhindered seen p told) (s : Status) where
+module _ {X : Type 0} (seen : X → LinkSeen) (p : Past X) (recorded : List File) (at : IsUnhindered seen p recorded) (s : Status) where
   -- what was asked for of the message, and answered so
   by_update : (scope : Scope) (update : Option (List ℕ)) (result : Result (List ℕ) FolderFail) (x : AsksForUpdate scope update p.folder_before p.folder_after result)
-      (cause : Option AdmitFault) → IsToldCause told x.name cause → s ≡ status_by 0 x.name cause → UpdateFails scope update told p s
+      (cause : Option AdmitFault) → IsRecordedCause recorded x.name cause → s ≡ status_by 0 x.name cause → UpdateFails scope update recorded p s
   by_update scope update result x cause is status = record {
     between = x.between;
     made = x.made;
@@ -118,11 +118,11 @@ module _ {X : Type 0} (seen : X → LinkSeen) (p : Past X) (told : List File) (a
     status_is = status;
   }
 
-  still : (scope : Scope) (update : Option (List ℕ)) (result : Result (List ℕ) FolderFail) (x : AsksForUpdate scope update p.folder_before p.folder_after result) → x.between.files ≡ Some told
-  still scope update result x = still_told told p.folder_before x.between at.tells x.kept
+  still : (scope : Scope) (update : Option (List ℕ)) (result : Result (List ℕ) FolderFail) (x : AsksForUpdate scope update p.folder_before p.folder_after result) → x.between.files ≡ Some recorded
+  still scope update result x = still_recorded recorded p.folder_before x.between at.tells x.kept
 
   by_refusal : (scope : Scope) (update : Option (List ℕ)) (refusal : Refusal) → s ≡ status_of refusal → IsRefusedFor scope update p.folder_before p.folder_after refusal
-      → (s ≡ NoMemory) ⊎ Fails scope update told p s
+      → (s ≡ NoMemory) ⊎ Fails scope update recorded p s
   by_refusal scope update refused.Usage status is = absurd is
   by_refusal scope update (refused.Load (fault.Broken rule file row)) status is = inr (inl (record { found = fault.Broken rule file row; of_files = tt; loads = is; status_is = status }))
   by_refusal scope update (refused.Load (fault.TooLarge kind count)) status is = inr (inl (record { found = fault.TooLarge kind count; of_files = tt; loads = is; status_is = status }))
@@ -130,42 +130,42 @@ module _ {X : Type 0} (seen : X → LinkSeen) (p : Past X) (told : List File) (a
       absurd (at.no_folder_fault (subst (λ count. Rose count p.folder_after.faults) is.0 (subst (λ count. Rose before count) is.1 is.2)))
   by_refusal scope update (refused.Load fault.NoMemory) status is = inl status
   by_refusal scope update (refused.Script row) status is =
-      inr (inr (by_update scope update (Err Absent) is.asks None (absent_told told is.asks.between p.folder_after is.asks.name (still scope update (Err Absent) is.asks) is.asks.read)
+      inr (inr (by_update scope update (Err Absent) is.asks None (absent_recorded recorded is.asks.between p.folder_after is.asks.name (still scope update (Err Absent) is.asks) is.asks.read)
       (status ∙ ap (λ r. ScriptWrong r) is.row_is)))
   by_refusal scope update (refused.Folder before after) status is =
       absurd (at.no_folder_fault (subst (λ count. Rose count p.folder_after.faults) is.before_is (subst (λ count. Rose before count) is.after_is is.rose)))
   by_refusal scope update (refused.LongUpdate count) status is =
-      let bytes = bytes_told told is.asks.between p.folder_after is.asks.name is.bytes (still scope update (Ok is.bytes) is.asks) is.asks.read in
+      let bytes = bytes_recorded recorded is.asks.between p.folder_after is.asks.name is.bytes (still scope update (Ok is.bytes) is.asks) is.asks.read in
       inr (inr (by_update scope update (Ok is.bytes) is.asks (Some (faults.TooLong count)) (is.bytes, bytes, (λ store. (is.long, is.counted)), (λ ignored. ignored)) status))
   by_refusal scope update (refused.BrokenUpdate name found) status is =
-      let bytes = bytes_told told is.asks.between p.folder_after is.asks.name is.bytes (still scope update (Ok is.bytes) is.asks) is.asks.read in
+      let bytes = bytes_recorded recorded is.asks.between p.folder_after is.asks.name is.bytes (still scope update (Ok is.bytes) is.asks) is.asks.read in
       let same : name ≡ is.asks.name = let e : Some name ≡ Some is.asks.name = sym is.named ∙ is.asks.named in cc in
       inr (inr (by_update scope update (Ok is.bytes) is.asks (Some (faults.Broken found)) (is.bytes, bytes, (λ store. is.broken), (λ ignored. ignored))
       (status ∙ ap (λ n. UpdateBroken n found) same)))
 
-  refused_so : (command : Command) (refusal : Refusal) → s ≡ status_of refusal → IsRefusedAs command p.folder_before p.folder_after refusal → (s ≡ NoMemory) ⊎ IsRefusedSo told p s command
+  refused_so : (command : Command) (refusal : Refusal) → s ≡ status_of refusal → IsRefusedAs command p.folder_before p.folder_after refusal → (s ≡ NoMemory) ⊎ IsRefusedSo recorded p s command
   refused_so (commands.Check check) refusal status is = by_refusal (check_scope check) None refusal status is
   refused_so (commands.Ask ask) refusal status is = by_refusal (ask_scope ask) ask.update refusal status is
-  refused_so (commands.Replay replay) refusal status is = course_refused told replay p.folder_before p.folder_after at.tells at.no_folder_fault s refusal is status
+  refused_so (commands.Replay replay) refusal status is = course_refused recorded replay p.folder_before p.folder_after at.tells at.no_folder_fault s refusal is status
   refused_so (commands.Serve serve) refusal status is = inr tt
   refused_so (commands.Plan plan) refusal status is = inr tt
 
-  by_command : (command : Command) → SaysCommand p.words command → (s ≡ NoMemory) ⊎ IsRefusedSo told p s command → (s ≡ NoMemory) ⊎ Ended seen told p s
+  by_command : (command : Command) → SaysCommand p.words command → (s ≡ NoMemory) ⊎ IsRefusedSo recorded p s command → (s ≡ NoMemory) ⊎ Ended seen recorded p s
   by_command command says (inl memory) = inl memory
   by_command command says (inr by) = inr (inr (inr (record { command = command; says = says; by = by })))
 
-  ended : AreInProcess p.words → IsRight seen p s → (s ≡ NoMemory) ⊎ Ended seen told p s
+  ended : AreInProcess p.words → IsRight seen p s → (s ≡ NoMemory) ⊎ Ended seen recorded p s
   ended home (inl x) = by x.end where
-    by : IsBlockEnd x.block p.sink_before p.sink_after s → (s ≡ NoMemory) ⊎ Ended seen told p s
+    by : IsBlockEnd x.block p.sink_before p.sink_after s → (s ≡ NoMemory) ⊎ Ended seen recorded p s
     by (inl whole) = inr (inl (record { block = x.block; right = x.right; status_is = whole.status_is }))
     by (inr (inl cut)) = absurd (at.no_sink_fault cut.rose)
     by (inr (inr cut)) = inl cut.status_is
   ended home (inr (inr x)) = absurd (home (commands.Serve x.right.serve) x.right.says)
   ended home (inr (inl x)) = by x.end where
-    by : IsRefusalEnd x.refusal p.sink_before p.sink_after s → (s ≡ NoMemory) ⊎ Ended seen told p s
+    by : IsRefusalEnd x.refusal p.sink_before p.sink_after s → (s ≡ NoMemory) ⊎ Ended seen recorded p s
     by (inr lacks) = inl lacks.status_is
     by (inl said) = cause x.right where
-      cause : IsRightRefusal p.words p.folder_before p.folder_after x.refusal → (s ≡ NoMemory) ⊎ Ended seen told p s
+      cause : IsRightRefusal p.words p.folder_before p.folder_after x.refusal → (s ≡ NoMemory) ⊎ Ended seen recorded p s
       cause (inl usage) = inr (inr (inl (record { says_none = usage.says_none; status_is = said.status_is ∙ ap status_of usage.is })))
       cause (inr (inl first)) = inl (said.status_is ∙ ap status_of first.is)
       cause (inr (inr is)) = by_command is.command is.says (refused_so is.command x.refusal said.status_is is.refused)
@@ -198,48 +198,48 @@ one_clients_status k (d ∷ a) [] one fine = absurd one
 one_clients_status k (d ∷ a) (e ∷ b) one fine =
     ap₂ (λ (first : Option Status) (rest : Status). unwrap_or first rest) (one_client_status k d.outcome e.outcome one.0.outcome fine.0) (one_clients_status (k + 1) a b one.1 fine.1)
 
-module _ {X Y : Type 0} (seen : X → LinkSeen) (saw : Y → LinkSeen) (one_command : OneCommand) (one_timetable : OneTimetable) (one_end : OneEnd) (loads_told : LoadsTold)
+module _ {X Y : Type 0} (seen : X → LinkSeen) (saw : Y → LinkSeen) (one_command : OneCommand) (one_timetable : OneTimetable) (one_end : OneEnd) (loads_recorded : LoadsRecorded)
     (one_outcome : OneOutcome) (one_output : OneOutput seen saw) (one_script : OneScript) (one_fault : OneFault) (never_both : NeverBoth) (one_course : OneCourse) (p : Past X) (q : Past Y)
-    (told : List File) (words : p.words ≡ q.words) (home : AreInProcess p.words) (at : IsUnhindered seen p told) (to : IsUnhindered saw q told) (s t : Status) where
+    (recorded : List File) (words : p.words ≡ q.words) (home : AreInProcess p.words) (at : IsUnhindered seen p recorded) (to : IsUnhindered saw q recorded) (s t : Status) where
   same_command : (a b : Command) → SaysCommand p.words a → SaysCommand q.words b → b ≡ a
   same_command a b x y = one_command p.words b a (subst (λ w. SaysCommand w b) (sym words) y) x
 
   -- the ends of the loading of one feed
   one_load : (scope : Scope) (x y : Result Timetable LoadFault) (new later : FolderSeen) → IsOfFiles x → IsOfFiles y → LoadsSo scope p.folder_before new x
       → LoadsSo scope q.folder_before later y → AreSameEnds x y
-  one_load scope x y new later f g a b = one_end told scope p.folder_before new q.folder_before later x y at.tells to.tells f g a b
+  one_load scope x y new later f g a b = one_end recorded scope p.folder_before new q.folder_before later x y at.tells to.tells f g a b
 
   -- what a block was loaded from
   record Loaded {Z : Type 0} (scope : Scope) (update : Option (List ℕ)) (r : Past Z) : Type 0 where
     between : FolderSeen
     made : Timetable
     loads : Loads scope r.folder_before between made
-    heard : IsHeardBy told update
+    heard : IsHeardBy recorded update
 
-  -- a course that was played over the told files
-  record PlayedTold (replay : Replay) : Type 0 where
+  -- a course that was played over the recorded files
+  record PlayedRecorded (replay : Replay) : Type 0 where
     made : Timetable
     all : List Event
-    course : IsToldCourse told replay made all
-    loaded : HasLoaded told replay
+    course : IsRecordedCourse recorded replay made all
+    loaded : HasLoaded recorded replay
 
   abbrev LoadedSo : {Z : Type 0} → Past Z → Command → Type 0
   LoadedSo r (commands.Check check) = Loaded (check_scope check) None r
   LoadedSo r (commands.Ask ask) = Loaded (ask_scope ask) ask.update r
-  LoadedSo r (commands.Replay replay) = PlayedTold replay
+  LoadedSo r (commands.Replay replay) = PlayedRecorded replay
   LoadedSo r (commands.Serve serve) = Unit {0}
   LoadedSo r (commands.Plan plan) = Unit {0}
 
-  loaded : {Z : Type 0} (look : Z → LinkSeen) (r : Past Z) (block : Block) → r.folder_before.files ≡ Some told → (command : Command)
+  loaded : {Z : Type 0} (look : Z → LinkSeen) (r : Past Z) (block : Block) → r.folder_before.files ≡ Some recorded → (command : Command)
       → Prints command r.folder_before r.folder_after (look r.link_before) (look r.link_after) block → LoadedSo r command
   loaded look r block tells (commands.Replay replay) prints = record {
     made = prints.made;
     all = prints.all;
-    course = course_told loads_told told replay r.folder_before r.folder_after prints.made prints.all tells prints.inputs;
+    course = course_recorded loads_recorded recorded replay r.folder_before r.folder_after prints.made prints.all tells prints.inputs;
     loaded = record {
       old = prints.inputs.has.between;
       new = prints.inputs.between;
-      tells = still_told told r.folder_before prints.inputs.has.between tells prints.inputs.has.script.kept;
+      tells = still_recorded recorded r.folder_before prints.inputs.has.between tells prints.inputs.has.script.kept;
       made = prints.inputs.has.made;
       loads = prints.inputs.has.loaded;
     };
@@ -247,14 +247,14 @@ module _ {X Y : Type 0} (seen : X → LinkSeen) (saw : Y → LinkSeen) (one_comm
   loaded look r block tells (commands.Serve serve) prints = tt
   loaded look r block tells (commands.Plan plan) prints = tt
   loaded look r block tells (commands.Check check) prints =
-      record { between = r.folder_after; made = prints.made; loads = prints.loaded; heard = heard_nothing told (record { runs = prints.made.runs; stops = prints.made.doc.stops; zone = prints.made.zone; base = 0; history = [] }) }
+      record { between = r.folder_after; made = prints.made; loads = prints.loaded; heard = heard_nothing recorded (record { runs = prints.made.runs; stops = prints.made.doc.stops; zone = prints.made.zone; base = 0; history = [] }) }
   loaded look r block tells (commands.Ask ask) prints = record {
     between = prints.inputs.between;
     made = prints.made;
     loads = prints.inputs.loaded;
     heard = record {
       file = prints.file;
-      is_told = inputs_told told (ask_scope ask) ask.update r.folder_before r.folder_after prints.made prints.file tells prints.inputs;
+      is_recorded = inputs_recorded recorded (ask_scope ask) ask.update r.folder_before r.folder_after prints.made prints.file tells prints.inputs;
       old = store_of prints.made ask.publishing.base_moment;
       new = prints.asked.store;
       line = prints.asked.line;
@@ -262,13 +262,13 @@ module _ {X Y : Type 0} (seen : X → LinkSeen) (saw : Y → LinkSeen) (one_comm
     };
   }
 
-  -- a told message that was heard is not wrong
-  heard_or_wrong : (name : List ℕ) (cause : Option AdmitFault) → IsHeardBy told (Some name) → IsToldCause told name cause → ⊥
-  heard_or_wrong name None is none = there is.file is.is_told where
-    there : (file : Option File) → IsToldFile told (Some name) file → ⊥
-    there None told_is = told_is
-    there (Some file) told_is = let e = sym none ∙ told_is.1 in cc
-  heard_or_wrong name (Some found) is (bytes, same, wrong, other) = heard_fine one_outcome told name bytes found is same wrong other
+  -- a recorded message that was heard is not wrong
+  heard_or_wrong : (name : List ℕ) (cause : Option AdmitFault) → IsHeardBy recorded (Some name) → IsRecordedCause recorded name cause → ⊥
+  heard_or_wrong name None is none = there is.file is.is_recorded where
+    there : (file : Option File) → IsRecordedFile recorded (Some name) file → ⊥
+    there None recorded_is = recorded_is
+    there (Some file) recorded_is = let e = sym none ∙ recorded_is.1 in cc
+  heard_or_wrong name (Some found) is (bytes, same, wrong, other) = heard_fine one_outcome recorded name bytes found is same wrong other
 
   -- blocks that were printed whole
   both_whole : Whole seen p s → Whole saw q t → s ≡ t
@@ -283,65 +283,65 @@ module _ {X Y : Type 0} (seen : X → LinkSeen) (saw : Y → LinkSeen) (one_comm
     by (commands.Plan plan) says a b = absurd (home (commands.Plan plan) says)
     by (commands.Replay replay) says a b =
         let fair = at.fair_course replay says in
-        let one = one_replay loads_told one_timetable one_script one_course told replay p.folder_before p.folder_after q.folder_before q.folder_after (seen p.link_before) (seen p.link_after)
+        let one = one_replay loads_recorded one_timetable one_script one_course recorded replay p.folder_before p.folder_after q.folder_before q.folder_after (seen p.link_before) (seen p.link_after)
         (saw q.link_before) (saw q.link_after) x.block y.block a b at.tells to.tells fair (to.fair_course replay (subst (λ w. SaysCommand w (commands.Replay replay)) words says)) in
         one_clients_status 1 x.block.ends.items y.block.ends.items one.one_each
-        (course_fine loads_told told replay p.folder_before p.folder_after (seen p.link_before) (seen p.link_after) x.block a at.tells fair)
+        (course_fine loads_recorded recorded replay p.folder_before p.folder_after (seen p.link_before) (seen p.link_after) x.block a at.tells fair)
     by (commands.Ask ask) says a b =
-        let one = one_client seen saw one_timetable loads_told one_output told ask p.folder_before p.folder_after q.folder_before q.folder_after p.link_before p.link_after q.link_before q.link_after x.block y.block a b
+        let one = one_client seen saw one_timetable loads_recorded one_output recorded ask p.folder_before p.folder_after q.folder_before q.folder_after p.link_before p.link_after q.link_before q.link_after x.block y.block a b
         at.tells to.tells (at.fair ask says) (to.fair ask (subst (λ w. SaysCommand w (commands.Ask ask)) words says)) in
-        let fine = subst AreNoFaults a.client (no_fault loads_told told ask p.folder_before p.folder_after (seen p.link_before) (seen p.link_after) x.block a at.tells (at.fair ask says)) in
+        let fine = subst AreNoFaults a.client (no_fault loads_recorded recorded ask p.folder_before p.folder_after (seen p.link_before) (seen p.link_after) x.block a at.tells (at.fair ask says)) in
         ap (client_status_of 1) a.client ∙ ap (λ (f : Option Status). unwrap_or f Done) (one_client_status 1 a.end.outcome b.end.outcome one.one.outcome fine.0) ∙ sym (ap (client_status_of 1) b.client)
 
   -- a block and a refusal by the files are no ends of one command
-  clash_loaded : {Z W : Type 0} (r : Past Z) (u : Past W) (v : Status) → r.folder_before.files ≡ Some told → u.folder_before.files ≡ Some told → (scope : Scope) (update : Option (List ℕ))
-      → Loaded scope update r → Fails scope update told u v → ⊥
+  clash_loaded : {Z W : Type 0} (r : Past Z) (u : Past W) (v : Status) → r.folder_before.files ≡ Some recorded → u.folder_before.files ≡ Some recorded → (scope : Scope) (update : Option (List ℕ))
+      → Loaded scope update r → Fails scope update recorded u v → ⊥
   clash_loaded r u v tells tell scope update x (inl y) =
-      one_end told scope r.folder_before x.between u.folder_before u.folder_after (Ok x.made) (Err y.found) tells tell tt y.of_files x.loads y.loads
-  clash_loaded r u v tells tell scope update x (inr y) = heard_or_wrong y.name y.cause (subst (IsHeardBy told) y.named x.heard) y.is
+      one_end recorded scope r.folder_before x.between u.folder_before u.folder_after (Ok x.made) (Err y.found) tells tell tt y.of_files x.loads y.loads
+  clash_loaded r u v tells tell scope update x (inr y) = heard_or_wrong y.name y.cause (subst (IsHeardBy recorded) y.named x.heard) y.is
 
-  clash : {Z W : Type 0} (r : Past Z) (u : Past W) (v : Status) → r.folder_before.files ≡ Some told → u.folder_before.files ≡ Some told → (command : Command) → IsInProcess command
-      → LoadedSo r command → IsRefusedSo told u v command → ⊥
+  clash : {Z W : Type 0} (r : Past Z) (u : Past W) (v : Status) → r.folder_before.files ≡ Some recorded → u.folder_before.files ≡ Some recorded → (command : Command) → IsInProcess command
+      → LoadedSo r command → IsRefusedSo recorded u v command → ⊥
   clash r u v tells tell (commands.Check check) here x y = clash_loaded r u v tells tell (check_scope check) None x y
   clash r u v tells tell (commands.Ask ask) here x y = clash_loaded r u v tells tell (ask_scope ask) ask.update x y
   clash r u v tells tell (commands.Replay replay) here x y =
-      not_refused one_outcome one_end one_script one_fault never_both told replay x.made x.all v x.course x.loaded y
+      not_refused one_outcome one_end one_script one_fault never_both recorded replay x.made x.all v x.course x.loaded y
   clash r u v tells tell (commands.Serve serve) here x y = here
   clash r u v tells tell (commands.Plan plan) here x y = here
 
-  whole_refused : (x : Whole seen p s) → IsRefusedByFiles told q t → ⊥
+  whole_refused : (x : Whole seen p s) → IsRefusedByFiles recorded q t → ⊥
   whole_refused x y =
       clash p q t at.tells to.tells x.right.command (home x.right.command x.right.says) (loaded seen p x.block at.tells x.right.command x.right.prints)
-      (subst (IsRefusedSo told q t) (same_command x.right.command y.command x.right.says y.says) y.by)
+      (subst (IsRefusedSo recorded q t) (same_command x.right.command y.command x.right.says y.says) y.by)
 
-  refused_whole : IsRefusedByFiles told p s → Whole saw q t → ⊥
+  refused_whole : IsRefusedByFiles recorded p s → Whole saw q t → ⊥
   refused_whole x y =
       clash q p s to.tells at.tells x.command (home x.command x.says)
       (subst (λ (c : Command). LoadedSo q c) (same_command x.command y.right.command x.says y.right.says) (loaded saw q y.block to.tells y.right.command y.right.prints)) x.by
 
   -- refusals by the files have one status
-  both_fail : (scope : Scope) (update : Option (List ℕ)) → Fails scope update told p s → Fails scope update told q t → s ≡ t
+  both_fail : (scope : Scope) (update : Option (List ℕ)) → Fails scope update recorded p s → Fails scope update recorded q t → s ≡ t
   both_fail scope update (inl x) (inl y) =
       x.status_is
       ∙ ap status_in (one_load scope (Err x.found) (Err y.found) p.folder_after q.folder_after x.of_files y.of_files x.loads y.loads)
       ∙ sym y.status_is
   both_fail scope update (inl x) (inr y) =
-      absurd (one_end told scope p.folder_before p.folder_after q.folder_before y.between (Err x.found) (Ok y.made) at.tells to.tells x.of_files tt x.loads y.loaded)
+      absurd (one_end recorded scope p.folder_before p.folder_after q.folder_before y.between (Err x.found) (Ok y.made) at.tells to.tells x.of_files tt x.loads y.loaded)
   both_fail scope update (inr x) (inl y) =
-      absurd (one_end told scope p.folder_before x.between q.folder_before q.folder_after (Ok x.made) (Err y.found) at.tells to.tells tt y.of_files x.loaded y.loads)
+      absurd (one_end recorded scope p.folder_before x.between q.folder_before q.folder_after (Ok x.made) (Err y.found) at.tells to.tells tt y.of_files x.loaded y.loads)
   both_fail scope update (inr x) (inr y) =
       let name : x.name ≡ y.name = let e : Some x.name ≡ Some y.name = sym x.named ∙ y.named in cc in
-      let cause = one_wrong one_outcome told y.name (store_of x.made 0) x.cause y.cause (subst (λ n. IsToldCause told n x.cause) name x.is) y.is in
+      let cause = one_wrong one_outcome recorded y.name (store_of x.made 0) x.cause y.cause (subst (λ n. IsRecordedCause recorded n x.cause) name x.is) y.is in
       x.status_is ∙ ap (λ n. status_by 0 n x.cause) name ∙ ap (status_by 0 y.name) cause ∙ sym y.status_is
 
-  both_refused : (command : Command) → IsInProcess command → IsRefusedSo told p s command → IsRefusedSo told q t command → s ≡ t
+  both_refused : (command : Command) → IsInProcess command → IsRefusedSo recorded p s command → IsRefusedSo recorded q t command → s ≡ t
   both_refused (commands.Check check) here x y = both_fail (check_scope check) None x y
   both_refused (commands.Ask ask) here x y = both_fail (ask_scope ask) ask.update x y
-  both_refused (commands.Replay replay) here x y = one_course_refusal one_outcome one_end one_script one_fault never_both told replay s t x y
+  both_refused (commands.Replay replay) here x y = one_course_refusal one_outcome one_end one_script one_fault never_both recorded replay s t x y
   both_refused (commands.Serve serve) here x y = absurd here
   both_refused (commands.Plan plan) here x y = absurd here
 
-  one_ended : Ended seen told p s → Ended saw told q t → s ≡ t
+  one_ended : Ended seen recorded p s → Ended saw recorded q t → s ≡ t
   one_ended (inl x) (inl y) = both_whole x y
   one_ended (inl x) (inr (inl y)) = absurd (y.says_none x.right.command (subst (λ w. SaysCommand w x.right.command) words x.right.says))
   one_ended (inl x) (inr (inr y)) = absurd (whole_refused x y)
@@ -351,19 +351,19 @@ module _ {X Y : Type 0} (seen : X → LinkSeen) (saw : Y → LinkSeen) (one_comm
   one_ended (inr (inr x)) (inl y) = absurd (refused_whole x y)
   one_ended (inr (inr x)) (inr (inl y)) = absurd (y.says_none x.command (subst (λ w. SaysCommand w x.command) words x.says))
   one_ended (inr (inr x)) (inr (inr y)) =
-      both_refused x.command (home x.command x.says) x.by (subst (IsRefusedSo told q t) (same_command x.command y.command x.says y.says) y.by)
+      both_refused x.command (home x.command x.says) x.by (subst (IsRefusedSo recorded q t) (same_command x.command y.command x.says y.says) y.by)
 
   one : IsRight seen p s → IsRight saw q t → (s ≡ t) ⊎ ((s ≡ NoMemory) ⊎ (t ≡ NoMemory))
-  one x y = by (ended seen p told at s home x) (ended saw q told to t (subst AreInProcess words home) y) where
-    by : (s ≡ NoMemory) ⊎ Ended seen told p s → (t ≡ NoMemory) ⊎ Ended saw told q t → (s ≡ t) ⊎ ((s ≡ NoMemory) ⊎ (t ≡ NoMemory))
+  one x y = by (ended seen p recorded at s home x) (ended saw q recorded to t (subst AreInProcess words home) y) where
+    by : (s ≡ NoMemory) ⊎ Ended seen recorded p s → (t ≡ NoMemory) ⊎ Ended saw recorded q t → (s ≡ t) ⊎ ((s ≡ NoMemory) ⊎ (t ≡ NoMemory))
     by (inl e) other = inr (inl e)
     by (inr a) (inl e) = inr (inr e)
     by (inr a) (inr b) = inl (one_ended a b)
 
-pub one_status : {X Y : Type 0} (seen : X → LinkSeen) (saw : Y → LinkSeen) → OneCommand → OneTimetable → OneEnd → LoadsTold → OneOutcome → OneOutput seen saw → OneScript → OneFault → NeverBoth
+pub one_status : {X Y : Type 0} (seen : X → LinkSeen) (saw : Y → LinkSeen) → OneCommand → OneTimetable → OneEnd → LoadsRecorded → OneOutcome → OneOutput seen saw → OneScript → OneFault → NeverBoth
     → OneCourse → OneStatus seen saw
-one_status seen saw one_command one_timetable one_end loads_told one_outcome one_output one_script one_fault never_both one_course p q told words home at to s t x y =
-    one seen saw one_command one_timetable one_end loads_told one_outcome one_output one_script one_fault never_both one_course p q told words home at to s t x y
+one_status seen saw one_command one_timetable one_end loads_recorded one_outcome one_output one_script one_fault never_both one_course p q recorded words home at to s t x y =
+    one seen saw one_command one_timetable one_end loads_recorded one_outcome one_output one_script one_fault never_both one_course p q recorded words home at to s t x y
 
 -- a run that is done was no refusal
 pub done_is_printed : {X : Type 0} (seen : X → LinkSeen) → DoneIsPrinted seen
@@ -385,27 +385,27 @@ done_is_printed seen p (inr (inl x)) = absurd (by x.end) where
   by (inl said) = never x.refusal said.status_is
   by (inr lacks) = let e : Done ≡ NoMemory = lacks.status_is in cc
 
--- a feed that was loaded has a timetable by the told files
-has_timetable : LoadsTold → (told : List File) (scope : Scope) (old between : FolderSeen) (made : Timetable) → old.files ≡ Some told → Loads scope old between made → HasTimetable told scope
-has_timetable loads_told told scope old between made tells loaded = record { made = made; sound = loads_told told scope old between made tells loaded }
+-- a feed that was loaded has a timetable by the recorded files
+has_timetable : LoadsRecorded → (recorded : List File) (scope : Scope) (old between : FolderSeen) (made : Timetable) → old.files ≡ Some recorded → Loads scope old between made → HasTimetable recorded scope
+has_timetable loads_recorded recorded scope old between made tells loaded = record { made = made; sound = loads_recorded recorded scope old between made tells loaded }
 
-pub done_is_clear : {X : Type 0} (seen : X → LinkSeen) → LoadsTold → DoneIsClear seen
-done_is_clear seen loads_told p told at right = by (done_is_printed seen p right) where
+pub done_is_clear : {X : Type 0} (seen : X → LinkSeen) → LoadsRecorded → DoneIsClear seen
+done_is_clear seen loads_recorded p recorded at right = by (done_is_printed seen p right) where
   of : (command : Command) (block : Block) → SaysCommand p.words command → Prints command p.folder_before p.folder_after (seen p.link_before) (seen p.link_after) block → IsClear seen p
   of (commands.Check check) block says prints = record {
     command = commands.Check check;
     says = says;
-    told = told;
+    recorded = recorded;
     unhindered = at;
-    fed = has_timetable loads_told told (check_scope check) p.folder_before p.folder_after prints.made at.tells prints.loaded;
+    fed = has_timetable loads_recorded recorded (check_scope check) p.folder_before p.folder_after prints.made at.tells prints.loaded;
     heard = tt;
   }
   of (commands.Replay replay) block says prints =
-      let course = course_told loads_told told replay p.folder_before p.folder_after prints.made prints.all at.tells prints.inputs in
+      let course = course_recorded loads_recorded recorded replay p.folder_before p.folder_after prints.made prints.all at.tells prints.inputs in
       record {
         command = commands.Replay replay;
         says = says;
-        told = told;
+        recorded = recorded;
         unhindered = at;
         fed = record { made = prints.made; sound = course.sound };
         heard = (prints.made, prints.all, course);
@@ -413,22 +413,22 @@ done_is_clear seen loads_told p told at right = by (done_is_printed seen p right
   of (commands.Ask ask) block says prints = record {
     command = commands.Ask ask;
     says = says;
-    told = told;
+    recorded = recorded;
     unhindered = at;
-    fed = has_timetable loads_told told (ask_scope ask) p.folder_before prints.inputs.between prints.made at.tells prints.inputs.loaded;
+    fed = has_timetable loads_recorded recorded (ask_scope ask) p.folder_before prints.inputs.between prints.made at.tells prints.inputs.loaded;
     heard = (
       side_with prints.made ask.publishing prints.asked.store,
-      side_asked loads_told told ask p.folder_before p.folder_after (seen p.link_before) (seen p.link_after) block prints at.tells,
+      side_asked loads_recorded recorded ask p.folder_before p.folder_after (seen p.link_before) (seen p.link_after) block prints at.tells,
     );
   }
   of (commands.Serve serve) block says prints = absurd prints
   of (commands.Plan plan) block says prints = record {
     command = commands.Plan plan;
     says = says;
-    told = told;
+    recorded = recorded;
     unhindered = at;
     fed = tt;
-    heard = (prints.all, asks_told told plan.asks p.folder_before p.folder_after prints.all at.tells prints.inputs);
+    heard = (prints.all, asks_recorded recorded plan.asks p.folder_before p.folder_after prints.all at.tells prints.inputs);
   }
 
   by : HasPrinted seen p Done ⊎ HasServed p Done → IsClear seen p
@@ -438,11 +438,11 @@ done_is_clear seen loads_told p told at right = by (done_is_printed seen p right
       record {
         command = commands.Serve x.right.serve;
         says = x.right.says;
-        told = told;
+        recorded = recorded;
         unhindered = at;
-        fed = has_timetable loads_told told (serve_scope x.right.serve) p.folder_before is.inputs.between is.made at.tells is.inputs.loaded;
+        fed = has_timetable loads_recorded recorded (serve_scope x.right.serve) p.folder_before is.inputs.between is.made at.tells is.inputs.loaded;
         heard = (
           side_for is.made x.right.serve.publishing is.publishes.store x.right.serve.accept_updates,
-          side_served loads_told told x.right.serve p.folder_before p.folder_after x.server at.tells is,
+          side_served loads_recorded recorded x.right.serve p.folder_before p.folder_after x.server at.tells is,
         );
       }

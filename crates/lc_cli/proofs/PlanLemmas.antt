@@ -1,4 +1,4 @@
--- What `plan` reads and comes to over told files that nothing hinders.
+-- What `plan` reads and comes to over recorded files that nothing hinders.
 use Rattle.std.proofs.Common.{◌≡◌, ◌∙◌, ◌⊎◌, ℕ, false, inl, inr, List, Some, refl, subst, sym}
 use Rattle.cli_inputs.specs.Plan.{ReadsPlan}
 use Rattle.cli_inputs.specs.Script.{IsScriptRefused}
@@ -15,20 +15,20 @@ use Rattle.script_text.specs.Laws.{NeverBoth}
 use Rattle.script_text.specs.Reading.{HasFault}
 use Rattle.script_text.specs.declared.fault.ScriptFault.TheVariants.{Wrong}
 use Rattle.timetable.specs.declared.fault.LoadFault.TheVariants as fault
-use Rattle.lc_cli.specs.Clear.{AreToldAsks, HasHonestLink}
+use Rattle.lc_cli.specs.Clear.{AreRecordedAsks, HasHonestLink}
 use Rattle.lc_cli.specs.Command.{IsPlanBlock}
 use Rattle.lc_cli.specs.Refusal.{status_of}
 use Rattle.lc_cli.specs.declared.block.Block.{Block}
 use Rattle.lc_cli.specs.declared.status.Status.TheVariants.{NoMemory}
-use Rattle.lc_cli.proofs.InputsLemmas.{absent_told, bytes_told}
+use Rattle.lc_cli.proofs.InputsLemmas.{absent_recorded, bytes_recorded}
 use Rattle.lc_cli.proofs.ReplayLemmas.{no_fault_of, no_faults_at, some_at}
 use Rattle.lc_cli.proofs.TopLemmas.{AreNoFaults}
 
--- the questions and turns that were read are those of the told files
-pub asks_told : (told : List File) (name : List ℕ) (old new : FolderSeen) (all : List Event) → old.files ≡ Some told → ReadsPlan name old new all → AreToldAsks told name all
-asks_told told name old new all tells x = record {
+-- the questions and turns that were read are those of the recorded files
+pub asks_recorded : (recorded : List File) (name : List ℕ) (old new : FolderSeen) (all : List Event) → old.files ≡ Some recorded → ReadsPlan name old new all → AreRecordedAsks recorded name all
+asks_recorded recorded name old new all tells x = record {
   script = x.script;
-  is_told = record { bytes = x.read.bytes; is_told = bytes_told told old new name x.read.bytes tells x.read.read; says = x.read.says };
+  is_recorded = record { bytes = x.read.bytes; is_recorded = bytes_recorded recorded old new name x.read.bytes tells x.read.read; says = x.read.says };
   say = x.say;
 }
 
@@ -41,8 +41,8 @@ plan_fine plan old new before after block x fair =
     let ends = right.clients place query.0 end query.1 is in
     no_fault_of _ _ query.0 end plan.base before.faults after.faults end.version _ end.outcome (x.planned.caused.clients place query.0 end query.1 is).ends ends.ended fair.no_fault)
 
--- told questions and turns are refused for no cause but memory
-module _ (never_both : NeverBoth) (told : List File) (name : List ℕ) (old new : FolderSeen) (tells : old.files ≡ Some told) (all : List Event) (asks : AreToldAsks told name all)
+-- recorded questions and turns are refused for no cause but memory
+module _ (never_both : NeverBoth) (recorded : List File) (name : List ℕ) (old new : FolderSeen) (tells : old.files ≡ Some recorded) (all : List Event) (asks : AreRecordedAsks recorded name all)
     (no_fault : Rose old.faults new.faults → ⊥) where
   pub plan_never_refused : (refusal : Refusal) → IsScriptRefused false name old new refusal → (status_of refusal ≡ NoMemory) ⊎ ⊥
   plan_never_refused refused.Usage is = inr is
@@ -50,11 +50,11 @@ module _ (never_both : NeverBoth) (told : List File) (name : List ℕ) (old new 
   plan_never_refused (refused.Load (fault.TooLarge what count)) is = inr is
   plan_never_refused (refused.Load (fault.Folder before after)) is = inr is
   plan_never_refused (refused.Load fault.NoMemory) is = inl refl
-  plan_never_refused (refused.Script row) (inl lacks) = inr (let e = sym (absent_told told old new name tells lacks.read) ∙ asks.is_told.is_told in cc)
+  plan_never_refused (refused.Script row) (inl lacks) = inr (let e = sym (absent_recorded recorded old new name tells lacks.read) ∙ asks.is_recorded.is_recorded in cc)
   plan_never_refused (refused.Script row) (inr wrong) =
-      let same : Some wrong.bytes ≡ Some asks.is_told.bytes = sym (bytes_told told old new name wrong.bytes tells wrong.read) ∙ asks.is_told.is_told in
-      let bytes : wrong.bytes ≡ asks.is_told.bytes = cc in
-      inr (never_both asks.is_told.bytes false asks.script (Wrong row) asks.is_told.says (subst (λ (b : List ℕ). HasFault b false (Wrong row)) bytes wrong.wrong))
+      let same : Some wrong.bytes ≡ Some asks.is_recorded.bytes = sym (bytes_recorded recorded old new name wrong.bytes tells wrong.read) ∙ asks.is_recorded.is_recorded in
+      let bytes : wrong.bytes ≡ asks.is_recorded.bytes = cc in
+      inr (never_both asks.is_recorded.bytes false asks.script (Wrong row) asks.is_recorded.says (subst (λ (b : List ℕ). HasFault b false (Wrong row)) bytes wrong.wrong))
   plan_never_refused (refused.Folder before after) is = inr (no_fault (subst (λ count. Rose count new.faults) is.0.before_is (subst (λ count. Rose before count) is.0.after_is is.0.rose)))
   plan_never_refused (refused.LongUpdate count) is = inr is
   plan_never_refused (refused.BrokenUpdate broken found) is = inr is

@@ -21,7 +21,7 @@ use Rattle.page_client.specs.declared.outcome.Outcome.{Outcome}
 use Rattle.page_client.specs.declared.outcome.Outcome.TheVariants as outcomes
 use Rattle.page_client.specs.declared.want.Want.{Want}
 use Rattle.publisher_spec.specs.Side.{Side}
-use Rattle.timetable.specs.Laws.{LoadsTold}
+use Rattle.timetable.specs.Laws.{LoadsRecorded}
 use Rattle.timetable.specs.declared.fault.LoadFault.TheVariants as fault
 use Rattle.timetable.specs.declared.scope.Scope.{Scope}
 use Rattle.trip_updates.specs.declared.fault.RtFault.{RtFault}
@@ -32,7 +32,7 @@ use Rattle.version_store.specs.declared.admission.AdmitFault.{AdmitFault}
 use Rattle.version_store.specs.declared.admission.AdmitFault.TheVariants as faults
 use Rattle.cli_ask.specs.declared.end.ClientEnd.{ClientEnd}
 use Rattle.lc_cli.specs.Block.{IsBlockEnd, client_status_of, failed_status_of}
-use Rattle.lc_cli.specs.Clear.{HasFairLink, IsAnswered, IsAskedSide, IsHeard, IsServedSide, IsToldFile}
+use Rattle.lc_cli.specs.Clear.{HasFairLink, IsAnswered, IsAskedSide, IsHeard, IsServedSide, IsRecordedFile}
 use Rattle.lc_cli.specs.Command.{IsAskBlock, IsRightRefusal, IsServer, ask_scope, serve_scope}
 use Rattle.cli_inputs.specs.Inputs.{AsksForUpdate, IsBrokenUpdate, IsLongUpdate}
 use Rattle.lc_cli.specs.Refusal.{IsRefusalEnd, status_of}
@@ -43,7 +43,7 @@ use Rattle.cli_inputs.specs.declared.refusal.Refusal.{Refusal}
 use Rattle.cli_inputs.specs.declared.refusal.Refusal.TheVariants as refused
 use Rattle.lc_cli.specs.declared.status.Status.{Status}
 use Rattle.lc_cli.specs.declared.status.Status.TheVariants.{Usage, NoMemory}
-use Rattle.lc_cli.proofs.InputsLemmas.{absent_told, bytes_told, inputs_told, still_told}
+use Rattle.lc_cli.proofs.InputsLemmas.{absent_recorded, bytes_recorded, inputs_recorded, still_recorded}
 
 -- every other status has a command that the words say
 pub usage_only : {X : Type 0} (seen : X → LinkSeen) (p : Past X) (status : Status) → IsRight seen p status → ((command : Command) → SaysCommand p.words command → ⊥) → (status ≡ Usage) ⊎ (status ≡ NoMemory)
@@ -86,15 +86,15 @@ answered k (end ∷ more) fine = by end.outcome (answered (k + 1) more fine.1) f
   by (outcomes.LinkFault before after) rest f = absurd f
   by (outcomes.PeerWrong reply fault) rest f = absurd f
 
-module _ (loads_told : LoadsTold) where
-  -- the side that was asked is the one of the told files
-  pub side_asked : (told : List File) (ask : Ask) (old new : FolderSeen) (before after : LinkSeen) (block : Block) (x : IsAskBlock ask old new before after block) → old.files ≡ Some told
-      → IsAskedSide told ask (side_with x.made ask.publishing x.asked.store)
-  side_asked told ask old new before after block x tells = record {
+module _ (loads_recorded : LoadsRecorded) where
+  -- the side that was asked is the one of the recorded files
+  pub side_asked : (recorded : List File) (ask : Ask) (old new : FolderSeen) (before after : LinkSeen) (block : Block) (x : IsAskBlock ask old new before after block) → old.files ≡ Some recorded
+      → IsAskedSide recorded ask (side_with x.made ask.publishing x.asked.store)
+  side_asked recorded ask old new before after block x tells = record {
     made = x.made;
-    sound = loads_told told (ask_scope ask) old x.inputs.between x.made tells x.inputs.loaded;
+    sound = loads_recorded recorded (ask_scope ask) old x.inputs.between x.made tells x.inputs.loaded;
     file = x.file;
-    is_told = inputs_told told (ask_scope ask) ask.update old new x.made x.file tells x.inputs;
+    is_recorded = inputs_recorded recorded (ask_scope ask) ask.update old new x.made x.file tells x.inputs;
     store = x.asked.store;
     line = x.asked.line;
     behind = x.asked.behind;
@@ -102,11 +102,11 @@ module _ (loads_told : LoadsTold) where
   }
 
   -- over a fair link no exchange failed and no reply
-  pub no_fault : (told : List File) (ask : Ask) (old new : FolderSeen) (before after : LinkSeen) (block : Block) → IsAskBlock ask old new before after block → old.files ≡ Some told
-      → HasFairLink told ask before.clear before.faults after.faults → AreNoFaults block.ends.items
-  no_fault told ask old new before after block x tells fair =
+  pub no_fault : (recorded : List File) (ask : Ask) (old new : FolderSeen) (before after : LinkSeen) (block : Block) → IsAskBlock ask old new before after block → old.files ≡ Some recorded
+      → HasFairLink recorded ask before.clear before.faults after.faults → AreNoFaults block.ends.items
+  no_fault recorded ask old new before after block x tells fair =
       let side = side_with x.made ask.publishing x.asked.store in
-      let right = x.asked.right fair.link.was_clear (fair.short side (side_asked told ask old new before after block x tells)) in
+      let right = x.asked.right fair.link.was_clear (fair.short side (side_asked recorded ask old new before after block x tells)) in
       subst AreNoFaults (sym x.client) (by side right.given x.end.outcome x.asked.asks.ends right.ended, tt) where
         by : (side : Side) (given : List Want) (outcome : Outcome) → EndsBy ask.publishing.base ask.query before.faults after.faults x.end.version x.asked.asks.made outcome
             → HasEnded side (shown_of ask.query x.end) given (Some outcome) → IsNoFault outcome
@@ -116,66 +116,66 @@ module _ (loads_told : LoadsTold) where
         by side given (outcomes.LinkFault count later) ends ended = absurd (fair.link.no_fault (omega (arith, ends.from, ends.rose, ends.up_to)))
         by side given (outcomes.PeerWrong reply fault) ends ended = absurd ended
 
--- the side that is served first is the one of the told files
-pub side_served : LoadsTold → (told : List File) (serve : Serve) (old new : FolderSeen) (server : Server) → old.files ≡ Some told → (x : IsServer serve old new server)
-    → IsServedSide told serve (side_for x.made serve.publishing x.publishes.store serve.accept_updates)
-side_served loads_told told serve old new server tells x = record {
+-- the side that is served first is the one of the recorded files
+pub side_served : LoadsRecorded → (recorded : List File) (serve : Serve) (old new : FolderSeen) (server : Server) → old.files ≡ Some recorded → (x : IsServer serve old new server)
+    → IsServedSide recorded serve (side_for x.made serve.publishing x.publishes.store serve.accept_updates)
+side_served loads_recorded recorded serve old new server tells x = record {
   made = x.made;
-  sound = loads_told told (serve_scope serve) old x.inputs.between x.made tells x.inputs.loaded;
+  sound = loads_recorded recorded (serve_scope serve) old x.inputs.between x.made tells x.inputs.loaded;
   file = x.file;
-  is_told = inputs_told told (serve_scope serve) serve.update old new x.made x.file tells x.inputs;
+  is_recorded = inputs_recorded recorded (serve_scope serve) serve.update old new x.made x.file tells x.inputs;
   store = x.publishes.store;
   line = server.line.items;
   behind = x.publishes.behind;
   is = refl;
 }
 
--- The file of the message is told, if there is a name, and this store is behind it.
-pub record IsHeardBy (told : List File) (update : Option (List ℕ)) : Type 0 where
+-- The file of the message is recorded, if there is a name, and this store is behind it.
+pub record IsHeardBy (recorded : List File) (update : Option (List ℕ)) : Type 0 where
   pub file : Option File
-  pub is_told : IsToldFile told update file
+  pub is_recorded : IsRecordedFile recorded update file
   pub old : Stored
   pub new : Stored
   pub line : List ℕ
   pub behind : IsBehind file old new line
 
 -- without a name nothing is to be heard
-pub heard_nothing : (told : List File) (store : Stored) → IsHeardBy told None
-heard_nothing told store = record { file = None; is_told = tt; old = store; new = store; line = []; behind = (refl, refl) }
+pub heard_nothing : (recorded : List File) (store : Stored) → IsHeardBy recorded None
+heard_nothing recorded store = record { file = None; is_recorded = tt; old = store; new = store; line = []; behind = (refl, refl) }
 
-pub heard : (told : List File) (ask : Ask) → IsHeard told (commands.Ask ask) → IsHeardBy told ask.update
-heard told ask (side, is) = record {
+pub heard : (recorded : List File) (ask : Ask) → IsHeard recorded (commands.Ask ask) → IsHeardBy recorded ask.update
+heard recorded ask (side, is) = record {
   file = is.file;
-  is_told = is.is_told;
+  is_recorded = is.is_recorded;
   old = store_of is.made ask.publishing.base_moment;
   new = is.store;
   line = is.line;
   behind = is.behind;
 }
 
-pub heard_served : (told : List File) (serve : Serve) → IsHeard told (commands.Serve serve) → IsHeardBy told serve.update
-heard_served told serve (side, is) = record {
+pub heard_served : (recorded : List File) (serve : Serve) → IsHeard recorded (commands.Serve serve) → IsHeardBy recorded serve.update
+heard_served recorded serve (side, is) = record {
   file = is.file;
-  is_told = is.is_told;
+  is_recorded = is.is_recorded;
   old = store_of is.made serve.publishing.base_moment;
   new = is.store;
   line = is.line;
   behind = is.behind;
 }
 
--- what a told file of this name has is what was heard
-heard_bytes : (told : List File) (name bytes : List ℕ) (is : IsHeardBy told (Some name)) → bytes_named told name ≡ Some bytes → (there : File) × (is.file ≡ Some there) × (there.bytes ≡ bytes)
-heard_bytes told name bytes is same = by is.file is.is_told refl where
-  by : (file : Option File) → IsToldFile told (Some name) file → is.file ≡ file → (there : File) × (is.file ≡ Some there) × (there.bytes ≡ bytes)
-  by None told_is at = absurd told_is
-  by (Some there) told_is at = (there, at, let e : Some there.bytes ≡ Some bytes = sym told_is.1 ∙ same in cc)
+-- what a recorded file of this name has is what was heard
+heard_bytes : (recorded : List File) (name bytes : List ℕ) (is : IsHeardBy recorded (Some name)) → bytes_named recorded name ≡ Some bytes → (there : File) × (is.file ≡ Some there) × (there.bytes ≡ bytes)
+heard_bytes recorded name bytes is same = by is.file is.is_recorded refl where
+  by : (file : Option File) → IsRecordedFile recorded (Some name) file → is.file ≡ file → (there : File) × (is.file ≡ Some there) × (there.bytes ≡ bytes)
+  by None recorded_is at = absurd recorded_is
+  by (Some there) recorded_is at = (there, at, let e : Some there.bytes ≡ Some bytes = sym recorded_is.1 ∙ same in cc)
 
 module _ (one_outcome : OneOutcome) where
   -- the message that was heard is refused for no other cause
-  pub heard_fine : (told : List File) (name bytes : List ℕ) (found : AdmitFault) → IsHeardBy told (Some name) → bytes_named told name ≡ Some bytes
+  pub heard_fine : (recorded : List File) (name bytes : List ℕ) (found : AdmitFault) → IsHeardBy recorded (Some name) → bytes_named recorded name ≡ Some bytes
       → ((store : Stored) → IsRefused store bytes found) → (IsIgnored found → ⊥) → ⊥
-  heard_fine told name bytes found is same wrong other =
-      let at = heard_bytes told name bytes is same in
+  heard_fine recorded name bytes found is same wrong other =
+      let at = heard_bytes recorded name bytes is same in
       by at.0 at.2 (subst (λ file. IsBehind file is.old is.new is.line) at.1 is.behind) where
         by : (there : File) → there.bytes ≡ bytes → IsBehind (Some there) is.old is.new is.line → ⊥
         by there e (inl admitted) =
@@ -184,23 +184,23 @@ module _ (one_outcome : OneOutcome) where
             let one = one_outcome.one_cause is.old bytes passed.fault found (subst (λ b. IsRefused is.old b passed.fault) e passed.refused) (wrong is.old) in
             other (subst IsIgnored one passed.ignored)
 
-  module _ (told : List File) (scope : Scope) (update : Option (List ℕ)) (old new : FolderSeen) (tells : old.files ≡ Some told) (is : IsHeardBy told update) where
-    of_name : (name : List ℕ) → update ≡ Some name → IsHeardBy told (Some name)
-    of_name name named = subst (IsHeardBy told) named is
+  module _ (recorded : List File) (scope : Scope) (update : Option (List ℕ)) (old new : FolderSeen) (tells : old.files ≡ Some recorded) (is : IsHeardBy recorded update) where
+    of_name : (name : List ℕ) → update ≡ Some name → IsHeardBy recorded (Some name)
+    of_name name named = subst (IsHeardBy recorded) named is
 
-    between_told : (result : Result (List ℕ) FolderFail) (x : AsksForUpdate scope update old new result) → x.between.files ≡ Some told
-    between_told result x = still_told told old x.between tells x.kept
+    between_recorded : (result : Result (List ℕ) FolderFail) (x : AsksForUpdate scope update old new result) → x.between.files ≡ Some recorded
+    between_recorded result x = still_recorded recorded old x.between tells x.kept
 
     pub not_absent : AsksForUpdate scope update old new (Err Absent) → ⊥
-    not_absent x = by (of_name x.name x.named) (absent_told told x.between new x.name (between_told (Err Absent) x) x.read) where
-      by : (h : IsHeardBy told (Some x.name)) → bytes_named told x.name ≡ None → ⊥
-      by h none = there h.file h.is_told where
-        there : (file : Option File) → IsToldFile told (Some x.name) file → ⊥
-        there None told_is = told_is
-        there (Some file) told_is = let e = sym none ∙ told_is.1 in cc
+    not_absent x = by (of_name x.name x.named) (absent_recorded recorded x.between new x.name (between_recorded (Err Absent) x) x.read) where
+      by : (h : IsHeardBy recorded (Some x.name)) → bytes_named recorded x.name ≡ None → ⊥
+      by h none = there h.file h.is_recorded where
+        there : (file : Option File) → IsRecordedFile recorded (Some x.name) file → ⊥
+        there None recorded_is = recorded_is
+        there (Some file) recorded_is = let e = sym none ∙ recorded_is.1 in cc
 
     not_refused : (bytes : List ℕ) (found : AdmitFault) (x : AsksForUpdate scope update old new (Ok bytes)) → ((store : Stored) → IsRefused store bytes found) → (IsIgnored found → ⊥) → ⊥
-    not_refused bytes found x = heard_fine told x.name bytes found (of_name x.name x.named) (bytes_told told x.between new x.name bytes (between_told (Ok bytes) x) x.read)
+    not_refused bytes found x = heard_fine recorded x.name bytes found (of_name x.name x.named) (bytes_recorded recorded x.between new x.name bytes (between_recorded (Ok bytes) x) x.read)
 
     pub not_long : (count : ℕ) → IsLongUpdate scope update old new count → ⊥
     not_long count x = not_refused x.bytes (faults.TooLong count) x.asks (λ store. (x.long, x.counted)) (λ ignored. ignored)

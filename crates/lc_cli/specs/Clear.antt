@@ -22,7 +22,7 @@ use Rattle.laws_replay.specs.declared.event.Event.TheVariants as events
 use Rattle.script_text.specs.Reading.{SaysScript}
 use Rattle.script_text.specs.declared.script.Record.{Record}
 use Rattle.script_text.specs.declared.script.Record.TheVariants as records
-use Rattle.timetable.specs.Told.{IsSound}
+use Rattle.timetable.specs.Recorded.{IsSound}
 use Rattle.timetable.specs.declared.scope.Scope.{Scope}
 use Rattle.timetable.specs.declared.timetable.Timetable.{Timetable}
 use Rattle.version_store.specs.Store.{Stored}
@@ -31,20 +31,20 @@ use Rattle.lc_cli.specs.Top.{Past}
 use Rattle.lc_cli.specs.declared.status.Status.{Status}
 use Rattle.lc_cli.specs.declared.status.Status.TheVariants.{Done, Usage, FeedBroken, UpdateBroken, FolderFault, SinkFault, LinkFault, PeerWrong, QueryRefused, DoorFault, ScriptWrong, TooLarge, NoMemory}
 
--- there is no name and no file, or the file of this name is among those that are told
-abbrev pub IsToldFile : List File → Option (List ℕ) → Option File → Type 0
-IsToldFile told None None = Unit {0}
-IsToldFile told None (Some file) = ⊥
-IsToldFile told (Some name) None = ⊥
-IsToldFile told (Some name) (Some file) = (file.name ≡ name) × (bytes_named told name ≡ Some file.bytes)
+-- there is no name and no file, or the file of this name is among those that are recorded
+abbrev pub IsRecordedFile : List File → Option (List ℕ) → Option File → Type 0
+IsRecordedFile recorded None None = Unit {0}
+IsRecordedFile recorded None (Some file) = ⊥
+IsRecordedFile recorded (Some name) None = ⊥
+IsRecordedFile recorded (Some name) (Some file) = (file.name ≡ name) × (bytes_named recorded name ≡ Some file.bytes)
 
--- by the files that are told, this is the side of the publisher that the question is put to: that of the feed's timetable with the
+-- by the files that are recorded, this is the side of the publisher that the question is put to: that of the feed's timetable with the
 -- message, if there is one, which is a message that is not too long
-pub record IsAskedSide (told : List File) (ask : Ask) (side : Side) : Type 0 where
+pub record IsAskedSide (recorded : List File) (ask : Ask) (side : Side) : Type 0 where
   pub made : Timetable
-  pub sound : IsSound told (ask_scope ask) made
+  pub sound : IsSound recorded (ask_scope ask) made
   pub file : Option File
-  pub is_told : IsToldFile told ask.update file
+  pub is_recorded : IsRecordedFile recorded ask.update file
   pub store : Stored
   pub line : List ℕ
   pub behind : IsBehind file (store_of made ask.publishing.base_moment) store line
@@ -52,11 +52,11 @@ pub record IsAskedSide (told : List File) (ask : Ask) (side : Side) : Type 0 whe
 
 -- By the files that are recorded, this is the side of the publisher that is served first: that of the feed's timetable with the message, if
 -- there is one, which is a message that is not too long. It takes messages where the arguments say so.
-pub record IsServedSide (told : List File) (serve : Serve) (side : Side) : Type 0 where
+pub record IsServedSide (recorded : List File) (serve : Serve) (side : Side) : Type 0 where
   pub made : Timetable
-  pub sound : IsSound told (serve_scope serve) made
+  pub sound : IsSound recorded (serve_scope serve) made
   pub file : Option File
-  pub is_told : IsToldFile told serve.update file
+  pub is_recorded : IsRecordedFile recorded serve.update file
   pub store : Stored
   pub line : List ℕ
   pub behind : IsBehind file (store_of made serve.publishing.base_moment) store line
@@ -68,52 +68,52 @@ pub record HasClearLink (clear : Type 0) (before after : ℕ) : Type 0 where
   pub no_fault : Rose before after → ⊥
 
 -- what a question needs of its link: it was clear and did not fail, and the texts of the publisher that is asked fit into replies
-pub record HasFairLink (told : List File) (ask : Ask) (clear : Type 0) (before after : ℕ) : Type 0 where
+pub record HasFairLink (recorded : List File) (ask : Ask) (clear : Type 0) (before after : ℕ) : Type 0 where
   pub link : HasClearLink clear before after
-  pub short : (side : Side) → IsAskedSide told ask side → IsShort side
+  pub short : (side : Side) → IsAskedSide recorded ask side → IsShort side
 
--- the script is told, and says this; it may name messages or not
-pub record IsToldScript (told : List File) (name : List ℕ) (updates : Bool) (script : List Record) : Type 0 where
+-- the script is recorded, and says this; it may name messages or not
+pub record IsRecordedScript (recorded : List File) (name : List ℕ) (updates : Bool) (script : List Record) : Type 0 where
   pub bytes : List ℕ
-  pub is_told : bytes_named told name ≡ Some bytes
+  pub is_recorded : bytes_named recorded name ≡ Some bytes
   pub says : SaysScript bytes updates script
 
--- what the record says as an event, by the told files
-abbrev pub IsToldEvent : List File → Record → Event → Type 0
-IsToldEvent told (records.Ask query) (events.Ask asked) = asked ≡ query
-IsToldEvent told (records.Ask query) (events.Message message) = ⊥
-IsToldEvent told (records.Ask query) (events.Turn client) = ⊥
-IsToldEvent told (records.Update name) (events.Ask asked) = ⊥
-IsToldEvent told (records.Update name) (events.Message message) = (message.file.name ≡ name) × (bytes_named told name ≡ Some message.file.bytes)
-IsToldEvent told (records.Update name) (events.Turn client) = ⊥
-IsToldEvent told (records.Turn client) (events.Ask asked) = ⊥
-IsToldEvent told (records.Turn client) (events.Message message) = ⊥
-IsToldEvent told (records.Turn client) (events.Turn turned) = turned ≡ client
+-- what the record says as an event, by the recorded files
+abbrev pub IsRecordedEvent : List File → Record → Event → Type 0
+IsRecordedEvent recorded (records.Ask query) (events.Ask asked) = asked ≡ query
+IsRecordedEvent recorded (records.Ask query) (events.Message message) = ⊥
+IsRecordedEvent recorded (records.Ask query) (events.Turn client) = ⊥
+IsRecordedEvent recorded (records.Update name) (events.Ask asked) = ⊥
+IsRecordedEvent recorded (records.Update name) (events.Message message) = (message.file.name ≡ name) × (bytes_named recorded name ≡ Some message.file.bytes)
+IsRecordedEvent recorded (records.Update name) (events.Turn client) = ⊥
+IsRecordedEvent recorded (records.Turn client) (events.Ask asked) = ⊥
+IsRecordedEvent recorded (records.Turn client) (events.Message message) = ⊥
+IsRecordedEvent recorded (records.Turn client) (events.Turn turned) = turned ≡ client
 
--- the events are those of the records, one after the other, by the told files
-abbrev pub AreToldEvents : List File → List Record → List Event → Type 0
-AreToldEvents told [] [] = Unit {0}
-AreToldEvents told [] (event ∷ all) = ⊥
-AreToldEvents told (said ∷ script) [] = ⊥
-AreToldEvents told (said ∷ script) (event ∷ more) = IsToldEvent told said event × AreToldEvents told script more
+-- the events are those of the records, one after the other, by the recorded files
+abbrev pub AreRecordedEvents : List File → List Record → List Event → Type 0
+AreRecordedEvents recorded [] [] = Unit {0}
+AreRecordedEvents recorded [] (event ∷ all) = ⊥
+AreRecordedEvents recorded (said ∷ script) [] = ⊥
+AreRecordedEvents recorded (said ∷ script) (event ∷ more) = IsRecordedEvent recorded said event × AreRecordedEvents recorded script more
 
--- by the files that are told, these are the timetable and the course of a replay
-pub record IsToldCourse (told : List File) (replay : Replay) (made : Timetable) (all : List Event) : Type 0 where
-  pub sound : IsSound told (replay_scope replay) made
+-- by the files that are recorded, these are the timetable and the course of a replay
+pub record IsRecordedCourse (recorded : List File) (replay : Replay) (made : Timetable) (all : List Event) : Type 0 where
+  pub sound : IsSound recorded (replay_scope replay) made
   pub script : List Record
-  pub is_told : IsToldScript told replay.script true script
-  pub are : AreToldEvents told script all
+  pub is_recorded : IsRecordedScript recorded replay.script true script
+  pub are : AreRecordedEvents recorded script all
 
 -- by the files that are recorded, these are the questions and turns of `plan`, and no messages
-pub record AreToldAsks (told : List File) (name : List ℕ) (all : List Event) : Type 0 where
+pub record AreRecordedAsks (recorded : List File) (name : List ℕ) (all : List Event) : Type 0 where
   pub script : List Record
-  pub is_told : IsToldScript told name false script
+  pub is_recorded : IsRecordedScript recorded name false script
   pub say : SayEvents script all
 
 -- what a course needs of its link: it was clear and did not fail, and the texts of the publisher fit into replies, whatever it has heard
-pub record HasFairCourse (told : List File) (replay : Replay) (clear : Type 0) (before after : ℕ) : Type 0 where
+pub record HasFairCourse (recorded : List File) (replay : Replay) (clear : Type 0) (before after : ℕ) : Type 0 where
   pub link : HasClearLink clear before after
-  pub short : (made : Timetable) (all : List Event) → IsToldCourse told replay made all → AreShort made replay.publishing all
+  pub short : (made : Timetable) (all : List Event) → IsRecordedCourse recorded replay made all → AreShort made replay.publishing all
 
 -- what `plan` needs of its link: it was honest under the base, with some side at its other end, and failed in no exchange
 pub record HasHonestLink (plan : Plan) (before after : LinkSeen) : Type 0 where
@@ -122,46 +122,46 @@ pub record HasHonestLink (plan : Plan) (before after : LinkSeen) : Type 0 where
   pub no_fault : Rose before.faults after.faults → ⊥
 
 -- The folder tells these files, neither its count of faults rose nor those of the door and the sink, and clients had a fair link.
-pub record IsUnhindered {X : Type 0} (seen : X → LinkSeen) (p : Past X) (told : List File) : Type 0 where
-  pub tells : p.folder_before.files ≡ Some told
+pub record IsUnhindered {X : Type 0} (seen : X → LinkSeen) (p : Past X) (recorded : List File) : Type 0 where
+  pub tells : p.folder_before.files ≡ Some recorded
   pub no_folder_fault : Rose p.folder_before.faults p.folder_after.faults → ⊥
   pub no_door_fault : Rose p.door_before.faults p.door_after.faults → ⊥
   pub no_sink_fault : Rose p.sink_before.faults p.sink_after.faults → ⊥
-  pub fair : (ask : Ask) → SaysCommand p.words (commands.Ask ask) → HasFairLink told ask (seen p.link_before).clear (seen p.link_before).faults (seen p.link_after).faults
+  pub fair : (ask : Ask) → SaysCommand p.words (commands.Ask ask) → HasFairLink recorded ask (seen p.link_before).clear (seen p.link_before).faults (seen p.link_after).faults
   pub fair_course : (replay : Replay) → SaysCommand p.words (commands.Replay replay)
-      → HasFairCourse told replay (seen p.link_before).clear (seen p.link_before).faults (seen p.link_after).faults
+      → HasFairCourse recorded replay (seen p.link_before).clear (seen p.link_before).faults (seen p.link_after).faults
   pub fair_plan : (plan : Plan) → SaysCommand p.words (commands.Plan plan) → HasHonestLink plan (seen p.link_before) (seen p.link_after)
 
 -- by the files that are recorded, a feed has a timetable
-pub record HasTimetable (told : List File) (scope : Scope) : Type 0 where
+pub record HasTimetable (recorded : List File) (scope : Scope) : Type 0 where
   pub made : Timetable
-  pub sound : IsSound told scope made
+  pub sound : IsSound recorded scope made
 
 -- by the files that are recorded, no rule and no limit refuses the feed of a command, if it has one
 abbrev pub IsFed : List File → Command → Type 0
-IsFed told (commands.Check check) = HasTimetable told (check_scope check)
-IsFed told (commands.Ask ask) = HasTimetable told (ask_scope ask)
-IsFed told (commands.Replay replay) = HasTimetable told (replay_scope replay)
-IsFed told (commands.Serve serve) = HasTimetable told (serve_scope serve)
-IsFed told (commands.Plan plan) = Unit {0}
+IsFed recorded (commands.Check check) = HasTimetable recorded (check_scope check)
+IsFed recorded (commands.Ask ask) = HasTimetable recorded (ask_scope ask)
+IsFed recorded (commands.Replay replay) = HasTimetable recorded (replay_scope replay)
+IsFed recorded (commands.Serve serve) = HasTimetable recorded (serve_scope serve)
+IsFed recorded (commands.Plan plan) = Unit {0}
 
 -- The message of a question or of a server, if it has one, is a message, so that there is a publisher to ask or to serve. So are the messages
 -- of a course, and its script is one, as are the questions and turns of `plan`.
 abbrev pub IsHeard : List File → Command → Type 0
-IsHeard told (commands.Check check) = Unit {0}
-IsHeard told (commands.Ask ask) = (side : Side) × IsAskedSide told ask side
-IsHeard told (commands.Replay replay) = (made : Timetable) × (all : List Event) × IsToldCourse told replay made all
-IsHeard told (commands.Serve serve) = (side : Side) × IsServedSide told serve side
-IsHeard told (commands.Plan plan) = (all : List Event) × AreToldAsks told plan.asks all
+IsHeard recorded (commands.Check check) = Unit {0}
+IsHeard recorded (commands.Ask ask) = (side : Side) × IsAskedSide recorded ask side
+IsHeard recorded (commands.Replay replay) = (made : Timetable) × (all : List Event) × IsRecordedCourse recorded replay made all
+IsHeard recorded (commands.Serve serve) = (side : Side) × IsServedSide recorded serve side
+IsHeard recorded (commands.Plan plan) = (all : List Event) × AreRecordedAsks recorded plan.asks all
 
--- The words say a command, nothing hinders it, and by the files that are told no rule and no limit refuses what it reads.
+-- The words say a command, nothing hinders it, and by the files that are recorded no rule and no limit refuses what it reads.
 pub record IsClear {X : Type 0} (seen : X → LinkSeen) (p : Past X) : Type 0 where
   pub command : Command
   pub says : SaysCommand p.words command
-  pub told : List File
-  pub unhindered : IsUnhindered seen p told
-  pub fed : IsFed told command
-  pub heard : IsHeard told command
+  pub recorded : List File
+  pub unhindered : IsUnhindered seen p recorded
+  pub fed : IsFed recorded command
+  pub heard : IsHeard recorded command
 
 -- the run ended with its output, or out of memory
 abbrev pub IsAnswered : Status → Type 0

@@ -65,7 +65,7 @@ pub record IsAskBlock (ask : Ask) (old new : FolderSeen) (before after : LinkSee
   pub asked : IsAsked made ask.publishing file ask.query before after block.text.items end
   pub client : block.ends.items ≡ end ∷ []
 
--- A publisher of the timetable was told the messages of the script, and was asked its questions, over the link. What is printed are the lines of
+-- A publisher of the timetable was recorded the messages of the script, and was asked its questions, over the link. What is printed are the lines of
 -- the messages and those of the clients.
 pub record IsReplayBlock (replay : Replay) (old new : FolderSeen) (before after : LinkSeen) (block : Block) : Type 0 where
   pub made : Timetable

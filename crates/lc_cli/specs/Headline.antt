@@ -36,7 +36,7 @@ use Rattle.publisher_spec.specs.Short.{IsShort}
 use Rattle.publisher_spec.specs.Side.{Side}
 use Rattle.timetable.specs.declared.timetable.Timetable.{Timetable}
 use Rattle.version_store.specs.Store.{Stored}
-use Rattle.lc_cli.specs.Clear.{AreToldAsks, IsAskedSide, IsToldCourse}
+use Rattle.lc_cli.specs.Clear.{AreRecordedAsks, IsAskedSide, IsRecordedCourse}
 use Rattle.lc_cli.specs.Top.{IsRight, Past}
 use Rattle.cli_serve.specs.Written.{Wrote}
 use Rattle.lc_cli.specs.declared.status.Status.TheVariants.{Done}
@@ -93,13 +93,13 @@ pub record EndsBestThen (made : Timetable) (publishing : Publishing) (all : List
 -- Each text of the publisher stays below 10,000,000,000 bytes, whichever messages it has received.
 abbrev pub StaysShortThroughout : List File → Replay → Type 0
 StaysShortThroughout files replay =
-    (made : Timetable) (all : List Event) → IsToldCourse files replay made all → AreShort made replay.publishing all
+    (made : Timetable) (all : List Event) → IsRecordedCourse files replay made all → AreShort made replay.publishing all
 
 -- `replay` played its event sequence, and wrote the lines of its messages and the block of each client, which ended best.
 pub record WroteEachBest {X : Type 0} (p : Past X) (replay : Replay) (files : List File) : Type 0 where
   pub made : Timetable
   pub all : List Event
-  pub recorded : IsToldCourse files replay made all
+  pub recorded : IsRecordedCourse files replay made all
   pub lines : List ℕ
   pub ends : List ClientEnd
   pub played : IsPlayedOut made replay.publishing all replay.cache lines ends
@@ -141,7 +141,7 @@ pub record EndsBestAt (rounds : List Round) (sides : List Side) (last : Side) (q
 -- `plan` let the clients of its script have their turns over the link, and wrote the block of each client, which ended best.
 pub record PlannedEachBest {X : Type 0} (seen : X → LinkSeen) (p : Past X) (plan : Plan) (files : List File) (first : Side) : Type 0 where
   pub all : List Event
-  pub recorded : AreToldAsks files plan.asks all
+  pub recorded : AreRecordedAsks files plan.asks all
   pub ends : List ClientEnd
   pub one_each : length ends ≡ length (questions_in all)
   pub met : List Met

@@ -50,16 +50,16 @@ DoneIsPrinted {X} seen = (p : Past X) → IsRight seen p Done → HasPrinted see
 -- publisher. X and Y are the types of their links, and `seen` and `saw` what is promised of these.
 abbrev pub OneRun : {X Y : Type 0} → (X → LinkSeen) → (Y → LinkSeen) → Type 0
 OneRun {X} {Y} seen saw =
-    (p : Past X) (q : Past Y) (told : List File) → p.words ≡ q.words → AreInProcess p.words → IsUnhindered seen p told → IsUnhindered saw q told
+    (p : Past X) (q : Past Y) (recorded : List File) → p.words ≡ q.words → AreInProcess p.words → IsUnhindered seen p recorded → IsUnhindered saw q recorded
     → (s t : Status) (x : HasPrinted seen p s) (y : HasPrinted saw q t) → PrintOne x.right.command x.block y.block
 
 -- Runs of the same words over the same files, which nothing hindered, end with one status, memory apart: each status comes exactly where it has
 -- its cause.
 abbrev pub OneStatus : {X Y : Type 0} → (X → LinkSeen) → (Y → LinkSeen) → Type 0
 OneStatus {X} {Y} seen saw =
-    (p : Past X) (q : Past Y) (told : List File) → p.words ≡ q.words → AreInProcess p.words → IsUnhindered seen p told → IsUnhindered saw q told
+    (p : Past X) (q : Past Y) (recorded : List File) → p.words ≡ q.words → AreInProcess p.words → IsUnhindered seen p recorded → IsUnhindered saw q recorded
     → (s t : Status) → IsRight seen p s → IsRight saw q t → (s ≡ t) ⊎ ((s ≡ NoMemory) ⊎ (t ≡ NoMemory))
 
--- each run that is done over told files, which nothing hindered, is clear
+-- each run that is done over recorded files, which nothing hindered, is clear
 abbrev pub DoneIsClear : {X : Type 0} → (X → LinkSeen) → Type 0
-DoneIsClear {X} seen = (p : Past X) (told : List File) → IsUnhindered seen p told → IsRight seen p Done → IsClear seen p
+DoneIsClear {X} seen = (p : Past X) (recorded : List File) → IsUnhindered seen p recorded → IsRight seen p Done → IsClear seen p

@@ -2,4 +2,4 @@ mod EchoLemmas
 mod NearLemmas
 mod PieceLemmas
 mod ServeLemmas
-mod ToldLemmas
+mod RecordedLemmas

@@ -1,6 +1,6 @@
 -- Near values, refused.
 use Rattle.std.proofs.Common.{◌≡◌, ◌⊎◌, ◌∙◌, ℕ, ◌<◌, Bool, false, true, List, [], ◌∷◌, ◌++◌, length, take, Some, inl, inr, sym, ap}
-use Rattle.lc_doors.specs.Door.{DoorTold, Opens, Takes, Wire}
+use Rattle.lc_doors.specs.Door.{DoorRecorded, Opens, Takes, Wire}
 use Rattle.lc_doors.specs.Serving.{Exchanges, IsServed, NothingToCome}
 use Rattle.lc_doors.specs.Talk.{TalkSeen}
 
@@ -10,15 +10,15 @@ some_is_none byte rest list some none = absurd (cc)
 pub none_unread : (piece : List ℕ) (before after : Wire) (byte : ℕ) (rest : List ℕ) → 0 < length piece → before.to_come ≡ byte ∷ rest → Takes piece 0 before after → ⊥
 none_unread piece before after byte rest room some takes = some_is_none byte rest before.to_come some (takes.came ∙ takes.ended room (λ i. 0))
 
-pub none_skipped : (before after : DoorTold) (first second : List ℕ) → before.waiting ≡ first ∷ second ∷ [] → after.waiting ≡ [] → Opens before after → ⊥
+pub none_skipped : (before after : DoorRecorded) (first second : List ℕ) → before.waiting ≡ first ∷ second ∷ [] → after.waiting ≡ [] → Opens before after → ⊥
 none_skipped before after first second two none opens =
     let both : first ∷ second ∷ [] ≡ opens.bytes ∷ [] = sym two ∙ (opens.next ∙ ap (λ (l : List (List ℕ)). opens.bytes ∷ l) none) in
     absurd (cc)
 
-pub none_cut_off : (talk : TalkSeen) (told : DoorTold) (wire : Wire) (byte : ℕ) (rest : List ℕ) → talk.ended ≡ false → told.current ≡ Some wire → wire.to_come ≡ byte ∷ rest
-    → IsServed talk (Some told) → ⊥
-none_cut_off talk told wire byte rest goes_on current some served =
-    let cases : NothingToCome (Some told) ⊎ (talk.ended ≡ true) → ⊥ =
+pub none_cut_off : (talk : TalkSeen) (recorded : DoorRecorded) (wire : Wire) (byte : ℕ) (rest : List ℕ) → talk.ended ≡ false → recorded.current ≡ Some wire → wire.to_come ≡ byte ∷ rest
+    → IsServed talk (Some recorded) → ⊥
+none_cut_off talk recorded wire byte rest goes_on current some served =
+    let cases : NothingToCome (Some recorded) ⊎ (talk.ended ≡ true) → ⊥ =
     elim [
       | inl nothing ↦ some_is_none byte rest wire.to_come some (rw current at nothing)
       | inr ended ↦ absurd (cc)
@@ -35,7 +35,7 @@ one_read piece count before a b p q =
     let same : a.to_come ≡ b.to_come = same_rest (take count piece) a.to_come b.to_come (sym p.came ∙ q.came) in
     p.moved ∙ (ap (λ (l : List ℕ). record before { to_come = l; read = before.read ++ take count piece }) same ∙ sym q.moved)
 
-pub one_next : (before a b : DoorTold) → Opens before a → Opens before b → a ≡ b
+pub one_next : (before a b : DoorRecorded) → Opens before a → Opens before b → a ≡ b
 one_next before a b p q =
     let both : p.bytes ∷ a.waiting ≡ q.bytes ∷ b.waiting = sym p.next ∙ q.next in
     let bytes : p.bytes ≡ q.bytes = cc in

@@ -1,6 +1,6 @@
 -- Parts of serving, one after the other.
 use Rattle.std.proofs.Common.{◌≡◌, ◌∙◌, ℕ, ◌||◌, Bool, true, false, List, [], ◌++◌, take, Option, None, Some, Ok, Err, refl, sym, ap, subst, append_assoc, append-nil}
-use Rattle.lc_doors.specs.Door.{DoorSeen, DoorTold, GoesOn, OnCurrent, Reads, Takes, Wire, Writes}
+use Rattle.lc_doors.specs.Door.{DoorSeen, DoorRecorded, GoesOn, OnCurrent, Reads, Takes, Wire, Writes}
 use Rattle.lc_doors.specs.Serving.{Agrees, Carries, Exchanges, Halts, SendsFront, Serves, TalksFailed}
 use Rattle.lc_doors.specs.Talk.{Said, TalkSeen}
 use Rattle.lc_doors.specs.declared.door.DoorFail.{DoorFail}
@@ -22,27 +22,27 @@ goes_nowhere : {X : Type 0} (P : X → X → Type 0) → ((a : X) → P a a) →
 goes_nowhere P step None = refl
 goes_nowhere P step (Some a) = step a
 
-on_then : (P Q R : Wire → Wire → Type 0) → ((a b c : Wire) → P a b → Q b c → R a c) → (a b c : DoorTold) → OnCurrent P a b → OnCurrent Q b c → OnCurrent R a c
+on_then : (P Q R : Wire → Wire → Type 0) → ((a b c : Wire) → P a b → Q b c → R a c) → (a b c : DoorRecorded) → OnCurrent P a b → OnCurrent Q b c → OnCurrent R a c
 on_then P Q R step a b c p q = record {
-  others = q.others ∙ ap (λ (t : DoorTold). record t { current = c.current }) p.others;
+  others = q.others ∙ ap (λ (t : DoorRecorded). record t { current = c.current }) p.others;
   current = goes_then P Q R step a.current b.current c.current p.current q.current;
 }
 
-on_as : (P Q : Wire → Wire → Type 0) → ((a b : Wire) → P a b → Q a b) → (a b : DoorTold) → OnCurrent P a b → OnCurrent Q a b
+on_as : (P Q : Wire → Wire → Type 0) → ((a b : Wire) → P a b → Q a b) → (a b : DoorRecorded) → OnCurrent P a b → OnCurrent Q a b
 on_as P Q step a b p = record { others = p.others; current = goes_as P Q step a.current b.current p.current }
 
 -- a step of a recorded connection is an exchange of bytes
-pub told_as : (P : Wire → Wire → Type 0) (read sent : List ℕ) (failed : Bool) → ((a b : Wire) → P a b → Exchanges read sent failed a b)
-    → (a b : Option DoorTold) → GoesOn (OnCurrent P) a b → GoesOn (OnCurrent (Exchanges read sent failed)) a b
-told_as P read sent failed step a b p = goes_as (OnCurrent P) (OnCurrent (Exchanges read sent failed)) (on_as P (Exchanges read sent failed) step) a b p
+pub recorded_as : (P : Wire → Wire → Type 0) (read sent : List ℕ) (failed : Bool) → ((a b : Wire) → P a b → Exchanges read sent failed a b)
+    → (a b : Option DoorRecorded) → GoesOn (OnCurrent P) a b → GoesOn (OnCurrent (Exchanges read sent failed)) a b
+recorded_as P read sent failed step a b p = goes_as (OnCurrent P) (OnCurrent (Exchanges read sent failed)) (on_as P (Exchanges read sent failed) step) a b p
 
 no_exchange : (a : Wire) → Exchanges [] [] false a a
 no_exchange a = record { came = refl; read_more = sym (append-nil a.read); sent_more = sym (append-nil a.sent); failed_too = refl }
 
 -- nothing was exchanged
-pub told_same : (a : Option DoorTold) → GoesOn (OnCurrent (Exchanges [] [] false)) a a
-told_same a = goes_nowhere (OnCurrent (Exchanges [] [] false))
-    (λ (t : DoorTold). record { others = refl; current = goes_nowhere (Exchanges [] [] false) no_exchange t.current }) a
+pub recorded_same : (a : Option DoorRecorded) → GoesOn (OnCurrent (Exchanges [] [] false)) a a
+recorded_same a = goes_nowhere (OnCurrent (Exchanges [] [] false))
+    (λ (t : DoorRecorded). record { others = refl; current = goes_nowhere (Exchanges [] [] false) no_exchange t.current }) a
 
 -- bytes were read
 pub taken : (piece : List ℕ) (count : ℕ) (read : List ℕ) → read ≡ take count piece → (a b : Wire) → Takes piece count a b → Exchanges read [] false a b
@@ -85,9 +85,9 @@ exchanges_then r s t u failed a b c p q = record {
   failed_too = q.failed_too ∙ ap (λ (w : Bool). failed || w) p.failed_too;
 }
 
-told_then : (r s t u : List ℕ) (failed : Bool) (a b c : Option DoorTold) → GoesOn (OnCurrent (Exchanges r s false)) a b
+recorded_then : (r s t u : List ℕ) (failed : Bool) (a b c : Option DoorRecorded) → GoesOn (OnCurrent (Exchanges r s false)) a b
     → GoesOn (OnCurrent (Exchanges t u failed)) b c → GoesOn (OnCurrent (Exchanges (r ++ t) (s ++ u) failed)) a c
-told_then r s t u failed a b c p q =
+recorded_then r s t u failed a b c p q =
     goes_then (OnCurrent (Exchanges r s false)) (OnCurrent (Exchanges t u failed)) (OnCurrent (Exchanges (r ++ t) (s ++ u) failed))
     (on_then (Exchanges r s false) (Exchanges t u failed) (Exchanges (r ++ t) (s ++ u) failed) (exchanges_then r s t u failed)) a b c p q
 
@@ -120,22 +120,22 @@ carries_sent {T} {Start} stands a b bytes sends = λ (start : Start) (was_fed wa
     subst Fed (sym (append-nil was_fed)) (sends start was_fed was_sent st)
 
 -- nothing has happened
-pub agrees_none : {T Start : Type 0} (stands : T → Start → List ℕ → List ℕ → Type 0) (a : T) (told : Option DoorTold) → Agrees stands false a a told told
-agrees_none stands a told = record { fed = []; sent = []; talk = carries_none stands a; door = told_same told }
+pub agrees_none : {T Start : Type 0} (stands : T → Start → List ℕ → List ℕ → Type 0) (a : T) (recorded : Option DoorRecorded) → Agrees stands false a a recorded recorded
+agrees_none stands a recorded = record { fed = []; sent = []; talk = carries_none stands a; door = recorded_same recorded }
 
 -- the talk is as it was, and the door is as far as nothing was exchanged
-pub agrees_still : {T Start : Type 0} (stands : T → Start → List ℕ → List ℕ → Type 0) (failed : Bool) (a : T) (before after : Option DoorTold)
+pub agrees_still : {T Start : Type 0} (stands : T → Start → List ℕ → List ℕ → Type 0) (failed : Bool) (a : T) (before after : Option DoorRecorded)
     → GoesOn (OnCurrent (Exchanges [] [] failed)) before after → Agrees stands failed a a before after
 agrees_still stands failed a before after door = record { fed = []; sent = []; talk = carries_none stands a; door = door }
 
 -- one part after the other
-pub agrees_then : {T Start : Type 0} (stands : T → Start → List ℕ → List ℕ → Type 0) (failed : Bool) (a b c : T) (d e f : Option DoorTold)
+pub agrees_then : {T Start : Type 0} (stands : T → Start → List ℕ → List ℕ → Type 0) (failed : Bool) (a b c : T) (d e f : Option DoorRecorded)
     → Agrees stands false a b d e → Agrees stands failed b c e f → Agrees stands failed a c d f
 agrees_then stands failed a b c d e f p q = record {
   fed = p.fed ++ q.fed;
   sent = p.sent ++ q.sent;
   talk = carries_then stands a b c p.fed p.sent q.fed q.sent p.talk q.talk;
-  door = told_then p.fed p.sent q.fed q.sent failed d e f p.door q.door;
+  door = recorded_then p.fed p.sent q.fed q.sent failed d e f p.door q.door;
 }
 
 -- the law of what a talk says
@@ -145,7 +145,7 @@ SaysWhatStands {T} {Start} seen says stands = (talk : T) (start : Start) (fed se
 
 -- memory runs out after one part
 pub agrees_halts : {T Start : Type 0} (seen : T → TalkSeen) (stands : T → Start → List ℕ → List ℕ → Type 0) (says : Start → List ℕ → Said → Type 0)
-    → SaysWhatStands seen says stands → (a b : T) (d e : Option DoorTold) → Agrees stands false a b d e → Halts stands says a d e
+    → SaysWhatStands seen says stands → (a b : T) (d e : Option DoorRecorded) → Agrees stands false a b d e → Halts stands says a d e
 agrees_halts {T} {Start} seen stands says law a b d e p = record {
   read = p.fed;
   sent = p.sent;
@@ -161,7 +161,7 @@ agrees_halts {T} {Start} seen stands says law a b d e p = record {
 
 -- memory runs out while bytes that were read are fed
 pub fed_halts : {T Start : Type 0} (seen : T → TalkSeen) (stands : T → Start → List ℕ → List ℕ → Type 0) (says : Start → List ℕ → Said → Type 0)
-    → SaysWhatStands seen says stands → (a : T) (bytes : List ℕ) (d e : Option DoorTold) → GoesOn (OnCurrent (Exchanges bytes [] false)) d e → Halts stands says a d e
+    → SaysWhatStands seen says stands → (a : T) (bytes : List ℕ) (d e : Option DoorRecorded) → GoesOn (OnCurrent (Exchanges bytes [] false)) d e → Halts stands says a d e
 fed_halts {T} {Start} seen stands says law a bytes d e door = record {
   read = bytes;
   sent = [];
@@ -176,12 +176,12 @@ fed_halts {T} {Start} seen stands says law a bytes d e door = record {
 }
 
 -- memory runs out in a later part
-pub halts_then : {T Start : Type 0} (stands : T → Start → List ℕ → List ℕ → Type 0) (says : Start → List ℕ → Said → Type 0) (a b : T) (d e f : Option DoorTold)
+pub halts_then : {T Start : Type 0} (stands : T → Start → List ℕ → List ℕ → Type 0) (says : Start → List ℕ → Said → Type 0) (a b : T) (d e f : Option DoorRecorded)
     → Agrees stands false a b d e → Halts stands says b e f → Halts stands says a d f
 halts_then {T} {Start} stands says a b d e f p q = record {
   read = p.fed ++ q.read;
   sent = p.sent ++ q.sent;
-  door = told_then p.fed p.sent q.read q.sent false d e f p.door q.door;
+  door = recorded_then p.fed p.sent q.read q.sent false d e f p.door q.door;
   front = λ (start : Start) (was_fed was_sent : List ℕ) (st : stands a start was_fed was_sent).
       let Fed : List ℕ → Type 0 = λ l. SendsFront (says start) l ((was_sent ++ p.sent) ++ q.sent) in
       let Sent : List ℕ → Type 0 = λ l. SendsFront (says start) (was_fed ++ (p.fed ++ q.read)) l in
@@ -191,7 +191,7 @@ halts_then {T} {Start} stands says a b d e f p q = record {
 
 -- what the talk says for all that was read
 pub agrees_serves : {T Start : Type 0} (seen : T → TalkSeen) (stands : T → Start → List ℕ → List ℕ → Type 0) (says : Start → List ℕ → Said → Type 0)
-    → SaysWhatStands seen says stands → (failed : Bool) (a b : T) (d e : Option DoorTold) → Agrees stands failed a b d e → Serves stands says failed a b (seen b) d e
+    → SaysWhatStands seen says stands → (failed : Bool) (a b : T) (d e : Option DoorRecorded) → Agrees stands failed a b d e → Serves stands says failed a b (seen b) d e
 agrees_serves {T} {Start} seen stands says law failed a b d e p = record {
   fed = p.fed;
   sent = p.sent;
@@ -201,46 +201,46 @@ agrees_serves {T} {Start} seen stands says law failed a b d e p = record {
 }
 
 -- pending bytes were sent
-pub sends : {T Start : Type 0} (stands : T → Start → List ℕ → List ℕ → Type 0) (a b : T) (piece pending : List ℕ) (count : ℕ) (d e : Option DoorTold) → piece ≡ pending
+pub sends : {T Start : Type 0} (stands : T → Start → List ℕ → List ℕ → Type 0) (a b : T) (piece pending : List ℕ) (count : ℕ) (d e : Option DoorRecorded) → piece ≡ pending
     → ((start : Start) (fed sent : List ℕ) → stands a start fed sent → stands b start fed (sent ++ take count pending))
     → GoesOn (OnCurrent (Writes piece (Ok count))) d e → Agrees stands false a b d e
 sends stands a b piece pending count d e is talk door = record {
   fed = [];
   sent = take count pending;
   talk = carries_sent stands a b (take count pending) talk;
-  door = told_as (Writes piece (Ok count)) [] (take count pending) false
+  door = recorded_as (Writes piece (Ok count)) [] (take count pending) false
       (λ x y w. written (take count pending) x y (w ∙ ap (λ (l : List ℕ). record x { sent = x.sent ++ take count l }) is)) d e door;
 }
 
 -- bytes were read and fed
-pub feeds : {T Start : Type 0} (stands : T → Start → List ℕ → List ℕ → Type 0) (a b : T) (piece : List ℕ) (count : ℕ) (d e : Option DoorTold)
+pub feeds : {T Start : Type 0} (stands : T → Start → List ℕ → List ℕ → Type 0) (a b : T) (piece : List ℕ) (count : ℕ) (d e : Option DoorRecorded)
     → ((start : Start) (fed sent : List ℕ) → stands a start fed sent → stands b start (fed ++ take count piece) sent)
     → GoesOn (OnCurrent (Reads piece (Ok count))) d e → Agrees stands false a b d e
 feeds stands a b piece count d e talk door = record {
   fed = take count piece;
   sent = [];
   talk = carries_fed stands a b (take count piece) talk;
-  door = told_as (Reads piece (Ok count)) (take count piece) [] false (taken piece count (take count piece) refl) d e door;
+  door = recorded_as (Reads piece (Ok count)) (take count piece) [] false (taken piece count (take count piece) refl) d e door;
 }
 
 -- a read failed
 pub read_fails : {T Start : Type 0} (seen : T → TalkSeen) (stands : T → Start → List ℕ → List ℕ → Type 0) (says : Start → List ℕ → Said → Type 0)
-    → SaysWhatStands seen says stands → (fail : DoorFail) (a : T) (piece : List ℕ) (d e : Option DoorTold)
+    → SaysWhatStands seen says stands → (fail : DoorFail) (a : T) (piece : List ℕ) (d e : Option DoorRecorded)
     → GoesOn (OnCurrent (Reads piece (Err fail))) d e → TalksFailed stands says fail a a d e
-read_fails seen stands says law Failed a piece d e door = agrees_still stands true a d e (told_as (Reads piece (Err Failed)) [] [] true failed_now d e door)
+read_fails seen stands says law Failed a piece d e door = agrees_still stands true a d e (recorded_as (Reads piece (Err Failed)) [] [] true failed_now d e door)
 read_fails seen stands says law NoMemory a piece d e door =
-    agrees_halts seen stands says law a a d e (agrees_still stands false a d e (told_as (Reads piece (Err NoMemory)) [] [] false unchanged d e door))
+    agrees_halts seen stands says law a a d e (agrees_still stands false a d e (recorded_as (Reads piece (Err NoMemory)) [] [] false unchanged d e door))
 
 -- a write failed
 pub write_fails : {T Start : Type 0} (seen : T → TalkSeen) (stands : T → Start → List ℕ → List ℕ → Type 0) (says : Start → List ℕ → Said → Type 0)
-    → SaysWhatStands seen says stands → (fail : DoorFail) (a : T) (piece : List ℕ) (d e : Option DoorTold)
+    → SaysWhatStands seen says stands → (fail : DoorFail) (a : T) (piece : List ℕ) (d e : Option DoorRecorded)
     → GoesOn (OnCurrent (Writes piece (Err fail))) d e → TalksFailed stands says fail a a d e
-write_fails seen stands says law Failed a piece d e door = agrees_still stands true a d e (told_as (Writes piece (Err Failed)) [] [] true failed_now d e door)
+write_fails seen stands says law Failed a piece d e door = agrees_still stands true a d e (recorded_as (Writes piece (Err Failed)) [] [] true failed_now d e door)
 write_fails seen stands says law NoMemory a piece d e door =
-    agrees_halts seen stands says law a a d e (agrees_still stands false a d e (told_as (Writes piece (Err NoMemory)) [] [] false unchanged d e door))
+    agrees_halts seen stands says law a a d e (agrees_still stands false a d e (recorded_as (Writes piece (Err NoMemory)) [] [] false unchanged d e door))
 
 -- a later part failed
-pub fails_then : {T Start : Type 0} (stands : T → Start → List ℕ → List ℕ → Type 0) (says : Start → List ℕ → Said → Type 0) (fail : DoorFail) (a b c : T) (d e f : Option DoorTold)
+pub fails_then : {T Start : Type 0} (stands : T → Start → List ℕ → List ℕ → Type 0) (says : Start → List ℕ → Said → Type 0) (fail : DoorFail) (a b c : T) (d e f : Option DoorRecorded)
     → Agrees stands false a b d e → TalksFailed stands says fail b c e f → TalksFailed stands says fail a c d f
 fails_then stands says Failed a b c d e f p q = agrees_then stands true a b c d e f p q
 fails_then stands says NoMemory a b c d e f p q = halts_then stands says a b d e f p q
@@ -251,5 +251,5 @@ pending_then x y z pending p q =
     q ∙ (ap (λ (t : TalkSeen). record t { pending = pending }) p ∙ ap (λ (l : List ℕ). record x { pending = l }) (sym (ap (λ (t : TalkSeen). t.pending) q)))
 
 -- nothing but what is recorded and the count of broken connections has changed
-pub others_then : (x y z : DoorSeen) → y ≡ record x { told = y.told; broken = y.broken } → z ≡ record y { told = z.told; broken = z.broken } → z ≡ record x { told = z.told; broken = z.broken }
-others_then x y z p q = q ∙ ap (λ (s : DoorSeen). record s { told = z.told; broken = z.broken }) p
+pub others_then : (x y z : DoorSeen) → y ≡ record x { recorded = y.recorded; broken = y.broken } → z ≡ record y { recorded = z.recorded; broken = z.broken } → z ≡ record x { recorded = z.recorded; broken = z.broken }
+others_then x y z p q = q ∙ ap (λ (s : DoorSeen). record s { recorded = z.recorded; broken = z.broken }) p

@@ -15,7 +15,7 @@ pub record Wire : Type 0 where
   pub failed : Bool
 
 -- What a door records: the port where it listens, the bytes of each connection that waits, the past connections and the current one.
-pub record DoorTold : Type 0 where
+pub record DoorRecorded : Type 0 where
   pub port : Option ℕ
   pub waiting : List (List ℕ)
   pub past : List Wire
@@ -26,14 +26,14 @@ pub record DoorTold : Type 0 where
 pub record DoorSeen : Type 0 where
   pub listens : Bool
   pub connected : Bool
-  pub told : Option DoorTold
+  pub recorded : Option DoorRecorded
   pub faults : ℕ
   pub broken : ℕ
 
 -- the record says too whether the door listens and whether there is a current connection
-pub record AgreesWith (listens connected : Bool) (told : DoorTold) : Type 0 where
-  pub port : is_some told.port ≡ listens
-  pub current : is_some told.current ≡ connected
+pub record AgreesWith (listens connected : Bool) (recorded : DoorRecorded) : Type 0 where
+  pub port : is_some recorded.port ≡ listens
+  pub current : is_some recorded.current ≡ connected
 
 -- what is recorded goes on by a step; where nothing is recorded, nothing is later
 abbrev pub GoesOn : {T : Type 0} → (T → T → Type 0) → Option T → Option T → Type 0
@@ -46,15 +46,15 @@ abbrev pub fresh : List ℕ → Wire
 fresh bytes = record { to_come = bytes; read = []; sent = []; failed = false }
 
 -- the current connection, if there is one, has become a past one
-abbrev pub hung_up : DoorTold → DoorTold
-hung_up told = record told { past = told.past ++ option_to_list told.current; current = None }
+abbrev pub hung_up : DoorRecorded → DoorRecorded
+hung_up recorded = record recorded { past = recorded.past ++ option_to_list recorded.current; current = None }
 
 -- a door that has listened listens from then on
 abbrev pub listens_after : {T : Type 0} → Result T DoorFail → Bool → Bool
 listens_after result before = is_ok result || before
 
 -- the port of the last `listen` that was Ok stays
-abbrev pub Listens : {T : Type 0} → ℕ → Result T DoorFail → DoorTold → DoorTold → Type 0
+abbrev pub Listens : {T : Type 0} → ℕ → Result T DoorFail → DoorRecorded → DoorRecorded → Type 0
 Listens port (Ok _) before after = after ≡ record before { port = Some port }
 Listens port (Err _) before after = after ≡ before
 
@@ -65,24 +65,24 @@ connected_after (Ok Closed) = false
 connected_after (Err _) = false
 
 -- the first connection that waited is the current one
-pub record Opens (before after : DoorTold) : Type 0 where
+pub record Opens (before after : DoorRecorded) : Type 0 where
   pub bytes : List ℕ
   pub next : before.waiting ≡ bytes ∷ after.waiting
   pub opened : after ≡ record (hung_up before) { waiting = after.waiting; current = Some (fresh bytes) }
 
 -- no connection waited, and none is the current one
-pub record Closes (before after : DoorTold) : Type 0 where
+pub record Closes (before after : DoorRecorded) : Type 0 where
   pub none_left : before.waiting ≡ []
   pub closed : after ≡ hung_up before
 
 -- what `next` makes of what is recorded
-abbrev pub Comes : Result Next DoorFail → DoorTold → DoorTold → Type 0
+abbrev pub Comes : Result Next DoorFail → DoorRecorded → DoorRecorded → Type 0
 Comes (Ok Connection) before after = Opens before after
 Comes (Ok Closed) before after = Closes before after
 Comes (Err _) before after = after ≡ hung_up before
 
 -- a step of the current connection changes nothing else that is recorded
-pub record OnCurrent (step : Wire → Wire → Type 0) (before after : DoorTold) : Type 0 where
+pub record OnCurrent (step : Wire → Wire → Type 0) (before after : DoorRecorded) : Type 0 where
   pub others : after ≡ record before { current = after.current }
   pub current : GoesOn step before.current after.current
 

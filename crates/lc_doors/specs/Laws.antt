@@ -1,6 +1,6 @@
 -- Values of which a contract says that there are some are one.
 use Rattle.std.specs.Prelude.{◌≡◌, ℕ, Bool, List}
-use Rattle.lc_doors.specs.Door.{DoorTold, Opens, Takes, Wire}
+use Rattle.lc_doors.specs.Door.{DoorRecorded, Opens, Takes, Wire}
 use Rattle.lc_doors.specs.Serving.{Exchanges}
 
 -- a read of so many bytes into a piece leaves one connection
@@ -9,7 +9,7 @@ OneRead = (piece : List ℕ) (count : ℕ) (before a b : Wire) → Takes piece c
 
 -- one connection is the next
 abbrev pub OneNext : Type 0
-OneNext = (before a b : DoorTold) → Opens before a → Opens before b → a ≡ b
+OneNext = (before a b : DoorRecorded) → Opens before a → Opens before b → a ≡ b
 
 -- what was read and what was sent is seen on the connection
 abbrev pub OneExchange : Type 0

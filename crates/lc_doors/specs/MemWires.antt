@@ -2,7 +2,7 @@
 use Rattle.std.specs.Prelude.{◌≡◌, ℕ, List, [], ◌∷◌, ◌++◌, map, Option, Some, None, Result, Ok, Err, refl}
 use Rattle.std.specs.List.{concat}
 use Rattle.std.specs.Option.{is_some, option_map, option_to_list}
-use Rattle.lc_doors.specs.Door.{AgreesWith, DoorSeen, DoorTold}
+use Rattle.lc_doors.specs.Door.{AgreesWith, DoorSeen, DoorRecorded}
 use Rattle.lc_doors.specs.MemWire.{MemWireState, fresh_pieces, wire_of}
 use Rattle.lc_doors.specs.declared.door.DoorFail.{DoorFail}
 use Rattle.lc_doors.specs.declared.door.Next.{Next}
@@ -20,8 +20,8 @@ abbrev pub opened_for : List (List (List ℕ)) → MemWiresState
 opened_for connections = record { port = None; waiting = connections; past = []; current = None }
 
 -- what a door records that has these connections
-abbrev pub told_of : MemWiresState → DoorTold
-told_of wires = record {
+abbrev pub recorded_of : MemWiresState → DoorRecorded
+recorded_of wires = record {
   port = wires.port;
   waiting = map concat wires.waiting;
   past = map wire_of wires.past;
@@ -33,7 +33,7 @@ abbrev pub seen_of : MemWiresState → ℕ → ℕ → DoorSeen
 seen_of wires faults broken = record {
   listens = is_some wires.port;
   connected = is_some wires.current;
-  told = Some (told_of wires);
+  recorded = Some (recorded_of wires);
   faults = faults;
   broken = broken;
 }
@@ -68,5 +68,5 @@ is_some-map f None = refl
 is_some-map f (Some x) = refl
 
 -- what is recorded agrees with whether the door listens and whether it has a current connection
-pub told_agrees : (wires : MemWiresState) → AgreesWith (is_some wires.port) (is_some wires.current) (told_of wires)
-told_agrees wires = record { port = refl; current = is_some-map wire_of wires.current }
+pub recorded_agrees : (wires : MemWiresState) → AgreesWith (is_some wires.port) (is_some wires.current) (recorded_of wires)
+recorded_agrees wires = record { port = refl; current = is_some-map wire_of wires.current }

@@ -1,6 +1,6 @@
 -- Near values that the definitions of doors and of serving refuse.
 use Rattle.std.specs.Prelude.{◌≡◌, ℕ, ◌<◌, false, List, [], ◌∷◌, length, Option, Some, Ok}
-use Rattle.lc_doors.specs.Door.{Comes, DoorTold, Opens, Takes, Wire}
+use Rattle.lc_doors.specs.Door.{Comes, DoorRecorded, Opens, Takes, Wire}
 use Rattle.lc_doors.specs.Serving.{IsServed}
 use Rattle.lc_doors.specs.Talk.{TalkSeen}
 use Rattle.lc_doors.specs.declared.door.Next.TheVariants.{Closed}
@@ -11,17 +11,17 @@ NoneUnread = (piece : List ℕ) (before after : Wire) (byte : ℕ) (rest : List 
 
 -- a next connection, where the first one that waited is skipped
 abbrev pub NoneSkipped : Type 0
-NoneSkipped = (before after : DoorTold) (first second : List ℕ) → before.waiting ≡ first ∷ second ∷ [] → after.waiting ≡ [] → Opens before after → ⊥
+NoneSkipped = (before after : DoorRecorded) (first second : List ℕ) → before.waiting ≡ first ∷ second ∷ [] → after.waiting ≡ [] → Opens before after → ⊥
 
 -- no further connection, while one waits
 abbrev pub NoneTurnedAway : Type 0
-NoneTurnedAway = (before after : DoorTold) (first : List ℕ) (rest : List (List ℕ)) → before.waiting ≡ first ∷ rest → Comes (Ok Closed) before after → ⊥
+NoneTurnedAway = (before after : DoorRecorded) (first : List ℕ) (rest : List (List ℕ)) → before.waiting ≡ first ∷ rest → Comes (Ok Closed) before after → ⊥
 
 -- a connection that is served, while bytes of it are to come and the talk goes on
 abbrev pub NoneCutOff : Type 0
-NoneCutOff = (talk : TalkSeen) (told : DoorTold) (wire : Wire) (byte : ℕ) (rest : List ℕ) → talk.ended ≡ false → told.current ≡ Some wire → wire.to_come ≡ byte ∷ rest
-    → IsServed talk (Some told) → ⊥
+NoneCutOff = (talk : TalkSeen) (recorded : DoorRecorded) (wire : Wire) (byte : ℕ) (rest : List ℕ) → talk.ended ≡ false → recorded.current ≡ Some wire → wire.to_come ≡ byte ∷ rest
+    → IsServed talk (Some recorded) → ⊥
 
 -- a connection that is served, while something is not sent
 abbrev pub NoneUnsent : Type 0
-NoneUnsent = (talk : TalkSeen) (told : Option DoorTold) (byte : ℕ) (rest : List ℕ) → talk.pending ≡ byte ∷ rest → IsServed talk told → ⊥
+NoneUnsent = (talk : TalkSeen) (recorded : Option DoorRecorded) (byte : ℕ) (rest : List ℕ) → talk.pending ≡ byte ∷ rest → IsServed talk recorded → ⊥

@@ -1,6 +1,6 @@
 -- How one connection is served.
 use Rattle.std.specs.Prelude.{◌≡◌, ◌⊎◌, ℕ, ◌||◌, Bool, true, false, List, [], ◌++◌, Option, IfSome, Result, Ok, Err}
-use Rattle.lc_doors.specs.Door.{DoorTold, GoesOn, OnCurrent, Wire}
+use Rattle.lc_doors.specs.Door.{DoorRecorded, GoesOn, OnCurrent, Wire}
 use Rattle.lc_doors.specs.Talk.{Said, TalkSeen}
 use Rattle.lc_doors.specs.declared.door.DoorFail.{DoorFail}
 use Rattle.lc_doors.specs.declared.door.DoorFail.TheVariants.{Failed, NoMemory}
@@ -18,11 +18,11 @@ Carries {T} {Start} stands before after fed sent =
     (start : Start) (was_fed was_sent : List ℕ) → stands before start was_fed was_sent → stands after start (was_fed ++ fed) (was_sent ++ sent)
 
 -- What was read from the connection is what the talk was fed, and what was sent on it is what the talk has sent.
-pub record Agrees {T Start : Type 0} (stands : T → Start → List ℕ → List ℕ → Type 0) (failed : Bool) (before after : T) (told_before told_after : Option DoorTold) : Type 0 where
+pub record Agrees {T Start : Type 0} (stands : T → Start → List ℕ → List ℕ → Type 0) (failed : Bool) (before after : T) (recorded_before recorded_after : Option DoorRecorded) : Type 0 where
   pub fed : List ℕ
   pub sent : List ℕ
   pub talk : Carries stands before after fed sent
-  pub door : GoesOn (OnCurrent (Exchanges fed sent failed)) told_before told_after
+  pub door : GoesOn (OnCurrent (Exchanges fed sent failed)) recorded_before recorded_after
 
 -- the first bytes are a front of the others
 pub record IsFront (front bytes : List ℕ) : Type 0 where
@@ -38,36 +38,36 @@ pub record SendsFront (says : List ℕ → Said → Type 0) (read sent : List �
   pub sent_is : IsFront sent said.output
 
 -- memory has run out: what was sent is a front of what the talk would say for a front of what was read
-pub record Halts {T Start : Type 0} (stands : T → Start → List ℕ → List ℕ → Type 0) (says : Start → List ℕ → Said → Type 0) (before : T) (told_before told_after : Option DoorTold) : Type 0 where
+pub record Halts {T Start : Type 0} (stands : T → Start → List ℕ → List ℕ → Type 0) (says : Start → List ℕ → Said → Type 0) (before : T) (recorded_before recorded_after : Option DoorRecorded) : Type 0 where
   pub read : List ℕ
   pub sent : List ℕ
-  pub door : GoesOn (OnCurrent (Exchanges read sent false)) told_before told_after
+  pub door : GoesOn (OnCurrent (Exchanges read sent false)) recorded_before recorded_after
   pub front : (start : Start) (was_fed was_sent : List ℕ) → stands before start was_fed was_sent → SendsFront (says start) (was_fed ++ read) (was_sent ++ sent)
 
 -- how the talk and the door have gone on where a call failed
-abbrev pub TalksFailed : {T Start : Type 0} → (T → Start → List ℕ → List ℕ → Type 0) → (Start → List ℕ → Said → Type 0) → DoorFail → T → T → Option DoorTold → Option DoorTold → Type 0
-TalksFailed stands says Failed before after told_before told_after = Agrees stands true before after told_before told_after
-TalksFailed stands says NoMemory before after told_before told_after = Halts stands says before told_before told_after
+abbrev pub TalksFailed : {T Start : Type 0} → (T → Start → List ℕ → List ℕ → Type 0) → (Start → List ℕ → Said → Type 0) → DoorFail → T → T → Option DoorRecorded → Option DoorRecorded → Type 0
+TalksFailed stands says Failed before after recorded_before recorded_after = Agrees stands true before after recorded_before recorded_after
+TalksFailed stands says NoMemory before after recorded_before recorded_after = Halts stands says before recorded_before recorded_after
 
 -- how the talk and the door have gone on, by how a part of serving ended
-abbrev pub Talks : {T Start A : Type 0} → (T → Start → List ℕ → List ℕ → Type 0) → (Start → List ℕ → Said → Type 0) → Result A DoorFail → T → T → Option DoorTold → Option DoorTold → Type 0
-Talks stands says (Ok _) before after told_before told_after = Agrees stands false before after told_before told_after
-Talks stands says (Err fail) before after told_before told_after = TalksFailed stands says fail before after told_before told_after
+abbrev pub Talks : {T Start A : Type 0} → (T → Start → List ℕ → List ℕ → Type 0) → (Start → List ℕ → Said → Type 0) → Result A DoorFail → T → T → Option DoorRecorded → Option DoorRecorded → Type 0
+Talks stands says (Ok _) before after recorded_before recorded_after = Agrees stands false before after recorded_before recorded_after
+Talks stands says (Err fail) before after recorded_before recorded_after = TalksFailed stands says fail before after recorded_before recorded_after
 
 -- nothing is to come on the current connection, where that is recorded
-abbrev pub NothingToCome : Option DoorTold → Type 0
-NothingToCome told = IfSome told (λ (t : DoorTold). IfSome t.current (λ (wire : Wire). wire.to_come ≡ []))
+abbrev pub NothingToCome : Option DoorRecorded → Type 0
+NothingToCome recorded = IfSome recorded (λ (t : DoorRecorded). IfSome t.current (λ (wire : Wire). wire.to_come ≡ []))
 
 -- all that was said is sent, and the input has ended or the talk has
-pub record IsServed (talk : TalkSeen) (told : Option DoorTold) : Type 0 where
+pub record IsServed (talk : TalkSeen) (recorded : Option DoorRecorded) : Type 0 where
   pub all_sent : talk.pending ≡ []
-  pub ended : NothingToCome told ⊎ (talk.ended ≡ true)
+  pub ended : NothingToCome recorded ⊎ (talk.ended ≡ true)
 
 -- what the talk says from a start for what was read: the bytes sent, and those that are pending
 pub record Serves {T Start : Type 0} (stands : T → Start → List ℕ → List ℕ → Type 0) (says : Start → List ℕ → Said → Type 0) (failed : Bool) (before after : T) (seen_after : TalkSeen)
-    (told_before told_after : Option DoorTold) : Type 0 where
+    (recorded_before recorded_after : Option DoorRecorded) : Type 0 where
   pub fed : List ℕ
   pub sent : List ℕ
   pub talk : Carries stands before after fed sent
-  pub door : GoesOn (OnCurrent (Exchanges fed sent failed)) told_before told_after
+  pub door : GoesOn (OnCurrent (Exchanges fed sent failed)) recorded_before recorded_after
   pub output : (start : Start) → stands before start [] [] → says start fed (record { output = sent ++ seen_after.pending; requests = seen_after.requests; ended = seen_after.ended })

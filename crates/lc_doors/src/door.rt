@@ -37,7 +37,7 @@ pub trait Door {
     /// Opens the door at a port.
     fn listen(&mut self, port: u16) -> Result<(), DoorFail>
         ensures listens { (seen self.new).listens ≡ listens_after result (seen self.old).listens }
-        ensures told { GoesOn (Listens port result) (seen self.old).told (seen self.new).told }
+        ensures recorded { GoesOn (Listens port result) (seen self.old).recorded (seen self.new).recorded }
         ensures faults { HasCause (seen self.old).faults (seen self.new).faults (IsErrOf result Failed) }
         ensures connected { (seen self.new).connected ≡ (seen self.old).connected }
         ensures broken { (seen self.new).broken ≡ (seen self.old).broken };
@@ -46,7 +46,7 @@ pub trait Door {
     fn next(&mut self) -> Result<Next, DoorFail>
         requires { IsTrue (seen self.old).listens }
         ensures connected { (seen self.new).connected ≡ connected_after result }
-        ensures told { GoesOn (Comes result) (seen self.old).told (seen self.new).told }
+        ensures recorded { GoesOn (Comes result) (seen self.old).recorded (seen self.new).recorded }
         ensures faults { HasCause (seen self.old).faults (seen self.new).faults (IsErrOf result Failed) }
         ensures listens { (seen self.new).listens ≡ (seen self.old).listens }
         ensures broken { (seen self.new).broken ≡ (seen self.old).broken };
@@ -56,23 +56,23 @@ pub trait Door {
     fn read(&mut self, piece: &mut [u8]) -> Result<usize, DoorFail>
         ensures at_most { IfOk result (λ n. n ≤ length piece.old) }
         ensures nobody { (seen self.old).connected ≡ false → result ≡ Ok 0 }
-        ensures told { GoesOn (OnCurrent (Reads piece.new result)) (seen self.old).told (seen self.new).told }
+        ensures recorded { GoesOn (OnCurrent (Reads piece.new result)) (seen self.old).recorded (seen self.new).recorded }
         ensures broken { HasCause (seen self.old).broken (seen self.new).broken (IsErrOf result Failed) }
-        ensures others { seen self.new ≡ record (seen self.old) { told = (seen self.new).told; broken = (seen self.new).broken } };
+        ensures others { seen self.new ≡ record (seen self.old) { recorded = (seen self.new).recorded; broken = (seen self.new).broken } };
 
     /// Sends bytes of the front of the piece to the current client, at least one of a piece that is not empty, and says how many.
     fn write(&mut self, piece: &[u8]) -> Result<usize, DoorFail>
         requires { IsTrue (seen self.old).connected }
         ensures at_most { IfOk result (λ n. n ≤ length piece.now) }
         ensures at_least { IfOk result (λ n. 0 < length piece.now → 0 < n) }
-        ensures told { GoesOn (OnCurrent (Writes piece.now result)) (seen self.old).told (seen self.new).told }
+        ensures recorded { GoesOn (OnCurrent (Writes piece.now result)) (seen self.old).recorded (seen self.new).recorded }
         ensures broken { HasCause (seen self.old).broken (seen self.new).broken (IsErrOf result Failed) }
-        ensures others { seen self.new ≡ record (seen self.old) { told = (seen self.new).told; broken = (seen self.new).broken } };
+        ensures others { seen self.new ≡ record (seen self.old) { recorded = (seen self.new).recorded; broken = (seen self.new).broken } };
 
     /// Ends the current connection.
     fn hang_up(&mut self)
-        ensures told { GoesOn (λ before after. after ≡ hung_up before) (seen self.old).told (seen self.new).told }
-        ensures others { seen self.new ≡ record (seen self.old) { connected = false; told = (seen self.new).told } };
+        ensures recorded { GoesOn (λ before after. after ≡ hung_up before) (seen self.old).recorded (seen self.new).recorded }
+        ensures others { seen self.new ≡ record (seen self.old) { connected = false; recorded = (seen self.new).recorded } };
 
     /// How often `read` or `write` has failed.
     fn broken(&self) -> u64
@@ -82,5 +82,5 @@ pub trait Door {
     fn faults(&self) -> u64
         ensures { result ≡ (seen self.now).faults };
 
-    ghost agrees: { (door : Self) → IfSome (seen door).told (AgreesWith (seen door).listens (seen door).connected) };
+    ghost agrees: { (door : Self) → IfSome (seen door).recorded (AgreesWith (seen door).listens (seen door).connected) };
 }

@@ -4,7 +4,7 @@ ghost use Rattle.lc_io.specs.Counts.{Counts, HasCause, one_more};
 ghost use Rattle.lc_doors.specs.Door.{Comes, GoesOn, Listens, OnCurrent, Reads, Writes, connected_after, hung_up, listens_after};
 ghost use Rattle.lc_doors.specs.MemDoor.{FailsNext, MemDoorState};
 ghost use Rattle.lc_doors.specs.MemWire.{MemWireState, ReadsPiece};
-ghost use Rattle.lc_doors.specs.MemWires.{ComesTo, came, let_go, opened_for, told_of};
+ghost use Rattle.lc_doors.specs.MemWires.{ComesTo, came, let_go, opened_for, recorded_of};
 ghost use Rattle.lc_doors.specs.declared.door.DoorFail.TheVariants.{Failed};
 
 use crate::mem_wires::MemWires;
@@ -108,7 +108,7 @@ impl MemDoor {
 
 impl Door for MemDoor {
     ghost use Rattle.lc_doors.specs.MemDoor.{MemDoorState};
-    ghost use Rattle.lc_doors.specs.MemWires.{seen_of, told_agrees};
+    ghost use Rattle.lc_doors.specs.MemWires.{seen_of, recorded_agrees};
 
     ghost seen = { λ d. seen_of d.wires d.faults d.broken };
 
@@ -118,7 +118,7 @@ impl Door for MemDoor {
         ensures opens { OnOk result (self.new ≡ record self.old { wires = record self.old.wires { port = Some port }; calls = one_more self.old.calls }) }
         ensures fails { OnErr result (self.new ≡ record self.old { calls = one_more self.old.calls; faults = one_more self.old.faults }) }
         ensures listens { is_some self.new.wires.port ≡ listens_after result (is_some self.old.wires.port) }
-        ensures told { Listens port result (told_of self.old.wires) (told_of self.new.wires) }
+        ensures recorded { Listens port result (recorded_of self.old.wires) (recorded_of self.new.wires) }
         ensures faults { HasCause self.old.faults self.new.faults (IsErrOf result Failed) }
         ensures connected { is_some self.new.wires.current ≡ is_some self.old.wires.current }
         ensures broken { self.new.broken ≡ self.old.broken }
@@ -136,7 +136,7 @@ impl Door for MemDoor {
         ensures others { self.new ≡ record self.old { wires = self.new.wires; calls = one_more self.old.calls; faults = self.new.faults } }
         ensures each_fault { Counts self.old.faults self.new.faults (IsErrOf result Failed) }
         ensures connected { is_some self.new.wires.current ≡ connected_after result }
-        ensures told { Comes result (told_of self.old.wires) (told_of self.new.wires) }
+        ensures recorded { Comes result (recorded_of self.old.wires) (recorded_of self.new.wires) }
         ensures faults { HasCause self.old.faults self.new.faults (IsErrOf result Failed) }
         ensures listens { is_some self.new.wires.port ≡ is_some self.old.wires.port }
         ensures broken { self.new.broken ≡ self.old.broken }
@@ -161,7 +161,7 @@ impl Door for MemDoor {
         ensures each_fault { Counts self.old.broken self.new.broken (IsErrOf result Failed) }
         ensures at_most { IfOk result (λ n. n ≤ length piece.old) }
         ensures nobody { is_some self.old.wires.current ≡ false → result ≡ Ok 0 }
-        ensures told { OnCurrent (Reads piece.new result) (told_of self.old.wires) (told_of self.new.wires) }
+        ensures recorded { OnCurrent (Reads piece.new result) (recorded_of self.old.wires) (recorded_of self.new.wires) }
         ensures broken { HasCause self.old.broken self.new.broken (IsErrOf result Failed) }
     {
         if self.fails_now() && self.wires.is_connected() {
@@ -180,7 +180,7 @@ impl Door for MemDoor {
         ensures each_fault { Counts self.old.broken self.new.broken (IsErrOf result Failed) }
         ensures at_most { IfOk result (λ n. n ≤ length piece.now) }
         ensures at_least { IfOk result (λ n. 0 < length piece.now → 0 < n) }
-        ensures told { OnCurrent (Writes piece.now result) (told_of self.old.wires) (told_of self.new.wires) }
+        ensures recorded { OnCurrent (Writes piece.now result) (recorded_of self.old.wires) (recorded_of self.new.wires) }
         ensures broken { HasCause self.old.broken self.new.broken (IsErrOf result Failed) }
     {
         if self.fails_now() {
@@ -191,7 +191,7 @@ impl Door for MemDoor {
 
     fn hang_up(&mut self)
         ensures hung_up { self.new ≡ record self.old { wires = let_go self.old.wires } }
-        ensures told { told_of self.new.wires ≡ hung_up (told_of self.old.wires) }
+        ensures recorded { recorded_of self.new.wires ≡ hung_up (recorded_of self.old.wires) }
     {
         self.wires.hang_up()
     }
@@ -204,5 +204,5 @@ impl Door for MemDoor {
         self.faults
     }
 
-    ghost agrees = { λ d. told_agrees d.wires };
+    ghost agrees = { λ d. recorded_agrees d.wires };
 }

@@ -22,11 +22,11 @@ const PIECE: usize = 65_536;
 /// Sends all that is pending.
 fn send_all<T: Talk, D: Door>(talk: &mut T, door: &mut D) -> Result<(), DoorFail>
     requires { IsTrue (D.seen door.old).connected }
-    ensures talks { Talks T.stands T.says result talk.old talk.new (D.seen door.old).told (D.seen door.new).told }
+    ensures talks { Talks T.stands T.says result talk.old talk.new (D.seen door.old).recorded (D.seen door.new).recorded }
     ensures all { OnOk result ((T.seen talk.new).pending ≡ []) }
     ensures same { T.seen talk.new ≡ record (T.seen talk.old) { pending = (T.seen talk.new).pending } }
     ensures broken { HasCause (D.seen door.old).broken (D.seen door.new).broken (IsErrOf result Failed) }
-    ensures others { D.seen door.new ≡ record (D.seen door.old) { told = (D.seen door.new).told; broken = (D.seen door.new).broken } }
+    ensures others { D.seen door.new ≡ record (D.seen door.old) { recorded = (D.seen door.new).recorded; broken = (D.seen door.new).broken } }
 {
     'sending: while !talk.pending().is_empty() {
         let count = door.write(talk.pending())?;
@@ -44,11 +44,11 @@ fn hear<T: Talk, D: Door>(
 ) -> Result<bool, DoorFail>
     requires none_pending { (T.seen talk.old).pending ≡ [] }
     requires room { 0 < length piece.old }
-    ensures talks { Talks T.stands T.says result talk.old talk.new (D.seen door.old).told (D.seen door.new).told }
+    ensures talks { Talks T.stands T.says result talk.old talk.new (D.seen door.old).recorded (D.seen door.new).recorded }
     ensures fed { IfOk result (λ more. IsTrue more → (T.seen talk.new).ended ≡ false → (T.seen talk.old).count < (T.seen talk.new).count) }
-    ensures ended { IfOk result (λ more. ¬ IsTrue more → NothingToCome (D.seen door.new).told × (T.seen talk.new ≡ T.seen talk.old)) }
+    ensures ended { IfOk result (λ more. ¬ IsTrue more → NothingToCome (D.seen door.new).recorded × (T.seen talk.new ≡ T.seen talk.old)) }
     ensures broken { HasCause (D.seen door.old).broken (D.seen door.new).broken (IsErrOf result Failed) }
-    ensures others { D.seen door.new ≡ record (D.seen door.old) { told = (D.seen door.new).told; broken = (D.seen door.new).broken } }
+    ensures others { D.seen door.new ≡ record (D.seen door.old) { recorded = (D.seen door.new).recorded; broken = (D.seen door.new).broken } }
 {
     let count = door.read(piece)?;
     if count == 0 {
@@ -67,10 +67,10 @@ fn converse<T: Talk, D: Door>(
 ) -> Result<(), DoorFail>
     requires connected { IsTrue (D.seen door.old).connected }
     requires room { 0 < length piece.old }
-    ensures talks { Talks T.stands T.says result talk.old talk.new (D.seen door.old).told (D.seen door.new).told }
-    ensures served { OnOk result (IsServed (T.seen talk.new) (D.seen door.new).told) }
+    ensures talks { Talks T.stands T.says result talk.old talk.new (D.seen door.old).recorded (D.seen door.new).recorded }
+    ensures served { OnOk result (IsServed (T.seen talk.new) (D.seen door.new).recorded) }
     ensures broken { HasCause (D.seen door.old).broken (D.seen door.new).broken (IsErrOf result Failed) }
-    ensures others { D.seen door.new ≡ record (D.seen door.old) { told = (D.seen door.new).told; broken = (D.seen door.new).broken } }
+    ensures others { D.seen door.new ≡ record (D.seen door.old) { recorded = (D.seen door.new).recorded; broken = (D.seen door.new).broken } }
 {
     'turns: loop {
         send_all(talk, door)?;
@@ -90,10 +90,10 @@ fn converse_in_pieces<T: Talk, D: Door>(
     door: &mut D,
 ) -> Result<(), DoorFail>
     requires { IsTrue (D.seen door.old).connected }
-    ensures talks { Talks T.stands T.says result talk.old talk.new (D.seen door.old).told (D.seen door.new).told }
-    ensures served { OnOk result (IsServed (T.seen talk.new) (D.seen door.new).told) }
+    ensures talks { Talks T.stands T.says result talk.old talk.new (D.seen door.old).recorded (D.seen door.new).recorded }
+    ensures served { OnOk result (IsServed (T.seen talk.new) (D.seen door.new).recorded) }
     ensures broken { HasCause (D.seen door.old).broken (D.seen door.new).broken (IsErrOf result Failed) }
-    ensures others { D.seen door.new ≡ record (D.seen door.old) { told = (D.seen door.new).told; broken = (D.seen door.new).broken } }
+    ensures others { D.seen door.new ≡ record (D.seen door.old) { recorded = (D.seen door.new).recorded; broken = (D.seen door.new).broken } }
 {
     let Ok(mut piece) = vec![in alloc; 0u8; PIECE] else {
         return Err(DoorFail::NoMemory);
@@ -111,16 +111,16 @@ pub fn serve_one<T: Talk, D: Door>(
     requires { IsTrue (D.seen door.old).connected }
 
     // What was read was fed to the talk, and what was sent is a front of what it says.
-    ensures serves { IfOk result (λ served. Serves T.stands T.says served.fault talk.old talk.new (T.seen talk.new) (D.seen door.old).told (D.seen door.new).told) }
+    ensures serves { IfOk result (λ served. Serves T.stands T.says served.fault talk.old talk.new (T.seen talk.new) (D.seen door.old).recorded (D.seen door.new).recorded) }
 
     // Without a fault all of it is sent, and the input or the talk has ended.
-    ensures served { IfOk result (λ served. ¬ IsTrue served.fault → IsServed (T.seen talk.new) (D.seen door.new).told) }
+    ensures served { IfOk result (λ served. ¬ IsTrue served.fault → IsServed (T.seen talk.new) (D.seen door.new).recorded) }
     ensures requests { IfOk result (λ served. served.requests ≡ (T.seen talk.new).requests) }
-    ensures out_of_memory { OnErr result (Halts T.stands T.says talk.old (D.seen door.old).told (D.seen door.new).told) }
+    ensures out_of_memory { OnErr result (Halts T.stands T.says talk.old (D.seen door.old).recorded (D.seen door.new).recorded) }
     ensures broken { HasCause (D.seen door.old).broken (D.seen door.new).broken (IsOkAnd result (λ served. IsTrue served.fault)) }
 
     // The door listens as before, and the connection is not hung up.
-    ensures others { D.seen door.new ≡ record (D.seen door.old) { told = (D.seen door.new).told; broken = (D.seen door.new).broken } }
+    ensures others { D.seen door.new ≡ record (D.seen door.old) { recorded = (D.seen door.new).recorded; broken = (D.seen door.new).broken } }
 {
     let fault = match converse_in_pieces(alloc, talk, door) {
         Ok(()) => false,

@@ -3,7 +3,7 @@ ghost use Rattle.std.specs.Option.{is_some, option_map};
 ghost use Rattle.lc_io.specs.Counts.{HasCause};
 ghost use Rattle.lc_doors.specs.Door.{Comes, GoesOn, Listens, OnCurrent, Reads, Writes, connected_after, hung_up, listens_after};
 ghost use Rattle.lc_doors.specs.MemWire.{MemWireState, ReadsPiece};
-ghost use Rattle.lc_doors.specs.MemWires.{ComesTo, came, let_go, opened_for, told_of};
+ghost use Rattle.lc_doors.specs.MemWires.{ComesTo, came, let_go, opened_for, recorded_of};
 ghost use Rattle.lc_doors.specs.declared.door.DoorFail.TheVariants.{Failed};
 
 use crate::mem_wires::MemWires;
@@ -61,7 +61,7 @@ impl SureDoor {
 }
 
 impl Door for SureDoor {
-    ghost use Rattle.lc_doors.specs.MemWires.{seen_of, told_agrees};
+    ghost use Rattle.lc_doors.specs.MemWires.{seen_of, recorded_agrees};
 
     ghost seen = { λ d. seen_of d 0 0 };
 
@@ -69,7 +69,7 @@ impl Door for SureDoor {
         ensures always { IsOk result }
         ensures opens { self.new ≡ record self.old { port = Some port } }
         ensures listens { is_some self.new.port ≡ listens_after result (is_some self.old.port) }
-        ensures told { Listens port result (told_of self.old) (told_of self.new) }
+        ensures recorded { Listens port result (recorded_of self.old) (recorded_of self.new) }
         ensures faults { HasCause 0 0 (IsErrOf result Failed) }
         ensures connected { is_some self.new.current ≡ is_some self.old.current }
     {
@@ -81,7 +81,7 @@ impl Door for SureDoor {
         ensures never { IsErrOf result Failed → ⊥ }
         ensures comes { ComesTo result self.old self.new }
         ensures connected { is_some self.new.current ≡ connected_after result }
-        ensures told { Comes result (told_of self.old) (told_of self.new) }
+        ensures recorded { Comes result (recorded_of self.old) (recorded_of self.new) }
         ensures faults { HasCause 0 0 (IsErrOf result Failed) }
         ensures listens { is_some self.new.port ≡ is_some self.old.port }
     {
@@ -95,7 +95,7 @@ impl Door for SureDoor {
         ensures at_most { IfOk result (λ n. n ≤ length piece.old) }
         ensures untouched { self.old.current ≡ None → piece.new ≡ piece.old }
         ensures nobody { is_some self.old.current ≡ false → result ≡ Ok 0 }
-        ensures told { OnCurrent (Reads piece.new result) (told_of self.old) (told_of self.new) }
+        ensures recorded { OnCurrent (Reads piece.new result) (recorded_of self.old) (recorded_of self.new) }
         ensures broken { HasCause 0 0 (IsErrOf result Failed) }
     {
         Ok(self.wires.read(piece))
@@ -108,7 +108,7 @@ impl Door for SureDoor {
         ensures no_memory { OnErr result (self.new ≡ self.old) }
         ensures at_most { IfOk result (λ n. n ≤ length piece.now) }
         ensures at_least { IfOk result (λ n. 0 < length piece.now → 0 < n) }
-        ensures told { OnCurrent (Writes piece.now result) (told_of self.old) (told_of self.new) }
+        ensures recorded { OnCurrent (Writes piece.now result) (recorded_of self.old) (recorded_of self.new) }
         ensures broken { HasCause 0 0 (IsErrOf result Failed) }
     {
         self.wires.write(piece)
@@ -116,7 +116,7 @@ impl Door for SureDoor {
 
     fn hang_up(&mut self)
         ensures hung_up { self.new ≡ let_go self.old }
-        ensures told { told_of self.new ≡ hung_up (told_of self.old) }
+        ensures recorded { recorded_of self.new ≡ hung_up (recorded_of self.old) }
     {
         self.wires.hang_up()
     }
@@ -129,5 +129,5 @@ impl Door for SureDoor {
         0
     }
 
-    ghost agrees = { told_agrees };
+    ghost agrees = { recorded_agrees };
 }

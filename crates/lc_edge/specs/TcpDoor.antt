@@ -11,4 +11,4 @@ pub record TcpDoorState : Type 0 where
 
 -- a door of sockets records nothing of what comes and goes
 abbrev pub seen_of : TcpDoorState → DoorSeen
-seen_of door = record { listens = door.listens; connected = door.connected; told = None; faults = door.faults; broken = door.broken }
+seen_of door = record { listens = door.listens; connected = door.connected; recorded = None; faults = door.faults; broken = door.broken }

@@ -8,4 +8,4 @@ pub record TcpLinkState : Type 0 where
 
 -- A link of sockets tells no side and no exchanges, is honest for no base, and leaves an answer that is handed on as it is.
 abbrev pub seen_of : TcpLinkState → LinkSeen
-seen_of link = record { side = None; told = None; honest = λ _. ⊥; quiet = λ _. ⊥; clear = Unit {0}; still = Unit {0}; faults = link.faults }
+seen_of link = record { side = None; recorded = None; honest = λ _. ⊥; quiet = λ _. ⊥; clear = Unit {0}; still = Unit {0}; faults = link.faults }

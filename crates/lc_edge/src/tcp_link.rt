@@ -65,7 +65,7 @@ impl<R: Net> Link for TcpLink<'_, R> {
         ensures each_fault { Counts self.old.faults self.new.faults (IsErrOf result Failed) }
         ensures honest { (base : BaseParts) (side : Side) → IsGet request.now → IsHonestWith (seen_of self.old) base side
             → Exchanges (seen_of self.old) (seen_of self.new) base side request.now reply.new.items result }
-        ensures told { Tells None None authority.now request.now reply.new.items result }
+        ensures recorded { Tells None None authority.now request.now reply.new.items result }
         ensures empty { OnErr result (reply.new.items ≡ []) }
         ensures faults { HasCause self.old.faults self.new.faults (IsErrOf result Failed) }
     {
@@ -87,7 +87,7 @@ impl<R: Net> Link for TcpLink<'_, R> {
         ensures passes { result ≡ Ok tt }
         ensures same { self.new ≡ self.old }
         ensures answer { OnOk result (Unit {0} → reply.new.items ≡ reply.old.items) }
-        ensures told { Tells None None authority.now request.now reply.new.items result }
+        ensures recorded { Tells None None authority.now request.now reply.new.items result }
         ensures empty { OnErr result (reply.new.items ≡ []) }
         ensures faults { HasCause self.old.faults self.new.faults (IsErrOf result Failed) }
     {

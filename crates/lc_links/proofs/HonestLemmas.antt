@@ -15,24 +15,24 @@ abbrev pub Stays : {T : Type 0} → BaseParts → Side → Side → List ℕ →
 Stays base before after request reply result = StaysHonest base before (Unit {0}) (Some after) (Unit {0}) (Unit {0}) request reply result
 
 abbrev pub Honest : BaseParts → Side → Side → Type 0
-Honest base told side = IsHonest (Some told) (Unit {0}) base side
+Honest base recorded side = IsHonest (Some recorded) (Unit {0}) base side
 
--- the side that is told is the one with which the link is honest
-told_side : (base : BaseParts) (told side : Side) → Honest base told side → told ≡ side
-told_side base told side honest = ap (λ (o : Option Side). unwrap_or o told) honest.tells
+-- the side that is recorded is the one with which the link is honest
+recorded_side : (base : BaseParts) (recorded side : Side) → Honest base recorded side → recorded ≡ side
+recorded_side base recorded side honest = ap (λ (o : Option Side). unwrap_or o recorded) honest.tells
 
 -- a link whose side stays is honest with it
 pub side_stays : {T : Type 0} (base : BaseParts) (side before after : Side) (request reply : List ℕ) (result : Result T LinkFail) → Honest base before side
     → after ≡ before → OnOk result (IsReply before request reply) → Stays base side after request reply result
 side_stays {T} base side before after request reply result honest same replied =
-    let told : before ≡ side = told_side base before side honest in
+    let recorded : before ≡ side = recorded_side base before side honest in
     let P : Side → Type 0 = λ s. Stays base side s request reply result in
     let Q : Side → Type 0 = λ s. OnOk result (IsReply s request reply) in
-    subst P (sym (same ∙ told)) record {
+    subst P (sym (same ∙ recorded)) record {
       side = side;
       honest = record { tells = refl; stands = honest.stands; honest = tt };
       later = later_itself side;
-      replied = subst Q told replied;
+      replied = subst Q recorded replied;
       same = λ _. refl;
       quiet = λ _. tt;
     }
@@ -76,9 +76,9 @@ not_handed_on base side after clear request reply fail other stays is = record {
 }
 
 -- a link that a call has not reached is as honest as before
-pub not_reached : {T : Type 0} (base : BaseParts) (side : Side) (told : Option Side) (said quiet : Type 0) (request reply : List ℕ) (fail : LinkFail)
-    → IsHonest told said base side → StaysHonest {T = T} base side quiet told said quiet request reply (Err fail)
-not_reached base side told said quiet request reply fail honest = record {
+pub not_reached : {T : Type 0} (base : BaseParts) (side : Side) (recorded : Option Side) (said quiet : Type 0) (request reply : List ℕ) (fail : LinkFail)
+    → IsHonest recorded said base side → StaysHonest {T = T} base side quiet recorded said quiet request reply (Err fail)
+not_reached base side recorded said quiet request reply fail honest = record {
   side = side;
   honest = honest;
   later = later_itself side;
@@ -88,9 +88,9 @@ not_reached base side told said quiet request reply fail honest = record {
 }
 
 -- after an error what stands in the reply is nothing
-pub without_reply : {T : Type 0} (base : BaseParts) (side : Side) (was_quiet : Type 0) (told : Option Side) (said quiet : Type 0) (request reply other : List ℕ) (fail now : LinkFail)
-    → StaysHonest {T = T} base side was_quiet told said quiet request reply (Err fail) → StaysHonest {T = T} base side was_quiet told said quiet request other (Err now)
-without_reply base side was_quiet told said quiet request reply other fail now stays = record {
+pub without_reply : {T : Type 0} (base : BaseParts) (side : Side) (was_quiet : Type 0) (recorded : Option Side) (said quiet : Type 0) (request reply other : List ℕ) (fail now : LinkFail)
+    → StaysHonest {T = T} base side was_quiet recorded said quiet request reply (Err fail) → StaysHonest {T = T} base side was_quiet recorded said quiet request other (Err now)
+without_reply base side was_quiet recorded said quiet request reply other fail now stays = record {
   side = stays.side;
   honest = stays.honest;
   later = stays.later;

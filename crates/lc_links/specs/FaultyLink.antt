@@ -12,12 +12,12 @@ pub record FaultyLinkState (L : Type 0) : Type 0 where
   pub calls : ℕ
   pub faults : ℕ
 
--- the exchange has reached a link, which has told it, where it tells, and has failed, if it has
-pub record HasReached {T : Type 0} (told : Type 0) (before_faults after_faults : ℕ) (result : Result T LinkFail) : Type 0 where
-  pub tells : told
+-- the exchange has reached a link, which has recorded it, where it tells, and has failed, if it has
+pub record HasReached {T : Type 0} (recorded : Type 0) (before_faults after_faults : ℕ) (result : Result T LinkFail) : Type 0 where
+  pub tells : recorded
   pub has_cause : HasCause before_faults after_faults (IsErrOf result Failed)
 
 -- an exchange of a link, as it is seen before and after
 abbrev pub Reaches : {T : Type 0} → LinkSeen → LinkSeen → List ℕ → List ℕ → List ℕ → Result T LinkFail → Type 0
 Reaches before after authority request reply result =
-    HasReached (Tells before.told after.told authority request reply result) before.faults after.faults result
+    HasReached (Tells before.recorded after.recorded authority request reply result) before.faults after.faults result

@@ -6,5 +6,5 @@ use Rattle.publisher.specs.Held.{Held}
 -- what the publisher has, the exchanges without their replies, and how often an exchange was asked for
 pub record LocalLinkState (G : Type 0) : Type 0 where
   pub publisher : Held G
-  pub told : List Entry
+  pub recorded : List Entry
   pub asked : ℕ

@@ -36,7 +36,7 @@ impl Link for ClosedLink {
     /// It tells no side and no exchanges.
     ghost seen = { λ c. record {
       side = None;
-      told = None;
+      recorded = None;
       honest = λ _. ⊥;
       quiet = λ _. ⊥;
       clear = Unit {0};

@@ -67,7 +67,7 @@ impl<L: Link> Link for FaultyLink<L> {
     /// It tells the side of the other link, and no exchanges.
     ghost seen = { λ f. record {
       side = (L.seen f.inner).side;
-      told = None;
+      recorded = None;
       honest = (L.seen f.inner).honest;
       quiet = (L.seen f.inner).quiet;
       clear = (L.seen f.inner).clear;
@@ -93,7 +93,7 @@ impl<L: Link> Link for FaultyLink<L> {
         ensures clear { (L.seen self.old.inner).clear → (L.seen self.new.inner).clear }
         ensures still { (L.seen self.old.inner).still → (L.seen self.new.inner).still }
         ensures side { (L.seen self.old.inner).still → IsGet request.now → (L.seen self.new.inner).side ≡ (L.seen self.old.inner).side }
-        ensures told { Tells None None authority.now request.now reply.new.items result }
+        ensures recorded { Tells None None authority.now request.now reply.new.items result }
         ensures empty { OnErr result (reply.new.items ≡ []) }
         ensures faults { HasCause self.old.faults self.new.faults (IsErrOf result Failed) }
     {
@@ -130,7 +130,7 @@ impl<L: Link> Link for FaultyLink<L> {
         ensures answer { OnOk result ((L.seen self.old.inner).clear → reply.new.items ≡ reply.old.items) }
         ensures clear { (L.seen self.old.inner).clear → (L.seen self.new.inner).clear }
         ensures still { (L.seen self.old.inner).still → (L.seen self.new.inner).still }
-        ensures told { Tells None None authority.now request.now reply.new.items result }
+        ensures recorded { Tells None None authority.now request.now reply.new.items result }
         ensures empty { OnErr result (reply.new.items ≡ []) }
         ensures faults { HasCause self.old.faults self.new.faults (IsErrOf result Failed) }
     {

@@ -60,7 +60,7 @@ impl<G: Fragmenter + Drop, L: Link> Link for HomeLink<G, L> {
     /// side stays at a GET whatever the outer link does.
     ghost seen = { λ h. record {
       side = Some (side_of G.cuts_of h.local.publisher);
-      told = (L.seen h.outer).told;
+      recorded = (L.seen h.outer).recorded;
       honest = λ _. (L.seen h.outer).clear;
       quiet = λ _. (L.seen h.outer).clear;
       clear = (L.seen h.outer).clear;

@@ -21,7 +21,7 @@ use std::marker::Model;
 #[derive(Drop)]
 pub struct LocalLink<G: Fragmenter + Drop> {
     publisher: Publisher<G>,
-    told: Vec<Entry>,
+    recorded: Vec<Entry>,
     asked: u64,
 }
 
@@ -30,7 +30,7 @@ impl<G: Fragmenter + Drop> Model for LocalLink<G> {
 
     ghost Value = { LocalLinkState G };
 
-    ghost view = { λ l. record { publisher = l.publisher; told = l.told.items; asked = l.asked } };
+    ghost view = { λ l. record { publisher = l.publisher; recorded = l.recorded.items; asked = l.asked } };
 }
 
 impl<G: Fragmenter + Drop> LocalLink<G> {
@@ -40,11 +40,11 @@ impl<G: Fragmenter + Drop> LocalLink<G> {
 
     /// A link to the publisher, by which nothing was asked.
     pub fn new(alloc: Global, publisher: Publisher<G>) -> Result<LocalLink<G>, NoMemory>
-        ensures { IfOk result (λ link. link ≡ record { publisher = publisher; told = []; asked = 0 }) }
+        ensures { IfOk result (λ link. link ≡ record { publisher = publisher; recorded = []; asked = 0 }) }
     {
         Ok(LocalLink {
             publisher,
-            told: Vec::new(alloc),
+            recorded: Vec::new(alloc),
             asked: 0,
         })
     }
@@ -66,10 +66,10 @@ impl<G: Fragmenter + Drop> LocalLink<G> {
     }
 
     /// The exchanges, without their replies, in their order.
-    pub fn told(&self) -> &[Entry]
-        ensures { result.now ≡ self.now.told }
+    pub fn recorded(&self) -> &[Entry]
+        ensures { result.now ≡ self.now.recorded }
     {
-        self.told.as_slice()
+        self.recorded.as_slice()
     }
 
     /// The publisher's answer, and nothing to what is no whole request.
@@ -84,13 +84,13 @@ impl<G: Fragmenter + Drop> LocalLink<G> {
             → IsNextSide (side_of G.cuts_of self.old.publisher) request.now (side_of G.cuts_of self.new.publisher)) }
         ensures nothing { IfOk result (λ reply. ¬ IsWhole request.now → (reply.items ≡ []) × (self.new.publisher ≡ self.old.publisher)) }
         ensures unchanged { OnErr result (self.new.publisher ≡ self.old.publisher) }
-        ensures told { OnOk result (self.new.told ≡ self.old.told ++ asked_entry authority.now request.now ∷ []) }
-        ensures told_or_not { OnErr result ((self.new.told ≡ self.old.told)
-            ⊎ (self.new.told ≡ self.old.told ++ asked_entry authority.now request.now ∷ [])) }
+        ensures recorded { OnOk result (self.new.recorded ≡ self.old.recorded ++ asked_entry authority.now request.now ∷ []) }
+        ensures recorded_or_not { OnErr result ((self.new.recorded ≡ self.old.recorded)
+            ⊎ (self.new.recorded ≡ self.old.recorded ++ asked_entry authority.now request.now ∷ [])) }
         ensures asked { self.new.asked ≡ one_more self.old.asked }
     {
         self.asked = self.asked.saturating_add(1);
-        tell(alloc, &mut self.told, authority, request)?;
+        tell(alloc, &mut self.recorded, authority, request)?;
         if !is_whole(alloc, request)? {
             return Ok(Vec::new(alloc));
         }
@@ -105,7 +105,7 @@ impl<G: Fragmenter + Drop> Link for LocalLink<G> {
     /// It tells its side, and the exchanges without their replies. Its count is always 0.
     ghost seen = { λ l. record {
       side = Some (side_of G.cuts_of l.publisher);
-      told = Some l.told;
+      recorded = Some l.recorded;
       honest = λ _. Unit {0};
       quiet = λ _. Unit {0};
       clear = Unit {0};
@@ -132,7 +132,7 @@ impl<G: Fragmenter + Drop> Link for LocalLink<G> {
             → StaysHonest base side (Unit {0}) (Some (side_of G.cuts_of self.new.publisher)) (Unit {0}) (Unit {0})
             request.now reply.new.items result }
         ensures side { IsGet request.now → side_of G.cuts_of self.new.publisher ≡ side_of G.cuts_of self.old.publisher }
-        ensures told { Tells (Some self.old.told) (Some self.new.told) authority.now request.now reply.new.items result }
+        ensures recorded { Tells (Some self.old.recorded) (Some self.new.recorded) authority.now request.now reply.new.items result }
         ensures empty { OnErr result (reply.new.items ≡ []) }
         ensures faults { HasCause 0 0 (IsErrOf result Failed) }
     {
@@ -156,14 +156,14 @@ impl<G: Fragmenter + Drop> Link for LocalLink<G> {
         request: &[u8],
         reply: &mut Vec<u8>,
     ) -> Result<(), LinkFail>
-        ensures same { self.new ≡ record self.old { told = self.new.told } }
+        ensures same { self.new ≡ record self.old { recorded = self.new.recorded } }
         ensures never { IsErrOf result Failed → ⊥ }
         ensures answer { OnOk result (reply.new.items ≡ reply.old.items) }
-        ensures told { Tells (Some self.old.told) (Some self.new.told) authority.now request.now reply.new.items result }
+        ensures recorded { Tells (Some self.old.recorded) (Some self.new.recorded) authority.now request.now reply.new.items result }
         ensures empty { OnErr result (reply.new.items ≡ []) }
         ensures faults { HasCause 0 0 (IsErrOf result Failed) }
     {
-        match tell(alloc, &mut self.told, authority, request) {
+        match tell(alloc, &mut self.recorded, authority, request) {
             Ok(()) => Ok(()),
             Err(_) => {
                 reply.clear();

@@ -5,7 +5,7 @@ ghost use Rattle.lc_links.specs.Taking.{asked_entry};
 
 use http_text::{Taken, take_request};
 use lc_model::{Bytes, NoMemory, Text};
-use lc_world::{Entry, ToldReply};
+use lc_world::{Entry, RecordedReply};
 use std::alloc::Global;
 
 /// Whether the bytes are one whole request. Linear in their first 16,384 bytes.
@@ -25,18 +25,18 @@ fn is_all(taken: Taken, length: usize) -> bool
 /// Tells an exchange without its reply. Linear in the request.
 pub(crate) fn tell(
     alloc: Global,
-    told: &mut Vec<Entry>,
+    recorded: &mut Vec<Entry>,
     authority: &str,
     request: &[u8],
 ) -> Result<(), NoMemory>
-    ensures ok { OnOk result (told.new.items ≡ told.old.items ++ asked_entry authority.now request.now ∷ []) }
-    ensures err { OnErr result (told.new.items ≡ told.old.items) }
+    ensures ok { OnOk result (recorded.new.items ≡ recorded.old.items ++ asked_entry authority.now request.now ∷ []) }
+    ensures err { OnErr result (recorded.new.items ≡ recorded.old.items) }
 {
     let entry = Entry {
         authority: Text::from_string(String::from_str(alloc, authority)?),
         request: Bytes::from_list(request.to_vec(alloc)?),
-        reply: ToldReply::Hidden,
+        reply: RecordedReply::Hidden,
     };
-    told.push(entry)?;
+    recorded.push(entry)?;
     Ok(())
 }

@@ -4,7 +4,7 @@ ghost use Rattle.std.specs.Result.{IsOk, result_err};
 ghost use Rattle.lc_model.specs.Disorder.{first_disorder};
 ghost use Rattle.lc_model.specs.Run.{InKeyOrder};
 ghost use Rattle.lc_model.specs.RunKey.{key_cmp};
-ghost use Rattle.lc_model.specs.declared.run.Run.{Run as ToldRun};
+ghost use Rattle.lc_model.specs.declared.run.Run.{Run as StatedRun};
 
 use crate::{Calls, NoMemory, PlainData, RunKey, copy_each, first_disorder};
 use std::alloc::Global;
@@ -57,7 +57,7 @@ impl Runs {
     pub fn try_from_list(list: Vec<Run>) -> Result<Runs, usize>
         ensures same { IfOk result (λ same. same ≡ list.items) }
         ensures in_order { IsOk result ↔ InKeyOrder list.items }
-        ensures disorder { result_err result ≡ first_disorder (on (λ (run : ToldRun). run.key) key_cmp) list.items }
+        ensures disorder { result_err result ≡ first_disorder (on (λ (run : StatedRun). run.key) key_cmp) list.items }
     {
         match first_disorder(list.as_slice()) {
             Some(place) => Err(place),

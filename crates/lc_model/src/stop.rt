@@ -4,7 +4,7 @@ ghost use Rattle.std.specs.Result.{IsOk, result_err};
 ghost use Rattle.lc_model.specs.Disorder.{first_disorder};
 ghost use Rattle.lc_model.specs.Stop.{HasStop, InStopOrder};
 ghost use Rattle.lc_model.specs.Text.{id_cmp};
-ghost use Rattle.lc_model.specs.declared.stop.Stop.{Stop as ToldStop};
+ghost use Rattle.lc_model.specs.declared.stop.Stop.{Stop as StatedStop};
 
 use crate::{Id, NoMemory, PlainData, Text, copy_each, first_disorder};
 use std::alloc::Global;
@@ -59,7 +59,7 @@ impl Stops {
     pub fn try_from_list(list: Vec<Stop>) -> Result<Stops, usize>
         ensures same { IfOk result (λ same. same ≡ list.items) }
         ensures in_order { IsOk result ↔ InStopOrder list.items }
-        ensures disorder { result_err result ≡ first_disorder (on (λ (stop : ToldStop). stop.id) id_cmp) list.items }
+        ensures disorder { result_err result ≡ first_disorder (on (λ (stop : StatedStop). stop.id) id_cmp) list.items }
     {
         match first_disorder(list.as_slice()) {
             Some(place) => Err(place),

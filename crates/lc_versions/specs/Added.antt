@@ -7,7 +7,7 @@ use Rattle.lc_model.specs.declared.call.Call.{Call}
 use Rattle.lc_model.specs.declared.key.RunKey.{RunKey}
 use Rattle.lc_model.specs.declared.run.Run.{Run}
 use Rattle.lc_model.specs.declared.stop.Stop.{Stop}
-use Rattle.lc_versions.specs.Live.{ToldCall, raised}
+use Rattle.lc_versions.specs.Live.{StatedCall, raised}
 use Rattle.lc_versions.specs.Naming.{is_added, is_on}
 use Rattle.lc_versions.specs.News.{StopSaid, TripSaid}
 use Rattle.lc_versions.specs.declared.event.Event.{Event}
@@ -36,12 +36,12 @@ added_call_at stop seq arr dep = record {
 }
 
 -- a call at a stop, if that is known
-abbrev pub added_known : ℕ → List ℕ → ℤ → ℤ → Bool → Option ToldCall
+abbrev pub added_known : ℕ → List ℕ → ℤ → ℤ → Bool → Option StatedCall
 added_known seq stop arr dep false = None
 added_known seq stop arr dep true = Some (record { at = added_call_at stop seq; arr = arr; dep = dep })
 
 -- a call at a stop by its times, of which one may be missing and is then the other one
-abbrev pub added_at : List Stop → ℕ → Option (List ℕ) → Option ℤ → Option ℤ → Option ToldCall
+abbrev pub added_at : List Stop → ℕ → Option (List ℕ) → Option ℤ → Option ℤ → Option StatedCall
 added_at stops seq None arr dep = None
 added_at stops seq (Some stop) None None = None
 added_at stops seq (Some stop) (Some arr) None = added_known seq stop arr arr (has_stop stops stop)
@@ -56,11 +56,11 @@ is_skipped relations.NoData = false
 
 -- The call that the news of a stop of an added trip give: none where it is SKIPPED, its stop is missing or unknown, or no
 -- time is said of it.
-abbrev pub added_call : List Stop → ℕ → StopSaid → Option ToldCall
+abbrev pub added_call : List Stop → ℕ → StopSaid → Option StatedCall
 added_call stops seq news = if is_skipped news.relation then None else added_at stops seq news.stop (time_of news.arr) (time_of news.dep)
 
 -- the calls of these news of stops, the first of which has this place in the list, from 1: the place is the sequence
-abbrev pub added_from : List Stop → ℕ → List StopSaid → List ToldCall
+abbrev pub added_from : List Stop → ℕ → List StopSaid → List StatedCall
 added_from stops seq [] = []
 added_from stops seq (news ∷ rest) = option_to_list (added_call stops seq news) ++ added_from stops (suc seq) rest
 

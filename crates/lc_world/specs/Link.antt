@@ -7,8 +7,8 @@ use Rattle.publisher_spec.specs.Reply.{IsReply}
 use Rattle.publisher_spec.specs.Short.{StandsUnder}
 use Rattle.publisher_spec.specs.Side.{IsLater, Side}
 use Rattle.lc_world.specs.declared.entry.Entry.{Entry}
-use Rattle.lc_world.specs.declared.entry.ToldReply.{ToldReply}
-use Rattle.lc_world.specs.declared.entry.ToldReply.TheVariants as told_replies
+use Rattle.lc_world.specs.declared.entry.RecordedReply.{RecordedReply}
+use Rattle.lc_world.specs.declared.entry.RecordedReply.TheVariants as recorded_replies
 use Rattle.lc_world.specs.declared.link.LinkFail.{LinkFail}
 use Rattle.lc_world.specs.declared.link.LinkFail.TheVariants.{Failed, NoMemory}
 
@@ -17,7 +17,7 @@ use Rattle.lc_world.specs.declared.link.LinkFail.TheVariants.{Failed, NoMemory}
 -- whether a GET leaves its side as it is, whatever it replies; and how often it has failed.
 pub record LinkSeen : Type 1 where
   pub side : Option Side
-  pub told : Option (List Entry)
+  pub recorded : Option (List Entry)
   pub honest : BaseParts → Type 0
   pub quiet : BaseParts → Type 0
   pub clear : Type 0
@@ -25,8 +25,8 @@ pub record LinkSeen : Type 1 where
   pub faults : ℕ
 
 -- a link that tells this side and of which this is said is honest under the base with a side that stands there
-pub record IsHonest (told : Option Side) (said : Type 0) (base : BaseParts) (side : Side) : Type 0 where
-  pub tells : told ≡ Some side
+pub record IsHonest (recorded : Option Side) (said : Type 0) (base : BaseParts) (side : Side) : Type 0 where
+  pub tells : recorded ≡ Some side
   pub stands : StandsUnder base side
   pub honest : said
 
@@ -35,8 +35,8 @@ abbrev pub IsHonestWith : LinkSeen → BaseParts → Side → Type 0
 IsHonestWith link base side = IsHonest link.side (link.honest base) base side
 
 -- and it is quiet: what is got by it leaves its side as it was
-pub record IsQuiet (told : Option Side) (said said_quiet : Type 0) (base : BaseParts) (side : Side) : Type 0 where
-  pub as_honest : IsHonest told said base side
+pub record IsQuiet (recorded : Option Side) (said said_quiet : Type 0) (base : BaseParts) (side : Side) : Type 0 where
+  pub as_honest : IsHonest recorded said base side
   pub quiet : said_quiet
 
 -- the link is quiet, with this side at its other end
@@ -51,10 +51,10 @@ pub record IsGet (bytes : List ℕ) : Type 0 where
 
 -- What an honest link with this side has become, by what it tells now and what is said of it, and whether it was quiet: it is honest
 -- with a later side, which has given the reply if there is one, and with the same side, and still quiet, if it was quiet.
-pub record StaysHonest {T : Type 0} (base : BaseParts) (before : Side) (was_quiet : Type 0) (told : Option Side) (said said_quiet : Type 0)
+pub record StaysHonest {T : Type 0} (base : BaseParts) (before : Side) (was_quiet : Type 0) (recorded : Option Side) (said said_quiet : Type 0)
     (request reply : List ℕ) (result : Result T LinkFail) : Type 0 where
   pub side : Side
-  pub honest : IsHonest told said base side
+  pub honest : IsHonest recorded said base side
   pub later : IsLater before side
   pub replied : OnOk result (IsReply side request reply)
   pub same : was_quiet → side ≡ before
@@ -65,18 +65,18 @@ abbrev pub Exchanges : {T : Type 0} → LinkSeen → LinkSeen → BaseParts → 
 Exchanges before after base side request reply result =
     StaysHonest base side (before.quiet base) after.side (after.honest base) (after.quiet base) request reply result
 
--- what is told of the reply that was given, or that there was none
-abbrev pub told_of : Option (List ℕ) → ToldReply
-told_of None = told_replies.Failed
-told_of (Some reply) = told_replies.Reply reply
+-- what is recorded of the reply that was given, or that there was none
+abbrev pub recorded_of : Option (List ℕ) → RecordedReply
+recorded_of None = recorded_replies.Failed
+recorded_of (Some reply) = recorded_replies.Reply reply
 
--- One exchange more is told, where exchanges are told: with the reply that was given, or that it failed, unless the link hides replies.
+-- One exchange more is recorded, where exchanges are recorded: with the reply that was given, or that it failed, unless the link hides replies.
 pub record TellsMore (before after : Option (List Entry)) (authority request : List ℕ) (given : Option (List ℕ)) : Type 0 where
-  pub reply : ToldReply
-  pub is_given : (reply ≡ told_replies.Hidden) ⊎ (reply ≡ told_of given)
-  pub is : after ≡ option_map (λ (told : List Entry). told ++ record { authority = authority; request = request; reply = reply } ∷ []) before
+  pub reply : RecordedReply
+  pub is_given : (reply ≡ recorded_replies.Hidden) ⊎ (reply ≡ recorded_of given)
+  pub is : after ≡ option_map (λ (recorded : List Entry). recorded ++ record { authority = authority; request = request; reply = reply } ∷ []) before
 
--- an exchange is told by how it ended; after running out of memory it may not be
+-- an exchange is recorded by how it ended; after running out of memory it may not be
 abbrev pub Tells : {T : Type 0} → Option (List Entry) → Option (List Entry) → List ℕ → List ℕ → List ℕ → Result T LinkFail → Type 0
 Tells before after authority request reply (Ok _) = TellsMore before after authority request (Some reply)
 Tells before after authority request reply (Err Failed) = TellsMore before after authority request None

@@ -3,8 +3,8 @@ use Rattle.std.specs.Prelude.{◌≡◌, ℕ, ◌+◌, List, [], ◌∷◌, ◌+
 use Rattle.std.specs.List.{slice_get}
 use Rattle.lc_io.specs.Counts.{one_more}
 use Rattle.lc_world.specs.declared.entry.Entry.{Entry}
-use Rattle.lc_world.specs.declared.entry.ToldReply.{ToldReply}
-use Rattle.lc_world.specs.declared.entry.ToldReply.TheVariants.{Failed, Reply}
+use Rattle.lc_world.specs.declared.entry.RecordedReply.{RecordedReply}
+use Rattle.lc_world.specs.declared.entry.RecordedReply.TheVariants.{Failed, Reply}
 
 -- The replies, the numbers of the calls that fail, how many replies were given, how many calls there were, the exchanges with what was
 -- replied, and how often a call has failed.
@@ -13,16 +13,16 @@ pub record ListLinkState : Type 0 where
   pub fails : List ℕ
   pub given : ℕ
   pub calls : ℕ
-  pub told : List Entry
+  pub recorded : List Entry
   pub faults : ℕ
 
 -- an exchange and what was replied
-abbrev pub entry_of : List ℕ → List ℕ → ToldReply → Entry
+abbrev pub entry_of : List ℕ → List ℕ → RecordedReply → Entry
 entry_of authority request reply = record { authority = authority; request = request; reply = reply }
 
 -- one call more, which is recorded
-abbrev pub with_call : ListLinkState → List ℕ → List ℕ → ToldReply → ListLinkState
-with_call link authority request reply = record link { calls = one_more link.calls; told = link.told ++ entry_of authority request reply ∷ [] }
+abbrev pub with_call : ListLinkState → List ℕ → List ℕ → RecordedReply → ListLinkState
+with_call link authority request reply = record link { calls = one_more link.calls; recorded = link.recorded ++ entry_of authority request reply ∷ [] }
 
 -- no reply of the list is left
 abbrev pub IsUsedUp : ListLinkState → Type 0

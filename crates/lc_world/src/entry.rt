@@ -2,7 +2,7 @@ use lc_model::{Bytes, Text};
 
 /// What a link tells of the reply to an exchange.
 #[derive(Drop)]
-pub enum ToldReply {
+pub enum RecordedReply {
     /// It does not tell whether there was one.
     Hidden,
     /// There was none: the exchange failed.
@@ -17,5 +17,5 @@ pub struct Entry {
     /// Who was asked, as `host:port`.
     pub authority: Text,
     pub request: Bytes,
-    pub reply: ToldReply,
+    pub reply: RecordedReply,
 }

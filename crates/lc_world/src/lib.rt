@@ -7,7 +7,7 @@ mod entry;
 mod link;
 mod list_link;
 
-pub use entry::{Entry, ToldReply};
+pub use entry::{Entry, RecordedReply};
 pub use lc_doors::{
     Door, DoorFail, EchoTalk, MemDoor, Next, Pieces, Served, SureDoor, Talk, serve_one,
 };

@@ -44,7 +44,7 @@ pub trait Link {
         ensures still { (seen self.old).still → (seen self.new).still }
         // Also where the link is not honest, and so whatever is replied.
         ensures side { (seen self.old).still → IsGet request.now → (seen self.new).side ≡ (seen self.old).side }
-        ensures told { Tells (seen self.old).told (seen self.new).told authority.now request.now reply.new.items result }
+        ensures recorded { Tells (seen self.old).recorded (seen self.new).recorded authority.now request.now reply.new.items result }
         ensures empty { OnErr result (reply.new.items ≡ []) }
         ensures faults { HasCause (seen self.old).faults (seen self.new).faults (IsErrOf result Failed) };
 
@@ -63,7 +63,7 @@ pub trait Link {
         ensures clear { (seen self.old).clear → (seen self.new).clear }
         ensures still { (seen self.old).still → (seen self.new).still }
         ensures answer { OnOk result ((seen self.old).clear → reply.new.items ≡ reply.old.items) }
-        ensures told { Tells (seen self.old).told (seen self.new).told authority.now request.now reply.new.items result }
+        ensures recorded { Tells (seen self.old).recorded (seen self.new).recorded authority.now request.now reply.new.items result }
         ensures empty { OnErr result (reply.new.items ≡ []) }
         ensures faults { HasCause (seen self.old).faults (seen self.new).faults (IsErrOf result Failed) };
 

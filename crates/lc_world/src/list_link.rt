@@ -2,10 +2,10 @@ ghost use Rattle.std.specs.Prelude.{◌≡◌, ◌⊎◌, ◌↔◌, [], Contain
 ghost use Rattle.lc_io.specs.Counts.{HasCause, one_more};
 ghost use Rattle.lc_world.specs.Link.{Tells};
 ghost use Rattle.lc_world.specs.ListLink.{Fails, Gives, IsListed, IsUsedUp, Keeps, with_call};
-ghost use Rattle.lc_world.specs.declared.entry.ToldReply.TheVariants.{Reply};
+ghost use Rattle.lc_world.specs.declared.entry.RecordedReply.TheVariants.{Reply};
 ghost use Rattle.lc_world.specs.declared.link.LinkFail.TheVariants.{Failed, NoMemory as OutOfMemory};
 
-use crate::{Entry, Link, LinkFail, ToldReply};
+use crate::{Entry, Link, LinkFail, RecordedReply};
 use lc_model::{Bytes, NoMemory, Text};
 use std::alloc::Global;
 use std::marker::Model;
@@ -25,7 +25,7 @@ pub struct ListLink {
     fails: Vec<u64>,
     given: usize,
     calls: u64,
-    told: Vec<Entry>,
+    recorded: Vec<Entry>,
     faults: u64,
 }
 
@@ -39,7 +39,7 @@ impl Model for ListLink {
       fails = l.fails.items;
       given = l.given;
       calls = l.calls;
-      told = l.told.items;
+      recorded = l.recorded.items;
       faults = l.faults;
     } };
 }
@@ -47,7 +47,7 @@ impl Model for ListLink {
 impl ListLink {
     /// A link of which no call fails but for want of a reply.
     pub fn new(replies: Vec<Bytes>) -> Result<ListLink, NoMemory>
-        ensures { IfOk result (λ link. link ≡ record { replies = replies.items; fails = []; given = 0; calls = 0; told = []; faults = 0 }) }
+        ensures { IfOk result (λ link. link ≡ record { replies = replies.items; fails = []; given = 0; calls = 0; recorded = []; faults = 0 }) }
     {
         let alloc = *replies.allocator();
         ListLink::with_fails(alloc, replies, Vec::new(alloc))
@@ -60,23 +60,23 @@ impl ListLink {
         replies: Vec<Bytes>,
         fails: Vec<u64>,
     ) -> Result<ListLink, NoMemory>
-        ensures { IfOk result (λ link. link ≡ record { replies = replies.items; fails = fails.items; given = 0; calls = 0; told = []; faults = 0 }) }
+        ensures { IfOk result (λ link. link ≡ record { replies = replies.items; fails = fails.items; given = 0; calls = 0; recorded = []; faults = 0 }) }
     {
         Ok(ListLink {
             replies,
             fails,
             given: 0,
             calls: 0,
-            told: Vec::new(alloc),
+            recorded: Vec::new(alloc),
             faults: 0,
         })
     }
 
     /// The exchanges, each with what was replied, in their order.
-    pub fn told(&self) -> &[Entry]
-        ensures { result.now ≡ self.now.told }
+    pub fn recorded(&self) -> &[Entry]
+        ensures { result.now ≡ self.now.recorded }
     {
-        self.told.as_slice()
+        self.recorded.as_slice()
     }
 
     /// Puts the next reply in the place of what `reply` holds, and says whether there was one. Linear in that reply.
@@ -105,7 +105,7 @@ impl ListLink {
         alloc: Global,
         authority: &str,
         request: &[u8],
-        reply: ToldReply,
+        reply: RecordedReply,
     ) -> Result<(), NoMemory>
         ensures ok { OnOk result (self.new ≡ with_call self.old authority.now request.now reply) }
         ensures err { OnErr result (self.new ≡ self.old) }
@@ -115,7 +115,7 @@ impl ListLink {
             request: Bytes::from_list(request.to_vec(alloc)?),
             reply,
         };
-        self.told.push(entry)?;
+        self.recorded.push(entry)?;
         self.calls = self.calls.saturating_add(1);
         Ok(())
     }
@@ -132,7 +132,7 @@ impl ListLink {
         ensures err { OnErr result (self.new ≡ self.old) }
     {
         let answer = Bytes::from_list(reply.to_vec(alloc)?);
-        self.tell(alloc, authority, request, ToldReply::Reply(answer))
+        self.tell(alloc, authority, request, RecordedReply::Reply(answer))
     }
 
     /// Fails at a call, unless there is no memory to record it.
@@ -141,7 +141,7 @@ impl ListLink {
         ensures no_memory { result ≡ OutOfMemory → self.new ≡ self.old }
         ensures faults { HasCause self.old.faults self.new.faults (result ≡ Failed) }
     {
-        match self.tell(alloc, authority, request, ToldReply::Failed) {
+        match self.tell(alloc, authority, request, RecordedReply::Failed) {
             Ok(()) => {
                 self.faults = self.faults.saturating_add(1);
                 LinkFail::Failed
@@ -229,7 +229,7 @@ impl Link for ListLink {
     /// It records its exchanges with their replies, and tells no side.
     ghost seen = { λ l. record {
       side = None;
-      told = Some l.told;
+      recorded = Some l.recorded;
       honest = λ _. ⊥;
       quiet = λ _. ⊥;
       clear = IsUsedUp l;
@@ -250,7 +250,7 @@ impl Link for ListLink {
         ensures cause { IsErrOf result Failed → IsListed self.old ⊎ IsUsedUp self.old }
         ensures no_memory { IsErrOf result OutOfMemory → self.new ≡ self.old }
         ensures clear { IsUsedUp self.old → IsUsedUp self.new }
-        ensures told { Tells (Some self.old.told) (Some self.new.told) authority.now request.now reply.new.items result }
+        ensures recorded { Tells (Some self.old.recorded) (Some self.new.recorded) authority.now request.now reply.new.items result }
         ensures empty { OnErr result (reply.new.items ≡ []) }
         ensures faults { HasCause self.old.faults self.new.faults (IsErrOf result Failed) }
     {
@@ -279,7 +279,7 @@ impl Link for ListLink {
         ensures listed { IsErrOf result Failed → IsListed self.old }
         ensures no_memory { IsErrOf result OutOfMemory → self.new ≡ self.old }
         ensures clear { IsUsedUp self.old → IsUsedUp self.new }
-        ensures told { Tells (Some self.old.told) (Some self.new.told) authority.now request.now reply.new.items result }
+        ensures recorded { Tells (Some self.old.recorded) (Some self.new.recorded) authority.now request.now reply.new.items result }
         ensures empty { OnErr result (reply.new.items ≡ []) }
         ensures faults { HasCause self.old.faults self.new.faults (IsErrOf result Failed) }
     {

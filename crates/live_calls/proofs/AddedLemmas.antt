@@ -23,11 +23,11 @@ use Rattle.lc_model.specs.declared.call.Call.{Call}
 use Rattle.lc_model.specs.declared.stop.Stop.{Stop}
 use Rattle.lc_model.proofs.SearchLemmas.{id_tie, same_id, sorted_from_strict}
 use Rattle.lc_versions.specs.Added.{added_at, added_call, added_call_at, added_calls, added_from, added_known, has_stop, is_skipped, time_of}
-use Rattle.lc_versions.specs.Live.{ToldCall, raised}
+use Rattle.lc_versions.specs.Live.{StatedCall, raised}
 use Rattle.lc_versions.specs.News.{StopSaid}
 use Rattle.live_calls.specs.Walk.{added_by, served_times, times_said}
-use Rattle.live_calls.specs.declared.told.Times.{Times}
-use Rattle.live_calls.proofs.ForwardLemmas.{AllPairs-nil, KeepsTimes, RiseInTold, raised_go_forward, seq_of}
+use Rattle.live_calls.specs.declared.stated.Times.{Times}
+use Rattle.live_calls.proofs.ForwardLemmas.{AllPairs-nil, KeepsTimes, RiseInStated, raised_go_forward, seq_of}
 
 at_times : (stops : List Stop) (seq : ℕ) (stop : Option (List ℕ)) (arr dep : Option ℤ) → added_at stops seq stop arr dep ≡ added_by stops seq (times_said arr dep) stop
 at_times stops seq None None None = refl
@@ -50,7 +50,7 @@ added_call-by stops seq news = by_relation stops seq news (is_skipped news.relat
 
 -- one call more
 pub added_more : (stops : List Stop) (list : List StopSaid) (place : ℕ) (news : StopSaid) (seq before before' : ℕ) (old new : List Call) (whole : List Call) → place < length list → news ≡ get_or list place news → seq ≡ suc place
-    → ((behind : List ToldCall) → old ++ raised before (option_to_list (added_by stops seq (served_times news) news.stop) ++ behind) ≡ new ++ raised before' behind)
+    → ((behind : List StatedCall) → old ++ raised before (option_to_list (added_by stops seq (served_times news) news.stop) ++ behind) ≡ new ++ raised before' behind)
     → old ++ raised before (added_from stops (place + 1) (drop place list)) ≡ whole → new ++ raised before' (added_from stops (place + 1 + 1) (drop (place + 1) list)) ≡ whole
 added_more stops list place news seq before before' old new whole inside is of pushed e =
     let rest = drop (place + 1) list in
@@ -79,38 +79,38 @@ from_keeps stops seq (news ∷ rest) =
     All-append KeepsTimes (option_to_list (added_call stops seq news)) (added_from stops (suc seq) rest)
     (subst (λ v. All KeepsTimes (option_to_list v)) (sym (added_call-by stops seq news)) (by_keeps stops seq (served_times news) news.stop)) (from_keeps stops (suc seq) rest)
 
--- each call that is told has this sequence
-abbrev HaveSeq : ℕ → List ToldCall → Type 0
-HaveSeq seq list = All (λ (t : ToldCall). seq_of t ≡ seq) list
+-- each call that is stated has this sequence
+abbrev HaveSeq : ℕ → List StatedCall → Type 0
+HaveSeq seq list = All (λ (t : StatedCall). seq_of t ≡ seq) list
 
 known_seq : (seq : ℕ) (stop : List ℕ) (arr dep : ℤ) (known : Bool) → HaveSeq seq (option_to_list (added_known seq stop arr dep known))
-known_seq seq stop arr dep false = All-nil (λ (t : ToldCall). seq_of t ≡ seq)
-known_seq seq stop arr dep true = All-cons (λ (t : ToldCall). seq_of t ≡ seq) (record { at = added_call_at stop seq; arr = arr; dep = dep }) [] refl (All-nil (λ (t : ToldCall). seq_of t ≡ seq))
+known_seq seq stop arr dep false = All-nil (λ (t : StatedCall). seq_of t ≡ seq)
+known_seq seq stop arr dep true = All-cons (λ (t : StatedCall). seq_of t ≡ seq) (record { at = added_call_at stop seq; arr = arr; dep = dep }) [] refl (All-nil (λ (t : StatedCall). seq_of t ≡ seq))
 
 by_seq : (stops : List Stop) (seq : ℕ) (times : Option Times) (stop : Option (List ℕ)) → HaveSeq seq (option_to_list (added_by stops seq times stop))
-by_seq stops seq None stop = All-nil (λ (t : ToldCall). seq_of t ≡ seq)
-by_seq stops seq (Some times) None = All-nil (λ (t : ToldCall). seq_of t ≡ seq)
+by_seq stops seq None stop = All-nil (λ (t : StatedCall). seq_of t ≡ seq)
+by_seq stops seq (Some times) None = All-nil (λ (t : StatedCall). seq_of t ≡ seq)
 by_seq stops seq (Some times) (Some stop) = known_seq seq stop times.arr times.dep (has_stop stops stop)
 
 call_seq : (stops : List Stop) (seq : ℕ) (news : StopSaid) → HaveSeq seq (option_to_list (added_call stops seq news))
 call_seq stops seq news = subst (λ v. HaveSeq seq (option_to_list v)) (sym (added_call-by stops seq news)) (by_seq stops seq (served_times news) news.stop)
 
-from_seq : (stops : List Stop) (seq : ℕ) (list : List StopSaid) → All (λ (t : ToldCall). seq ≤ seq_of t) (added_from stops seq list)
-from_seq stops seq [] = All-nil (λ (t : ToldCall). seq ≤ seq_of t)
+from_seq : (stops : List Stop) (seq : ℕ) (list : List StopSaid) → All (λ (t : StatedCall). seq ≤ seq_of t) (added_from stops seq list)
+from_seq stops seq [] = All-nil (λ (t : StatedCall). seq ≤ seq_of t)
 from_seq stops seq (news ∷ rest) =
-    All-append (λ (t : ToldCall). seq ≤ seq_of t) (option_to_list (added_call stops seq news)) (added_from stops (suc seq) rest)
-    (All-weaker (λ (t : ToldCall). seq_of t ≡ seq) (λ (t : ToldCall). seq ≤ seq_of t) (λ t e. omega (arith, e)) (option_to_list (added_call stops seq news)) (call_seq stops seq news))
-    (All-weaker (λ (t : ToldCall). suc seq ≤ seq_of t) (λ (t : ToldCall). seq ≤ seq_of t) (λ t le. omega (arith, le)) (added_from stops (suc seq) rest) (from_seq stops (suc seq) rest))
+    All-append (λ (t : StatedCall). seq ≤ seq_of t) (option_to_list (added_call stops seq news)) (added_from stops (suc seq) rest)
+    (All-weaker (λ (t : StatedCall). seq_of t ≡ seq) (λ (t : StatedCall). seq ≤ seq_of t) (λ t e. omega (arith, e)) (option_to_list (added_call stops seq news)) (call_seq stops seq news))
+    (All-weaker (λ (t : StatedCall). suc seq ≤ seq_of t) (λ (t : StatedCall). seq ≤ seq_of t) (λ t le. omega (arith, le)) (added_from stops (suc seq) rest) (from_seq stops (suc seq) rest))
 
-call_then : (seq : ℕ) (call : Option ToldCall) (list : List ToldCall) → HaveSeq seq (option_to_list call) → All (λ (t : ToldCall). suc seq ≤ seq_of t) list → RiseInTold list → RiseInTold (option_to_list call ++ list)
+call_then : (seq : ℕ) (call : Option StatedCall) (list : List StatedCall) → HaveSeq seq (option_to_list call) → All (λ (t : StatedCall). suc seq ≤ seq_of t) list → RiseInStated list → RiseInStated (option_to_list call ++ list)
 call_then seq None list here later rise = rise
 call_then seq (Some call) list here later rise =
     let is : seq_of call ≡ seq = here 0 call (omega arith) in
-    AllPairs-cons (λ (x y : ToldCall). seq_of x < seq_of y) call list
-    (All-weaker (λ (t : ToldCall). suc seq ≤ seq_of t) (λ (t : ToldCall). seq_of call < seq_of t) (λ t le. omega (arith, le, is)) list later) rise
+    AllPairs-cons (λ (x y : StatedCall). seq_of x < seq_of y) call list
+    (All-weaker (λ (t : StatedCall). suc seq ≤ seq_of t) (λ (t : StatedCall). seq_of call < seq_of t) (λ t le. omega (arith, le, is)) list later) rise
 
-from_rise : (stops : List Stop) (seq : ℕ) (list : List StopSaid) → RiseInTold (added_from stops seq list)
-from_rise stops seq [] = AllPairs-nil (λ (x y : ToldCall). seq_of x < seq_of y)
+from_rise : (stops : List Stop) (seq : ℕ) (list : List StopSaid) → RiseInStated (added_from stops seq list)
+from_rise stops seq [] = AllPairs-nil (λ (x y : StatedCall). seq_of x < seq_of y)
 from_rise stops seq (news ∷ rest) =
     call_then seq (added_call stops seq news) (added_from stops (suc seq) rest) (call_seq stops seq news) (from_seq stops (suc seq) rest) (from_rise stops (suc seq) rest)
 

@@ -7,89 +7,89 @@ use Rattle.std.proofs.lemmas.List.Elements.{All-nil, All-cons, All-head, All-tai
 use Rattle.std.proofs.lemmas.List.Kept.{AllPairs-cons}
 use Rattle.lc_model.specs.Call.{GoesForward, InSequence}
 use Rattle.lc_model.specs.declared.call.Call.{Call}
-use Rattle.lc_versions.specs.Live.{ToldCall, call_at, calls_with, live_calls_of, raised, told_calls, told_with, told_related}
+use Rattle.lc_versions.specs.Live.{StatedCall, call_at, calls_with, live_calls_of, raised, stated_calls, stated_with, stated_related}
 use Rattle.lc_versions.specs.Naming.{Naming, is_canceled, namings, news_at_place}
 use Rattle.lc_versions.specs.News.{StopSaid, TripSaid}
 use Rattle.lc_versions.specs.declared.event.Relation.{Relation}
 use Rattle.lc_versions.specs.declared.event.Relation.TheVariants as relations
-use Rattle.live_calls.specs.Walk.{told_list}
-use Rattle.live_calls.specs.declared.told.Times.{Times}
-use Rattle.live_calls.proofs.ForwardLemmas.{AllPairs-head, AllPairs-nil, AllPairs-tail, KeepsTimes, RiseInTold, raised_go_forward, seq_of}
+use Rattle.live_calls.specs.Walk.{stated_list}
+use Rattle.live_calls.specs.declared.stated.Times.{Times}
+use Rattle.live_calls.proofs.ForwardLemmas.{AllPairs-head, AllPairs-nil, AllPairs-tail, KeepsTimes, RiseInStated, raised_go_forward, seq_of}
 
-told_here : (all : List Naming) (calls : List Call) (place : ℕ) (call : Call) (late : ℤ) (news : Option StopSaid) → place < length calls → call ≡ get_or calls place call → news ≡ news_at_place all place
-    → told_with call (λ delay. told_calls all (place + 1) delay (drop (place + 1) calls)) late news ≡ told_calls all place late (drop place calls)
-told_here all calls place call late news inside is of_news =
-    ap (told_with call (λ delay. told_calls all (place + 1) delay (drop (place + 1) calls)) late) of_news
-    ∙ ap (λ n. told_with call (λ delay. told_calls all n delay (drop (place + 1) calls)) late (news_at_place all place)) (add-one place)
-    ∙ ap (λ (v : Call). told_calls all place late (v ∷ drop (place + 1) calls)) is
-    ∙ ap (told_calls all place late) (sym (drop_more calls place call inside))
+stated_here : (all : List Naming) (calls : List Call) (place : ℕ) (call : Call) (late : ℤ) (news : Option StopSaid) → place < length calls → call ≡ get_or calls place call → news ≡ news_at_place all place
+    → stated_with call (λ delay. stated_calls all (place + 1) delay (drop (place + 1) calls)) late news ≡ stated_calls all place late (drop place calls)
+stated_here all calls place call late news inside is of_news =
+    ap (stated_with call (λ delay. stated_calls all (place + 1) delay (drop (place + 1) calls)) late) of_news
+    ∙ ap (λ n. stated_with call (λ delay. stated_calls all n delay (drop (place + 1) calls)) late (news_at_place all place)) (add-one place)
+    ∙ ap (λ (v : Call). stated_calls all place late (v ∷ drop (place + 1) calls)) is
+    ∙ ap (stated_calls all place late) (sym (drop_more calls place call inside))
 
 -- one call more
 pub live_more : (all : List Naming) (calls : List Call) (place : ℕ) (call : Call) (late late' : ℤ) (before before' : ℕ) (old new whole : List Call) (news : Option StopSaid) (times : Option Times)
     → place < length calls → call ≡ get_or calls place call → news ≡ news_at_place all place
-    → ((behind : ℤ → List ToldCall) → told_with call behind late news ≡ told_list (call_at call) times ++ behind late')
-    → ((behind : List ToldCall) → old ++ raised before (told_list (call_at call) times ++ behind) ≡ new ++ raised before' behind)
-    → old ++ raised before (told_calls all place late (drop place calls)) ≡ whole → new ++ raised before' (told_calls all (place + 1) late' (drop (place + 1) calls)) ≡ whole
+    → ((behind : ℤ → List StatedCall) → stated_with call behind late news ≡ stated_list (call_at call) times ++ behind late')
+    → ((behind : List StatedCall) → old ++ raised before (stated_list (call_at call) times ++ behind) ≡ new ++ raised before' behind)
+    → old ++ raised before (stated_calls all place late (drop place calls)) ≡ whole → new ++ raised before' (stated_calls all (place + 1) late' (drop (place + 1) calls)) ≡ whole
 live_more all calls place call late late' before before' old new whole news times inside is of_news tells pushed e =
-    sym (pushed (told_calls all (place + 1) late' (drop (place + 1) calls)))
-    ∙ ap (λ v. old ++ raised before v) (sym (tells (λ delay. told_calls all (place + 1) delay (drop (place + 1) calls))))
-    ∙ ap (λ v. old ++ raised before v) (told_here all calls place call late news inside is of_news)
+    sym (pushed (stated_calls all (place + 1) late' (drop (place + 1) calls)))
+    ∙ ap (λ v. old ++ raised before v) (sym (tells (λ delay. stated_calls all (place + 1) delay (drop (place + 1) calls))))
+    ∙ ap (λ v. old ++ raised before v) (stated_here all calls place call late news inside is of_news)
     ∙ e
 
--- a call as it is told, before those behind a delay
-record IsTold (call : Call) (behind : ℤ → List ToldCall) (list : List ToldCall) : Type 0 where
+-- a call as it is stated, before those behind a delay
+record IsStated (call : Call) (behind : ℤ → List StatedCall) (list : List StatedCall) : Type 0 where
   times : Option Times
   late : ℤ
-  is : list ≡ told_list (call_at call) times ++ behind late
+  is : list ≡ stated_list (call_at call) times ++ behind late
 
-related : (call : Call) (behind : ℤ → List ToldCall) (late : ℤ) (news : StopSaid) (relation : Relation) → IsTold call behind (told_related call behind late news relation)
+related : (call : Call) (behind : ℤ → List StatedCall) (late : ℤ) (news : StopSaid) (relation : Relation) → IsStated call behind (stated_related call behind late news relation)
 related call behind late news relations.Scheduled = record { times = Some (record { arr = _; dep = _ }); late = _; is = refl }
 related call behind late news relations.Skipped = record { times = None; late = late; is = refl }
 related call behind late news relations.NoData = record { times = Some (record { arr = _; dep = _ }); late = _; is = refl }
 
-tells_call : (call : Call) (behind : ℤ → List ToldCall) (late : ℤ) (news : Option StopSaid) → IsTold call behind (told_with call behind late news)
+tells_call : (call : Call) (behind : ℤ → List StatedCall) (late : ℤ) (news : Option StopSaid) → IsStated call behind (stated_with call behind late news)
 tells_call call behind late None = record { times = Some (record { arr = _; dep = _ }); late = late; is = refl }
 tells_call call behind late (Some news) = related call behind late news news.relation
 
-call_keeps : (call : Call) (times : Option Times) → All KeepsTimes (told_list (call_at call) times)
+call_keeps : (call : Call) (times : Option Times) → All KeepsTimes (stated_list (call_at call) times)
 call_keeps call None = All-nil KeepsTimes
 call_keeps call (Some times) =
     All-cons KeepsTimes (record { at = call_at call; arr = times.arr; dep = times.dep }) [] (record { arr = λ a d. refl; dep = λ a d. refl; seq = λ a d. refl }) (All-nil KeepsTimes)
 
-calls_keep : (all : List Naming) (place : ℕ) (late : ℤ) (calls : List Call) → All KeepsTimes (told_calls all place late calls)
+calls_keep : (all : List Naming) (place : ℕ) (late : ℤ) (calls : List Call) → All KeepsTimes (stated_calls all place late calls)
 calls_keep all place late [] = All-nil KeepsTimes
 calls_keep all place late (call ∷ rest) =
-    let behind : ℤ → List ToldCall = λ delay. told_calls all (suc place) delay rest in
+    let behind : ℤ → List StatedCall = λ delay. stated_calls all (suc place) delay rest in
     let tells = tells_call call behind late (news_at_place all place) in
-    subst (All KeepsTimes) (sym tells.is) (All-append KeepsTimes (told_list (call_at call) tells.times) (behind tells.late) (call_keeps call tells.times) (calls_keep all (suc place) tells.late rest))
+    subst (All KeepsTimes) (sym tells.is) (All-append KeepsTimes (stated_list (call_at call) tells.times) (behind tells.late) (call_keeps call tells.times) (calls_keep all (suc place) tells.late rest))
 
-call_seq : (P : ℕ → Type 0) (call : Call) (times : Option Times) → P call.seq → All (λ (t : ToldCall). P (seq_of t)) (told_list (call_at call) times)
-call_seq P call None h = All-nil (λ (t : ToldCall). P (seq_of t))
+call_seq : (P : ℕ → Type 0) (call : Call) (times : Option Times) → P call.seq → All (λ (t : StatedCall). P (seq_of t)) (stated_list (call_at call) times)
+call_seq P call None h = All-nil (λ (t : StatedCall). P (seq_of t))
 call_seq P call (Some times) h =
-    All-cons (λ (t : ToldCall). P (seq_of t)) (record { at = call_at call; arr = times.arr; dep = times.dep }) [] h (All-nil (λ (t : ToldCall). P (seq_of t)))
+    All-cons (λ (t : StatedCall). P (seq_of t)) (record { at = call_at call; arr = times.arr; dep = times.dep }) [] h (All-nil (λ (t : StatedCall). P (seq_of t)))
 
--- what holds of the sequences of the calls holds of those that are told
-calls_seq : (P : ℕ → Type 0) (all : List Naming) (place : ℕ) (late : ℤ) (calls : List Call) → All (λ (c : Call). P c.seq) calls → All (λ (t : ToldCall). P (seq_of t)) (told_calls all place late calls)
-calls_seq P all place late [] h = All-nil (λ (t : ToldCall). P (seq_of t))
+-- what holds of the sequences of the calls holds of those that are stated
+calls_seq : (P : ℕ → Type 0) (all : List Naming) (place : ℕ) (late : ℤ) (calls : List Call) → All (λ (c : Call). P c.seq) calls → All (λ (t : StatedCall). P (seq_of t)) (stated_calls all place late calls)
+calls_seq P all place late [] h = All-nil (λ (t : StatedCall). P (seq_of t))
 calls_seq P all place late (call ∷ rest) h =
-    let behind : ℤ → List ToldCall = λ delay. told_calls all (suc place) delay rest in
+    let behind : ℤ → List StatedCall = λ delay. stated_calls all (suc place) delay rest in
     let tells = tells_call call behind late (news_at_place all place) in
-    subst (All (λ (t : ToldCall). P (seq_of t))) (sym tells.is)
-    (All-append (λ (t : ToldCall). P (seq_of t)) (told_list (call_at call) tells.times) (behind tells.late)
+    subst (All (λ (t : StatedCall). P (seq_of t))) (sym tells.is)
+    (All-append (λ (t : StatedCall). P (seq_of t)) (stated_list (call_at call) tells.times) (behind tells.late)
     (call_seq P call tells.times (All-head (λ (c : Call). P c.seq) call rest h))
     (calls_seq P all (suc place) tells.late rest (All-tail (λ (c : Call). P c.seq) call rest h)))
 
-call_then : (call : Call) (times : Option Times) (list : List ToldCall) → All (λ (t : ToldCall). call.seq < seq_of t) list → RiseInTold list → RiseInTold (told_list (call_at call) times ++ list)
+call_then : (call : Call) (times : Option Times) (list : List StatedCall) → All (λ (t : StatedCall). call.seq < seq_of t) list → RiseInStated list → RiseInStated (stated_list (call_at call) times ++ list)
 call_then call None list later rise = rise
 call_then call (Some times) list later rise =
-    AllPairs-cons (λ (x y : ToldCall). seq_of x < seq_of y) (record { at = call_at call; arr = times.arr; dep = times.dep }) list later rise
+    AllPairs-cons (λ (x y : StatedCall). seq_of x < seq_of y) (record { at = call_at call; arr = times.arr; dep = times.dep }) list later rise
 
-calls_rise : (all : List Naming) (place : ℕ) (late : ℤ) (calls : List Call) → InSequence calls → RiseInTold (told_calls all place late calls)
-calls_rise all place late [] h = AllPairs-nil (λ (x y : ToldCall). seq_of x < seq_of y)
+calls_rise : (all : List Naming) (place : ℕ) (late : ℤ) (calls : List Call) → InSequence calls → RiseInStated (stated_calls all place late calls)
+calls_rise all place late [] h = AllPairs-nil (λ (x y : StatedCall). seq_of x < seq_of y)
 calls_rise all place late (call ∷ rest) h =
-    let behind : ℤ → List ToldCall = λ delay. told_calls all (suc place) delay rest in
+    let behind : ℤ → List StatedCall = λ delay. stated_calls all (suc place) delay rest in
     let tells = tells_call call behind late (news_at_place all place) in
-    subst RiseInTold (sym tells.is)
+    subst RiseInStated (sym tells.is)
     (call_then call tells.times (behind tells.late)
     (calls_seq (λ n. call.seq < n) all (suc place) tells.late rest (AllPairs-head (λ (x y : Call). x.seq < y.seq) call rest h))
     (calls_rise all (suc place) tells.late rest (AllPairs-tail (λ (x y : Call). x.seq < y.seq) call rest h)))
@@ -97,7 +97,7 @@ calls_rise all place late (call ∷ rest) h =
 pub with_go_forward : (calls : List Call) (stops : List StopSaid) → InSequence calls → GoesForward (calls_with calls stops)
 with_go_forward calls stops rising =
     let all = namings calls 0 stops in
-    raised_go_forward 0 (told_calls all 0 (pos 0) calls) (calls_keep all 0 (pos 0) calls) (calls_rise all 0 (pos 0) calls rising)
+    raised_go_forward 0 (stated_calls all 0 (pos 0) calls) (calls_keep all 0 (pos 0) calls) (calls_rise all 0 (pos 0) calls rising)
 
 none_go_forward : GoesForward []
 none_go_forward = record {

@@ -10,7 +10,7 @@ use Rattle.lc_model.specs.declared.key.RunKey.{RunKey}
 use Rattle.lc_model.specs.declared.moment.TheConstants.{MOMENTS_END}
 use Rattle.lc_model.specs.declared.run.Run.{Run}
 use Rattle.lc_versions.specs.Added.{IsFurtherRun}
-use Rattle.lc_versions.specs.Live.{call_at, calls_with, in_range, raised, told_calls}
+use Rattle.lc_versions.specs.Live.{call_at, calls_with, in_range, raised, stated_calls}
 use Rattle.lc_versions.specs.Timetable.{IsLiveRun}
 use Rattle.live_calls.specs.Laws.{IsOnTime, LiveWithoutNews, RunsAreLive, RunsOnTime}
 use Rattle.live_calls.proofs.ForwardLemmas.{AllPairs-head, AllPairs-tail}
@@ -41,7 +41,7 @@ raised_none before n le under =
     let same : in_range (pos n +ℤ pos 0) ≡ n = omega arith in
     omega (arith, same)
 
-same_calls : (before place : ℕ) (calls : List Call) → All (λ (c : Call). before ≤ c.arr) calls → GoesForward calls → All IsOnTime calls → raised before (told_calls [] place (pos 0) calls) ≡ calls
+same_calls : (before place : ℕ) (calls : List Call) → All (λ (c : Call). before ≤ c.arr) calls → GoesForward calls → All IsOnTime calls → raised before (stated_calls [] place (pos 0) calls) ≡ calls
 same_calls before place [] above forward on = refl
 same_calls before place (call ∷ rest) above forward on =
     let here = All-head IsOnTime call rest on in
@@ -55,8 +55,8 @@ same_calls before place (call ∷ rest) above forward on =
       at_a_stop = All-tail (λ (x : Call). x.arr ≤ x.dep) call rest forward.at_a_stop;
       along = AllPairs-tail (λ (x y : Call). x.dep ≤ y.arr) call rest forward.along;
     }) (All-tail IsOnTime call rest on) in
-    ap (λ a. call_at call a (max a (in_range (pos call.dep +ℤ pos 0))) ∷ raised (max a (in_range (pos call.dep +ℤ pos 0))) (told_calls [] (suc place) (pos 0) rest)) arr
-    ∙ ap (λ d. call_at call call.arr d ∷ raised d (told_calls [] (suc place) (pos 0) rest)) dep
+    ap (λ a. call_at call a (max a (in_range (pos call.dep +ℤ pos 0))) ∷ raised (max a (in_range (pos call.dep +ℤ pos 0))) (stated_calls [] (suc place) (pos 0) rest)) arr
+    ∙ ap (λ d. call_at call call.arr d ∷ raised d (stated_calls [] (suc place) (pos 0) rest)) dep
     ∙ ap₂ (λ (c : Call) (cs : List Call). c ∷ cs) (own_moments call here) later
 
 own_calls : (calls : List Call) → GoesForward calls → All IsOnTime calls → calls_with calls [] ≡ calls

@@ -41,14 +41,14 @@ ArePlaces-moved calls count places moved moves are = record {
 }
 
 -- what `<` answers
-pub is_before_told : (p q : StopPlace) → is_some_and is_lt (partial_ordering_then (slice_partial_cmp (as_partial_cmp nat_cmp) p.stop.now q.stop.now) (Some (nat_cmp p.place q.place))) ≡ is_before p q
-is_before_told p q =
+pub is_before_stated : (p q : StopPlace) → is_some_and is_lt (partial_ordering_then (slice_partial_cmp (as_partial_cmp nat_cmp) p.stop.now q.stop.now) (Some (nat_cmp p.place q.place))) ≡ is_before p q
+is_before_stated p q =
     ap (λ o. is_some_and is_lt (partial_ordering_then o (Some (nat_cmp p.place q.place)))) (lists_agrees {R = nat_cmp} (λ x y. refl) p.stop.now q.stop.now)
-    ∙ then_told (id_cmp p.stop.now q.stop.now) (nat_cmp p.place q.place) where
-      then_told : (o r : Ordering) → is_some_and is_lt (partial_ordering_then (Some o) (Some r)) ≡ is_lt (ordering_then o r)
-      then_told Less r = refl
-      then_told Equal r = refl
-      then_told Greater r = refl
+    ∙ then_stated (id_cmp p.stop.now q.stop.now) (nat_cmp p.place q.place) where
+      then_stated : (o r : Ordering) → is_some_and is_lt (partial_ordering_then (Some o) (Some r)) ≡ is_lt (ordering_then o r)
+      then_stated Less r = refl
+      then_stated Equal r = refl
+      then_stated Greater r = refl
 
 ranks : IsStrictWeakOrder is_before
 ranks = ranks_by (then_total (on_total (λ (p : StopPlace). p.stop.now) nat_list_cmp_total) (on_total (λ (p : StopPlace). p.place) nat_cmp_total)) (λ p. p)

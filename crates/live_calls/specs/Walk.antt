@@ -1,23 +1,23 @@
--- How a call is told by its news, one call at a time.
+-- How a call is stated by its news, one call at a time.
 use Rattle.std.specs.Prelude.{ℕ, ◌≤ℤ◌, ℤ, pos, negsuc, List, [], ◌∷◌, map, filter, ◌==◌, if◌then◌else◌, Option, Some, None}
 use Rattle.std.specs.List.{last_or}
 use Rattle.lc_model.specs.declared.call.Call.{Call}
 use Rattle.lc_model.specs.declared.stop.Stop.{Stop}
 use Rattle.lc_versions.specs.Added.{added_known, has_stop, is_skipped, time_of}
-use Rattle.lc_versions.specs.Live.{ToldCall}
+use Rattle.lc_versions.specs.Live.{StatedCall}
 use Rattle.lc_versions.specs.Naming.{Naming}
 use Rattle.lc_versions.specs.News.{StopSaid}
-use Rattle.live_calls.specs.declared.told.Times.{Times}
+use Rattle.live_calls.specs.declared.stated.Times.{Times}
 
--- so late or early may a call be told: by any 64 bits of seconds
+-- so late or early may a call be stated: by any 64 bits of seconds
 pub record IsLateness (late : ℤ) : Type 0 where
   pub low : negsuc 18_446_744_073_709_551_615 ≤ℤ late
   pub high : late ≤ℤ pos 18_446_744_073_709_551_616
 
 -- a call that is made in this way at its times, or none where it has none
-abbrev pub told_list : (ℕ → ℕ → Call) → Option Times → List ToldCall
-told_list at None = []
-told_list at (Some times) = record { at = at; arr = times.arr; dep = times.dep } ∷ []
+abbrev pub stated_list : (ℕ → ℕ → Call) → Option Times → List StatedCall
+stated_list at None = []
+stated_list at (Some times) = record { at = at; arr = times.arr; dep = times.dep } ∷ []
 
 -- the last of these news that name the call at a place, or those that named it before
 abbrev pub last_news : Option StopSaid → List Naming → ℕ → Option StopSaid
@@ -35,7 +35,7 @@ abbrev pub served_times : StopSaid → Option Times
 served_times news = if is_skipped news.relation then None else times_said (time_of news.arr) (time_of news.dep)
 
 -- the call of an added trip at these times at a stop, if both are there and the stop is known
-abbrev pub added_by : List Stop → ℕ → Option Times → Option (List ℕ) → Option ToldCall
+abbrev pub added_by : List Stop → ℕ → Option Times → Option (List ℕ) → Option StatedCall
 added_by stops seq None stop = None
 added_by stops seq (Some times) None = None
 added_by stops seq (Some times) (Some stop) = added_known seq stop times.arr times.dep (has_stop stops stop)

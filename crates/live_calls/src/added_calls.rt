@@ -1,13 +1,13 @@
 ghost use Rattle.std.specs.Prelude.{◌≡◌, ◌++◌, ◌<◌, ℕ, suc, IfOk, IfSome, List, Some, is_some, length, option_to_list, slice_index_or};
 ghost use Rattle.lc_model.specs.Call.{InSequence};
 ghost use Rattle.lc_model.specs.Stop.{InStopOrder};
-ghost use Rattle.lc_model.specs.declared.stop.Stop.{Stop as ToldStop};
+ghost use Rattle.lc_model.specs.declared.stop.Stop.{Stop as StatedStop};
 ghost use Rattle.lc_versions.specs.Added.{added_call, added_call_at, added_calls, has_stop, is_skipped, time_of};
-ghost use Rattle.lc_versions.specs.Live.{ToldCall, raised};
+ghost use Rattle.lc_versions.specs.Live.{StatedCall, raised};
 ghost use Rattle.live_calls.specs.Walk.{added_by, served_times, times_said};
 
 use crate::forward::{Raised, nearest, raise};
-use crate::told::Times;
+use crate::stated::Times;
 use lc_model::{Call, Id, Moment, NoMemory, PlainData, Stop};
 use lc_versions::{Event, Relation, StopNews};
 use std::alloc::Global;
@@ -61,7 +61,7 @@ fn stop_named(stops: &[Stop], id: &[u8]) -> Option<usize>
     requires { InStopOrder stops.now }
     ensures known { is_some result ≡ has_stop stops.now id.now }
     ensures inside { IfSome result (λ place. place < length stops.now) }
-    ensures named { IfSome result (λ place. (d : ToldStop) → (slice_index_or stops.now place d).id ≡ id.now) }
+    ensures named { IfSome result (λ place. (d : StatedStop) → (slice_index_or stops.now place d).id ≡ id.now) }
 {
     stops.binary_search_by(|stop| stop.id.bytes().cmp(id)).ok()
 }
@@ -93,7 +93,7 @@ fn push_at_stop(
     times: Times,
 ) -> Result<Moment, NoMemory>
     requires { InStopOrder stops.now }
-    ensures { IfOk result (λ departure. (behind : List ToldCall) →
+    ensures { IfOk result (λ departure. (behind : List StatedCall) →
         calls.old.items ++ raised before (option_to_list (added_by stops.now seq (Some times) (Some stop.now)) ++ behind)
         ≡ calls.new.items ++ raised departure behind) }
 {
@@ -115,7 +115,7 @@ fn push_added(
     news: &StopNews,
 ) -> Result<Moment, NoMemory>
     requires { InStopOrder stops.now }
-    ensures { IfOk result (λ departure. (behind : List ToldCall) →
+    ensures { IfOk result (λ departure. (behind : List StatedCall) →
         calls.old.items ++ raised before (option_to_list (added_by stops.now seq (served_times news.now) news.now.stop) ++ behind)
         ≡ calls.new.items ++ raised departure behind) }
 {

@@ -1,7 +1,7 @@
 ghost use Rattle.std.specs.Prelude.{◌≡◌, max};
 ghost use Rattle.lc_versions.specs.Live.{in_range};
 
-use crate::told::Times;
+use crate::stated::Times;
 use lc_model::{MOMENTS_END, Moment};
 
 const LAST: u64 = MOMENTS_END - 1;

@@ -9,7 +9,7 @@ mod laws;
 mod naming;
 mod run_calls;
 mod run_connections;
-mod told;
+mod stated;
 
 pub use build_run::{added_key, added_run, added_run_on};
 pub use laws::{calls_go_forward, live_without_news, one_added_run, one_list_of_live_runs};

@@ -3,7 +3,7 @@ ghost use Rattle.std.specs.List.Sorted.{IsPartitionPoint, IsSorted};
 ghost use Rattle.std.specs.Option.{option_copied};
 ghost use Rattle.lc_model.specs.Call.{InSequence};
 ghost use Rattle.lc_model.specs.Change.{is_same_id};
-ghost use Rattle.lc_model.specs.declared.call.Call.{Call as ToldCall};
+ghost use Rattle.lc_model.specs.declared.call.Call.{Call as StatedCall};
 ghost use Rattle.lc_versions.specs.Naming.{named_by, namings, news_at_place, place_of};
 ghost use Rattle.lc_versions.specs.News.{StopSaid};
 ghost use Rattle.live_calls.specs.Places.{ArePlaces, AreSortedPlaces, is_before, place_cmp};
@@ -16,7 +16,7 @@ use std::alloc::Global;
 /// The place of the call of this sequence. Takes the logarithm of the calls.
 fn place_of_sequence(calls: &[Call], seq: u32) -> Option<usize>
     requires { InSequence calls.now }
-    ensures place { result ≡ place_of (λ (c : ToldCall). c.seq == seq) calls.now }
+    ensures place { result ≡ place_of (λ (c : StatedCall). c.seq == seq) calls.now }
     ensures inside { IfSome result (λ place. place < length calls.now) }
 {
     calls.binary_search_by(|call| call.seq.cmp(&seq)).ok()
@@ -54,9 +54,9 @@ fn places_before<'a>(places: &[StopPlace<'a>], asked: StopPlace<'a>) -> usize
 /// The place of the first call at this stop from the place `next` on. Takes the logarithm of the calls.
 fn next_place_of_stop<'a>(places: &[StopPlace<'a>], next: usize, stop: &'a [u8]) -> Option<usize>
     requires { IsSorted place_cmp places.now }
-    ensures place { (calls : List ToldCall) → ArePlaces calls (length calls) places.now → result ≡ option_map (λ place. next + place)
-        (place_of (λ (c : ToldCall). is_same_id c.stop stop.now) (drop next calls)) }
-    ensures inside { (calls : List ToldCall) → ArePlaces calls (length calls) places.now → IfSome result (λ place. place < length calls) }
+    ensures place { (calls : List StatedCall) → ArePlaces calls (length calls) places.now → result ≡ option_map (λ place. next + place)
+        (place_of (λ (c : StatedCall). is_same_id c.stop stop.now) (drop next calls)) }
+    ensures inside { (calls : List StatedCall) → ArePlaces calls (length calls) places.now → IfSome result (λ place. place < length calls) }
 {
     let at = places_before(places, StopPlace { stop, place: next });
     match places.get(at) {

@@ -1,13 +1,13 @@
 ghost use Rattle.std.specs.Prelude.{◌≡◌, ◌++◌, IfOk, List, Some};
 ghost use Rattle.std.specs.Option.{option_copied};
 ghost use Rattle.lc_model.specs.Call.{GoesForward, InSequence};
-ghost use Rattle.lc_versions.specs.Live.{ToldCall, call_at, calls_with, live_calls_of, raised};
+ghost use Rattle.lc_versions.specs.Live.{StatedCall, call_at, calls_with, live_calls_of, raised};
 ghost use Rattle.lc_versions.specs.Naming.{is_canceled};
-ghost use Rattle.live_calls.specs.Walk.{told_list};
+ghost use Rattle.live_calls.specs.Walk.{stated_list};
 
 use crate::forward::{Raised, nearest, raise};
 use crate::naming::named_news;
-use crate::told::{Times, told_call};
+use crate::stated::{Times, stated_call};
 use lc_model::{Call, Calls, Moment, NoMemory, PlainData, Run};
 use lc_versions::{StopNews, TripKind, TripNews};
 use std::alloc::Global;
@@ -29,15 +29,15 @@ fn call_at(alloc: Global, call: &Call, raised: Raised) -> Result<Call, NoMemory>
 }
 
 /// Adds a call where it has times, behind one that departs at a moment, and gives the moment of the departure then.
-fn push_told(
+fn push_stated(
     alloc: Global,
     calls: &mut Vec<Call>,
     before: Moment,
     call: &Call,
     times: Option<Times>,
 ) -> Result<Moment, NoMemory>
-    ensures { IfOk result (λ departure. (behind : List ToldCall) →
-        calls.old.items ++ raised before (told_list (call_at call.now) times ++ behind) ≡ calls.new.items ++ raised departure behind) }
+    ensures { IfOk result (λ departure. (behind : List StatedCall) →
+        calls.old.items ++ raised before (stated_list (call_at call.now) times ++ behind) ≡ calls.new.items ++ raised departure behind) }
 {
     let Some(times) = times else {
         return Ok(before);
@@ -61,8 +61,8 @@ pub(crate) fn calls_with(
     let mut late = 0i128;
     let mut before = nearest(0);
     'calls: for (place, call) in calls.iter().enumerate() {
-        let telling = told_call(call, late, named[place]);
-        before = push_told(alloc, &mut live, before, call, telling.times)?;
+        let telling = stated_call(call, late, named[place]);
+        before = push_stated(alloc, &mut live, before, call, telling.times)?;
         late = telling.late;
     }
     Ok(live)

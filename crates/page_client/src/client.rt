@@ -31,7 +31,7 @@ pub struct Client {
 impl Client {
     ghost use Rattle.std.specs.Prelude.{◌≡◌, ◌≢◌, ◌<◌, ◌≤◌, ◌+◌, true, None, is_some, Result, Ok, IfOk, OnOk, OnErr};
     ghost use Rattle.std.specs.Option.{option_copied};
-    ghost use Rattle.lc_model.specs.declared.doc.StopsDoc.{StopsDoc as Told};
+    ghost use Rattle.lc_model.specs.declared.doc.StopsDoc.{StopsDoc as Recorded};
     ghost use Rattle.lc_model.specs.declared.page.PageName.{PageName as Named};
     ghost use Rattle.page_json.specs.Valid.{IsValidPage};
     ghost use Rattle.page_client.specs.Client.{AfterDoc, AfterStops, TakesPage, shown};
@@ -135,7 +135,7 @@ impl Client {
     /// Takes the reply of the stops document. After running out of memory the client is spent.
     pub fn give_stops(&mut self, alloc: Global, reply: Vec<u8>) -> Result<(), NoMemory>
         requires { want_of (shown self.old).phase ≡ Want.Stops }
-        ensures ok { OnOk result ((said : Result Told Wrong) × IsStopsReply reply.items said × AfterStops self.old reply.items said self.new) }
+        ensures ok { OnOk result ((said : Result Recorded Wrong) × IsStopsReply reply.items said × AfterStops self.old reply.items said self.new) }
         ensures err { OnErr result (shown self.new ≡ spent (shown self.old)) }
         ensures fewer { exchanges_left (shown self.new) < exchanges_left (shown self.old) }
     {

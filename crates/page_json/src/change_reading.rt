@@ -1,6 +1,6 @@
 ghost use Rattle.std.specs.Prelude.{◌≢◌, All, Ok, Err, IfOk, IfErr};
 ghost use Rattle.lc_model.specs.Stop.{HasStop};
-ghost use Rattle.lc_model.specs.declared.change.Change.{Change as Told};
+ghost use Rattle.lc_model.specs.declared.change.Change.{Change as Stated};
 ghost use Rattle.serde_json.specs.View.{items_view, view};
 ghost use Rattle.json_members.specs.Reading.{Meets, each_in};
 ghost use Rattle.page_json.specs.StopsReading.{change_in, if_stop, stop_at};
@@ -16,8 +16,8 @@ pub fn each_change(alloc: Global, stops: &Stops, values: &[Value]) -> Result<Vec
     ensures ok { IfOk result (λ list. each_in (change_in stops.now) (items_view values.now) (Ok list.items)) }
     ensures err { IfErr result
         (λ fault. fault ≢ OutOfMemory → each_in (change_in stops.now) (items_view values.now) (Err fault)) }
-    ensures from { IfOk result (λ list. All (λ (c : Told). HasStop stops.now c.from) list.items) }
-    ensures to { IfOk result (λ list. All (λ (c : Told). HasStop stops.now c.to) list.items) }
+    ensures from { IfOk result (λ list. All (λ (c : Stated). HasStop stops.now c.from) list.items) }
+    ensures to { IfOk result (λ list. All (λ (c : Stated). HasStop stops.now c.to) list.items) }
 {
     let mut changes = Vec::with_capacity(alloc, values.len())?;
     for value in values {

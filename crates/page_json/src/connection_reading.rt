@@ -1,6 +1,6 @@
 ghost use Rattle.std.specs.Prelude.{◌≡◌, ◌≢◌, ◌≤◌, ℕ, List, codes, Some, Err, IfOk, IfSome};
 ghost use Rattle.lc_model.specs.Connection.{NoneArrivesEarly};
-ghost use Rattle.lc_model.specs.declared.connection.Connection.{Connection as Told};
+ghost use Rattle.lc_model.specs.declared.connection.Connection.{Connection as Stated};
 ghost use Rattle.lc_model.specs.declared.key.RunKey.{RunKey as Key};
 ghost use Rattle.serde_json.specs.View.{items_view, view};
 ghost use Rattle.json_members.specs.Members.{said_at};

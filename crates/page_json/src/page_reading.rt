@@ -9,7 +9,7 @@ ghost use Rattle.page_json.specs.PageReading.{page_in, page_of_bytes};
 ghost use Rattle.json_members.specs.Reading.{Meets, exactly, gives};
 ghost use Rattle.page_json.specs.Says.{SaysLink, SaysPage};
 ghost use Rattle.page_json.specs.Valid.{IsOfVersion, IsValidPage};
-ghost use Rattle.page_json.specs.declared.page.Page.{Page as Told};
+ghost use Rattle.page_json.specs.declared.page.Page.{Page as Stated};
 
 use crate::Page;
 use crate::connection_reading::connections_in;
@@ -121,7 +121,7 @@ pub fn read_page(alloc: Global, base: &Base, bytes: &[u8]) -> Result<Page, PageF
     ensures valid { IfOk result IsValidPage }
 
     // Where the bytes say a page, as those of `page_text` do, that page is read.
-    ensures exact { (page : Told) → page_of_bytes base.now bytes.now (Ok page) → Meets (gives page) result }
+    ensures exact { (page : Stated) → page_of_bytes base.now bytes.now (Ok page) → Meets (gives page) result }
 {
     let value = json_in(alloc, bytes)?;
     page_in(alloc, base, &value)

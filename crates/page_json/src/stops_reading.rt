@@ -3,9 +3,9 @@ ghost use Rattle.std.specs.Ordering.{on};
 ghost use Rattle.lc_model.specs.Change.{change_cmp};
 ghost use Rattle.lc_model.specs.Stop.{HasStop};
 ghost use Rattle.lc_model.specs.Text.{id_cmp};
-ghost use Rattle.lc_model.specs.declared.change.Change.{Change as ToldChange};
-ghost use Rattle.lc_model.specs.declared.stop.Stop.{Stop as ToldStop};
-ghost use Rattle.lc_model.specs.declared.doc.StopsDoc.{StopsDoc as Told};
+ghost use Rattle.lc_model.specs.declared.change.Change.{Change as StatedChange};
+ghost use Rattle.lc_model.specs.declared.stop.Stop.{Stop as StatedStop};
+ghost use Rattle.lc_model.specs.declared.doc.StopsDoc.{StopsDoc as Stated};
 ghost use Rattle.serde_json.specs.View.{view};
 ghost use Rattle.lc_model.specs.Disorder.{first_disorder};
 ghost use Rattle.json_members.specs.Disorder.{unless_disorder};
@@ -29,7 +29,7 @@ pub fn read_stops(alloc: Global, bytes: &[u8]) -> Result<StopsDoc, PageFault>
     ensures valid { IfOk result IsValidDoc }
 
     // Where the bytes say a document, as those of `stops_text` do, that document is read.
-    ensures exact { (doc : Told) → doc_of_bytes bytes.now (Ok doc) → Meets (gives doc) result }
+    ensures exact { (doc : Stated) → doc_of_bytes bytes.now (Ok doc) → Meets (gives doc) result }
 {
     let value = json_in(alloc, bytes)?;
     doc_in(alloc, &value)
@@ -71,7 +71,7 @@ fn with_parents(alloc: Global, stops: &[Stop]) -> Result<(), PageFault>
 /// The stops, unless they are not in order.
 fn ordered_stops(stops: Vec<Stop>) -> Result<Stops, PageFault>
     ensures said { Meets (exactly
-        (unless_disorder (first_disorder (on (λ (s : ToldStop). s.id) id_cmp) stops.items) stops.items)) result }
+        (unless_disorder (first_disorder (on (λ (s : StatedStop). s.id) id_cmp) stops.items) stops.items)) result }
     ensures same { IfOk result (λ same. same ≡ stops.items) }
 {
     match Stops::try_from_list(stops) {
@@ -83,8 +83,8 @@ fn ordered_stops(stops: Vec<Stop>) -> Result<Stops, PageFault>
 /// The changes, each of whose ends is one of the stops.
 fn changes_in(alloc: Global, stops: &Stops, value: &Value) -> Result<Changes, PageFault>
     ensures said { Meets (changes_in stops.now (view value.now)) result }
-    ensures from { IfOk result (All (λ (c : ToldChange). HasStop stops.now c.from)) }
-    ensures to { IfOk result (All (λ (c : ToldChange). HasStop stops.now c.to)) }
+    ensures from { IfOk result (All (λ (c : StatedChange). HasStop stops.now c.from)) }
+    ensures to { IfOk result (All (λ (c : StatedChange). HasStop stops.now c.to)) }
 {
     let items = needed_list(alloc, value, "changes")?;
     let changes = each_change(alloc, stops, items)?;

@@ -38,7 +38,7 @@ abbrev pub asked_by_posting : List ℕ → Asked → Asked
 asked_by_posting method asked = if is_posting method then asked else kinds.OtherMethod Posting
 
 -- What a request asks for by its path and its method: the time gate, a page, the stops document or, where messages are taken, that
--- one is admitted. A known path with another method is told from an unknown one.
+-- one is admitted. A known path with another method is recorded from an unknown one.
 abbrev pub asked_of : BaseParts → Bool → List ℕ → List ℕ → Asked
 asked_of base accepts_updates path method =
     if is_under base (codes "connections") path then asked_by_reading method kinds.Gate

@@ -20,7 +20,7 @@ fn push_words(alloc: Global, list: &mut Vec<String>, words: &str) -> Result<(), 
     Ok(())
 }
 
-/// What is told of a command.
+/// What is recorded of a command.
 #[derive(Clone, Copy)]
 pub enum Side {
     Words,

@@ -243,7 +243,7 @@ fn put_sign(draft: &mut Draft, byte: u8) {
     }
 }
 
-/// A client of which an exchange fails: the version that it was told, and how it ended.
+/// A client of which an exchange fails: the version that it was recorded, and how it ended.
 fn put_cut(draft: &mut Draft, client: &mut Client) {
     if client.want() == Want::Finished {
         return draft.lose();

@@ -62,7 +62,7 @@ fn put_before(draft: &mut Draft, convoy: &Convoy) {
     draft.put("\n");
 }
 
-/// How many clients there are, the version that client 2 was told, how many exchanges each made, and what the link tells.
+/// How many clients there are, the version that client 2 was recorded, how many exchanges each made, and what the link tells.
 fn put_after(draft: &mut Draft, convoy: &Convoy, link: &ListLink) {
     let clients = convoy.clients();
     if clients < 3 {
@@ -76,7 +76,7 @@ fn put_after(draft: &mut Draft, convoy: &Convoy, link: &ListLink) {
     put_count(draft, ", exchanges ", convoy.exchanges(1));
     put_count(draft, " ", convoy.exchanges(2));
     put_count(draft, " ", convoy.exchanges(3));
-    put_count(draft, "\nlink: told ", link.told().len() as u64);
+    put_count(draft, "\nlink: recorded ", link.recorded().len() as u64);
     put_count(draft, ", faults ", link.faults());
     draft.put("\n");
 }

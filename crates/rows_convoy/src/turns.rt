@@ -112,14 +112,14 @@ fn put_turn(alloc: Global, draft: &mut Draft, convoy: &mut Convoy, k: usize, lin
     if k < 1 || convoy.clients() < k {
         return draft.lose();
     }
-    let before = link.told().len();
+    let before = link.recorded().len();
     draft.put(" ");
     draft.put_shown(&k);
     match convoy.turn(alloc, k, link) {
         Ok(turn) => draft.put(said(turn)),
         Err(NoMemory) => draft.lose(),
     }
-    draft.put_shown(&link.told().len().saturating_sub(before));
+    draft.put_shown(&link.recorded().len().saturating_sub(before));
     draft.put(",");
 }
 

@@ -103,9 +103,9 @@ impl fmt::Display for Day {
 
 /// The delay and the time of an event, where there is one.
 #[derive(Clone, Copy)]
-struct Told(Option<Event>);
+struct Stated(Option<Event>);
 
-impl fmt::Display for Told {
+impl fmt::Display for Stated {
     fn fmt<W: fmt::Write>(&self, f: &mut fmt::Formatter<W>) -> fmt::Result {
         match self.0 {
             Some(event) => write!(
@@ -141,7 +141,7 @@ fn put_stop(text: &mut String, stop: &StopNews) -> Result<(), Unmade> {
     let id = word(stop.stop().unwrap_or(b"-"))?;
     let seq = Number(stop.seq().map(i64::from));
     let relation = relation_word(stop.relation());
-    let (arr, dep) = (Told(stop.arr()), Told(stop.dep()));
+    let (arr, dep) = (Stated(stop.arr()), Stated(stop.dep()));
     write!(text, ", {seq} {id} {relation} {arr} {dep}")?;
     Ok(())
 }

@@ -2,7 +2,7 @@
 use crate::making::{AT_FIRST, bytes, publisher};
 use fragmenter::Cutting;
 use lc_links::{ClosedLink, FaultyLink, HomeLink, LocalLink};
-use lc_world::{Link, LinkFail, ListLink, ToldReply};
+use lc_world::{Link, LinkFail, ListLink, RecordedReply};
 use rows_common::{Draft, Unmade};
 use std::alloc::Global;
 
@@ -113,15 +113,15 @@ fn put_local_of(
     put_local_state(draft, link);
 }
 
-/// The newest version of the publisher, how many exchanges were asked for and told, and the faults.
+/// The newest version of the publisher, how many exchanges were asked for and recorded, and the faults.
 fn put_local_state(draft: &mut Draft, link: &mut LocalLink<Cutting>) {
     let newest = link.publisher().newest();
     draft.put("local link: newest ");
     draft.put_shown(&newest.seconds());
     draft.put(" asked ");
     draft.put_shown(&link.asked());
-    draft.put(" told ");
-    draft.put_shown(&link.told().len());
+    draft.put(" recorded ");
+    draft.put_shown(&link.recorded().len());
     draft.put(" faults ");
     draft.put_shown(&link.faults());
     draft.put("\n");
@@ -160,7 +160,7 @@ fn put_faulty_of(
     put_exchange(alloc, draft, "faulty fourth", link, STOPS, reply);
 }
 
-/// The outer link has one reply, which comes in place of the first answer; the second answer stays, and is told.
+/// The outer link has one reply, which comes in place of the first answer; the second answer stays, and is recorded.
 fn put_home(alloc: Global, draft: &mut Draft, reply: &mut Vec<u8>) {
     match home(alloc) {
         Ok(link) => put_home_of(alloc, draft, link, reply),
@@ -182,7 +182,7 @@ fn put_home_of(
 ) {
     put_home_exchanges(alloc, draft, &mut link, reply);
     let outer = link.into_outer();
-    put_told(draft, &outer, reply.as_slice());
+    put_recorded(draft, &outer, reply.as_slice());
 }
 
 fn put_home_exchanges(
@@ -200,20 +200,20 @@ fn put_home_exchanges(
 }
 
 /// How many exchanges the outer link tells, and whether the last of them has this reply.
-fn put_told(draft: &mut Draft, outer: &ListLink, reply: &[u8]) {
-    let Some(entry) = outer.told().last() else {
+fn put_recorded(draft: &mut Draft, outer: &ListLink, reply: &[u8]) {
+    let Some(entry) = outer.recorded().last() else {
         return draft.lose();
     };
-    draft.put("home link: told ");
-    draft.put_shown(&outer.told().len());
+    draft.put("home link: recorded ");
+    draft.put_shown(&outer.recorded().len());
     draft.put(" the last as it stayed ");
-    draft.put_shown(&is_told(&entry.reply, reply));
+    draft.put_shown(&is_recorded(&entry.reply, reply));
     draft.put("\n");
 }
 
-fn is_told(told: &ToldReply, reply: &[u8]) -> bool {
-    match told {
-        ToldReply::Reply(told) => told.as_slice() == reply,
+fn is_recorded(recorded: &RecordedReply, reply: &[u8]) -> bool {
+    match recorded {
+        RecordedReply::Reply(recorded) => recorded.as_slice() == reply,
         _ => false,
     }
 }

@@ -52,7 +52,7 @@ const TO_A_WALK: &[Case] = &[
 
 const FROM_A_PARENT: &[Case] = &[("from the nearest stop", "P", "F", 32_100, 86_400, 33_000)];
 
-/// Of two unknown stops the first one is told. No scan is begun, so the last number of a row is not read.
+/// Of two unknown stops the first one is recorded. No scan is begun, so the last number of a row is not read.
 const UNKNOWN: &[Case] = &[
     ("an unknown first stop", "Q", "D", 28_800, 60, 0),
     ("two unknown stops", "Q", "R", 28_800, 60, 0),

@@ -1,5 +1,5 @@
 //! What calendar.txt and calendar_dates.txt say, or the first rule that each breaks.
-use crate::told::put_told;
+use crate::recorded::put_recorded;
 use gtfs_calendars::{DateRow, Weekly, WeeklyList, read_calendar, read_calendar_dates};
 use gtfs_fields::FileFault;
 use lc_model::ServiceDate;
@@ -43,13 +43,13 @@ pub fn put_files(alloc: Global, draft: &mut Draft) {
 fn put_file(alloc: Global, draft: &mut Draft, bytes: &[u8]) {
     draft.put("calendar.txt ");
     draft.put_escaped(bytes);
-    put_told(draft, &read_calendar(alloc, bytes));
+    put_recorded(draft, &read_calendar(alloc, bytes));
 }
 
 fn put_rows(alloc: Global, draft: &mut Draft, rows: &str) {
     draft.put("calendar.txt, rows ");
     draft.put_escaped(rows.as_bytes());
-    put_told(draft, &read_rows(alloc, rows));
+    put_recorded(draft, &read_rows(alloc, rows));
 }
 
 fn read_rows(alloc: Global, rows: &str) -> Result<WeeklyList, FileFault> {
@@ -122,7 +122,7 @@ pub fn put_date_files(alloc: Global, draft: &mut Draft) {
 fn put_date_file(alloc: Global, draft: &mut Draft, bytes: &[u8]) {
     draft.put("calendar_dates.txt ");
     draft.put_escaped(bytes);
-    put_told(draft, &read_calendar_dates(alloc, bytes));
+    put_recorded(draft, &read_calendar_dates(alloc, bytes));
 }
 
 /// A line for each date of a file.

@@ -2,10 +2,10 @@
 #![tactic(auto)]
 
 mod calendar_cases;
+mod recorded;
 mod row_cases;
 mod span_cases;
 mod stop_time_cases;
-mod told;
 mod transfer_cases;
 mod trip_cases;
 

@@ -1,5 +1,5 @@
 //! What stop_times.txt says, or the first rule that it breaks.
-use crate::told::put_told;
+use crate::recorded::put_recorded;
 use gtfs_fields::FileFault;
 use gtfs_trips::{StopTime, TimedTrips, read_stop_times, read_stops, read_trips};
 use lc_model::Stops;
@@ -67,7 +67,7 @@ fn put_files_at(alloc: Global, draft: &mut Draft, stops: &Stops) {
 fn put_file(alloc: Global, draft: &mut Draft, stops: &Stops, rows: &str) {
     draft.put("stop_times.txt, rows ");
     draft.put_escaped(rows.as_bytes());
-    put_told(draft, &read_rows(alloc, stops, rows));
+    put_recorded(draft, &read_rows(alloc, stops, rows));
 }
 
 fn read_rows(alloc: Global, stops: &Stops, rows: &str) -> Result<TimedTrips, FileFault> {

@@ -1,5 +1,5 @@
 //! What stops.txt and trips.txt say, or the first rule that each breaks.
-use crate::told::put_told;
+use crate::recorded::put_recorded;
 use gtfs_fields::TripRow;
 use gtfs_trips::{read_stops, read_trips};
 use lc_model::Stop;
@@ -35,7 +35,7 @@ pub fn put_stop_files(alloc: Global, draft: &mut Draft) {
 fn put_stop_file(alloc: Global, draft: &mut Draft, bytes: &[u8]) {
     draft.put("stops.txt ");
     draft.put_escaped(bytes);
-    put_told(draft, &read_stops(alloc, bytes));
+    put_recorded(draft, &read_stops(alloc, bytes));
 }
 
 /// A line for each stop of a file.
@@ -79,7 +79,7 @@ pub fn put_many_stops(alloc: Global, draft: &mut Draft) {
 
 fn put_count(alloc: Global, draft: &mut Draft, name: &str, file: &Draft) {
     draft.put(name);
-    put_told(draft, &read_stops(alloc, file.as_str().as_bytes()));
+    put_recorded(draft, &read_stops(alloc, file.as_str().as_bytes()));
 }
 
 fn put_numbers(file: &mut Draft) {
@@ -111,7 +111,7 @@ pub fn put_trip_files(alloc: Global, draft: &mut Draft) {
 fn put_trip_file(alloc: Global, draft: &mut Draft, bytes: &[u8]) {
     draft.put("trips.txt ");
     draft.put_escaped(bytes);
-    put_told(draft, &read_trips(alloc, bytes));
+    put_recorded(draft, &read_trips(alloc, bytes));
 }
 
 /// A line for each trip of a file: its service.

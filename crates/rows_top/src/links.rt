@@ -1,6 +1,6 @@
 //! Links that give other replies than the publisher's: those of another one, and no page.
 use crate::running::{A_TO_D, Case, over_tiny, put_line, put_list, run_list, text_of};
-use lc_world::{ListLink, ToldReply};
+use lc_world::{ListLink, RecordedReply};
 use rows_common::{Draft, Unmade};
 use std::alloc::Global;
 use tiny_feed::{CALENDAR_DATES, STOPS};
@@ -41,15 +41,15 @@ fn put_not_found(alloc: Global, draft: &mut Draft, words: &str, script: &str, re
 
 /// The text of the reply of this number, from 0, that a link recorded, or none where it recorded no such reply.
 pub fn reply_at(link: &ListLink, number: usize) -> &str {
-    match link.told().get(number) {
+    match link.recorded().get(number) {
         Some(entry) => reply_of(&entry.reply),
         None => "",
     }
 }
 
-fn reply_of(told: &ToldReply) -> &str {
-    match told {
-        ToldReply::Reply(reply) => text_of(reply.as_slice()),
+fn reply_of(recorded: &RecordedReply) -> &str {
+    match recorded {
+        RecordedReply::Reply(reply) => text_of(reply.as_slice()),
         _ => "",
     }
 }

@@ -1,6 +1,6 @@
 //! A link that gives the replies of a list.
 use lc_model::Bytes;
-use lc_world::{Entry, Link, LinkFail, ListLink, ToldReply};
+use lc_world::{Entry, Link, LinkFail, ListLink, RecordedReply};
 use rows_common::{Unmade, put_bytes, put_count, put_line, put_number};
 use std::alloc::Global;
 
@@ -18,7 +18,7 @@ fn link(alloc: Global) -> Result<ListLink, Unmade> {
     Ok(ListLink::new(replies)?)
 }
 
-/// A list of two replies: asked, handed on, and used up. What was replied is told, also an answer that is left as it is.
+/// A list of two replies: asked, handed on, and used up. What was replied is recorded, also an answer that is left as it is.
 pub fn put_links(alloc: Global, text: &mut String) -> Result<(), Unmade> {
     let mut link = link(alloc)?;
     put_exchanges(alloc, text, &mut link)
@@ -46,7 +46,7 @@ fn put_failures(
     put_answer(alloc, text, link, reply)
 }
 
-/// An answer that is handed on behind the failures, and all that is told.
+/// An answer that is handed on behind the failures, and all that is recorded.
 fn put_answer(
     alloc: Global,
     text: &mut String,
@@ -56,7 +56,7 @@ fn put_answer(
     reply.push(b'!')?;
     put_passed(alloc, text, link, "lc.example", "GET 4", reply)?;
     put_number(text, "faults of the link", link.faults())?;
-    put_told(text, link.told())
+    put_recorded(text, link.recorded())
 }
 
 fn put_exchanges(alloc: Global, text: &mut String, link: &mut ListLink) -> Result<(), Unmade> {
@@ -80,7 +80,7 @@ fn put_replies(
     put_used_up(alloc, text, link, reply)
 }
 
-/// The faults in front of an exchange without a reply and behind it, and all that is told.
+/// The faults in front of an exchange without a reply and behind it, and all that is recorded.
 fn put_used_up(
     alloc: Global,
     text: &mut String,
@@ -90,7 +90,7 @@ fn put_used_up(
     put_number(text, "faults of the link", link.faults())?;
     put_asked(alloc, text, link, "GET 4", reply)?;
     put_number(text, "faults of the link", link.faults())?;
-    put_told(text, link.told())
+    put_recorded(text, link.recorded())
 }
 
 fn put_asked(
@@ -127,25 +127,25 @@ fn put_came(text: &mut String, name: &str, came: Result<(), LinkFail>) -> Result
 }
 
 /// The exchanges that the link tells, behind their number.
-fn put_told(text: &mut String, told: &[Entry]) -> Result<(), Unmade> {
-    put_count(text, "told exchanges", told.len())?;
-    for entry in told {
+fn put_recorded(text: &mut String, recorded: &[Entry]) -> Result<(), Unmade> {
+    put_count(text, "recorded exchanges", recorded.len())?;
+    for entry in recorded {
         put_entry(text, entry)?;
     }
     Ok(())
 }
 
 fn put_entry(text: &mut String, entry: &Entry) -> Result<(), Unmade> {
-    put_line(text, "told authority", entry.authority.as_str())?;
-    put_bytes(text, "told request", entry.request.as_slice())?;
-    put_bytes(text, "told reply", reply_of(entry))
+    put_line(text, "recorded authority", entry.authority.as_str())?;
+    put_bytes(text, "recorded request", entry.request.as_slice())?;
+    put_bytes(text, "recorded reply", reply_of(entry))
 }
 
 /// The reply of an entry, in a word where there is none.
 fn reply_of(entry: &Entry) -> &[u8] {
     match &entry.reply {
-        ToldReply::Hidden => b"(hidden)",
-        ToldReply::Failed => b"(failed)",
-        ToldReply::Reply(reply) => reply.as_slice(),
+        RecordedReply::Hidden => b"(hidden)",
+        RecordedReply::Failed => b"(failed)",
+        RecordedReply::Reply(reply) => reply.as_slice(),
     }
 }

@@ -3,7 +3,7 @@ ghost use Rattle.std.specs.List.{Contains};
 ghost use Rattle.std.specs.List.Sorted.{IsSorted};
 ghost use Rattle.service_days.specs.Days.{AreDays, InDayOrder, day_cmp};
 ghost use Rattle.service_days.specs.Listing.{IsListed};
-ghost use Rattle.service_days.specs.declared.service_day.ServiceDay.{ServiceDay as Told};
+ghost use Rattle.service_days.specs.declared.service_day.ServiceDay.{ServiceDay as Stated};
 
 use crate::listing::{by_day, push_all_added, push_all_regular, removed_days};
 use crate::window::window_dates;
@@ -21,7 +21,7 @@ fn listed_days(
     count: u32,
 ) -> Result<Vec<ServiceDay>, NoMemory>
     requires { IsSorted day_cmp removed.now }
-    ensures { IfOk result (λ days. (d : Told) → Contains days.items d ↔ IsListed removed.now weekly.now dates.now first count d) }
+    ensures { IfOk result (λ days. (d : Stated) → Contains days.items d ↔ IsListed removed.now weekly.now dates.now first count d) }
 {
     let window = window_dates(alloc, first, count)?;
     let mut days = Vec::new(alloc);
@@ -32,7 +32,7 @@ fn listed_days(
 
 /// The days in their order, each once.
 fn in_order(mut days: Vec<ServiceDay>) -> Vec<ServiceDay>
-    ensures same { (d : Told) → Contains result.items d ↔ Contains days.items d }
+    ensures same { (d : Stated) → Contains result.items d ↔ Contains days.items d }
     ensures in_order { InDayOrder result.items }
 {
     days.sort_unstable_by(|a, b| by_day(a, b));

@@ -1,12 +1,12 @@
 ghost use Rattle.std.specs.Prelude.{◌≡◌, ◌↔◌, Any, IfOk, IsTrue, OnOk};
 ghost use Rattle.std.specs.List.{Contains};
 ghost use Rattle.std.specs.List.Sorted.{IsSorted};
-ghost use Rattle.gtfs_calendars.specs.declared.calendar.Weekly.{Weekly as ToldWeekly};
-ghost use Rattle.gtfs_calendars.specs.declared.calendar_dates.DateRow.{DateRow as ToldRow};
-ghost use Rattle.lc_model.specs.declared.date.ServiceDate.{ServiceDate as ToldDate};
+ghost use Rattle.gtfs_calendars.specs.declared.calendar.Weekly.{Weekly as StatedWeekly};
+ghost use Rattle.gtfs_calendars.specs.declared.calendar_dates.DateRow.{DateRow as StatedRow};
+ghost use Rattle.lc_model.specs.declared.date.ServiceDate.{ServiceDate as StatedDate};
 ghost use Rattle.service_days.specs.Days.{IsRemoved, day_cmp};
 ghost use Rattle.service_days.specs.Listing.{Gains, IsAddedBy, IsKept, IsRegularBy, IsRegularOn, IsRemovedBy};
-ghost use Rattle.service_days.specs.declared.service_day.ServiceDay.{ServiceDay as Told};
+ghost use Rattle.service_days.specs.declared.service_day.ServiceDay.{ServiceDay as Stated};
 
 use crate::ServiceDay;
 use crate::window::{is_in_window, runs_weekly};
@@ -89,7 +89,7 @@ pub(crate) fn push_all_regular(
     window: &[ServiceDate],
 ) -> Result<(), NoMemory>
     requires { IsSorted day_cmp removed.now }
-    ensures { OnOk result (Gains (λ (d : Told). Any (λ (row : ToldWeekly). IsRegularBy removed.now window.now row d) weekly.now)
+    ensures { OnOk result (Gains (λ (d : Stated). Any (λ (row : StatedWeekly). IsRegularBy removed.now window.now row d) weekly.now)
         days.old.items days.new.items) }
 {
     for row in weekly {
@@ -125,7 +125,7 @@ pub(crate) fn push_all_added(
     count: u32,
 ) -> Result<(), NoMemory>
     requires { IsSorted day_cmp removed.now }
-    ensures { OnOk result (Gains (λ (d : Told). Any (λ (row : ToldRow). IsAddedBy removed.now first count row d) dates.now)
+    ensures { OnOk result (Gains (λ (d : Stated). Any (λ (row : StatedRow). IsAddedBy removed.now first count row d) dates.now)
         days.old.items days.new.items) }
 {
     for row in dates {
@@ -147,7 +147,7 @@ fn push_removed_by(alloc: Global, days: &mut Vec<ServiceDay>, row: &DateRow) -> 
 
 /// The days that are taken away, sorted.
 pub(crate) fn removed_days(alloc: Global, dates: &[DateRow]) -> Result<Vec<ServiceDay>, NoMemory>
-    ensures all { IfOk result (λ days. (d : Told) → Contains days.items d ↔ IsRemoved dates.now d.service d.date) }
+    ensures all { IfOk result (λ days. (d : Stated) → Contains days.items d ↔ IsRemoved dates.now d.service d.date) }
     ensures sorted { IfOk result (λ days. IsSorted day_cmp days.items) }
 {
     let mut days = Vec::new(alloc);

@@ -1,7 +1,7 @@
 ghost use Rattle.std.specs.Prelude.{◌≡◌, List, filter};
 ghost use Rattle.lc_model.specs.Change.{is_same_id};
 ghost use Rattle.service_days.specs.Days.{InDayOrder};
-ghost use Rattle.service_days.specs.declared.service_day.ServiceDay.{ServiceDay as Told};
+ghost use Rattle.service_days.specs.declared.service_day.ServiceDay.{ServiceDay as Stated};
 
 use lc_model::{Id, Keyed, ServiceDate, items_of};
 use std::marker::Model;
@@ -57,7 +57,7 @@ impl Days {
 
     /// The dates of one service, found by two binary searches.
     pub fn of(&self, service: &Id) -> &[ServiceDay]
-        ensures { result.now ≡ filter (λ (d : Told). is_same_id d.service service.now) self.now }
+        ensures { result.now ≡ filter (λ (d : Stated). is_same_id d.service service.now) self.now }
     {
         items_of(self.as_slice(), service)
     }

@@ -1,7 +1,7 @@
 ghost use Rattle.std.specs.Prelude.{◌≡◌, ◌↔◌, ◌<◌, ◌≤ℤ◌, IfOk, IsTrue, OnOk, false, slice_index_or};
 ghost use Rattle.std.specs.List.{Contains};
 ghost use Rattle.jiff_core.specs.Calendar.{IsEpochDay};
-ghost use Rattle.lc_model.specs.declared.date.ServiceDate.{ServiceDate as Told};
+ghost use Rattle.lc_model.specs.declared.date.ServiceDate.{ServiceDate as Stated};
 ghost use Rattle.service_days.specs.Days.{IsInWindow, RunsWeekly, day_number, weekday_of};
 ghost use Rattle.service_days.specs.Listing.{Gains};
 
@@ -21,7 +21,7 @@ fn day_number(date: ServiceDate) -> i64
 
 /// Adds the date of this number, if there is one in the years 1 to 9999.
 fn push_date(list: &mut Vec<ServiceDate>, number: i64) -> Result<(), NoMemory>
-    ensures { OnOk result (Gains (λ (date : Told). day_number date ≡ number) list.old.items list.new.items) }
+    ensures { OnOk result (Gains (λ (date : Stated). day_number date ≡ number) list.old.items list.new.items) }
 {
     if let Ok(date) = Date::from_unix_epoch_day(number) {
         if date.year >= 1 {
@@ -37,7 +37,7 @@ pub(crate) fn window_dates(
     first: ServiceDate,
     count: u32,
 ) -> Result<Vec<ServiceDate>, NoMemory>
-    ensures { IfOk result (λ list. (date : Told) → Contains list.items date ↔ IsInWindow first count date) }
+    ensures { IfOk result (λ list. (date : Stated) → Contains list.items date ↔ IsInWindow first count date) }
 {
     let from = day_number(first);
     let mut list = Vec::new(alloc);

@@ -7,7 +7,7 @@ use Rattle.gtfs_tables.specs.Reading.{EndsSo, Keeps}
 use Rattle.gtfs_tables.specs.declared.fault.FeedFault.{FeedFault}
 use Rattle.gtfs_tables.specs.declared.fault.FeedFault.TheVariants as feed
 use Rattle.gtfs_tables.specs.declared.tables.Tables.{Tables}
-use Rattle.timetable.specs.Loading.{IsToldAs, LoadsSo, ReadsFeed}
+use Rattle.timetable.specs.Loading.{IsRecordedAs, LoadsSo, ReadsFeed}
 use Rattle.timetable.specs.Made.{FailsToMake}
 use Rattle.timetable.specs.Timetable.{IsTimetableOf}
 use Rattle.timetable.specs.Zone.{ReadsZone}
@@ -39,17 +39,17 @@ module _ (scope : Scope) (old mid new : FolderSeen) (zone : Zone) (read : ReadsZ
   made_ends tables (Err (Folder before after)) ends is fails = absurd fails
   made_ends tables (Err NoMemory) ends is fails = inr (zone, Ok tables, reads (Ok tables) ends)
 
-  ran_out : (found : FeedFault) (told : LoadFault) → EndsSo mid new scope.feed (Err found) → told ≡ NoMemory → LoadsSo scope old new (Err told)
-  ran_out found told ends is = subst (λ (t : LoadFault). LoadsSo scope old new (Err t)) (sym is) (inr (zone, Err found, reads (Err found) ends))
+  ran_out : (found : FeedFault) (recorded : LoadFault) → EndsSo mid new scope.feed (Err found) → recorded ≡ NoMemory → LoadsSo scope old new (Err recorded)
+  ran_out found recorded ends is = subst (λ (t : LoadFault). LoadsSo scope old new (Err t)) (sym is) (inr (zone, Err found, reads (Err found) ends))
 
-  pub fault_ends : (found : FeedFault) (told : LoadFault) (before : ℕ) → EndsSo mid new scope.feed (Err found) → IsToldAs found before told → before ≡ old.faults → old.faults ≤ mid.faults → LoadsSo scope old new (Err told)
-  fault_ends (feed.Broken rule at row) told before ends (inl is) at_start kept =
+  pub fault_ends : (found : FeedFault) (recorded : LoadFault) (before : ℕ) → EndsSo mid new scope.feed (Err found) → IsRecordedAs found before recorded → before ≡ old.faults → old.faults ≤ mid.faults → LoadsSo scope old new (Err recorded)
+  fault_ends (feed.Broken rule at row) recorded before ends (inl is) at_start kept =
       subst (λ (t : LoadFault). LoadsSo scope old new (Err t)) (sym is) (inr (record { zone = zone; at = at; read = reads (Err (feed.Broken rule at row)) ends; named = refl }))
-  fault_ends (feed.Broken rule at row) told before ends (inr is) at_start kept = ran_out (feed.Broken rule at row) told ends is
-  fault_ends (feed.TooLarge what count) told before ends is at_start kept =
+  fault_ends (feed.Broken rule at row) recorded before ends (inr is) at_start kept = ran_out (feed.Broken rule at row) recorded ends is
+  fault_ends (feed.TooLarge what count) recorded before ends is at_start kept =
       subst (λ (t : LoadFault). LoadsSo scope old new (Err t)) (sym is) (inl (record { zone = zone; read = reads (Err (feed.TooLarge what count)) ends }))
-  fault_ends (feed.Folder first after) told before ends is at_start kept =
+  fault_ends (feed.Folder first after) recorded before ends is at_start kept =
       let rose = rose_then before first after (omega (arith, at_start, kept, ends.0)) ends.2 in
       subst (λ (t : LoadFault). LoadsSo scope old new (Err t)) (sym is)
       (at_start, ends.1, rose, inr (zone, first, after, reads (Err (feed.Folder first after)) ends))
-  fault_ends feed.NoMemory told before ends is at_start kept = ran_out feed.NoMemory told ends is
+  fault_ends feed.NoMemory recorded before ends is at_start kept = ran_out feed.NoMemory recorded ends is

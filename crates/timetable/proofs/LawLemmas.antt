@@ -25,11 +25,11 @@ use Rattle.gtfs_tables.specs.declared.tables.Tables.{Tables}
 use Rattle.gtfs_tables.specs.declared.what.What.{What}
 use Rattle.trip_calls.specs.Laws.{OneListOfRuns}
 use Rattle.trip_calls.specs.Runs.{AreRunsOf, IsRunOf}
-use Rattle.timetable.specs.Laws.{AreSame, LoadsTold, NotBroken, NotTooLarge, OneOfTables, OneTimetable}
+use Rattle.timetable.specs.Laws.{AreSame, LoadsRecorded, NotBroken, NotTooLarge, OneOfTables, OneTimetable}
 use Rattle.timetable.specs.Loading.{ReadsTables}
 use Rattle.timetable.specs.Made.{HasManyChangesAlone, HasManyConnections}
 use Rattle.timetable.specs.Timetable.{HasFewChanges, IsTimetableOf, RunsAre}
-use Rattle.timetable.specs.Told.{IsSound, zone_bytes}
+use Rattle.timetable.specs.Recorded.{IsSound, zone_bytes}
 use Rattle.timetable.specs.Zone.{Finds, ReadsZone}
 use Rattle.timetable.specs.declared.scope.Scope.{Scope}
 use Rattle.timetable.specs.declared.timetable.Timetable.{Timetable}
@@ -102,7 +102,7 @@ module _ (one_days : OneListOfDays) (one_runs : OneListOfRuns) where
           let zones = one_zone scope.zone (zone_bytes files scope.zone) p.zone q.zone p.says q.says in
           one_by scope p.zone q.zone q.tables a b zones (subst (λ (t : Tables). IsTimetableOf scope p.zone t a) tables p.is) q.is
 
--- what was looked up of the zone's word is what told files have
+-- what was looked up of the zone's word is what recorded files have
 pub looked_up : (files : List File) (old new : FolderSeen) (found named : Option (List ℕ)) → old.files ≡ Some files
     → MatchOption named ((new ≡ old) × (found ≡ None)) (λ name. Finds old new name found)
     → (new.files ≡ Some files) × (found ≡ option_and_then (bytes_named files) named)
@@ -110,34 +110,34 @@ looked_up files old new found None tells (same, none) = (ap (λ (f : FolderSeen)
 looked_up files old new found (Some name) tells finds =
     (finds.kept.files ∙ tells, subst (λ t. IfSome t (λ files. found ≡ bytes_named files name)) tells finds.there)
 
--- what was found of a feed is what told files have
-pub found_is : (told : Option (List File)) (files : List File) (name : List ℕ) (found : Found) → told ≡ Some files
-    → IfSome told (λ files. (at : FeedFile) → found at ≡ files_of files name at) → found ≡ files_of files name
-found_is told files name found tells there = λ i at. subst (λ t. IfSome t (λ files. (at : FeedFile) → found at ≡ files_of files name at)) tells there at i
+-- what was found of a feed is what recorded files have
+pub found_is : (recorded : Option (List File)) (files : List File) (name : List ℕ) (found : Found) → recorded ≡ Some files
+    → IfSome recorded (λ files. (at : FeedFile) → found at ≡ files_of files name at) → found ≡ files_of files name
+found_is recorded files name found tells there = λ i at. subst (λ t. IfSome t (λ files. (at : FeedFile) → found at ≡ files_of files name at)) tells there at i
 
--- the zone that was read is the one that told files say
-pub zone_told : (files : List File) (old new : FolderSeen) (word : List ℕ) (zone : Zone) → old.files ≡ Some files → ReadsZone old new word zone → SaysZone word (zone_bytes files word) zone
-zone_told files old new word zone tells read =
+-- the zone that was read is the one that recorded files say
+pub zone_recorded : (files : List File) (old new : FolderSeen) (word : List ℕ) (zone : Zone) → old.files ≡ Some files → ReadsZone old new word zone → SaysZone word (zone_bytes files word) zone
+zone_recorded files old new word zone tells read =
     subst (λ found. SaysZone word found zone) (looked_up files old new read.found (file_named word) tells read.looked).1 read.says
 
 -- the folder tells the same files once the zone is read
-pub still_told : (files : List File) (old new : FolderSeen) (word : List ℕ) (zone : Zone) → old.files ≡ Some files → ReadsZone old new word zone → new.files ≡ Some files
-still_told files old new word zone tells read = (looked_up files old new read.found (file_named word) tells read.looked).0
+pub still_recorded : (files : List File) (old new : FolderSeen) (word : List ℕ) (zone : Zone) → old.files ≡ Some files → ReadsZone old new word zone → new.files ≡ Some files
+still_recorded files old new word zone tells read = (looked_up files old new read.found (file_named word) tells read.looked).0
 
--- the tables that were read are those of told files
-pub tables_told : (files : List File) (scope : Scope) (old new : FolderSeen) (zone : Zone) (tables : Tables) → old.files ≡ Some files → ReadsTables scope old new zone tables → AreTables (files_of files scope.feed) tables
-tables_told files scope old new zone tables tells read =
-    let told = still_told files old read.between scope.zone zone tells read.zone_read in
+-- the tables that were read are those of recorded files
+pub tables_recorded : (files : List File) (scope : Scope) (old new : FolderSeen) (zone : Zone) (tables : Tables) → old.files ≡ Some files → ReadsTables scope old new zone tables → AreTables (files_of files scope.feed) tables
+tables_recorded files scope old new zone tables tells read =
+    let recorded = still_recorded files old read.between scope.zone zone tells read.zone_read in
     let ends = read.files_read in
-    subst (λ (found : Found). AreTables found tables) (found_is read.between.files files scope.feed ends.0 told ends.1.found_there) ends.2
+    subst (λ (found : Found). AreTables found tables) (found_is read.between.files files scope.feed ends.0 recorded ends.1.found_there) ends.2
 
--- what is loaded from told files is their timetable
-pub loads_told : LoadsTold
-loads_told files scope old new made tells loads = record {
+-- what is loaded from recorded files is their timetable
+pub loads_recorded : LoadsRecorded
+loads_recorded files scope old new made tells loads = record {
   zone = loads.zone;
-  says = zone_told files old loads.read.between scope.zone loads.zone tells loads.read.zone_read;
+  says = zone_recorded files old loads.read.between scope.zone loads.zone tells loads.read.zone_read;
   tables = loads.tables;
-  are_tables = tables_told files scope old new loads.zone loads.tables tells loads.read;
+  are_tables = tables_recorded files scope old new loads.zone loads.tables tells loads.read;
   is = loads.is;
 }
 
@@ -146,8 +146,8 @@ module _ (never_both : NeverBoth) (never_wrong : NeverWrong) where
   not_wrong : (files : List File) (scope : Scope) (old new : FolderSeen) (made : Timetable) (zone : Zone) (between : FolderSeen) (found : Found) (place asked answered : ℕ) (at : FeedFile) (wrong : FileFault) → old.files ≡ Some files
       → IsSound files scope made → ReadsZone old between scope.zone zone → Reads between new scope.feed found asked answered → IsFirstBroken found place at wrong → ⊥
   not_wrong files scope old new made zone between found place asked answered at wrong tells sound zone_read reads first =
-      let told = still_told files old between scope.zone zone tells zone_read in
-      let same = found_is between.files files scope.feed found told reads.found_there in
+      let recorded = still_recorded files old between scope.zone zone tells zone_read in
+      let same = found_is between.files files scope.feed found recorded reads.found_there in
       never_both (files_of files scope.feed) sound.tables place at wrong sound.are_tables (subst (λ (f : Found). IsFirstBroken f place at wrong) same first)
 
   pub not_broken : NotBroken
@@ -162,8 +162,8 @@ module _ (never_both : NeverBoth) (never_wrong : NeverWrong) where
     -- the runs of the tables that were read are those of the timetable
     same_runs : (files : List File) (scope : Scope) (old new : FolderSeen) (made : Timetable) (zone : Zone) (tables : Tables) (runs : List Run) → old.files ≡ Some files → IsSound files scope made → ReadsTables scope old new zone tables → RunsAre scope zone tables runs → runs ≡ made.runs
     same_runs files scope old new made zone tables runs tells sound read are =
-        let one = one_tables (files_of files scope.feed) tables sound.tables (tables_told files scope old new zone tables tells read) sound.are_tables in
-        let zones = one_zone scope.zone (zone_bytes files scope.zone) zone sound.zone (zone_told files old read.between scope.zone zone tells read.zone_read) sound.says in
+        let one = one_tables (files_of files scope.feed) tables sound.tables (tables_recorded files scope old new zone tables tells read) sound.are_tables in
+        let zones = one_zone scope.zone (zone_bytes files scope.zone) zone sound.zone (zone_recorded files old read.between scope.zone zone tells read.zone_read) sound.says in
         one_of_runs one_days one_runs scope sound.zone sound.tables runs made.runs
         (runs_by_other zone sound.zone scope sound.tables runs zones (subst (λ (t : Tables). RunsAre scope zone t runs) one are)) sound.is.runs
 
@@ -174,7 +174,7 @@ module _ (never_both : NeverBoth) (never_wrong : NeverWrong) where
         let as_many : length (connections_of many.runs) ≡ length (connections_of made.runs) = ap (λ (r : List Run). length (connections_of r)) runs in
         omega (arith, as_many, many.many, sound.is.few_connections)
     not_much files scope old new made zone tables what count tells sound read (inr many) =
-        let one = one_tables (files_of files scope.feed) tables sound.tables (tables_told files scope old new zone tables tells read) sound.are_tables in
+        let one = one_tables (files_of files scope.feed) tables sound.tables (tables_recorded files scope old new zone tables tells read) sound.are_tables in
         let few = subst (λ (t : Tables). HasFewChanges scope t) (sym one) sound.is.few_changes in
         omega (arith, many.changes.many, few)
 

@@ -16,13 +16,13 @@ use Rattle.gtfs_tables.specs.declared.what.What.{What}
 use Rattle.timetable.specs.Loading.{Loads, LoadsSo}
 use Rattle.timetable.specs.Made.{HasManyChangesAlone, HasManyConnections}
 use Rattle.timetable.specs.Timetable.{HasFewChanges, IsTimetableOf, RunsAre}
-use Rattle.timetable.specs.Told.{IsSound, zone_bytes}
+use Rattle.timetable.specs.Recorded.{IsSound, zone_bytes}
 use Rattle.timetable.specs.declared.fault.LoadFault.{LoadFault}
 use Rattle.timetable.specs.declared.fault.LoadFault.TheVariants as fault
 use Rattle.timetable.specs.declared.scope.Scope.{Scope}
 use Rattle.timetable.specs.declared.timetable.Timetable.{Timetable}
 
--- Two timetables have the same runs, document and counts. Their zones may be told in two ways, but show the same.
+-- Two timetables have the same runs, document and counts. Their zones may be recorded in two ways, but show the same.
 pub record AreSame (a b : Timetable) : Type 0 where
   pub zones : ShowSame a.zone b.zone
   pub runs : a.runs ≡ b.runs
@@ -37,23 +37,23 @@ OneOfTables =
     (scope : Scope) (zone : Zone) (tables : Tables) (a b : Timetable) → IsTimetableOf scope zone tables a → IsTimetableOf scope zone tables b
     → AreSame a b
 
--- told files have one timetable in a scope
+-- recorded files have one timetable in a scope
 abbrev pub OneTimetable : Type 0
 OneTimetable = (files : List File) (scope : Scope) (a b : Timetable) → IsSound files scope a → IsSound files scope b → AreSame a b
 
 -- what is loaded from a folder that tells its files is the timetable of these
-abbrev pub LoadsTold : Type 0
-LoadsTold =
+abbrev pub LoadsRecorded : Type 0
+LoadsRecorded =
     (files : List File) (scope : Scope) (old new : FolderSeen) (made : Timetable) → old.files ≡ Some files → Loads scope old new made
     → IsSound files scope made
 
--- where told files have a timetable, none of them breaks a rule
+-- where recorded files have a timetable, none of them breaks a rule
 abbrev pub NotBroken : Type 0
 NotBroken =
     (files : List File) (scope : Scope) (old new : FolderSeen) (made : Timetable) (rule : ℕ) (file : List ℕ) (row : ℕ) → old.files ≡ Some files
     → IsSound files scope made → LoadsSo scope old new (Err (fault.Broken rule file row)) → ⊥
 
--- where told files have a timetable, nothing of it is too large
+-- where recorded files have a timetable, nothing of it is too large
 abbrev pub NotTooLarge : Type 0
 NotTooLarge =
     (files : List File) (scope : Scope) (old new : FolderSeen) (made : Timetable) (what : What) (count : ℕ) → old.files ≡ Some files
@@ -74,7 +74,7 @@ AreSameEnds (Ok a) (Err g) = ⊥
 AreSameEnds (Err f) (Ok b) = ⊥
 AreSameEnds (Err f) (Err g) = f ≡ g
 
--- The loading of told files ends in one way, but for faults of the folder and running out of memory: the timetable, the first rule that
+-- The loading of recorded files ends in one way, but for faults of the folder and running out of memory: the timetable, the first rule that
 -- is broken with its file and row, or what is too large and how much of it.
 abbrev pub OneEnd : Type 0
 OneEnd =
@@ -82,7 +82,7 @@ OneEnd =
     → old.files ≡ Some files → other.files ≡ Some files → IsOfFiles x → IsOfFiles y → LoadsSo scope old new x → LoadsSo scope other later y
     → AreSameEnds x y
 
--- where the word says a zone and told files break this rule first, the loading ends with it, but for faults of the folder and want
+-- where the word says a zone and recorded files break this rule first, the loading ends with it, but for faults of the folder and want
 -- of memory
 abbrev pub BrokenEnds : Type 0
 BrokenEnds =

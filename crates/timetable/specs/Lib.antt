@@ -4,5 +4,5 @@ pub mod Made
 pub mod Scope
 pub mod Timetable
 pub mod Tiny
-pub mod Told
+pub mod Recorded
 pub mod Zone

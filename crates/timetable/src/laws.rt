@@ -1,4 +1,4 @@
-ghost use Rattle.timetable.specs.Laws.{BrokenEnds, FineEnds, LoadsTold, MuchEnds, NoZoneEnds, NotBroken, NotTooLarge, OneEnd, OneOfTables, OneTimetable, RowsEnd};
+ghost use Rattle.timetable.specs.Laws.{BrokenEnds, FineEnds, LoadsRecorded, MuchEnds, NoZoneEnds, NotBroken, NotTooLarge, OneEnd, OneOfTables, OneTimetable, RowsEnd};
 
 use change_table::one_list_of_changes;
 use gtfs_tables::one_feed;
@@ -10,7 +10,7 @@ use trip_calls::one_list_of_runs;
 pub fn one_timetable()
     ensures of_tables { OneOfTables }
     ensures one { OneTimetable }
-    ensures loads_told { LoadsTold }
+    ensures loads_recorded { LoadsRecorded }
     ensures not_broken { NotBroken }
     ensures not_too_large { NotTooLarge }
 {

@@ -1,6 +1,6 @@
 ghost use Rattle.std.specs.Prelude.{◌≡◌, ◌⊎◌};
 ghost use Rattle.gtfs_tables.specs.Reading.{Keeps};
-ghost use Rattle.timetable.specs.Loading.{IsToldAs, LoadsSo};
+ghost use Rattle.timetable.specs.Loading.{IsRecordedAs, LoadsSo};
 ghost use Rattle.timetable.specs.Scope.{IsWindow};
 ghost use Rattle.timetable.specs.declared.fault.LoadFault.TheVariants.{Broken, NoMemory as OutOfMemory};
 
@@ -47,7 +47,7 @@ pub fn load<F: Folder>(alloc: Global, folder: &mut F, scope: &Scope) -> Result<T
 
 // The fault of a feed as one of its timetable. The count of the folder's faults was `before` at the start.
 fn feed_fault(alloc: Global, fault: FeedFault, before: u64) -> LoadFault
-    ensures { IsToldAs fault before result }
+    ensures { IsRecordedAs fault before result }
 {
     match fault {
         FeedFault::Broken { rule, file, row } => match String::from_str(alloc, file.name()) {

@@ -8,5 +8,5 @@ abbrev pub name_and_text : File → List ℕ × List ℕ
 name_and_text file = (file.name, file.bytes)
 
 -- a name and a text that are lent
-abbrev pub told : Bor (List ℕ) × Bor (List ℕ) → List ℕ × List ℕ
-told pair = (pair.0.now, pair.1.now)
+abbrev pub recorded : Bor (List ℕ) × Bor (List ℕ) → List ℕ × List ℕ
+recorded pair = (pair.0.now, pair.1.now)

@@ -2,7 +2,7 @@
 #![tactic(auto)]
 
 ghost use Rattle.std.specs.Prelude.{◌≡◌, IfOk, map};
-ghost use Rattle.tiny_feed.specs.Files.{name_and_text, told};
+ghost use Rattle.tiny_feed.specs.Files.{name_and_text, recorded};
 
 use lc_io::File;
 use lc_model::{Bytes, NoMemory, Text};
@@ -38,7 +38,7 @@ pub const TINY: [(&str, &str); 4] = [
 
 /// Files of these names and texts.
 pub fn files_of(alloc: Global, texts: &[(&str, &str)]) -> Result<Vec<File>, NoMemory>
-    ensures { IfOk result (λ files. map name_and_text files.items ≡ map told texts.now) }
+    ensures { IfOk result (λ files. map name_and_text files.items ≡ map recorded texts.now) }
 {
     let mut files = Vec::with_capacity(alloc, texts.len())?;
     for (name, text) in texts {

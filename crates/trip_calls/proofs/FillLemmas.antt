@@ -149,9 +149,9 @@ blanks rows place stays s timely so_far is lt =
     let timed = so_far.last_timed lt in
     let at = last_is rows place stays so_far lt in
     let next : i + 1 ≡ n = omega (arith, lt) in
-    let told : blank_after stays place s.arr ≡ blank_stays (departs_at rows i) i place s.arr = ap (λ o. option_map_or (λ (last : Stay). blank_stays last.dep i place s.arr) o []) at in
+    let stated : blank_after stays place s.arr ≡ blank_stays (departs_at rows i) i place s.arr = ap (λ o. option_map_or (λ (last : Stay). blank_stays last.dep i place s.arr) o []) at in
     let here : blank_stays (departs_at rows i) i place s.arr ≡ map (blank_at (departs_at rows i) i place s.arr) (range_with_len n (place - n)) = ap (λ v. map (blank_at (departs_at rows i) i place s.arr) (range_with_len v (place - v))) next in
-    told ∙ here ∙ map_range (blank_at (departs_at rows i) i place s.arr) (stay_at rows) n (place - n) (λ k low high. at_place timed k low (omega (arith, high, so_far.not_past)))
+    stated ∙ here ∙ map_range (blank_at (departs_at rows i) i place s.arr) (stay_at rows) n (place - n) (λ k low high. at_place timed k low (omega (arith, high, so_far.not_past)))
   where
     at_place : is_timed_at rows (length stays - 1) ≡ true → (k : ℕ) → length stays ≤ k → k < place → blank_at (departs_at rows (length stays - 1)) (length stays - 1) place s.arr k ≡ stay_at rows k
     at_place timed k low high =

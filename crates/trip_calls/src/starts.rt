@@ -6,7 +6,7 @@ ghost use Rattle.lc_model.specs.Text.{id_cmp};
 ghost use Rattle.gtfs_calendars.specs.Spans.{AreSpans, IsSpan};
 ghost use Rattle.gtfs_calendars.specs.declared.frequency.Frequency.{Frequency as Row};
 ghost use Rattle.trip_calls.specs.Starts.{AreAllGiven, AreGiven, AreStarts, GainsStarts, GivesSoMany, HaveSameStarts, HaveStarts};
-ghost use Rattle.trip_calls.specs.declared.start.Start.{Start as Told};
+ghost use Rattle.trip_calls.specs.declared.start.Start.{Start as Stated};
 
 use crate::start::Start;
 use gtfs_calendars::{Frequencies, Frequency};
@@ -96,7 +96,7 @@ fn given_starts(alloc: Global, spans: &[Frequency]) -> Result<Vec<u32>, NoMemory
 
 fn push_given(starts: &mut Vec<Start>, given: &[u32]) -> Result<(), NoMemory>
     requires { All (λ s. s < 360_000) given.now }
-    ensures { OnOk result (map (λ (s : Told). s.seconds) starts.new.items ≡ map (λ (s : Told). s.seconds) starts.old.items ++ map Some given.now) }
+    ensures { OnOk result (map (λ (s : Stated). s.seconds) starts.new.items ≡ map (λ (s : Stated). s.seconds) starts.old.items ++ map Some given.now) }
 {
     'given: for &seconds in given {
         starts.push(Start {

@@ -115,8 +115,8 @@ abbrev pub takes_out : Bool → Entity → Bool
 takes_out full entity = not full && entity.deleted
 
 -- an entity that takes another one out has no news
-abbrev pub told : Bool → Entity → EntitySaid
-told full entity = if takes_out full entity then record { id = entity.news.id; news = None } else entity.news
+abbrev pub stated : Bool → Entity → EntitySaid
+stated full entity = if takes_out full entity then record { id = entity.news.id; news = None } else entity.news
 
 -- a trip update that is passed over counts unless its entity takes another one out
 abbrev pub counts : Bool → Entity → Bool
@@ -127,7 +127,7 @@ abbrev pub update_with : Head → List Entity → Update
 update_with head entities = record {
   moment = head.moment;
   full = head.full;
-  entities = map (told head.full) entities;
+  entities = map (stated head.full) entities;
   passed = count_by (counts head.full) entities;
 }
 

@@ -4,7 +4,7 @@ ghost use Rattle.trip_updates.specs.Tree.{Tree};
 ghost use Rattle.trip_updates.specs.Table.{feed_message, lacks};
 ghost use Rattle.trip_updates.specs.Faults.{Reader, step, complete, read};
 ghost use Rattle.trip_updates.specs.Shows.{Answers, SpanEnds, ShowsFeed, ShowsUpdate};
-ghost use Rattle.trip_updates.specs.Meaning.{update_with, told as told_of, counts};
+ghost use Rattle.trip_updates.specs.Meaning.{update_with, stated as stated_of, counts};
 ghost use Rattle.trip_updates.specs.Message.{IsMessage};
 ghost use Rattle.trip_updates.specs.Faults.{fault_of};
 ghost use Rattle.lc_versions.specs.declared.update.Update.{Update as Said};
@@ -55,8 +55,8 @@ fn with_field(
 }
 
 // What an entity says in a message that is full or not.
-fn told(full: bool, entity: Entity) -> EntityNews
-    ensures { result ≡ told_of full entity }
+fn stated(full: bool, entity: Entity) -> EntityNews
+    ensures { result ≡ stated_of full entity }
 {
     if !full && entity.deleted {
         entity.news.without_news()
@@ -87,18 +87,18 @@ fn count(passed: u32, one_more: bool) -> Result<u32, RtFault>
 }
 
 // Adds what an entity says in a message that is full or not. How many are passed over then, of so many before.
-fn push_told(
+fn push_stated(
     said: &mut Vec<EntityNews>,
     passed: u32,
     full: bool,
     entity: Entity,
 ) -> Result<u32, RtFault>
-    ensures said { OnOk result (said.new.items ≡ said.old.items ++ told_of full entity ∷ []) }
+    ensures said { OnOk result (said.new.items ≡ said.old.items ++ stated_of full entity ∷ []) }
     ensures passed { IfOk result (λ count. count ≡ passed + (if counts full entity then 1 else 0)) }
     ensures err { IfErr result (λ fault. fault ≡ NoMemory) }
 {
     let passed = count(passed, is_counted(full, &entity))?;
-    said.push(told(full, entity))?;
+    said.push(stated(full, entity))?;
     Ok(passed)
 }
 
@@ -110,7 +110,7 @@ fn update(alloc: Global, head: Head, entities: Vec<Entity>) -> Result<Update, Rt
     let mut said = Vec::with_capacity(alloc, entities.len())?;
     let mut passed: u32 = 0;
     for entity in entities {
-        passed = push_told(&mut said, passed, head.full, entity)?;
+        passed = push_stated(&mut said, passed, head.full, entity)?;
     }
     Ok(Update {
         moment: head.moment,

@@ -8,7 +8,7 @@ ghost use Rattle.lc_model.specs.Change.{is_same_id};
 ghost use Rattle.lc_versions.specs.History.{Entry, filled, kept_behind, news_at, up_to};
 ghost use Rattle.version_store.specs.Dates.{date_in};
 ghost use Rattle.version_store.specs.Kept.{entity_said, entry_said, kept_of, news_said, survivors, then_all, then_entities};
-ghost use Rattle.version_store.specs.declared.store.Admission.{Admission as ToldAdmission};
+ghost use Rattle.version_store.specs.declared.store.Admission.{Admission as StatedAdmission};
 
 use crate::dated::{DatedNews, dated_news};
 use crate::store::Admission;

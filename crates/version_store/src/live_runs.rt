@@ -6,8 +6,8 @@ ghost use Rattle.lc_model.specs.Call.{GoesForward};
 ghost use Rattle.lc_model.specs.RunKey.{key_cmp};
 ghost use Rattle.lc_model.specs.Run.{InKeyOrder};
 ghost use Rattle.lc_model.specs.Text.{IsIdText};
-ghost use Rattle.lc_model.specs.declared.key.RunKey.{RunKey as ToldKey};
-ghost use Rattle.lc_model.specs.declared.run.Run.{Run as ToldRun};
+ghost use Rattle.lc_model.specs.declared.key.RunKey.{RunKey as StatedKey};
+ghost use Rattle.lc_model.specs.declared.run.Run.{Run as StatedRun};
 ghost use Rattle.lc_versions.specs.Added.{IsFurtherRun, has_key};
 ghost use Rattle.lc_versions.specs.Live.{live_calls_of};
 ghost use Rattle.lc_versions.specs.Timetable.{AreLiveRuns};
@@ -117,7 +117,7 @@ fn put_live(
     run: &Run,
     named: &BTreeMap<RunKey, DatedNews<'_>>,
 ) -> Result<(), NoMemory>
-    ensures put { OnOk result ((key : ToldKey) → get key_cmp live.new key ≡ (if is_eq (key_cmp run.now.key key)
+    ensures put { OnOk result ((key : StatedKey) → get key_cmp live.new key ≡ (if is_eq (key_cmp run.now.key key)
         then Some (live_calls_of run.now.calls (said_at named.now run.now.key)) else get key_cmp live.old key)) }
     ensures forward { OnOk result (GoesForward (live_calls_of run.now.calls (said_at named.now run.now.key))) }
 {
@@ -149,7 +149,7 @@ fn all_runs(
 /// The runs in the order of their keys.
 fn runs_in(alloc: Global, live: BTreeMap<RunKey, Calls>) -> Result<Vec<Run>, NoMemory>
     ensures in_order { IfOk result (λ runs. InKeyOrder runs.items) }
-    ensures exactly { IfOk result (λ runs. (run : ToldRun) → Contains runs.items run ↔ (get key_cmp live run.key ≡ Some run.calls)) }
+    ensures exactly { IfOk result (λ runs. (run : StatedRun) → Contains runs.items run ↔ (get key_cmp live run.key ≡ Some run.calls)) }
 {
     let mut runs = Vec::with_capacity(alloc, live.len())?;
     'entries: for (key, calls) in live {
@@ -167,7 +167,7 @@ pub(crate) fn live_runs(
     news: &[DatedNews<'_>],
 ) -> Result<Runs, NoMemory>
     ensures live { IfOk result (AreLiveRuns runs.now stops.now (map news_said news.now)) }
-    ensures forward { IfOk result (All (λ (r : ToldRun). GoesForward r.calls)) }
+    ensures forward { IfOk result (All (λ (r : StatedRun). GoesForward r.calls)) }
 {
     let live = all_runs(alloc, runs.as_slice(), stops, news)?;
     Ok(Runs::from_list(runs_in(alloc, live)?))

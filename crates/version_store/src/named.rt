@@ -1,7 +1,7 @@
 ghost use Rattle.std.specs.Prelude.{◌≡◌, IfOk, OnOk, Some, false, if◌then◌else◌, map};
 ghost use Rattle.std.specs.BTreeMap.{get};
 ghost use Rattle.lc_model.specs.RunKey.{key_cmp};
-ghost use Rattle.lc_model.specs.declared.key.RunKey.{RunKey as ToldKey};
+ghost use Rattle.lc_model.specs.declared.key.RunKey.{RunKey as StatedKey};
 ghost use Rattle.lc_versions.specs.Naming.{is_added as is_of_added};
 ghost use Rattle.version_store.specs.Kept.{news_said};
 ghost use Rattle.version_store.specs.Named.{HasNamed, PutsNamed, names_started};
@@ -33,7 +33,7 @@ fn put_started<'a>(
 ) -> Result<(), NoMemory>
     requires of_timetable { is_of_added news.news.now.kind ≡ false }
     requires trip { trip.now ≡ news.news.now.trip }
-    ensures { OnOk result ((key : ToldKey) → get key_cmp named.new key
+    ensures { OnOk result ((key : StatedKey) → get key_cmp named.new key
         ≡ (if names_started key (news_said news.entry) then Some news.entry else get key_cmp named.old key)) }
 {
     let said = news.news;

@@ -2,8 +2,8 @@ ghost use Rattle.std.specs.Prelude.{◌≡◌, ◌∷◌, ◌++◌, ◌&&◌, []
 ghost use Rattle.std.specs.List.{Contains};
 ghost use Rattle.lc_model.specs.Call.{GoesForward};
 ghost use Rattle.lc_model.specs.Connection.{NoneArrivesEarly, connections_of, connections_of_calls};
-ghost use Rattle.lc_model.specs.declared.key.RunKey.{RunKey as ToldKey};
-ghost use Rattle.lc_model.specs.declared.run.Run.{Run as ToldRun};
+ghost use Rattle.lc_model.specs.declared.key.RunKey.{RunKey as StatedKey};
+ghost use Rattle.lc_model.specs.declared.run.Run.{Run as StatedRun};
 ghost use Rattle.lc_versions.specs.Pages.{departing, departures_of, is_before};
 ghost use Rattle.version_store.specs.Rows.{AreDepartingOf, AreDepartures, AreDeparturesOf, AreRows};
 ghost use Rattle.version_store.specs.Store.{AreRunsAt, versions_of};
@@ -27,7 +27,7 @@ fn is_in(from: Moment, to: &Option<Moment>, departure: Moment) -> bool
 
 /// Whether a call departs from a moment on, and before the other one where there is one.
 fn departs_in(calls: &[Call], from: Moment, to: &Option<Moment>) -> bool
-    ensures { (key : ToldKey) → result ≡ false → departing from to.now (connections_of_calls key calls.now) ≡ [] }
+    ensures { (key : StatedKey) → result ≡ false → departing from to.now (connections_of_calls key calls.now) ≡ [] }
 {
     'calls: for call in calls {
         if is_in(from, to, call.dep) {
@@ -82,7 +82,7 @@ fn all_connections(
     from: Moment,
     to: &Option<Moment>,
 ) -> Result<Vec<Connection>, NoMemory>
-    requires { All (λ (r : ToldRun). GoesForward r.calls) runs.now }
+    requires { All (λ (r : StatedRun). GoesForward r.calls) runs.now }
     ensures { IfOk result (λ list. list.items ≡ departing from to.now (connections_of runs.now)) }
 {
     let mut list = Vec::new(alloc);
@@ -99,7 +99,7 @@ fn sorted_connections(
     from: Moment,
     to: &Option<Moment>,
 ) -> Result<Vec<Connection>, NoMemory>
-    requires { All (λ (r : ToldRun). GoesForward r.calls) runs.now }
+    requires { All (λ (r : StatedRun). GoesForward r.calls) runs.now }
     ensures are { IfOk result (λ list. AreDepartingOf runs.now from to.now list.items) }
     ensures forward { IfOk result (λ list. NoneArrivesEarly list.items) }
 {
@@ -132,7 +132,7 @@ fn all_departures(alloc: Global, runs: &[Run]) -> Result<Vec<Moment>, NoMemory>
 
 /// The same in their order. Takes the time of a sort.
 fn sorted_departures(alloc: Global, runs: &Runs) -> Result<Vec<Moment>, NoMemory>
-    requires { All (λ (r : ToldRun). GoesForward r.calls) runs.now }
+    requires { All (λ (r : StatedRun). GoesForward r.calls) runs.now }
     ensures { IfOk result (λ departures. AreDeparturesOf runs.now departures.items) }
 {
     let mut departures = all_departures(alloc, runs.as_slice())?;
@@ -144,7 +144,7 @@ impl Store {
     /// The runs of a version with their live calls.
     fn runs_at(&self, alloc: Global, version: Moment) -> Result<Runs, NoMemory>
         ensures are { IfOk result (AreRunsAt self.now version) }
-        ensures forward { IfOk result (All (λ (r : ToldRun). GoesForward r.calls)) }
+        ensures forward { IfOk result (All (λ (r : StatedRun). GoesForward r.calls)) }
     {
         let news = kept_news(alloc, &self.zone, version, self.admitted.as_slice())?;
         live_runs(alloc, &self.runs, &self.stops, news.as_slice())

@@ -12,7 +12,7 @@ returns-in-Ok-Closed-clause-taken g c =
     let after = g.D.Door.seen c.next.new.self in
     let asked : NextSaid (Ok c.in-Ok-Closed.field-0) middle after = record {
       connected = c.in-Ok-Closed.ensures.connected;
-      told = c.in-Ok-Closed.ensures.told;
+      recorded = c.in-Ok-Closed.ensures.recorded;
       faults = c.next.ensures.faults.not_fallen;
       listens = c.next.ensures.listens;
       broken = c.next.ensures.broken;
@@ -26,7 +26,7 @@ returns-in-Err-clause-taken g c =
     (g.D.Door.seen c.clients.door) (g.D.Door.seen c.next.new.self) c.clients.invariant c.clients-test.true
     (record {
       connected = c.in-Err.ensures.connected;
-      told = c.in-Err.ensures.told;
+      recorded = c.in-Err.ensures.recorded;
       faults = c.next.ensures.faults.not_fallen;
       listens = c.next.ensures.listens;
       broken = c.next.ensures.broken;
@@ -38,7 +38,7 @@ clients-preserved g c =
     let opened = g.D.Door.seen c.next.new.self in
     let asked : NextSaid (Ok c.in-Ok-Connection.field-0) middle opened = record {
       connected = c.in-Ok-Connection.ensures.connected;
-      told = c.in-Ok-Connection.ensures.told;
+      recorded = c.in-Ok-Connection.ensures.recorded;
       faults = c.next.ensures.faults.not_fallen;
       listens = c.next.ensures.listens;
       broken = c.next.ensures.broken;

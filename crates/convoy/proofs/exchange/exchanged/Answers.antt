@@ -15,7 +15,7 @@ returns-in-Ok-clause-replied g c =
         clear = given.clear;
         still = given.still;
         side = given.side;
-        told = given.told;
+        recorded = given.recorded;
         faults = given.faults;
       };
       client = refl;
@@ -34,7 +34,7 @@ returns-in-Err-Failed-clause-failed g c =
         clear = given.clear;
         still = given.still;
         side = given.side;
-        told = given.told;
+        recorded = given.recorded;
         faults = given.faults;
       };
       client = c.give_link_fault.ensures ∙ ap (λ (n : ℕ). F n c.faults.result) c.faults-before.ensures ∙ ap (F _) c.faults.ensures;

@@ -4,7 +4,7 @@ use Rattle.gtfs_fields.specs.Columns.{row_at, text_in}
 use Rattle.gtfs_fields.specs.Places.{is_unknown}
 use Rattle.gtfs_fields.specs.Rules.{first_of}
 use Rattle.gtfs_fields.specs.Fields.{id_said}
-use Rattle.gtfs_fields.proofs.Said.{none_told}
+use Rattle.gtfs_fields.proofs.Said.{none_recorded}
 use Rattle.gtfs_calendars.specs.Transfers.{from_of, ids_of_stops, is_kind, is_of_some_trips, is_passed_over, kind_of, kind_said, seconds_of, seconds_said, to_of, transfer_of, transfer_rules, transfer_said, transfers_rule}
 use Rattle.gtfs_calendars.proofs.TransferFacts.{reads_transfer}
 use Rattle.gtfs_calendars.proofs.transfers_file.transfer_at.Goals as goal
@@ -26,8 +26,8 @@ returns c = λ stops known.
     let passed =
     c.passed_over-passed.ensures
     ∙ ap (λ (k : Option ℕ). not (is_kind k) || (c.is_none.result || (c.is_none-2.result || c.of_some_trips-of_some.result))) kind
-    ∙ ap (λ (b : Bool). not (is_kind (kind_of sheet row)) || (b || (c.is_none-2.result || c.of_some_trips-of_some.result))) (none_told c.in_ok-first.first c.is_none.result c.is_none.ensures ∙ ap is_none first)
-    ∙ ap (λ (b : Bool). not (is_kind (kind_of sheet row)) || (is_none (id_said (from_of sheet row)) || (b || c.of_some_trips-of_some.result))) (none_told c.in_ok-last.last c.is_none-2.result c.is_none-2.ensures ∙ ap is_none last)
+    ∙ ap (λ (b : Bool). not (is_kind (kind_of sheet row)) || (b || (c.is_none-2.result || c.of_some_trips-of_some.result))) (none_recorded c.in_ok-first.first c.is_none.result c.is_none.ensures ∙ ap is_none first)
+    ∙ ap (λ (b : Bool). not (is_kind (kind_of sheet row)) || (is_none (id_said (from_of sheet row)) || (b || c.of_some_trips-of_some.result))) (none_recorded c.in_ok-last.last c.is_none-2.result c.is_none-2.ensures ∙ ap is_none last)
     ∙ ap (λ (b : Bool). not (is_kind (kind_of sheet row)) || (is_none (id_said (from_of sheet row)) || (is_none (id_said (to_of sheet row)) || b))) c.of_some_trips-of_some.ensures in
     let passes = is_passed_over (id_said (from_of sheet row)) (id_said (to_of sheet row)) (is_of_some_trips sheet row) (kind_of sheet row) in
     c.in_row.ensures

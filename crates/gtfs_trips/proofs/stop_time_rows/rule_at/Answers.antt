@@ -4,7 +4,7 @@ use Rattle.gtfs_fields.specs.Columns.{row_at, text_at, text_in}
 use Rattle.lc_time.specs.Digits.{u32_said}
 use Rattle.gtfs_fields.specs.Places.{first_place, is_unknown, stands_twice}
 use Rattle.gtfs_fields.specs.Times.{is_wrong_time}
-use Rattle.gtfs_fields.proofs.Said.{none_told}
+use Rattle.gtfs_fields.proofs.Said.{none_recorded}
 use Rattle.gtfs_trips.specs.Stops.{stop_id_of}
 use Rattle.gtfs_trips.specs.StopTimeRows.{ids_of_stops, ids_of_trips, same_key, sequence_of, stop_time_keys}
 use Rattle.gtfs_trips.specs.Trips.{trip_id_of}
@@ -27,7 +27,7 @@ returns c = λ stops trips known.
     (c.is_second.ensures (stop_time_keys sheet) known.keys
     ∙ ap₂ (λ (t : List ℕ) (n : Option ℕ). is_some n && stands_twice same_key (stop_time_keys sheet) c.args.place (t, n)) trip seq)
     (c.is_unknown.ensures (ids_of_stops stops) known.stops ∙ ap (is_unknown (ids_of_stops stops)) stop)
-    (none_told c.place_of_text.result c.is_none.result c.is_none.ensures ∙ ap (λ (o : Option ℕ). is_none o) (c.place_of_text.ensures (ids_of_trips trips) known.trips) ∙ ap (λ (t : List ℕ). is_none (first_place bytes_eq (ids_of_trips trips) t)) trip)
-    (none_told c.read_u32-seq.result c.is_none-2.result c.is_none-2.ensures ∙ ap (λ (o : Option ℕ). is_none o) seq)
+    (none_recorded c.place_of_text.result c.is_none.result c.is_none.ensures ∙ ap (λ (o : Option ℕ). is_none o) (c.place_of_text.ensures (ids_of_trips trips) known.trips) ∙ ap (λ (t : List ℕ). is_none (first_place bytes_eq (ids_of_trips trips) t)) trip)
+    (none_recorded c.read_u32-seq.result c.is_none-2.result c.is_none-2.ensures ∙ ap (λ (o : Option ℕ). is_none o) seq)
     (c.has_wrong_time.ensures ∙ ap (λ (s : List ℕ). wrong s c.text-arr.result.now c.text-dep.result.now) stop
     ∙ ap₂ (λ (a d : List ℕ). wrong (stop_id_of sheet row) a d) arr dep)

@@ -4,11 +4,11 @@ use Rattle.lc_cli.proofs.HeadlineOfReplayLemmas.{headline_of_replay}
 use Rattle.lc_cli.proofs.laws.headline.Goals as goal
 
 pub returns-clause-ask : goal.returns-clause-ask
-returns-clause-ask g c = headline g.L.Link.seen c.one_command.ensures c.one_timetable.ensures.loads_told
+returns-clause-ask g c = headline g.L.Link.seen c.one_command.ensures c.one_timetable.ensures.loads_recorded
 
 pub returns-clause-replay : goal.returns-clause-replay
 returns-clause-replay g c =
-    headline_of_replay g.L.Link.seen c.one_command.ensures c.one_timetable.ensures.loads_told c.one_outcome.ensures.one
+    headline_of_replay g.L.Link.seen c.one_command.ensures c.one_timetable.ensures.loads_recorded c.one_outcome.ensures.one
 
 pub returns-clause-plan : goal.returns-clause-plan
 returns-clause-plan g c = headline_of_plan g.L.Link.seen c.one_command.ensures

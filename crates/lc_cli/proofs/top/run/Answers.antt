@@ -70,7 +70,7 @@ returns-in-Ok-Print g c = record {
   status = right_block g c;
   usage_only = usage_only g.L.Link.seen (printed g c) c.write_block.result (right_block g c);
   complete =
-      complete c.one_command.ensures c.one_timetable.ensures.loads_told c.one_timetable.ensures.not_broken c.one_timetable.ensures.not_too_large c.one_outcome.ensures.one c.one_script.ensures.script
+      complete c.one_command.ensures c.one_timetable.ensures.loads_recorded c.one_timetable.ensures.not_broken c.one_timetable.ensures.not_too_large c.one_outcome.ensures.one c.one_script.ensures.script
       c.one_script.ensures.never_both g.L.Link.seen
       (printed g c) c.write_block.result (right_block g c);
   folder = c.outcome-came.ensures.kept;
@@ -87,7 +87,7 @@ returns-in-Ok-Serve g c = record {
   status = right_served g c;
   usage_only = usage_only g.L.Link.seen (served g c) c.serve.result (right_served g c);
   complete =
-      complete c.one_command.ensures c.one_timetable.ensures.loads_told c.one_timetable.ensures.not_broken c.one_timetable.ensures.not_too_large c.one_outcome.ensures.one c.one_script.ensures.script
+      complete c.one_command.ensures c.one_timetable.ensures.loads_recorded c.one_timetable.ensures.not_broken c.one_timetable.ensures.not_too_large c.one_outcome.ensures.one c.one_script.ensures.script
       c.one_script.ensures.never_both g.L.Link.seen
       (served g c) c.serve.result (right_served g c);
   folder = c.outcome-came.ensures.kept;
@@ -104,7 +104,7 @@ returns-in-Err g c = record {
   status = right_refusal g c;
   usage_only = usage_only g.L.Link.seen (refused g c) c.refuse.result (right_refusal g c);
   complete =
-      complete c.one_command.ensures c.one_timetable.ensures.loads_told c.one_timetable.ensures.not_broken c.one_timetable.ensures.not_too_large c.one_outcome.ensures.one c.one_script.ensures.script
+      complete c.one_command.ensures c.one_timetable.ensures.loads_recorded c.one_timetable.ensures.not_broken c.one_timetable.ensures.not_too_large c.one_outcome.ensures.one c.one_script.ensures.script
       c.one_script.ensures.never_both g.L.Link.seen
       (refused g c) c.refuse.result (right_refusal g c);
   folder = c.outcome-came.ensures.kept;

@@ -5,9 +5,9 @@ use Rattle.lc_doors.proofs.serving.converse.Given as goal
 
 abbrev pub invariant-turns : goal.invariant-turns
 invariant-turns g l = record {
-  agrees : Agrees g.T.Talk.stands false l.initial.talk l.talk (g.D.Door.seen l.initial.door).told (g.D.Door.seen l.door).told;
+  agrees : Agrees g.T.Talk.stands false l.initial.talk l.talk (g.D.Door.seen l.initial.door).recorded (g.D.Door.seen l.door).recorded;
   broken : (g.D.Door.seen l.initial.door).broken ≤ (g.D.Door.seen l.door).broken;
-  others : g.D.Door.seen l.door ≡ record (g.D.Door.seen l.initial.door) { told = (g.D.Door.seen l.door).told; broken = (g.D.Door.seen l.door).broken };
+  others : g.D.Door.seen l.door ≡ record (g.D.Door.seen l.initial.door) { recorded = (g.D.Door.seen l.door).recorded; broken = (g.D.Door.seen l.door).broken };
 }
 
 abbrev pub decreases-turns : goal.decreases-turns

@@ -14,7 +14,7 @@ calls-preserved c =
     let all = namings calls 0 c.args.stops.now in
     let place = c.calls.place in
     let named = c.in_ok-named.named.items in
-    let telling = c.told_call-telling in
+    let telling = c.stated_call-telling in
     let inside : place < length calls = search rules in
     let there : place < length named = omega (arith, c.in_ok-named.ensures.one_each) in
     let of_news : option_copied c.index.result.now ≡ news_at_place all place =
@@ -23,5 +23,5 @@ calls-preserved c =
     rw (to_z-of_z w128 telling.result.late fits)
     (record {
       late = telling.ensures.bounded;
-      walk = live_more all calls place _ _ _ _ _ _ _ _ _ _ inside c.index-calls-place.is of_news telling.ensures.told c.in_ok-before.ensures c.calls.invariant.walk;
+      walk = live_more all calls place _ _ _ _ _ _ _ _ _ _ inside c.index-calls-place.is of_news telling.ensures.stated c.in_ok-before.ensures c.calls.invariant.walk;
     })

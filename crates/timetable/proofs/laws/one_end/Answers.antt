@@ -5,7 +5,7 @@ use Rattle.timetable.proofs.laws.one_end.Goals as goal
 pub returns-clause-one : goal.returns-clause-one
 returns-clause-one c =
     one_end c.one_feed.ensures.never_both c.one_feed.ensures.first never_wrong c.one_zone_a_word.ensures c.one_feed.ensures.tables c.one_list_of_days.ensures c.one_list_of_runs.ensures
-    c.one_timetable.ensures.one c.one_timetable.ensures.loads_told c.one_timetable.ensures.not_broken c.one_timetable.ensures.not_too_large
+    c.one_timetable.ensures.one c.one_timetable.ensures.loads_recorded c.one_timetable.ensures.not_broken c.one_timetable.ensures.not_too_large
 
 pub returns-clause-broken : goal.returns-clause-broken
 returns-clause-broken c = broken_ends c.one_feed.ensures.never_both c.one_feed.ensures.first never_wrong

@@ -1,4 +1,4 @@
-use Rattle.timetable.proofs.LawLemmas.{loads_told, not_broken, not_too_large, one_of_tables, one_timetable}
+use Rattle.timetable.proofs.LawLemmas.{loads_recorded, not_broken, not_too_large, one_of_tables, one_timetable}
 use Rattle.timetable.proofs.NeverWrongLemmas.{never_wrong}
 use Rattle.timetable.proofs.laws.one_timetable.Goals as goal
 
@@ -9,8 +9,8 @@ pub returns-clause-one : goal.returns-clause-one
 returns-clause-one c =
     one_timetable c.one_list_of_days.ensures c.one_list_of_runs.ensures c.one_list_of_changes.ensures c.one_zone_a_word.ensures c.one_feed.ensures.tables
 
-pub returns-clause-loads_told : goal.returns-clause-loads_told
-returns-clause-loads_told c = loads_told
+pub returns-clause-loads_recorded : goal.returns-clause-loads_recorded
+returns-clause-loads_recorded c = loads_recorded
 
 pub returns-clause-not_broken : goal.returns-clause-not_broken
 returns-clause-not_broken c = not_broken c.one_feed.ensures.never_both never_wrong

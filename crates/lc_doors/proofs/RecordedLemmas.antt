@@ -3,7 +3,7 @@ use Rattle.std.proofs.Common.{◌≡◌, ◌∙◌, ℕ, ◌==◌, Bool, true, f
 use Rattle.std.specs.List.{concat}
 use Rattle.lc_doors.specs.Door.{GoesOn, OnCurrent, Takes, Wire}
 use Rattle.lc_doors.specs.MemWire.{MemWireState, ReadsPiece, TakesPiece, wire_of}
-use Rattle.lc_doors.specs.MemWires.{MemWiresState, told_of}
+use Rattle.lc_doors.specs.MemWires.{MemWiresState, recorded_of}
 use Rattle.lc_doors.proofs.PieceLemmas.{take_front}
 
 -- what was taken of the pieces is the front of all their bytes
@@ -37,13 +37,13 @@ goes_on P Q each (Some b) None step = step
 goes_on P Q each (Some b) (Some a) step = each b a step
 
 -- a step of the current connection in memory is one of what is recorded
-steps_told : (P : MemWireState → MemWireState → Type 0) (Q : Wire → Wire → Type 0) → ((b a : MemWireState) → P b a → Q (wire_of b) (wire_of a))
+steps_recorded : (P : MemWireState → MemWireState → Type 0) (Q : Wire → Wire → Type 0) → ((b a : MemWireState) → P b a → Q (wire_of b) (wire_of a))
     → (before after : MemWiresState) → after ≡ record before { current = after.current } → GoesOn P before.current after.current
-    → OnCurrent Q (told_of before) (told_of after)
-steps_told P Q each before after others current = record { others = ap told_of others; current = goes_on P Q each before.current after.current current }
+    → OnCurrent Q (recorded_of before) (recorded_of after)
+steps_recorded P Q each before after others current = record { others = ap recorded_of others; current = goes_on P Q each before.current after.current current }
 
 -- what is read in memory is recorded
-pub reads_told : (old new : List ℕ) (count : ℕ) (before after : MemWiresState) → length new ≡ length old → after ≡ record before { current = after.current }
-    → GoesOn (λ b a. ReadsPiece b a old new count) before.current after.current → OnCurrent (Takes new count) (told_of before) (told_of after)
-reads_told old new count before after same_length others current =
-    steps_told (λ b a. ReadsPiece b a old new count) (Takes new count) (λ b a. takes_bytes old new count b a same_length) before after others current
+pub reads_recorded : (old new : List ℕ) (count : ℕ) (before after : MemWiresState) → length new ≡ length old → after ≡ record before { current = after.current }
+    → GoesOn (λ b a. ReadsPiece b a old new count) before.current after.current → OnCurrent (Takes new count) (recorded_of before) (recorded_of after)
+reads_recorded old new count before after same_length others current =
+    steps_recorded (λ b a. ReadsPiece b a old new count) (Takes new count) (λ b a. takes_bytes old new count b a same_length) before after others current

@@ -1,10 +1,10 @@
 -- What a door records of one visit more.
 use Rattle.std.proofs.Common.{◌≡◌, ◌∙◌, ℕ, ◌||◌, Bool, true, false, List, [], ◌∷◌, ◌++◌, map, Option, None, Some, refl, sym, ap, subst, append_assoc, append-nil, inl, inr, IfSome}
 use Rattle.std.specs.Option.{option_to_list}
-use Rattle.lc_doors.specs.Door.{Closes, DoorTold, GoesOn, OnCurrent, Opens, Wire, hung_up}
+use Rattle.lc_doors.specs.Door.{Closes, DoorRecorded, GoesOn, OnCurrent, Opens, Wire, hung_up}
 use Rattle.lc_doors.specs.Door as door
 use Rattle.lc_doors.specs.Serving.{Exchanges}
-use Rattle.cli_serve.specs.Told.{AreTold, AreWiresOf, IsWireOf, bytes_of, came}
+use Rattle.cli_serve.specs.Recorded.{AreRecorded, AreWiresOf, IsWireOf, bytes_of, came}
 use Rattle.cli_serve.specs.Visit.{Visit}
 use Rattle.cli_serve.specs.Visiting.{IsOver, WasHeard}
 
@@ -16,20 +16,20 @@ goes_then P Q R step (Some a) (Some b) None p q = q
 goes_then P Q R step (Some a) (Some b) (Some c) p q = step a b c p q
 
 -- no visit was made
-pub none_told : (a : DoorTold) → AreTold [] a a
-none_told a = record { wires = []; wires_are = tt; came_more = sym (append-nil (came a)); waited = refl; port_is = refl }
+pub none_recorded : (a : DoorRecorded) → AreRecorded [] a a
+none_recorded a = record { wires = []; wires_are = tt; came_more = sym (append-nil (came a)); waited = refl; port_is = refl }
 
-came_over : (told : DoorTold) → came (hung_up told) ≡ came told
-came_over told = append-nil (came told)
+came_over : (recorded : DoorRecorded) → came (hung_up recorded) ≡ came recorded
+came_over recorded = append-nil (came recorded)
 
 -- nobody more came
-pub over_told : (visits : List Visit) (a b c : DoorTold) → AreTold visits a b → c ≡ hung_up b → AreTold visits a c
-over_told visits a b c told is = record {
-  wires = told.wires;
-  wires_are = told.wires_are;
-  came_more = ap came is ∙ (came_over b ∙ told.came_more);
-  waited = told.waited ∙ ap (λ (t : DoorTold). map bytes_of told.wires ++ t.waiting) (sym is);
-  port_is = ap (λ (t : DoorTold). t.port) is ∙ told.port_is;
+pub over_recorded : (visits : List Visit) (a b c : DoorRecorded) → AreRecorded visits a b → c ≡ hung_up b → AreRecorded visits a c
+over_recorded visits a b c recorded is = record {
+  wires = recorded.wires;
+  wires_are = recorded.wires_are;
+  came_more = ap came is ∙ (came_over b ∙ recorded.came_more);
+  waited = recorded.waited ∙ ap (λ (t : DoorRecorded). map bytes_of recorded.wires ++ t.waiting) (sym is);
+  port_is = ap (λ (t : DoorRecorded). t.port) is ∙ recorded.port_is;
 }
 
 wires_more : (visits : List Visit) (wires : List Wire) (visit : Visit) (wire : Wire) → AreWiresOf visits wires → IsWireOf visit wire
@@ -44,7 +44,7 @@ map_more [] wire rest = refl
 map_more (w ∷ wires) wire rest = ap (λ (l : List (List ℕ)). bytes_of w ∷ l) (map_more wires wire rest)
 
 -- the connection at the end of a visit
-record AtEnd (visit : Visit) (bytes : List ℕ) (at_end : DoorTold) : Type 0 where
+record AtEnd (visit : Visit) (bytes : List ℕ) (at_end : DoorRecorded) : Type 0 where
   wire : Wire
   current_is : at_end.current ≡ Some wire
   wire_is : IsWireOf visit wire
@@ -54,7 +54,7 @@ no_fault : (failed : Bool) → (failed || false) ≡ failed
 no_fault true = refl
 no_fault false = refl
 
-wire_at : (visit : Visit) (bytes : List ℕ) (at_end : DoorTold) (wire : Wire) → at_end.current ≡ Some wire
+wire_at : (visit : Visit) (bytes : List ℕ) (at_end : DoorRecorded) (wire : Wire) → at_end.current ≡ Some wire
     → Exchanges visit.read visit.sent visit.failed (door.fresh bytes) wire → WasHeard visit (Some at_end) → AtEnd visit bytes at_end
 wire_at visit bytes at_end wire current exchanged was_heard = record {
   wire = wire;
@@ -68,7 +68,7 @@ wire_at visit bytes at_end wire current exchanged was_heard = record {
   bytes_are = exchanged.came ∙ ap (λ (l : List ℕ). l ++ wire.to_come) (sym exchanged.read_more);
 }
 
-found : (visit : Visit) (bytes : List ℕ) (at_end : DoorTold) (before after : Option Wire) → before ≡ Some (door.fresh bytes) → at_end.current ≡ after
+found : (visit : Visit) (bytes : List ℕ) (at_end : DoorRecorded) (before after : Option Wire) → before ≡ Some (door.fresh bytes) → at_end.current ≡ after
     → GoesOn (Exchanges visit.read visit.sent visit.failed) before after → WasHeard visit (Some at_end) → AtEnd visit bytes at_end
 found visit bytes at_end None after is current exchanged heard = absurd (cc)
 found visit bytes at_end (Some wire) None is current exchanged heard = absurd exchanged
@@ -77,21 +77,21 @@ found visit bytes at_end (Some wire) (Some later) is current exchanged heard =
     wire_at visit bytes at_end later current (subst (λ (w : Wire). Exchanges visit.read visit.sent visit.failed w later) same exchanged) heard
 
 -- one more came, and its visit is over
-pub told_one_more : (visits : List Visit) (visit : Visit) (a b c d : DoorTold) → AreTold visits a b → Opens b c → IsOver visit c d → AreTold (visits ++ visit ∷ []) a d
-told_one_more visits visit a b c d told opens over =
-    let e : DoorTold = over.at_end in
+pub recorded_one_more : (visits : List Visit) (visit : Visit) (a b c d : DoorRecorded) → AreRecorded visits a b → Opens b c → IsOver visit c d → AreRecorded (visits ++ visit ∷ []) a d
+recorded_one_more visits visit a b c d recorded opens over =
+    let e : DoorRecorded = over.at_end in
     let others : e ≡ record c { current = e.current } = over.exchanged.others in
-    let found_wire : AtEnd visit opens.bytes e = found visit opens.bytes e c.current e.current (ap (λ (t : DoorTold). t.current) opens.opened) refl over.exchanged.current over.heard in
+    let found_wire : AtEnd visit opens.bytes e = found visit opens.bytes e c.current e.current (ap (λ (t : DoorRecorded). t.current) opens.opened) refl over.exchanged.current over.heard in
     let wire : Wire = found_wire.wire in
-    let past : e.past ≡ came b = ap (λ (t : DoorTold). t.past) others ∙ ap (λ (t : DoorTold). t.past) opens.opened in
+    let past : e.past ≡ came b = ap (λ (t : DoorRecorded). t.past) others ∙ ap (λ (t : DoorRecorded). t.past) opens.opened in
     let more : came e ≡ came b ++ wire ∷ [] =
     ap (λ (l : List Wire). l ++ option_to_list e.current) past ∙ ap (λ (o : Option Wire). came b ++ option_to_list o) found_wire.current_is in
-    let waits : d.waiting ≡ c.waiting = ap (λ (t : DoorTold). t.waiting) over.over ∙ ap (λ (t : DoorTold). t.waiting) others in
+    let waits : d.waiting ≡ c.waiting = ap (λ (t : DoorRecorded). t.waiting) over.over ∙ ap (λ (t : DoorRecorded). t.waiting) others in
     record {
-      wires = told.wires ++ wire ∷ [];
-      wires_are = wires_more visits told.wires visit wire told.wires_are found_wire.wire_is;
-      came_more = ap came over.over ∙ (came_over e ∙ (more ∙ (ap (λ (l : List Wire). l ++ wire ∷ []) told.came_more ∙ append_assoc (came a) told.wires (wire ∷ []))));
-      waited = told.waited ∙ (ap (λ (l : List (List ℕ)). map bytes_of told.wires ++ l) (opens.next ∙ (ap (λ (l : List ℕ). l ∷ c.waiting) found_wire.bytes_are
-          ∙ ap (λ (l : List (List ℕ)). bytes_of wire ∷ l) (sym waits))) ∙ sym (map_more told.wires wire d.waiting));
-      port_is = ap (λ (t : DoorTold). t.port) over.over ∙ (ap (λ (t : DoorTold). t.port) others ∙ (ap (λ (t : DoorTold). t.port) opens.opened ∙ told.port_is));
+      wires = recorded.wires ++ wire ∷ [];
+      wires_are = wires_more visits recorded.wires visit wire recorded.wires_are found_wire.wire_is;
+      came_more = ap came over.over ∙ (came_over e ∙ (more ∙ (ap (λ (l : List Wire). l ++ wire ∷ []) recorded.came_more ∙ append_assoc (came a) recorded.wires (wire ∷ []))));
+      waited = recorded.waited ∙ (ap (λ (l : List (List ℕ)). map bytes_of recorded.wires ++ l) (opens.next ∙ (ap (λ (l : List ℕ). l ∷ c.waiting) found_wire.bytes_are
+          ∙ ap (λ (l : List (List ℕ)). bytes_of wire ∷ l) (sym waits))) ∙ sym (map_more recorded.wires wire d.waiting));
+      port_is = ap (λ (t : DoorRecorded). t.port) over.over ∙ (ap (λ (t : DoorRecorded). t.port) others ∙ (ap (λ (t : DoorRecorded). t.port) opens.opened ∙ recorded.port_is));
     }

@@ -18,7 +18,7 @@ use Rattle.publisher_spec.specs.Short.{StandsUnder}
 use Rattle.publisher_spec.specs.Side.{Side, has_version}
 
 -- the bytes are the side's reply to a GET of this target by one who knows up to this moment
-pub record IsToldTo (side : Side) (target : List ℕ) (known : Option ℕ) (reply : List ℕ) : Type 0 where
+pub record IsRecordedTo (side : Side) (target : List ℕ) (known : Option ℕ) (reply : List ℕ) : Type 0 where
   pub request : List ℕ
   pub asks : Asks side.base target known request
   pub replies : IsReply side request reply
@@ -41,21 +41,21 @@ pub record IsSentTo (side : Side) (query : Query) (reply : List ℕ) : Type 0 wh
   pub said : IsGateReply side.base query.leave reply (Ok name)
 
 -- the gate sends to the page for the moment at which the question leaves
-abbrev pub GateIsTold : Type 0
-GateIsTold =
+abbrev pub GateIsRecorded : Type 0
+GateIsRecorded =
     (side : Side) (query : Query) (reply : List ℕ) → StandsUnder side.base side
-    → IsToldTo side (gate_target_of side.base query.leave) query.known reply → IsSentTo side query reply
+    → IsRecordedTo side (gate_target_of side.base query.leave) query.known reply → IsSentTo side query reply
 
--- the stops document is told
-abbrev pub StopsAreTold : Type 0
-StopsAreTold =
-    (side : Side) (reply : List ℕ) → StandsUnder side.base side → IsToldTo side (stops_target_of side.base) None reply
+-- the stops document is recorded
+abbrev pub StopsAreRecorded : Type 0
+StopsAreRecorded =
+    (side : Side) (reply : List ℕ) → StandsUnder side.base side → IsRecordedTo side (stops_target_of side.base) None reply
     → IsStopsReply reply (Ok side.doc)
 
--- a page that is asked for by its name is told, as its types have it
-abbrev pub PageIsTold : Type 0
-PageIsTold =
+-- a page that is asked for by its name is recorded, as its types have it
+abbrev pub PageIsRecorded : Type 0
+PageIsRecorded =
     (side : Side) (page : Page) (reply : List ℕ) → StandsUnder side.base side → has_version side page.name.version ≡ true
     → IsSoundName page.name → IsPageOf side page.name.version page.name.departs page
-    → IsToldTo side (page_target_of side.base page.name) None reply
+    → IsRecordedTo side (page_target_of side.base page.name) None reply
     → IsPageReply side.base page.name reply (Ok page) × IsSoundPage page

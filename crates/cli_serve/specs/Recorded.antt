@@ -1,12 +1,12 @@
 -- What a door records of visits.
 use Rattle.std.specs.Prelude.{◌≡◌, ◌⊎◌, ℕ, true, false, List, [], ◌∷◌, ◌++◌, map, Option, Some, IfSome}
 use Rattle.std.specs.Option.{option_to_list}
-use Rattle.lc_doors.specs.Door.{DoorTold, Wire}
+use Rattle.lc_doors.specs.Door.{DoorRecorded, Wire}
 use Rattle.cli_serve.specs.Visit.{Visit}
 
 -- all connections that came, in their order
-abbrev pub came : DoorTold → List Wire
-came told = told.past ++ option_to_list told.current
+abbrev pub came : DoorRecorded → List Wire
+came recorded = recorded.past ++ option_to_list recorded.current
 
 -- all bytes of a connection: those that were read, and those that are to come
 abbrev pub bytes_of : Wire → List ℕ
@@ -27,7 +27,7 @@ AreWiresOf (visit ∷ visits) [] = ⊥
 AreWiresOf (visit ∷ visits) (wire ∷ wires) = IsWireOf visit wire × AreWiresOf visits wires
 
 -- The connections of the visits came, and no others. They were the first ones that waited, and the port has not changed.
-pub record AreTold (visits : List Visit) (before after : DoorTold) : Type 0 where
+pub record AreRecorded (visits : List Visit) (before after : DoorRecorded) : Type 0 where
   pub wires : List Wire
   pub wires_are : AreWiresOf visits wires
   pub came_more : came after ≡ came before ++ wires
@@ -35,9 +35,9 @@ pub record AreTold (visits : List Visit) (before after : DoorTold) : Type 0 wher
   pub port_is : after.port ≡ before.port
 
 -- the door listens at the port, and nothing else has changed
-abbrev pub opened_at : ℕ → DoorTold → DoorTold
-opened_at port told = record told { port = Some port }
+abbrev pub opened_at : ℕ → DoorRecorded → DoorRecorded
+opened_at port recorded = record recorded { port = Some port }
 
 -- no connection waits, where that is recorded
-abbrev pub NoneWaits : Option DoorTold → Type 0
-NoneWaits told = IfSome told (λ (t : DoorTold). t.waiting ≡ [])
+abbrev pub NoneWaits : Option DoorRecorded → Type 0
+NoneWaits recorded = IfSome recorded (λ (t : DoorRecorded). t.waiting ≡ [])
