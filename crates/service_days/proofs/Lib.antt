@@ -1,6 +1,4 @@
-pub mod AnchorLemmas
 pub mod ClockLemmas
-pub mod DayLemmas
 pub mod GainLemmas
 pub mod ListedLemmas
 pub mod ListingLemmas

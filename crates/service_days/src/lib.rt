@@ -1,8 +1,7 @@
-//! Zones as words, the moments from which service days are counted, the date that a zone's clock shows at a moment, and
-//! the dates of services. It stands on `lc_time`, on the typed rows of `gtfs_calendars` and on the zones of `jiff`.
+//! Zones as words, and the dates of services; it hands on what a zone's clock shows. It stands on `lc_clock`, on the typed
+//! rows of `gtfs_calendars` and on the zones of `jiff`.
 #![tactic(auto)]
 
-mod clock;
 mod dates;
 mod laws;
 mod listing;
@@ -10,9 +9,9 @@ mod service_day;
 mod window;
 mod zone_word;
 
-pub use clock::{anchor, civil_date};
 pub use dates::days;
 pub use laws::{days_in_utc, one_list_of_days, one_zone_a_word};
+pub use lc_clock::{anchor, civil_date};
 pub use lc_time::Zone;
 pub use service_day::{Days, ServiceDay};
 pub use zone_word::{ZoneFault, read_zone, zone_file};

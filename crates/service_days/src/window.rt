@@ -5,9 +5,9 @@ ghost use Rattle.lc_model.specs.declared.date.ServiceDate.{ServiceDate as Stated
 ghost use Rattle.service_days.specs.Days.{IsInWindow, RunsWeekly, day_number, weekday_of};
 ghost use Rattle.service_days.specs.Listing.{Gains};
 
-use crate::clock::{library_date, service_date};
 use gtfs_calendars::Weekly;
 use jiff_core::civil::Date;
+use lc_clock::{library_date, service_date};
 use lc_model::{NoMemory, ServiceDate};
 use std::alloc::Global;
 

@@ -12,10 +12,10 @@ ghost use Rattle.version_store.specs.declared.store.Admission.{Admission as Stat
 
 use crate::dated::{DatedNews, dated_news};
 use crate::store::Admission;
+use lc_clock::civil_date;
 use lc_model::{Moment, NoMemory, ServiceDate};
 use lc_time::Zone;
 use lc_versions::{EntityNews, Update};
-use service_days::civil_date;
 use std::alloc::Global;
 use std::collections::BTreeSet;
 

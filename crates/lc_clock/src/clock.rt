@@ -75,7 +75,8 @@ fn instant_of(moment: Moment) -> Timestamp
     }
 }
 
-pub(crate) fn library_date(date: ServiceDate) -> Date
+/// The date as `jiff` has it.
+pub fn library_date(date: ServiceDate) -> Date
     ensures { result ≡ library_date date }
 {
     Date {
@@ -116,7 +117,8 @@ fn moment_at(second: i64) -> Option<Moment>
     Moment::new(second as u64)
 }
 
-pub(crate) fn service_date(date: Date) -> ServiceDate
+/// The date that a date of `jiff` is.
+pub fn service_date(date: Date) -> ServiceDate
     requires { pos 1 ≤ℤ date.year }
     ensures year { pos result.year ≡ date.year }
     ensures month { result.month ≡ date.month }

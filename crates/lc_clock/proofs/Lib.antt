@@ -1,0 +1,2 @@
+mod AnchorLemmas
+pub mod DayLemmas
