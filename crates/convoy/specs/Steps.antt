@@ -16,6 +16,7 @@ use Rattle.page_client.specs.declared.client.Client.{Client}
 use Rattle.page_client.specs.declared.fault.PeerFault.{PeerFault}
 use Rattle.page_client.specs.declared.outcome.Outcome.{Outcome}
 use Rattle.page_client.specs.declared.outcome.Outcome.TheVariants.{LinkFault, PeerWrong}
+use Rattle.page_client.specs.declared.want.Want.{Want}
 use Rattle.page_client.specs.declared.want.Want.TheVariants as wants
 use Rattle.convoy.specs.Exchange.{Got, IsExchange}
 
@@ -27,6 +28,13 @@ IsDecided s = StaysOrEnds None s.phase s.outcome
 pub record MayBeTaken (page : Page) : Type 0 where
   pub valid : IsValidPage page
   pub on : advances page ≡ true
+
+-- what may be asked for: the time gate, the stops document, or a page that the cache lacks
+abbrev pub MayBeAsked : Want → Kept → Type 0
+MayBeAsked wants.Gate kept = Unit {0}
+MayBeAsked wants.Stops kept = Unit {0}
+MayBeAsked (wants.Page name) kept = page_named kept.pages name ≡ None
+MayBeAsked wants.Finished kept = ⊥
 
 -- the question stays, and no more exchanges are left
 pub record GoesDown (old new : Shown) : Type 0 where

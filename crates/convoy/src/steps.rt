@@ -6,19 +6,47 @@ ghost use Rattle.page_client.specs.Client.{TakesPage, shown};
 ghost use Rattle.page_client.specs.Page.{advances};
 ghost use Rattle.page_client.specs.Shown.{exchanges_left, is_wrong, want_of, wrong_gate};
 ghost use Rattle.page_client.specs.declared.want.Want.TheVariants.{Gate, Page as WantsPage, Stops};
-ghost use Rattle.convoy.specs.Steps.{AsksGate, AsksPage, AsksStops, GoesDown, IsDecided, MayBeTaken, TakesReply, kept_after};
+ghost use Rattle.convoy.specs.Steps.{AsksGate, AsksPage, AsksStops, GoesDown, IsDecided, MayBeAsked, MayBeTaken, TakesReply, kept_after};
+ghost use Rattle.convoy.specs.Turn.{Asks};
 
 use crate::exchange::exchanged;
 use connection_uri::Base;
 use lc_model::{NoMemory, PageName};
 use lc_world::Link;
 use page_cache::PageCache;
-use page_client::{Client, Outcome, page_of};
+use page_client::{Client, Outcome, Want, page_of};
 use page_json::Page;
 use std::alloc::Global;
 
+/// Asks for what the client wants, and takes the reply. A page is put in the cache.
+pub fn ask<L: Link>(
+    alloc: Global,
+    base: &Base,
+    client: &mut Client,
+    want: Want,
+    cache: &mut PageCache,
+    link: &mut L,
+) -> Result<(), NoMemory>
+    requires wants { want_of (shown client.old).phase ≡ want }
+    requires may { MayBeAsked want cache.old }
+    requires decided { IsDecided (shown client.old) }
+    requires sound { All MayBeTaken cache.old.pages }
+    ensures asks { OnOk result (Asks base.now client.old client.new cache.old cache.new (L.seen link.old) (L.seen link.new)) }
+    ensures decided { OnOk result (IsDecided (shown client.new)) }
+    ensures down { GoesDown (shown client.old) (shown client.new) }
+    ensures fewer { OnOk result (exchanges_left (shown client.new) < exchanges_left (shown client.old)) }
+    ensures sound { All MayBeTaken cache.new.pages }
+{
+    match want {
+        Want::Gate => ask_gate(alloc, base, client, link),
+        Want::Stops => ask_stops(alloc, base, client, link),
+        Want::Page(name) => ask_page(alloc, base, client, name, cache, link),
+        Want::Finished => unreachable!(),
+    }
+}
+
 /// Asks the gate, and takes its reply.
-pub fn ask_gate<L: Link>(
+fn ask_gate<L: Link>(
     alloc: Global,
     base: &Base,
     client: &mut Client,
@@ -39,7 +67,7 @@ pub fn ask_gate<L: Link>(
 }
 
 /// Asks for the stops document, and takes it.
-pub fn ask_stops<L: Link>(
+fn ask_stops<L: Link>(
     alloc: Global,
     base: &Base,
     client: &mut Client,
@@ -60,7 +88,7 @@ pub fn ask_stops<L: Link>(
 }
 
 /// Asks for a page that the cache lacks, takes it and puts it in the cache.
-pub fn ask_page<L: Link>(
+fn ask_page<L: Link>(
     alloc: Global,
     base: &Base,
     client: &mut Client,

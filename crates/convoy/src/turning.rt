@@ -1,16 +1,15 @@
-ghost use Rattle.std.specs.Prelude.{◌≡◌, ◌≢◌, ◌<◌, ◌+◌, None, IfOk, OnOk};
+ghost use Rattle.std.specs.Prelude.{◌≡◌, ◌≢◌, ◌<◌, ◌+◌, IfOk, OnOk};
 ghost use Rattle.std.specs.List.{All};
-ghost use Rattle.page_cache.specs.Kept.{page_named};
 ghost use Rattle.page_client.specs.Client.{TakesPage, shown};
 ghost use Rattle.page_client.specs.Shown.{exchanges_left, want_of};
 ghost use Rattle.page_client.specs.declared.want.Want.TheVariants as wants;
-ghost use Rattle.convoy.specs.Steps.{AsksGate, AsksPage, AsksStops, IsDecided, MayBeTaken};
-ghost use Rattle.convoy.specs.Turn.{Turned};
+ghost use Rattle.convoy.specs.Steps.{IsDecided, MayBeAsked, MayBeTaken};
+ghost use Rattle.convoy.specs.Turn.{Asks, Turned};
 ghost use Rattle.convoy.specs.declared.turn.Turn.TheVariants as turns;
 
 use crate::Turn;
 use crate::member::Member;
-use crate::steps::{ask_gate, ask_page, ask_stops};
+use crate::steps::ask;
 use connection_uri::Base;
 use lc_model::{NoMemory, PageName};
 use lc_world::Link;
@@ -36,58 +35,10 @@ pub fn turned<L: Link>(
     ensures sound { All MayBeTaken cache.new.pages }
 {
     match member.client.want() {
-        Want::Gate => gate_turn(alloc, base, member, link),
-        Want::Stops => stops_turn(alloc, base, member, link),
+        Want::Gate => asked_turn(alloc, base, member, Want::Gate, cache, link),
+        Want::Stops => asked_turn(alloc, base, member, Want::Stops, cache, link),
         Want::Page(name) => page_turn(alloc, base, member, name, cache, link),
         Want::Finished => Ok(Turn::Finished),
-    }
-}
-
-/// The member asks the gate.
-fn gate_turn<L: Link>(
-    alloc: Global,
-    base: &Base,
-    member: &mut Member,
-    link: &mut L,
-) -> Result<Turn, NoMemory>
-    requires wants { want_of (shown member.old.client).phase ≡ wants.Gate }
-    requires decided { IsDecided (shown member.old.client) }
-    ensures exchanged { IfOk result (λ turn. turn ≡ turns.Exchanged) }
-    ensures asks { OnOk result (AsksGate base.now member.old.client member.new.client (L.seen link.old) (L.seen link.new)) }
-    ensures one_more { OnOk result (member.new.exchanges ≡ member.old.exchanges + 1) }
-    ensures fewer { OnOk result (exchanges_left (shown member.new.client) < exchanges_left (shown member.old.client)) }
-    ensures decided { OnOk result (IsDecided (shown member.new.client)) }
-{
-    match ask_gate(alloc, base, &mut member.client, link) {
-        Ok(()) => {
-            member.exchanges += 1;
-            Ok(Turn::Exchanged)
-        }
-        Err(NoMemory) => Err(NoMemory),
-    }
-}
-
-/// The member asks for the stops document.
-fn stops_turn<L: Link>(
-    alloc: Global,
-    base: &Base,
-    member: &mut Member,
-    link: &mut L,
-) -> Result<Turn, NoMemory>
-    requires wants { want_of (shown member.old.client).phase ≡ wants.Stops }
-    requires decided { IsDecided (shown member.old.client) }
-    ensures exchanged { IfOk result (λ turn. turn ≡ turns.Exchanged) }
-    ensures asks { OnOk result (AsksStops base.now member.old.client member.new.client (L.seen link.old) (L.seen link.new)) }
-    ensures one_more { OnOk result (member.new.exchanges ≡ member.old.exchanges + 1) }
-    ensures fewer { OnOk result (exchanges_left (shown member.new.client) < exchanges_left (shown member.old.client)) }
-    ensures decided { OnOk result (IsDecided (shown member.new.client)) }
-{
-    match ask_stops(alloc, base, &mut member.client, link) {
-        Ok(()) => {
-            member.exchanges += 1;
-            Ok(Turn::Exchanged)
-        }
-        Err(NoMemory) => Err(NoMemory),
     }
 }
 
@@ -118,7 +69,7 @@ fn page_turn<L: Link>(
         alloc,
         base,
         member,
-        PageName { version, departs },
+        Want::Page(PageName { version, departs }),
         cache,
         link,
     )
@@ -141,27 +92,27 @@ fn held_turn(alloc: Global, member: &mut Member, page: &Page) -> Result<Turn, No
     }
 }
 
-/// The member asks for a page that the cache lacks.
+/// The member makes one exchange, for what it wants. It is counted, also where it fails.
 fn asked_turn<L: Link>(
     alloc: Global,
     base: &Base,
     member: &mut Member,
-    name: PageName,
+    want: Want,
     cache: &mut PageCache,
     link: &mut L,
 ) -> Result<Turn, NoMemory>
-    requires wants { want_of (shown member.old.client).phase ≡ wants.Page name }
-    requires lacks { page_named cache.old.pages name ≡ None }
+    requires wants { want_of (shown member.old.client).phase ≡ want }
+    requires may { MayBeAsked want cache.old }
     requires decided { IsDecided (shown member.old.client) }
     requires sound { All MayBeTaken cache.old.pages }
     ensures exchanged { IfOk result (λ turn. turn ≡ turns.Exchanged) }
-    ensures asks { OnOk result (AsksPage base.now member.old.client member.new.client cache.old cache.new (L.seen link.old) (L.seen link.new)) }
+    ensures asks { OnOk result (Asks base.now member.old.client member.new.client cache.old cache.new (L.seen link.old) (L.seen link.new)) }
     ensures one_more { OnOk result (member.new.exchanges ≡ member.old.exchanges + 1) }
     ensures fewer { OnOk result (exchanges_left (shown member.new.client) < exchanges_left (shown member.old.client)) }
     ensures decided { OnOk result (IsDecided (shown member.new.client)) }
     ensures sound { All MayBeTaken cache.new.pages }
 {
-    match ask_page(alloc, base, &mut member.client, name, cache, link) {
+    match ask(alloc, base, &mut member.client, want, cache, link) {
         Ok(()) => {
             member.exchanges += 1;
             Ok(Turn::Exchanged)
