@@ -1,4 +1,5 @@
-//! The texts of answers, and the answers that texts are. It stands on `lc_model`, `lc_time` and `connection_uri`.
+//! The texts of answers, and the answers that texts are; it hands on scripts. It stands on `lc_model`, `lc_time`, `connection_uri` and
+//! `script_text`.
 #![tactic(auto)]
 
 mod answer_reading;
@@ -9,3 +10,4 @@ mod ride_words;
 pub use answer_reading::read_answer;
 pub use answer_writing::{answer_text, journey_text};
 pub use laws::answers_differ;
+pub use script_text::{Record, Script, ScriptFault, one_script, read_script};

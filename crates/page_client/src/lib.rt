@@ -1,5 +1,6 @@
 //! One client: it asks the time gate, the stops document and page after page, until nothing later can be better, and
-//! knows nothing but the bytes of replies. It stands on `csa_scan`, `page_json`, `http_text`, `memento` and `connection_uri`.
+//! knows nothing but the bytes of replies; it hands on the cache of pages that clients share. It stands on `csa_scan`,
+//! `page_json`, `page_cache`, `http_text`, `memento` and `connection_uri`.
 #![tactic(auto)]
 
 mod beginning;
@@ -20,5 +21,6 @@ pub use client::Client;
 pub use fault::{PeerFault, QueryFault};
 pub use laws::one_reply;
 pub use outcome::Outcome;
+pub use page_cache::{MOST_PAGES, PageCache};
 pub use page_reply::page_of;
 pub use want::Want;
