@@ -15,7 +15,7 @@ use trip_updates::RtFault;
 #[derive(Clone, Copy, PartialEq, Eq)]
 pub enum MessageFault {
     /// It has so many bytes, which are too many.
-    TooLong { bytes: usize },
+    TooLong { bytes: u64 },
     /// It is no realtime message.
     Broken(RtFault),
     NoMemory,

@@ -156,9 +156,7 @@ fn message_event(alloc: Global, name: Text, bytes: Vec<u8>) -> Result<Event, Ref
                 bytes: Bytes::from_list(bytes),
             },
         })),
-        Err(MessageFault::TooLong { bytes }) => Err(Refusal::LongUpdate {
-            bytes: bytes as u64,
-        }),
+        Err(MessageFault::TooLong { bytes }) => Err(Refusal::LongUpdate { bytes }),
         Err(MessageFault::Broken(fault)) => Err(Refusal::BrokenUpdate { name, fault }),
         Err(MessageFault::NoMemory) => Err(Refusal::from(NoMemory)),
     }

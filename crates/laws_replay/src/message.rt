@@ -24,7 +24,9 @@ pub fn test_message(alloc: Global, bytes: &[u8]) -> Result<(), MessageFault>
     one_meaning();
     let count = bytes.len();
     if count > MOST_MESSAGE_BYTES {
-        return Err(MessageFault::TooLong { bytes: count });
+        return Err(MessageFault::TooLong {
+            bytes: count as u64,
+        });
     }
     match read_message(alloc, bytes) {
         Ok(_) => Ok(()),

@@ -337,9 +337,7 @@ fn message_refusal(fault: MessageFault, file: Option<File>) -> Refusal
     ensures memory { fault ≡ messages.NoMemory → result ≡ Load OutOfMemory }
 {
     match fault {
-        MessageFault::TooLong { bytes } => Refusal::LongUpdate {
-            bytes: bytes as u64,
-        },
+        MessageFault::TooLong { bytes } => Refusal::LongUpdate { bytes },
         MessageFault::Broken(fault) => match file {
             Some(file) => Refusal::BrokenUpdate {
                 name: file.name,

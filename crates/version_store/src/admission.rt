@@ -28,13 +28,13 @@ pub struct Admitted {
 #[derive(Clone, Copy, Debug, PartialEq, Eq)]
 pub enum AdmitFault {
     /// The message is too long.
-    TooLong { bytes: usize },
+    TooLong { bytes: u64 },
     /// The bytes are no message.
     Broken(RtFault),
     /// The message is not of a later moment than the newest version.
     NotNewer { newest: Moment },
     /// There is no room for it beside the messages that were admitted.
-    Full { messages: usize, bytes: usize },
+    Full { messages: u64, bytes: u64 },
     /// There was not enough memory.
     NoMemory,
 }

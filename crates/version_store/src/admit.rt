@@ -37,8 +37,10 @@ impl Store {
         }
         let messages = self.admitted.len();
         if messages >= MOST_MESSAGES || bytes > MOST_BYTES - self.bytes {
-            let bytes = self.bytes;
-            return Some(AdmitFault::Full { messages, bytes });
+            return Some(AdmitFault::Full {
+                messages: messages as u64,
+                bytes: self.bytes as u64,
+            });
         }
         None
     }
@@ -49,8 +51,9 @@ impl Store {
         ensures refused { IfErr result (λ fault. (fault ≡ OutOfMemory) ⊎ IsRefused self.now bytes.now fault) }
     {
         if bytes.len() > MOST_MESSAGE_BYTES {
-            let bytes = bytes.len();
-            return Err(AdmitFault::TooLong { bytes });
+            return Err(AdmitFault::TooLong {
+                bytes: bytes.len() as u64,
+            });
         }
         let update = read(alloc, bytes)?;
         match self.refusal(&update, bytes.len()) {
