@@ -11,8 +11,8 @@ use Rattle.version_store.specs.Store.{Stored, bytes_of, entry_of, newest_of}
 use Rattle.version_store.specs.declared.admission.AdmitFault.{AdmitFault}
 use Rattle.version_store.specs.declared.admission.AdmitFault.TheVariants as faults
 use Rattle.cli_ask.specs.Admission.{IsAdmitted, IsBehind, IsFaultBy, IsFaulty, IsIgnored, IsPassedOver, admitted_line_of, ignored_line_of}
-use Rattle.cli_ask.specs.declared.admission.MessageFault.{MessageFault}
-use Rattle.cli_ask.specs.declared.admission.MessageFault.TheVariants as messages
+use Rattle.version_store.specs.declared.message_fault.MessageFault.{MessageFault}
+use Rattle.version_store.specs.declared.message_fault.MessageFault.TheVariants as messages
 
 -- the store of a timetable with this history
 abbrev pub store_with : Timetable → ℕ → List Entry → Stored

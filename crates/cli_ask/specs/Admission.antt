@@ -9,8 +9,8 @@ use Rattle.version_store.specs.Texts.{fault_text}
 use Rattle.version_store.specs.declared.admission.Admitted.{Admitted}
 use Rattle.version_store.specs.declared.admission.AdmitFault.{AdmitFault}
 use Rattle.version_store.specs.declared.admission.AdmitFault.TheVariants as faults
-use Rattle.cli_ask.specs.declared.admission.MessageFault.{MessageFault}
-use Rattle.cli_ask.specs.declared.admission.MessageFault.TheVariants as messages
+use Rattle.version_store.specs.declared.message_fault.MessageFault.{MessageFault}
+use Rattle.version_store.specs.declared.message_fault.MessageFault.TheVariants as messages
 
 -- `update {name} admitted {moment} passed {n}`
 abbrev pub admitted_line_of : List ℕ → Admitted → List ℕ

@@ -1,6 +1,5 @@
 ghost use Rattle.std.specs.Prelude.{◌≡◌, IfErr, IfOk, OnOk, Some};
 ghost use Rattle.cli_ask.specs.Admission.{IsBehind, IsFaultBy, IsFaulty, IsIgnored, admitted_line_of, ignored_line_of};
-ghost use Rattle.cli_ask.specs.declared.admission.MessageFault.TheVariants.{NoMemory as OutOfMemory};
 
 use fragmenter::Cutting;
 use lc_model::NoMemory;
@@ -9,25 +8,7 @@ use lc_world::File;
 use percent_encoding::ascii_str;
 use publisher::{AdmitFault, Admitted, Publisher};
 use std::alloc::Global;
-use trip_updates::RtFault;
-
-/// Why a file is no message of which a publisher is recorded.
-#[derive(Clone, Copy, PartialEq, Eq)]
-pub enum MessageFault {
-    /// It has so many bytes, which are too many.
-    TooLong { bytes: u64 },
-    /// It is no realtime message.
-    Broken(RtFault),
-    NoMemory,
-}
-
-impl From<NoMemory> for MessageFault {
-    ghost from_gives = { λ _ fault. fault ≡ OutOfMemory };
-
-    fn from(_: NoMemory) -> MessageFault {
-        MessageFault::NoMemory
-    }
-}
+use version_store::MessageFault;
 
 /// Gives the message of a file to a publisher, if there is one, and says in a line what became of it. One that is not newer, or for
 /// which there is no room, is ignored.

@@ -3,7 +3,7 @@ ghost use Rattle.cli_ask.specs.Admission.{IsFaulty};
 ghost use Rattle.cli_ask.specs.Publishing.{PublishesAfter, held_for, held_with, store_of};
 ghost use Rattle.connection_uri.specs.Base.{BaseParts};
 
-use crate::admission::{MessageFault, admit};
+use crate::admission::admit;
 use cli_words::Publishing;
 use connection_uri::{Base, bases_are_read};
 use fragmenter::Cutting;
@@ -12,6 +12,7 @@ use lc_world::File;
 use publisher::{Options, Publisher};
 use std::alloc::Global;
 use timetable::Timetable;
+use version_store::MessageFault;
 
 /// The publisher of a timetable, to which no message was admitted. It takes none from its clients.
 pub fn publisher_of(

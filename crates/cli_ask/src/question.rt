@@ -2,10 +2,9 @@ ghost use Rattle.std.specs.Prelude.{◌≡◌, ◌≢◌, ◌≤◌, ◌++◌, I
 ghost use Rattle.cli_ask.specs.Admission.{IsFaulty};
 ghost use Rattle.cli_ask.specs.Asked.{AsksPublisher, IsAsked, IsPrepared};
 ghost use Rattle.cli_ask.specs.Block.{IsPrintable, client_text_of};
-ghost use Rattle.cli_ask.specs.declared.admission.MessageFault.TheVariants.{NoMemory as OutOfMemory};
+ghost use Rattle.version_store.specs.declared.message_fault.MessageFault.TheVariants.{NoMemory as OutOfMemory};
 
 use crate::ClientEnd;
-use crate::admission::MessageFault;
 use crate::block::push_client;
 use crate::client::client_end;
 use crate::publishing::{copy_of, serving_publisher};
@@ -18,6 +17,7 @@ use lc_world::{File, Link};
 use publisher::Publisher;
 use std::alloc::Global;
 use timetable::Timetable;
+use version_store::MessageFault;
 
 /// What is printed of a question, and how its client ended.
 #[derive(Drop)]

@@ -1,6 +1,5 @@
 -- What a command reads: the timetable of its feed, and then the file of a message, if it has one.
 use Rattle.std.specs.Prelude.{◌≡◌, ◌⊎◌, ◌<◌, ℕ, List, Option, Some, None, Result, Ok, Err, IsErrOf, IfOk, IfSome, length}
-use Rattle.cli_ask.specs.Admission.{IsTooLong}
 use Rattle.gtfs_tables.specs.Reading.{Keeps}
 use Rattle.lc_io.specs.Counts.{HasCause, Rose}
 use Rattle.lc_io.specs.Folder.{FolderSeen, TellsAsked, bytes_named}
@@ -105,6 +104,13 @@ IsRefusedFor scope update old new (Folder before after) = FailsAtUpdate scope up
 IsRefusedFor scope update old new (LongUpdate count) = IsLongUpdate scope update old new count
 IsRefusedFor scope update old new (BrokenUpdate name fault) = IsBrokenUpdate scope update old new name fault
 
+-- there is a file, and it has so many bytes, which are too many for a message
+pub record IsLongFile (file : Option File) (count : ℕ) : Type 0 where
+  pub there : File
+  pub is : file ≡ Some there
+  pub long : 16_777_216 < length there.bytes
+  pub counted : count ≡ length there.bytes
+
 -- there is a file of this name, which is no message, and this is the first fault in it
 pub record IsNoMessageNamed (file : Option File) (name : List ℕ) (fault : RtFault) : Type 0 where
   pub there : File
@@ -121,5 +127,5 @@ IsMessageRefusal file (Load (fault.Folder before after)) = ⊥
 IsMessageRefusal file (Load fault.NoMemory) = Unit {0}
 IsMessageRefusal file (Script row) = ⊥
 IsMessageRefusal file (Folder before after) = ⊥
-IsMessageRefusal file (LongUpdate count) = IsTooLong file count
+IsMessageRefusal file (LongUpdate count) = IsLongFile file count
 IsMessageRefusal file (BrokenUpdate name fault) = IsNoMessageNamed file name fault

@@ -7,13 +7,13 @@ ghost use Rattle.script_text.specs.Script.{NamesNone, TurnsAreOfClients as AreOf
 ghost use Rattle.timetable.specs.Scope.{IsWindow};
 
 use crate::Refusal;
-use cli_ask::MessageFault;
 use laws_replay::{Event, Message, test_message};
 use lc_model::{Bytes, NoMemory, PlainData, Text};
 use lc_world::{File, Folder, FolderFail};
 use script_text::{Record, Script, ScriptFault, read_script};
 use std::alloc::Global;
 use timetable::{LoadFault, Scope, Timetable, load};
+use version_store::MessageFault;
 
 /// What a course is played from: the timetable of the feed, and what happens one after the other.
 #[derive(Drop)]

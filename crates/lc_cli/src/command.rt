@@ -1,6 +1,6 @@
 ghost use Rattle.std.specs.Prelude.{◌≡◌, ◌≢◌, [], ◌∷◌, Err, IfErr, IfOk, None, Ok, false};
 ghost use Rattle.cli_ask.specs.Admission.{IsFaulty};
-ghost use Rattle.cli_ask.specs.declared.admission.MessageFault.TheVariants as messages;
+ghost use Rattle.version_store.specs.declared.message_fault.MessageFault.TheVariants as messages;
 ghost use Rattle.cli_words.specs.Line.{texts_of};
 ghost use Rattle.cli_words.specs.Words.{SaysCommand};
 ghost use Rattle.cli_words.specs.declared.command.Check.{Check as Said};

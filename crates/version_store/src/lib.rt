@@ -8,6 +8,7 @@ mod dated;
 mod kept;
 mod laws;
 mod live_runs;
+mod message_fault;
 mod named;
 mod rows;
 mod store;
@@ -17,4 +18,5 @@ pub use kept::message_date;
 pub use laws::{
     cuts_do_not_matter, near_values, one_list_of_rows, one_outcome, some_list_of_rows, worked_store,
 };
+pub use message_fault::MessageFault;
 pub use store::Store;
