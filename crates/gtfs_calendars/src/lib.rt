@@ -10,6 +10,7 @@ mod frequencies_file;
 mod frequency;
 mod keyed;
 mod laws;
+mod services;
 mod transfer;
 mod transfers_file;
 
@@ -20,5 +21,6 @@ pub use calendar_file::read_calendar;
 pub use frequencies_file::read_frequencies;
 pub use frequency::{Frequencies, Frequency};
 pub use laws::{one_calendar, one_calendar_dates, one_frequencies, one_transfers};
+pub use services::Services;
 pub use transfer::{Transfer, Transfers};
 pub use transfers_file::read_transfers;

@@ -147,8 +147,8 @@ right_at found tables file.Stops are = (tables.stops, are.stops)
 right_at found tables file.Trips are = (are.all_trips, are.trips)
 right_at found tables file.StopTimes are =
     (tables.stops, are.all_trips, tables.stop_times, tables.trips, are.stops, are.trips, are.stop_times)
-right_at found tables file.Calendar are = (tables.weekly, are.weekly)
-right_at found tables file.CalendarDates are = (tables.dates, are.dates, are.services)
+right_at found tables file.Calendar are = (tables.services.weekly, are.weekly)
+right_at found tables file.CalendarDates are = (tables.services.dates, are.dates, are.services)
 right_at found tables file.Frequencies are = (are.all_trips, tables.frequencies, are.trips, are.frequencies)
 right_at found tables file.Transfers are = (tables.stops, tables.transfers, are.stops, are.transfers)
 

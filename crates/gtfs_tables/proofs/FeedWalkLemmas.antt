@@ -129,8 +129,8 @@ of_transfers stops trips timed weekly dates frequencies = record {
 }
 
 pub all_read : {old new : FolderSeen} {feed : List ℕ} {all_trips : List TripRow} {timed : TimedTrips} (weekly : Option (List Weekly)) (tables : Tables)
-    → tables.trips ≡ timed.trips → tables.stop_times ≡ timed.times → tables.left_out ≡ timed.left_out → tables.weekly ≡ unwrap_or weekly []
-    → SoFar old new feed 7 (Ways tables.stops all_trips timed weekly tables.dates tables.frequencies tables.transfers) → IsWalk old new feed (Ok tables)
+    → tables.trips ≡ timed.trips → tables.stop_times ≡ timed.times → tables.left_out ≡ timed.left_out → tables.services.weekly ≡ unwrap_or weekly []
+    → SoFar old new feed 7 (Ways tables.stops all_trips timed weekly tables.services.dates tables.frequencies tables.transfers) → IsWalk old new feed (Ok tables)
 all_read {old} {new} {feed} {all_trips} {timed} weekly tables trips times left rows far =
     let has = far.knows.0.0.0.0.1 in
     let calendar = far.knows.0.0.0.1 in

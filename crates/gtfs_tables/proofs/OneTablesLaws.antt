@@ -36,8 +36,7 @@ with_parents stops trips times weekly dates frequencies transfers left_out known
   stops = stops;
   trips = trips;
   stop_times = times;
-  weekly = weekly;
-  dates = dates;
+  services = record { weekly = weekly; dates = dates };
   frequencies = frequencies;
   transfers = transfers;
   left_out = left_out;
@@ -47,14 +46,14 @@ with_parents stops trips times weekly dates frequencies transfers left_out known
 known_prop : (stops : List Stop) → IsProp ∥ HaveKnownParents stops ∥₁
 known_prop stops = hlevel props
 
-same_tables : (a b : Tables) → a.stops ≡ b.stops → a.trips ≡ b.trips → a.stop_times ≡ b.stop_times → a.weekly ≡ b.weekly → a.dates ≡ b.dates
+same_tables : (a b : Tables) → a.stops ≡ b.stops → a.trips ≡ b.trips → a.stop_times ≡ b.stop_times → a.services.weekly ≡ b.services.weekly → a.services.dates ≡ b.services.dates
     → a.frequencies ≡ b.frequencies → a.transfers ≡ b.transfers → a.left_out ≡ b.left_out → a ≡ b
 same_tables a b stops trips times weekly dates frequencies transfers left_out =
     subst (λ (s : List Stop). (known : ∥ HaveKnownParents s ∥₁)
-    → a ≡ with_parents s b.trips b.stop_times b.weekly b.dates b.frequencies b.transfers b.left_out known) stops
+    → a ≡ with_parents s b.trips b.stop_times b.services.weekly b.services.dates b.frequencies b.transfers b.left_out known) stops
     (λ known.
     (λ i. with_parents a.stops (trips i) (times i) (weekly i) (dates i) (frequencies i) (transfers i) (left_out i) a.parents_known)
-    ∙ ap (with_parents a.stops b.trips b.stop_times b.weekly b.dates b.frequencies b.transfers b.left_out) (known_prop a.stops a.parents_known known))
+    ∙ ap (with_parents a.stops b.trips b.stop_times b.services.weekly b.services.dates b.frequencies b.transfers b.left_out) (known_prop a.stops a.parents_known known))
     b.parents_known
 
 one_left_out : (few other_few many other_many : List TripRow) (left other_left : ℕ) → few ≡ other_few → many ≡ other_many
@@ -73,8 +72,8 @@ one_tables found a b p q =
     (subst (λ (s : List Stop). StopTimesAre found s q.all_trips a.stop_times a.trips) stops
     (subst (λ (t : List TripRow). StopTimesAre found a.stops t a.stop_times a.trips) trips p.stop_times)) q.stop_times in
     same_tables a b stops times.1 times.0
-    (rows_are_one AreWeekly weekly_are_one (found file.Calendar) a.weekly b.weekly p.weekly q.weekly)
-    (rows_are_one AreDates dates_are_one (found file.CalendarDates) a.dates b.dates p.dates q.dates)
+    (rows_are_one AreWeekly weekly_are_one (found file.Calendar) a.services.weekly b.services.weekly p.weekly q.weekly)
+    (rows_are_one AreDates dates_are_one (found file.CalendarDates) a.services.dates b.services.dates p.dates q.dates)
     (rows_are_one (AreFrequencies q.all_trips) (frequencies_are_one q.all_trips) (found file.Frequencies) a.frequencies b.frequencies
     (subst (λ (t : List TripRow). FrequenciesAre found t a.frequencies) trips p.frequencies) q.frequencies)
     (rows_are_one (AreTransfers b.stops) (transfers_are_one b.stops) (found file.Transfers) a.transfers b.transfers

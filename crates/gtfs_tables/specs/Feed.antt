@@ -73,8 +73,8 @@ pub record AreTables (found : Found) (tables : Tables) : Type 0 where
   pub trips : TripsAre found all_trips
   pub stop_times : StopTimesAre found tables.stops all_trips tables.stop_times tables.trips
   pub left_out : tables.left_out + length tables.trips ≡ length all_trips
-  pub weekly : WeeklyAre found tables.weekly
-  pub dates : DatesAre found tables.dates
+  pub weekly : WeeklyAre found tables.services.weekly
+  pub dates : DatesAre found tables.services.dates
   pub services : HasServices found
   pub frequencies : FrequenciesAre found all_trips tables.frequencies
   pub transfers : TransfersAre found tables.stops tables.transfers

@@ -6,7 +6,7 @@ ghost use Rattle.gtfs_tables.specs.Steps.{IsFaultOf, IsTellable, IsWalk};
 use crate::end::End;
 use crate::parts::{feed_rest, feed_rides};
 use crate::{FeedFault, FeedFile, Tables, What};
-use gtfs_calendars::WeeklyList;
+use gtfs_calendars::{Services, WeeklyList};
 use gtfs_fields::FileFault;
 use lc_io::Folder;
 use std::alloc::Global;
@@ -42,8 +42,10 @@ fn feed_tables<F: Folder>(alloc: Global, folder: &mut F, feed: &str) -> Result<T
         stops: rides.stops,
         trips: rides.timed.trips,
         stop_times: rides.timed.times,
-        weekly: weekly_rows(alloc, rest.services.weekly),
-        dates: rest.services.dates,
+        services: Services {
+            weekly: weekly_rows(alloc, rest.services.weekly),
+            dates: rest.services.dates,
+        },
         frequencies: rest.extras.frequencies,
         transfers: rest.extras.transfers,
         left_out: rides.timed.left_out,

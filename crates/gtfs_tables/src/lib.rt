@@ -1,5 +1,5 @@
-//! The tables of a GTFS feed in a folder, or the first rule or limit that it breaks, with file and row. It stands on
-//! `gtfs_trips`, `gtfs_calendars` and `lc_io`.
+//! The tables of a GTFS feed in a folder, or the first rule or limit that it breaks, with file and row; it hands on the types of
+//! their rows. It stands on `gtfs_trips`, `gtfs_calendars` and `lc_io`.
 #![tactic(auto)]
 
 mod copied;
@@ -18,6 +18,11 @@ mod what;
 pub use fault::FeedFault;
 pub use feed::read_feed;
 pub use feed_file::FeedFile;
+pub use gtfs_calendars::{
+    DateRow, DateRows, Frequencies, Frequency, Services, Transfer, Transfers, Weekly, WeeklyList,
+};
+pub use gtfs_fields::{TripRow, TripRows};
+pub use gtfs_trips::{StopTime, StopTimes};
 pub use laws::one_feed;
 pub use tables::Tables;
 pub use what::What;

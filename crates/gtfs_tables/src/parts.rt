@@ -29,7 +29,7 @@ pub(crate) struct Rides {
 
 /// What the next two files say: when the services of the feed run.
 #[derive(Drop)]
-pub(crate) struct Services {
+pub(crate) struct ServiceFiles {
     pub(crate) weekly: Option<WeeklyList>,
     pub(crate) dates: DateRows,
 }
@@ -44,7 +44,7 @@ pub(crate) struct Extras {
 /// What the files behind the first three say.
 #[derive(Drop)]
 pub(crate) struct Rest {
-    pub(crate) services: Services,
+    pub(crate) services: ServiceFiles,
     pub(crate) extras: Extras,
 }
 
@@ -80,14 +80,14 @@ pub(crate) fn feed_rest<F: Folder>(
 }
 
 // The two files that say when services run.
-fn feed_services<F: Folder>(alloc: Global, folder: &mut F, feed: &str) -> Result<Services, End>
+fn feed_services<F: Folder>(alloc: Global, folder: &mut F, feed: &str) -> Result<ServiceFiles, End>
     ensures { (start : FolderSeen) (stops : List Stop) (trips : List Trip) (timed : Timed)
         → SoFar start (F.seen folder.old) feed.now 3 (Times stops trips timed)
         → GoesOn start (F.seen folder.new) feed.now result 5 (λ services. Dates stops trips timed services.weekly services.dates) }
 {
     let weekly = feed_weekly(alloc, folder, feed)?;
     let dates = feed_dates(alloc, folder, feed, weekly.is_some())?;
-    Ok(Services { weekly, dates })
+    Ok(ServiceFiles { weekly, dates })
 }
 
 // The last two files, which are of these stops and trips.

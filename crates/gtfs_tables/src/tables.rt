@@ -1,6 +1,6 @@
 ghost use Rattle.gtfs_trips.specs.Stops.{HaveKnownParents};
 
-use gtfs_calendars::{DateRows, Frequencies, Transfers, WeeklyList};
+use gtfs_calendars::{Frequencies, Services, Transfers};
 use gtfs_fields::TripRows;
 use gtfs_trips::StopTimes;
 use lc_model::Stops;
@@ -13,8 +13,8 @@ pub struct Tables {
     pub trips: TripRows,
     /// The stop times of these trips.
     pub stop_times: StopTimes,
-    pub weekly: WeeklyList,
-    pub dates: DateRows,
+    /// When the services of the feed run.
+    pub services: Services,
     pub frequencies: Frequencies,
     pub transfers: Transfers,
     /// How many trips are left out, since a row of theirs names no stop.

@@ -157,8 +157,8 @@ fn put_sizes(draft: &mut Draft, tables: &Tables) {
     put_size(draft, tables.stops.as_slice().len());
     put_size(draft, tables.trips.as_slice().len());
     put_size(draft, tables.stop_times.as_slice().len());
-    put_size(draft, tables.weekly.as_slice().len());
-    put_size(draft, tables.dates.as_slice().len());
+    put_size(draft, tables.services.weekly.as_slice().len());
+    put_size(draft, tables.services.dates.as_slice().len());
     put_size(draft, tables.frequencies.as_slice().len());
     put_size(draft, tables.transfers.as_slice().len());
     draft.put("left out ");

@@ -71,7 +71,7 @@ module _ (one_days : OneListOfDays) (one_runs : OneListOfRuns) where
   -- tables have one list of runs
   pub one_of_runs : (scope : Scope) (zone : Zone) (tables : Tables) (a b : List Run) → RunsAre scope zone tables a → RunsAre scope zone tables b → a ≡ b
   one_of_runs scope zone tables a b p q =
-      let days = one_days tables.weekly tables.dates scope.first scope.days p.days q.days p.are_days q.are_days in
+      let days = one_days tables.services.weekly tables.services.dates scope.first scope.days p.days q.days p.are_days q.are_days in
       one_runs tables.trips tables.stop_times tables.frequencies q.days zone a b
       (subst (λ (d : List ServiceDay). AreRunsOf tables.trips tables.stop_times tables.frequencies d zone a) days p.are_runs) q.are_runs
 

@@ -15,7 +15,7 @@ use Rattle.trip_calls.specs.Runs.{AreRunsOf}
 -- these are the runs of the tables on the dates of the window, in the zone
 pub record RunsAre (scope : Scope) (zone : Zone) (tables : Tables) (runs : List Run) : Type 0 where
   pub days : List ServiceDay
-  pub are_days : AreDays tables.weekly tables.dates scope.first scope.days days
+  pub are_days : AreDays tables.services.weekly tables.services.dates scope.first scope.days days
   pub are_runs : AreRunsOf tables.trips tables.stop_times tables.frequencies days zone runs
 
 -- the document has the stops of the tables, and the changes between them

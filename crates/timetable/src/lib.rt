@@ -1,11 +1,12 @@
 //! The timetable of a feed in a window of days: its runs and its stops document in the zone that a word says, or why there
-//! is none. It stands on `gtfs_tables`, `service_days`, `trip_calls` and `change_table`.
+//! is none; and each of its parts alone. It stands on `gtfs_tables`, `service_days`, `trip_calls` and `change_table`.
 #![tactic(auto)]
 
 mod fault;
 mod laws;
 mod loading;
 mod made;
+mod of_tables;
 mod scope;
 mod timetable;
 mod zone;
@@ -14,5 +15,6 @@ mod zone_end;
 pub use fault::LoadFault;
 pub use laws::{one_end, one_timetable};
 pub use loading::load;
+pub use of_tables::{changes, days, runs};
 pub use scope::Scope;
 pub use timetable::Timetable;

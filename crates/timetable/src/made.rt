@@ -7,14 +7,14 @@ ghost use Rattle.timetable.specs.Scope.{IsWindow};
 ghost use Rattle.timetable.specs.Timetable.{HasFewChanges, HaveFewConnections, IsTimetableOf, RunsAre};
 ghost use Rattle.lc_model.specs.Run.{RunsForward};
 
+use crate::of_tables::{changes, days, runs};
 use crate::{LoadFault, Scope, Timetable};
-use change_table::{ChangeFault, changes};
+use change_table::ChangeFault;
 use gtfs_tables::{Tables, What};
 use lc_model::{Call, Changes, Run, Runs, StopsDoc};
 use lc_time::Zone;
-use service_days::days;
 use std::alloc::Global;
-use trip_calls::{LoadFault as RunsFault, runs};
+use trip_calls::LoadFault as RunsFault;
 
 // The runs of a timetable, how many connections they have, and the changes between its stops.
 #[derive(Drop)]
@@ -81,22 +81,8 @@ fn runs_of(alloc: Global, scope: &Scope, zone: &Zone, tables: &Tables) -> Result
     ensures few { IfOk result HaveFewConnections }
     ensures fault { IfErr result (FailsToMakeRuns scope.now zone.now tables.now) }
 {
-    let weekly = tables.weekly.as_slice();
-    let days = days(
-        alloc,
-        weekly,
-        tables.dates.as_slice(),
-        scope.first,
-        scope.days,
-    )?;
-    match runs(
-        alloc,
-        &tables.trips,
-        &tables.stop_times,
-        &tables.frequencies,
-        &days,
-        zone,
-    ) {
+    let days = days(alloc, tables, scope.first, scope.days)?;
+    match runs(alloc, tables, &days, zone) {
         Ok(runs) => Ok(runs),
         Err(RunsFault::TooManyConnections { count }) => Err(LoadFault::TooLarge {
             what: What::Connections,
@@ -113,7 +99,7 @@ fn changes_of(alloc: Global, scope: &Scope, tables: &Tables) -> Result<Changes, 
     ensures few { OnOk result (HasFewChanges scope.now tables.now) }
     ensures fault { IfErr result (FailsToMakeChanges scope.now tables.now) }
 {
-    match changes(alloc, &tables.stops, &tables.transfers, scope.change) {
+    match changes(alloc, tables, scope.change) {
         Ok(changes) => Ok(changes),
         Err(ChangeFault::TooManyChanges { count }) => Err(LoadFault::TooLarge {
             what: What::Changes,
