@@ -1,7 +1,8 @@
 ghost use Rattle.std.specs.Prelude.{◌≡◌};
 ghost use Rattle.gtfs_fields.specs.TripRows.{HaveOneRowATrip};
 
-use lc_model::Id;
+use lc_model::{Id, NoMemory, PlainData, copy_each};
+use std::alloc::Global;
 use std::marker::Model;
 
 /// A row of trips.txt: a trip and the service on whose dates it runs.
@@ -9,6 +10,15 @@ use std::marker::Model;
 pub struct TripRow {
     pub trip: Id,
     pub service: Id,
+}
+
+impl PlainData for TripRow {
+    fn copy(&self, alloc: Global) -> Result<TripRow, NoMemory> {
+        Ok(TripRow {
+            trip: self.trip.copy(alloc)?,
+            service: self.service.copy(alloc)?,
+        })
+    }
 }
 
 /// The trips of a feed, in the order of the file. No two have one id.
@@ -49,5 +59,12 @@ impl TripRows {
         ensures one_row_a_trip { HaveOneRowATrip result.items }
     {
         self.items
+    }
+}
+
+impl PlainData for TripRows {
+    fn copy(&self, alloc: Global) -> Result<TripRows, NoMemory> {
+        let items = copy_each(alloc, self.as_slice())?;
+        Ok(TripRows::from_list(items))
     }
 }

@@ -2,7 +2,8 @@ ghost use Rattle.std.specs.Prelude.{◌≡◌};
 ghost use Rattle.gtfs_trips.specs.StopTimeOrder.{InTripOrder};
 ghost use Rattle.gtfs_trips.specs.Timely.{AreTimely};
 
-use lc_model::Id;
+use lc_model::{Id, NoMemory, PlainData, copy_each};
+use std::alloc::Global;
 use std::marker::Model;
 
 /// A row of stop_times.txt: when a trip arrives at a stop and departs, in seconds of the service day, where the row says
@@ -16,6 +17,20 @@ pub struct StopTime {
     pub dep: Option<u32>,
     pub board: bool,
     pub alight: bool,
+}
+
+impl PlainData for StopTime {
+    fn copy(&self, alloc: Global) -> Result<StopTime, NoMemory> {
+        Ok(StopTime {
+            trip: self.trip.copy(alloc)?,
+            stop: self.stop.copy(alloc)?,
+            seq: self.seq,
+            arr: self.arr,
+            dep: self.dep,
+            board: self.board,
+            alight: self.alight,
+        })
+    }
 }
 
 /// The stop times of a feed, strictly ordered by trip and sequence. The first and the last of a trip have a time, and none
@@ -53,5 +68,12 @@ impl StopTimes {
         ensures timely { AreTimely result.now }
     {
         self.items.as_slice()
+    }
+}
+
+impl PlainData for StopTimes {
+    fn copy(&self, alloc: Global) -> Result<StopTimes, NoMemory> {
+        let items = copy_each(alloc, self.as_slice())?;
+        Ok(StopTimes::from_list(items))
     }
 }
