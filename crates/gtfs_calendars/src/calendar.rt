@@ -1,7 +1,8 @@
 ghost use Rattle.std.specs.Prelude.{◌≡◌};
 ghost use Rattle.gtfs_calendars.specs.Calendar.{HaveOneRowAService};
 
-use lc_model::{Id, ServiceDate};
+use lc_model::{Id, NoMemory, PlainData, ServiceDate, copy_each};
+use std::alloc::Global;
 use std::marker::Model;
 
 /// A row of calendar.txt: on which weekdays of a range of dates a service runs.
@@ -14,6 +15,17 @@ pub struct Weekly {
     pub from: ServiceDate,
     /// The last date of the range. Where it is before the first the range is empty.
     pub to: ServiceDate,
+}
+
+impl PlainData for Weekly {
+    fn copy(&self, alloc: Global) -> Result<Weekly, NoMemory> {
+        Ok(Weekly {
+            service: self.service.copy(alloc)?,
+            days: self.days,
+            from: self.from,
+            to: self.to,
+        })
+    }
 }
 
 /// The weekdays of the services of a feed, in the order of the file. No two rows are of one service.
@@ -47,5 +59,12 @@ impl WeeklyList {
         ensures one_row_a_service { HaveOneRowAService result.now }
     {
         self.items.as_slice()
+    }
+}
+
+impl PlainData for WeeklyList {
+    fn copy(&self, alloc: Global) -> Result<WeeklyList, NoMemory> {
+        let items = copy_each(alloc, self.as_slice())?;
+        Ok(WeeklyList::from_list(items))
     }
 }

@@ -1,7 +1,8 @@
 ghost use Rattle.std.specs.Prelude.{◌≡◌};
 ghost use Rattle.gtfs_calendars.specs.CalendarDates.{HaveOneRowADate};
 
-use lc_model::{Id, ServiceDate};
+use lc_model::{Id, NoMemory, PlainData, ServiceDate, copy_each};
+use std::alloc::Global;
 use std::marker::Model;
 
 /// A row of calendar_dates.txt: a service is added on a date, or taken away.
@@ -10,6 +11,16 @@ pub struct DateRow {
     pub service: Id,
     pub date: ServiceDate,
     pub added: bool,
+}
+
+impl PlainData for DateRow {
+    fn copy(&self, alloc: Global) -> Result<DateRow, NoMemory> {
+        Ok(DateRow {
+            service: self.service.copy(alloc)?,
+            date: self.date,
+            added: self.added,
+        })
+    }
 }
 
 /// The dates of the services of a feed, in the order of the file. No two rows are of one service and date.
@@ -43,5 +54,12 @@ impl DateRows {
         ensures one_row_a_date { HaveOneRowADate result.now }
     {
         self.items.as_slice()
+    }
+}
+
+impl PlainData for DateRows {
+    fn copy(&self, alloc: Global) -> Result<DateRows, NoMemory> {
+        let items = copy_each(alloc, self.as_slice())?;
+        Ok(DateRows::from_list(items))
     }
 }

@@ -1,7 +1,7 @@
 ghost use Rattle.std.specs.Prelude.{◌≡◌};
 ghost use Rattle.gtfs_calendars.specs.Spans.{AreSpans};
 
-use lc_model::{Id, NoMemory, PlainData};
+use lc_model::{Id, NoMemory, PlainData, copy_each};
 use std::alloc::Global;
 use std::marker::Model;
 
@@ -59,5 +59,12 @@ impl Frequencies {
         ensures spans { AreSpans result.now }
     {
         self.items.as_slice()
+    }
+}
+
+impl PlainData for Frequencies {
+    fn copy(&self, alloc: Global) -> Result<Frequencies, NoMemory> {
+        let items = copy_each(alloc, self.as_slice())?;
+        Ok(Frequencies::from_list(items))
     }
 }

@@ -1,4 +1,6 @@
 use crate::{DateRows, WeeklyList};
+use lc_model::{NoMemory, PlainData};
+use std::alloc::Global;
 
 /// When the services of a feed run: on weekdays of ranges of dates, and on single dates.
 #[derive(Drop)]
@@ -7,4 +9,13 @@ pub struct Services {
     pub weekly: WeeklyList,
     /// The rows of calendar_dates.txt.
     pub dates: DateRows,
+}
+
+impl PlainData for Services {
+    fn copy(&self, alloc: Global) -> Result<Services, NoMemory> {
+        Ok(Services {
+            weekly: self.weekly.copy(alloc)?,
+            dates: self.dates.copy(alloc)?,
+        })
+    }
 }

@@ -2,7 +2,6 @@ ghost use Rattle.std.specs.Prelude.{option_map};
 ghost use Rattle.gtfs_tables.specs.Steps.{HasDates, HasFrequencies, HasStops, HasTimes, HasTransfers, HasTrips, HasWeekly, IsWrongDates, IsWrongFrequencies, IsWrongStops, IsWrongTimes, IsWrongTransfers, IsWrongTrips, IsWrongWeekly, Judges};
 
 use crate::FeedFile;
-use crate::copied::copied_trips;
 use crate::end::{End, absent, end_of};
 use gtfs_calendars::{
     DateRows, Frequencies, Transfers, WeeklyList, read_calendar, read_calendar_dates,
@@ -10,7 +9,7 @@ use gtfs_calendars::{
 };
 use gtfs_fields::TripRows;
 use gtfs_trips::{TimedTrips, read_stop_times, read_stops, read_trips};
-use lc_model::Stops;
+use lc_model::{PlainData, Stops};
 use std::alloc::Global;
 
 /// What stops.txt says.
@@ -55,7 +54,7 @@ pub(crate) fn judge_stop_times(
         return Err(absent(FeedFile::StopTimes));
     };
     // The trips are kept whole, since frequencies may be of those that are left out.
-    let copy = copied_trips(alloc, trips)?;
+    let copy = trips.copy(alloc)?;
     match read_stop_times(alloc, bytes.as_slice(), stops, copy) {
         Ok(timed) => Ok(timed),
         Err(fault) => Err(end_of(FeedFile::StopTimes, fault)),

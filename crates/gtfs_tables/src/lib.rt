@@ -2,7 +2,6 @@
 //! their rows. It stands on `gtfs_trips`, `gtfs_calendars` and `lc_io`.
 #![tactic(auto)]
 
-mod copied;
 mod end;
 mod fault;
 mod feed;

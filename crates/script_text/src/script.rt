@@ -1,4 +1,5 @@
-use lc_model::{Items, Query, Text};
+use lc_model::{Items, NoMemory, PlainData, Query, Text};
+use std::alloc::Global;
 
 /// What a record of a script says.
 #[derive(Drop)]
@@ -9,6 +10,16 @@ pub enum Record {
     Update(Text),
     /// One turn of the client with this number, for which an earlier record asked.
     Turn(u32),
+}
+
+impl PlainData for Record {
+    fn copy(&self, alloc: Global) -> Result<Record, NoMemory> {
+        match self {
+            Record::Ask(query) => Ok(Record::Ask(query.copy(alloc)?)),
+            Record::Update(name) => Ok(Record::Update(name.copy(alloc)?)),
+            Record::Turn(client) => Ok(Record::Turn(*client)),
+        }
+    }
 }
 
 /// The records of a script, in its order.

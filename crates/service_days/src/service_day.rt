@@ -3,7 +3,8 @@ ghost use Rattle.lc_model.specs.Change.{is_same_id};
 ghost use Rattle.service_days.specs.Days.{InDayOrder};
 ghost use Rattle.service_days.specs.declared.service_day.ServiceDay.{ServiceDay as Stated};
 
-use lc_model::{Id, Keyed, ServiceDate, items_of};
+use lc_model::{Id, Keyed, NoMemory, PlainData, ServiceDate, copy_each, items_of};
+use std::alloc::Global;
 use std::marker::Model;
 
 /// A date on which a service runs.
@@ -11,6 +12,15 @@ use std::marker::Model;
 pub struct ServiceDay {
     pub service: Id,
     pub date: ServiceDate,
+}
+
+impl PlainData for ServiceDay {
+    fn copy(&self, alloc: Global) -> Result<ServiceDay, NoMemory> {
+        Ok(ServiceDay {
+            service: self.service.copy(alloc)?,
+            date: self.date,
+        })
+    }
 }
 
 /// By the service.
@@ -60,5 +70,12 @@ impl Days {
         ensures { result.now ≡ filter (λ (d : Stated). is_same_id d.service service.now) self.now }
     {
         items_of(self.as_slice(), service)
+    }
+}
+
+impl PlainData for Days {
+    fn copy(&self, alloc: Global) -> Result<Days, NoMemory> {
+        let items = copy_each(alloc, self.as_slice())?;
+        Ok(Days::from_list(items))
     }
 }
