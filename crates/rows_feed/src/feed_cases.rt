@@ -1,7 +1,7 @@
 //! What is said of a whole feed, a file of which is changed or absent.
 use gtfs_tables::{FeedFault, Tables, What, read_feed};
 use lc_io::{File, MemFolder};
-use lc_model::Text;
+use lc_model::{PlainData, Text};
 use rows_common::{Draft, Unmade};
 use std::alloc::Global;
 use tiny_feed::{STOP_TIMES, TINY, file_of};
@@ -148,9 +148,15 @@ fn put_read(alloc: Global, draft: &mut Draft, folder: &mut MemFolder) {
 
 fn put_outcome(alloc: Global, draft: &mut Draft, folder: &mut MemFolder) {
     match read_feed(alloc, folder, "tiny") {
-        Ok(tables) => put_sizes(draft, &tables),
+        Ok(tables) => put_tables(alloc, draft, &tables),
         Err(fault) => put_fault(draft, fault),
     }
+}
+
+/// Tables, of which a copy can be made.
+fn put_tables(alloc: Global, draft: &mut Draft, tables: &Tables) {
+    draft.need(tables.copy(alloc));
+    put_sizes(draft, tables);
 }
 
 fn put_sizes(draft: &mut Draft, tables: &Tables) {

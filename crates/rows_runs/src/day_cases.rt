@@ -1,5 +1,6 @@
 //! The dates of services, from calendars.
 use gtfs_calendars::{DateRow, Weekly, read_calendar, read_calendar_dates};
+use lc_model::PlainData;
 use lc_time::{date_text, read_date};
 use rows_common::Draft;
 use service_days::{ServiceDay, days};
@@ -50,7 +51,10 @@ fn put_found(alloc: Global, draft: &mut Draft, weekly: &[Weekly], dates: &[DateR
         return draft.lose();
     };
     match days(alloc, weekly, dates, first, 14) {
-        Ok(found) => put_days(draft, found.as_slice()),
+        Ok(found) => {
+            draft.need(found.copy(alloc));
+            put_days(draft, found.as_slice());
+        }
         Err(_) => draft.lose(),
     }
 }

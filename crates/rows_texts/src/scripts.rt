@@ -1,5 +1,5 @@
 //! Texts and the scripts that they say: each record well and badly said, and what `csv` makes of a text.
-use lc_model::{NoMemory, Query};
+use lc_model::{NoMemory, PlainData, Query};
 use rows_common::Draft;
 use script_text::{Record, read_script};
 use std::alloc::Global;
@@ -165,7 +165,10 @@ fn push_with_moment(whole: &mut Vec<u8>, byte: u8) -> Result<(), NoMemory> {
 fn said(alloc: Global, bytes: &[u8], updates: bool) -> Draft {
     let mut said = Draft::new(alloc);
     match read_script(alloc, bytes, updates) {
-        Ok(script) => put_records(&mut said, script.as_slice()),
+        Ok(script) => {
+            said.need(script.copy(alloc));
+            put_records(&mut said, script.as_slice());
+        }
         Err(fault) => said.put_shown(&fault),
     }
     said
