@@ -1,6 +1,6 @@
 #!/bin/sh
-# How the processor time of reading and of writing a page grows with its connections. Prints a table, and fails where
-# eight times the connections take more than twelve times as long.
+# How the processor time of reading a page that others wrote, of writing one and of reading what was written ("again") grows
+# with its connections. Prints a table, and fails where eight times the connections take more than twelve times as long.
 #
 #   bench/pages.sh
 #
@@ -56,15 +56,21 @@ def once(words):
 
 
 TIMES = 20  # How often a run reads or writes the page.
+KINDS = {
+    "none": ["0", "0", "0"],
+    "read": [str(TIMES), "0", "0"],
+    "write": ["0", str(TIMES), "0"],
+    "again": ["0", "0", str(TIMES)],
+}
 least = {}
 for _ in range(rounds):
     for size in sizes:
-        for kind, words in (("none", ["0", "0"]), ("read", [str(TIMES), "0"]), ("write", ["0", str(TIMES)])):
+        for kind, words in KINDS.items():
             taken = once([f"{pages}/small{size}", *words])
             least[size, kind] = min(least.get((size, kind), float("inf")), taken)
 
 failed = False
-for kind in ("read", "write"):
+for kind in ("read", "write", "again"):
     first, before = None, None
     for size in sizes:
         taken = (least[size, kind] - least[size, "none"]) / TIMES

@@ -1,4 +1,5 @@
-ghost use Rattle.std.specs.Prelude.{◌≡◌, ◌++◌, ◌↔◌, ℕ, List, Some, IsTrue, IfOk, IfSome, OnOk};
+ghost use Rattle.std.specs.Prelude.{◌≡◌, ◌++◌, ◌↔◌, ℕ, List, Some, IsTrue, IfOk, IfSome, OnOk, OnErr};
+ghost use Rattle.std.specs.Cow.{cow_str_bytes};
 ghost use Rattle.std.specs.String.{string_bytes};
 ghost use Rattle.lc_model.specs.Text.{IsIdText};
 ghost use Rattle.connection_uri.specs.Encoding.{is_unreserved, encoded};
@@ -6,6 +7,7 @@ ghost use Rattle.connection_uri.specs.Encoding.{is_unreserved, encoded};
 use lc_model::{Id, NoMemory, Text};
 use percent_encoding::{AsciiSet, NON_ALPHANUMERIC, ascii_set, percent_decode, percent_encode};
 use std::alloc::Global;
+use std::borrow::CowStr;
 
 /// The ASCII bytes that are not unreserved.
 const RESERVED: AsciiSet = ascii_set!(
@@ -26,7 +28,7 @@ pub fn encode(alloc: Global, id: &Id) -> Result<Text, NoMemory>
 }
 
 /// The id whose encoding the text is. None exactly where the text is no encoding of an id, as where it has a small
-/// letter in an escape, or an escape that is not needed.
+/// letter in an escape, or an escape that is not needed. Copies the text once; one with escapes takes two copies more.
 pub fn decode(alloc: Global, text: &[u8]) -> Result<Option<Id>, NoMemory>
     ensures said { IfOk result (λ read. IfSome read (λ id. IsIdText id × (text.now ≡ encoded id))) }
     ensures exact { IfOk result (λ read. (id : List ℕ) → IsIdText id → text.now ≡ encoded id → read ≡ Some id) }
@@ -47,8 +49,7 @@ pub fn decode(alloc: Global, text: &[u8]) -> Result<Option<Id>, NoMemory>
 fn written_id(alloc: Global, text: &[u8]) -> Result<Option<Id>, NoMemory>
     ensures { IfOk result (λ read. (id : List ℕ) → IsIdText id → text.now ≡ encoded id → read ≡ Some id) }
 {
-    let mut bytes = Vec::new(alloc);
-    percent_decode(text).append_to(&mut bytes)?;
+    let bytes = percent_decode(text).into_cow(alloc)?;
     Id::new(alloc, bytes.as_slice())
 }
 
@@ -56,13 +57,21 @@ fn written_id(alloc: Global, text: &[u8]) -> Result<Option<Id>, NoMemory>
 fn is_encoding(alloc: Global, id: &Id, text: &[u8]) -> Result<bool, NoMemory>
     ensures { IfOk result (λ same. IsTrue same ↔ (text.now ≡ encoded id.now)) }
 {
-    let encoding = encode(alloc, id)?;
+    let encoding = encoding_of(alloc, id)?;
     Ok(encoding.as_str().as_bytes() == text)
 }
 
-/// Appends the encoding of the bytes.
-pub(crate) fn append_encoded(text: &mut String, bytes: &[u8]) -> Result<(), NoMemory>
-    ensures { OnOk result (string_bytes text.new ≡ string_bytes text.old ++ encoded bytes.now) }
+/// The encoding of the id, which is the id itself where no byte needs an escape.
+fn encoding_of<'a>(alloc: Global, id: &'a Id) -> Result<CowStr<'a, Global>, NoMemory>
+    ensures { IfOk result (λ text. cow_str_bytes text ≡ encoded id.now) }
+{
+    Ok(percent_encode(id.bytes(), RESERVED).into_cow(alloc)?)
+}
+
+/// Appends the encoding of the bytes. After running out of memory the text is as it was.
+pub fn append_encoded(text: &mut String, bytes: &[u8]) -> Result<(), NoMemory>
+    ensures ok { OnOk result (string_bytes text.new ≡ string_bytes text.old ++ encoded bytes.now) }
+    ensures err { OnErr result (string_bytes text.new ≡ string_bytes text.old) }
 {
     percent_encode(bytes, RESERVED).append_to(text)?;
     Ok(())

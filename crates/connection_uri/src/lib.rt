@@ -9,7 +9,9 @@ mod pages;
 mod parts;
 
 pub use base::{Base, base_is_cut_once, bases_are_read, bases_are_written, one_base};
-pub use encoding::{decode, encode};
-pub use names::{append_run, name, names_differ, read_name};
-pub use pages::{page_targets_join, page_url, page_urls_differ, page_urls_join, read_page_url};
+pub use encoding::{append_encoded, decode, encode};
+pub use names::{append_run, fill_name, name, names_differ, read_name};
+pub use pages::{
+    fill_page_url, page_targets_join, page_url, page_urls_differ, page_urls_join, read_page_url,
+};
 pub use parts::{behind_base, read_decimal, read_start_part};

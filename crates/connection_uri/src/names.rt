@@ -1,5 +1,6 @@
-ghost use Rattle.std.specs.Prelude.{◌≡◌, ◌++◌, ◌<◌, ◌^◌, ℕ, List, codes, decimal, Some, IfOk, IfSome, OnOk, OnErr, IsSomeAnd};
-ghost use Rattle.std.specs.String.{string_bytes};
+ghost use Rattle.std.specs.Prelude.{◌≡◌, ◌++◌, ◌<◌, ◌^◌, ℕ, List, take, codes, decimal, Some, IfOk, IfSome, OnOk, OnErr, IsSomeAnd};
+ghost use Rattle.std.specs.Option.{ForSome};
+ghost use Rattle.std.specs.String.{string_bytes, string_len};
 ghost use Rattle.lc_model.specs.Text.{IsIdText};
 ghost use Rattle.lc_model.specs.declared.key.RunKey.{RunKey as Key};
 ghost use Rattle.lc_time.specs.Date.{date_text_of};
@@ -21,12 +22,27 @@ use std::alloc::Global;
 pub fn name(alloc: Global, base: &Base, key: &RunKey, sequence: u32) -> Result<Text, NoMemory>
     ensures { IfOk result (λ text. text ≡ name_of base.now key.now sequence) }
 {
-    let mut text = String::from_str(alloc, base.text())?;
+    let mut text = String::new(alloc);
+    fill_name(&mut text, base, key, sequence)?;
+    Ok(Text::from_string(text))
+}
+
+/// The same name, in place of what the text has.
+pub fn fill_name(
+    text: &mut String,
+    base: &Base,
+    key: &RunKey,
+    sequence: u32,
+) -> Result<(), NoMemory>
+    ensures { OnOk result (string_bytes text.new ≡ name_of base.now key.now sequence) }
+{
+    text.clear();
+    text.push_str(base.text())?;
     text.push_str("connections/")?;
-    append_run(&mut text, key)?;
+    append_run(text, key)?;
     text.push_str("/")?;
     text.push_str(Buffer::new().format(sequence))?;
-    Ok(Text::from_string(text))
+    Ok(())
 }
 
 /// The run and the sequence whose name the text is. None exactly where the text is no name of a connection under this
@@ -77,34 +93,47 @@ pub fn append_run(text: &mut String, key: &RunKey) -> Result<(), NoMemory>
     ensures ok { OnOk result (string_bytes text.new ≡ string_bytes text.old ++ run_part_of key.now) }
     ensures err { OnErr result (string_bytes text.new ≡ string_bytes text.old) }
 {
-    // Written apart first, since each of its parts may run out of memory.
-    let part = run_part(*text.allocator(), key)?;
-    text.push_str(part.as_str())?;
+    let before = text.len();
+    let appended = append_parts(text, key);
+    if appended.is_err() {
+        text.truncate(before);
+    }
+    appended
+}
+
+/// Appends trip/date/start of the run. After running out of memory the text may have some of it.
+fn append_parts(text: &mut String, key: &RunKey) -> Result<(), NoMemory>
+    ensures ok { OnOk result (string_bytes text.new ≡ string_bytes text.old ++ run_part_of key.now) }
+    ensures front { take (string_len text.old) (string_bytes text.new) ≡ string_bytes text.old }
+{
+    append_trip_and_date(text, key)?;
+    append_start(text, key.start)?;
     Ok(())
 }
 
-/// trip/date/start of the run.
-fn run_part(alloc: Global, key: &RunKey) -> Result<String, NoMemory>
-    ensures { IfOk result (λ part. string_bytes part ≡ run_part_of key.now) }
+/// Appends trip/date/ of the run. After running out of memory the text may have some of it.
+fn append_trip_and_date(text: &mut String, key: &RunKey) -> Result<(), NoMemory>
+    ensures ok { OnOk result (string_bytes text.new ≡ string_bytes text.old ++ (encoded key.now.trip ++ codes "/"
+        ++ date_text_of key.now.date.year key.now.date.month key.now.date.day ++ codes "/")) }
+    ensures front { take (string_len text.old) (string_bytes text.new) ≡ string_bytes text.old }
 {
-    let mut part = String::new(alloc);
-    append_trip_and_date(&mut part, key)?;
-    match key.start {
-        Some(start) => part.push_str(ascii_str(&start_text(start)))?,
-        None => part.push_str("-")?,
-    }
-    Ok(part)
+    append_encoded(text, key.trip.bytes())?;
+    text.push_str("/")?;
+    text.push_str(ascii_str(&date_text(key.date)))?;
+    text.push_str("/")?;
+    Ok(())
 }
 
-/// Appends trip/date/ of the run.
-fn append_trip_and_date(part: &mut String, key: &RunKey) -> Result<(), NoMemory>
-    ensures { OnOk result (string_bytes part.new ≡ string_bytes part.old ++ (encoded key.now.trip ++ codes "/"
-        ++ date_text_of key.now.date.year key.now.date.month key.now.date.day ++ codes "/")) }
+/// Appends the start as six digits, or `-`.
+fn append_start(text: &mut String, start: Option<u32>) -> Result<(), NoMemory>
+    requires { ForSome start (λ seconds. seconds < 360_000) }
+    ensures ok { OnOk result (string_bytes text.new ≡ string_bytes text.old ++ start_part_of start) }
+    ensures err { OnErr result (string_bytes text.new ≡ string_bytes text.old) }
 {
-    append_encoded(part, key.trip.bytes())?;
-    part.push_str("/")?;
-    part.push_str(ascii_str(&date_text(key.date)))?;
-    part.push_str("/")?;
+    match start {
+        Some(start) => text.push_str(ascii_str(&start_text(start)))?,
+        None => text.push_str("-")?,
+    }
     Ok(())
 }
 

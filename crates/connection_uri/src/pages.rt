@@ -16,12 +16,22 @@ use std::alloc::Global;
 pub fn page_url(alloc: Global, base: &Base, name: PageName) -> Result<Text, NoMemory>
     ensures { IfOk result (λ text. text ≡ page_url_of base.now name) }
 {
-    let mut text = String::from_str(alloc, base.text())?;
-    text.push_str("memento/connections?version=")?;
-    append_moment(&mut text, name.version)?;
-    text.push_str("&departureTime=")?;
-    append_moment(&mut text, name.departs)?;
+    let mut text = String::new(alloc);
+    fill_page_url(&mut text, base, name)?;
     Ok(Text::from_string(text))
+}
+
+/// The same URL, in place of what the text has.
+pub fn fill_page_url(text: &mut String, base: &Base, name: PageName) -> Result<(), NoMemory>
+    ensures { OnOk result (string_bytes text.new ≡ page_url_of base.now name) }
+{
+    text.clear();
+    text.push_str(base.text())?;
+    text.push_str("memento/connections?version=")?;
+    append_moment(text, name.version)?;
+    text.push_str("&departureTime=")?;
+    append_moment(text, name.departs)?;
+    Ok(())
 }
 
 fn append_moment(text: &mut String, moment: Moment) -> Result<(), NoMemory>

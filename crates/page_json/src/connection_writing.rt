@@ -11,17 +11,16 @@ ghost use Rattle.page_json.specs.Urls.{stop_url_of, trip_url_of};
 ghost use Rattle.page_json.specs.Writing.{closed_tokens, use_members};
 
 use crate::sound::sound_connection;
-use crate::urls::{stop_url, trip_url};
-use connection_uri::{Base, name};
+use crate::urls::{fill_stop_url, fill_trip_url};
+use connection_uri::{Base, fill_name};
 use json::Writer;
 use json_members::{write_moment, write_number, write_text};
 use lc_model::{Connection, Id, NoMemory, RunKey};
-use std::alloc::Global;
 
-/// Writes the list of connections, in order.
+/// Writes the list of connections, in order. `text` is room for the texts of members, one after the other.
 pub fn write_connections(
     out: &mut Writer,
-    alloc: Global,
+    text: &mut String,
     base: &Base,
     connections: &[Connection],
 ) -> Result<(), NoMemory>
@@ -31,7 +30,7 @@ pub fn write_connections(
 {
     out.begin_array()?;
     for connection in connections {
-        write_connection(out, alloc, base, connection)?;
+        write_connection(out, text, base, connection)?;
     }
     out.end_array()?;
     Ok(())
@@ -39,7 +38,7 @@ pub fn write_connections(
 
 fn write_connection(
     out: &mut Writer,
-    alloc: Global,
+    text: &mut String,
     base: &Base,
     connection: &Connection,
 ) -> Result<(), NoMemory>
@@ -48,18 +47,18 @@ fn write_connection(
 {
     sound_connection(connection);
     out.begin_object()?;
-    write_name(out, alloc, base, connection)?;
+    write_name(out, text, base, connection)?;
     write_text(out, "@type", "Connection")?;
-    write_arrival(out, alloc, base, connection)?;
-    write_departure(out, alloc, base, connection)?;
-    write_use(out, alloc, base, connection)?;
+    write_arrival(out, text, base, connection)?;
+    write_departure(out, text, base, connection)?;
+    write_use(out, text, base, connection)?;
     Ok(())
 }
 
 /// Writes whether one may alight and board, and of which trip the connection is, and ends its object.
 fn write_use(
     out: &mut Writer,
-    alloc: Global,
+    text: &mut String,
     base: &Base,
     connection: &Connection,
 ) -> Result<(), NoMemory>
@@ -67,37 +66,42 @@ fn write_use(
 {
     write_allowed(out, "gtfs:dropOffType", connection.alight)?;
     write_allowed(out, "gtfs:pickupType", connection.board)?;
-    write_trip(out, alloc, base, &connection.key)?;
+    write_trip(out, text, base, &connection.key)?;
     out.end_object()?;
     Ok(())
 }
 
 fn write_name(
     out: &mut Writer,
-    alloc: Global,
+    text: &mut String,
     base: &Base,
     connection: &Connection,
 ) -> Result<(), NoMemory>
     ensures { let c = connection.now in OnOk result (Appends out.old out.new
         (member_tokens (text_at (codes "@id") (name_of base.now c.key c.seq) no_members))) }
 {
-    let name = name(alloc, base, &connection.key, connection.seq)?;
-    write_text(out, "@id", name.as_str())?;
+    fill_name(text, base, &connection.key, connection.seq)?;
+    write_text(out, "@id", text.as_str())?;
     Ok(())
 }
 
-fn write_trip(out: &mut Writer, alloc: Global, base: &Base, key: &RunKey) -> Result<(), NoMemory>
+fn write_trip(
+    out: &mut Writer,
+    text: &mut String,
+    base: &Base,
+    key: &RunKey,
+) -> Result<(), NoMemory>
     ensures { OnOk result (Appends out.old out.new
         (member_tokens (text_at (codes "gtfs:trip") (trip_url_of base.now key.now) no_members))) }
 {
-    let url = trip_url(alloc, base, key)?;
-    write_text(out, "gtfs:trip", url.as_str())?;
+    fill_trip_url(text, base, key)?;
+    write_text(out, "gtfs:trip", text.as_str())?;
     Ok(())
 }
 
 fn write_arrival(
     out: &mut Writer,
-    alloc: Global,
+    text: &mut String,
     base: &Base,
     connection: &Connection,
 ) -> Result<(), NoMemory>
@@ -107,14 +111,14 @@ fn write_arrival(
         (text_at (codes "arrivalTime") (iso_text_of c.arr) no_members))))) }
 {
     write_number(out, "arrivalDelay", connection.arr_delay)?;
-    write_stop_url(out, alloc, base, "arrivalStop", &connection.arr_stop)?;
+    write_stop_url(out, text, base, "arrivalStop", &connection.arr_stop)?;
     write_moment(out, "arrivalTime", connection.arr)?;
     Ok(())
 }
 
 fn write_departure(
     out: &mut Writer,
-    alloc: Global,
+    text: &mut String,
     base: &Base,
     connection: &Connection,
 ) -> Result<(), NoMemory>
@@ -124,7 +128,7 @@ fn write_departure(
         (text_at (codes "departureTime") (iso_text_of c.dep) no_members))))) }
 {
     write_number(out, "departureDelay", connection.dep_delay)?;
-    write_stop_url(out, alloc, base, "departureStop", &connection.dep_stop)?;
+    write_stop_url(out, text, base, "departureStop", &connection.dep_stop)?;
     write_moment(out, "departureTime", connection.dep)?;
     Ok(())
 }
@@ -132,7 +136,7 @@ fn write_departure(
 /// Writes the URL of a stop.
 fn write_stop_url(
     out: &mut Writer,
-    alloc: Global,
+    text: &mut String,
     base: &Base,
     key: &str,
     stop: &Id,
@@ -140,8 +144,8 @@ fn write_stop_url(
     ensures { OnOk result
         (Appends out.old out.new (member_tokens (text_at key.now (stop_url_of base.now stop.now) no_members))) }
 {
-    let url = stop_url(alloc, base, stop)?;
-    write_text(out, key, url.as_str())?;
+    fill_stop_url(text, base, stop)?;
+    write_text(out, key, text.as_str())?;
     Ok(())
 }
 

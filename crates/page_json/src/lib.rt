@@ -6,6 +6,8 @@
 mod change_reading;
 mod connection_reading;
 mod connection_writing;
+mod cursor;
+mod guess;
 mod known;
 mod laws;
 mod page;
@@ -16,6 +18,7 @@ mod stop_reading;
 mod stops_reading;
 mod stops_writing;
 mod urls;
+mod written_page;
 
 pub use json_members::PageFault;
 pub use laws::{one_reading, readings_are_valid, some_reading};

@@ -13,11 +13,16 @@ ghost use Rattle.page_json.specs.Writing.{arrival_terms, closed_tokens, departur
 use crate::Page;
 use crate::connection_writing::write_connections;
 use crate::sound::{sound_link, sound_name};
-use connection_uri::{Base, page_url};
+use connection_uri::{Base, fill_page_url};
 use json::Writer;
 use json_members::write_text;
 use lc_model::{NoMemory, PageName};
 use std::alloc::Global;
+
+/// About the bytes of a page's text beside its connections, and of a connection's text beside the bases in it.
+const PAGE_BYTES: usize = 2048;
+
+const CONNECTION_BYTES: usize = 400;
 
 /// The text of a valid page: JSON without spaces, its members in the order of their bytes. It says that page. Linear in
 /// the connections.
@@ -27,12 +32,37 @@ pub fn page_text(alloc: Global, base: &Base, page: &Page) -> Result<Vec<u8>, NoM
     ensures utf8 { IfOk result (λ text. IsUtf8 text.items) }
     ensures read { IfOk result (λ text. page_of_bytes base.now text.items (Ok page.now)) }
 {
-    let mut out = Writer::new(Vec::new(alloc));
-    write_page(&mut out, alloc, base, page)?;
+    page_text_in(alloc, base, page, text_room(base, page))
+}
+
+/// The same text, for which room for so many bytes is made at once.
+pub fn page_text_in(
+    alloc: Global,
+    base: &Base,
+    page: &Page,
+    room: usize,
+) -> Result<Vec<u8>, NoMemory>
+    requires { IsValidPage page.now }
+    ensures text { IfOk result (λ text. text.items ≡ page_text_of base.now page.now) }
+    ensures utf8 { IfOk result (λ text. IsUtf8 text.items) }
+    ensures read { IfOk result (λ text. page_of_bytes base.now text.items (Ok page.now)) }
+{
+    let mut out = Writer::new(Vec::with_capacity(alloc, room)?);
+    let mut text = String::new(alloc);
+    write_page(&mut out, &mut text, base, page)?;
     Ok(out.into_inner())
 }
 
-fn write_page(out: &mut Writer, alloc: Global, base: &Base, page: &Page) -> Result<(), NoMemory>
+/// About the bytes of the page's text: each connection has the base four times.
+fn text_room(base: &Base, page: &Page) -> usize {
+    let bases = base.text().len().saturating_mul(4);
+    let connections = page.list.as_slice().len();
+    connections
+        .saturating_mul(CONNECTION_BYTES.saturating_add(bases))
+        .saturating_add(PAGE_BYTES)
+}
+
+fn write_page(out: &mut Writer, text: &mut String, base: &Base, page: &Page) -> Result<(), NoMemory>
     ensures tokens { OnOk result (Appends out.old out.new (tokens_of (page_tree base.now page.now))) }
     ensures sound { OnOk result (IsSoundPage page.now) }
 {
@@ -43,29 +73,29 @@ fn write_page(out: &mut Writer, alloc: Global, base: &Base, page: &Page) -> Resu
     out.key("@context")?;
     write_context(out)?;
     out.key("@graph")?;
-    write_connections(out, alloc, base, page.list.as_slice())?;
-    write_view(out, alloc, base, page)?;
+    write_connections(out, text, base, page.list.as_slice())?;
+    write_view(out, text, base, page)?;
     Ok(())
 }
 
 /// Writes what a page says of itself, and ends its object.
-fn write_view(out: &mut Writer, alloc: Global, base: &Base, page: &Page) -> Result<(), NoMemory>
+fn write_view(out: &mut Writer, text: &mut String, base: &Base, page: &Page) -> Result<(), NoMemory>
     ensures { OnOk result (Appends out.old out.new (closed_tokens (view_members base.now page.now))) }
 {
-    write_page_url(out, alloc, base, "@id", page.name)?;
+    write_page_url(out, text, base, "@id", page.name)?;
     write_text(out, "@type", "hydra:PartialCollectionView")?;
-    write_link(out, alloc, base, "hydra:next", page.next)?;
-    write_link(out, alloc, base, "hydra:previous", page.previous)?;
-    write_end(out, alloc, base)?;
+    write_link(out, text, base, "hydra:next", page.next)?;
+    write_link(out, text, base, "hydra:previous", page.previous)?;
+    write_end(out, text, base)?;
     Ok(())
 }
 
 /// Writes how other pages are asked for, and ends the object of a page.
-fn write_end(out: &mut Writer, alloc: Global, base: &Base) -> Result<(), NoMemory>
+fn write_end(out: &mut Writer, text: &mut String, base: &Base) -> Result<(), NoMemory>
     ensures { OnOk result (Appends out.old out.new (closed_tokens (search_members base.now))) }
 {
     out.key("hydra:search")?;
-    write_search(out, alloc, base)?;
+    write_search(out, text, base)?;
     out.end_object()?;
     Ok(())
 }
@@ -73,7 +103,7 @@ fn write_end(out: &mut Writer, alloc: Global, base: &Base) -> Result<(), NoMemor
 /// Writes a link to a page, if there is one.
 fn write_link(
     out: &mut Writer,
-    alloc: Global,
+    text: &mut String,
     base: &Base,
     key: &str,
     link: Option<PageName>,
@@ -81,7 +111,7 @@ fn write_link(
     ensures { OnOk result (Appends out.old out.new (member_tokens (link_at base.now key.now link no_members))) }
 {
     match link {
-        Some(name) => write_page_url(out, alloc, base, key, name),
+        Some(name) => write_page_url(out, text, base, key, name),
         None => Ok(()),
     }
 }
@@ -89,7 +119,7 @@ fn write_link(
 /// Writes the URL of a page.
 fn write_page_url(
     out: &mut Writer,
-    alloc: Global,
+    text: &mut String,
     base: &Base,
     key: &str,
     name: PageName,
@@ -97,8 +127,8 @@ fn write_page_url(
     ensures { OnOk result
         (Appends out.old out.new (member_tokens (text_at key.now (page_url_of base.now name) no_members))) }
 {
-    let url = page_url(alloc, base, name)?;
-    write_text(out, key, url.as_str())?;
+    fill_page_url(text, base, name)?;
+    write_text(out, key, text.as_str())?;
     Ok(())
 }
 
@@ -198,25 +228,26 @@ fn write_iri(out: &mut Writer, key: &str) -> Result<(), NoMemory>
     Ok(())
 }
 
-fn write_search(out: &mut Writer, alloc: Global, base: &Base) -> Result<(), NoMemory>
+fn write_search(out: &mut Writer, text: &mut String, base: &Base) -> Result<(), NoMemory>
     ensures { OnOk result (Appends out.old out.new (tokens_of (search_tree base.now))) }
 {
     out.begin_object()?;
     write_text(out, "@type", "hydra:IriTemplate")?;
     out.key("hydra:mapping")?;
     write_mapping(out)?;
-    write_template(out, alloc, base)?;
+    write_template(out, text, base)?;
     out.end_object()?;
     Ok(())
 }
 
-fn write_template(out: &mut Writer, alloc: Global, base: &Base) -> Result<(), NoMemory>
+fn write_template(out: &mut Writer, text: &mut String, base: &Base) -> Result<(), NoMemory>
     ensures { OnOk result (Appends out.old out.new (member_tokens
         (text_at (codes "hydra:template") (base.now.text ++ codes "connections{?departureTime}") no_members))) }
 {
-    let mut template = String::from_str(alloc, base.text())?;
-    template.push_str("connections{?departureTime}")?;
-    write_text(out, "hydra:template", template.as_str())?;
+    text.clear();
+    text.push_str(base.text())?;
+    text.push_str("connections{?departureTime}")?;
+    write_text(out, "hydra:template", text.as_str())?;
     Ok(())
 }
 

@@ -16,6 +16,11 @@ use json_members::write_text;
 use lc_model::{Change, Id, NoMemory, Stop, StopsDoc};
 use std::alloc::Global;
 
+/// About the bytes of a stops document's text beside its lists, and of a stop or a change in it.
+const DOC_BYTES: usize = 256;
+
+const ITEM_BYTES: usize = 64;
+
 /// The text of the stops document: JSON without spaces, its members in the order of their bytes. It says that document.
 /// Linear in the stops and the changes.
 pub fn stops_text(alloc: Global, base: &Base, doc: &StopsDoc) -> Result<Vec<u8>, NoMemory>
@@ -23,9 +28,19 @@ pub fn stops_text(alloc: Global, base: &Base, doc: &StopsDoc) -> Result<Vec<u8>,
     ensures utf8 { IfOk result (λ text. IsUtf8 text.items) }
     ensures read { IfOk result (λ text. doc_of_bytes text.items (Ok doc.now)) }
 {
-    let mut out = Writer::new(Vec::new(alloc));
+    let mut out = Writer::new(Vec::with_capacity(alloc, text_room(doc))?);
     write_doc(&mut out, alloc, base, doc)?;
     Ok(out.into_inner())
+}
+
+/// About the bytes of the document's text.
+fn text_room(doc: &StopsDoc) -> usize {
+    let items = doc
+        .stops
+        .as_slice()
+        .len()
+        .saturating_add(doc.changes.as_slice().len());
+    items.saturating_mul(ITEM_BYTES).saturating_add(DOC_BYTES)
 }
 
 fn write_doc(out: &mut Writer, alloc: Global, base: &Base, doc: &StopsDoc) -> Result<(), NoMemory>

@@ -5,6 +5,7 @@
 mod answers;
 mod document_texts;
 mod members;
+mod other_pages;
 mod page_texts;
 mod pages;
 mod scripts;

@@ -3,6 +3,7 @@ ghost use Rattle.std.specs.Prelude.{IfOk};
 ghost use Rattle.page_json.specs.Valid.{IsValidPage};
 
 use crate::document_texts::{DOCUMENTS, STOPS};
+use crate::other_pages::put_other_pages;
 use crate::page_texts::{EMPTY, PAGES, THREE, TINY, WORDS};
 use connection_uri::Base;
 use lc_model::{Connection, PlainData, StopsDoc};
@@ -29,6 +30,7 @@ fn put_pages_under(alloc: Global, draft: &mut Draft, base: &Base) {
     }
     put_faults_under(alloc, draft, base);
     put_three(alloc, draft, base);
+    put_other_pages(alloc, draft, base);
 }
 
 fn put_faults_under(alloc: Global, draft: &mut Draft, base: &Base) {

@@ -5,7 +5,7 @@ use Rattle.connection_uri.proofs.ByteLemmas.{IsByte}
 use Rattle.connection_uri.proofs.EncodingLemmas.{percent_encode_is}
 use Rattle.connection_uri.proofs.encoding.append_encoded.Goals as goal
 
-pub returns : goal.returns
-returns c =
+pub returns-clause-ok : goal.returns-clause-ok
+returns-clause-ok c =
     let small = All-from_get_or IsByte c.args.bytes.now 0 (λ i within. omega (arith, c.type_inv.bytes i)) in
     c.in_ok-append_to.ensures.ok ∙ ap (λ (t : List ℕ). string_bytes c.args.text.now ++ t) (c.percent_encode.ensures.text ∙ percent_encode_is c.args.bytes.now small)

@@ -5,4 +5,4 @@ use Rattle.page_json.proofs.connection_writing.write_trip.Goals as goal
 
 pub returns : goal.returns
 returns c =
-    says _ (c.as_str.ensures.value ∙ c.in_ok-url.ensures) c.in_ok-write_text.ensures
+    says _ (c.as_str.ensures.value ∙ c.in_ok-fill_trip_url.ensures) c.in_ok-write_text.ensures

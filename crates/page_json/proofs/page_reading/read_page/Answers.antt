@@ -1,29 +1,22 @@
--- First the JSON, then the page.
-use Rattle.std.proofs.Common.{Ok, Err, refl}
-use Rattle.serde_json.specs.View.{view}
-use Rattle.page_json.specs.PageReading.{page_in, page_of_bytes}
+-- The bytes say one page at most.
+use Rattle.std.proofs.Common.{Ok, Option, subst}
+use Rattle.std.specs.Option.{IfSome}
 use Rattle.json_members.proofs.OneReadingLemmas.{meets_one}
 use Rattle.page_json.proofs.OneResultLemmas.{one_page_of_bytes}
-use Rattle.json_members.proofs.ReadingsLemmas.{meets_err, meets_last}
+use Rattle.page_json.specs.PageReading.{page_of_bytes}
+use Rattle.page_json.specs.declared.page.Page.{Page}
 use Rattle.page_json.proofs.page_reading.read_page.Goals as goal
 
-pub returns-clause-said : goal.returns-clause-said
-unfolding page_of_bytes
-returns-clause-said c =
-    meets_last (page_in c.args.base.now (view c.in_ok-value.value)) (page_of_bytes c.args.base.now c.args.bytes.now) c.page_in.result
-    (λ r last. (Ok (view c.in_ok-value.value), c.in_ok-value.ensures.ok, last)) c.page_in.ensures.said
+pub returns-in-Some-clause-exact : goal.returns-in-Some-clause-exact
+returns-in-Some-clause-exact c = λ page says.
+    let base = c.args.base.now in
+    let bytes = c.args.bytes.now in
+    let Says : Option Page → Type 0 = λ read. IfSome read (λ (p : Page). page_of_bytes base bytes (Ok p)) in
+    let said = subst Says c.in-Some.is c.in_ok-page.ensures.said in
+    (one_page_of_bytes base bytes).same (Ok c.in-Some.page) (Ok page) said says
 
-pub returns-in_err-value-clause-said : goal.returns-in_err-value-clause-said
-unfolding page_of_bytes
-returns-in_err-value-clause-said c =
-    let fault = c.in_err-value.field-0.0 in
-    meets_err (page_of_bytes c.args.base.now c.args.bytes.now) c.from_residual.result fault c.from_residual.ensures.1
-    (λ other. (Err fault, c.in_err-value.ensures.err other, refl))
-
-pub returns-clause-exact : goal.returns-clause-exact
-returns-clause-exact c = λ page says.
-    meets_one (page_of_bytes c.args.base.now c.args.bytes.now) page c.page_in.result (one_page_of_bytes c.args.base.now c.args.bytes.now) says (returns-clause-said c)
-
-pub returns-in_err-value-clause-exact : goal.returns-in_err-value-clause-exact
-returns-in_err-value-clause-exact c = λ page says.
-    meets_one (page_of_bytes c.args.base.now c.args.bytes.now) page c.from_residual.result (one_page_of_bytes c.args.base.now c.args.bytes.now) says (returns-in_err-value-clause-said c)
+pub returns-in-None-clause-exact : goal.returns-in-None-clause-exact
+returns-in-None-clause-exact c = λ page says.
+    let base = c.args.base.now in
+    let bytes = c.args.bytes.now in
+    meets_one (page_of_bytes base bytes) page c.read_tree.result (one_page_of_bytes base bytes) says c.read_tree.ensures.said

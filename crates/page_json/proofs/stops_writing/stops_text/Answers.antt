@@ -10,11 +10,11 @@ use Rattle.page_json.proofs.stops_writing.stops_text.Goals as goal
 pub returns-clause-text : goal.returns-clause-text
 unfolding stops_text_of
 returns-clause-text c =
-    c.into_inner.ensures.items ∙ text_is _ _ (stops_tree c.args.base.now c.args.doc.now) (c.new-out.ensures.before ∙ c.new.ensures.items) c.new-out.ensures.tokens c.in_ok-write_doc.ensures.tokens
+    c.into_inner.ensures.items ∙ text_is _ _ (stops_tree c.args.base.now c.args.doc.now) (c.new-out.ensures.before ∙ c.in_ok-with_capacity.ensures.items) c.new-out.ensures.tokens c.in_ok-write_doc.ensures.tokens
 
 pub returns-clause-utf8 : goal.returns-clause-utf8
 returns-clause-utf8 c =
-    subst IsUtf8 (sym (c.into_inner.ensures.items ∙ behind_nothing _ _ (tokens_of (stops_tree c.args.base.now c.args.doc.now)) (c.new-out.ensures.before ∙ c.new.ensures.items) c.in_ok-write_doc.ensures.tokens)) c.into_inner.ensures.utf8
+    subst IsUtf8 (sym (c.into_inner.ensures.items ∙ behind_nothing _ _ (tokens_of (stops_tree c.args.base.now c.args.doc.now)) (c.new-out.ensures.before ∙ c.in_ok-with_capacity.ensures.items) c.in_ok-write_doc.ensures.tokens)) c.into_inner.ensures.utf8
 
 pub returns-clause-read : goal.returns-clause-read
 returns-clause-read c =

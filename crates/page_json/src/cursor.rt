@@ -1,0 +1,48 @@
+//! A text of JSON that is gone through from its front, as `page_text` writes it.
+
+use memchr::{memchr, memmem};
+
+/// What is left of a text.
+#[derive(Drop)]
+pub struct Cursor<'a> {
+    rest: &'a [u8],
+}
+
+impl<'a> Cursor<'a> {
+    pub fn new(text: &'a [u8]) -> Cursor<'a> {
+        Cursor { rest: text }
+    }
+
+    /// How many bytes are left.
+    pub fn left(&self) -> usize {
+        self.rest.len()
+    }
+
+    /// Moves past these bytes, if they come next.
+    #[inline(always)]
+    pub fn skip(&mut self, bytes: &[u8]) -> Option<()> {
+        self.rest = self.rest.strip_prefix(bytes)?;
+        Some(())
+    }
+
+    /// Moves past the first place where these bytes stand, if they do.
+    pub fn find(&mut self, bytes: &[u8]) -> Option<()> {
+        let place = memmem::find(self.rest, bytes)?;
+        self.rest = self.rest.get(place..)?;
+        self.skip(bytes)
+    }
+
+    /// The bytes before the next one that is this mark. Moves past the mark.
+    pub fn before(&mut self, mark: u8) -> Option<&'a [u8]> {
+        let place = memchr(mark, self.rest)?;
+        let (front, rest) = self.rest.split_at(place);
+        self.rest = rest.get(1..)?;
+        Some(front)
+    }
+
+    /// The whole number before the next comma. Moves past the comma.
+    pub fn number(&mut self) -> Option<i64> {
+        let digits = std::str::from_utf8(self.before(b',')?).ok()?;
+        digits.parse::<i64>().ok()
+    }
+}

@@ -1,0 +1,217 @@
+//! A page by a guess: what a text says if `page_text` wrote it. Nothing is promised of a guess. Who takes one writes it again and
+//! compares.
+use crate::Page;
+use crate::cursor::Cursor;
+use crate::urls::read_stop_url;
+use connection_uri::{Base, read_name, read_page_url};
+use lc_model::{Connection, Connections, Id, NoMemory, PageName};
+use lc_time::read_iso;
+use std::alloc::Global;
+
+/// About the least bytes of a connection's text beside the four bases in it.
+const LEAST_BYTES: usize = 330;
+
+/// A guess of the page that the text says, or none. Linear in the text.
+pub fn guessed_page(alloc: Global, base: &Base, text: &[u8]) -> Result<Option<Page>, NoMemory> {
+    let mut cursor = Cursor::new(text);
+    if cursor.find(b"\"@graph\":[").is_none() {
+        return Ok(None);
+    }
+    let Some(list) = guessed_list(alloc, base, &mut cursor)? else {
+        return Ok(None);
+    };
+    Ok(with_view(base, &mut cursor, list))
+}
+
+/// The connections up to the end of their list.
+fn guessed_list(
+    alloc: Global,
+    base: &Base,
+    cursor: &mut Cursor<'_>,
+) -> Result<Option<Connections>, NoMemory> {
+    let bases = base.text().len().saturating_mul(4);
+    let most = cursor.left() / LEAST_BYTES.saturating_add(bases);
+    let mut list = Vec::with_capacity(alloc, most)?;
+    if push_all(alloc, base, cursor, &mut list)? {
+        Ok(forward_list(list))
+    } else {
+        Ok(None)
+    }
+}
+
+/// Pushes the connections up to the end of their list. Whether there is a guess of each.
+fn push_all(
+    alloc: Global,
+    base: &Base,
+    cursor: &mut Cursor<'_>,
+    list: &mut Vec<Connection>,
+) -> Result<bool, NoMemory> {
+    // Each takes a byte at least.
+    for _ in 0..cursor.left() {
+        if cursor.skip(b"{\"@id\":\"").is_none() {
+            break;
+        }
+        match guessed_connection(alloc, base, cursor)? {
+            Some(connection) => list.push(connection)?,
+            None => return Ok(false),
+        }
+    }
+    Ok(true)
+}
+
+/// The list, if no connection arrives before it departs.
+fn forward_list(list: Vec<Connection>) -> Option<Connections> {
+    if list
+        .as_slice()
+        .iter()
+        .all(|connection| connection.dep <= connection.arr)
+    {
+        Some(Connections::from_list(list))
+    } else {
+        None
+    }
+}
+
+/// The connection whose name comes next.
+fn guessed_connection(
+    alloc: Global,
+    base: &Base,
+    cursor: &mut Cursor<'_>,
+) -> Result<Option<Connection>, NoMemory> {
+    match connection_parts(cursor) {
+        Some(parts) => made_connection(alloc, base, &parts),
+        None => Ok(None),
+    }
+}
+
+/// The connection of these parts.
+fn made_connection(
+    alloc: Global,
+    base: &Base,
+    parts: &ConnectionParts<'_>,
+) -> Result<Option<Connection>, NoMemory> {
+    let (Some(dep), Some(arr)) = (
+        read_iso(parts.departure.moment),
+        read_iso(parts.arrival.moment),
+    ) else {
+        return Ok(None);
+    };
+    let Some((key, seq)) = read_name(alloc, base, parts.name)? else {
+        return Ok(None);
+    };
+    let Some((dep_stop, arr_stop)) = made_stops(alloc, base, parts)? else {
+        return Ok(None);
+    };
+    Ok(Some(Connection {
+        key,
+        seq,
+        dep_stop,
+        dep,
+        arr_stop,
+        arr,
+        board: parts.board,
+        alight: parts.alight,
+        dep_delay: parts.departure.delay,
+        arr_delay: parts.arrival.delay,
+    }))
+}
+
+/// The stops of departure and of arrival.
+fn made_stops(
+    alloc: Global,
+    base: &Base,
+    parts: &ConnectionParts<'_>,
+) -> Result<Option<(Id, Id)>, NoMemory> {
+    let Some(departure) = read_stop_url(alloc, base, parts.departure.stop)? else {
+        return Ok(None);
+    };
+    let Some(arrival) = read_stop_url(alloc, base, parts.arrival.stop)? else {
+        return Ok(None);
+    };
+    Ok(Some((departure, arrival)))
+}
+
+/// The parts of a connection's text, the texts in it as they are written.
+#[derive(Clone, Copy)]
+struct ConnectionParts<'a> {
+    name: &'a [u8],
+    arrival: EndParts<'a>,
+    departure: EndParts<'a>,
+    alight: bool,
+    board: bool,
+}
+
+/// The parts of an arrival or a departure.
+#[derive(Clone, Copy)]
+struct EndParts<'a> {
+    delay: i64,
+    stop: &'a [u8],
+    moment: &'a [u8],
+}
+
+/// The parts of the connection whose name comes next. Moves past its comma, or past its end where it is the last.
+fn connection_parts<'a>(cursor: &mut Cursor<'a>) -> Option<ConnectionParts<'a>> {
+    let name = cursor.before(b'"')?;
+    cursor.skip(b",\"@type\":\"Connection\",\"arrivalDelay\":")?;
+    let arrival = end_parts(cursor, b"\"arrivalStop\":\"", b",\"arrivalTime\":\"")?;
+    cursor.skip(b",\"departureDelay\":")?;
+    let departure = end_parts(cursor, b"\"departureStop\":\"", b",\"departureTime\":\"")?;
+    cursor.skip(b",\"gtfs:dropOffType\":\"")?;
+    let alight = allowed(cursor)?;
+    cursor.skip(b",\"gtfs:pickupType\":\"")?;
+    let board = allowed(cursor)?;
+    // The URL of the trip is in the name.
+    cursor.before(b'}')?;
+    let _comma = cursor.skip(b",");
+    Some(ConnectionParts {
+        name,
+        arrival,
+        departure,
+        alight,
+        board,
+    })
+}
+
+/// The parts of an arrival or a departure whose delay comes next.
+fn end_parts<'a>(
+    cursor: &mut Cursor<'a>,
+    stop_key: &[u8],
+    moment_key: &[u8],
+) -> Option<EndParts<'a>> {
+    let delay = cursor.number()?;
+    cursor.skip(stop_key)?;
+    let stop = cursor.before(b'"')?;
+    cursor.skip(moment_key)?;
+    let moment = cursor.before(b'"')?;
+    Some(EndParts {
+        delay,
+        stop,
+        moment,
+    })
+}
+
+/// Whether one may board or alight, by the text that comes next.
+fn allowed(cursor: &mut Cursor<'_>) -> Option<bool> {
+    let text = cursor.before(b'"')?;
+    Some(text == b"gtfs:Regular".as_slice())
+}
+
+/// The page of these connections, with what it says of itself after them.
+fn with_view(base: &Base, cursor: &mut Cursor<'_>, list: Connections) -> Option<Page> {
+    let name = page_after(base, cursor, b"],\"@id\":\"")?;
+    cursor.skip(b",\"@type\":\"hydra:PartialCollectionView\"")?;
+    let next = page_after(base, cursor, b",\"hydra:next\":\"");
+    let previous = page_after(base, cursor, b",\"hydra:previous\":\"");
+    Some(Page {
+        name,
+        next,
+        previous,
+        list,
+    })
+}
+
+/// The page whose URL stands after this key, if that comes next.
+fn page_after(base: &Base, cursor: &mut Cursor<'_>, key: &[u8]) -> Option<PageName> {
+    cursor.skip(key)?;
+    read_page_url(base, cursor.before(b'"')?)
+}
