@@ -40,8 +40,16 @@ impl<'a> Cursor<'a> {
         Some(front)
     }
 
-    /// The whole number before the next comma. Moves past the comma.
-    pub fn number(&mut self) -> Option<i64> {
+    /// The bytes between these, which come next, and the next quote. Moves past the quote.
+    #[inline(always)]
+    pub fn text_after(&mut self, front: &[u8]) -> Option<&'a [u8]> {
+        self.skip(front)?;
+        self.before(b'"')
+    }
+
+    /// The whole number between these bytes, which come next, and the next comma. Moves past the comma.
+    pub fn number_after(&mut self, front: &[u8]) -> Option<i64> {
+        self.skip(front)?;
         let digits = std::str::from_utf8(self.before(b',')?).ok()?;
         digits.parse::<i64>().ok()
     }

@@ -11,6 +11,9 @@ use std::alloc::Global;
 /// About the least bytes of a connection's text beside the four bases in it.
 const LEAST_BYTES: usize = 330;
 
+/// How a text says that one may board or alight.
+const ALLOWED: &[u8] = b"gtfs:Regular";
+
 /// A guess of the page that the text says, or none. Linear in the text.
 pub fn guessed_page(alloc: Global, base: &Base, text: &[u8]) -> Result<Option<Page>, NoMemory> {
     let mut cursor = Cursor::new(text);
@@ -109,8 +112,8 @@ fn made_connection(
         dep,
         arr_stop,
         arr,
-        board: parts.board,
-        alight: parts.alight,
+        board: parts.usage.board,
+        alight: parts.usage.alight,
         dep_delay: parts.departure.delay,
         arr_delay: parts.arrival.delay,
     }))
@@ -137,8 +140,7 @@ struct ConnectionParts<'a> {
     name: &'a [u8],
     arrival: EndParts<'a>,
     departure: EndParts<'a>,
-    alight: bool,
-    board: bool,
+    usage: Usage,
 }
 
 /// The parts of an arrival or a departure.
@@ -149,40 +151,32 @@ struct EndParts<'a> {
     moment: &'a [u8],
 }
 
+/// Whether one may alight and board.
+#[derive(Clone, Copy)]
+struct Usage {
+    alight: bool,
+    board: bool,
+}
+
 /// The parts of the connection whose name comes next. Moves past its comma, or past its end where it is the last.
 fn connection_parts<'a>(cursor: &mut Cursor<'a>) -> Option<ConnectionParts<'a>> {
     let name = cursor.before(b'"')?;
-    cursor.skip(b",\"@type\":\"Connection\",\"arrivalDelay\":")?;
-    let arrival = end_parts(cursor, b"\"arrivalStop\":\"", b",\"arrivalTime\":\"")?;
-    cursor.skip(b",\"departureDelay\":")?;
-    let departure = end_parts(cursor, b"\"departureStop\":\"", b",\"departureTime\":\"")?;
-    cursor.skip(b",\"gtfs:dropOffType\":\"")?;
-    let alight = allowed(cursor)?;
-    cursor.skip(b",\"gtfs:pickupType\":\"")?;
-    let board = allowed(cursor)?;
-    // The URL of the trip is in the name.
-    cursor.before(b'}')?;
-    let _comma = cursor.skip(b",");
+    cursor.skip(b",\"@type\":\"Connection\"")?;
+    let arrival = arrival_parts(cursor)?;
+    let departure = departure_parts(cursor)?;
+    let usage = usage_part(cursor)?;
     Some(ConnectionParts {
         name,
         arrival,
         departure,
-        alight,
-        board,
+        usage,
     })
 }
 
-/// The parts of an arrival or a departure whose delay comes next.
-fn end_parts<'a>(
-    cursor: &mut Cursor<'a>,
-    stop_key: &[u8],
-    moment_key: &[u8],
-) -> Option<EndParts<'a>> {
-    let delay = cursor.number()?;
-    cursor.skip(stop_key)?;
-    let stop = cursor.before(b'"')?;
-    cursor.skip(moment_key)?;
-    let moment = cursor.before(b'"')?;
+fn arrival_parts<'a>(cursor: &mut Cursor<'a>) -> Option<EndParts<'a>> {
+    let delay = cursor.number_after(b",\"arrivalDelay\":")?;
+    let stop = cursor.text_after(b"\"arrivalStop\":\"")?;
+    let moment = cursor.text_after(b",\"arrivalTime\":\"")?;
     Some(EndParts {
         delay,
         stop,
@@ -190,10 +184,27 @@ fn end_parts<'a>(
     })
 }
 
-/// Whether one may board or alight, by the text that comes next.
-fn allowed(cursor: &mut Cursor<'_>) -> Option<bool> {
-    let text = cursor.before(b'"')?;
-    Some(text == b"gtfs:Regular".as_slice())
+fn departure_parts<'a>(cursor: &mut Cursor<'a>) -> Option<EndParts<'a>> {
+    let delay = cursor.number_after(b",\"departureDelay\":")?;
+    let stop = cursor.text_after(b"\"departureStop\":\"")?;
+    let moment = cursor.text_after(b",\"departureTime\":\"")?;
+    Some(EndParts {
+        delay,
+        stop,
+        moment,
+    })
+}
+
+/// Whether one may alight and board, by the last members of a connection. The URL of its trip says no more than its name.
+fn usage_part(cursor: &mut Cursor<'_>) -> Option<Usage> {
+    let alight = cursor.text_after(b",\"gtfs:dropOffType\":\"")?;
+    let board = cursor.text_after(b",\"gtfs:pickupType\":\"")?;
+    cursor.before(b'}')?;
+    let _comma = cursor.skip(b",");
+    Some(Usage {
+        alight: alight == ALLOWED,
+        board: board == ALLOWED,
+    })
 }
 
 /// The page of these connections, with what it says of itself after them.
@@ -212,6 +223,5 @@ fn with_view(base: &Base, cursor: &mut Cursor<'_>, list: Connections) -> Option<
 
 /// The page whose URL stands after this key, if that comes next.
 fn page_after(base: &Base, cursor: &mut Cursor<'_>, key: &[u8]) -> Option<PageName> {
-    cursor.skip(key)?;
-    read_page_url(base, cursor.before(b'"')?)
+    read_page_url(base, cursor.text_after(key)?)
 }
