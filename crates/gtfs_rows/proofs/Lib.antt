@@ -4,4 +4,5 @@ mod ReadLemmas
 pub mod SheetLemmas
 mod StoreLemmas
 mod TableLemmas
+mod UnquotedLemmas
 mod Utf8Lemmas

@@ -5,3 +5,4 @@ pub mod Sheet
 pub mod Spaces
 pub mod Store
 pub mod Texts
+pub mod Unquoted

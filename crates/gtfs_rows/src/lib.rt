@@ -9,6 +9,7 @@ mod records;
 mod rows;
 mod spaces;
 mod tabulate;
+mod unquoted;
 
 pub use fault::RowFault;
 pub use laws::one_table;

@@ -8,6 +8,7 @@ ghost use Rattle.gtfs_rows.specs.Store.{IsEven, cut_records, sheet_of};
 
 use crate::reading::read_next;
 use crate::spaces::without_spaces;
+use crate::unquoted::{fill_unquoted, without_mark};
 use csv::{ByteRecord, Reader, ReaderBuilder};
 use lc_model::NoMemory;
 use std::alloc::Global;
@@ -39,7 +40,8 @@ impl Records {
     pub fn read(alloc: Global, bytes: &[u8]) -> Result<Records, NoMemory>
         ensures { IfOk result (AreTrimmedRecordsOf bytes.now) }
     {
-        let mut fields = ByteRecord::new(alloc);
+        // No field has more bytes than the text has for it.
+        let mut fields = ByteRecord::with_capacity(alloc, bytes.len(), 0)?;
         let mut ends = Vec::new(alloc);
         fill(alloc, bytes, &mut fields, &mut ends)?;
         Ok(Records { fields, ends })
@@ -113,8 +115,30 @@ impl Records {
     }
 }
 
-// Adds the fields of all records of a CSV text, without the spaces at their ends, and where each record ends.
+// Adds the fields of all records of a CSV text, without the spaces at their ends, and where each record ends. Most texts
+// quote no field, and need no reader that copies each record.
 fn fill(
+    alloc: Global,
+    bytes: &[u8],
+    fields: &mut ByteRecord,
+    ends: &mut Vec<usize>,
+) -> Result<(), NoMemory>
+    requires empty { fields_of fields.old ≡ [] }
+    requires partial { partial_of fields.old ≡ [] }
+    requires none { ends.old.items ≡ [] }
+    ensures records { OnOk result (AreTrimmedRecordsOf bytes.now (cut_records 0 ends.new.items (fields_of fields.new))) }
+    ensures rising { OnOk result (Rising 0 ends.new.items (length (fields_of fields.new))) }
+{
+    if fill_unquoted(without_mark(bytes), fields, ends)? {
+        return Ok(());
+    }
+    fields.clear();
+    ends.clear();
+    fill_quoted(alloc, bytes, fields, ends)
+}
+
+// The same, where a field may be quoted.
+fn fill_quoted(
     alloc: Global,
     bytes: &[u8],
     fields: &mut ByteRecord,

@@ -73,7 +73,7 @@ fn put_value(draft: &mut Draft, field: Option<&[u8]>) {
 }
 
 /// A text, and the row, counted from 1, and the column of a field.
-const TEXTS: [(&str, usize, &str); 22] = [
+const TEXTS: [(&str, usize, &str); 27] = [
     // LF, CR and CRLF end a record, also the last one, which may do without.
     ("a,b\n1,2\n3,4\n", 2, "a"),
     ("a,b\r1,2\r3,4\r", 2, "b"),
@@ -88,6 +88,12 @@ const TEXTS: [(&str, usize, &str); 22] = [
     ("a\n\"\"\n", 1, "a"),
     ("a,b\n1,\"x\ny,z\n", 1, "b"),
     ("a,b\n,\n", 1, "b"),
+    ("a,b\n1,", 1, "b"),
+    // A quote that does not begin a field is part of it; fields of a later row may be quoted alone.
+    ("a,b\n1\"x\",2\n", 1, "a"),
+    ("a,b\n1, \"2\"\n", 1, "b"),
+    ("a,b\n1,2\n3,\"4,5\"\n", 1, "b"),
+    ("a,b\n1,2\n3,\"4,5\"\n", 2, "b"),
     // One byte-order mark at the start is dropped, a second one is part of the first name.
     ("\u{FEFF}a,b\n1,2\n", 1, "a"),
     ("\u{FEFF}\u{FEFF}a,b\n1,2\n", 1, "a"),
