@@ -11,4 +11,5 @@ pub mod TimedFacts
 pub mod TimelyLemmas
 pub mod TripFacts
 pub mod TripLaws
+pub mod TripPlaceLemmas
 pub mod VisitFacts

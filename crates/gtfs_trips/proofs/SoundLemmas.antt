@@ -1,18 +1,18 @@
 -- Rows that break no rule, found from their visits once these are sorted.
-use Rattle.std.proofs.Common.{◌≡◌, ◌∙◌, ℕ, ◌+◌, ◌<◌, Bool, true, false, ◌&&◌, List, [], ◌∷◌, Option, Some, None, IfSome, ap, ap₂, arith, get_or, is_none, is_some, length, map, nat_eq, nat_lt, refl, subst, sym, unwrap_or}
+use Rattle.std.proofs.Common.{◌≡◌, ◌∙◌, ℕ, ◌+◌, ◌<◌, Bool, true, false, ◌&&◌, List, [], ◌∷◌, Option, Some, None, Result, Ok, Err, IfOk, IfSome, ap, ap₂, arith, get_or, is_none, is_some, length, map, nat_eq, nat_lt, refl, subst, sym, unwrap_or}
 use Rattle.std.proofs.lemmas.Bool.{false≢true}
 use Rattle.std.proofs.lemmas.Bool.Decides.{nat_tests}
 use Rattle.std.proofs.lemmas.Cmp.{nat_cmp_total, tied_itself}
 use Rattle.std.proofs.lemmas.List.{get_or-map, length-map}
 use Rattle.std.proofs.lemmas.List.FromFn.{get_or-map-range_with_len, length-map-range_with_len}
-use Rattle.std.proofs.lemmas.List.Sorted.{IsPermutation-sym}
+use Rattle.std.proofs.lemmas.List.Sorted.{IsPermutation-refl, IsPermutation-sym}
 use Rattle.std.proofs.lemmas.Slice.Eq.{bytes_eq-Decides}
 use Rattle.std.specs.List.{HoldsAt}
 use Rattle.std.specs.List.Sorted.{IsPermutation, IsSorted}
 use Rattle.std.specs.Option.{option_eq}
-use Rattle.std.specs.Ordering.{nat_cmp, ordering_then}
+use Rattle.std.specs.Ordering.{is_lt, nat_cmp, ordering_reverse, ordering_then}
 use Rattle.std.specs.Str.{bytes_eq}
-use Rattle.std.specs.declared.cmp.Ordering.TheVariants.{Equal}
+use Rattle.std.specs.declared.cmp.Ordering.TheVariants.{Less, Equal}
 use Rattle.gtfs_rows.specs.Sheet.{Sheet}
 use Rattle.lc_model.specs.Order.{AreApart}
 use Rattle.lc_model.specs.declared.stop.Stop.{Stop}
@@ -22,7 +22,7 @@ use Rattle.gtfs_fields.specs.Columns.{row_at}
 use Rattle.gtfs_fields.specs.Places.{first_place, is_before, stands_twice}
 use Rattle.gtfs_fields.specs.declared.trip_rows.TripRow.{TripRow}
 use Rattle.gtfs_fields.proofs.PlaceFacts.{place_at_most, place_passes}
-use Rattle.gtfs_trips.specs.SoundRows.{AreNeighboursApart, AreSoundAlone, AreSoundVisits}
+use Rattle.gtfs_trips.specs.SoundRows.{AreNeighboursApart, AreRising, AreSortedApart, AreSoundAlone, AreSoundVisits}
 use Rattle.gtfs_trips.specs.StopTimeRows.{key_of, same_key, sequence_of, stop_time_keys, stop_time_rule_at}
 use Rattle.gtfs_trips.specs.Trips.{trip_id_of}
 use Rattle.gtfs_trips.specs.Visits.{visit_at, visit_cmp, visits_of_rows}
@@ -163,9 +163,32 @@ sound_from_sorted stops trips sheet visits sound moved sorted apart =
       are = record { are = moved; in_order = strict_from_neighbours visit_cmp visit_total visits sorted apart };
     }
 
-pub sound_if_apart : {A : Type 0} (o : Option A) (items_of : A → List Visit) (stops : List Stop) (trips : List TripRow) (sheet : Sheet) (visits sorted : List Visit) → IfSome o (λ v. items_of v ≡ sorted)
-    → IfSome o (λ _. AreNeighboursApart sorted) → AreSoundAlone stops trips sheet → visits ≡ visits_of_rows sheet → IsPermutation visits sorted → IsSorted visit_cmp sorted
-    → IfSome o (λ v. AreSoundVisits stops trips sheet (items_of v))
-sound_if_apart None items_of stops trips sheet visits sorted same apart sound said moved up = tt
-sound_if_apart (Some v) items_of stops trips sheet visits sorted same apart sound said moved up =
-    subst (AreSoundVisits stops trips sheet) (sym same) (sound_from_sorted stops trips sheet sorted sound (subst (λ (l : List Visit). IsPermutation l sorted) said moved) up apart)
+-- visits that rise are sorted
+rising_sorted : (visits : List Visit) → AreRising visits → IsSorted visit_cmp visits
+rising_sorted visits rising k d low inside =
+    ap is_lt (visit_total.antisymm (get_or visits (k + 1) d) (get_or visits k d) ∙ ap ordering_reverse (rising k d inside))
+
+rising_apart : (visits : List Visit) → AreRising visits → AreNeighboursApart visits
+rising_apart visits rising k d inside ties = let less : visit_cmp (get_or visits k d) (get_or visits (k + 1) d) ≡ Less = rising k d inside in cc
+
+-- the visits of the rows, if they rise
+pub sound_if_rising : (stops : List Stop) (trips : List TripRow) (sheet : Sheet) (visits : List Visit) → AreSoundAlone stops trips sheet → visits ≡ visits_of_rows sheet → AreRising visits
+    → AreSoundVisits stops trips sheet visits
+sound_if_rising stops trips sheet visits sound said rising =
+    let same : IsPermutation (visits_of_rows sheet) visits = subst (λ (l : List Visit). IsPermutation l visits) said (IsPermutation-refl visits) in
+    sound_from_sorted stops trips sheet visits sound same (rising_sorted visits rising) (rising_apart visits rising)
+
+pub sorted_if_apart : {A : Type 0} (o : Option A) (items_of : A → List Visit) (visits sorted : List Visit) → IfSome o (λ v. items_of v ≡ sorted) → IfSome o (λ _. AreNeighboursApart sorted)
+    → IsPermutation visits sorted → IsSorted visit_cmp sorted → IfSome o (λ v. AreSortedApart visits (items_of v))
+sorted_if_apart None items_of visits sorted same apart moved up = tt
+sorted_if_apart (Some v) items_of visits sorted same apart moved up =
+    subst (AreSortedApart visits) (sym same) (record { moved = moved; sorted_up = up; apart = apart })
+
+-- the visits of the rows, once they are sorted
+pub sound_if_sorted : {A E : Type 0} (r : Result (Option A) E) (items_of : A → List Visit) (stops : List Stop) (trips : List TripRow) (sheet : Sheet) (visits : List Visit)
+    → IfOk r (λ found. IfSome found (λ v. AreSortedApart visits (items_of v))) → AreSoundAlone stops trips sheet → visits ≡ visits_of_rows sheet
+    → IfOk r (λ found. IfSome found (λ v. AreSoundVisits stops trips sheet (items_of v)))
+sound_if_sorted (Err e) items_of stops trips sheet visits h sound said = tt
+sound_if_sorted (Ok None) items_of stops trips sheet visits h sound said = tt
+sound_if_sorted (Ok (Some v)) items_of stops trips sheet visits h sound said =
+    sound_from_sorted stops trips sheet (items_of v) sound (subst (λ (l : List Visit). IsPermutation l (items_of v)) said h.moved) h.sorted_up h.apart

@@ -12,5 +12,6 @@ pub mod Stops
 pub mod Timely
 pub mod Timing
 pub mod TripColumns
+pub mod TripPlaces
 pub mod Trips
 pub mod Visits

@@ -1,20 +1,19 @@
 -- Rows of stop_times.txt that break no rule, found without a look at whether a key stands twice.
 use Rattle.std.specs.Prelude.{◌≡◌, ℕ, ◌+◌, ◌<◌, ◌≢◌, ◌==◌, ◌&&◌, ◌||◌, not, false, List, is_none, codes, length, slice_index_or}
+use Rattle.std.specs.List.Sorted.{IsPermutation, IsSorted}
 use Rattle.std.specs.Str.{bytes_eq}
-use Rattle.std.specs.declared.cmp.Ordering.TheVariants.{Equal}
+use Rattle.std.specs.declared.cmp.Ordering.TheVariants.{Less, Equal}
 use Rattle.gtfs_rows.specs.Sheet.{Sheet}
 use Rattle.lc_model.specs.declared.stop.Stop.{Stop}
 use Rattle.gtfs_fields.specs.Columns.{row_at, text_at}
 use Rattle.gtfs_fields.specs.Places.{first_place, is_unknown}
 use Rattle.gtfs_fields.specs.Rules.{IsUnbroken}
 use Rattle.gtfs_fields.specs.Times.{is_wrong_time}
-use Rattle.gtfs_fields.specs.TextPlaces.{HavePlaces}
 use Rattle.gtfs_fields.specs.declared.trip_rows.TripRow.{TripRow}
 use Rattle.gtfs_trips.specs.Stops.{stop_id_of}
 use Rattle.gtfs_trips.specs.StopTimeRows.{ids_of_stops, ids_of_trips, sequence_of, stop_time_rule_at}
 use Rattle.gtfs_trips.specs.Trips.{trip_id_of}
 use Rattle.gtfs_trips.specs.Visits.{AreVisits, visit_at, visit_cmp}
-use Rattle.gtfs_trips.specs.declared.sound_visits.Ids.{Ids}
 use Rattle.gtfs_trips.specs.declared.visits.Visit.{Visit}
 
 -- the row at a place breaks no rule, but for the one that a trip and its number stand once
@@ -40,11 +39,16 @@ pub record AreSoundVisits (stops : List Stop) (trips : List TripRow) (sheet : Sh
   pub unbroken : IsUnbroken (stop_time_rule_at stops trips sheet) (length sheet.rows)
   pub are : AreVisits sheet visits
 
--- these maps have the ids of the stops and of the trips
-pub record HaveIds (all_stops : List Stop) (all_trips : List TripRow) (ids : Ids) : Type 0 where
-  pub stops : HavePlaces (ids_of_stops all_stops) ids.stops
-  pub trips : HavePlaces (ids_of_trips all_trips) ids.trips
+-- the visits stand strictly by trip and number
+abbrev pub AreRising : List Visit → Type 0
+AreRising visits = (k : ℕ) (d : Visit) → k + 1 < length visits → visit_cmp (slice_index_or visits k d) (slice_index_or visits (k + 1) d) ≡ Less
 
 -- no two visits that stand side by side have one trip and one number
 abbrev pub AreNeighboursApart : List Visit → Type 0
 AreNeighboursApart visits = (k : ℕ) (d : Visit) → k + 1 < length visits → visit_cmp (slice_index_or visits k d) (slice_index_or visits (k + 1) d) ≢ Equal
+
+-- the second are the first by trip and number, of which no two have one trip and one number
+pub record AreSortedApart (visits sorted : List Visit) : Type 0 where
+  pub moved : IsPermutation visits sorted
+  pub sorted_up : IsSorted visit_cmp sorted
+  pub apart : AreNeighboursApart sorted

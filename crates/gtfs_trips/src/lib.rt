@@ -2,15 +2,18 @@
 //! the row. It stands on `gtfs_fields`.
 #![tactic(auto)]
 
+mod guesses;
 mod keyed;
 mod laws;
 mod left_out;
+mod near;
 mod sound_visits;
 mod stop_time_rows;
 mod stop_times;
 mod stops;
 mod timed_trips;
 mod timing;
+mod trip_places;
 mod trips;
 mod visits;
 

@@ -6,37 +6,39 @@ ghost use Rattle.gtfs_fields.specs.Columns.{row_at, text_at};
 ghost use Rattle.gtfs_fields.specs.Places.{is_unknown};
 ghost use Rattle.gtfs_fields.specs.Times.{is_wrong_time as wrong_time};
 ghost use Rattle.gtfs_fields.specs.TextPlaces.{HavePlaces};
-ghost use Rattle.gtfs_trips.specs.SoundRows.{AreNeighboursApart, AreSoundAlone, AreSoundVisits, HaveIds, SaysVisit};
+ghost use Rattle.gtfs_trips.specs.SoundRows.{AreNeighboursApart, AreRising, AreSortedApart, AreSoundAlone, AreSoundVisits, SaysVisit};
 ghost use Rattle.gtfs_trips.specs.StopTimeColumns.{AreStopTimeColumns};
 ghost use Rattle.gtfs_trips.specs.StopTimeRows.{ids_of_stops, ids_of_trips, sequence_of};
 ghost use Rattle.gtfs_trips.specs.Trips.{trip_id_of};
 ghost use Rattle.gtfs_trips.specs.Visits.{allows as said_right, visits_of_rows};
 
+use crate::guesses::Guesses;
+use crate::near::{stop_near, trip_near};
 use crate::stop_time_rows::StopTimeColumns;
 use crate::visits::{Visit, allows, by_trip, compare};
 use gtfs_fields::TripRow;
 use gtfs_fields::columns::text;
 use gtfs_fields::known::places_of_ids;
-use gtfs_fields::text_places::place_of_text;
 use gtfs_fields::times::read_time;
 use gtfs_rows::Rows;
-use lc_model::{Id, Keyed, NoMemory, PlainData, Stop};
+use lc_model::{Id, NoMemory, PlainData, Stop};
 use lc_time::read_u32;
 use std::alloc::Global;
 use std::collections::BTreeMap;
 
-/// Where the ids of stops and of trips stand.
-#[derive(Drop)]
-pub(crate) struct Ids<'a> {
-    stops: BTreeMap<&'a [u8], usize>,
-    trips: BTreeMap<&'a [u8], usize>,
-}
-
-/// What a row says, and where its trip stands.
+/// What a row says, and where its trip and its stop stand.
 #[derive(Drop)]
 pub(crate) struct Recorded {
     visit: Visit,
     trip: usize,
+    stop: usize,
+}
+
+/// The stop that a row names, where it names one, and where it stands.
+#[derive(Drop)]
+pub(crate) struct SaidStop {
+    id: Option<Id>,
+    place: usize,
 }
 
 /// The times that a row says.
@@ -77,6 +79,28 @@ pub(crate) fn sound_visits(
     let Some(visits) = recorded_visits(alloc, rows, columns, stops, trips)? else {
         return Ok(None);
     };
+    if are_rising(visits.as_slice()) {
+        return Ok(Some(visits));
+    }
+    sorted_apart(visits)
+}
+
+// Whether the visits stand strictly by trip and number already. Linear in the visits.
+fn are_rising(visits: &[Visit]) -> bool
+    ensures { OnTrue result (AreRising visits.now) }
+{
+    'visits: for place in 1..visits.len() {
+        if !compare(&visits[place - 1], &visits[place]).is_lt() {
+            return false;
+        }
+    }
+    true
+}
+
+// These visits by trip and number, if no two have one trip and one number.
+fn sorted_apart(visits: Vec<Visit>) -> Result<Option<Vec<Visit>>, NoMemory>
+    ensures { IfOk result (λ found. IfSome found (λ sorted. AreSortedApart visits.items sorted.items)) }
+{
     let sorted = by_trip(visits)?;
     Ok(if_apart(sorted))
 }
@@ -117,75 +141,68 @@ fn recorded_visits<'a>(
     ensures said { IfOk result (λ recorded. IfSome recorded (λ visits. visits.items ≡ visits_of_rows rows.now)) }
     ensures sound { IfOk result (λ recorded. IfSome recorded (λ _. AreSoundAlone stops.now trips.now rows.now)) }
 {
-    let ids = ids_of(alloc, stops, trips)?;
-    visits_with(alloc, rows, columns, stops, trips, &ids)
+    let places = places_of_ids(alloc, trips)?;
+    visits_with(alloc, rows, columns, stops, trips, &places)
 }
 
-// The visits of the rows, in their order, by these maps of ids, if none of the rows breaks a rule by itself.
+// The visits of the rows, in their order, by this map of the ids of trips, if none of the rows breaks a rule by itself.
 fn visits_with<'a>(
     alloc: Global,
     rows: &'a Rows,
     columns: StopTimeColumns,
     stops: &[Stop],
     trips: &[TripRow],
-    ids: &Ids<'a>,
+    places: &BTreeMap<&'a [u8], usize>,
 ) -> Result<Option<Vec<Visit>>, NoMemory>
     requires columns { AreStopTimeColumns rows.now columns }
-    requires ids { HaveIds stops.now trips.now ids.now }
+    requires places { HavePlaces (ids_of_trips trips.now) places.now }
     ensures said { IfOk result (λ recorded. IfSome recorded (λ visits. visits.items ≡ visits_of_rows rows.now)) }
     ensures sound { IfOk result (λ recorded. IfSome recorded (λ _. AreSoundAlone stops.now trips.now rows.now)) }
 {
     let mut visits = Vec::with_capacity(alloc, rows.len())?;
-    let mut near = 0;
+    let mut guesses = Guesses::new(alloc, stops.len())?;
     'rows: for place in 0..rows.len() {
-        let Some(recorded) = recorded_visit(alloc, rows, columns, stops, trips, ids, near, place)?
+        let Some(recorded) = recorded_visit(
+            alloc, rows, columns, stops, trips, places, &guesses, place,
+        )?
         else {
             return Ok(None);
         };
-        near = recorded.trip;
+        guesses.learn(recorded.trip, recorded.stop);
         visits.push(recorded.visit)?;
     }
     Ok(Some(visits))
 }
 
-fn ids_of<'a>(alloc: Global, stops: &'a [Stop], trips: &'a [TripRow]) -> Result<Ids<'a>, NoMemory>
-    ensures { IfOk result (HaveIds stops.now trips.now) }
-{
-    Ok(Ids {
-        stops: places_of_ids(alloc, stops)?,
-        trips: places_of_ids(alloc, trips)?,
-    })
-}
-
-// What the row at this place says, if it breaks no rule by itself. Its trip may be the one at the place `near`.
+// What the row at this place says, if it breaks no rule by itself.
 fn recorded_visit<'a>(
     alloc: Global,
     rows: &'a Rows,
     columns: StopTimeColumns,
     stops: &[Stop],
     trips: &[TripRow],
-    ids: &Ids<'a>,
-    near: usize,
+    places: &BTreeMap<&'a [u8], usize>,
+    guesses: &Guesses,
     place: usize,
 ) -> Result<Option<Recorded>, NoMemory>
     requires there { place < length rows.now.rows }
     requires columns { AreStopTimeColumns rows.now columns }
-    requires ids { HaveIds stops.now trips.now ids.now }
+    requires places { HavePlaces (ids_of_trips trips.now) places.now }
     ensures { IfOk result (λ recorded. IfSome recorded (λ t. SaysVisit stops.now trips.now rows.now place t.visit)) }
 {
     // There are fewer rows than `usize` counts.
     let _count = rows.len();
     let stop_id = text(rows, place, columns.stop);
-    let Some(said) = said_row(rows, columns, trips, ids, stop_id, near, place) else {
+    let Some(said) = said_row(rows, columns, trips, places, stop_id, guesses.trip(), place) else {
         return Ok(None);
     };
-    let Some(stop) = stop_said(alloc, &ids.stops, stops, stop_id)? else {
+    let Some(stop) = stop_said(alloc, stops, stop_id, guesses.stop())? else {
         return Ok(None);
     };
     let rights = rights_said(rows, columns, place);
     let visit = Visit {
         trip: trips[said.trip].trip.copy(alloc)?,
-        stop,
+        stop: stop.id,
         seq: said.seq,
         arr: said.times.arr,
         dep: said.times.dep,
@@ -196,23 +213,24 @@ fn recorded_visit<'a>(
     Ok(Some(Recorded {
         visit,
         trip: said.trip,
+        stop: stop.place,
     }))
 }
 
 // Where the trip of the row at this place stands, its number and its times, if these break no rule. The row names this
-// stop. Its trip may be the one at the place `near`.
+// stop. Its trip may be the one at the place `near`, or the next.
 fn said_row<'a>(
     rows: &'a Rows,
     columns: StopTimeColumns,
     trips: &[TripRow],
-    ids: &Ids<'a>,
+    places: &BTreeMap<&'a [u8], usize>,
     stop: &[u8],
     near: usize,
     place: usize,
 ) -> Option<SaidRow>
     requires there { place < length rows.now.rows }
     requires columns { AreStopTimeColumns rows.now columns }
-    requires ids { HavePlaces (ids_of_trips trips.now) ids.now.trips }
+    requires places { HavePlaces (ids_of_trips trips.now) places.now }
     ensures named { IfSome result (λ _. (length (trip_id_of rows.now (row_at rows.now place)) == 0) ≡ false) }
     ensures within { IfSome result (λ said. said.trip < length trips.now) }
     ensures same { IfSome result (λ said. HoldsAt (λ t. t.trip ≡ trip_id_of rows.now (row_at rows.now place)) trips.now said.trip) }
@@ -226,7 +244,7 @@ fn said_row<'a>(
     if trip_id.is_empty() {
         return None;
     }
-    let Some(trip) = place_near(&ids.trips, trips, trip_id, near) else {
+    let Some(trip) = trip_near(places, trips, trip_id, near) else {
         return None;
     };
     let Some(seq) = read_u32(text(rows, place, columns.seq)) else {
@@ -270,63 +288,29 @@ fn rights_said(rows: &Rows, columns: StopTimeColumns, place: usize) -> Rights
     }
 }
 
-// The stop that a row names, where it names one, if it names none that is not known.
-fn stop_said<'a>(
+// The stop that a row names, where it names one, if it names none that is not known. It may be the one at the place `near`.
+fn stop_said(
     alloc: Global,
-    places: &BTreeMap<&'a [u8], usize>,
     stops: &[Stop],
-    text: &'a [u8],
-) -> Result<Option<Option<Id>>, NoMemory>
-    requires { HavePlaces (ids_of_stops stops.now) places.now }
-    ensures value { IfOk result (λ recorded. IfSome recorded (λ id. id ≡ (if length text.now == 0 then None else Some text.now))) }
+    text: &[u8],
+    near: usize,
+) -> Result<Option<SaidStop>, NoMemory>
+    ensures value { IfOk result (λ recorded. IfSome recorded (λ said. said.id ≡ (if length text.now == 0 then None else Some text.now))) }
     ensures known { IfOk result (λ recorded. IfSome recorded (λ _. is_unknown (ids_of_stops stops.now) text.now ≡ false)) }
 {
     if text.is_empty() {
-        return Ok(Some(None));
+        return Ok(Some(SaidStop {
+            id: None,
+            place: near,
+        }));
     }
-    match place_of_key(places, stops, text) {
-        Some(place) => Ok(Some(Some(stops[place].id.copy(alloc)?))),
-        None => Ok(None),
-    }
-}
-
-// The place of an item with this key, if there is one. The item at the place `near` is looked at first.
-fn place_near<'a, T: Keyed>(
-    places: &BTreeMap<&'a [u8], usize>,
-    items: &[T],
-    key: &'a [u8],
-    near: usize,
-) -> Option<usize>
-    requires { HavePlaces (map T.key items.now) places.now }
-    ensures within { IfSome result (λ place. place < length items.now) }
-    ensures same { IfSome result (HoldsAt (λ x. T.key x ≡ key.now) items.now) }
-{
-    if has_key(items, near, key) {
-        return Some(near);
-    }
-    place_of_key(places, items, key)
-}
-
-// Whether the item at this place has this key.
-fn has_key<T: Keyed>(items: &[T], place: usize, key: &[u8]) -> bool
-    ensures within { OnTrue result (place < length items.now) }
-    ensures same { OnTrue result (HoldsAt (λ x. T.key x ≡ key.now) items.now place) }
-{
-    place < items.len() && items[place].key().bytes() == key
-}
-
-// The place of an item with this key, if there is one. Takes the logarithm of the items.
-fn place_of_key<'a, T: Keyed>(
-    places: &BTreeMap<&'a [u8], usize>,
-    items: &[T],
-    key: &'a [u8],
-) -> Option<usize>
-    requires { HavePlaces (map T.key items.now) places.now }
-    ensures within { IfSome result (λ place. place < length items.now) }
-    ensures same { IfSome result (HoldsAt (λ x. T.key x ≡ key.now) items.now) }
-{
-    let _items = items;
-    place_of_text(places, key)
+    let Some(place) = stop_near(stops, text, near) else {
+        return Ok(None);
+    };
+    Ok(Some(SaidStop {
+        id: Some(stops[place].id.copy(alloc)?),
+        place,
+    }))
 }
 
 // Whether a row with a stop has a time that is unreadable, where this is what its texts say.

@@ -16,12 +16,13 @@ use crate::left_out::{is_left, stopless_trips, trips_of};
 use crate::sound_visits::sound_visits;
 use crate::stop_time_rows::{check_rows, stop_time_columns};
 use crate::timing::timing_fault;
+use crate::trip_places::places_of_trip;
 use crate::visits::{Visit, sorted_visits};
 use crate::{StopTime, StopTimes};
 use gtfs_fields::file_rows::file_rows;
 use gtfs_fields::{FileFault, TripRow, TripRows};
 use gtfs_rows::Rows;
-use lc_model::{Id, NoMemory, Stop, Stops, items_of};
+use lc_model::{Id, NoMemory, Stop, Stops};
 use std::alloc::Global;
 
 // At most so many stop times are read.
@@ -168,33 +169,56 @@ fn check_trips(visits: &[Visit], trips: &[TripRow], left: &[&[u8]]) -> Result<()
     ensures timed { OnOk result (IsUnbroken (trip_fault_at visits.now trips.now) (length trips.now)) }
     ensures fault { IfErr result (IsTripFault visits.now trips.now) }
 {
+    // Trips mostly stand in the order of their ids, as the visits do.
+    let mut near = 0;
     'trips: for place in 0..trips.len() {
-        if let Some((rule, row)) = fault_at(visits, trips, place, left) {
+        let judged = judged_at(visits, trips, place, left, near);
+        if let Some((rule, row)) = judged.fault {
             return Err(FileFault::Broken { rule, row });
         }
+        near = judged.end;
     }
     Ok(())
 }
 
-// The first rule that the rows of the trip at this place break together, and the row.
-fn fault_at(visits: &[Visit], trips: &[TripRow], place: usize, left: &[&[u8]]) -> Option<(u8, u64)>
+/// The first rule that the rows of a trip break together, and the row; and where its visits end.
+#[derive(Clone, Copy)]
+pub(crate) struct Judged {
+    fault: Option<(u8, u64)>,
+    end: usize,
+}
+
+// The trip at this place. Its visits may begin at the place `near`.
+fn judged_at(
+    visits: &[Visit],
+    trips: &[TripRow],
+    place: usize,
+    left: &[&[u8]],
+    near: usize,
+) -> Judged
     requires there { place < length trips.now }
     requires in_order { IsStrict visit_cmp visits.now }
     requires left { AreLeftOut visits.now left.now }
-    ensures { result ≡ trip_fault_at visits.now trips.now place }
+    ensures { result.fault ≡ trip_fault_at visits.now trips.now place }
 {
-    trip_fault(visits, &trips[place].trip, left)
+    judged_trip(visits, &trips[place].trip, left, near)
 }
 
-fn trip_fault(visits: &[Visit], trip: &Id, left: &[&[u8]]) -> Option<(u8, u64)>
+fn judged_trip(visits: &[Visit], trip: &Id, left: &[&[u8]], near: usize) -> Judged
     requires in_order { IsStrict visit_cmp visits.now }
     requires left { AreLeftOut visits.now left.now }
-    ensures { result ≡ said_fault visits.now trip.now }
+    ensures { result.fault ≡ said_fault visits.now trip.now }
 {
     if is_left(left, trip) {
-        None
-    } else {
-        timing_fault(items_of(visits, trip))
+        return Judged {
+            fault: None,
+            end: near,
+        };
+    }
+    let (first, end) = places_of_trip(visits, trip, near);
+    Judged {
+        fault: timing_fault(&visits[first..end]),
+        end,
     }
 }
 

@@ -1,5 +1,5 @@
 use Rattle.gtfs_trips.proofs.SoundLemmas.{found_same, found_within}
-use Rattle.gtfs_trips.proofs.sound_visits.place_of_key.Goals as goal
+use Rattle.gtfs_trips.proofs.near.place_of_key.Goals as goal
 
 pub returns-clause-within : goal.returns-clause-within
 returns-clause-within g c = found_within g.T.Keyed.key c.args.items.now c.args.key.now c.place_of_text.result (c.place_of_text.ensures _ c.requires)
