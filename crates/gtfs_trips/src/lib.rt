@@ -2,6 +2,7 @@
 //! the row. It stands on `gtfs_fields`.
 #![tactic(auto)]
 
+mod groups;
 mod guesses;
 mod keyed;
 mod laws;

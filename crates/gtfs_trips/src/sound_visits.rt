@@ -12,6 +12,7 @@ ghost use Rattle.gtfs_trips.specs.StopTimeRows.{ids_of_stops, ids_of_trips, sequ
 ghost use Rattle.gtfs_trips.specs.Trips.{trip_id_of};
 ghost use Rattle.gtfs_trips.specs.Visits.{allows as said_right, visits_of_rows};
 
+use crate::groups::by_groups;
 use crate::guesses::Guesses;
 use crate::near::{stop_near, trip_near};
 use crate::stop_time_rows::StopTimeColumns;
@@ -82,7 +83,7 @@ pub(crate) fn sound_visits(
     if are_rising(visits.as_slice()) {
         return Ok(Some(visits));
     }
-    sorted_apart(visits)
+    sorted_apart(alloc, visits)
 }
 
 // Whether the visits stand strictly by trip and number already. Linear in the visits.
@@ -98,10 +99,12 @@ fn are_rising(visits: &[Visit]) -> bool
 }
 
 // These visits by trip and number, if no two have one trip and one number.
-fn sorted_apart(visits: Vec<Visit>) -> Result<Option<Vec<Visit>>, NoMemory>
+fn sorted_apart(alloc: Global, visits: Vec<Visit>) -> Result<Option<Vec<Visit>>, NoMemory>
     ensures { IfOk result (λ found. IfSome found (λ sorted. AreSortedApart visits.items sorted.items)) }
 {
-    let sorted = by_trip(visits)?;
+    // Once whole trips are moved, there is mostly nothing left to sort.
+    let moved = by_groups(alloc, visits)?;
+    let sorted = by_trip(moved)?;
     Ok(if_apart(sorted))
 }
 
