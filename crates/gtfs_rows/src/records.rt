@@ -40,10 +40,10 @@ impl Records {
     pub fn read(alloc: Global, bytes: &[u8]) -> Result<Records, NoMemory>
         ensures { IfOk result (AreTrimmedRecordsOf bytes.now) }
     {
-        // No field has more bytes than the text has for it.
+        // The fields have at most as many bytes as the text.
         let mut fields = ByteRecord::with_capacity(alloc, bytes.len(), 0)?;
         let mut ends = Vec::new(alloc);
-        fill(alloc, bytes, &mut fields, &mut ends)?;
+        fill_records(alloc, bytes, &mut fields, &mut ends)?;
         Ok(Records { fields, ends })
     }
 
@@ -117,7 +117,7 @@ impl Records {
 
 // Adds the fields of all records of a CSV text, without the spaces at their ends, and where each record ends. Most texts
 // quote no field, and need no reader that copies each record.
-fn fill(
+fn fill_records(
     alloc: Global,
     bytes: &[u8],
     fields: &mut ByteRecord,
@@ -134,11 +134,11 @@ fn fill(
     }
     fields.clear();
     ends.clear();
-    fill_quoted(alloc, bytes, fields, ends)
+    fill(alloc, bytes, fields, ends)
 }
 
-// The same, where a field may be quoted.
-fn fill_quoted(
+// Adds them by the reader of `csv`, which takes quoted fields too.
+fn fill(
     alloc: Global,
     bytes: &[u8],
     fields: &mut ByteRecord,

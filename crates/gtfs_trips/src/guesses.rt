@@ -1,7 +1,14 @@
 use lc_model::NoMemory;
 use std::alloc::Global;
 
-/// Where the trip and the stop of the next row likely stand. A guess may be wrong, and is tested.
+/// Where the trip and the stop of a row likely stand. A guess may be wrong, and is tested.
+#[derive(Clone, Copy)]
+pub(crate) struct Guess {
+    pub(crate) trip: usize,
+    pub(crate) stop: usize,
+}
+
+/// What guesses are made from: where the trip and the stop of the row before stand.
 #[derive(Drop)]
 pub(crate) struct Guesses {
     trip: usize,
@@ -20,14 +27,12 @@ impl Guesses {
         })
     }
 
-    /// The place of the trip: that of the row before.
-    pub(crate) fn trip(&self) -> usize {
-        self.trip
-    }
-
-    /// The place of the stop: the one that last followed the stop of the row before.
-    pub(crate) fn stop(&self) -> usize {
-        self.followers.get(self.stop).copied().unwrap_or(0)
+    /// The trip of the row before, and the stop that last followed its stop.
+    pub(crate) fn next(&self) -> Guess {
+        Guess {
+            trip: self.trip,
+            stop: self.followers.get(self.stop).copied().unwrap_or(0),
+        }
     }
 
     /// Learns where the trip and the stop of a row stand.

@@ -13,7 +13,7 @@ ghost use Rattle.gtfs_trips.specs.Trips.{trip_id_of};
 ghost use Rattle.gtfs_trips.specs.Visits.{allows as said_right, visits_of_rows};
 
 use crate::groups::by_groups;
-use crate::guesses::Guesses;
+use crate::guesses::{Guess, Guesses};
 use crate::near::{stop_near, trip_near};
 use crate::stop_time_rows::StopTimeColumns;
 use crate::visits::{Visit, allows, by_trip, compare};
@@ -145,7 +145,8 @@ fn recorded_visits<'a>(
     ensures sound { IfOk result (λ recorded. IfSome recorded (λ _. AreSoundAlone stops.now trips.now rows.now)) }
 {
     let places = places_of_ids(alloc, trips)?;
-    visits_with(alloc, rows, columns, stops, trips, &places)
+    let mut guesses = Guesses::new(alloc, stops.len())?;
+    visits_with(alloc, rows, columns, stops, trips, &places, &mut guesses)
 }
 
 // The visits of the rows, in their order, by this map of the ids of trips, if none of the rows breaks a rule by itself.
@@ -156,6 +157,7 @@ fn visits_with<'a>(
     stops: &[Stop],
     trips: &[TripRow],
     places: &BTreeMap<&'a [u8], usize>,
+    guesses: &mut Guesses,
 ) -> Result<Option<Vec<Visit>>, NoMemory>
     requires columns { AreStopTimeColumns rows.now columns }
     requires places { HavePlaces (ids_of_trips trips.now) places.now }
@@ -163,10 +165,10 @@ fn visits_with<'a>(
     ensures sound { IfOk result (λ recorded. IfSome recorded (λ _. AreSoundAlone stops.now trips.now rows.now)) }
 {
     let mut visits = Vec::with_capacity(alloc, rows.len())?;
-    let mut guesses = Guesses::new(alloc, stops.len())?;
     'rows: for place in 0..rows.len() {
+        let guess = guesses.next();
         let Some(recorded) = recorded_visit(
-            alloc, rows, columns, stops, trips, places, &guesses, place,
+            alloc, rows, columns, stops, trips, places, guess, place,
         )?
         else {
             return Ok(None);
@@ -185,7 +187,7 @@ fn recorded_visit<'a>(
     stops: &[Stop],
     trips: &[TripRow],
     places: &BTreeMap<&'a [u8], usize>,
-    guesses: &Guesses,
+    guess: Guess,
     place: usize,
 ) -> Result<Option<Recorded>, NoMemory>
     requires there { place < length rows.now.rows }
@@ -196,10 +198,10 @@ fn recorded_visit<'a>(
     // There are fewer rows than `usize` counts.
     let _count = rows.len();
     let stop_id = text(rows, place, columns.stop);
-    let Some(said) = said_row(rows, columns, trips, places, stop_id, guesses.trip(), place) else {
+    let Some(said) = said_row(rows, columns, trips, places, stop_id, guess.trip, place) else {
         return Ok(None);
     };
-    let Some(stop) = stop_said(alloc, stops, stop_id, guesses.stop())? else {
+    let Some(stop) = stop_said(alloc, stops, stop_id, guess.stop)? else {
         return Ok(None);
     };
     let rights = rights_said(rows, columns, place);

@@ -1,7 +1,7 @@
 use Rattle.std.proofs.Common.{◌∙◌, inr, refl}
 use Rattle.csv.specs.Records.{fields_of}
 use Rattle.gtfs_rows.proofs.StoreLemmas.{reading_done, reading_more, reading_shorter, reading_start}
-use Rattle.gtfs_rows.proofs.records.fill_quoted.Goals as goal
+use Rattle.gtfs_rows.proofs.records.fill.Goals as goal
 
 pub records-init : goal.records-init
 records-init c =

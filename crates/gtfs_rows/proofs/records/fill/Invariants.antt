@@ -1,5 +1,5 @@
 use Rattle.gtfs_rows.proofs.StoreLemmas.{IsReading, unread}
-use Rattle.gtfs_rows.proofs.records.fill_quoted.Given as goal
+use Rattle.gtfs_rows.proofs.records.fill.Given as goal
 
 abbrev pub invariant-records : goal.invariant-records
 invariant-records l = IsReading l.bytes l.reader l.ends.items l.fields
