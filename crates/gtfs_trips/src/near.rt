@@ -46,8 +46,8 @@ pub(crate) fn stop_near(stops: &[Stop], id: &[u8], near: usize) -> Option<usize>
     None
 }
 
-// Whether the item at this place has this key.
-fn has_key<T: Keyed>(items: &[T], place: usize, key: &[u8]) -> bool
+/// Whether the item at this place has this key.
+pub(crate) fn has_key<T: Keyed>(items: &[T], place: usize, key: &[u8]) -> bool
     ensures within { OnTrue result (place < length items.now) }
     ensures same { OnTrue result (HoldsAt (λ x. T.key x ≡ key.now) items.now place) }
 {

@@ -145,7 +145,7 @@ fn recorded_visits<'a>(
     ensures sound { IfOk result (λ recorded. IfSome recorded (λ _. AreSoundAlone stops.now trips.now rows.now)) }
 {
     let places = places_of_ids(alloc, trips)?;
-    let mut guesses = Guesses::new(alloc, stops.len())?;
+    let mut guesses = Guesses::new(alloc, stops)?;
     visits_with(alloc, rows, columns, stops, trips, &places, &mut guesses)
 }
 
@@ -166,7 +166,7 @@ fn visits_with<'a>(
 {
     let mut visits = Vec::with_capacity(alloc, rows.len())?;
     'rows: for place in 0..rows.len() {
-        let guess = guesses.next();
+        let guess = guesses.next(stops, text(rows, place, columns.stop));
         let Some(recorded) = recorded_visit(
             alloc, rows, columns, stops, trips, places, guess, place,
         )?
