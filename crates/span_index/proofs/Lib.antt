@@ -1,0 +1,13 @@
+pub mod ApartLemmas
+pub mod BaseLemmas
+pub mod CountLemmas
+pub mod GatherLemmas
+pub mod OrderedLemmas
+pub mod PlaceLemmas
+pub mod PlacedLemmas
+pub mod PrepareLemmas
+pub mod RowsLemmas
+pub mod ShownLemmas
+pub mod SpanLemmas
+pub mod TurnLemmas
+pub mod UpdateLemmas

@@ -1,0 +1,176 @@
+-- What a walk over the places shows are the connections of the runs that hold, and their departures.
+use Rattle.std.proofs.Common.{◌≡◌, ◌≢◌, ℕ, ◌≤◌, List, [], ◌∷◌, ◌++◌, append_assoc, map, cond, Option, Some, None, refl, sym, ap, ◌∙◌, subst, arith}
+use Rattle.std.specs.Prelude.{◌&&◌, is_some, nat_le}
+use Rattle.std.specs.List.{All, AllPairs, Contains, cons_option, filter, filter_map}
+use Rattle.std.specs.List.Sorted.{IsPermutation, IsSorted, IsStrictlySortedBy}
+use Rattle.std.specs.Ordering.{nat_cmp, ordering_then}
+use Rattle.std.specs.declared.cmp.Ordering.{Ordering}
+use Rattle.std.specs.declared.cmp.Ordering.TheVariants.{Equal, Greater, Less}
+use Rattle.std.proofs.lemmas.Cmp.{ranked}
+use Rattle.std.proofs.lemmas.List.{map-append}
+use Rattle.std.proofs.lemmas.List.Elements.{All-contains, filter-append}
+use Rattle.std.proofs.lemmas.List.Kept.{AllPairs-filter}
+use Rattle.std.proofs.lemmas.List.Sorted.{Contains-permutation, IsPermutation-map, IsPermutation-sym, sum_by-IsPermutation}
+use Rattle.std.proofs.lemmas.Map.Keys.{Less-from_sorted}
+use Rattle.lc_model.specs.Call.{GoesForward}
+use Rattle.lc_model.specs.Connection.{NoneArrivesEarly, connections_of, departure_cmp}
+use Rattle.lc_model.specs.Run.{RunsForward}
+use Rattle.lc_model.specs.Totals.{departure_cmp_total}
+use Rattle.lc_model.specs.declared.connection.Connection.{Connection}
+use Rattle.lc_model.specs.declared.run.Run.{Run}
+use Rattle.lc_model.proofs.ConnectionLemmas.{NoneArrivesEarly-connections_of, departs_by}
+use Rattle.lc_model.proofs.ListLemmas.{All-from_contains, AllPairs-map, AllPairs-weaker, Contains-filter, Contains-here, Contains-there, IsKept-filter}
+use Rattle.lc_model.proofs.OrdersLemmas.{IsStrict-from_sorted, strict_lists_are_one}
+use Rattle.lc_versions.specs.Pages.{departing, departures_of, is_before}
+use Rattle.span_index.specs.Inside.{ArePlaced, AreSpans}
+use Rattle.span_index.specs.Places.{is_between, is_shown, place_cmp, shown}
+use Rattle.span_index.specs.Rows.{AreDepartures, AreRows}
+use Rattle.span_index.specs.Spans.{held}
+use Rattle.span_index.specs.declared.place.Place.{Place}
+use Rattle.span_index.specs.declared.state.State.{State}
+use Rattle.span_index.proofs.ApartLemmas.{Depart, keys_apart, shown_apart}
+use Rattle.span_index.proofs.CountLemmas.{count, is_it, one_order}
+use Rattle.span_index.proofs.OrderedLemmas.{Ordered, ordered}
+use Rattle.span_index.proofs.PlacedLemmas.{in_strict_order}
+use Rattle.span_index.proofs.ShownLemmas.{Contains-filter_map, Contains-slice_get, Gives-filter_map, has_place, holding, shown_is_of_held, shown_is_there}
+
+abbrev Untied : Connection → Connection → Type 0
+Untied c d = departure_cmp c d ≢ Equal
+
+abbrev Before : Place → Place → Type 0
+Before p q = place_cmp p q ≡ Less
+
+-- the places have the departures of their connections
+departs_of : (states : List State) (places : List Place) → ArePlaced states places → Depart states places
+departs_of states places placed p c h at =
+    let of = placed.of_states p h in
+    let both : Some of.connection ≡ Some c = sym of.is ∙ at in
+    let same : of.connection ≡ c = cc in
+    sym (ap (λ (d : Connection). d.dep) same) ∙ of.departs
+
+-- the runs that hold go forward
+held_forward : (version : ℕ) (states : List State) → All (λ (s : State). GoesForward s.calls) states → RunsForward (held version states)
+held_forward version states forward =
+    All-from_contains (λ (r : Run). GoesForward r.calls) (held version states) (λ r h.
+    let run = holding version states r h in
+    subst (λ (v : Run). GoesForward v.calls) run.same (All-contains (λ (s : State). GoesForward s.calls) states run.state forward (Contains-slice_get states run.at run.state run.is)))
+
+-- the runs that hold in a version, in their order
+in_order : (version : ℕ) (states : List State) (places : List Place) → AreSpans states places → Ordered (held version states)
+in_order version states places spans = ordered (held version states) (keys_apart version states (spans.apart version)) (held_forward version states spans.forward)
+
+-- the places stand strictly in order
+pub places_rise : (places : List Place) → IsStrictlySortedBy place_cmp places → AllPairs Before places
+places_rise places up i j d before inside = Less-from_sorted place_cmp places i j d up before inside
+
+-- what a walk over the places of a span of departures shows, once it is sorted, are the rows of the span
+pub rows_are : (version from : ℕ) (to : Option ℕ) (states : List State) (places : List Place) (made sorted : List Connection) → AreSpans states places → IsStrictlySortedBy place_cmp places
+    → made ≡ filter_map (shown version states) (filter (is_between from to) places) → IsPermutation made sorted → IsSorted departure_cmp sorted → AreRows (held version states) from to sorted
+rows_are version from to states places made sorted spans up e moved by_departure =
+    let p = λ (c : Connection). nat_le from c.dep && is_before to c.dep in
+    let here = filter (is_between from to) places in
+    let order = in_order version states places spans in
+    let all = order.all in
+    let departs : Depart states here = λ q c h at. departs_of states places spans.placed q c (IsKept-filter (is_between from to) places q h).stands at in
+    let apart = subst (AllPairs Untied) (sym e) (shown_apart version states here spans.forward spans.apart departs (AllPairs-filter Before (is_between from to) places (places_rise places up))) in
+    record {
+      all = all;
+      of_runs = record { live = order.live; are_runs = order.are_runs; are_connections = order.are_connections };
+      departing =
+          strict_lists_are_one departure_cmp departure_cmp_total sorted (departing from to all)
+          (IsStrict-from_sorted departure_cmp departure_cmp_total made sorted moved by_departure apart)
+          (AllPairs-filter (λ (c d : Connection). departure_cmp c d ≡ Less) p all order.are_connections.in_order)
+          (λ c h.
+          let from_place = Gives-filter_map (shown version states) here c (subst (λ (v : List Connection). Contains v c) e (Contains-permutation sorted made c (IsPermutation-sym made sorted moved) h)) in
+          let q = from_place.from in
+          let kept = IsKept-filter (is_between from to) places q from_place.stands in
+          let dep = departs_of states places spans.placed q c kept.stands (shown_is_there version states q c from_place.is) in
+          Contains-filter p all c (order.there c (shown_is_of_held version states q c from_place.is)) (ap (λ n. nat_le from n && is_before to n) dep ∙ kept.passes))
+          (λ c h.
+          let kept = IsKept-filter p all c h in
+          let has = has_place version states c (order.back c kept.stands) in
+          let q = has.place in
+          let stands = spans.placed.there version q c has.shows has.departs in
+          let within = Contains-filter (is_between from to) places q stands (ap (λ n. nat_le from n && is_before to n) (sym has.departs) ∙ kept.passes) in
+          Contains-permutation made sorted c moved (subst (λ (v : List Connection). Contains v c) (sym e) (Contains-filter_map (shown version states) here q c within has.shows)));
+    }
+
+-- none of them arrives before it departs
+pub rows_forward : (version from : ℕ) (to : Option ℕ) (states : List State) (places : List Place) (made sorted : List Connection) → AreSpans states places
+    → made ≡ filter_map (shown version states) (filter (is_between from to) places) → IsPermutation made sorted → NoneArrivesEarly sorted
+rows_forward version from to states places made sorted spans e moved =
+    let here = filter (is_between from to) places in
+    let forward = NoneArrivesEarly-connections_of (held version states) (held_forward version states spans.forward) in
+    All-from_contains (λ (c : Connection). c.dep ≤ c.arr) sorted (λ c h.
+    let from_place = Gives-filter_map (shown version states) here c (subst (λ (v : List Connection). Contains v c) e (Contains-permutation sorted made c (IsPermutation-sym made sorted moved) h)) in
+    All-contains (λ (c : Connection). c.dep ≤ c.arr) (connections_of (held version states)) c forward (shown_is_of_held version states from_place.from c from_place.is))
+
+-- the departures of the places that show a connection are those of the connections
+same_departures : (version : ℕ) (states : List State) (places : List Place) → Depart states places
+    → map (λ (p : Place). p.dep) (filter (is_shown version states) places) ≡ departures_of (filter_map (shown version states) places)
+same_departures version states [] departs = refl
+same_departures version states (p ∷ places) departs = go (shown version states p) refl (same_departures version states places (λ q c h. departs q c (Contains-there p places q h))) where
+  go : (o : Option Connection) → shown version states p ≡ o → map (λ (p : Place). p.dep) (filter (is_shown version states) places) ≡ departures_of (filter_map (shown version states) places)
+      → map (λ (p : Place). p.dep) (cond (is_some o) (p ∷ filter (is_shown version states) places) (filter (is_shown version states) places)) ≡ departures_of (cons_option o (filter_map (shown version states) places))
+  go None e rest = rest
+  go (Some c) e rest =
+      let dep : c.dep ≡ p.dep = departs p c (Contains-here p places) (shown_is_there version states p c e) in
+      rw (dep, rest) refl
+
+-- a walk over a list takes the next item
+pub walk_more : (states : List State) (version : ℕ) (done new all : List ℕ) (p : Place) (rest next : List Place) → rest ≡ p ∷ next
+    → done ++ map (λ (q : Place). q.dep) (filter (is_shown version states) rest) ≡ all → new ≡ done ++ map (λ (q : Place). q.dep) (filter (is_shown version states) (p ∷ []))
+    → new ++ map (λ (q : Place). q.dep) (filter (is_shown version states) next) ≡ all
+walk_more states version done new all p rest next is walked pushed =
+    let test = is_shown version states in
+    let dep = λ (q : Place). q.dep in
+    let tail = map dep (filter test next) in
+    ap (λ (v : List ℕ). v ++ tail) pushed ∙ append_assoc done (map dep (filter test (p ∷ []))) tail
+    ∙ ap (λ (v : List ℕ). done ++ v) (sym (map-append dep (filter test (p ∷ [])) (filter test next)) ∙ ap (map dep) (sym (filter-append test (p ∷ []) next)))
+    ∙ ap (λ (v : List Place). done ++ map dep (filter test v)) (sym is) ∙ walked
+
+-- an earlier place departs no later
+place_departs_by : (p q : Place) → place_cmp p q ≡ Less → p.dep ≤ q.dep
+place_departs_by p q e = first_part (nat_cmp p.dep q.dep) refl e where
+  first_part : (o : Ordering) → nat_cmp p.dep q.dep ≡ o → ordering_then o (ordering_then (nat_cmp p.state q.state) (nat_cmp p.at q.at)) ≡ Less → p.dep ≤ q.dep
+  first_part Less f g = let h = ranked p.dep q.dep Less (sym f) in omega arith
+  first_part Equal f g = let h = ranked p.dep q.dep Equal (sym f) in omega arith
+  first_part Greater f g = absurd (cc)
+
+-- what a walk over all places shows depart in this order
+pub departures_are : (version : ℕ) (states : List State) (places : List Place) (made : List ℕ) → AreSpans states places → IsStrictlySortedBy place_cmp places
+    → made ≡ map (λ (p : Place). p.dep) (filter (is_shown version states) places) → AreDepartures (held version states) made
+departures_are version states places made spans up e =
+    let rise = places_rise places up in
+    let order = in_order version states places spans in
+    let all = order.all in
+    let whole = filter_map (shown version states) places in
+    let dep = λ (c : Connection). c.dep in
+    let apart = shown_apart version states places spans.forward spans.apart (departs_of states places spans.placed) rise in
+    let sorted = in_strict_order departure_cmp departure_cmp_total whole apart in
+    let moved : IsPermutation whole sorted.0 = sorted.1.0 in
+    let same : sorted.0 ≡ all =
+    strict_lists_are_one departure_cmp departure_cmp_total sorted.0 all sorted.1.1 order.are_connections.in_order
+    (λ c h.
+    let from_place = Gives-filter_map (shown version states) places c (Contains-permutation sorted.0 whole c (IsPermutation-sym whole sorted.0 moved) h) in
+    order.there c (shown_is_of_held version states from_place.from c from_place.is))
+    (λ c h.
+    let has = has_place version states c (order.back c h) in
+    let stands = spans.placed.there version has.place c has.shows has.departs in
+    Contains-permutation whole sorted.0 c moved (Contains-filter_map (shown version states) places has.place c stands has.shows)) in
+    let shuffled : IsPermutation whole all = subst (IsPermutation whole) same moved in
+    let falls : AllPairs (λ (m n : ℕ). m ≤ n) made =
+    subst (AllPairs (λ (m n : ℕ). m ≤ n)) (sym e)
+    (AllPairs-map (λ (m n : ℕ). m ≤ n) (λ (p : Place). p.dep) (filter (is_shown version states) places)
+    (AllPairs-filter (λ (p q : Place). p.dep ≤ q.dep) (is_shown version states) places
+    (AllPairs-weaker Before (λ (p q : Place). p.dep ≤ q.dep) places (λ p q in_p in_q less. place_departs_by p q less) rise))) in
+    record {
+      all = all;
+      of_runs = record { live = order.live; are_runs = order.are_runs; are_connections = order.are_connections };
+      one_each =
+          one_order made (departures_of all) falls
+          (AllPairs-map (λ (m n : ℕ). m ≤ n) dep all (AllPairs-weaker (λ (c d : Connection). departure_cmp c d ≡ Less) (λ (c d : Connection). c.dep ≤ d.dep) all (λ c d in_c in_d less. departs_by c d less) order.are_connections.in_order))
+          (λ k.
+          ap (count k) (e ∙ same_departures version states places (departs_of states places spans.placed))
+          ∙ sym (sum_by-IsPermutation (is_it k) (departures_of whole) (departures_of all) (IsPermutation-map dep whole all shuffled)));
+    }

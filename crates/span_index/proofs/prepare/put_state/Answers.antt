@@ -1,0 +1,22 @@
+use Rattle.std.proofs.Common.{[], ◌∷◌, ◌++◌, ◌∙◌, ap, inl, inr, subst, sym, ⊎_elim}
+use Rattle.std.specs.List.{Contains}
+use Rattle.std.proofs.lemmas.Result.{on_ok_weaker}
+use Rattle.span_index.specs.Gathered.{IsOf}
+use Rattle.span_index.specs.declared.state.State.{State}
+use Rattle.span_index.proofs.prepare.put_state.Goals as goal
+
+pub returns-clause-puts : goal.returns-clause-puts
+returns-clause-puts c =
+    let more = c.in_ok-more.more.items in
+    record {
+      pushed = inr (c.in_ok-push.ensures.items ∙ ap (λ (s : State). c.args.states.now.items ++ s ∷ []) c.closed-state.ensures);
+      stay = c.put_places.ensures.kept;
+      only = λ p h.
+          ⊎_elim (λ (o : Contains c.args.places.now.keys p). inl o)
+          (λ (m : Contains more p). inr (subst (λ (s : State). IsOf c.args.number s p) c.closed-state.ensures ((c.in_ok-more.ensures p).0 m))) (c.put_places.ensures.only p h);
+    }
+
+pub returns-clause-has : goal.returns-clause-has
+returns-clause-has c =
+    on_ok_weaker c.put_places.result
+    (λ all p of. all p ((c.in_ok-more.ensures p).1 (subst (λ (s : State). IsOf c.args.number s p) (sym c.closed-state.ensures) of))) c.put_places.ensures.all

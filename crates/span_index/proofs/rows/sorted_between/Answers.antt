@@ -1,0 +1,17 @@
+use Rattle.std.proofs.Common.{rules}
+use Rattle.lc_model.specs.Connection.{departure_cmp}
+use Rattle.lc_model.specs.Totals.{departure_cmp_total}
+use Rattle.lc_model.proofs.OrdersLemmas.{IsSorted-from_closure}
+use Rattle.span_index.proofs.RowsLemmas.{rows_are, rows_forward}
+use Rattle.span_index.proofs.rows.sorted_between.Goals as goal
+
+pub returns-clause-are : goal.returns-clause-are
+returns-clause-are c =
+    let by_departure = IsSorted-from_closure departure_cmp departure_cmp_total c.sort_unstable_by.new.self.items c.sort_unstable_by.ensures.sorted (λ f a r f' k. search rules) in
+    rows_are c.args.version c.args.from c.args.to c.args.states.now c.args.places.now.keys c.in_ok-list.list.items c.sort_unstable_by.new.self.items c.requires c.in_ok-list.ensures.ordered
+    c.in_ok-list.ensures.shown c.sort_unstable_by.ensures.permutation by_departure
+
+pub returns-clause-forward : goal.returns-clause-forward
+returns-clause-forward c =
+    rows_forward c.args.version c.args.from c.args.to c.args.states.now c.args.places.now.keys c.in_ok-list.list.items c.sort_unstable_by.new.self.items c.requires
+    c.in_ok-list.ensures.shown c.sort_unstable_by.ensures.permutation

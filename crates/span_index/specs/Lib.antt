@@ -1,0 +1,9 @@
+pub mod Base
+pub mod Gathered
+pub mod Inside
+pub mod Places
+pub mod Prepared
+pub mod Rows
+pub mod Spans
+pub mod Turns
+pub mod Updates

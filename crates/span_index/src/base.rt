@@ -1,0 +1,75 @@
+ghost use Rattle.std.specs.Prelude.{◌≡◌, ℕ, IfOk, map};
+ghost use Rattle.lc_model.specs.Run.{InKeyOrder, RunsForward};
+ghost use Rattle.span_index.specs.Base.{AreKeysInOrder, AreNumbered, base_state};
+ghost use Rattle.span_index.specs.Gathered.{AreOfStates};
+ghost use Rattle.span_index.specs.Spans.{runs_at};
+
+use crate::Index;
+use crate::gather::{number, places_of};
+use crate::place::Place;
+use crate::spans::Spans;
+use crate::state::State;
+use lc_model::{NoMemory, PlainData, Run, RunKey};
+use std::alloc::Global;
+use std::collections::{BTreeMap, BTreeSet};
+
+/// The runs as states that hold from version 0 on.
+fn base_states(alloc: Global, runs: Vec<Run>) -> Result<Vec<State>, NoMemory>
+    ensures { IfOk result (λ states. states.items ≡ map base_state runs.items) }
+{
+    let mut states = Vec::with_capacity(alloc, runs.len())?;
+    for run in runs {
+        let Run { key, calls } = run;
+        states.push(State {
+            key,
+            calls,
+            begin: 0,
+            end: None,
+        })?;
+    }
+    Ok(states)
+}
+
+/// The numbers of the states by their keys.
+fn numbers_by_key(
+    alloc: Global,
+    states: &[State],
+) -> Result<BTreeMap<RunKey, Option<u32>>, NoMemory>
+    requires { AreKeysInOrder states.now }
+    ensures { IfOk result (AreNumbered states.now) }
+{
+    let mut numbers = BTreeMap::new(alloc);
+    for (at, state) in states.iter().enumerate() {
+        numbers.insert(state.key.copy(alloc)?, Some(number(at)?))?;
+    }
+    Ok(numbers)
+}
+
+/// The places of the states in departure order.
+fn placed(alloc: Global, states: &[State]) -> Result<BTreeSet<Place>, NoMemory>
+    ensures { IfOk result (λ places. AreOfStates states.now places.keys) }
+{
+    let mut places = places_of(alloc, states)?;
+    places.sort_unstable();
+    Ok(places.into_iter().collect(alloc)?)
+}
+
+impl Index {
+    /// The index of runs that hold in version 0, with no further version. It takes the time of a sort of their connections.
+    pub fn new(alloc: Global, runs: Vec<Run>) -> Result<Index, NoMemory>
+        requires in_order { InKeyOrder runs.items }
+        requires forward { RunsForward runs.items }
+        ensures base { IfOk result (λ index. index.newest ≡ 0) }
+        ensures runs { IfOk result (λ index. (version : ℕ) → runs_at index version ≡ runs.items) }
+    {
+        let states = base_states(alloc, runs)?;
+        let places = placed(alloc, states.as_slice())?;
+        let running = numbers_by_key(alloc, states.as_slice())?;
+        let spans = Spans {
+            states,
+            places,
+            running,
+        };
+        Ok(Index { spans, newest: 0 })
+    }
+}

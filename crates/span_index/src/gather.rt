@@ -1,0 +1,40 @@
+ghost use Rattle.std.specs.Prelude.{◌≡◌, ℕ, ◌↔◌, ◌⊎◌, IfOk, OnOk};
+ghost use Rattle.std.specs.List.{Contains};
+ghost use Rattle.span_index.specs.Gathered.{AreOfStates, IsOf};
+ghost use Rattle.span_index.specs.declared.place.Place.{Place as Stood};
+
+use crate::place::Place;
+use crate::state::State;
+use lc_model::NoMemory;
+use std::alloc::Global;
+
+/// A number as an entry of the index has it. A list that is too long for that needs more memory than there is.
+pub(crate) fn number(place: usize) -> Result<u32, NoMemory>
+    ensures { IfOk result (λ number. number ≡ place) }
+{
+    u32::try_from(place).or(Err(NoMemory))
+}
+
+/// Adds the places of a state that has this number: one for each call that another one follows.
+pub(crate) fn push_places(places: &mut Vec<Place>, state: &State, of: u32) -> Result<(), NoMemory>
+    ensures { OnOk result ((p : Stood) → Contains places.new.items p ↔ (Contains places.old.items p ⊎ IsOf of state.now p)) }
+{
+    let calls = state.calls.as_slice();
+    for next in 1..calls.len() {
+        let at = number(next - 1)?;
+        let dep = calls[next - 1].dep;
+        places.push(Place { dep, state: of, at })?;
+    }
+    Ok(())
+}
+
+/// The places of the states.
+pub(crate) fn places_of(alloc: Global, states: &[State]) -> Result<Vec<Place>, NoMemory>
+    ensures { IfOk result (λ places. AreOfStates states.now places.items) }
+{
+    let mut places = Vec::new(alloc);
+    for (at, state) in states.iter().enumerate() {
+        push_places(&mut places, state, number(at)?)?;
+    }
+    Ok(places)
+}

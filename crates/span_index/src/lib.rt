@@ -1,0 +1,16 @@
+//! One index of the runs of all versions: each run with the span of version numbers over which it holds, and the places of all
+//! connections in departure order. It stands on the words of `lc_model` and `lc_versions`, and knows nothing of messages.
+#![tactic(auto)]
+
+mod base;
+mod gather;
+mod index;
+mod place;
+mod prepare;
+mod rows;
+mod spans;
+mod state;
+mod turn;
+mod update;
+
+pub use index::Index;
