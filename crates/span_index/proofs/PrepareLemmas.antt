@@ -1,6 +1,6 @@
 -- A run that holds in no version is added with its places: what was kept is kept, and no version shows it.
-use Rattle.std.proofs.Common.{◌≡◌, ℕ, ◌⊎◌, ◌↔◌, inl, inr, List, [], ◌∷◌, ◌++◌, append_assoc, length, map, Bool, true, false, cond, Some, None, refl, sym, ap, ◌∙◌, subst, arith, ⊎_elim}
-use Rattle.std.specs.Prelude.{IsSome, IsTrue, is_some}
+use Rattle.std.proofs.Common.{Result, Ok, Err, ◌≡◌, ℕ, ◌⊎◌, ◌↔◌, inl, inr, List, [], ◌∷◌, ◌++◌, append_assoc, length, map, Bool, true, false, cond, Some, None, refl, sym, ap, ◌∙◌, subst, arith, ⊎_elim}
+use Rattle.std.specs.Prelude.{IsSome, IsTrue, OnOk, is_some}
 use Rattle.std.specs.BTreeSet.{BTreeSet, contains}
 use Rattle.std.specs.List.{AllZip, Contains, filter, slice_get}
 use Rattle.std.specs.Ordering.{is_eq}
@@ -17,7 +17,7 @@ use Rattle.lc_model.proofs.ListLemmas.{Contains-cases, Contains-here, Contains-n
 use Rattle.span_index.specs.Gathered.{IsOf, IsOfStates}
 use Rattle.span_index.specs.Inside.{AreApart, AreKept, ArePlaced, IsPast}
 use Rattle.span_index.specs.Places.{place_cmp, shown}
-use Rattle.span_index.specs.Prepared.{Carries, Found, HaveAlike, IsReady, KeepKeys, PutsState, put_at}
+use Rattle.span_index.specs.Prepared.{Carries, Found, HasPlaces, HaveAlike, IsReady, KeepKeys, PutsState, put_at}
 use Rattle.span_index.specs.Spans.{held, holds, run_of}
 use Rattle.span_index.specs.Turns.{closed_state}
 use Rattle.span_index.specs.declared.place.Place.{Place}
@@ -248,3 +248,14 @@ ready_push s p f list new runs r run is all ready = subst (λ (v : List Ready). 
   zip_push [] (x ∷ runs) all = absurd all
   zip_push (x ∷ list) [] all = absurd all
   zip_push (x ∷ list) (y ∷ runs) all = (all.0, zip_push list runs all.1)
+
+-- a run whose state was pushed, and whose places and key are there, is ready
+pub ready_put : {A E : Type 0} (result : Result A E) (number : ℕ) (run : Run) (states new : List State) (places : List Place) (found : Found) → number ≡ length states → IsSome (found run.key)
+    → OnOk result (new ≡ states ++ closed_state run ∷ []) → OnOk result (HasPlaces number (closed_state run) places) → OnOk result (IsReady new places found (record { key = run.key; number = number }) run)
+ready_put (Ok x) number run states new places found at has_key pushed has = record {
+  stands = ap (slice_get new) at ∙ ap (λ (v : List State). slice_get v (length states)) pushed ∙ get_pushed states (closed_state run);
+  same_key = refl;
+  has_key = has_key;
+  has = has;
+}
+ready_put (Err e) number run states new places found at has_key pushed has = tt

@@ -5,6 +5,7 @@
 mod base;
 mod gather;
 mod index;
+mod laws;
 mod place;
 mod prepare;
 mod rows;
@@ -14,3 +15,4 @@ mod turn;
 mod update;
 
 pub use index::Index;
+pub use laws::one_list_of_rows;

@@ -1,4 +1,4 @@
-ghost use Rattle.std.specs.Prelude.{◌≡◌, ◌∷◌, ◌++◌, [], ◌⊎◌, ◌↔◌, IfOk, IsSome, OnOk};
+ghost use Rattle.std.specs.Prelude.{◌≡◌, ◌∷◌, ◌++◌, [], ◌⊎◌, ◌↔◌, IfOk, IsSome, OnOk, length};
 ghost use Rattle.std.specs.BTreeMap.{get};
 ghost use Rattle.std.specs.List.{AllZip, Contains};
 ghost use Rattle.lc_model.specs.Call.{GoesForward};
@@ -92,17 +92,28 @@ fn put_state(
     put_places(places, more)
 }
 
-/// Adds a run that holds in no version, with all that it needs to begin. After a refusal there may be a part of it.
+/// Adds a run that holds in no version, with all that it needs to begin at this number. After a refusal there may be a part of it.
+fn put_run(alloc: Global, spans: &mut Spans, run: Run, number: u32) -> Result<(), NoMemory>
+    requires at { number ≡ length spans.old.states.items }
+    requires forward { GoesForward run.calls }
+    ensures carries { Carries spans.old.states.items spans.old.places.keys (get key_cmp spans.old.running)
+        spans.new.states.items spans.new.places.keys (get key_cmp spans.new.running) }
+    ensures ready { OnOk result (IsReady spans.new.states.items spans.new.places.keys (get key_cmp spans.new.running) (record { key = run.key; number = number }) run) }
+{
+    put_key(alloc, &mut spans.running, &run.key)?;
+    put_state(alloc, &mut spans.states, &mut spans.places, run, number)
+}
+
+/// Adds a run that is to begin in the next version. After a refusal there may be a part of it.
 fn prepare(alloc: Global, spans: &mut Spans, run: Run) -> Result<Ready, NoMemory>
     requires { GoesForward run.calls }
     ensures carries { Carries spans.old.states.items spans.old.places.keys (get key_cmp spans.old.running)
         spans.new.states.items spans.new.places.keys (get key_cmp spans.new.running) }
     ensures ready { IfOk result (λ ready. IsReady spans.new.states.items spans.new.places.keys (get key_cmp spans.new.running) ready run) }
 {
-    put_key(alloc, &mut spans.running, &run.key)?;
-    let key = run.key.copy(alloc)?;
     let number = number(spans.states.len())?;
-    put_state(alloc, &mut spans.states, &mut spans.places, run, number)?;
+    let key = run.key.copy(alloc)?;
+    put_run(alloc, spans, run, number)?;
     Ok(Ready { key, number })
 }
 
