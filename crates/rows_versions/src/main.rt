@@ -1,9 +1,10 @@
-//! Prints what comes out of worked live calls, added trips and versions, a line each, for the comparison with `stdout`.
+//! Prints what comes out of worked live calls, added trips, versions and an index of them, a line each, for the comparison with `stdout`.
 #![tactic(auto)]
 
 mod live;
 mod messages;
 mod news;
+mod spans;
 mod trips;
 mod versions;
 
@@ -25,4 +26,8 @@ fn put_cases(alloc: Global, draft: &mut Draft) {
     }
     versions::put_histories(alloc, draft);
     versions::put_versions(alloc, draft);
+    match trips::stops(alloc) {
+        Ok(stops) => spans::put_spans(alloc, draft, &stops),
+        Err(Unmade) => draft.lose(),
+    }
 }

@@ -101,7 +101,7 @@ fn put_moment(draft: &mut Draft, moment: Moment, passed: u32) {
 }
 
 /// Each row: trip and sequence, departure and arrival.
-fn put_connections(draft: &mut Draft, list: &[Connection]) {
+pub fn put_connections(draft: &mut Draft, list: &[Connection]) {
     for row in list {
         put_connection(draft, row);
     }
@@ -171,7 +171,8 @@ pub fn put_histories(alloc: Global, draft: &mut Draft) {
     }
 }
 
-fn put_moments(draft: &mut Draft, moments: &[Moment], end: &str) {
+/// Each moment by its second of the day.
+pub fn put_moments(draft: &mut Draft, moments: &[Moment], end: &str) {
     for moment in moments {
         draft.put_shown(&second(*moment));
         draft.put(end);
