@@ -62,37 +62,37 @@ held_push version (s ∷ states) run = go (holds version s) (held_push version s
 
 module _ (states : List State) (places new : List Place) (found : Found) (run : Run) (forward : GoesForward run.calls)
     (stay : (p : Place) → Contains places p → Contains new p) (only : (p : Place) → Contains new p → Contains places p ⊎ IsOf (length states) (closed_state run) p) where
-  abbrev more : List State
-  more = states ++ closed_state run ∷ []
+  abbrev extended : List State
+  extended = states ++ closed_state run ∷ []
 
   -- a state that holds was there
-  was : (version i : ℕ) (s : State) → slice_get more i ≡ Some s → holds version s ≡ true → slice_get states i ≡ Some s
+  was : (version i : ℕ) (s : State) → slice_get extended i ≡ Some s → holds version s ≡ true → slice_get states i ≡ Some s
   was version i s e here = elim (get_cases states (closed_state run) i s e) [
     | inl is ↦ is
     | inr (at, same) ↦ absurd (let f : true ≡ false = sym here ∙ ap (holds version) (sym same) ∙ closed_gone version run in cc)
   ]
 
-  old_place : (p : Place) → IsOfStates states p → IsOfStates more p
+  old_place : (p : Place) → IsOfStates states p → IsOfStates extended p
   old_place p of =
       let at = of_state states p of.connection of.is in
-      record { connection = of.connection; is = at_state more p of.connection at.state (get_before states (closed_state run ∷ []) p.state at.state at.is) at.connection; departs = of.departs }
+      record { connection = of.connection; is = at_state extended p of.connection at.state (get_before states (closed_state run ∷ []) p.state at.state at.is) at.connection; departs = of.departs }
 
-  new_place : (p : Place) → IsOf (length states) (closed_state run) p → IsOfStates more p
+  new_place : (p : Place) → IsOf (length states) (closed_state run) p → IsOfStates extended p
   new_place p of = record {
     connection = of.connection;
-    is = at_state more p of.connection (closed_state run) (ap (slice_get more) of.of_number ∙ get_pushed states (closed_state run)) of.is;
+    is = at_state extended p of.connection (closed_state run) (ap (slice_get extended) of.of_number ∙ get_pushed states (closed_state run)) of.is;
     departs = of.departs;
   }
 
-  apart_more : AreApart states → AreApart more
+  apart_more : AreApart states → AreApart extended
   apart_more apart version i j s t is_s is_t here_s here_t tie = apart version i j s t (was version i s is_s here_s) (was version j t is_t here_t) here_s here_t tie
 
-  there_more : ArePlaced states places → (version : ℕ) (p : Place) (c : Connection) → shown version more p ≡ Some c → c.dep ≡ p.dep → Contains new p
+  there_more : ArePlaced states places → (version : ℕ) (p : Place) (c : Connection) → shown version extended p ≡ Some c → c.dep ≡ p.dep → Contains new p
   there_more placed version p c e departs =
-      let sh = shown_from version more p c e in
+      let sh = shown_from version extended p c e in
       stay p (placed.there version p c (shown_at version states p c (record { state = sh.state; is = was version p.state sh.state sh.is sh.here; here = sh.here; connection = sh.connection })) departs)
 
-  kept_more : (newest : ℕ) → AreKept newest states places found → AreKept newest more new found
+  kept_more : (newest : ℕ) → AreKept newest states places found → AreKept newest extended new found
   kept_more newest kept = record {
     spans = record {
       forward = All-push (λ (s : State). GoesForward s.calls) states (closed_state run) kept.spans.forward forward;
@@ -111,7 +111,7 @@ module _ (states : List State) (places new : List Place) (found : Found) (run : 
     );
   }
 
-  pub carries_more : Carries states places found more new found
+  pub carries_more : Carries states places found extended new found
   carries_more = record {
     kept = kept_more;
     same = λ version. held_push version states run;
