@@ -1,0 +1,6 @@
+pub mod HeldLemmas
+pub mod InOrderLemmas
+pub mod ItemsLemmas
+pub mod KeptLemmas
+pub mod PutLemmas
+pub mod TouchedLemmas

@@ -1,0 +1,4 @@
+pub mod Held
+pub mod Kept
+pub mod Touched
+pub mod Worked

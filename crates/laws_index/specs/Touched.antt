@@ -1,0 +1,76 @@
+-- Which runs are others by the next list of news, and which stay.
+use Rattle.std.specs.Prelude.{◌≡◌, ◌⊎◌, ◌↔◌, List, Bool, true, false, ◌||◌, Some, None}
+use Rattle.std.specs.List.{Contains, list_any}
+use Rattle.lc_model.specs.declared.key.RunKey.{RunKey}
+use Rattle.lc_model.specs.declared.run.Run.{Run}
+use Rattle.lc_model.specs.declared.stop.Stop.{Stop}
+use Rattle.lc_versions.specs.Added.{has_key, news_of_key}
+use Rattle.lc_versions.specs.Naming.{names_run, news_for}
+use Rattle.lc_versions.specs.News.{TripSaid}
+use Rattle.lc_versions.specs.Timetable.{AreLiveRuns}
+use Rattle.laws_index.specs.Held.{AreRunsBy, IsRunBy}
+
+-- the news touch a key: they name the run of the timetable with this key, or have exactly this key
+abbrev pub touches : RunKey → TripSaid → Bool
+touches key news = names_run key news || has_key key news
+
+-- some of the news touch the key
+abbrev pub is_touched : RunKey → List TripSaid → Bool
+is_touched key list = list_any (touches key) list
+
+-- news touch only keys of their trip and their date, with their start or without one
+pub record IsTouchedKey (key : RunKey) (news : TripSaid) : Type 0 where
+  pub trip : key.trip ≡ news.trip
+  pub date : news.date ≡ Some key.date
+  pub start : (key.start ≡ None) ⊎ (key.start ≡ news.start)
+
+-- each key that news touch is one of these
+abbrev pub TouchFewKeys : Type 0
+TouchFewKeys = (key : RunKey) (news : TripSaid) → touches key news ≡ true → IsTouchedKey key news
+
+-- the last news of a key are alike in both lists: those that name a run of the timetable, and those of an added trip
+pub record HasSameNews (key : RunKey) (old new : List TripSaid) : Type 0 where
+  pub named : news_for key old ≡ news_for key new
+  pub of_key : news_of_key key old ≡ news_of_key key new
+
+-- a key whose last news are alike in both lists has the same run by both
+abbrev pub SameNewsSameRun : Type 0
+SameNewsSameRun =
+    (runs : List Run) (stops : List Stop) (old new : List TripSaid) (run : Run) → HasSameNews run.key old new
+    → (IsRunBy runs stops old run ↔ IsRunBy runs stops new run)
+
+-- a run that neither the old nor the new news touch is the same by both
+abbrev pub OthersStay : Type 0
+OthersStay =
+    (runs : List Run) (stops : List Stop) (old new : List TripSaid) (run : Run) → is_touched run.key old ≡ false → is_touched run.key new ≡ false
+    → (IsRunBy runs stops old run ↔ IsRunBy runs stops new run)
+
+-- the runs by the new news: those of before that neither list touches, and of the touched ones those by the new list
+abbrev pub IsRunAfter : List Run → List Stop → List TripSaid → List TripSaid → List Run → Run → Type 0
+IsRunAfter runs stops old new before run =
+    (((is_touched run.key old || is_touched run.key new) ≡ false) × Contains before run)
+    ⊎ (((is_touched run.key old || is_touched run.key new) ≡ true) × IsRunBy runs stops new run)
+
+-- live runs after live runs of before: the untouched ones as they were, and the touched ones by the new list
+abbrev pub LiveAfterLive : Type 0
+LiveAfterLive =
+    (runs : List Run) (stops : List Stop) (old new : List TripSaid) (before after : List Run) → AreLiveRuns runs stops old before
+    → AreLiveRuns runs stops new after → (run : Run) → Contains after run ↔ IsRunAfter runs stops old new before run
+
+-- the keys that did not change have the same runs by both lists
+abbrev pub OthersAreSame : (RunKey → Bool) → List Run → List Stop → List TripSaid → List TripSaid → Type 0
+OthersAreSame changed runs stops old new = (run : Run) → changed run.key ≡ false → (IsRunBy runs stops old run ↔ IsRunBy runs stops new run)
+
+-- these are exactly the runs of the changed keys by the new news
+abbrev pub AreBegun : (RunKey → Bool) → List Run → List Stop → List TripSaid → List Run → Type 0
+AreBegun changed runs stops new begun = (run : Run) → Contains begun run ↔ ((changed run.key ≡ true) × IsRunBy runs stops new run)
+
+-- the runs after a turn: those of before whose keys did not change, and the begun ones
+abbrev pub AreTurned : (RunKey → Bool) → List Run → List Run → List Run → Type 0
+AreTurned changed before begun after = (run : Run) → Contains after run ↔ (((changed run.key ≡ false) × Contains before run) ⊎ Contains begun run)
+
+-- runs by the old news, of which those of the changed keys end and those by the new news begin, are the runs by the new news
+abbrev pub TurnHolds : Type 0
+TurnHolds =
+    (changed : RunKey → Bool) (runs : List Run) (stops : List Stop) (old new : List TripSaid) (before begun after : List Run) → AreRunsBy runs stops old before
+    → OthersAreSame changed runs stops old new → AreBegun changed runs stops new begun → AreTurned changed before begun after → AreRunsBy runs stops new after
