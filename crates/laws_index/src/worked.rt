@@ -1,7 +1,9 @@
+ghost use Rattle.lc_model.specs.declared.key.RunKey.{RunKey};
 ghost use Rattle.lc_versions.specs.News.{TripSaid};
-ghost use Rattle.laws_index.specs.Worked.{WorkedIds};
+ghost use Rattle.laws_index.specs.Worked.{WorkedIds, WorkedSpots};
 
-/// Small values that were worked out by hand: entities that go in at once.
+/// Small values that were worked out by hand.
 pub fn worked_index()
-    ensures { (first second third : TripSaid) → WorkedIds first second third }
+    ensures spots { (key : RunKey) → WorkedSpots key }
+    ensures ids { (first second third : TripSaid) → WorkedIds first second third }
 {}
