@@ -19,7 +19,8 @@ use Rattle.lc_versions.specs.Live.{live_calls_of}
 use Rattle.lc_versions.specs.Naming.{is_added, is_on, names_run, news_for, starts_so}
 use Rattle.lc_versions.specs.News.{TripSaid}
 use Rattle.laws_index.specs.Held.{IsRunBy}
-use Rattle.laws_index.specs.Touched.{HasSameNews, IsRunAfter, IsTouchedKey, LiveAfterLive, OthersStay, SameNewsSameRun, TouchFewKeys, TurnHolds, is_touched, touches}
+use Rattle.laws_index.specs.Touched.{HasSameNews, IsLeft, IsRunAfter, IsTouchedKey, LiveAfterLive, NoneHas, OthersStay, SameNewsSameRun, TouchFewKeys, UpdateHolds, is_touched, touches}
+use Rattle.laws_index.proofs.HeldLemmas.{one_run}
 
 -- what the last news say of a key is what its run is made of
 pub same_by : (runs : List Run) (stops : List Stop) (old new : List TripSaid) (run : Run) → news_for run.key old ≡ news_for run.key new → news_of_key run.key old ≡ news_of_key run.key new
@@ -84,18 +85,27 @@ live_after_live runs stops old new before after were are run = (forth, back) whe
   back (inl (none, there)) = (are.exactly run).1 ((stays none).0 ((were.exactly run).0 there))
   back (inr (some, is)) = (are.exactly run).1 is
 
-pub turn_holds : TurnHolds
-turn_holds changed runs stops old new before begun after were same are turned run = (forth, back) where
-  forth : Contains after run → IsRunBy runs stops new run
-  forth there = elim ((turned run).0 there) [
-    | inl stays ↦ (same run stays.0).0 ((were run).0 stays.1)
-    | inr begins ↦ ((are run).0 begins).1
+pub update_holds : UpdateHolds
+update_holds runs stops old new ended begun before after up were changes updated run = (forth, back) where
+  still : Contains before run → NoneHas begun run.key → (other : Run) → other.key ≡ run.key → IsRunBy runs stops new other → IsRunBy runs stops new run
+  still was alone other same is = elim (changes.all other is) [
+    | inl (k, inside, at) ↦ absurd (alone (k, other, inside, at, same))
+    | inr (is_old, none) ↦ subst (IsRunBy runs stops new) (one_run runs stops old other run up is_old ((were run).0 was) same) is
   ]
 
+  left : IsLeft ended begun before run → IsRunBy runs stops new run
+  left is = elim (changes.gone run ((were run).0 is.was)) [
+    | inl ends ↦ absurd (is.stays ends)
+    | inr (other, same, is_new) ↦ still is.was is.alone other same is_new
+  ]
+
+  forth : Contains after run → IsRunBy runs stops new run
+  forth there = elim ((updated run).0 there) [ inl begins ↦ changes.begins run begins | inr is ↦ left is ]
+
   back : IsRunBy runs stops new run → Contains after run
-  back is = elim (cases_Bool (changed run.key)) [
-    | inl ended ↦ (turned run).1 (inr ((are run).1 (ended, is)))
-    | inr stayed ↦ (turned run).1 (inl (stayed, (were run).1 ((same run stayed).1 is)))
+  back is = elim (changes.all run is) [
+    | inl begins ↦ (updated run).1 (inl begins)
+    | inr (is_old, none) ↦ (updated run).1 (inr (record { was = (were run).1 is_old; stays = λ ends. changes.ends run ends is; alone = none }))
   ]
 
 ties_are_equal : (o : Ordering) → is_eq o ≡ true → o ≡ Equal

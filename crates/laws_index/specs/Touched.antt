@@ -1,6 +1,7 @@
 -- Which runs are others by the next list of news, and which stay.
 use Rattle.std.specs.Prelude.{◌≡◌, ◌⊎◌, ◌↔◌, List, Bool, true, false, ◌||◌, Some, None}
-use Rattle.std.specs.List.{Contains, list_any}
+use Rattle.std.specs.List.{Any, Contains, list_any}
+use Rattle.lc_model.specs.Run.{InKeyOrder}
 use Rattle.lc_model.specs.declared.key.RunKey.{RunKey}
 use Rattle.lc_model.specs.declared.run.Run.{Run}
 use Rattle.lc_model.specs.declared.stop.Stop.{Stop}
@@ -57,20 +58,30 @@ LiveAfterLive =
     (runs : List Run) (stops : List Stop) (old new : List TripSaid) (before after : List Run) → AreLiveRuns runs stops old before
     → AreLiveRuns runs stops new after → (run : Run) → Contains after run ↔ IsRunAfter runs stops old new before run
 
--- the keys that did not change have the same runs by both lists
-abbrev pub OthersAreSame : (RunKey → Bool) → List Run → List Stop → List TripSaid → List TripSaid → Type 0
-OthersAreSame changed runs stops old new = (run : Run) → changed run.key ≡ false → (IsRunBy runs stops old run ↔ IsRunBy runs stops new run)
+-- no run of the list has the key
+abbrev pub NoneHas : List Run → RunKey → Type 0
+NoneHas runs key = Any (λ (r : Run). r.key ≡ key) runs → ⊥
 
--- these are exactly the runs of the changed keys by the new news
-abbrev pub AreBegun : (RunKey → Bool) → List Run → List Stop → List TripSaid → List Run → Type 0
-AreBegun changed runs stops new begun = (run : Run) → Contains begun run ↔ ((changed run.key ≡ true) × IsRunBy runs stops new run)
+-- From the old news to the new these keys end, and these runs begin: every run by the new news begins or was there by the old, no key ends that
+-- still has a run, and each that was there ends or has a run still.
+pub record AreChanges (runs : List Run) (stops : List Stop) (old new : List TripSaid) (ended : List RunKey) (begun : List Run) : Type 0 where
+  pub begins : (run : Run) → Contains begun run → IsRunBy runs stops new run
+  pub all : (run : Run) → IsRunBy runs stops new run → Contains begun run ⊎ (IsRunBy runs stops old run × NoneHas begun run.key)
+  pub ends : (run : Run) → Contains ended run.key → IsRunBy runs stops new run → ⊥
+  pub gone : (run : Run) → IsRunBy runs stops old run → Contains ended run.key ⊎ ((other : Run) × (other.key ≡ run.key) × IsRunBy runs stops new other)
 
--- the runs after a turn: those of before whose keys did not change, and the begun ones
-abbrev pub AreTurned : (RunKey → Bool) → List Run → List Run → List Run → Type 0
-AreTurned changed before begun after = (run : Run) → Contains after run ↔ (((changed run.key ≡ false) × Contains before run) ⊎ Contains begun run)
+-- the run was there, and its key neither ends nor has a run that begins
+pub record IsLeft (ended : List RunKey) (begun before : List Run) (run : Run) : Type 0 where
+  pub was : Contains before run
+  pub stays : Contains ended run.key → ⊥
+  pub alone : NoneHas begun run.key
 
--- runs by the old news, of which those of the changed keys end and those by the new news begin, are the runs by the new news
-abbrev pub TurnHolds : Type 0
-TurnHolds =
-    (changed : RunKey → Bool) (runs : List Run) (stops : List Stop) (old new : List TripSaid) (before begun after : List Run) → AreRunsBy runs stops old before
-    → OthersAreSame changed runs stops old new → AreBegun changed runs stops new begun → AreTurned changed before begun after → AreRunsBy runs stops new after
+-- after the update there are the runs that begin, and those that are left
+abbrev pub AreUpdated : List RunKey → List Run → List Run → List Run → Type 0
+AreUpdated ended begun before after = (run : Run) → Contains after run ↔ (Contains begun run ⊎ IsLeft ended begun before run)
+
+-- runs by the old news, updated by these changes, are the runs by the new news
+abbrev pub UpdateHolds : Type 0
+UpdateHolds =
+    (runs : List Run) (stops : List Stop) (old new : List TripSaid) (ended : List RunKey) (begun before after : List Run) → InKeyOrder runs
+    → AreRunsBy runs stops old before → AreChanges runs stops old new ended begun → AreUpdated ended begun before after → AreRunsBy runs stops new after

@@ -12,6 +12,6 @@ mod worked;
 pub use held::held_are_live;
 pub use kept::{force_goes_on, put_at_once};
 pub use rows::sorted_are_rows;
-pub use touched::{others_stay, same_news_same_run, touch_few_keys, turn_holds};
+pub use touched::{others_stay, same_news_same_run, touch_few_keys, update_holds};
 pub use walk::walked_are_connections;
 pub use worked::worked_index;

@@ -1,4 +1,4 @@
-ghost use Rattle.laws_index.specs.Touched.{LiveAfterLive, OthersStay, SameNewsSameRun, TouchFewKeys, TurnHolds};
+ghost use Rattle.laws_index.specs.Touched.{LiveAfterLive, OthersStay, SameNewsSameRun, TouchFewKeys, UpdateHolds};
 
 /// The live runs by a new list of news are those that neither the old nor the new news touch, as they were, and of the touched ones
 /// those by the new list.
@@ -17,7 +17,8 @@ pub fn touch_few_keys()
     ensures { TouchFewKeys }
 {}
 
-/// Runs that hold by the old news, where those of the changed keys end and those by the new news begin, hold by the new news.
-pub fn turn_holds()
-    ensures { TurnHolds }
+/// The runs by the old news, where the keys that have no run any more end and the runs that are others by the new news begin, are the runs
+/// by the new news, as they are worked out anew.
+pub fn update_holds()
+    ensures { UpdateHolds }
 {}
