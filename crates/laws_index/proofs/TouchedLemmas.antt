@@ -89,7 +89,7 @@ pub update_holds : UpdateHolds
 update_holds runs stops old new ended begun before after up were changes updated run = (forth, back) where
   still : Contains before run → NoneHas begun run.key → (other : Run) → other.key ≡ run.key → IsRunBy runs stops new other → IsRunBy runs stops new run
   still was alone other same is = elim (changes.all other is) [
-    | inl (k, inside, at) ↦ absurd (alone (k, other, inside, at, same))
+    | inl begins ↦ absurd (alone other begins same)
     | inr (is_old, none) ↦ subst (IsRunBy runs stops new) (one_run runs stops old other run up is_old ((were run).0 was) same) is
   ]
 

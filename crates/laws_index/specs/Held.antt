@@ -36,7 +36,7 @@ pub record HoldBy (runs : List Run) (stops : List Stop) (list : List TripSaid) (
   pub apart : KeysApart held
   pub exactly : AreRunsBy runs stops list held
 
--- live runs hold
+-- live runs are runs that hold
 abbrev pub LiveRunsHold : Type 0
 LiveRunsHold = (runs : List Run) (stops : List Stop) (list : List TripSaid) (live : List Run) → AreLiveRuns runs stops list live → HoldBy runs stops list live
 
@@ -52,7 +52,7 @@ HeldAreLive =
     (runs : List Run) (stops : List Stop) (list : List TripSaid) (held live : List Run) → HoldBy runs stops list held → AreLiveRuns runs stops list live
     → IsPermutation held live
 
--- they have the same connections as the live runs
+-- runs that hold have the connections of the live runs
 abbrev pub SameConnections : Type 0
 SameConnections =
     (runs : List Run) (stops : List Stop) (list : List TripSaid) (held live : List Run) (all : List Connection) → All (λ (r : Run). InSequence r.calls) runs

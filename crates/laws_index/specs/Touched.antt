@@ -1,6 +1,6 @@
 -- Which runs are others by the next list of news, and which stay.
 use Rattle.std.specs.Prelude.{◌≡◌, ◌⊎◌, ◌↔◌, List, Bool, true, false, ◌||◌, Some, None}
-use Rattle.std.specs.List.{Any, Contains, list_any}
+use Rattle.std.specs.List.{Contains, list_any}
 use Rattle.lc_model.specs.Run.{InKeyOrder}
 use Rattle.lc_model.specs.declared.key.RunKey.{RunKey}
 use Rattle.lc_model.specs.declared.run.Run.{Run}
@@ -60,7 +60,7 @@ LiveAfterLive =
 
 -- no run of the list has the key
 abbrev pub NoneHas : List Run → RunKey → Type 0
-NoneHas runs key = Any (λ (r : Run). r.key ≡ key) runs → ⊥
+NoneHas runs key = (run : Run) → Contains runs run → run.key ≡ key → ⊥
 
 -- From the old news to the new these keys end, and these runs begin: every run by the new news begins or was there by the old, no key ends that
 -- still has a run, and each that was there ends or has a run still.
