@@ -11,7 +11,7 @@ use Rattle.cli_serve.specs.Recorded.{AreRecorded, AreWiresOf, IsWireOf, came, op
 use Rattle.cli_serve.specs.Visit.{AreVisits, IsServed, IsVisit, NoneLost, Visit}
 
 -- a visit on which memory did not run out was served
-kept : (visit : Visit) (side next : Side) → visit.lost ≡ false → IsVisit visit.lost side visit next → IsServed side visit next
+pub kept : (visit : Visit) (side next : Side) → visit.lost ≡ false → IsVisit visit.lost side visit next → IsServed side visit next
 kept visit side next is visits = subst (λ (b : Bool). IsVisit b side visit next) is visits
 
 same_visit : (a b : Visit) → a.read ≡ b.read → a.sent ≡ b.sent → a.requests ≡ b.requests → a.ended ≡ b.ended → a.failed ≡ b.failed → a.lost ≡ b.lost → a ≡ b
@@ -31,10 +31,10 @@ one_served one side next other a b read sent failed lost p q =
       p.next_is ∙ (ap (λ (s : Said). s.side) same ∙ sym q.next_is),
     )
 
-none_lost_first : (visit : Visit) (visits : List Visit) → NoneLost (visit ∷ visits) → visit.lost ≡ false
+pub none_lost_first : (visit : Visit) (visits : List Visit) → NoneLost (visit ∷ visits) → visit.lost ≡ false
 none_lost_first visit visits none = none 0 visit (omega arith)
 
-none_lost_rest : (visit : Visit) (visits : List Visit) → NoneLost (visit ∷ visits) → NoneLost visits
+pub none_lost_rest : (visit : Visit) (visits : List Visit) → NoneLost (visit ∷ visits) → NoneLost visits
 none_lost_rest visit visits none = λ k d h. none (suc k) d (omega arith)
 
 -- the connections and the first side say what the visits are
@@ -57,7 +57,7 @@ one_list one (v ∷ visits) (o ∷ other) (w ∷ wires) first last end wa wb la 
     one_list one visits other wires va.0 last end wa.1 wb.1 (none_lost_rest v visits la) (none_lost_rest o other lb) va.2 (subst From (sym both.1) vb.2) in
     ap (λ (x : Visit). x ∷ visits) both.0 ∙ ap (λ (l : List Visit). o ∷ l) rest
 
-recorded_at : (visits : List Visit) (port : ℕ) (a b : Option DoorRecorded) (x y : DoorRecorded) → a ≡ Some x → b ≡ Some y → GoesOn (λ s t. AreRecorded visits (opened_at port s) t) a b
+pub recorded_at : (visits : List Visit) (port : ℕ) (a b : Option DoorRecorded) (x y : DoorRecorded) → a ≡ Some x → b ≡ Some y → GoesOn (λ s t. AreRecorded visits (opened_at port s) t) a b
     → AreRecorded visits (opened_at port x) y
 recorded_at visits port None b x y is now recorded = absurd (cc)
 recorded_at visits port (Some s) None x y is now recorded = absurd recorded

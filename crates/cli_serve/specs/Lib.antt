@@ -6,6 +6,7 @@ pub mod Steps
 pub mod Stop
 pub mod Tally
 pub mod Recorded
+pub mod SameBytes
 pub mod Visit
 pub mod Visiting
 pub mod Written

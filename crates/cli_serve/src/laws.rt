@@ -1,4 +1,5 @@
 ghost use Rattle.cli_serve.specs.Laws.{NoneForgotten, NoneTwice, NoneUnread, NoneUnsent, OneServing, OneVisit};
+ghost use Rattle.cli_serve.specs.SameBytes.{NotOneMore, NotOneTaker, NotOtherBase, OneOverBytes, OneSession};
 
 use wire_session::one_output;
 
@@ -21,3 +22,19 @@ pub fn near_servings()
 {
     one_output();
 }
+
+/// From sides that are one, but for how their zone is written down, the same bytes are answered with the same replies. So servings over doors
+/// where the same bytes waited, and where no read or write failed, send the same on each connection and write one text.
+pub fn one_over_bytes()
+    ensures session { OneSession }
+    ensures bytes { OneOverBytes }
+{
+    one_output();
+}
+
+/// Near sides are other ones: with a message more, with another base version, or with messages taken where none are.
+pub fn near_sides()
+    ensures more { NotOneMore }
+    ensures taker { NotOneTaker }
+    ensures base { NotOtherBase }
+{}

@@ -13,4 +13,4 @@ mod visit;
 
 pub use command::serve;
 pub use fault::ServeFault;
-pub use laws::{near_servings, one_serving};
+pub use laws::{near_servings, near_sides, one_over_bytes, one_serving};
