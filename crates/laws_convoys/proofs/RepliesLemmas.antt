@@ -29,14 +29,14 @@ use Rattle.laws_convoys.specs.Rounds.{round_asked, round_at}
 use Rattle.laws_convoys.proofs.HonestLemmas.{is_get}
 
 -- what is recorded of a reply is the reply
-replied_by : (side : Side) (request : List ℕ) (got : Got) (recorded : RecordedReply) (reply : List ℕ) → OnOk (result_of got) (IsReply side request (bytes_of got)) → (recorded ≡ Hidden) ⊎ (recorded ≡ recorded_of got)
+pub replied_by : (side : Side) (request : List ℕ) (got : Got) (recorded : RecordedReply) (reply : List ℕ) → OnOk (result_of got) (IsReply side request (bytes_of got)) → (recorded ≡ Hidden) ⊎ (recorded ≡ recorded_of got)
     → recorded ≡ Reply reply → IsReply side request reply
 replied_by side request got recorded reply replied (inl hidden) is = absurd (cc)
 replied_by side request None recorded reply replied (inr failed) is = absurd (cc)
 replied_by side request (Some bytes) recorded reply replied (inr given) is = (let same : bytes ≡ reply = cc in subst (IsReply side request) same replied)
 
 -- an exchange that ended is recorded
-one_more : (before after : Option (List Entry)) (authority request : List ℕ) (got : Got) → Tells before after authority request (bytes_of got) (result_of got) → TellsMore before after authority request got
+pub one_more : (before after : Option (List Entry)) (authority request : List ℕ) (got : Got) → Tells before after authority request (bytes_of got) (result_of got) → TellsMore before after authority request got
 one_more before after authority request None tells = tells
 one_more before after authority request (Some reply) tells = tells
 
@@ -45,7 +45,7 @@ pub record Replied (base : BaseParts) (side : Side) (before after : LinkSeen) : 
   pub tells : TellsReplies side before.recorded after.recorded
   pub quiet : IsQuietWith after base side
 
-recorded_no_more : (recorded : Option (List Entry)) → recorded ≡ option_map (λ (entries : List Entry). entries ++ []) recorded
+pub recorded_no_more : (recorded : Option (List Entry)) → recorded ≡ option_map (λ (entries : List Entry). entries ++ []) recorded
 recorded_no_more None = refl
 recorded_no_more (Some entries) = ap Some (sym (append-nil entries))
 
