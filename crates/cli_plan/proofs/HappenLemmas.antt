@@ -8,7 +8,7 @@ use Rattle.cli_ask.specs.declared.end.ClientEnd.{ClientEnd}
 use Rattle.connection_uri.specs.Base.{BaseParts}
 use Rattle.convoy.specs.State.{begun}
 use Rattle.cli_plan.specs.Planning.{HaveHappened}
-use Rattle.laws_plan.specs.Laws.{PlansRight}
+use Rattle.laws_plan.specs.Laws.{PlanRecordsReplies, PlansRight}
 use Rattle.laws_plan.specs.Planned.{IsNoMessage, IsPlanned, NoneIsMessage}
 use Rattle.laws_replay.specs.Events.{TurnsAreOfClients}
 use Rattle.laws_replay.specs.Laws.{ArePlayedCaused, PlaysCaused}
@@ -39,8 +39,8 @@ module _ {L : Type 0} (seen : L → LinkSeen) (plays_caused : PlaysCaused seen) 
   printable = caused.printable
 
   -- what happened over a link, and was printed so, is planned
-  pub planned : PlansRight seen → NoneIsMessage all → (text : List ℕ) → text ≡ clients_text_of 1 ends → IsPlanned base all cache (seen before) (seen after) text ends
-  planned plans_right none text is = record {
+  pub planned : PlansRight seen → PlanRecordsReplies seen → NoneIsMessage all → (text : List ℕ) → text ≡ clients_text_of 1 ends → IsPlanned base all cache (seen before) (seen after) text ends
+  planned plans_right records_replies none text is = record {
     text_is = is;
     one_each = caused.one_each;
     caused = caused.caused;
@@ -48,4 +48,5 @@ module _ {L : Type 0} (seen : L → LinkSeen) (plays_caused : PlaysCaused seen) 
     not_fallen = caused.not_fallen;
     right = λ first honest.
         plans_right base first all cache x.turned x.ended before x.between after [] ends turns none honest x.plays x.rounds x.have_ended caused.caused caused.met_in;
+    replies = λ first honest. records_replies base first all cache x.turned x.ended before x.between after [] none honest x.plays x.rounds;
   }

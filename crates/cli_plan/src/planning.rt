@@ -12,7 +12,7 @@ use cli_ask::ClientEnd;
 use cli_replay::{ends_of, text_of};
 use connection_uri::Base;
 use convoy::Convoy;
-use laws_plan::plans_are_right;
+use laws_plan::{plan_records_replies, plans_are_right};
 use laws_replay::{Event, courses_are_caused};
 use lc_model::NoMemory;
 use lc_world::Link;
@@ -42,6 +42,7 @@ pub fn plan<L: Link>(
     ensures { IfOk result.0 (λ planned. IsPlanned base events.items cache (L.seen link) (L.seen result.1) planned.text.items planned.ends.items) }
 {
     plans_are_right::<L>();
+    plan_records_replies::<L>();
     courses_are_caused::<L>();
     let mut link = link;
     match ends_over(alloc, base, events, cache, &mut link) {

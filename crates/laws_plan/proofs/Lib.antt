@@ -1,12 +1,15 @@
 mod AloneLemmas
 mod AsksLemmas
+mod EachAlikeLemmas
 mod FaultVersionLemmas
 mod FaultsLemmas
 mod MetLemmas
 mod NearLemmas
+mod OneGrowingLemmas
 mod OnePlanLemmas
 mod PlannedTo
 mod PlansLemmas
+mod RepliedLemmas
 mod SidesLemmas
 mod StepLemmas
 mod TurnLemmas

@@ -1,31 +1,29 @@
 -- Two plans over quiet links with one side come to the same.
-use Rattle.std.proofs.Common.{◌≡◌, ◌∙◌, ◌==◌, ◌+◌, ◌<◌, ℕ, zero, suc, Bool, true, false, List, [], ◌∷◌, ◌++◌, Option, Some, None, ap, arith, length, refl, subst, sym}
+use Rattle.std.proofs.Common.{◌≡◌, ◌∙◌, ◌==◌, ◌+◌, ℕ, suc, Bool, true, false, List, [], ◌∷◌, ◌++◌, Option, Some, None, ap, arith, length, refl, subst, sym}
 use Rattle.std.specs.List.{All, AllZip, slice_get}
 use Rattle.std.specs.Prelude.{if◌then◌else◌}
 use Rattle.std.proofs.lemmas.List.Elements.{All-cons, All-head, All-nil, All-tail}
-use Rattle.std.proofs.lemmas.Option.{slice_get_within}
 use Rattle.cli_ask.proofs.OneAnswerLemmas.{alike}
 use Rattle.cli_ask.specs.Client.{shown_of}
 use Rattle.cli_ask.specs.Laws.{AreOneEnd, IsNoLinkFault}
 use Rattle.cli_ask.specs.declared.end.ClientEnd.{ClientEnd}
 use Rattle.connection_uri.specs.Base.{BaseParts}
-use Rattle.csa_scan.proofs.ListPlacesLemmas.{item_within}
 use Rattle.laws_clients.specs.Fits.{HasEnded, IsDenied}
 use Rattle.laws_clients.specs.Laws.{OneArrivalAt, OneListOfNeededAt}
 use Rattle.laws_clients.specs.Wants.{wants_of}
 use Rattle.laws_convoys.proofs.AloneLemmas.{BeginsAtGate}
 use Rattle.laws_convoys.specs.Names.{Round}
 use Rattle.laws_convoys.specs.OneClient.{version_of}
+use Rattle.laws_plan.proofs.EachAlikeLemmas.{EndAlike, come_to_one}
 use Rattle.laws_plan.proofs.SidesLemmas.{as_many_sides}
 use Rattle.laws_plan.specs.OnePlan.{IsQuietPlan, OnePlan}
 use Rattle.laws_plan.specs.Planned.{EndsAt}
 use Rattle.laws_plan.specs.Sides.{sides_of, version_after, version_with}
-use Rattle.laws_replay.proofs.OneCourseLemmas.{all_are_clients, at_place, none_failed, zip_places}
-use Rattle.laws_replay.proofs.OneRoundsLemmas.{MetTheSame, as_many_rounds, met_in_all, met_the_same, same_rounds}
+use Rattle.laws_replay.proofs.OneCourseLemmas.{at_place, none_failed}
+use Rattle.laws_replay.proofs.OneRoundsLemmas.{as_many_rounds, met_the_same}
 use Rattle.laws_replay.specs.Events.{TurnsAreOfClients, questions_in}
-use Rattle.laws_replay.specs.Turns.{asked_in, failed_in, given_in, order_of, rounds_of}
+use Rattle.laws_replay.specs.Turns.{failed_in, given_in, order_of, rounds_of}
 use Rattle.laws_replay.specs.declared.event.Event.{Event}
-use Rattle.laws_replies.specs.Laws.{SayTheSame}
 use Rattle.laws_replies.specs.Met.{Met}
 use Rattle.laws_sides.specs.Recorded.{version_at}
 use Rattle.lc_model.specs.declared.page.PageName.{PageName}
@@ -39,7 +37,6 @@ use Rattle.page_client.specs.declared.outcome.Outcome.TheVariants as outcomes
 use Rattle.page_client.specs.declared.want.Want.{Want}
 use Rattle.page_client.specs.declared.want.Want.TheVariants as wants
 use Rattle.publisher_spec.specs.Side.{Side}
-use Rattle.script_text.specs.Script.{IsClient}
 
 -- a client that ended received the time gate's reply first, if anything
 
@@ -55,7 +52,7 @@ of_denied side s given SameStop denied = of_none given denied.given
 of_denied side s given UnknownFrom denied = of_wants given [] denied.given
 of_denied side s given UnknownTo denied = of_wants given [] denied.given
 
-gate_first : (side : Side) (s : Shown) (given : List Want) (outcome : Outcome) → HasEnded side s given (Some outcome) → IsNoLinkFault outcome → BeginsAtGate given
+pub gate_first : (side : Side) (s : Shown) (given : List Want) (outcome : Outcome) → HasEnded side s given (Some outcome) → IsNoLinkFault outcome → BeginsAtGate given
 gate_first side s given (outcomes.Found journey) ended fine = of_wants given ended.names ended.given
 gate_first side s given outcomes.NoJourney ended fine = of_wants given ended.names ended.given
 gate_first side s given (outcomes.Refused fault) ended fine = of_denied side s given fault ended
@@ -115,12 +112,6 @@ all_of P client (other ∷ order) (side ∷ sides) all =
       | false ↦ rest
     ]
 
--- the ends of one client in two plans, and what it met in its turns
-record EndAlike (d e : ClientEnd) (rs ts : List Round) : Type 0 where
-  version : d.version ≡ e.version
-  outcome : SayTheSame d.outcome e.outcome
-  met : AllZip MetTheSame rs ts
-
 module _ (one_arrival : OneArrivalAt) (one_needed : OneListOfNeededAt) (side : Side) where
   one_client : (query : Query) (rs ts : List Round) (at to : List Side) (d e : ClientEnd) → EndsAt side query rs at d → EndsAt side query ts to e → length rs ≡ length ts → length rs ≡ length at →
       length ts ≡ length to → All (Is side) at → All (Is side) to → IsNoLinkFault d.outcome → IsNoLinkFault e.outcome → EndAlike d e rs ts
@@ -163,39 +154,9 @@ module _ (one_arrival : OneArrivalAt) (one_needed : OneListOfNeededAt) (base : B
       (all_of (Is side) (place + 1) order p.planned.sides (p.planned.sides_are.one_side p.quiet)) (all_of (Is side) (place + 1) order q.planned.sides (q.planned.sides_are.one_side q.quiet))
       (at_place Fine ends place d p.no_fault is) (at_place Fine other_ends place e q.no_fault other_is)
 
-  met_by : (client : ℕ) → IsClient (length (questions_in all)) client → AllZip MetTheSame (rounds_of client order p.planned.rounds) (rounds_of client order q.planned.rounds)
-  met_by zero is = absurd (let never = is.from_one in omega arith)
-  met_by (suc place) is =
-      let asks = item_within (questions_in all) place (let up_to = is.at_most in omega arith) in
-      let ended = item_within ends place (let up_to = is.at_most in let many = p.one_each in omega arith) in
-      let other_ended = item_within other_ends place (let up_to = is.at_most in let many = q.one_each in omega arith) in
-      let number : place + 1 ≡ suc place = omega arith in
-      subst (λ (client : ℕ). AllZip MetTheSame (rounds_of client order p.planned.rounds) (rounds_of client order q.planned.rounds)) number
-      (client_at place asks.0 ended.0 other_ended.0 asks.1 ended.1 other_ended.1).met
-
-  -- so the turns are the same in both plans
-  rounds : p.planned.rounds ≡ q.planned.rounds
-  rounds =
-      same_rounds cache [] p.planned.rounds q.planned.rounds
-      (met_in_all (length (questions_in all)) order p.planned.rounds q.planned.rounds p.planned.rounds_are.one_each q.planned.rounds_are.one_each (all_are_clients all turns) met_by)
-      p.planned.rounds_are.by_names q.planned.rounds_are.by_names
-
-  end_at : (place : ℕ) (d e : ClientEnd) → slice_get ends place ≡ Some d → slice_get other_ends place ≡ Some e → AreOneEnd d e
-  end_at place d e is other_is =
-      let within : place < length ends = slice_get_within ends place d is in
-      let asks = item_within (questions_in all) place (let many = p.one_each in omega arith) in
-      let end = client_at place asks.0 d e asks.1 is other_is in
-      record {
-        version = end.version;
-        outcome = end.outcome;
-        exchanges =
-            (p.planned.clients place asks.0 d asks.1 is).exchanges ∙ ap (λ (rs : List Round). length (asked_in (rounds_of (place + 1) order rs))) rounds
-            ∙ sym ((q.planned.clients place asks.0 e asks.1 other_is).exchanges);
-      }
-
-  come_to_one : AllZip AreOneEnd ends other_ends
-  come_to_one = zip_places AreOneEnd ends other_ends (p.one_each ∙ sym q.one_each) end_at
+  both : AllZip AreOneEnd ends other_ends
+  both = come_to_one base side side all cache before after other later ends other_ends met other_met turns p.planned q.planned p.one_each q.one_each client_at
 
 pub one_plan : {X Y : Type 0} (seen : X → LinkSeen) (saw : Y → LinkSeen) → OneArrivalAt → OneListOfNeededAt → OnePlan seen saw
 one_plan seen saw one_arrival one_needed base side all cache before after other later ends other_ends met other_met turns p q =
-    come_to_one one_arrival one_needed base side all cache (seen before) (seen after) (saw other) (saw later) ends other_ends met other_met turns p q
+    both one_arrival one_needed base side all cache (seen before) (seen after) (saw other) (saw later) ends other_ends met other_met turns p q

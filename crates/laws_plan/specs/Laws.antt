@@ -6,6 +6,7 @@ use Rattle.connection_uri.specs.Base.{BaseParts}
 use Rattle.convoy.specs.Finish.{Rounds}
 use Rattle.convoy.specs.State.{ConvoyState, begun}
 use Rattle.laws_plan.specs.Planned.{ArePlanned, IsPlanned, NoneIsMessage}
+use Rattle.laws_plan.specs.Replied.{TellsAlong}
 use Rattle.laws_replay.specs.Caused.{AreCaused}
 use Rattle.laws_replay.specs.Events.{TurnsAreOfClients, questions_in}
 use Rattle.laws_replay.specs.History.{AreMetIn}
@@ -37,6 +38,12 @@ PlanFaultsAreOwn {X} seen =
     → ArePlanned base first all cache (seen start) (seen after) ends caused.met
     → (place : ℕ) (query : Query) (end : ClientEnd) → slice_get (questions_in all) place ≡ Some query → slice_get ends place ≡ Some end
     → (low high : ℕ) → HasFailedBetween (place + 1) low high caused.met → end.outcome ≡ LinkFault low high
+
+-- Over an honest link each reply that is recorded is that of the publisher's side at its exchange.
+abbrev pub PlanRecordsReplies : {X : Type 0} → (X → LinkSeen) → Type 0
+PlanRecordsReplies {X} seen =
+    (base : BaseParts) (first : Side) (all : List Event) (cache : ℕ) (played ended : ConvoyState) (start behind after : X) (lines : List ℕ) → NoneIsMessage all → IsHonestWith (seen start) base first
+    → Plays seen all (begun base cache) played start behind lines → Rounds seen (length played.members) played ended behind after → TellsAlong first (seen start) (seen after)
 
 -- Over any link the one client of a plan asked as a client does that asks alone: its replies are those that the link records, where it records
 -- replies.

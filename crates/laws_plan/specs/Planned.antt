@@ -8,6 +8,7 @@ use Rattle.laws_clients.specs.Fits.{HasEnded}
 use Rattle.laws_convoys.specs.Leaves.{LeavesHonest}
 use Rattle.laws_convoys.specs.Names.{AskByNames, Round, failures_in}
 use Rattle.laws_convoys.specs.Requests.{TellsRequests}
+use Rattle.laws_plan.specs.Replied.{TellsAlong}
 use Rattle.laws_plan.specs.Sides.{AreLater, sides_of, version_after}
 use Rattle.laws_replay.specs.Caused.{AreCaused}
 use Rattle.laws_replay.specs.Events.{questions_in}
@@ -85,7 +86,7 @@ pub record ArePlanned (base : BaseParts) (first : Side) (all : List Event) (cach
       → EndsAt last query (rounds_of (place + 1) (order_of all) rounds) (sides_of (place + 1) (order_of all) sides) end
 
 -- The text is the clients' blocks. Over any link each client ended by the replies to its own exchanges. Over an honest link, also one whose
--- side grows, each ended rightly.
+-- side grows, each ended rightly, and each reply that is recorded is that of the publisher's side at its exchange.
 pub record IsPlanned (base : BaseParts) (all : List Event) (cache : ℕ) (before after : LinkSeen) (text : List ℕ) (ends : List ClientEnd) : Type 0 where
   pub text_is : text ≡ clients_text_of 1 ends
   pub one_each : length ends ≡ length (questions_in all)
@@ -93,3 +94,4 @@ pub record IsPlanned (base : BaseParts) (all : List Event) (cache : ℕ) (before
   pub clear : before.clear → after.clear
   pub not_fallen : before.faults ≤ after.faults
   pub right : (first : Side) → IsHonestWith before base first → ArePlanned base first all cache before after ends caused.met
+  pub replies : (first : Side) → IsHonestWith before base first → TellsAlong first before after

@@ -1,7 +1,8 @@
-ghost use Rattle.laws_plan.specs.Laws.{OneClientAsks, PlanFaultsAreOwn, PlansRight};
+ghost use Rattle.laws_plan.specs.Laws.{OneClientAsks, PlanFaultsAreOwn, PlanRecordsReplies, PlansRight};
+ghost use Rattle.laws_plan.specs.OneGrowing.{OneGrowingPlan};
 ghost use Rattle.laws_plan.specs.OnePlan.{OnePlan};
 
-use laws_clients::{one_answer, steps_keep_agreement};
+use laws_clients::{one_answer, steps_keep_agreement, versions_stay};
 use laws_convoys::{agreement_begins, turns_keep_agreement};
 use laws_replies::alone_asks_all;
 use lc_world::Link;
@@ -21,12 +22,26 @@ pub fn plan_faults_are_own<L: Link>()
     ensures { PlanFaultsAreOwn L.seen }
 {}
 
+/// Over every honest link each reply that is recorded is that of the publisher's side at its exchange, where a side is a later one of those before.
+pub fn plan_records_replies<L: Link>()
+    ensures { PlanRecordsReplies L.seen }
+{}
+
 /// Two plans of the same events over quiet links with one side, in which no exchange failed, come to the same. Nothing but the way of a
 /// journey is left open.
 pub fn one_plan<L: Link, M: Link>()
     ensures { OnePlan L.seen M.seen }
 {
     one_answer();
+}
+
+/// Two plans of the same events over links whose sides grow into one side come to the same, where the time gates named the same versions and no
+/// exchange failed.
+pub fn one_growing_plan<L: Link, M: Link>()
+    ensures { OneGrowingPlan L.seen M.seen }
+{
+    one_answer();
+    versions_stay();
 }
 
 /// Whatever the link is, a client that plans alone asked as the client of an `ask` does. So where the link records replies and hides none,

@@ -5,5 +5,8 @@
 mod laws;
 mod near;
 
-pub use laws::{one_client_asks, one_plan, plan_faults_are_own, plans_are_right};
+pub use laws::{
+    one_client_asks, one_growing_plan, one_plan, plan_faults_are_own, plan_records_replies,
+    plans_are_right,
+};
 pub use near::{near_plans, worked_plans};
