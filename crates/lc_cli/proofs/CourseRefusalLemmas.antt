@@ -253,7 +253,7 @@ module _ (recorded : List File) (replay : Replay) (old new : FolderSeen) (tells 
 module _ (one_outcome : OneOutcome) (one_end : OneEnd) (one_script : OneScript) (one_fault : OneFault) (never_both : NeverBoth) (recorded : List File) (replay : Replay) where
   -- the recorded script is one, and not wrong
   same_script : (a b : HasRecordedScript recorded replay) → a.script ≡ b.script
-  same_script a b = one_recorded_script one_script recorded replay.script a.script b.script a.is_recorded b.is_recorded
+  same_script a b = one_recorded_script one_script recorded replay.script true a.script b.script a.is_recorded b.is_recorded
 
   not_absent : HasRecordedScript recorded replay → bytes_named recorded replay.script ≡ None → ⊥
   not_absent has none = let e = sym none ∙ has.is_recorded.is_recorded in absurd (cc)

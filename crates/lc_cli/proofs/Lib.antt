@@ -7,8 +7,11 @@ pub mod HeadlineOfPlanLemmas
 pub mod HeadlineOfReplayLemmas
 pub mod InputsLemmas
 pub mod NearHeadlineLemmas
+pub mod NearPlanLemmas
+pub mod OnePlanLemmas
 pub mod OneReplayLemmas
 pub mod OneRunLemmas
+pub mod OneServingLemmas
 pub mod OneStatusLemmas
 pub mod PlanLemmas
 pub mod ReplayLemmas

@@ -32,7 +32,7 @@ at_one_version query publishing version answer (made, is_tiny, best) =
     cc
 
 -- an outcome has one answer
-one_answer_of : (journey : Journey) (answer : Answer) → outcomes.Found journey ≡ outcome_of answer → answer ≡ answers.Journey journey
+pub one_answer_of : (journey : Journey) (answer : Answer) → outcomes.Found journey ≡ outcome_of answer → answer ≡ answers.Journey journey
 one_answer_of journey (answers.Journey other) e =
     let same : journey ≡ other = cc in
     ap (λ (j : Journey). answers.Journey j) (sym same)

@@ -1,5 +1,5 @@
 -- Two runs that play one course over the same files print one output.
-use Rattle.std.proofs.Common.{◌≡◌, ◌∙◌, ◌+◌, ◌++◌, ◌∷◌, ℕ, true, List, [], Some, ap, arith, length, refl, subst, sym}
+use Rattle.std.proofs.Common.{◌≡◌, ◌∙◌, ◌+◌, ◌++◌, ◌∷◌, ℕ, Bool, true, List, [], Some, ap, arith, length, refl, subst, sym}
 use Rattle.std.proofs.Props.{props}
 use Rattle.std.proofs.lemmas.List.Elements.{All-cons, All-nil}
 use Rattle.std.specs.List.{All}
@@ -69,7 +69,7 @@ one_event recorded (records.Turn client) (events.Turn k) (events.Ask b) x y = ab
 one_event recorded (records.Turn client) (events.Turn k) (events.Message n) x y = absurd y
 one_event recorded (records.Turn client) (events.Turn k) (events.Turn l) x y = ap (λ (n : ℕ). events.Turn n) (x ∙ sym y)
 
-one_list_of_events : (recorded : List File) (script : List Record) (a b : List Event) → AreRecordedEvents recorded script a → AreRecordedEvents recorded script b → a ≡ b
+pub one_list_of_events : (recorded : List File) (script : List Record) (a b : List Event) → AreRecordedEvents recorded script a → AreRecordedEvents recorded script b → a ≡ b
 one_list_of_events recorded [] [] [] x y = refl
 one_list_of_events recorded [] [] (event ∷ b) x y = absurd y
 one_list_of_events recorded [] (event ∷ a) b x y = absurd x
@@ -80,30 +80,31 @@ one_list_of_events recorded (said ∷ script) (first ∷ a) (second ∷ b) x y =
     ap (λ (e : Event). let l : List Event = e ∷ a in l) (one_event recorded said first second x.0 y.0) ∙ ap (λ (l : List Event). second ∷ l) rest
 
 -- recorded files say one script under a name, and so one course
-pub one_recorded_script : OneScript → (recorded : List File) (name : List ℕ) (a b : List Record) → IsRecordedScript recorded name true a → IsRecordedScript recorded name true b → a ≡ b
-one_recorded_script one_script recorded name a b x y =
+pub one_recorded_script : OneScript → (recorded : List File) (name : List ℕ) (updates : Bool) (a b : List Record) → IsRecordedScript recorded name updates a
+    → IsRecordedScript recorded name updates b → a ≡ b
+one_recorded_script one_script recorded name updates a b x y =
     let same : Some x.bytes ≡ Some y.bytes = sym x.is_recorded ∙ y.is_recorded in
     let bytes : x.bytes ≡ y.bytes = cc in
-    one_script y.bytes true a b (subst (λ (c : List ℕ). SaysScript c true a) bytes x.says) y.says
+    one_script y.bytes updates a b (subst (λ (c : List ℕ). SaysScript c updates a) bytes x.says) y.says
 
 one_recorded_course : OneScript → (recorded : List File) (replay : Replay) (made other : Timetable) (all others : List Event) → IsRecordedCourse recorded replay made all → IsRecordedCourse recorded replay other others → all ≡ others
 one_recorded_course one_script recorded replay made other all others x y =
     one_list_of_events recorded y.script all others
-    (subst (λ (script : List Record). AreRecordedEvents recorded script all) (one_recorded_script one_script recorded replay.script x.script y.script x.is_recorded y.is_recorded) x.are) y.are
+    (subst (λ (script : List Record). AreRecordedEvents recorded script all) (one_recorded_script one_script recorded replay.script true x.script y.script x.is_recorded y.is_recorded) x.are) y.are
 
 -- the turns of a recorded course are of clients, as those of its script are
-turn_at : (recorded : List File) (clients : ℕ) (rows : List (List (List ℕ))) (script : List Record) (before behind : List Event) (client : ℕ) → SayRecords true clients rows script
+pub turn_at : (updates : Bool) (recorded : List File) (clients : ℕ) (rows : List (List (List ℕ))) (script : List Record) (before behind : List Event) (client : ℕ) → SayRecords updates clients rows script
     → AreRecordedEvents recorded script (before ++ events.Turn client ∷ behind) → IsClient (clients + length (questions_in before)) client
-turn_at recorded clients rows [] [] behind client say are = absurd are
-turn_at recorded clients rows [] (event ∷ before) behind client say are = absurd are
-turn_at recorded clients [] (said ∷ script) before behind client say are = absurd say
-turn_at recorded clients (row ∷ rows) (records.Ask query ∷ script) [] behind client say are = absurd are.0
-turn_at recorded clients (row ∷ rows) (records.Update name ∷ script) [] behind client say are = absurd are.0
-turn_at recorded clients (row ∷ rows) (records.Turn own ∷ script) [] behind client say are =
+turn_at updates recorded clients rows [] [] behind client say are = absurd are
+turn_at updates recorded clients rows [] (event ∷ before) behind client say are = absurd are
+turn_at updates recorded clients [] (said ∷ script) before behind client say are = absurd say
+turn_at updates recorded clients (row ∷ rows) (records.Ask query ∷ script) [] behind client say are = absurd are.0
+turn_at updates recorded clients (row ∷ rows) (records.Update name ∷ script) [] behind client say are = absurd are.0
+turn_at updates recorded clients (row ∷ rows) (records.Turn own ∷ script) [] behind client say are =
     let none : clients ≡ clients + 0 = omega arith in
     subst (λ (n : ℕ). IsClient n client) none (subst (λ (k : ℕ). IsClient clients k) (sym are.0) say.0.is_there)
-turn_at recorded clients (row ∷ rows) (said ∷ script) (event ∷ before) behind client say are =
-    subst (λ (n : ℕ). IsClient n client) (counted said event are.0) (turn_at recorded (clients + clients_of said) rows script before behind client say.1 are.1) where
+turn_at updates recorded clients (row ∷ rows) (said ∷ script) (event ∷ before) behind client say are =
+    subst (λ (n : ℕ). IsClient n client) (counted said event are.0) (turn_at updates recorded (clients + clients_of said) rows script before behind client say.1 are.1) where
       counted : (said : Record) (event : Event) → IsRecordedEvent recorded said event → (clients + clients_of said) + length (questions_in before) ≡ clients + length (questions_in (event ∷ before))
       counted (records.Ask query) (events.Ask asked) is = omega arith
       counted (records.Ask query) (events.Message message) is = absurd is
@@ -119,7 +120,7 @@ turns_recorded : (recorded : List File) (replay : Replay) (made : Timetable) (al
 turns_recorded recorded replay made all course before behind client is =
     let none : 0 + length (questions_in before) ≡ length (questions_in before) = omega arith in
     subst (λ (n : ℕ). IsClient n client) none
-    (turn_at recorded 0 course.is_recorded.says.rows course.script before behind client course.is_recorded.says.say (subst (AreRecordedEvents recorded course.script) is course.are))
+    (turn_at true recorded 0 course.is_recorded.says.rows course.script before behind client course.is_recorded.says.say (subst (AreRecordedEvents recorded course.script) is course.are))
 
 -- clients without a fault have none of the link
 no_link_fault : (outcome : Outcome) → IsNoFault outcome → IsNoLinkFault outcome
@@ -129,7 +130,7 @@ no_link_fault (outcomes.Refused fault) fine = tt
 no_link_fault (outcomes.LinkFault before after) fine = fine
 no_link_fault (outcomes.PeerWrong reply fault) fine = tt
 
-no_link_faults : (ends : List ClientEnd) → AreNoFaults ends → All (λ (end : ClientEnd). IsNoLinkFault end.outcome) ends
+pub no_link_faults : (ends : List ClientEnd) → AreNoFaults ends → All (λ (end : ClientEnd). IsNoLinkFault end.outcome) ends
 no_link_faults [] fine = All-nil (λ (end : ClientEnd). IsNoLinkFault end.outcome)
 no_link_faults (end ∷ more) fine =
     All-cons (λ (end : ClientEnd). IsNoLinkFault end.outcome) end more (no_link_fault end.outcome fine.0) (no_link_faults more fine.1)

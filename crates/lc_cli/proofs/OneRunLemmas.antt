@@ -36,7 +36,7 @@ same_counts a b same =
     ++ count_line_of (codes "runs") (runs i) ++ count_line_of (codes "connections") (same.connections i) ++ count_line_of (codes "changes") (changes i) ++ codes "ok\n"
 
 -- the recorded file of a name is one
-one_file : (recorded : List File) (update : Option (List ℕ)) (a b : Option File) → IsRecordedFile recorded update a → IsRecordedFile recorded update b → a ≡ b
+pub one_file : (recorded : List File) (update : Option (List ℕ)) (a b : Option File) → IsRecordedFile recorded update a → IsRecordedFile recorded update b → a ≡ b
 one_file recorded None None None x y = refl
 one_file recorded None None (Some b) x y = absurd y
 one_file recorded None (Some a) b x y = absurd x

@@ -5,6 +5,9 @@ pub mod Command
 pub mod Headline
 pub mod Laws
 pub mod NearHeadline
+pub mod NearPlan
+pub mod OnePlan
+pub mod OneServing
 pub mod Refusal
 pub mod Serving
 pub mod Status

@@ -1,8 +1,12 @@
 ghost use Rattle.lc_cli.specs.Headline.{Headline, HeadlineOfPlan, HeadlineOfReplay};
 ghost use Rattle.lc_cli.specs.Laws.{DoneIsClear, DoneIsPrinted, OneRun, OneStatus};
+ghost use Rattle.lc_cli.specs.OnePlan.{OneNamedPlan, OneQuietPlan};
+ghost use Rattle.lc_cli.specs.OneServing.{BeginsFromIt, NotAnotherBase, NotMadeUp, NotUnasked, OneAskedSide, OneServedSide, OneServing};
 
 use cli_ask::one_output;
+use cli_serve::one_over_bytes;
 use cli_words::one_command;
+use laws_plan::{one_growing_plan, one_plan};
 use laws_replay::one_course;
 use lc_world::Link;
 use script_text::one_script;
@@ -48,4 +52,41 @@ pub fn one_status<L: Link, M: Link>()
     one_script();
     one_course();
     one_output::<L, M>();
+}
+
+/// Runs of `plan` with the same words over the same files print one output, where no exchange failed: over quiet links with one side, and over
+/// links whose sides grow into one side, where the time gates named one version to each client.
+pub fn one_planned<L: Link, M: Link>()
+    ensures quiet { OneQuietPlan L.seen M.seen }
+    ensures named { OneNamedPlan L.seen M.seen }
+{
+    one_command();
+    one_script();
+    one_plan::<L, M>();
+    one_growing_plan::<L, M>();
+}
+
+/// By recorded files a command begins from one side: that to which `ask` puts its question, and that which `serve` publishes first. Other sides are
+/// refused: with a message that no argument names, with messages taken unasked, or with another base version.
+pub fn one_side<L: Link>()
+    ensures asked { OneAskedSide }
+    ensures served { OneServedSide }
+    ensures begins { BeginsFromIt L.seen }
+    ensures made_up { NotMadeUp }
+    ensures unasked { NotUnasked }
+    ensures base { NotAnotherBase }
+{
+    one_timetable();
+    one_outcome();
+}
+
+/// Runs of `serve` with the same words over the same files send the same on each connection and write one text, where the same bytes wait at their
+/// doors and nothing fails.
+pub fn one_served<L: Link, M: Link>()
+    ensures { OneServing L.seen M.seen }
+{
+    one_command();
+    one_timetable();
+    one_outcome();
+    one_over_bytes();
 }

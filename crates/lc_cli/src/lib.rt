@@ -14,8 +14,8 @@ mod top;
 mod work;
 mod worked;
 
-pub use laws::{headline, one_run, one_status};
+pub use laws::{headline, one_planned, one_run, one_served, one_side, one_status};
 pub use refusal::refuse;
 pub use status::{Status, code};
 pub use top::run;
-pub use worked::{worked_answer, worked_end};
+pub use worked::{worked_answer, worked_end, worked_plan};
