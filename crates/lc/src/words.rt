@@ -8,7 +8,8 @@ use lc_model::NoMemory;
 use std::env;
 use std::io::ErrorKind;
 
-/// The words behind the program's name, or why they cannot be read.
+/// The arguments after the program's name, in their order, or why they cannot be read. The kit records nothing of the environment: no contract says
+/// what `env::args` returns, and none can say here that these are its arguments.
 pub(crate) fn words_of(rt: &HostRuntime) -> Result<Vec<String>, Refusal>
     ensures { IfErr result (λ refusal. (refusal ≡ Usage) ⊎ (refusal ≡ Load no_memory)) }
 {

@@ -102,7 +102,7 @@ abbrev pub status_of_bytes : Side → ℕ → Option Update → ℕ
 status_of_bytes side bytes None = 400
 status_of_bytes side bytes (Some update) = status_of_message side bytes update
 
--- what becomes of a body: too long a one is not looked at
+-- What becomes of a body: too long a one is not looked at. Of a whole request none is: its head says the length, and is refused with 413 before.
 abbrev pub status_of_body : Side → List ℕ → Option Update → ℕ
 status_of_body side body update = if nat_lt 16_777_216 (length body) then 413 else status_of_bytes side (length body) update
 

@@ -119,7 +119,7 @@ passed : (test : Bool) (status : ℕ) (rest : Option ℕ) → cond test (Some st
 passed true status rest e = absurd (cc)
 passed false status rest e = (refl, e)
 
-body_fits : (minor : ℕ) (target : List ℕ) (fields : List FieldText) → refusal_of minor target fields ≡ None → said_or (length_of fields) 0 ≤ 16_777_216
+pub body_fits : (minor : ℕ) (target : List ℕ) (fields : List FieldText) → refusal_of minor target fields ≡ None → said_or (length_of fields) 0 ≤ 16_777_216
 body_fits minor target fields e =
     let fields_fit = passed _ 431 _ e in
     let whole = passed _ 411 _ fields_fit.1 in

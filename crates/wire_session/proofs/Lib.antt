@@ -1,6 +1,7 @@
 pub mod EndLemmas
 pub mod GrowLemmas
 pub mod FrontLemmas
+pub mod LongLemmas
 pub mod OneSaidLemmas
 pub mod SessionLemmas
 pub mod StandLemmas

@@ -1,7 +1,9 @@
 -- The laws of what a session says: it is one, more bytes only add to it, and near values are refused.
-use Rattle.std.specs.Prelude.{◌≡◌, ◌≢◌, ℕ, ◌≤◌, true, List, [], ◌∷◌, ◌++◌, length}
+use Rattle.std.specs.Prelude.{◌≡◌, ◌≢◌, ℕ, ◌≤◌, true, List, [], ◌∷◌, ◌++◌, drop, length}
 use Rattle.std.specs.List.{concat}
-use Rattle.http_text.specs.Request.{IsWhole}
+use Rattle.http_text.specs.Request.{IsWhole, IsWholeRequest}
+use Rattle.http_text.specs.declared.request.Request.{Request}
+use Rattle.publisher_spec.specs.Response.{status_of_update}
 use Rattle.publisher_spec.specs.Side.{Side}
 use Rattle.wire_session.specs.SessionOut.{Said, SessionOut}
 use Rattle.wire_session.specs.Stands.{IsCutShort}
@@ -43,3 +45,8 @@ NoneTwice =
 abbrev pub NoneTooEarly : Type 0
 NoneTooEarly =
     (side : Side) (bytes lost : List ℕ) (said : Said) → IsWhole (bytes ++ lost) → lost ≢ [] → SessionOut side bytes said → said.replies ≡ []
+
+-- No whole request is replied to with 413: its head says how long its body is, and is refused where that is too long.
+abbrev pub NoneTooLong : Type 0
+NoneTooLong =
+    (side : Side) (bytes : List ℕ) (request : Request) (update : _) → IsWholeRequest bytes request → status_of_update side request (drop request.body_from bytes) update ≢ 413

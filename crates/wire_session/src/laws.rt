@@ -1,4 +1,4 @@
-ghost use Rattle.wire_session.specs.Laws.{AtMostHundred, CutShortIsFront, EndsStay, NoneTooEarly, NoneTwice, OneOutput, OutputGrows};
+ghost use Rattle.wire_session.specs.Laws.{AtMostHundred, CutShortIsFront, EndsStay, NoneTooEarly, NoneTooLong, NoneTwice, OneOutput, OutputGrows};
 ghost use Rattle.wire_session.specs.Stands.{StandsMeans};
 
 /// What a session says to bytes is one; to more bytes it says that and perhaps more; and once it has ended, that and no more.
@@ -10,11 +10,13 @@ pub fn one_output()
     ensures cut_short { CutShortIsFront }
 {}
 
-/// Near values are refused: a reply once more, a hundred and first one, and a reply to a request of which the last bytes are missing.
+/// Near values are refused: a reply once more, a hundred and first one, a reply to a request of which the last bytes are missing, and a reply to a whole
+/// request that its body is too long (413), since its head is refused before.
 pub fn near_outputs()
     ensures twice { NoneTwice }
     ensures most { AtMostHundred }
     ensures early { NoneTooEarly }
+    ensures long { NoneTooLong }
 {}
 
 /// Whatever a session stands for, what was sent and what is pending are what a session says to all bytes that it was fed.
