@@ -60,7 +60,7 @@ OneOverBytes =
 abbrev pub NotOneMore : Type 0
 NotOneMore = (side : Side) (update : Update) (bytes : ℕ) → ¬ AreOneSide (with_message side update bytes) side
 
--- so is one that takes messages where the other takes none
+-- a side that takes messages, where the other takes none, is another one too
 abbrev pub NotOneTaker : Type 0
 NotOneTaker = (a b : Side) → a.accepts_updates ≡ true → b.accepts_updates ≡ false → ¬ AreOneSide a b
 

@@ -48,7 +48,7 @@ OneQuietPlan {X} {Y} seen saw =
     → HasQuietLink plan side (seen p.link_before) (seen p.link_after) → HasQuietLink plan side (saw q.link_before) (saw q.link_after)
     → (s t : Status) (x : HasPrinted seen p s) (y : HasPrinted saw q t) → PrintOnePlan x.block y.block
 
--- The same of links whose sides grow into one side, where the time gates named one version to each client.
+-- They print one output over links whose sides grow into one side too, where the time gates named one version to each client.
 abbrev pub OneNamedPlan : {X Y : Type 0} → (X → LinkSeen) → (Y → LinkSeen) → Type 0
 OneNamedPlan {X} {Y} seen saw =
     (p : Past X) (q : Past Y) (plan : Plan) (recorded : List File) (last end whole : Side) → PlanTheSame p q plan recorded
