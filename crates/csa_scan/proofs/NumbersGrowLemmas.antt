@@ -13,7 +13,7 @@ use Rattle.csa_scan.specs.Numbers.{AreNumbers, AreNumbersOf, Extends}
 use Rattle.lc_model.proofs.KeyLemmas.{same_keys}
 use Rattle.csa_scan.proofs.ListPlacesLemmas.{slice_get-append, slice_get-last, push_cases}
 
-is_equal : (o : Ordering) → is_eq o ≡ true → o ≡ Equal
+pub is_equal : (o : Ordering) → is_eq o ≡ true → o ≡ Equal
 is_equal Less e = absurd (cc)
 is_equal Equal e = refl
 is_equal Greater e = absurd (cc)

@@ -1,9 +1,10 @@
 -- What a binary search finds in stops and changes that stand in strict order.
-use Rattle.std.proofs.Common.{◌≡◌, ℕ, ◌+◌, ◌<◌, ◌≤◌, ◌⊎◌, suc, zero, List, Some, Result, Ok, Err, false, length, get_or, refl, sym, ◌∙◌, ap, subst, inl, inr, arith}
+use Rattle.std.proofs.Common.{◌≡◌, ℕ, ◌+◌, ◌<◌, ◌≤◌, ◌⊎◌, suc, zero, Bor, List, Option, Some, Result, Ok, Err, false, length, get_or, refl, sym, ◌∙◌, ap, subst, inl, inr, arith}
 use Rattle.std.specs.List.{slice_get, HoldsAt}
 use Rattle.std.specs.List.Sorted.{IsBinarySearchResult, IsSearchInRange, IsPartitionPoint, IsNonDecreasingBy}
 use Rattle.std.specs.Option.{MatchOption}
 use Rattle.std.specs.Result.{result_ok}
+use Rattle.std.specs.Slice.{IsItemAt}
 use Rattle.std.specs.Ordering.{is_lt, is_le, ordering_index, ordering_then}
 use Rattle.std.specs.declared.cmp.Ordering.TheVariants.{Less, Equal, Greater}
 use Rattle.std.proofs.lemmas.Cmp.{tied_itself, nat_list_cmp_total}
@@ -54,6 +55,16 @@ ids_rise stops h i j l m e =
 -- an id stands at one place
 pub one_place : (stops : List Stop) → InStopOrder stops → (i j : ℕ) → i < length stops → j < length stops → id_at stops i ≡ id_at stops j → i ≡ j
 one_place stops h i j l m e = elim (three i j) [ inl less ↦ absurd (ids_rise stops h i j less m e) | inr more ↦ elim more [ inl same ↦ same | inr greater ↦ absurd (ids_rise stops h j i greater l (sym e)) ] ]
+
+-- the item that a list gave stands at the place
+pub item_found : {X : Type 0} (xs : List X) (i : ℕ) (r : Option (Bor X)) (x : Bor X) → IsItemAt xs i r → r ≡ Some x → (i < length xs) × (x.now ≡ get_or xs i x.now)
+item_found xs i r x item is = let at : IsItemAt xs i (Some x) = subst (IsItemAt xs i) is item in (at.3.0, at.1)
+
+-- a stop stands at the place of its id
+pub place_there : (stops : List Stop) → InStopOrder stops → (id : List ℕ) (place : ℕ) (s : Stop) → place < length stops → s ≡ get_or stops place s → s.id ≡ id → IsPlaceOf stops id place
+place_there stops h id place s l at same =
+    let is = id_at-get_or stops place s l ∙ ap (λ (t : Stop). t.id) (sym at) ∙ same in
+    record { within = l; is = is; only = λ other m f. one_place stops h other place m l (f ∙ sym is) }
 
 -- the place of a stop that was found
 found_place : (stops : List Stop) → InStopOrder stops → (id : List ℕ) (place : ℕ) → place < length stops → HoldsAt (λ (s : Stop). id_cmp s.id id ≡ Equal) stops place → IsPlaceOf stops id place

@@ -8,7 +8,8 @@ ghost use Rattle.csa_scan.specs.Takes.{IsArrivalOf, IsGoal, IsNoGoal, IsReachedA
 ghost use Rattle.csa_scan.specs.declared.trace.Near.{Near};
 ghost use Rattle.csa_scan.specs.declared.trace.Ready.{Ready};
 
-use crate::places::place_of;
+use crate::guesses::Guesses;
+use crate::places::guessed_place;
 use crate::trace::{Arrival, Boarding, Goal, Near, Ready};
 use lc_model::{Connection, Moment, Query, StopsDoc};
 
@@ -64,6 +65,7 @@ fn way_to(
 fn first_boarding(
     query: &Query,
     doc: &StopsDoc,
+    guesses: &mut Guesses,
     starts: &[Option<Near>],
     ready: &[Option<Ready>],
     connection: &Connection,
@@ -73,7 +75,7 @@ fn first_boarding(
     ensures { MatchOption result (CannotBoard query.now doc.now starts.now ready.now connection.now)
         (IsFirstBoarding query.now doc.now starts.now ready.now connection.now) }
 {
-    let stop = place_of(doc.stops.as_slice(), &connection.dep_stop)?;
+    let stop = guessed_place(guesses, doc.stops.as_slice(), &connection.dep_stop)?;
     let after = way_to(query, starts, ready, stop, connection.dep)?;
     Some(Boarding {
         seq: connection.seq,
@@ -87,6 +89,7 @@ fn first_boarding(
 pub fn boarding(
     query: &Query,
     doc: &StopsDoc,
+    guesses: &mut Guesses,
     starts: &[Option<Near>],
     ready: &[Option<Ready>],
     before: Option<Boarding>,
@@ -100,7 +103,9 @@ pub fn boarding(
 {
     match before {
         Some(boarding) => Some(boarding),
-        None if connection.board => first_boarding(query, doc, starts, ready, connection),
+        None if connection.board => {
+            first_boarding(query, doc, guesses, starts, ready, connection)
+        }
         None => None,
     }
 }
@@ -118,6 +123,7 @@ fn is_reached(reached: Option<Moment>, arr: Moment) -> bool
 /// The arrival of the connection, of a run that is boarded so, if one may alight there and was not there by then.
 pub fn new_arrival(
     doc: &StopsDoc,
+    guesses: &mut Guesses,
     reached: &[Option<Moment>],
     connection: &Connection,
     run: usize,
@@ -130,7 +136,7 @@ pub fn new_arrival(
     if !connection.alight {
         return None;
     }
-    let stop = place_of(doc.stops.as_slice(), &connection.arr_stop)?;
+    let stop = guessed_place(guesses, doc.stops.as_slice(), &connection.arr_stop)?;
     if is_reached(reached[stop], connection.arr) {
         return None;
     }

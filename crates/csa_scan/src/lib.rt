@@ -5,6 +5,7 @@
 
 mod board;
 mod fault;
+mod guesses;
 mod journey;
 mod near;
 mod places;

@@ -1,6 +1,7 @@
 ghost use Rattle.csa_scan.specs.Linked.{IsLinked};
 
 use crate::board::{better, boarding, goal_of, is_late, new_arrival};
+use crate::guesses::Guesses;
 use crate::ready::relax;
 use crate::trace::{Arrival, Boarding, Goal, Near, Ready};
 use crate::walks::Walks;
@@ -78,6 +79,7 @@ impl Progress {
         query: &Query,
         doc: &StopsDoc,
         walks: &Walks,
+        guesses: &mut Guesses,
         connection: &Connection,
         run: usize,
     )
@@ -100,10 +102,17 @@ impl Progress {
         let before = self.boardings[run];
         let starts = walks.starts.as_slice();
         let ready = self.ready.as_slice();
-        let Some(boarding) = boarding(query, doc, starts, ready, before, connection) else {
+        let Some(boarding) = boarding(query, doc, guesses, starts, ready, before, connection) else {
             return;
         };
-        let arrival = new_arrival(doc, self.reached.as_slice(), connection, run, &boarding);
+        let arrival = new_arrival(
+            doc,
+            guesses,
+            self.reached.as_slice(),
+            connection,
+            run,
+            &boarding,
+        );
         self.boardings[run] = Some(boarding);
         let Some(arrival) = arrival else {
             return;
@@ -129,6 +138,7 @@ impl Progress {
         query: &Query,
         doc: &StopsDoc,
         walks: &Walks,
+        guesses: &mut Guesses,
         list: &[Connection],
         numbers: &[usize],
     )
@@ -146,7 +156,7 @@ impl Progress {
         ensures same_runs { length self.new.boardings.items ≡ length self.old.boardings.items }
     {
         for (i, connection) in list.iter().enumerate() {
-            self.take_one(query, doc, walks, connection, numbers[i]);
+            self.take_one(query, doc, walks, guesses, connection, numbers[i]);
         }
     }
 }

@@ -2,6 +2,7 @@ ghost use Rattle.std.specs.Prelude.{◌≡◌, ◌≤◌, length};
 
 use crate::BeginFault;
 use crate::board::is_over;
+use crate::guesses::Guesses;
 use crate::journey::rides_to;
 use crate::places::place_of;
 use crate::progress::Progress;
@@ -19,6 +20,7 @@ pub struct Scan {
     walks: Walks,
     runs: RunNumbers,
     progress: Progress,
+    guesses: Guesses,
     ghost up_to_a_week: { query.horizon ≤ 604800 },
     ghost one_each: { length progress.ready.items ≡ length doc.stops },
     ghost each_walk: { length walks.starts.items ≡ length doc.stops },
@@ -66,7 +68,8 @@ impl Scan {
     {
         let progress = Progress::new(alloc, doc.stops.as_slice().len())?;
         let walks = Walks::new(alloc, query, doc)?;
-        Scan::before_any(alloc, query, doc, walks, progress)
+        let guesses = Guesses::new(alloc)?;
+        Scan::before_any(alloc, query, doc, walks, progress, guesses)
     }
 
     /// A scan of the question with these walks, before it takes anything.
@@ -76,6 +79,7 @@ impl Scan {
         doc: &StopsDoc,
         walks: Walks,
         progress: Progress,
+        guesses: Guesses,
     ) -> Result<Scan, NoMemory>
         requires up_to_a_week { query.now.horizon ≤ 604_800 }
         requires near { AreWalks query.now doc.now walks }
@@ -91,11 +95,13 @@ impl Scan {
             walks,
             runs,
             progress,
+            guesses,
         })
     }
 
-    /// Takes the connections behind those taken before. Departures before the question leaves are not boarded, and
-    /// what arrives after its horizon is left out. Takes the logarithm of all that was taken for each connection.
+    /// Takes the connections that come after those taken before. Departures before the question leaves are not boarded, and
+    /// what arrives after its horizon is left out. Each connection takes a constant time where its run and its stops were found by
+    /// a guess, and else the logarithm of the runs and of the stops.
     pub fn take_all(&mut self, alloc: Global, list: &Connections) -> Result<(), NoMemory>
         ensures ok { OnOk result (GoesOnBy self.old self.new list.now) }
         ensures err { OnErr result (StaysAsItWas self.old self.new) }
@@ -106,6 +112,7 @@ impl Scan {
             &self.query,
             &self.doc,
             &self.walks,
+            &mut self.guesses,
             list,
             numbers.as_slice(),
         );
@@ -120,7 +127,7 @@ impl Scan {
         ensures distinct { OnOk result (AreDistinct self.new.runs) }
         ensures same { StaysAsItWas self.old self.new }
     {
-        let numbers = number_each(alloc, &mut self.runs, list)?;
+        let numbers = number_each(alloc, &mut self.runs, &mut self.guesses, list)?;
         self.progress.make_room(self.runs.len(), list.len())?;
         Ok(numbers)
     }

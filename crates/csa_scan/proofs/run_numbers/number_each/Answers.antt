@@ -9,8 +9,8 @@ loop-connection-preserved c =
     let connection = c.connection-item.result in
     let pushed : c.push.new.self.items ≡ c.loop-connection.numbers.items ++ number ∷ [] = c.in_ok-push.ensures.items in
     record {
-      each = numbers_of-more c.loop-connection.runs c.number.new.self c.args.list.now c.loop-connection.connection-index c.loop-connection.numbers.items c.push.new.self.items connection number
-          (omega arith) c.connection-item.is old.each c.number.ensures.grows c.in_ok-number.ensures.ok pushed;
-      grows = λ i key e. c.number.ensures.grows i key (old.grows i key e);
-      no_shorter = omega (arith, c.number.ensures.no_shorter);
+      each = numbers_of-more c.loop-connection.runs c.guessed_number.new.runs c.args.list.now c.loop-connection.connection-index c.loop-connection.numbers.items c.push.new.self.items connection number
+          (omega arith) c.connection-item.is old.each c.guessed_number.ensures.grows c.in_ok-number.ensures.ok pushed;
+      grows = λ i key e. c.guessed_number.ensures.grows i key (old.grows i key e);
+      no_shorter = omega (arith, c.guessed_number.ensures.no_shorter);
     }
