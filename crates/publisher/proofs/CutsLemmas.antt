@@ -1,13 +1,12 @@
--- The cuts that are kept for versions: where a moment lies among them, and that they stay behind a message.
-use Rattle.std.proofs.Common.{Vec, Global, Result, Ok, Err, ◌≡◌, ◌∙◌, ℕ, List, [], ◌∷◌, length, Bool, true, false, Some, None, refl, sym, ap, subst}
-use Rattle.std.specs.Prelude.{IfOk, OnErr, if◌then◌else◌}
-use Rattle.std.specs.BTreeMap.{BTreeMap, get}
-use Rattle.std.specs.Cmp.{unsigned_ties}
-use Rattle.std.specs.List.{Contains}
+-- The cuts that are cached for versions: where a moment lies among them, and that they stay after a message.
+use Rattle.std.proofs.Common.{Vec, Global, Result, Ok, Err, ◌≡◌, ◌∙◌, ◌⊎◌, inl, inr, ℕ, List, [], ◌∷◌, length, true, Option, Some, None, Contains, refl, sym, ap, subst}
+use Rattle.std.specs.Prelude.{IfOk, IfSome, OnErr, nat_eq, option_map}
 use Rattle.std.specs.Map.{lookup}
-use Rattle.std.specs.Ordering.{is_eq, nat_cmp}
 use Rattle.std.proofs.lemmas.Bool.{eqb-true}
 use Rattle.std.proofs.lemmas.List.{append-nil}
+use Rattle.lru.specs.LruCache.{LruCache, promoted, put_entries}
+use Rattle.lru.proofs.CallerLemmas.{Contains-lookup, Contains-promoted, Contains-put_entries}
+use Rattle.lc_model.proofs.ListLemmas.{Contains-nil}
 use Rattle.lc_versions.specs.Cuts.{AreCuts, NeverFalls}
 use Rattle.lc_versions.specs.History.{Entry, IsRising, moments_of}
 use Rattle.lc_versions.specs.Pages.{departures_of}
@@ -21,8 +20,8 @@ use Rattle.publisher_spec.specs.Side as sides
 use Rattle.publisher_spec.proofs.LaterLemmas.{timetable_stays}
 use Rattle.publisher_spec.proofs.VersionLemmas.{still_found}
 use Rattle.publisher.specs.Held.{Held, side_of}
-use Rattle.publisher.specs.Inside.{HasCuts, KeepsCuts}
-use Rattle.publisher.specs.Place.{place_of}
+use Rattle.publisher.specs.Cuts.{AllRise, HasCuts, KeepsCuts}
+use Rattle.publisher.specs.Place.{AreRising, place_of}
 use Rattle.publisher.specs.PlaceOf.{IsPlaceOf}
 use Rattle.publisher.specs.declared.place.Place.{Place}
 use Rattle.publisher.proofs.PageLemmas.{timetable_of}
@@ -49,30 +48,53 @@ has_cuts cuts_of held same_stops version departures cuts there are are_cuts = re
   is = are_cuts ∙ ap (cuts_of held.cutting) are.one_each;
 }
 
-by_test : (P : Type 0) (b : Bool) → (b ≡ true → P) → (b ≡ false → P) → P
-by_test P true f g = f refl
-by_test P false f g = g refl
+-- they rise strictly
+pub rising_cuts : (side : Side) → ((departures : List ℕ) → NeverFalls departures → AreCuts departures (side.cuts_of departures))
+    → (version : ℕ) (cuts : List ℕ) → HasCuts side version cuts → AreRising cuts
+rising_cuts side lawful version cuts has =
+    subst AreRising (sym has.is) (lawful (departures_of has.list) (never_falls has.list has.timetable.are_connections.in_order)).rising
 
--- at first nothing is kept
-pub keeps_none : (side : Side) (kept : BTreeMap ℕ (Vec ℕ Global)) → kept.entries ≡ [] → KeepsCuts side kept
-keeps_none side kept empty version cuts e = absurd (let f : None ≡ Some cuts = sym (ap (lookup (λ (v : ℕ). is_eq (nat_cmp version v))) empty) ∙ e in cc)
+-- and so do those of each version that is cached
+pub all_rise : (side : Side) → ((departures : List ℕ) → NeverFalls departures → AreCuts departures (side.cuts_of departures))
+    → (cached : List (ℕ × Vec ℕ Global)) → KeepsCuts side cached → AllRise cached
+all_rise side lawful cached keeps = λ version cuts within. rising_cuts side lawful version cuts.items (keeps version cuts within)
 
--- a map that is unchanged keeps the same
-pub keeps_same : (side : Side) (old new : BTreeMap ℕ (Vec ℕ Global)) → new.entries ≡ old.entries → KeepsCuts side old → KeepsCuts side new
-keeps_same side old new same kept version cuts e = kept version cuts (sym (ap (lookup (λ (v : ℕ). is_eq (nat_cmp version v))) same) ∙ e)
+-- where a moment lies among the cuts that are cached for a version
+module _ (side : Side) (lawful : (departures : List ℕ) → NeverFalls departures → AreCuts departures (side.cuts_of departures))
+    (version departs : ℕ) (cached : List (ℕ × Vec ℕ Global)) (keeps : KeepsCuts side cached) where
+  abbrev place_in : Option (Vec ℕ Global) → Option Place
+  place_in found = option_map (λ (cuts : Vec ℕ Global). place_of cuts.items departs) found
+
+  place_if : (found : Option (Vec ℕ Global)) → lookup (nat_eq version) cached ≡ found → IfSome (place_in found) (IsPlaceOf side version departs)
+  place_if None is = tt
+  place_if (Some cuts) is =
+      let (other, within, equal) = Contains-lookup (nat_eq version) cached cuts is in
+      let same : version ≡ other = eqb-true version other equal in
+      let has : HasCuts side version cuts.items = subst (λ (v : ℕ). HasCuts side v cuts.items) (sym same) (keeps other cuts within) in
+      place_among side lawful version departs cuts.items (place_of cuts.items departs) has refl
+
+  pub cached_place : IfSome (place_in (lookup (nat_eq version) cached)) (IsPlaceOf side version departs)
+  cached_place = place_if (lookup (nat_eq version) cached) refl
+
+-- at first nothing is cached
+pub keeps_none : (side : Side) (cached : List (ℕ × Vec ℕ Global)) → cached ≡ [] → KeepsCuts side cached
+keeps_none side cached empty version cuts within = absurd (Contains-nil (version, cuts) (subst (λ (es : List (ℕ × Vec ℕ Global)). Contains es (version, cuts)) empty within))
+
+-- a use changes the order alone
+pub keeps_used : (side : Side) (old : List (ℕ × Vec ℕ Global)) (used : ℕ) → KeepsCuts side old → KeepsCuts side (promoted (nat_eq used) old)
+keeps_used side old used keeps version cuts within = keeps version cuts (Contains-promoted (nat_eq used) old (version, cuts) within)
 
 -- the cuts of a version more
-pub keeps_more : (side : Side) (old new : BTreeMap ℕ (Vec ℕ Global)) (version : ℕ) (cuts : Vec ℕ Global)
-    → ((other : ℕ) → get nat_cmp new other ≡ (if is_eq (nat_cmp version other) then Some cuts else get nat_cmp old other))
-    → KeepsCuts side old → HasCuts side version cuts.items → KeepsCuts side new
-keeps_more side old new version cuts at kept has other found e =
-    by_test (HasCuts side other found.items) (is_eq (nat_cmp version other))
-    (λ tie.
-    let one : Some cuts ≡ Some found = sym (at other ∙ ap (λ b. if b then Some cuts else get nat_cmp old other) tie) ∙ e in
-    let same : cuts ≡ found = cc in
-    let version_is : version ≡ other = eqb-true version other (unsigned_ties version other ∙ tie) in
-    subst (λ (v : ℕ). HasCuts side v found.items) version_is (subst (λ (c : Vec ℕ Global). HasCuts side version c.items) same has))
-    (λ apart. kept other found (sym (at other ∙ ap (λ b. if b then Some cuts else get nat_cmp old other) apart) ∙ e))
+pub keeps_more : (side : Side) (old : LruCache ℕ (Vec ℕ Global)) (version : ℕ) (cuts : Vec ℕ Global) → KeepsCuts side old.entries → HasCuts side version cuts.items
+    → KeepsCuts side (put_entries nat_eq old version cuts)
+keeps_more side old version cuts keeps has other found within = elim (Contains-put_entries nat_eq old version cuts (other, found) within) [
+  | inl was ↦ keeps other found was
+  | inr put ↦ subst (λ (v : ℕ). HasCuts side v found.items) (key put.1) (subst (λ (c : Vec ℕ Global). HasCuts side version c.items) (sym put.0) has)
+]
+  where
+    key : (other ≡ version) ⊎ ((was : Vec ℕ Global) × Contains old.entries (other, was) × (nat_eq version other ≡ true)) → version ≡ other
+    key (inl same) = sym same
+    key (inr (was, there, equal)) = eqb-true version other equal
 
 -- the cuts of a version stay at a later side
 cuts_stay : (before after : Side) (version : ℕ) (cuts : List ℕ) → IsLater before after → IsRising after.base_moment (moments_of after.history) → HasCuts before version cuts → HasCuts after version cuts
@@ -93,10 +115,10 @@ module _ {G : Type 0} (cuts_of : G → List ℕ → List ℕ) (held : Held G) (s
   later_after (Err fault) is same = record { more = []; is = ap (λ (s : Stored). side_of cuts_of (record held { store = s })) same ∙ ap (λ (history : List Entry). record (side_of cuts_of held) { history = history }) (sym (append-nil held.store.history)) }
 
   -- so the cuts stay
-  pub keeps_after : (outcome : Result Admitted AdmitFault) (kept : BTreeMap ℕ (Vec ℕ Global)) → IfOk outcome (Admits held.store store bytes) → OnErr outcome (store ≡ held.store)
-      → IsRising store.base (moments_of store.history) → KeepsCuts (side_of cuts_of held) kept → KeepsCuts (side_of cuts_of (record held { store = store })) kept
-  keeps_after outcome kept is same rising keeps version cuts e =
-      cuts_stay (side_of cuts_of held) (side_of cuts_of (record held { store = store })) version cuts.items (later_after outcome is same) rising (keeps version cuts e)
+  pub keeps_after : (outcome : Result Admitted AdmitFault) (cached : List (ℕ × Vec ℕ Global)) → IfOk outcome (Admits held.store store bytes) → OnErr outcome (store ≡ held.store)
+      → IsRising store.base (moments_of store.history) → KeepsCuts (side_of cuts_of held) cached → KeepsCuts (side_of cuts_of (record held { store = store })) cached
+  keeps_after outcome cached is same rising keeps version cuts within =
+      cuts_stay (side_of cuts_of held) (side_of cuts_of (record held { store = store })) version cuts.items (later_after outcome is same) rising (keeps version cuts within)
 
   -- and so do the stops and the runs
   pub same_stops : (outcome : Result Admitted AdmitFault) → IfOk outcome (Admits held.store store bytes) → OnErr outcome (store ≡ held.store) → store.stops ≡ held.store.stops

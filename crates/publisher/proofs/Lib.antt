@@ -3,6 +3,7 @@ pub mod AskingLemmas
 pub mod CutsLemmas
 pub mod PageLemmas
 pub mod PlaceLemmas
+pub mod PointLemmas
 pub mod SomeReplyLemmas
 pub mod TimetableLemmas
 pub mod UpdateLemmas

@@ -1,3 +1,4 @@
+pub mod Cuts
 pub mod Held
 pub mod Inside
 pub mod Laws

@@ -1,7 +1,8 @@
 //! A publisher of a timetable with its versions as pages over HTTP: it stands for a side, and answers each request as that side
-//! replies. It stands on `version_store`, on `fragmenter`, and on the definitions of `publisher_spec`.
+//! replies. It stands on `version_store`, on `fragmenter`, on the definitions of `publisher_spec`, and on `lru` of the kit.
 #![tactic(auto)]
 
+mod cut_cache;
 mod kept;
 mod laws;
 mod options;

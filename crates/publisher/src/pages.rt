@@ -3,6 +3,7 @@ ghost use Rattle.publisher_spec.specs.PageAt.{named as named_there};
 ghost use Rattle.std.specs.List.{Contains};
 ghost use Rattle.page_json.specs.Sound.{IsSoundPage};
 ghost use Rattle.page_json.specs.Valid.{IsValidPage};
+ghost use Rattle.publisher.specs.Cuts.{HasCuts};
 ghost use Rattle.publisher.specs.Held.{side_of};
 ghost use Rattle.publisher.specs.PlaceOf.{IsPlaceOf};
 ghost use Rattle.publisher_spec.specs.Response.{IsPageOf};
@@ -26,21 +27,19 @@ fn named(version: Moment, departs: Option<Moment>) -> Option<PageName>
 }
 
 impl<G: Fragmenter + Drop> Publisher<G> {
-    ghost use Rattle.publisher.specs.Inside.{HasCuts};
-
-    /// Where the page for a moment of departure lies among the cuts that are kept for a version, if some are.
-    fn kept_place(&self, version: Moment, departs: Moment) -> Option<Place>
-        ensures { IfSome result (IsPlaceOf (side_of G.cuts_of self.now) version departs) }
+    /// Where the page for a moment of departure lies among the cuts of a version, if these are cached. Takes their logarithm.
+    fn cached_place(&mut self, version: Moment, departs: Moment) -> Option<Place>
+        ensures place { IfSome result (IsPlaceOf (side_of G.cuts_of self.old) version departs) }
+        ensures same { self.new ≡ self.old }
     {
         self.cutting.cuts_lawfully();
-        match self.cuts.get(&version) {
-            Some(cuts) => Some(place_of(cuts.as_slice(), departs)),
-            None => None,
-        }
+        let place = self.cuts.place(version, departs);
+        let _few = self.cuts.len();
+        place
     }
 
-    /// Where the page for a moment of departure lies at a version. The first time it takes the time of the store's departures,
-    /// and from then on that of a walk over the cuts, which are kept.
+    /// Where the page for a moment of departure lies at a version. It takes the time of the store's departures where the cuts of the
+    /// version are not cached, and else the logarithm of the cuts.
     pub(crate) fn place(
         &mut self,
         alloc: Global,
@@ -51,13 +50,28 @@ impl<G: Fragmenter + Drop> Publisher<G> {
         ensures place { IfOk result (IsPlaceOf (side_of G.cuts_of self.old) version departs) }
         ensures same { self.new ≡ self.old }
     {
-        if let Some(place) = self.kept_place(version, departs) {
-            return Ok(place);
+        match self.cached_place(version, departs) {
+            Some(place) => Ok(place),
+            None => self.new_place(alloc, version, departs),
         }
+    }
+
+    /// Where the page for a moment of departure lies among the cuts of a version, which are made and cached.
+    fn new_place(
+        &mut self,
+        alloc: Global,
+        version: Moment,
+        departs: Moment,
+    ) -> Result<Place, NoMemory>
+        requires { Contains (versions_of self.old.store) version }
+        ensures place { IfOk result (IsPlaceOf (side_of G.cuts_of self.old) version departs) }
+        ensures same { self.new ≡ self.old }
+    {
         let cuts = self.made_cuts(alloc, version)?;
         self.cutting.cuts_lawfully();
         let place = place_of(cuts.as_slice(), departs);
-        self.cuts.insert(version, cuts)?;
+        self.cuts.put(version, cuts)?;
+        let _few = self.cuts.len();
         Ok(place)
     }
 

@@ -1,27 +1,30 @@
 ghost use Rattle.std.specs.Prelude.{◌≡◌, [], IfOk};
+ghost use Rattle.page_json.specs.Tree.{stops_text_of};
 ghost use Rattle.publisher.specs.Held.{side_of};
 ghost use Rattle.publisher_spec.specs.Side.{IsValidSide, newest_of};
 
 use crate::Options;
-use crate::kept::{doc_is_valid, runs_are_in_order};
+use crate::cut_cache::CutCache;
+use crate::kept::{doc_is_sound, doc_is_valid, runs_are_in_order};
 use connection_uri::Base;
 use fragmenter::Fragmenter;
 use lc_model::{Moment, NoMemory, PlainData, Runs, StopsDoc};
 use lc_time::Zone;
+use page_json::stops_text;
 use std::alloc::Global;
-use std::collections::BTreeMap;
 use std::marker::Model;
 use version_store::Store;
 
 /// A publisher of a timetable with its versions as pages. A contract sees the way in which it cuts, its store, its stops
-/// document, its base, and whether it takes messages. Beside these it keeps the cuts of the versions that were asked for.
+/// document, its base, and whether it takes messages. Beside these it keeps the text of the document, and caches the cuts of versions.
 #[derive(Drop)]
 pub struct Publisher<G: Fragmenter + Drop> {
     pub(crate) cutting: G,
     pub(crate) store: Store,
     pub(crate) doc: StopsDoc,
     pub(crate) options: Options,
-    pub(crate) cuts: BTreeMap<Moment, Vec<Moment>>,
+    pub(crate) cuts: CutCache,
+    pub(crate) stops_text: Vec<u8>,
 }
 
 impl<G: Fragmenter + Drop> Model for Publisher<G> {
@@ -51,6 +54,23 @@ fn store_of(
     Ok(store)
 }
 
+/// What a publisher has beside its store: no cuts yet, and the text of its stops document.
+#[derive(Drop)]
+struct Made {
+    cuts: CutCache,
+    stops_text: Vec<u8>,
+}
+
+/// Linear in the document.
+fn made_of(alloc: Global, base: &Base, doc: &StopsDoc) -> Result<Made, NoMemory>
+    ensures cuts { IfOk result (λ made. made.cuts ≡ []) }
+    ensures text { IfOk result (λ made. made.stops_text.items ≡ stops_text_of base.now doc.now) }
+{
+    let stops_text = stops_text(alloc, base, doc)?;
+    let cuts = CutCache::new(alloc)?;
+    Ok(Made { cuts, stops_text })
+}
+
 impl<G: Fragmenter + Drop> Publisher<G> {
     /// The publisher of a timetable to which no message was admitted. Linear in the runs and their calls, and in the stops.
     pub fn new(
@@ -70,14 +90,42 @@ impl<G: Fragmenter + Drop> Publisher<G> {
           accepts_updates = options.accept_updates;
         }) }
     {
+        let made = made_of(alloc, &options.base, &doc)?;
+        Publisher::with_store(alloc, runs, doc, zone, base_moment, cutting, options, made)
+    }
+
+    /// The publisher with what was made of its document, and with the store of its runs.
+    fn with_store(
+        alloc: Global,
+        runs: Runs,
+        doc: StopsDoc,
+        zone: Zone,
+        base_moment: Moment,
+        cutting: G,
+        options: Options,
+        made: Made,
+    ) -> Result<Publisher<G>, NoMemory>
+        requires cuts { made.cuts ≡ [] }
+        requires text { made.stops_text.items ≡ stops_text_of options.base doc }
+        ensures { IfOk result (λ publisher. publisher ≡ record {
+          cutting = cutting;
+          store = record { runs = runs; stops = doc.stops; zone = zone; base = base_moment; history = [] };
+          doc = doc;
+          base = options.base;
+          accepts_updates = options.accept_updates;
+        }) }
+    {
         runs_are_in_order(&runs);
+        doc_is_sound(&doc);
         let store = store_of(alloc, runs, &doc, zone, base_moment)?;
+        let Made { cuts, stops_text } = made;
         Ok(Publisher {
             cutting,
             store,
             doc,
             options,
-            cuts: BTreeMap::new(alloc),
+            cuts,
+            stops_text,
         })
     }
 

@@ -1,5 +1,8 @@
 ghost use Rattle.std.specs.Prelude.{◌≡◌, IfOk};
+ghost use Rattle.connection_uri.specs.Base.{BaseParts};
 ghost use Rattle.http_text.specs.ReplyText.{reply_text_of};
+ghost use Rattle.lc_model.specs.declared.doc.StopsDoc.{StopsDoc as Doc};
+ghost use Rattle.page_json.specs.Tree.{stops_text_of};
 ghost use Rattle.publisher.specs.Held.{side_of};
 ghost use Rattle.page_json.specs.Valid.{IsValidPage};
 ghost use Rattle.publisher.specs.Writable.{IsWritable};
@@ -10,9 +13,9 @@ use crate::router::is_head;
 use connection_uri::{Base, page_url};
 use fragmenter::Fragmenter;
 use http_text::{Allow, BodyKind, ReplyParts, Request, reply_text};
-use lc_model::{Bytes, Moment, NoMemory, PageName, StopsDoc};
+use lc_model::{Bytes, Moment, NoMemory, PageName};
 use memento::gate_url;
-use page_json::{Page, page_text, stops_text};
+use page_json::{Page, page_text};
 use publisher_spec::Response;
 use std::alloc::Global;
 
@@ -74,16 +77,11 @@ fn page_parts(alloc: Global, base: &Base, close: bool, page: &Page) -> Result<Re
     Ok(parts)
 }
 
-/// Linear in the document.
-fn stops_parts(
-    alloc: Global,
-    base: &Base,
-    close: bool,
-    doc: &StopsDoc,
-) -> Result<ReplyParts, NoMemory>
-    ensures { IfOk result (λ parts. parts ≡ stops_parts base.now close doc.now) }
+/// The text is that of a document. Linear in the text.
+fn stops_parts(alloc: Global, close: bool, text: &[u8]) -> Result<ReplyParts, NoMemory>
+    ensures { (base : BaseParts) (doc : Doc) → text.now ≡ stops_text_of base doc → IfOk result (λ parts. parts ≡ stops_parts base close doc) }
 {
-    let body = stops_text(alloc, base, doc)?;
+    let body = Vec::from_slice(alloc, text)?;
     let mut parts = bare_parts(alloc, close, 200);
     parts.kind = Some(BodyKind::Stops);
     parts.length = Some(body.len() as u64);
@@ -112,7 +110,7 @@ impl<G: Fragmenter + Drop> Publisher<G> {
             Response::OtherMethod(allow) => Ok(method_parts(alloc, close, *allow)),
             Response::Found { page, departs } => found_parts(alloc, base, close, *page, *departs),
             Response::Page(page) => page_parts(alloc, base, close, page),
-            Response::Stops => stops_parts(alloc, base, close, &self.doc),
+            Response::Stops => stops_parts(alloc, close, self.stops_text.as_slice()),
         }
     }
 

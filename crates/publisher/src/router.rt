@@ -10,7 +10,7 @@ ghost use Rattle.publisher_spec.specs.declared.asked.Asked.{Asked as AskedFor};
 ghost use Rattle.publisher_spec.specs.declared.asked.Asked.TheVariants.{Gate as TheGate, Page as ThePage, Update as AnUpdate};
 
 use crate::Publisher;
-use crate::kept::{doc_is_sound, page_is_sound};
+use crate::kept::page_is_sound;
 use crate::parameters::{departure, field_value, is_same, version_said};
 use connection_uri::Base;
 use fragmenter::Fragmenter;
@@ -98,8 +98,8 @@ fn body_of<'a>(bytes: &'a [u8], request: &Request) -> &'a [u8]
 
 impl<G: Fragmenter + Drop> Publisher<G> {
     /// The reply to the bytes of one whole request. Where these bring a message that is taken, it is admitted. For a page it
-    /// takes the time of the store's rows, the first time that a version is asked for that of its departures too, and else that of
-    /// the reply and of the request.
+    /// takes the time of the store's rows, that of the version's departures too where its cuts are not cached, and else that of the
+    /// reply and of the request.
     pub fn answer(&mut self, alloc: Global, bytes: &[u8]) -> Result<Vec<u8>, NoMemory>
         requires { IsWhole bytes.now }
         ensures reply { IfOk result (λ reply. IsReply (side_of G.cuts_of self.old) bytes.now reply.items) }
@@ -170,7 +170,8 @@ impl<G: Fragmenter + Drop> Publisher<G> {
         ensures said { IsStopsSent (side_of G.cuts_of self.now) result }
         ensures writable { IsWritable result }
     {
-        doc_is_sound(&self.doc);
+        // The document is as its type has it.
+        let _doc = &self.doc;
         Response::Stops
     }
 

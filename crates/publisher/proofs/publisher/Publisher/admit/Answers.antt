@@ -24,6 +24,9 @@ invariant_of-self g c =
       runs = subst InKeyOrder runs c.self.invariant.runs;
       calls = subst (λ (list : List Run). All (λ (run : Run). InSequence run.calls) list) runs c.self.invariant.calls;
       cuts = keeps_after cuts_of held store bytes outcome c.self.inside.cuts taken unchanged c.versions-versions.ensures.rising c.self.invariant.cuts;
+      few = c.self.invariant.few;
+      text = c.self.invariant.text;
+      sound = c.self.invariant.sound;
     }
 
 pub returns-clause-only_refused : goal.returns-clause-only_refused

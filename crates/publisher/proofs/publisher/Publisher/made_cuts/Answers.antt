@@ -1,8 +1,9 @@
 use Rattle.std.proofs.Common.{◌∙◌, ap, subst, sym}
 use Rattle.std.specs.List.{Contains}
 use Rattle.version_store.specs.Store.{versions_of}
+use Rattle.publisher.specs.Cuts.{HasCuts}
 use Rattle.publisher.specs.Held.{side_of}
-use Rattle.publisher.specs.Inside.{HasCuts, held_of}
+use Rattle.publisher.specs.Inside.{held_of}
 use Rattle.publisher.proofs.CutsLemmas.{has_cuts}
 use Rattle.publisher.proofs.publisher.Publisher.made_cuts.Goals as goal
 

@@ -1,11 +1,11 @@
-use Rattle.std.proofs.Common.{◌≡◌, ap, subst, sym, List}
+use Rattle.std.proofs.Common.{◌≡◌, ap, arith, length, subst, sym, List}
 use Rattle.std.specs.List.{All}
 use Rattle.lc_model.specs.Call.{InSequence}
 use Rattle.lc_model.specs.Run.{InKeyOrder}
 use Rattle.lc_model.specs.declared.run.Run.{Run}
 use Rattle.version_store.specs.Store.{Stored}
 use Rattle.publisher.proofs.CutsLemmas.{keeps_none}
-use Rattle.publisher.proofs.publisher.Publisher.new.Goals as goal
+use Rattle.publisher.proofs.publisher.Publisher.with_store.Goals as goal
 
 pub invariant_of-result : goal.invariant_of-result
 invariant_of-result g c =
@@ -15,5 +15,8 @@ invariant_of-result g c =
       stops = ap (λ (s : Stored). s.stops) store;
       runs = subst InKeyOrder (sym runs) c.runs_are_in_order.ensures.runs;
       calls = subst (λ (list : List Run). All (λ (run : Run). InSequence run.calls) list) (sym runs) c.runs_are_in_order.ensures.calls;
-      cuts = keeps_none _ c.new.result c.new.ensures.empty;
+      cuts = keeps_none _ c.args.made.cuts c.requires.cuts;
+      few = let none : length c.args.made.cuts ≡ 0 = ap length c.requires.cuts in omega arith;
+      text = c.requires.text;
+      sound = c.doc_is_sound.ensures;
     }
