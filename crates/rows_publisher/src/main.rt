@@ -7,6 +7,7 @@ mod making;
 mod replies;
 mod requests;
 mod system;
+mod versions;
 
 use http_text::HeadRoom;
 use rows_common::{Draft, exit_code};
@@ -22,7 +23,10 @@ fn main(rt: HostRuntime) -> ExitCode {
 
 fn put_cases(alloc: Global, draft: &mut Draft, rt: &HostRuntime) {
     match HeadRoom::new(alloc) {
-        Ok(mut room) => replies::put_replies(alloc, draft, &mut room),
+        Ok(mut room) => {
+            replies::put_replies(alloc, draft, &mut room);
+            versions::put_versions(alloc, draft, &mut room);
+        }
         Err(_) => draft.lose(),
     }
     links::put_links(alloc, draft);

@@ -117,7 +117,7 @@ fn request(alloc: Global, head: &str, body: &[u8]) -> Result<Vec<u8>, Unmade> {
 }
 
 /// So much of the reply to a whole request, with the ends of its lines written out.
-fn put_reply(
+pub fn put_reply(
     alloc: Global,
     draft: &mut Draft,
     room: &mut HeadRoom,
