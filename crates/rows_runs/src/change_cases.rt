@@ -239,7 +239,7 @@ fn put_large_station_of(alloc: Global, draft: &mut Draft, stops: &Stops) {
 pub fn put_faults(draft: &mut Draft) {
     draft.put("too many changes: ");
     draft.put_shown(&ChangeFault::TooManyChanges { count: 1_000_001 });
-    draft.put("\nwant of memory: ");
+    draft.put("\nout of memory: ");
     draft.put_shown(&ChangeFault::NoMemory);
     draft.put("\n");
 }
