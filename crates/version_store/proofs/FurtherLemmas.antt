@@ -75,7 +75,7 @@ pub tie_from_same : (a b : RunKey) → a ≡ b → tie a b ≡ true
 tie_from_same a b e = ap is_eq (subst (λ (k : RunKey). key_cmp a k ≡ Equal) e (tied_itself key_cmp_total a))
 
 -- at the key of the news the map has the run that they make
-at_its_key : (stops : List Stop) (list : List TripSaid) (news : TripSaid) (made : Option Run) (run : Run) → IsFurther stops news made → has_key run.key news ≡ true
+pub at_its_key : (stops : List Stop) (list : List TripSaid) (news : TripSaid) (made : Option Run) (run : Run) → IsFurther stops news made → has_key run.key news ≡ true
     → (calls_of made ≡ Some run.calls) ↔ IsFurtherRun [] stops (list ++ news ∷ []) run
 at_its_key stops list news (Some made) run is of =
     let last = news_pushed run.key list news true of in

@@ -1,12 +1,16 @@
+pub mod CallsByLemmas
+pub mod ChangesLemmas
 pub mod CutLemmas
 pub mod FurtherLemmas
+pub mod IndexedLemmas
 pub mod KeptLemmas
+pub mod LastNewsLemmas
 pub mod NamedLemmas
 pub mod NearLemmas
 pub mod NoMemoryLemmas
 pub mod OutcomeLemmas
 pub mod PlacedLemmas
-pub mod RowLemmas
+pub mod SameCallsLemmas
 pub mod SomeRowsLemmas
 pub mod StoreLemmas
 pub mod VersionLemmas

@@ -1,6 +1,7 @@
 -- What the fields of a store stand for, and what holds of them.
 use Rattle.std.specs.Prelude.{◌≡◌, ◌≤◌, ◌∷◌, map}
 use Rattle.lc_versions.specs.History.{IsRising, moments_of}
+use Rattle.version_store.specs.Indexed.{AreIndexed}
 use Rattle.version_store.specs.Store.{Stored, bytes_of, entry_of}
 use Rattle.version_store.specs.declared.store.Admission.{Admission}
 use Rattle.version_store.specs.declared.store.Store.TheInside.{Inside}
@@ -15,9 +16,11 @@ stored_of store = record {
   history = map (λ (a : Admission). entry_of a.update a.bytes) store.admitted.items;
 }
 
--- the list of versions and the sum of bytes are those of the messages, which have no more bytes than may be
+-- The list of versions and the sum of bytes are those of the messages, which have no more bytes than may be, and the index has the runs of
+-- each version.
 pub record IsKept (store : Inside) : Type 0 where
   pub versions : store.versions.items ≡ store.base ∷ moments_of (stored_of store).history
   pub rising : IsRising store.base (moments_of (stored_of store).history)
   pub bytes : store.bytes ≡ bytes_of (stored_of store).history
   pub within : store.bytes ≤ 268_435_456
+  pub indexed : AreIndexed (stored_of store) store.index

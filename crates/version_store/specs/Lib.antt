@@ -1,8 +1,12 @@
 pub mod Admission
+pub mod CallsBy
+pub mod Changes
 pub mod Dates
 pub mod Further
+pub mod Indexed
 pub mod Inside
 pub mod Kept
+pub mod LastNews
 pub mod Laws
 pub mod Named
 pub mod Near
@@ -10,3 +14,4 @@ pub mod Rows
 pub mod Store
 pub mod Texts
 pub mod Worked
+pub mod TouchedKeys

@@ -6,18 +6,6 @@ use Rattle.lc_model.specs.declared.run.Run.{Run}
 use Rattle.lc_versions.specs.Pages.{departing, departures_of}
 use Rattle.version_store.specs.Store.{Stored, AreRunsAt}
 
--- the connections of runs that depart from a moment on, and before the other one where there is one, in departure order
-pub record AreDepartingOf (live : List Run) (from : ℕ) (to : Option ℕ) (rows : List Connection) : Type 0 where
-  pub all : List Connection
-  pub are_connections : AreConnectionsOf live all
-  pub departing : rows ≡ departing from to all
-
--- one departure for each connection of runs, in their order
-pub record AreDeparturesOf (live : List Run) (departures : List ℕ) : Type 0 where
-  pub all : List Connection
-  pub are_connections : AreConnectionsOf live all
-  pub one_each : departures ≡ departures_of all
-
 -- the list has exactly the connections of a version, in departure order
 pub record AreConnectionsAt (store : Stored) (version : ℕ) (list : List Connection) : Type 0 where
   pub live : List Run

@@ -1,14 +1,17 @@
-ghost use Rattle.std.specs.Prelude.{◌≡◌, ◌+◌, ◌<◌, ◌≤◌, ◌⊎◌, ◌∷◌, ◌++◌, [], ⊤, IfErr, IfOk, IfSome, IsOk, OnErr, OnOk, Some, None, length};
+ghost use Rattle.std.specs.Prelude.{◌≡◌, ◌+◌, ◌<◌, ◌≤◌, ◌⊎◌, ◌∷◌, ◌++◌, [], ⊤, IfErr, IfOk, IfSome, IsOk, OnErr, OnOk, Some, None, length, List, ℕ};
+ghost use Rattle.lc_model.specs.Run.{InKeyOrder};
 ghost use Rattle.lc_versions.specs.declared.update.Update.{Update as Said};
+ghost use Rattle.version_store.specs.declared.store.Admission.{Admission as StatedAdmission};
 ghost use Rattle.trip_updates.specs.Message.{IsMessage};
 ghost use Rattle.version_store.specs.Admission.{Admits, HasRoom, IsReadFault, IsRefused, IsTaken, Refuses};
 ghost use Rattle.version_store.specs.Store.{entry_of, newest_of};
 ghost use Rattle.version_store.specs.declared.admission.AdmitFault.{AdmitFault as Fault};
 ghost use Rattle.version_store.specs.declared.admission.AdmitFault.TheVariants.{NoMemory as OutOfMemory};
 
+use crate::indexed::turn_to;
 use crate::store::Admission;
 use crate::{AdmitFault, Admitted, MOST_BYTES, MOST_MESSAGE_BYTES, MOST_MESSAGES, Store};
-use lc_model::NoMemory;
+use lc_model::{Moment, NoMemory, Runs};
 use lc_versions::Update;
 use std::alloc::Global;
 use trip_updates::{RtFault, read_message};
@@ -23,6 +26,42 @@ fn read(alloc: Global, bytes: &[u8]) -> Result<Update, AdmitFault>
         Err(RtFault::NoMemory) => Err(AdmitFault::NoMemory),
         Err(fault) => Err(AdmitFault::Broken(fault)),
     }
+}
+
+/// Puts a message and its version at the ends of the lists.
+fn push_message(
+    versions: &mut Vec<Moment>,
+    admitted: &mut Vec<Admission>,
+    update: Update,
+    bytes: usize,
+) -> Result<(), NoMemory>
+    ensures version { OnOk result (versions.new.items ≡ versions.old.items ++ update.moment ∷ []) }
+    ensures message { OnOk result (admitted.new.items ≡ admitted.old.items ++ record { update = update; bytes = bytes } ∷ []) }
+    ensures no_version { OnErr result (versions.new.items ≡ versions.old.items) }
+    ensures no_message { OnErr result (admitted.new.items ≡ admitted.old.items) }
+{
+    versions.push(update.moment)?;
+    if admitted.push(Admission { update, bytes }).is_err() {
+        let _ = versions.pop();
+        return Err(NoMemory);
+    }
+    Ok(())
+}
+
+/// Takes away the last message and its version.
+fn pop_message(versions: &mut Vec<Moment>, admitted: &mut Vec<Admission>)
+    ensures versions { (v : List ℕ) (m : ℕ) → versions.old.items ≡ v ++ m ∷ [] → versions.new.items ≡ v }
+    ensures messages { (a : List StatedAdmission) (m : StatedAdmission) → admitted.old.items ≡ a ++ m ∷ [] → admitted.new.items ≡ a }
+{
+    let _ = versions.pop();
+    let _ = admitted.pop();
+}
+
+/// The runs stand in the order of their keys, as their type says. The call does nothing.
+fn in_order(runs: &Runs)
+    ensures { InKeyOrder runs.now }
+{
+    let _runs = runs.as_slice();
 }
 
 impl Store {
@@ -62,16 +101,29 @@ impl Store {
         }
     }
 
-    /// Puts a message at the end of the history.
-    fn append(&mut self, update: Update, bytes: usize) -> Result<(), NoMemory>
+    /// Puts a message at the end of the history, and a version more into the index.
+    fn append(&mut self, alloc: Global, update: Update, bytes: usize) -> Result<(), NoMemory>
         requires newer { newest_of self.old < update.moment }
         requires room { HasRoom self.old.history bytes }
         ensures ok { OnOk result (self.new ≡ record self.old { history = self.old.history ++ entry_of update bytes ∷ [] }) }
         ensures err { OnErr result (self.new ≡ self.old) }
     {
-        self.versions.push(update.moment)?;
-        if self.admitted.push(Admission { update, bytes }).is_err() {
-            let _ = self.versions.pop();
+        in_order(&self.runs);
+        let before = self.newest();
+        let now = update.moment;
+        push_message(&mut self.versions, &mut self.admitted, update, bytes)?;
+        let turned = turn_to(
+            alloc,
+            &mut self.index,
+            &self.runs,
+            &self.stops,
+            &self.zone,
+            self.admitted.as_slice(),
+            before,
+            now,
+        );
+        if turned.is_err() {
+            pop_message(&mut self.versions, &mut self.admitted);
             return Err(NoMemory);
         }
         self.bytes += bytes;
@@ -93,7 +145,7 @@ impl Store {
             moment: update.moment,
             passed: update.passed,
         };
-        self.append(update, bytes.len())?;
+        self.append(alloc, update, bytes.len())?;
         Ok(admitted)
     }
 }

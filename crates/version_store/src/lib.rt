@@ -4,14 +4,19 @@
 
 mod admission;
 mod admit;
+mod calls_by;
+mod changes;
 mod dated;
+mod indexed;
 mod kept;
+mod last_news;
 mod laws;
 mod live_runs;
 mod message_fault;
 mod named;
 mod rows;
 mod store;
+mod touched_keys;
 
 pub use admission::{AdmitFault, Admitted, MOST_BYTES, MOST_MESSAGE_BYTES, MOST_MESSAGES};
 pub use kept::message_date;

@@ -23,7 +23,7 @@ use std::alloc::Global;
 use std::collections::BTreeMap;
 
 /// The live calls of a run of the timetable. Takes the logarithm of the news, and the time of its live calls.
-fn live_of(
+pub(crate) fn live_of(
     alloc: Global,
     run: &Run,
     named: &BTreeMap<RunKey, DatedNews<'_>>,
@@ -38,7 +38,11 @@ fn live_of(
 }
 
 /// The run that news make, if they are of an added trip and make one.
-fn further_run(alloc: Global, stops: &Stops, news: DatedNews<'_>) -> Result<Option<Run>, NoMemory>
+pub(crate) fn further_run(
+    alloc: Global,
+    stops: &Stops,
+    news: DatedNews<'_>,
+) -> Result<Option<Run>, NoMemory>
     ensures { IfOk result (IsFurther stops.now (news_said news.entry)) }
 {
     let said = news.news;
@@ -158,17 +162,18 @@ fn runs_in(alloc: Global, live: BTreeMap<RunKey, Calls>) -> Result<Vec<Run>, NoM
     Ok(runs)
 }
 
-/// The runs of the timetable with their live calls by the news, and the further ones. Takes the time of a sort of the runs
-/// and of the news, and of the live calls of each run.
-pub(crate) fn live_runs(
+/// The runs of the timetable with their live calls by the news, and the further ones, in the order of their keys. Takes the time of a sort of
+/// the runs and of the news, and of the live calls of each run.
+pub(crate) fn live_list(
     alloc: Global,
     runs: &Runs,
     stops: &Stops,
     news: &[DatedNews<'_>],
-) -> Result<Runs, NoMemory>
-    ensures live { IfOk result (AreLiveRuns runs.now stops.now (map news_said news.now)) }
-    ensures forward { IfOk result (All (λ (r : StatedRun). GoesForward r.calls)) }
+) -> Result<Vec<Run>, NoMemory>
+    ensures live { IfOk result (λ list. AreLiveRuns runs.now stops.now (map news_said news.now) list.items) }
+    ensures forward { IfOk result (λ list. All (λ (r : StatedRun). GoesForward r.calls) list.items) }
 {
     let live = all_runs(alloc, runs.as_slice(), stops, news)?;
-    Ok(Runs::from_list(runs_in(alloc, live)?))
+    let list = runs_in(alloc, live)?;
+    Ok(list)
 }

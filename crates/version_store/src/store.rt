@@ -4,9 +4,11 @@ ghost use Rattle.lc_versions.specs.History.{IsRising, moments_of};
 ghost use Rattle.lc_versions.specs.Named.{is_by, version_named};
 ghost use Rattle.version_store.specs.Store.{newest_of, versions_of};
 
+use crate::indexed::base_index;
 use lc_model::{Moment, NoMemory, Runs, Stops};
 use lc_time::Zone;
 use lc_versions::Update;
+use span_index::Index;
 use std::alloc::Global;
 use std::marker::Model;
 
@@ -28,6 +30,8 @@ pub struct Store {
     pub(crate) versions: Vec<Moment>,
     pub(crate) admitted: Vec<Admission>,
     pub(crate) bytes: usize,
+    /// The runs of each version, by its place in `versions`.
+    pub(crate) index: Index,
 }
 
 impl Model for Store {
@@ -53,14 +57,17 @@ impl Store {
     ) -> Result<Store, NoMemory>
         ensures { IfOk result (λ store. store ≡ record { runs = runs; stops = stops; zone = zone; base = base; history = [] }) }
     {
+        let index = base_index(alloc, &runs, &stops)?;
+        let versions = vec![in alloc; base]?;
         Ok(Store {
             runs,
             stops,
             zone,
             base,
-            versions: vec![in alloc; base]?,
+            versions,
             admitted: Vec::new(alloc),
             bytes: 0,
+            index,
         })
     }
 

@@ -1,0 +1,161 @@
+-- What an index gives of a number is what the store promises of the version of that number.
+use Rattle.std.proofs.Common.{◌≡◌, ◌∙◌, ◌⊎◌, ◌↔◌, inl, inr, ℕ, ◌+◌, ◌<◌, ◌≤◌, List, [], ◌∷◌, ◌++◌, get_or, length, Option, refl, ap, sym, subst, subst₂, arith, ⊎_elim, take_all}
+use Rattle.std.specs.List.{Contains}
+use Rattle.std.proofs.lemmas.Bool.{cases_lt}
+use Rattle.std.proofs.lemmas.List.{get_or_default, length-map, length_push, take-append-le}
+use Rattle.lc_model.specs.declared.connection.Connection.{Connection}
+use Rattle.lc_model.specs.Run.{InKeyOrder}
+use Rattle.lc_model.specs.declared.key.RunKey.{RunKey}
+use Rattle.lc_model.specs.declared.run.Run.{Run}
+use Rattle.lc_versions.specs.History.{Entry, IsRising, moments_of, news_at}
+use Rattle.lc_versions.specs.Named.{last_of}
+use Rattle.lc_versions.specs.News.{TripSaid}
+use Rattle.lc_versions.specs.Timetable.{AreLiveRuns}
+use Rattle.laws_index.specs.Held.{AreRunsBy}
+use Rattle.laws_index.specs.Kept.{entities_after, news_in}
+use Rattle.laws_index.specs.Touched.{AreChanges, IsLeft}
+use Rattle.laws_index.proofs.HeldLemmas.{ordered_are_live}
+use Rattle.laws_index.proofs.KeptLemmas.{newest, of_number, older}
+use Rattle.laws_index.proofs.TouchedLemmas.{update_holds}
+use Rattle.span_index.specs.Rows as index
+use Rattle.span_index.specs.Spans.{Indexed, runs_at}
+use Rattle.span_index.specs.Updates as updates
+use Rattle.version_store.specs.Changes.{HasTurned}
+use Rattle.version_store.specs.Dates.{date_in}
+use Rattle.version_store.specs.Indexed.{AreIndexed, IsNumberOf, news_after}
+use Rattle.version_store.specs.Rows.{AreConnectionsAt, AreDepartures, AreRows}
+use Rattle.version_store.specs.Store.{Stored, news_of, newest_of, versions_of}
+use Rattle.version_store.proofs.StoreLemmas.{moments_more}
+use Rattle.version_store.proofs.VersionLemmas.{rising_more}
+
+-- the news of a version are those in force after as many messages as its number says
+news_of_number : (store : Stored) (version number : ℕ) → IsRising store.base (moments_of store.history) → IsNumberOf store version number → news_after store number ≡ news_of store version
+news_of_number store version number rising is =
+    sym (of_number (date_in store.zone) store.base store.history number rising is.within) ∙ ap (news_at (date_in store.zone) store.history) is.is
+
+connections_at : (store : Stored) (indexed : Indexed) (version number : ℕ) (all : List Connection) → IsRising store.base (moments_of store.history) → AreIndexed store indexed → IsNumberOf store version number
+    → index.AreConnections (runs_at indexed number) all → AreConnectionsAt store version all
+connections_at store indexed version number all rising are is of_runs =
+    let live = of_runs.live in
+    let runs = ordered_are_live store.runs store.stops (news_after store number) (runs_at indexed number) live (are.runs number is.within) of_runs.are_runs.in_order of_runs.are_runs.exactly in
+    record {
+      live = live;
+      are_runs = subst (λ (list : List TripSaid). AreLiveRuns store.runs store.stops list live) (news_of_number store version number rising is) runs;
+      are_connections = of_runs.are_connections;
+    }
+
+pub rows_at : (store : Stored) (indexed : Indexed) (version number from : ℕ) (to : Option ℕ) (rows : List Connection) → IsRising store.base (moments_of store.history) → AreIndexed store indexed → IsNumberOf store version number
+    → index.AreRows (runs_at indexed number) from to rows → AreRows store version from to rows
+rows_at store indexed version number from to rows rising are is of_index =
+    record { all = of_index.all; of_version = connections_at store indexed version number of_index.all rising are is of_index.of_runs; departing = of_index.departing }
+
+pub departures_at : (store : Stored) (indexed : Indexed) (version number : ℕ) (departures : List ℕ) → IsRising store.base (moments_of store.history) → AreIndexed store indexed → IsNumberOf store version number
+    → index.AreDepartures (runs_at indexed number) departures → AreDepartures store version departures
+departures_at store indexed version number departures rising are is of_index =
+    record { all = of_index.all; of_version = connections_at store indexed version number of_index.all rising are is of_index.of_runs; one_each = of_index.one_each }
+
+-- an update of the index, by what the new news change
+update_of : (store : Stored) (old new : List TripSaid) (ended : List RunKey) (begun before after : List Run) → InKeyOrder store.runs → AreRunsBy store.runs store.stops old before
+    → AreChanges store.runs store.stops old new ended begun → updates.AreAfter ended begun before after → AreRunsBy store.runs store.stops new after
+update_of store old new ended begun before after up were changes updated =
+    update_holds store.runs store.stops old new ended begun before after up were changes (λ run. (forth run, back run)) where
+      forth : (run : Run) → Contains after run → Contains begun run ⊎ IsLeft ended begun before run
+      forth run there = elim ((updated run).0 there) [
+        | inl begins ↦ inl begins
+        | inr left ↦ inr (record { was = left.was; stays = left.stays; alone = left.alone })
+      ]
+
+      back : (run : Run) → Contains begun run ⊎ IsLeft ended begun before run → Contains after run
+      back run (inl begins) = (updated run).1 (inl begins)
+      back run (inr left) = (updated run).1 (inr (record { was = left.was; stays = left.stays; alone = left.alone }))
+
+module _ (old : Stored) (entry : Entry) (before after : Indexed) (indexed : AreIndexed old before) where
+  abbrev new : Stored
+  new = record old { history = old.history ++ entry ∷ [] }
+
+  long : length new.history ≡ length old.history + 1
+  long = length_push old.history entry
+
+  news_before : (number : ℕ) → number ≤ length old.history → news_after old number ≡ news_after new number
+  news_before number within = ap (λ (es : List Entry). news_in (entities_after (date_in old.zone) es)) (sym (take-append-le number old.history (entry ∷ []) within))
+
+  -- a message more, by which the index has one version more
+  pub indexed_more : (ended : List RunKey) (begun : List Run) → InKeyOrder old.runs → AreChanges old.runs old.stops (news_after old (length old.history)) (news_after new (length new.history)) ended begun
+      → updates.IsUpdated ended begun before after → AreIndexed new after
+  indexed_more ended begun up changes updated = record { newest = next; runs = by_number } where
+    next : after.newest ≡ length new.history
+    next = let a = updated.newest in let b = indexed.newest in omega (arith, a, b, long)
+
+    latest : AreRunsBy old.runs old.stops (news_after new (length new.history)) (runs_at after after.newest)
+    latest =
+        update_of old (news_after old (length old.history)) (news_after new (length new.history)) ended begun (runs_at before before.newest) (runs_at after after.newest) up
+        (subst (λ (n : ℕ). AreRunsBy old.runs old.stops (news_after old (length old.history)) (runs_at before n)) (sym indexed.newest) (indexed.runs (length old.history) (omega arith)))
+        changes updated.after
+
+    by_number : (number : ℕ) → number ≤ length new.history → AreRunsBy old.runs old.stops (news_after new number) (runs_at after number)
+    by_number number within =
+        ⊎_elim
+        (λ (low : number < length new.history).
+        let there : number ≤ length old.history = omega (arith, low, long) in
+        let past : number ≤ before.newest = let a = indexed.newest in omega (arith, there, a) in
+        subst (λ (list : List TripSaid). AreRunsBy old.runs old.stops list (runs_at after number)) (news_before number there)
+        (subst (AreRunsBy old.runs old.stops (news_after old number)) (sym (updated.before number past)) (indexed.runs number there)))
+        (λ (high : length new.history ≤ number).
+        let same : after.newest ≡ number = omega (arith, within, high, next) in
+        let last : length new.history ≡ number = omega (arith, within, high) in
+        subst (λ (n : ℕ). AreRunsBy old.runs old.stops (news_after new n) (runs_at after number)) last
+        (subst (λ (n : ℕ). AreRunsBy old.runs old.stops (news_after new (length new.history)) (runs_at after n)) same latest))
+        (cases_lt number (length new.history))
+
+-- before any message the index has the base alone
+pub indexed_base : (store : Stored) (indexed : Indexed) (live : List Run) → store.history ≡ [] → indexed.newest ≡ 0 → runs_at indexed 0 ≡ live → AreLiveRuns store.runs store.stops [] live → AreIndexed store indexed
+indexed_base store indexed live none newest runs are = record {
+  newest = newest ∙ sym (ap length none);
+  runs = λ number within.
+      let zero : 0 ≡ number = let e = ap length none in omega (arith, within, e) in
+      subst (λ (n : ℕ). AreRunsBy store.runs store.stops (news_after store n) (runs_at indexed n)) zero
+      (subst (AreRunsBy store.runs store.stops []) (sym runs) are.exactly);
+}
+
+-- the place of a version is its number
+pub number_found : (store : Stored) (versions : List ℕ) (version number : ℕ) → versions ≡ versions_of store → number < length versions → get_or versions number 0 ≡ version → IsNumberOf store version number
+number_found store versions version number are inside is =
+    let long : length (moments_of store.history) ≡ length store.history = length-map store.history (λ (e : Entry). e.update.moment) in
+    let there : number < length (versions_of store) = subst (λ (v : List ℕ). number < length v) are inside in
+    record {
+      within = omega (arith, there, long);
+      is = get_or_default (versions_of store) number store.base 0 there ∙ ap (λ (v : List ℕ). get_or v number 0) (sym are) ∙ is;
+    }
+
+last_pushed : (base : ℕ) (moments : List ℕ) (next : ℕ) → last_of base (moments ++ next ∷ []) ≡ next
+last_pushed base [] next = refl
+last_pushed base (first ∷ rest) next = last_pushed first rest next
+
+-- the news after all messages are those of the newest version
+news_of_all : (store : Stored) → IsRising store.base (moments_of store.history) → news_at (date_in store.zone) store.history (last_of store.base (moments_of store.history)) ≡ news_after store (length store.history)
+news_of_all store rising =
+    newest (date_in store.zone) store.base store.history rising
+    ∙ ap (λ (es : List Entry). news_in (entities_after (date_in store.zone) es)) (sym (take_all (length store.history) store.history (omega arith)))
+
+-- a message at the end of the history, by which the index has turned
+pub indexed_appended : (old : Stored) (entry : Entry) (before after : Indexed) → InKeyOrder old.runs → IsRising old.base (moments_of old.history) → newest_of old < entry.update.moment → AreIndexed old before
+    → HasTurned old.runs old.stops (news_at (date_in old.zone) (old.history ++ entry ∷ []) (newest_of old)) (news_at (date_in old.zone) (old.history ++ entry ∷ []) entry.update.moment) before after
+    → AreIndexed (record old { history = old.history ++ entry ∷ [] }) after
+indexed_appended old entry before after up rising newer indexed turned =
+    let new : Stored = record old { history = old.history ++ entry ∷ [] } in
+    let date_of = date_in old.zone in
+    let moments = moments_more old.history entry in
+    let rises : IsRising old.base (moments_of new.history) = subst (IsRising old.base) (sym moments) (rising_more old.base (moments_of old.history) entry.update.moment rising newer) in
+    let first : news_at date_of (old.history ++ entry ∷ []) (newest_of old) ≡ news_after old (length old.history) = older date_of old.history entry (newest_of old) newer ∙ news_of_all old rising in
+    let now : last_of old.base (moments_of new.history) ≡ entry.update.moment = ap (last_of old.base) moments ∙ last_pushed old.base (moments_of old.history) entry.update.moment in
+    let second : news_at date_of (old.history ++ entry ∷ []) entry.update.moment ≡ news_after new (length new.history) = ap (news_at date_of new.history) (sym now) ∙ news_of_all new rises in
+    indexed_more old entry before after indexed turned.ended turned.begun up
+    (subst₂ (λ (a b : List TripSaid). AreChanges old.runs old.stops a b turned.ended turned.begun) first second turned.changes)
+    turned.updated
+
+-- an index that is the same for all versions
+pub indexed_still : (store : Stored) (before after : Indexed) → AreIndexed store before → updates.IsSame before after → AreIndexed store after
+indexed_still store before after indexed same = record {
+  newest = same.newest ∙ indexed.newest;
+  runs = λ number within. subst (AreRunsBy store.runs store.stops (news_after store number)) (sym (same.runs number)) (indexed.runs number within);
+}
