@@ -1,4 +1,4 @@
--- What stands in lists that are mapped, filtered and joined, and the first item that passes a test.
+-- What is in lists that are mapped, filtered and joined, and the first item that passes a test.
 use Rattle.std.proofs.Common.{◌≡◌, suc, zero, ◌⊎◌, inl, inr, List, [], ◌∷◌, ◌++◌, Option, Some, None, get_or, map, Bool, true, false, cond, ◌&&◌, sym, ap, ◌∙◌, subst, refl, arith}
 use Rattle.std.specs.Prelude.{find, option_map}
 use Rattle.std.specs.List.{All, AllPairs, Contains, cons_option, filter, filter_map, flat_map, slice_get}
@@ -47,7 +47,7 @@ AllPairs-filter_map {X} {Y} R S f (x ∷ xs) across h = go (f x) refl (AllPairs-
       (All-from_contains (R y) (filter_map f xs) (λ w k. let r = IsMade-filter_map f xs w k in across x r.from y w (All-contains (S x) xs r.from (AllPairs-head S x xs h) r.stands) e r.is))
       rest
 
--- the first item that passes stands in the list, and passes
+-- the first item that passes is in the list, and passes
 pub IsKept-find : {X : Type 0} (p : X → Bool) (xs : List X) (x : X) → find p xs ≡ Some x → IsKept p xs x
 IsKept-find p [] x e = absurd (cc)
 IsKept-find {X} p (y ∷ ys) x e = go (p y) refl (λ is. IsKept-find p ys x is) e where

@@ -111,7 +111,7 @@ seconds_name own of_parent default from to n e =
     ])
     (λ together. named_left here there to (together_named from to together))
 
--- a stop that is named stands at a place that is named
+-- a stop that is named is at a place that is named
 place_named : (stops : List Stop) (place : ℕ) (to : Stop) (ids : List (List ℕ)) → slice_get stops place ≡ Some to → IsNamed ids to → Any (IsOf stops place) ids
 place_named stops place to ids at named = any (IsOf stops place) ids named.id named.stands (elim named.names [
   | inl e ↦ inl (ap (option_map (λ (s : Stop). s.id)) at ∙ ap Some e)

@@ -29,7 +29,7 @@ use Rattle.change_table.specs.declared.rows.Row.{Row}
 use Rattle.lc_model.proofs.ListLemmas.{ComesFrom-map, Contains-cases, Contains-filter, Contains-here, Contains-map, Contains-nil}
 use Rattle.lc_model.proofs.ListLemmas.{IsKept-filter}
 
--- a stop of this id stands at the place
+-- a stop of this id is at the place
 pub record StandsAt (stops : List Stop) (place : ℕ) (id : List ℕ) : Type 0 where
   pub stop : Stop
   pub at : slice_get stops place ≡ Some stop
@@ -41,7 +41,7 @@ stands_at stops place id e = go (slice_get stops place) refl e where
   go None at is = absurd (cc)
   go (Some s) at is = record { stop = s; at = at; is = cc }
 
--- one id stands at one place
+-- one id is at one place
 pub one_place : (stops : List Stop) → InStopOrder stops → (i j : ℕ) (x y : Stop) → slice_get stops i ≡ Some x → slice_get stops j ≡ Some y → x.id ≡ y.id → i ≡ j
 one_place stops strict i j x y at_i at_j same =
     let xi : get_or stops i x ≡ x = get_or_from_slice_get stops i x x at_i in

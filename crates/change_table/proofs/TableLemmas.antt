@@ -42,7 +42,7 @@ stop_there stops strict stop h = go (stop_of stops stop.id) refl where
       e ∙ ap Some (at_place t found.stands stop h ((bytes_eq-Decides t.id stop.id).0 found.passes))
   go None e = absurd (find_none (λ (s : Stop). is_same_id s.id stop.id) stops stop e h ((bytes_eq-Decides stop.id stop.id).1 refl))
 
--- a change between two stops, as it is given for them
+-- a change between two stops, with these seconds
 record IsGiven (stops : List Stop) (given : Stop → Stop → Option ℕ) (from to : List ℕ) (seconds : ℕ) : Type 0 where
   a : Stop
   b : Stop

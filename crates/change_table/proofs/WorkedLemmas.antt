@@ -1,4 +1,4 @@
--- What is worked out by hand, and what is recorded apart from it.
+-- What is worked out by hand, and what is listed apart from it.
 use Rattle.std.proofs.Common.{◌≡◌, ℕ, ◌<◌, List, [], ◌∷◌, Some, None, map, length, refl, sym, ap, ◌∙◌, subst, arith, lit<}
 use Rattle.std.specs.Ordering.{on}
 use Rattle.lc_model.specs.Stop.{InStopOrder}

@@ -20,8 +20,8 @@ first_row transfers None to = None
 first_row transfers (Some from) None = None
 first_row transfers (Some from) (Some to) = find (λ row. is_between from to row && has_known_kind row) transfers
 
--- The row that decides: one between the two stops, else from the one to the parent of the other, else from the parent
--- of the one to the other, else between the parents.
+-- The row that decides: one between the two stops, else from the one to the parent of the other. Else it is from the parent
+-- of the one to the other, or between the parents.
 abbrev pub deciding_row : List Transfer → Stop → Stop → Option Transfer
 deciding_row transfers from to =
     option_or (first_row transfers (Some from.id) (Some to.id)) (
@@ -39,8 +39,8 @@ is_same_station (Some station) (Some other) = is_same_id station other
 abbrev pub are_together : Stop → Stop → Bool
 are_together from to = is_same_id from.id to.id || is_same_station from.parent to.parent
 
--- What a row says: by type 3 there is no change, by type 2 it takes the time of the row, or the default where that is
--- empty, by type 1 the other vehicle waits, which is one second, and by type 0 it takes the default.
+-- What a row says. By type 3 there is no change. By type 2 it takes the time of the row, or the default where that is
+-- empty. By type 1 the other vehicle waits, which is one second. By type 0 it takes the default.
 abbrev pub said_seconds : ℕ → Transfer → Option ℕ
 said_seconds default row =
     if row.kind == 3 then None
@@ -64,7 +64,7 @@ change_from_to transfers default from to = option_map (max 1) (given_seconds tra
 abbrev pub stop_of : List Stop → List ℕ → Option Stop
 stop_of stops id = find (λ (stop : Stop). is_same_id stop.id id) stops
 
--- the same by the ids of two of the stops; there is no change from or to what is no stop
+-- the seconds of a change, by the ids of two of the stops; there is no change from or to what is no stop
 abbrev pub change_of : List Stop → List Transfer → ℕ → List ℕ → List ℕ → Option ℕ
 change_of stops transfers default from to =
     option_and_then (λ a. option_and_then (change_from_to transfers default a) (stop_of stops to)) (stop_of stops from)

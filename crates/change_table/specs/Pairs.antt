@@ -10,7 +10,7 @@ abbrev pub timed_change : List ℕ → List ℕ → ℕ → Change
 timed_change from to seconds =
     record { from = from; to = to; seconds = max 1 seconds; takes_time = le-max_left 1 seconds }
 
--- the changes from a stop to some of these, where the seconds of each are given
+-- the changes from a stop to some of these, where each has these seconds
 abbrev pub changes_to : (Stop → Option ℕ) → Stop → List Stop → List Change
 changes_to seconds from tos = filter_map (λ (to : Stop). option_map (timed_change from.id to.id) (seconds to)) tos
 

@@ -30,11 +30,11 @@ child_cmp = on (λ (c : Child). c.parent.now) id_cmp
 abbrev pub shown : List Child → List (List ℕ × ℕ)
 shown children = map (λ (c : Child). (c.parent.now, c.place)) children
 
--- the parent of a stop that stands at a place
+-- the parent of a stop that is at a place
 abbrev pub shown_at : ℕ → Stop → List (List ℕ × ℕ)
 shown_at place stop = option_to_list (option_map (λ (parent : List ℕ). (parent, place)) stop.parent)
 
--- the same of all stops, of which the first stands at a place
+-- the parents of all stops, of which the first is at a place
 abbrev pub all_shown : ℕ → List Stop → List (List ℕ × ℕ)
 all_shown place [] = []
 all_shown place (stop ∷ rest) = shown_at place stop ++ all_shown (suc place) rest
@@ -57,6 +57,6 @@ abbrev pub named_ids : Stop → List Row → List Row → List (List ℕ)
 named_ids from own of_parent =
     ((from.id ∷ []) ++ option_to_list from.parent) ++ (map target own ++ map target of_parent)
 
--- the stops at some places; at a place that there is not, the one that stands in for it
+-- the stops at some places; at a place that there is not, this stop
 abbrev pub stops_at : List Stop → Stop → List ℕ → List Stop
 stops_at stops other places = map (λ place. slice_index_or stops place other) places

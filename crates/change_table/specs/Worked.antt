@@ -38,7 +38,7 @@ seconds_at_station rows from to = change_of station rows 120 from to
 abbrev pub six_ids : List (List ℕ)
 six_ids = codes "A" ∷ codes "B" ∷ codes "C" ∷ codes "D" ∷ codes "E" ∷ codes "F" ∷ []
 
--- the same as stops
+-- the six stops of these ids
 abbrev pub six_stops : List Stop
 six_stops = map (stop_within None) six_ids
 

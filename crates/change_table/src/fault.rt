@@ -7,7 +7,7 @@ use std::alloc::{AllocError, AllocFailed};
 use std::error::Error;
 use std::fmt;
 
-/// So many ordered pairs of stops may have a change.
+/// The most ordered pairs of stops that may have a change.
 pub const MOST_CHANGES: usize = 1_000_000;
 
 /// Why there is no list of changes.

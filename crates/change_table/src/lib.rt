@@ -1,4 +1,4 @@
-//! The changes between the stops of a feed, by the rows of transfers.txt and the stations of the stops. It stands on
+//! The changes between the stops of a feed, by the rows of transfers.txt and the stations of the stops. It builds on
 //! `lc_model` and `gtfs_calendars`.
 #![tactic(auto)]
 

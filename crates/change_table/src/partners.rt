@@ -107,8 +107,8 @@ fn named_places(
     Ok(places)
 }
 
-/// The places of the stops to which there may be a change, in order and each once: those that the stop, its parent, its
-/// rows and those of its parent name, and their children. Takes the time of a sort of what is named.
+/// The places of the stops to which there may be a change, in order and each once. They are those that the stop, its
+/// parent, its rows and those of its parent name, and their children. Takes the time of a sort of what is named.
 pub(crate) fn partners(
     alloc: Global,
     stops: &[Stop],

@@ -128,11 +128,11 @@ fn all_changes(
     Ok(changes)
 }
 
-/// The changes between stops, by the rows of transfers.txt, with a default number of seconds for a change at a stop or
-/// within a station (GTFS Schedule Reference, transfers.txt). Each takes one second or more.
+/// The changes between stops, by the rows of transfers.txt (GTFS Schedule Reference, transfers.txt). A change at a stop or
+/// within a station takes a default number of seconds. Each takes one second or more.
 ///
-/// It takes the time of a sort of the rows and of the stops, and for each stop of a sort of the stops that its rows, those
-/// of its parent and its station name; no more pairs of stops are looked at.
+/// It takes the time of a sort of the rows and of the stops. For each stop it takes that of a sort of the stops that its rows, those
+/// of its parent and its station name. No more pairs of stops are looked at.
 pub fn changes(
     alloc: Global,
     stops: &Stops,

@@ -1,4 +1,4 @@
--- What is behind a message is one.
+-- What follows on a message is one.
 use Rattle.std.proofs.Common.{◌≡◌, ◌∙◌, ◌⊎◌, ◌<◌, ◌≤◌, ℕ, inl, inr, List, [], ◌∷◌, ◌++◌, None, Some, Option, ap, ap₂, length, refl, subst, sym}
 use Rattle.lc_io.specs.declared.file.File.{File}
 use Rattle.lc_versions.specs.History.{Entry, moments_of}
@@ -18,7 +18,7 @@ use Rattle.version_store.specs.declared.message_fault.MessageFault.TheVariants a
 abbrev pub store_with : Timetable → ℕ → List Entry → Stored
 store_with made moment history = record { runs = made.runs; stops = made.doc.stops; zone = made.zone; base = moment; history = history }
 
--- the store behind a message differs in its history alone
+-- the store after a message differs in its history alone
 pub of_history : (file : Option File) (old new : Stored) (line : List ℕ) → IsBehind file old new line → new ≡ record old { history = new.history }
 of_history None old new line (same, none) = subst (λ (s : Stored). s ≡ record old { history = s.history }) (sym same) refl
 of_history (Some file) old new line (inl x) = subst (λ (s : Stored). s ≡ record old { history = s.history }) (sym x.admits.appended) refl
@@ -63,7 +63,7 @@ module _ (s t : Stored) (one : HaveHeardOne s t) (bytes : List ℕ) where
   }
   refused_by_other faults.NoMemory is = is
 
--- what is behind a message: stores that have heard the same, and one line
+-- what follows on a message: stores that have heard the same, and one line
 pub record AreOne (s t : Stored) (k l : List ℕ) : Type 0 where
   pub heard : HaveHeardOne s t
   pub line : k ≡ l

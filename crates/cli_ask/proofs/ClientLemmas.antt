@@ -113,7 +113,7 @@ module _ (side : Side) (s t : Shown) (given : List Want) (query : s.query ≡ t.
   same_end (outcomes.LinkFault before after) is = same_failed s.version t.version version is
   same_end (outcomes.PeerWrong reply fault) is = absurd is
 
--- what was asked for besides what was given
+-- what the client asked for besides what it received
 asked_for : (side : Side) (query : Query) (member : Member) (given asked : List Want) (outcome : Outcome) → (shown member.client).outcome ≡ Some outcome
     → AskedAll member given asked ⊎ AskedOneMore side query member given asked → AsksFor side query given asked outcome
 asked_for side query member given asked (outcomes.Found journey) is (inl all) = all.are

@@ -1,4 +1,4 @@
--- Two clients that ended with an answer or a refusal by one side, at one version, ended in one way, and were given the same.
+-- Two clients that ended with an answer or a refusal by one side, at one version, ended in one way, and received the same.
 use Rattle.std.proofs.Common.{◌≡◌, ◌∙◌, List, [], ◌∷◌, Some, ap, refl, subst, sym}
 use Rattle.lc_model.specs.Laws.{arrival_of}
 use Rattle.lc_model.specs.declared.answer.Answer.{Answer}
@@ -17,13 +17,13 @@ use Rattle.page_client.specs.declared.outcome.Outcome.{Outcome}
 use Rattle.page_client.specs.declared.outcome.Outcome.TheVariants as outcomes
 use Rattle.page_client.specs.declared.want.Want.{Want}
 use Rattle.publisher_spec.specs.Side.{Side, date_in}
-use Rattle.laws_sides.specs.Recorded.{version_at}
+use Rattle.laws_sides.specs.Stated.{version_at}
 use Rattle.cli_ask.specs.Client.{shown_of}
 use Rattle.cli_ask.specs.Laws.{IsNoLinkFault}
 use Rattle.cli_ask.specs.declared.end.ClientEnd.{ClientEnd}
 use Rattle.cli_ask.proofs.SideLemmas.{answered_at, denied_at, in_zone}
 
--- the outcomes of two clients of one side say the same, and the same was given to both
+-- the outcomes of two clients of one side say the same, and both received the same
 pub record AreAlike (o p : Outcome) (g h : List Want) : Type 0 where
   pub outcome : SayTheSame o p
   pub given : g ≡ h
@@ -106,7 +106,7 @@ module _ (one_arrival : OneArrivalAt) (one_needed : OneListOfNeededAt) (side mea
   alike (outcomes.LinkFault k l) p x y f i = absurd f
   alike (outcomes.PeerWrong r a) p x y f i = absurd x
 
--- sides at which a question means one version mean it to a client that was given this
+-- sides at which a question means one version mean it to a client that received this
 pub same_version : (side other : Side) (query : Query) (given : List Want) → version_at side query.known ≡ version_at other query.known → version_of side query given ≡ version_of other query given
 same_version side other query [] same = refl
 same_version side other query (want ∷ more) same = ap Some same

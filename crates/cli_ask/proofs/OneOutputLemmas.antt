@@ -25,7 +25,7 @@ use Rattle.cli_ask.proofs.AdmissionLemmas.{of_history, one_behind, store_with}
 use Rattle.cli_ask.proofs.OneAnswerLemmas.{alike, ended_at, same_version}
 use Rattle.cli_ask.proofs.SideLemmas.{dates_of, in_zone, same_side}
 
--- what was asked for is what was given
+-- the client asked for what it received
 asked_given : (side : Side) (query : Query) (given asked : List Want) (outcome : Outcome) → AsksFor side query given asked outcome → IsNoLinkFault outcome → asked ≡ given
 asked_given side query given asked (outcomes.Found journey) asks fine = asks
 asked_given side query given asked outcomes.NoJourney asks fine = asks
@@ -33,7 +33,7 @@ asked_given side query given asked (outcomes.Refused fault) asks fine = asks
 asked_given side query given asked (outcomes.LinkFault before after) asks fine = absurd fine
 asked_given side query given asked (outcomes.PeerWrong reply fault) asks fine = asks
 
--- a link whose count did not rise failed in no exchange
+-- a link whose count did not increase failed in no exchange
 no_link_fault : (base : BaseParts) (query : Query) (before after : ℕ) (version : Option ℕ) (made : List Made) (outcome : Outcome) → EndsBy base query before after version made outcome
     → (Rose before after → ⊥) → IsNoLinkFault outcome
 no_link_fault base query before after version made (outcomes.Found journey) ends none = tt

@@ -108,7 +108,7 @@ are_pages (wants.Page name ∷ rest) = elim (are_pages rest) [
   | inr none ↦ inr (λ all. none (All-tail IsPage (wants.Page name) rest all))
 ]
 
--- what stands in front of pages are pages
+-- what is in front of pages are pages
 front_of_pages : (names : List PageName) (rest more : List Want) → map wants.Page names ≡ rest ++ more → All IsPage rest
 front_of_pages names [] more is = All-nil IsPage
 front_of_pages [] (want ∷ rest) more is = absurd (cc)

@@ -1,4 +1,4 @@
--- What becomes of a realtime message that is given to a publisher, and the line that says it.
+-- What becomes of a realtime message that a publisher receives, and the line that says it.
 use Rattle.std.specs.Prelude.{◌≡◌, ◌⊎◌, ◌<◌, ℕ, List, [], ◌++◌, length, Option, Some, None, codes, decimal}
 use Rattle.lc_io.specs.declared.file.File.{File}
 use Rattle.lc_time.specs.Iso.{iso_text_of}
@@ -43,7 +43,7 @@ pub record IsPassedOver (old new : Stored) (file : File) (line : List ℕ) : Typ
   pub same : new ≡ old
   pub line_is : line ≡ ignored_line_of file.name fault
 
--- the store and the line behind the file of a message, or behind none, of which no line is printed
+-- the store and the line after the file of a message, or after none, of which no line is printed
 abbrev pub IsBehind : Option File → Stored → Stored → List ℕ → Type 0
 IsBehind None old new line = (new ≡ old) × (line ≡ [])
 IsBehind (Some file) old new line = IsAdmitted old new file line ⊎ IsPassedOver old new file line
@@ -61,7 +61,7 @@ pub record IsNoMessage (file : Option File) (fault : RtFault) : Type 0 where
   pub is : file ≡ Some there
   pub broken : IsBroken there.bytes fault
 
--- why a file is no message of which a publisher is recorded; memory may run out
+-- why a publisher does not receive a file as a message; memory may run out
 abbrev pub IsFaulty : Option File → MessageFault → Type 0
 IsFaulty file (messages.TooLong count) = IsTooLong file count
 IsFaulty file (messages.Broken fault) = IsNoMessage file fault

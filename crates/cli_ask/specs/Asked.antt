@@ -1,4 +1,4 @@
--- What a question to an in-process publisher comes to, and what is printed of it.
+-- What a question to an in-process publisher results in, and what is printed of it.
 use Rattle.std.specs.Prelude.{◌≡◌, ℕ, List, ◌++◌, Option}
 use Rattle.cli_words.specs.declared.command.Publishing.{Publishing}
 use Rattle.connection_uri.specs.Base.{BaseParts}
@@ -18,7 +18,7 @@ use Rattle.cli_ask.specs.Client.{Asks, EndsRight}
 use Rattle.cli_ask.specs.Publishing.{held_with, side_with, store_of}
 use Rattle.cli_ask.specs.declared.end.ClientEnd.{ClientEnd}
 
--- The publisher has the store behind the message, and was asked by the client alone, over the link. Where the link is clear and the
+-- The publisher has the store after the message, and the client alone asked it, over the link. Where the link is clear and the
 -- publisher's texts fit into replies, the client ended rightly by the publisher's side. The text is the line of the message and those
 -- of the client.
 pub record IsAsked (made : Timetable) (publishing : Publishing) (file : Option File) (query : Query) (before after : LinkSeen) (text : List ℕ) (end : ClientEnd) : Type 0 where
@@ -29,7 +29,7 @@ pub record IsAsked (made : Timetable) (publishing : Publishing) (file : Option F
   pub right : before.clear → IsShort (side_with made publishing store) → EndsRight (side_with made publishing store) publishing.base query before.recorded after.recorded end
   pub text_is : text ≡ line ++ client_text_of 1 end
 
--- the publisher has the store behind the message, and its base again
+-- the publisher has the store after the message, and its base again
 pub record IsPrepared (made : Timetable) (publishing : Publishing) (file : Option File) (held : Held Cutting) (base : BaseParts) (line : List ℕ) : Type 0 where
   pub store : Stored
   pub held_is : held ≡ held_with made publishing store

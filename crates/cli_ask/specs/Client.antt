@@ -1,4 +1,4 @@
--- How a client ended that asked alone: by the replies that it got, whatever the link was; and rightly by the side of the publisher that
+-- How a client that asked alone ended: by the replies that it got, whatever the link was. It ended rightly by the side of the publisher that
 -- answered, where the replies came as it gave them.
 use Rattle.std.specs.Prelude.{◌≡◌, List, [], ◌∷◌, ◌++◌, length, Option, Some, None}
 use Rattle.laws_clients.specs.Fits.{HasEnded}
@@ -32,7 +32,7 @@ pub record AsksOneMore (side : Side) (query : Query) (given asked : List Want) :
   pub is_next : IsNext side query given want
   pub are : asked ≡ given ++ want ∷ []
 
--- what it was given was asked for, and where an exchange failed one more
+-- the client asked for what it received, and for one want more where an exchange failed
 abbrev pub AsksFor : Side → Query → List Want → List Want → Outcome → Type 0
 AsksFor side query given asked (outcomes.Found journey) = asked ≡ given
 AsksFor side query given asked outcomes.NoJourney = asked ≡ given
@@ -40,9 +40,9 @@ AsksFor side query given asked (outcomes.Refused fault) = asked ≡ given
 AsksFor side query given asked (outcomes.LinkFault before after) = AsksOneMore side query given asked
 AsksFor side query given asked (outcomes.PeerWrong reply fault) = asked ≡ given
 
--- It was given exactly its wants: the gate, the stops document and the needed pages of the version that is meant by its known
--- moment. What it found is a best journey by the timetable of that version, and where it found none there is none; a refusal was
--- deserved, and no reply failed a test. Where an exchange failed it was given the wants in front of that one. A link that records replies
+-- It received exactly its wants: the time gate, the stops document and the needed pages of the version that its known moment
+-- means. What it found is a best journey by the timetable of that version, and where it found none there is none. A refusal was
+-- deserved, and no reply failed a test. Where an exchange failed it received the wants in front of that one. A link that records replies
 -- has recorded those of the side.
 pub record EndsRight (side : Side) (base : BaseParts) (query : Query) (recorded now_recorded : Option (List Entry)) (end : ClientEnd) : Type 0 where
   pub given : List Want

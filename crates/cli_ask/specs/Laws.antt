@@ -1,4 +1,4 @@
--- That what is printed of a question is one, where the replies come as the publisher gave them; and what a publisher has after a message.
+-- That the output of a question is one, where the replies come as the publisher gave them. What a publisher has after a message.
 use Rattle.std.specs.Prelude.{◌≡◌, ◌⊎◌, ℕ, Bool, List, [], ◌∷◌, ◌++◌, Option}
 use Rattle.laws_clients.specs.Fits.{IsCutShort}
 use Rattle.laws_clients.specs.Wants.{AreWants, wants_of}
@@ -75,20 +75,20 @@ OnePublisher =
 abbrev pub NoWantsAreLacking : Type 0
 NoWantsAreLacking = (side : Side) (version : ℕ) (query : Query) → IsValidSide side → ((all : List Want) → AreWants side version query all → ⊥) → ⊥
 
--- these wants are those of a question, and what a client was given stands in front of what it asked for in vain, and both in front of the rest
+-- these wants are those of a question: first what a client received, then what it asked for in vain, then the rest
 pub record StandsInFront (side : Side) (version : ℕ) (query : Query) (given all : List Want) : Type 0 where
   pub are_wants : AreWants side version query all
   pub asked : Want
   pub more : List Want
   pub is : all ≡ given ++ asked ∷ more
 
--- so who failed behind the time gate does not fail to have been given what stands in front of some wants, and nothing else
+-- for a client that failed after the time gate it never holds that no wants begin with what it received
 abbrev pub NoFrontIsLacking : Type 0
 NoFrontIsLacking =
     (side : Side) (s : Shown) (given : List Want) (version : ℕ) → IsValidSide side → IsCutShort side s given version
     → ((all : List Want) → StandsInFront side version s.query given all → ⊥) → ⊥
 
--- By that they stand in order: the time gate alone, or it and the stops document and then pages. Any other list is a near value, which is refused.
+-- By that the wants are in order: the time gate alone, or it and the stops document and then pages. Any other list is near and refused.
 abbrev pub AreGivenInOrder : Type 0
 AreGivenInOrder =
     (side : Side) (s : Shown) (given : List Want) (version : ℕ) → IsValidSide side → IsCutShort side s given version

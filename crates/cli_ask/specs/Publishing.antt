@@ -36,7 +36,7 @@ held_with made publishing store = held_for made publishing store false
 abbrev pub side_with : Timetable → Publishing → Stored → Side
 side_with made publishing store = side_for made publishing store false
 
--- The publisher of the timetable has the store after the message of a file, if there is one, and the line says what became of it.
+-- The publisher of the timetable has the store after the message of a file, if there is one. The line says what became of it.
 pub record PublishesAfter (made : Timetable) (publishing : Publishing) (accepts : Bool) (file : Option File) (held : Held Cutting) (line : List ℕ) : Type 0 where
   pub store : Stored
   pub held_is : held ≡ held_for made publishing store accepts

@@ -27,7 +27,7 @@ pub(crate) fn admit(
     }
 }
 
-/// The same of a file that is there.
+/// Gives the message of a file that is there to the publisher, and says in a line what became of it.
 pub fn give(
     alloc: Global,
     publisher: &mut Publisher<Cutting>,

@@ -13,7 +13,7 @@ use lc_model::{NoMemory, Query};
 use lc_world::Link;
 use std::alloc::Global;
 
-/// Lets a client ask alone, until it ends. It keeps so many pages at most.
+/// Lets a client ask alone, until it ends. It caches so many pages at most.
 pub(crate) fn client_end<L: Link>(
     alloc: Global,
     base: Base,

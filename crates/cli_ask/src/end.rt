@@ -4,7 +4,7 @@ use page_client::Outcome;
 /// How a client ended.
 #[derive(Drop)]
 pub struct ClientEnd {
-    /// The version that the time gate named to it; none where the gate was not asked, or gave no reply that passes.
+    /// The version that the time gate named to it. None where no time gate was asked, or its reply does not pass.
     pub version: Option<Moment>,
     pub outcome: Outcome,
     /// How many exchanges it made, a failed one too.

@@ -20,8 +20,8 @@ pub fn one_publisher()
     one_outcome();
 }
 
-/// A valid side does not fail to have a list of wants for each question. So what is said of all wants of a client that failed is said of something:
-/// it was given what stands in front of some, in the order of the time gate, the stops document and pages.
+/// A valid side does not lack a list of wants for each question. What is said of all wants of a client that failed is thus said of something.
+/// The client received a front of such a list, in the order of the time gate, the stops document and pages.
 pub fn some_wants()
     ensures wants { NoWantsAreLacking }
     ensures front { NoFrontIsLacking }

@@ -1,5 +1,5 @@
-//! A question to an in-process publisher: the publisher of a timetable with one message, the client that asks it page by
-//! page, and what is printed of both. It stands on `timetable`, `publisher`, `convoy` and `lc_links`.
+//! A question to an in-process publisher of a timetable with one message. The client asks it page by
+//! page, and the room says what is printed of both. It builds on `timetable`, `publisher`, `convoy` and `lc_links`.
 #![tactic(auto)]
 
 mod admission;

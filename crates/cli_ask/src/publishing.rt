@@ -25,7 +25,7 @@ pub fn publisher_of(
     publisher_for(alloc, made, publishing, false)
 }
 
-/// The publisher of a timetable that was given the message of a file, if there is one, and the line that says what became of it. Its
+/// The publisher of a timetable that received the message of a file, if there is one, and the line that says what became of it. Its
 /// clients may send it messages, or not.
 pub fn serving_publisher(
     alloc: Global,
@@ -69,7 +69,7 @@ fn publisher_for(
     Publisher::new(alloc, runs, doc, zone, base_moment, cutting, options)
 }
 
-/// The same base again.
+/// A copy of the base.
 pub fn copy_of(alloc: Global, base: &Base) -> Result<Base, NoMemory>
     ensures { IfOk result (λ copy. copy ≡ base.now) }
 {

@@ -34,8 +34,8 @@ struct Prepared {
     line: Vec<u8>,
 }
 
-/// Publishes a timetable, gives the publisher the message of a file, if there is one, and lets a client ask it a question page by page.
-/// Each reply is handed on over the link, which is given back. The client keeps so many pages at most.
+/// Publishes a timetable, and gives the publisher the message of a file, if there is one. Then a client asks it a question page by page.
+/// Each reply is handed on over the link, which is given back. The client caches so many pages at most.
 pub fn ask<L: Link>(
     alloc: Global,
     made: Timetable,
@@ -57,7 +57,7 @@ pub fn ask<L: Link>(
     }
 }
 
-/// The publisher of the timetable, behind its message.
+/// The publisher of the timetable, after its message.
 fn prepare(
     alloc: Global,
     made: Timetable,
@@ -71,7 +71,7 @@ fn prepare(
     prepare_under(alloc, base, made, publishing, file)
 }
 
-/// The same with a copy of the base at hand.
+/// The publisher of the timetable, after its message, with a copy of the base at hand.
 fn prepare_under(
     alloc: Global,
     base: Base,

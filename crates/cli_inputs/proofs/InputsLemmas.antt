@@ -14,19 +14,19 @@ use Rattle.cli_inputs.specs.Inputs.{AsksForUpdate, EndsUpdate, FailsAtUpdate, Is
 use Rattle.cli_inputs.specs.declared.refusal.Refusal.{Refusal}
 use Rattle.cli_inputs.specs.declared.refusal.Refusal.TheVariants.{Usage, Load, Script, Folder, LongUpdate, BrokenUpdate}
 
--- a count that rose after it had not fallen rose
+-- a count that increased after it had not fallen increased over all
 pub rose_later : (before between after : ℕ) → before ≤ between → Rose between after → Rose before after
 rose_later before between after not_fallen rose = omega (arith, not_fallen, rose)
 
 module _ (scope : Scope) (update : Option (List ℕ)) (old between new : FolderSeen) (made : Timetable) (loads : Loads scope old between made) (kept : Keeps old between) where
-  -- a file that could not be read was asked for behind the timetable
+  -- a file that could not be read was asked for after the timetable
   pub asks_for : (fail : FolderFail) → EndsUpdate update between new (Err fail) → AsksForUpdate scope update old new (Err fail)
   asks_for fail ends = by update refl ends where
     by : (named : Option (List ℕ)) → update ≡ named → EndsUpdate named between new (Err fail) → AsksForUpdate scope update old new (Err fail)
     by None is ends = absurd ends
     by (Some name) is ends = record { between = between; made = made; loaded = loads; kept = kept; name = name; named = is; read = ends }
 
-  -- and where it failed the count rose
+  -- where the reading failed, the count increased
   pub fails_at : (before after : ℕ) → before ≡ old.faults → after ≡ new.faults → EndsUpdate update between new (Err Failed) → FailsAtUpdate scope update old new before after
   fails_at before after b a ends =
       let asks = asks_for Failed ends in record {
@@ -36,7 +36,7 @@ module _ (scope : Scope) (update : Option (List ℕ)) (old between new : FolderS
         rose = subst (λ n. Rose n after) (sym b) (subst (Rose old.faults) (sym a) (rose_later old.faults asks.between.faults new.faults asks.kept.faults (asks.read.faults.rose refl)));
       }
 
--- the file that was read was asked for behind the timetable
+-- the file that was read was asked for after the timetable
 asked_file : (scope : Scope) (update : Option (List ℕ)) (old new : FolderSeen) (made : Timetable) (file : Option File) (there : File) → ReadsInputs scope update old new made file → file ≡ Some there
     → AsksForUpdate scope update old new (Ok there.bytes) × (update ≡ Some there.name)
 asked_file scope update old new made file there read is = by update refl (subst (ReadsUpdate update read.between new) is read.read) where
@@ -45,7 +45,7 @@ asked_file scope update old new made file there read is = by update refl (subst 
   by (Some name) same x =
       (record { between = read.between; made = made; loaded = read.loaded; kept = read.kept; name = name; named = same; read = x.read }, same ∙ ap (λ n. Some n) (sym x.named))
 
--- memory may run out behind what was read
+-- memory may run out after what was read
 pub runs_out : (scope : Scope) (update : Option (List ℕ)) (old new : FolderSeen) (made : Timetable) (file : Option File) → ReadsInputs scope update old new made file → RunsOut scope update old new
 runs_out scope update old new made file read = by update file refl refl read.read where
   by : (named : Option (List ℕ)) (there : Option File) → update ≡ named → file ≡ there → ReadsUpdate named read.between new there → RunsOut scope update old new

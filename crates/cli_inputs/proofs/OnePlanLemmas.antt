@@ -1,4 +1,4 @@
--- The same files say one script of questions and turns.
+-- Equal files say one script of questions and turns.
 use Rattle.std.proofs.Common.{◌≡◌, ◌∙◌, ℕ, List, [], ◌∷◌, Some, Ok, ap, ap₂, refl, subst, sym}
 use Rattle.std.specs.Option.{IfSome}
 use Rattle.lc_io.specs.Folder.{FolderSeen, bytes_named}

@@ -96,7 +96,7 @@ stops_at count script place row said old now new all refusal is until row_is ref
       refused = subst (λ n. IsRefusedAt count n said now new refusal) (row_is ∙ ap (λ n. n + 1) (sym parts.counted)) refused;
     }
 
--- behind a record that was read memory may run out
+-- after a record that was read memory may run out
 pub out_behind : (said : Record) (old new : FolderSeen) (event : Event) → IsEventOf said old new event → RunsOutAt said old new
 out_behind (records.Ask query) old new (events.Ask asked) is = inl is.1
 out_behind (records.Ask query) old new (events.Message message) is = absurd is

@@ -16,7 +16,7 @@ use Rattle.version_store.specs.Admission.{IsBroken}
 use Rattle.cli_inputs.specs.declared.refusal.Refusal.{Refusal}
 use Rattle.cli_inputs.specs.declared.refusal.Refusal.TheVariants.{Usage, Load, Script, Folder, LongUpdate, BrokenUpdate}
 
--- the folder was asked for this file, once, and answered so
+-- the directory was asked for this file, once, and answered with this
 pub record ReadsFile (old new : FolderSeen) (name : List ℕ) (result : Result (List ℕ) FolderFail) : Type 0 where
   pub bytes : IfOk result (λ bytes. IfSome old.files (λ files. bytes_named files name ≡ Some bytes))
   pub absent : IsErrOf result Absent → IfSome old.files (λ files. bytes_named files name ≡ None)
@@ -30,7 +30,7 @@ pub record IsReadAs (name : List ℕ) (old new : FolderSeen) (file : File) : Typ
   pub named : file.name ≡ name
   pub read : ReadsFile old new name (Ok file.bytes)
 
--- the file of this name was read, if there is a name; else there is none, and the folder was not asked
+-- the file of this name was read, if there is a name; else there is none, and the directory was not asked
 abbrev pub ReadsUpdate : Option (List ℕ) → FolderSeen → FolderSeen → Option File → Type 0
 ReadsUpdate None old new None = new ≡ old
 ReadsUpdate None old new (Some file) = ⊥
@@ -60,12 +60,12 @@ pub record AsksForUpdate (scope : Scope) (update : Option (List ℕ)) (old new :
   pub named : update ≡ Some name
   pub read : ReadsFile between new name result
 
--- the file is absent, which is recorded as row 0
+-- the file is absent, which is reported as row 0
 pub record LacksUpdate (scope : Scope) (update : Option (List ℕ)) (old new : FolderSeen) (row : ℕ) : Type 0 where
   pub asks : AsksForUpdate scope update old new (Err Absent)
   pub row_is : row ≡ 0
 
--- the file could not be read, and the folder's count rose
+-- the file could not be read, and the directory's count increased
 pub record FailsAtUpdate (scope : Scope) (update : Option (List ℕ)) (old new : FolderSeen) (before after : ℕ) : Type 0 where
   pub asks : AsksForUpdate scope update old new (Err Failed)
   pub before_is : before ≡ old.faults
@@ -86,13 +86,13 @@ pub record IsBrokenUpdate (scope : Scope) (update : Option (List ℕ)) (old new 
   pub named : update ≡ Some name
   pub broken : IsBroken bytes fault
 
--- memory ran out: at any end of the loading, or behind it at any end of the reading of the message
+-- memory ran out: at any end of the loading, or after it at any end of the reading of the message
 abbrev pub RunsOut : Scope → Option (List ℕ) → FolderSeen → FolderSeen → Type 0
 RunsOut scope update old new =
     ((end : Result Timetable LoadFault) × LoadsSo scope old new end)
     ⊎ ((result : Result (List ℕ) FolderFail) × AsksForUpdate scope update old new result)
 
--- why the command is refused, each cause in its turn: the feed, the folder, the message, or memory
+-- why the command is refused, each cause in its turn: the feed, the directory, the message, or memory
 abbrev pub IsRefusedFor : Scope → Option (List ℕ) → FolderSeen → FolderSeen → Refusal → Type 0
 IsRefusedFor scope update old new Usage = ⊥
 IsRefusedFor scope update old new (Load (fault.Broken rule file row)) = LoadsSo scope old new (Err (fault.Broken rule file row))

@@ -1,4 +1,4 @@
--- The same files say one script of questions and turns.
+-- Equal files say one script of questions and turns.
 use Rattle.std.specs.Prelude.{◌≡◌, ℕ, List, Some}
 use Rattle.lc_io.specs.Folder.{FolderSeen}
 use Rattle.lc_io.specs.declared.file.File.{File}

@@ -1,5 +1,5 @@
--- What a command with a script reads: the script, then the timetable of its feed, and then the files of the messages that the script names,
--- in its order. Each is tested before the next one is asked for.
+-- What a command with a script reads. It is the script, then the timetable of its feed, and then the files of the messages that the script
+-- names, in its order. Each is tested before the next one is asked for.
 use Rattle.std.specs.Prelude.{◌≡◌, ◌⊎◌, ◌<◌, ℕ, ◌+◌, Bool, true, List, [], ◌∷◌, ◌++◌, Result, Ok, Err, length}
 use Rattle.gtfs_tables.specs.Reading.{Keeps}
 use Rattle.lc_io.specs.Counts.{Rose}
@@ -74,7 +74,7 @@ pub record HasWrongRow (updates : Bool) (name : List ℕ) (old new : FolderSeen)
   pub read : ReadsFile old new name (Ok bytes)
   pub wrong : HasFault bytes updates (Wrong row)
 
--- the script is absent, which is recorded as row 0
+-- the script is absent, which is reported as row 0
 pub record LacksScript (name : List ℕ) (old new : FolderSeen) (row : ℕ) : Type 0 where
   pub read : ReadsFile old new name (Err Absent)
   pub row_is : row ≡ 0
@@ -85,7 +85,7 @@ pub record FailsToLoad (scope : Scope) (name : List ℕ) (old new : FolderSeen) 
   pub script : HasScript name old between
   pub ended : LoadsSo scope between new (Err found)
 
--- the fault of a loading, where the folder's count was this at the start
+-- the fault of a loading, where the directory's count was this at the start
 abbrev pub fault_since : ℕ → LoadFault → LoadFault
 fault_since count (fault.Broken rule file row) = fault.Broken rule file row
 fault_since count (fault.TooLarge what many) = fault.TooLarge what many
@@ -116,13 +116,13 @@ IsNone name bytes (Folder before after) = ⊥
 IsNone name bytes (LongUpdate many) = (16_777_216 < length bytes) × (many ≡ length bytes)
 IsNone name bytes (BrokenUpdate broken found) = (broken ≡ name) × IsBroken bytes found
 
--- memory ran out at the record: the folder was not asked for its file, or it was, with this end
+-- memory ran out at the record: the directory was not asked for its file, or it was, with this end
 abbrev pub RunsOutAt : Record → FolderSeen → FolderSeen → Type 0
 RunsOutAt said old new =
     (new ≡ old) ⊎ ((name : List ℕ) × (result : Result (List ℕ) FolderFail) × (said ≡ records.Update name) × ReadsFile old new name result)
 
--- The record in this row is no event, for this cause, where the count of faults was this at the start: it names a file that is absent or
--- cannot be read, or that is no message; or memory ran out.
+-- The record in this row is no event, for this cause, where the count of faults was this at the start. It names a file that is absent or
+-- cannot be read, or that is no message. Or memory ran out.
 abbrev pub IsRefusedAt : ℕ → ℕ → Record → FolderSeen → FolderSeen → Refusal → Type 0
 IsRefusedAt count row said old new Usage = ⊥
 IsRefusedAt count row said old new (Load (fault.Broken rule file at)) = ⊥
@@ -155,7 +155,7 @@ pub record StopsAtRecord (scope : Scope) (name : List ℕ) (old new : FolderSeen
   pub has : HasTimetable scope name old between
   pub stops : StopsAt old.faults has.script.script between new refusal
 
--- the folder's count rose, from the one to the other
+-- the directory's count increased, from the one to the other
 pub record IsFolderFault (old new : FolderSeen) (before after : ℕ) : Type 0 where
   pub before_is : before ≡ old.faults
   pub after_is : after ≡ new.faults
@@ -165,7 +165,7 @@ pub record IsFolderFault (old new : FolderSeen) (before after : ℕ) : Type 0 wh
 abbrev pub FailsAtScript : List ℕ → FolderSeen → FolderSeen → Type 0
 FailsAtScript name old new = ReadsFile old new name (Err Failed)
 
--- memory ran out at the script, which was asked for, with this end, or behind it
+-- memory ran out at the script, which was asked for, with this end, or after it
 abbrev pub RunsOutAtScript : List ℕ → FolderSeen → FolderSeen → Type 0
 RunsOutAtScript name old new = (result : Result (List ℕ) FolderFail) × ReadsFile old new name result
 
@@ -187,7 +187,7 @@ pub record HasReplay (scope : Scope) (name : List ℕ) (old new : FolderSeen) : 
   pub all : List Event
   pub read : ReadsReplay scope name old new made all
 
--- memory ran out: at the script, or behind it in the loading, or behind that at a record of the script, or behind all that was to be read
+-- memory ran out: at the script, or then in the loading, or then at a record of the script, or after all the reading
 abbrev pub RunsOutOnTheWay : Scope → List ℕ → FolderSeen → FolderSeen → Type 0
 RunsOutOnTheWay scope name old new =
     RunsOutAtScript name old new ⊎ FailsToLoad scope name old new fault.NoMemory ⊎ StopsAtRecord scope name old new (Load fault.NoMemory) ⊎ HasReplay scope name old new

@@ -2,7 +2,7 @@ ghost use Rattle.cli_inputs.specs.Laws.{OnePlan};
 
 use script_text::one_script;
 
-/// The same files say one script of questions and turns.
+/// Equal files say one script of questions and turns.
 pub fn one_plan()
     ensures { OnePlan }
 {

@@ -6,14 +6,14 @@ use trip_updates::RtFault;
 /// Why a command is not carried out, for a cause that is no client's.
 #[derive(Drop)]
 pub enum Refusal {
-    /// The words are none that a command has.
+    /// The arguments are none that a command has.
     Usage,
     /// The feed gave no timetable.
     Load(LoadFault),
     /// A row of the script, counted from 1, is no record, or names a file that is absent. It is 0 where the script is absent, or the
     /// file of the one message.
     Script { row: u64 },
-    /// A file beside the feed could not be read: the folder's count of faults before the run and after.
+    /// A file beside the feed could not be read: the directory's count of faults before the run and after.
     Folder { before: u64, after: u64 },
     /// A message has so many bytes, which are too many.
     LongUpdate { bytes: u64 },

@@ -15,7 +15,7 @@ use std::alloc::Global;
 use timetable::{LoadFault, Scope, Timetable, load};
 use version_store::MessageFault;
 
-/// What a course is played from: the timetable of the feed, and what happens one after the other.
+/// What a replay is played from: the timetable of the feed, and its event sequence.
 #[derive(Drop)]
 pub struct ReplayInputs {
     pub made: Timetable,
@@ -48,7 +48,7 @@ pub fn read_replay<F: Folder>(
     }
 }
 
-/// The fault of a loading, where the folder's count of faults was this at the start.
+/// The fault of a loading, where the directory's count of faults was this at the start.
 fn fault_from(before: u64, fault: LoadFault) -> LoadFault
     ensures { result ≡ fault_since before fault }
 {
@@ -58,7 +58,7 @@ fn fault_from(before: u64, fault: LoadFault) -> LoadFault
     }
 }
 
-/// Reads the script, which may name messages or not, where the folder's count of faults was this before.
+/// Reads the script, which may name messages or not, where the directory's count of faults was this before.
 pub(crate) fn read_records<F: Folder>(
     alloc: Global,
     folder: &mut F,
@@ -88,7 +88,7 @@ pub(crate) fn read_records<F: Folder>(
     }
 }
 
-/// The events of a script, with the files of its messages, where the folder's count of faults was this at the start.
+/// The events of a script, with the files of its messages, where the directory's count of faults was this at the start.
 fn read_events<F: Folder>(
     alloc: Global,
     folder: &mut F,

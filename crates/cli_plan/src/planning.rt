@@ -25,8 +25,8 @@ pub struct Planned {
     pub ends: Vec<ClientEnd>,
 }
 
-/// Lets clients ask the publisher at the other end of a link: each asks and has its turns as the events say, and then is turned until it
-/// ends. Each exchange is made over the link, which is given back; where memory runs out some were made. The clients share a cache of so
+/// Lets clients ask the publisher at the other end of a link. Each asks and has its turns as the events say, and then is turned until it
+/// ends. Each exchange is made over the link, which is given back. Where memory runs out some were made. The clients share a cache of so
 /// many pages at most. A client makes at most `horizon + 3` exchanges.
 pub fn plan<L: Link>(
     alloc: Global,

@@ -1,4 +1,4 @@
--- What a publisher at home is given.
+-- What a publisher at home receives.
 use Rattle.std.proofs.Common.{◌≡◌, ℕ, List, Some, ap, refl, subst, sym}
 use Rattle.cli_ask.specs.Admission.{IsBehind}
 use Rattle.fragmenter.specs.Cutting.{chosen_cuts}
@@ -15,7 +15,7 @@ use Rattle.cli_replay.specs.Home.{home_seen}
 abbrev pub with_publisher : {L : Type 0} → HomeLinkState Cutting L → Held Cutting → HomeLinkState Cutting L
 with_publisher home held = record { local = record { publisher = held; recorded = home.local.recorded; asked = home.local.asked }; outer = home.outer }
 
--- what was given to the publisher was given over the link
+-- what the publisher received came over the link
 pub given : {L : Type 0} (seen : L → LinkSeen) (home : HomeLinkState Cutting L) (was now : Held Cutting) (file : File) (line : List ℕ) → was ≡ home.local.publisher
     → now ≡ record was { store = now.store } → IsBehind (Some file) was.store now.store line → was.store.stops ≡ was.doc.stops → IsValidSide (side_of chosen_cuts now)
     → IsGiven (home_seen seen home) (home_seen seen (with_publisher home now)) file line

@@ -1,4 +1,4 @@
--- What a course comes to that was played to a publisher at home.
+-- What an event sequence results in that was played to a publisher at home.
 use Rattle.std.proofs.Common.{◌≡◌, ℕ, List, Some, ap, subst, sym}
 use Rattle.cli_ask.specs.Publishing.{held_with, side_with, store_of}
 use Rattle.cli_ask.specs.declared.end.ClientEnd.{ClientEnd}
@@ -49,7 +49,7 @@ module _ {L : Type 0} (seen : L → LinkSeen) (plays_heard : PlaysHeard (home_se
             plays_right made publishing all cache x.played x.ended before x.behind after x.lines ends caused.caused.met turns (quiet_at clear) short x.plays x.rounds x.have_ended caused.met_in;
       }
 
-  -- the same of the link that was handed in and the one that is given back
+  -- the event sequence is replayed over the link that was handed in and the one that is given back
   pub replayed_over : (link back : L) → before.outer ≡ link → back ≡ after.outer → IsReplayed made publishing all cache (seen link) (seen back) text ends
   replayed_over link back was is =
       subst (λ (l : L). IsReplayed made publishing all cache (seen l) (seen back) text ends) was

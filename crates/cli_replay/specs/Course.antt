@@ -1,4 +1,4 @@
--- A course that was played to its end over a link. X is the type of the link, and `seen` what is promised of it.
+-- An event sequence that was played to its end over a link. X is the type of the link, and `seen` what is promised of it.
 use Rattle.std.specs.Prelude.{◌≡◌, ℕ, List, ◌++◌, length}
 use Rattle.cli_ask.specs.declared.end.ClientEnd.{ClientEnd}
 use Rattle.connection_uri.specs.Base.{BaseParts}
@@ -9,7 +9,7 @@ use Rattle.laws_replay.specs.Played.{HaveEndedSo, Plays}
 use Rattle.laws_replay.specs.Replayed.{clients_text_of}
 use Rattle.laws_replay.specs.declared.event.Event.{Event}
 
--- the events were played by clients under the base with a cache of so many pages, each client was turned until it ended, and this is printed
+-- Clients under the base played the events with a cache of so many pages. Each client was turned until it ended, and this is printed.
 pub record IsPlayed {X : Type 0} (seen : X → LinkSeen) (base : BaseParts) (all : List Event) (cache : ℕ) (before after : X) (text : List ℕ) (ends : List ClientEnd) : Type 0 where
   pub played : ConvoyState
   pub ended : ConvoyState

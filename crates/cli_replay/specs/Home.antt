@@ -7,8 +7,8 @@ use Rattle.lc_links.specs.HomeLink.{HomeLinkState}
 use Rattle.lc_world.specs.Link.{LinkSeen}
 use Rattle.publisher.specs.Held.{side_of}
 
--- what a link at home is seen to be, by what the outer one is seen to be: it tells the side of its publisher, which stays at a GET, and is
--- honest where the outer one is clear
+-- How a link at home is seen, by how the outer one is seen. It records the side of its publisher, which stays at a GET. It is
+-- honest where the outer one is clear.
 abbrev pub home_seen : {L : Type 0} → (L → LinkSeen) → HomeLinkState Cutting L → LinkSeen
 home_seen {L} seen home = record {
   side = Some (side_of chosen_cuts home.local.publisher);

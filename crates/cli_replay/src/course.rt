@@ -16,7 +16,7 @@ use lc_model::NoMemory;
 use lc_world::Link;
 use std::alloc::Global;
 
-/// Plays the events by clients under the base, lets each client come to its end, and says what is printed.
+/// Plays the events by clients under the base, lets each client reach its end, and says what is printed.
 pub fn play_out<L: Link>(
     alloc: Global,
     base: Base,

@@ -1,5 +1,5 @@
-//! Replays a course: a publisher of a timetable hears messages, while clients that share a cache of pages ask it in turn; and what is
-//! printed of it. It stands on `cli_ask` and `laws_replay`.
+//! Replays an event sequence. A publisher of a timetable hears messages, while clients that share a cache of pages ask it in turn.
+//! It says what is printed of it, too. It builds on `cli_ask` and `laws_replay`.
 #![tactic(auto)]
 
 mod course;

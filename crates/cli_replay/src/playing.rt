@@ -16,7 +16,7 @@ use lc_world::Link;
 use std::alloc::Global;
 use timetable::Timetable;
 
-/// What is printed of a course, and how its clients ended, in the order in which they asked.
+/// What is printed of an event sequence, and how its clients ended, in the order in which they asked.
 #[derive(Drop)]
 pub struct Replayed {
     pub text: Vec<u8>,
@@ -30,7 +30,7 @@ struct Prepared {
     base: Base,
 }
 
-/// Publishes a timetable and plays a course to the publisher: clients ask it, it is given messages, and clients have turns; behind it each
+/// Publishes a timetable and plays an event sequence to the publisher. Clients ask, messages arrive, and clients have turns. After it each
 /// client is turned until it ends. Each reply is handed on over the link, which is given back. The clients share a cache of so many pages
 /// at most.
 pub fn replay<L: Link>(

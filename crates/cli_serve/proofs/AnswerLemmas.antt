@@ -69,14 +69,14 @@ none_answered side door fault = (
       (none_recorded door.recorded) (record { not_fallen = omega arith; rose = λ no. absurd no }) refl,
 )
 
--- a session that was fed nothing stands for no bytes
+-- a session that received nothing stands for no bytes
 pub starts : (side : Side) (serving : ServingState Cutting) → serving.session ≡ fresh → Stands serving.session side [] [] (side_of chosen_cuts serving.publisher)
     → StandsOut chosen_cuts serving side [] []
 starts side serving is stands =
     let goes_on : serving.session.phase ≡ Open = ap (λ (held : session.Held). held.phase) is in
     record { enough = λ spent. absurd (cc); stands = stands }
 
--- the talk's states, and the bytes for which they stand
+-- the talk's states, and the bytes that they stand for
 abbrev stands_out : ServingState Cutting → Side → List ℕ → List ℕ → Type 0
 stands_out serving start fed sent = StandsOut chosen_cuts serving start fed sent
 

@@ -10,7 +10,7 @@ use Rattle.lc_io.proofs.CountLemmas.{RoseBy-none, RoseBy-then}
 use Rattle.lc_io.specs.Counts.{Rose, RoseBy}
 use Rattle.lc_model.specs.declared.memory.NoMemory.{NoMemory}
 use Rattle.publisher_spec.specs.Side.{Side}
-use Rattle.cli_serve.specs.Clients.{HasGone, HasTaken, IsUnderWay}
+use Rattle.cli_serve.specs.Clients.{HasGone, HasTaken, HasServedSoFar}
 use Rattle.cli_serve.specs.Tally.{Fits, IsTallyOf}
 use Rattle.cli_serve.specs.Recorded.{AreRecorded, NoneWaits}
 use Rattle.cli_serve.specs.Visit.{AreVisits, IsVisit, Visit, faults_of}
@@ -127,7 +127,7 @@ pub record NextSaid (result : Result Next DoorFail) (before after : DoorSeen) : 
   pub broken : after.broken ≡ before.broken
 
 -- no client has come yet
-pub starts_out : (side : Side) (connections : ℕ) (tally : Tally) (door : DoorSeen) → IsTallyOf [] tally → Fits tally → IsUnderWay side side connections tally door door
+pub starts_out : (side : Side) (connections : ℕ) (tally : Tally) (door : DoorSeen) → IsTallyOf [] tally → Fits tally → HasServedSoFar side side connections tally door door
 starts_out side connections tally door is fits = record {
   visits = [];
   gone = none_gone side door;
@@ -138,7 +138,7 @@ starts_out side connections tally door is fits = record {
 }
 
 -- the door failed
-pub fails_next : (first side : Side) (connections : ℕ) (tally : Tally) (fail : DoorFail) (before middle after : DoorSeen) → IsUnderWay first side connections tally before middle
+pub fails_next : (first side : Side) (connections : ℕ) (tally : Tally) (fail : DoorFail) (before middle after : DoorSeen) → HasServedSoFar first side connections tally before middle
     → tally.connections < connections → NextSaid (Err fail) middle after → HasTaken first connections (Err fail) before after
 fails_next first side connections tally fail before middle after way fewer asked = record {
   visits = way.visits;
@@ -150,7 +150,7 @@ fails_next first side connections tally fail before middle after way fewer asked
 }
 
 -- nobody more came
-pub none_next : (first side : Side) (connections : ℕ) (tally : Tally) (before middle after : DoorSeen) → IsUnderWay first side connections tally before middle
+pub none_next : (first side : Side) (connections : ℕ) (tally : Tally) (before middle after : DoorSeen) → HasServedSoFar first side connections tally before middle
     → tally.connections < connections → NextSaid (Ok Closed) middle after → HasTaken first connections (Ok tally) before after
 none_next first side connections tally before middle after way fewer asked =
     let over = closed way.visits first side before middle after way.gone asked.recorded asked.faults asked.listens asked.broken in
@@ -164,7 +164,7 @@ none_next first side connections tally before middle after way fewer asked =
     }
 
 -- all have come that were asked for
-pub all_came : (first side : Side) (connections : ℕ) (tally : Tally) (before after : DoorSeen) → IsUnderWay first side connections tally before after
+pub all_came : (first side : Side) (connections : ℕ) (tally : Tally) (before after : DoorSeen) → HasServedSoFar first side connections tally before after
     → connections ≤ tally.connections → 1 ≤ connections → HasTaken first connections (Ok tally) before after
 all_came first side connections tally before after way all some = record {
   visits = way.visits;
@@ -177,10 +177,10 @@ all_came first side connections tally before after way all some = record {
 
 -- one more came
 pub one_next : (visit : Visit) (outcome : Result Served NoMemory) (first side next : Side) (connections : ℕ) (tally counted : Tally) (before middle opened after : DoorSeen)
-    → IsUnderWay first side connections tally before middle → tally.connections < connections → NextSaid (Ok Connection) middle opened
+    → HasServedSoFar first side connections tally before middle → tally.connections < connections → NextSaid (Ok Connection) middle opened
     → Visits visit outcome side next opened after
     → ((visits : List Visit) (visit : Visit) → IsTallyOf visits tally → CameOut outcome visit → IsTallyOf (visits ++ visit ∷ []) counted)
-    → counted.connections ≡ tally.connections + 1 → Fits counted → IsUnderWay first next connections counted before after
+    → counted.connections ≡ tally.connections + 1 → Fits counted → HasServedSoFar first next connections counted before after
 one_next visit outcome first side next connections tally counted before middle opened after way fewer asked is more one fits = record {
   visits = way.visits ++ visit ∷ [];
   gone = one_gone way.visits visit outcome first side next before middle opened after way.gone asked.recorded asked.faults asked.listens asked.broken is;

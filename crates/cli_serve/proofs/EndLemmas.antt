@@ -46,7 +46,7 @@ visited asked outcome before middle after announced broken taken = record {
   broken = subst (λ (n : ℕ). RoseBy (faults_of taken.visits) n after.broken) broken taken.gone.rose;
 }
 
--- so it was where memory ran out on a visit
+-- the door was visited like this where memory ran out on a visit
 pub stopped : (asked : Asked) (outcome : Result Tally DoorFail) (before middle : Outside) (after : DoorSeen) → IsAnnounced asked before middle
     → middle.door.broken ≡ before.door.broken → (taken : HasTaken asked.first asked.connections outcome middle.door after)
     → IsStopped asked taken.visits before (record { door = after; sink = middle.sink })

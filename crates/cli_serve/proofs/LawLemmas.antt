@@ -19,7 +19,7 @@ same_visit a b read sent requests ended failed lost =
     let Same : Visit → Type 0 = λ v. v ≡ b in
     rw (read, sent, requests, ended, failed, lost) refl
 
--- the same bytes from the same side, and the same bytes sent
+-- visits from one side with equal bytes read and sent are one, and lead to one side
 one_served : OneOutput → (side next other : Side) (a b : Visit) → a.read ≡ b.read → a.sent ≡ b.sent → a.failed ≡ b.failed → a.lost ≡ b.lost → IsServed side a next
     → IsServed side b other → (a ≡ b) × (next ≡ other)
 one_served one side next other a b read sent failed lost p q =

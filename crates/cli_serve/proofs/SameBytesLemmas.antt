@@ -58,7 +58,7 @@ rest_by false more none = omega arith
 none_counted_first : (visit : Visit) (visits : List Visit) → faults_of (visit ∷ visits) ≡ 0 → cond visit.failed 1 0 + faults_of visits ≡ 0
 none_counted_first visit visits none = sym (sum_by-cons (λ (v : Visit). cond v.failed 1 0) visit visits) ∙ none
 
--- a count that did not rise has counted nothing
+-- a count that did not increase has counted nothing
 none_counted : (many before after : ℕ) → RoseBy many before after → (Rose before after → ⊥) → many ≡ 0
 none_counted zero before after rose none = refl
 none_counted (suc many) before after rose none = absurd (none (omega arith))

@@ -18,8 +18,8 @@ pub record HasGone (visits : List Visit) (first last : Side) (before after : Doo
   pub broken : before.broken ≤ after.broken
   pub rose : RoseBy (faults_of visits) before.broken after.broken
 
--- So many clients at most are served, one after the other: these visits were made so far, and are counted.
-pub record IsUnderWay (first side : Side) (connections : ℕ) (tally : Tally) (before now : DoorSeen) : Type 0 where
+-- At most this many clients are served, one after the other: these visits were made until now, and are counted.
+pub record HasServedSoFar (first side : Side) (connections : ℕ) (tally : Tally) (before now : DoorSeen) : Type 0 where
   pub visits : List Visit
   pub gone : HasGone visits first side before now
   pub tally_is : IsTallyOf visits tally

@@ -1,4 +1,4 @@
--- What serving comes to, by how it ends.
+-- What serving results in, by how it ends.
 use Rattle.std.specs.Prelude.{◌≡◌, ◌⊎◌, ℕ, ◌<◌, ◌≤◌, true, false, List, ◌++◌, length, Result, Ok, Err}
 use Rattle.lc_doors.specs.Door.{DoorSeen, GoesOn}
 use Rattle.lc_io.specs.Counts.{Rose, RoseBy}
@@ -11,7 +11,7 @@ use Rattle.cli_serve.specs.Written.{Wrote, WroteFront, WroteThenFront}
 use Rattle.cli_serve.specs.declared.fault.ServeFault.{ServeFault}
 use Rattle.cli_serve.specs.declared.fault.ServeFault.TheVariants.{Door, Sink, NoMemory}
 
--- What is asked for: the side of the publisher at the start, the bytes to be written first, the port, and how many connections at most.
+-- What is asked for: the side of the publisher at the start, the bytes to be written first, the port, and the most connections.
 pub record Asked : Type 0 where
   pub first : Side
   pub opening : List ℕ
@@ -95,7 +95,7 @@ abbrev pub IsEndedByMemory : Asked → Outside → Outside → Type 0
 IsEndedByMemory asked before after =
     IsNotOpened before after ⊎ IsNotAnnounced asked before after ⊎ ((visits : List Visit) × IsStopped asked visits before after) ⊎ IsNotClosed asked before after
 
--- what serving comes to, by its result
+-- what serving results in, by its result
 abbrev pub ServesTo : Asked → Outside → Outside → Result (Unit {0}) ServeFault → Type 0
 ServesTo asked before after (Ok done) = IsServedWhole asked before after
 ServesTo asked before after (Err (Door count now)) = IsEndedByDoor asked count now before after

@@ -1,4 +1,4 @@
--- What the parts of serving come to: a text that is put into the sink, the opening, and all of it.
+-- What the parts of serving result in: a text that is put into the sink, the opening, and all of it.
 use Rattle.std.specs.Prelude.{◌≡◌, ◌⊎◌, ℕ, Bool, true, false, List, Result, Ok, Err}
 use Rattle.lc_doors.specs.Door.{GoesOn}
 use Rattle.lc_doors.specs.declared.door.DoorFail.{DoorFail}
@@ -60,7 +60,7 @@ abbrev pub Closes : Result Tally DoorFail → SinkSeen → SinkSeen → Result (
 Closes (Ok tally) before after result = ClosesKept tally.lost tally before after result
 Closes (Err fail) before after result = IsLeft (stop_of_door fail) before after result
 
--- what serving comes to, where the counts are those of the door and of the sink
+-- what serving results in, where the counts are those of the door and of the sink
 abbrev pub StopsTo : Asked → Outside → Outside → Result (Unit {0}) Stop → Type 0
 StopsTo asked before after (Ok done) = IsServedWhole asked before after
 StopsTo asked before after (Err Door) = IsEndedByDoor asked before.door.faults after.door.faults before after

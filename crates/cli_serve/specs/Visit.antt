@@ -5,7 +5,7 @@ use Rattle.lc_doors.specs.Serving.{IsFront}
 use Rattle.publisher_spec.specs.Side.{Side}
 use Rattle.wire_session.specs.SessionOut.{Said, SessionOut}
 
--- What was read on a connection and what was sent, how many requests were answered, and whether the session ended; whether a read or a
+-- What was read on a connection and what was sent. How many requests were answered, and whether the session ended. Whether a read or a
 -- write failed, and whether memory ran out.
 pub record Visit : Type 0 where
   pub read : List ℕ
@@ -15,7 +15,7 @@ pub record Visit : Type 0 where
   pub failed : Bool
   pub lost : Bool
 
--- The replies to what was read are sent, or a front of them where a read or a write failed; the next side is the one that they leave.
+-- The replies to what was read are sent, or a front of them where a read or a write failed. The next side is the one that they leave.
 pub record IsServed (side : Side) (visit : Visit) (next : Side) : Type 0 where
   pub said : Said
   pub said_is : SessionOut side visit.read said

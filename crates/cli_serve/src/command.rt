@@ -79,10 +79,10 @@ fn serve_all<D: Door, S: Sink>(
     (left, close(alloc, taken, out))
 }
 
-/// Listens at the port, says so after the opening, and serves so many connections one after the other, or all that come. Then it says how many
-/// there were, how many requests were answered, and on how many a read or a write failed. The publisher is handed on from one to the next.
+/// Listens at the port, says so after the opening, and serves this many connections one after the other, or all that come. Then it says how many
+/// there were, how many requests it answered, and on how many a read or a write failed. The publisher is handed on from one to the next.
 ///
-/// A connection has at most 100 requests. One on which memory runs out is hung up and the next one is served, but then the end is `NoMemory`, and
+/// A connection has at most 100 requests. One on which memory runs out is hung up and the next one is served. But then the end is `NoMemory`, and
 /// no line at the end is written.
 pub fn serve<D: Door, S: Sink>(
     alloc: Global,

@@ -12,8 +12,8 @@ pub fn one_serving()
     one_output();
 }
 
-/// Near values are refused: a visit that is not answered from the side that the one before has left, one that is hung up before all was sent or
-/// read, and a reply that is sent twice.
+/// Near values are refused. Such a visit is not answered from the side that the one before left, or is hung up before all was sent
+/// or read. Or a reply is sent twice.
 pub fn near_servings()
     ensures forgotten { NoneForgotten }
     ensures unsent { NoneUnsent }

@@ -1,4 +1,4 @@
-//! What `serve` does with a publisher: it listens, serves one connection after the other, and writes what came of it. It stands on `serving`, by
+//! What `serve` does with a publisher: it listens, serves one connection after the other, and writes what came of it. It builds on `serving`, by
 //! which one connection is served, on `lc_doors` and on `lc_io`.
 #![tactic(auto)]
 

@@ -8,7 +8,7 @@ use lc_io::{Sink, SinkFail, put_all};
 use lc_model::NoMemory;
 use std::alloc::Global;
 
-/// The opening with the line of a door that listens behind it.
+/// The opening with the line of a door that listens after it.
 fn opening_text(alloc: Global, mut opening: Vec<u8>, port: u16) -> Result<Vec<u8>, NoMemory>
     ensures { IfOk result (λ text. text.items ≡ opening.items ++ listening_line port) }
 {
@@ -47,7 +47,7 @@ fn put_text<S: Sink>(out: &mut S, text: &[u8]) -> Result<(), SinkFail>
     put_all(out, text)
 }
 
-/// Writes the opening, with the line of a door that listens behind it.
+/// Writes the opening, with the line of a door that listens after it.
 pub fn put_opening<S: Sink>(
     alloc: Global,
     opening: Vec<u8>,

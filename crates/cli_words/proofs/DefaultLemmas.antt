@@ -1,4 +1,4 @@
--- What stands for the options of publishing where these are not there.
+-- What is taken for the options of publishing where these are not there.
 use Rattle.std.proofs.Common.{◌≡◌, ℕ, inl, [], All, codes, Some, None, ap, arith, lit<, refl, sym}
 use Rattle.std.proofs.lemmas.Bool.{false≢true}
 use Rattle.std.proofs.lemmas.List.Elements.{All-cons, All-nil}

@@ -1,4 +1,4 @@
--- What comes after the walk over the words of a line.
+-- What comes after the walk over the arguments of a line.
 use Rattle.std.proofs.Common.{◌≡◌, ◌∙◌, ℕ, ◌+◌, ◌||◌, ◌&&◌, not, min, Bool, true, false, List, [], ◌∷◌, ◌++◌, map, Option, Some, None, ap, ap₂, refl, sym}
 use Rattle.std.specs.Prelude.{fold, is_some, if◌then◌else◌}
 use Rattle.std.specs.List.{list_any}
@@ -26,7 +26,7 @@ fails_none : (top : Shape) (stop : Option (Text × List Text)) → entered_fault
 fails_none top None = refl
 fails_none top (Some p) = refl
 
--- what `clap` says of words where the line is built so
+-- what `clap` says of arguments where the line is built so
 abbrev pub top_fault : Text → List Rule → List Text → Kinds
 top_fault name c words = level_fault (shape name c) [] nothing_held words false []
 

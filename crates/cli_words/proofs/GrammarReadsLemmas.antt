@@ -1,4 +1,4 @@
--- Each line is of words that the grammar reads.
+-- Each line is of arguments that the grammar reads.
 use Rattle.std.proofs.Common.{◌≡◌, ◌∙◌, Bool, true, false, List, [], map, All, Option, None, ap, refl, sym}
 use Rattle.std.specs.Prelude.{fold}
 use Rattle.std.specs.Option.{option_map_or}

@@ -1,4 +1,4 @@
--- A line grows by its plain words, by its options and by its flags.
+-- A line grows by its plain arguments, by its options and by its flags.
 use Rattle.std.proofs.Common.{◌≡◌, ◌∙◌, ℕ, ◌+◌, ◌<◌, List, [], ◌∷◌, ◌++◌, ap, ap₂, inl, inr, refl, subst, sym, map, take, length, get_or, arith, All, String, append_assoc}
 use Rattle.std.proofs.lemmas.List.{get_or-map, length-map, take_more}
 use Rattle.std.specs.String.{string_bytes}
@@ -51,7 +51,7 @@ one_more_flag name places options flags flag =
 one_more : (xs : List (Bor Text)) (i : ℕ) (d : Bor Text) → i < length xs → map (λ s. s.now) (take i xs) ++ (get_or xs i d).now ∷ [] ≡ map (λ s. s.now) (take (i + 1) xs)
 one_more xs i d lt = sym (ap (map (λ s. s.now)) (take_more xs i d lt) ∙ map_parts (λ s. s.now) (take i xs) (get_or xs i d ∷ []))
 
--- a line with the plain words before a place, and that word more
+-- a line with the plain arguments before a place, and that argument more
 pub next_place : (name : Text) (xs : List (Bor Text)) (i : ℕ) (d : Bor Text) (old new : App) (rule : Rule) → i < length xs → old ≡ line name (map (λ s. s.now) (take i xs)) [] [] → rule ≡ placed (get_or xs i d).now → new ≡ with_rule old rule → new ≡ line name (map (λ s. s.now) (take (i + 1) xs)) [] []
 next_place name xs i d old new rule lt was is grows =
     grows ∙ ap₂ with_rule was is ∙ one_more_place name _ _ ∙ ap (λ places. line name places [] []) (one_more xs i d lt)
@@ -70,7 +70,7 @@ unfolding Takes
 refused a words e other (inl memory) taken = other memory
 refused a words e other (inr among) taken = subst (IsAmong (kind_of e)) taken among
 
--- what holds of the texts of words holds of the words
+-- what holds of the texts of arguments holds of the arguments
 pub of_words : (P : List ℕ → Type 0) (words : List (String Global)) → All P (texts_of words) → All (λ word. P (string_bytes word)) words
 of_words P words all k d lt =
     let inside : k < length (texts_of words) = omega (arith, length-map words string_bytes) in

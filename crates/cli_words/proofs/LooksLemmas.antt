@@ -1,4 +1,4 @@
--- How words look to `clap`.
+-- How arguments look to `clap`.
 use Rattle.std.proofs.Common.{◌≡◌, ◌∙◌, ℕ, ◌==◌, Bool, true, false, List, [], ◌∷◌, ◌++◌, codes, Option, Some, None, ap, refl, subst, sym, zero, suc, arith, append_assoc}
 use Rattle.std.specs.List.{list_any, list_all}
 use Rattle.std.specs.Str.{bytes_eq}
@@ -20,12 +20,12 @@ lacks [] e i lt = absurd (omega arith)
 lacks (x ∷ xs) e zero lt = let f : (x == 61) ≡ false = left_false (x == 61) _ e in grind (arith, nat_tests)
 lacks (x ∷ xs) e (suc i) lt = lacks xs (right_false (x == 61) _ e) i (omega arith)
 
--- the word `--name` of an option or flag
+-- the argument `--name` of an option or flag
 pub named_word : (name : Text) → is_option_name name ≡ true → (bytes_eq (codes "--" ++ name) (45 ∷ 45 ∷ []) ≡ false) × (long_of (codes "--" ++ name) ≡ Some (name, None))
 named_word [] e = absurd (false≢true e)
 named_word (x ∷ xs) e = (refl, ap (λ p. Some p) (name_and_value-without (x ∷ xs) (lacks (x ∷ xs) (not_false _ e))))
 
--- the word `--name=value`
+-- the argument `--name=value`
 pub joined_word : (name value : Text) → is_option_name name ≡ true
     → (bytes_eq (codes "--" ++ name ++ codes "=" ++ value) (45 ∷ 45 ∷ []) ≡ false) × (long_of (codes "--" ++ name ++ codes "=" ++ value) ≡ Some (name, Some value))
 joined_word [] value e = absurd (false≢true e)
@@ -38,12 +38,12 @@ is_name [] n all e = absurd (false≢true e)
 is_name (x ∷ xs) n all e = first_or_rest {R = is_option_name n ≡ true} x xs n e
     (λ same. subst (λ (t : Text). is_option_name t ≡ true) same (left_true (is_option_name x) _ all)) (λ among. is_name xs n (right_true (is_option_name x) _ all) among)
 
--- a word with this name, and with this value where there is one
+-- an argument with this name, and with this value where there is one
 abbrev pub spelled : Text → Option Text → Text
 spelled name None = codes "--" ++ name
 spelled name (Some value) = codes "--" ++ name ++ codes "=" ++ value
 
--- how a word looks
+-- how an argument looks
 pub data Looks (word : Text) : Type 0 where
   plain : IsPlainWord word → Looks word
   dash : word ≡ codes "-" → Looks word

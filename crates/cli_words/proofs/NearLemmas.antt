@@ -1,4 +1,4 @@
--- Words near those of a line.
+-- Arguments near those of a line.
 use Rattle.std.proofs.Common.{◌≡◌, ◌≢◌, List, [], ◌∷◌, ◌++◌, codes, All, arith, refl, subst, sym}
 use Rattle.std.proofs.lemmas.List.Elements.{All-tail}
 use Rattle.clap.specs.Walk.{Text}

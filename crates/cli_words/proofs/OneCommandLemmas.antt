@@ -1,4 +1,4 @@
--- Words say one command at most.
+-- Arguments say one command at most.
 use Rattle.std.proofs.Common.{◌≡◌, ◌∙◌, ℕ, ◌/◌, ◌-◌, ◌≤◌, Bool, List, [], ◌∷◌, Option, ap, refl, subst, sym}
 use Rattle.std.proofs.Props.{props}
 use Rattle.clap.specs.Simple.{App}
@@ -92,7 +92,7 @@ same_serve a b feed first days zone change publishing update port connections ac
     (λ i. (first i, days i, change i, port i, connections i))
     ∙ (λ i. serve_of (feed i) (zone i) (publishing i) (update i) (accept_updates i) (b.first, b.days, b.change, b.port, b.connections) ranges)
 
--- so many pages may be kept
+-- this many pages may be cached
 abbrev CacheRange : ℕ → Type 0
 CacheRange cache = (1 ≤ cache) × (cache ≤ 10_000)
 
@@ -107,7 +107,7 @@ same_plan a b base asks cache =
     same_made CacheRange cache_range_prop (plan_of a.base a.asks) a.cache b.cache (a.some_pages, a.most_pages) (b.some_pages, b.most_pages) cache
     ∙ (λ i. plan_of (base i) (asks i) b.cache (b.some_pages, b.most_pages))
 
--- words say one feed and one window of it
+-- arguments say one feed and one window of it
 one_feed_window : (a : App) (words : List (List ℕ)) (feed feed' : List ℕ) (first first' : ServiceDate) (days days' : ℕ) (zone zone' : List ℕ) (change change' : ℕ) → SaysFeedWindow a words feed first days zone change → SaysFeedWindow a words feed' first' days' zone' change' → (feed ≡ feed') × (first ≡ first') × (days ≡ days') × (zone ≡ zone') × (change ≡ change')
 one_feed_window a words feed feed' first first' days days' zone zone' change change' p q =
     let options = one_options a words 7 days days' zone zone' change change' p.options q.options in

@@ -17,11 +17,11 @@ use Rattle.cli_words.proofs.StepLemmas.{apart_step, dashes_step, flag_rule, flag
 use Rattle.cli_words.proofs.TableLemmas.{HasOptions, HasPlaces, other}
 use Rattle.cli_words.proofs.TestLemmas.{left_true, not_false, or_true, right_true}
 
--- what is held after words
+-- what is held after arguments
 abbrev pub held_after : List Rule → Walk → List Text → Held
 held_after c w words = (fold (walked c []) w words).held
 
--- the walk takes the words, and these values come to the rows
+-- the walk takes the arguments, and these values end in the rows
 pub record Passes (name : Text) (c : List Rule) (w : Walk) (words : List Text) (rows : List Row) (values : List Value) : Type 0 where
   pub walks : walk_fault (shape name c) [] w words ≡ []
   pub settles : settle_fault c false (held_after c w words) ≡ []

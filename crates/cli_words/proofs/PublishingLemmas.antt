@@ -1,4 +1,4 @@
--- Words say one way to publish.
+-- Arguments say one way to publish.
 use Rattle.std.proofs.Common.{◌≡◌, ◌∙◌, ℕ, ◌≤◌, List, ◌++◌, get_or, codes, ap, arith, sym}
 use Rattle.std.proofs.Props.{props}
 use Rattle.std.proofs.lemmas.List.{append_cancel_left}
@@ -15,7 +15,7 @@ use Rattle.cli_words.specs.declared.command.Publishing.{Publishing}
 use Rattle.cli_words.proofs.MadeLemmas.{same_made}
 use Rattle.cli_words.proofs.WordsLemmas.{same_number}
 
--- behind a front stands one number
+-- after a front comes one number
 one_behind : (front : List ℕ) (low high : ℕ) (text : List ℕ) (a b : ℕ) → SaysBehind front low high text a → SaysBehind front low high text b → a ≡ b
 one_behind front low high text a b p q =
     let digits = append_cancel_left front p.digits q.digits (sym p.written ∙ q.written) in

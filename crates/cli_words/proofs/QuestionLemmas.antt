@@ -1,4 +1,4 @@
--- Words ask one question.
+-- Arguments ask one question.
 use Rattle.std.proofs.Common.{◌≡◌, ◌∙◌, ℕ, ◌≤◌, List, Option, Some, None, ap, subst, sym}
 use Rattle.std.proofs.Props.{props}
 use Rattle.lc_model.specs.declared.query.Query.{Query}

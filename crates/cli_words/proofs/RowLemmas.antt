@@ -18,7 +18,7 @@ use Rattle.cli_words.specs.Grammar.{Value, is_among, names_of, value_of}
 use Rattle.cli_words.proofs.TestLemmas.{left_false, right_false}
 use Rattle.cli_words.proofs.StepLemmas.{flag_rule, option_rule, place_rule}
 
--- the row has this one value, from the words
+-- the row has this one value, from the arguments
 pub record IsMadeRow (r : Row) (value : Value) : Type 0 where
   pub id : r.id ≡ value.0
   pub values : r.values ≡ value.1 ∷ []
@@ -31,7 +31,7 @@ AreMade [] (v ∷ vs) = ⊥
 AreMade (r ∷ rs) [] = ⊥
 AreMade (r ∷ rs) (v ∷ vs) = IsMadeRow r v × AreMade rs vs
 
--- where no row has the id, a row comes to the end
+-- where no row has the id, a row is added at the end
 new_row : (id : Text) (change : Row → List Row) (missing rows : List Row) → has_row id rows ≡ false → at_row id change missing rows ≡ rows ++ missing
 new_row id change missing [] e = refl
 new_row id change missing (r ∷ rs) e = by (bytes_eq r.id id) refl e (λ e. new_row id change missing rs e)

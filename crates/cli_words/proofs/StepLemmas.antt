@@ -1,4 +1,4 @@
--- Steps of the walk of `clap` over words.
+-- Steps of the walk of `clap` over arguments.
 use Rattle.std.proofs.Common.{◌≡◌, ℕ, ◌+◌, ◌&&◌, min, Bool, true, false, List, [], ◌∷◌, Option, Some, None, refl}
 use Rattle.std.specs.Str.{bytes_eq}
 use Rattle.std.proofs.lemmas.Slice.Eq.{bytes_eq-Decides}
@@ -55,7 +55,7 @@ walk_at h waiting i trailing = record { held = h; waiting = waiting; position = 
 pub same_text : (n : Text) → bytes_eq n n ≡ true
 same_text n = (bytes_eq-Decides n n).1 refl
 
--- what a walk over words asks of one that does not begin with a dash
+-- what a walk over arguments asks of one that does not begin with a dash
 pub plain : (word : List ℕ) → IsPlainWord word → (bytes_eq word (45 ∷ 45 ∷ []) ≡ false) × (strip_byte 45 word ≡ None)
 plain [] is = (refl, refl)
 plain (x ∷ xs) is = (rw (ne_eqb x 45 is) refl, rw (ne_eqb x 45 is) refl)
@@ -80,7 +80,7 @@ module _ (name : Text) (c : List Rule) (rows : List Row) (pending : Option (Text
   abbrev h : Held
   h = holds rows pending
 
-  -- a plain word goes to its place
+  -- a plain argument goes to its place
   pub plain_step : (place word : Text) → IsPlainWord word → arg_by_index c i ≡ Some (place_rule i place)
       → (turn_fault (shape name c) [] (walk_at h idle i false) word ≡ settle_fault c false h)
       × (walked c [] (walk_at h idle i false) word
@@ -91,7 +91,7 @@ module _ (name : Text) (c : List Rule) (rows : List Row) (pending : Option (Text
       let b = and_false (is_pending (place_rule i place) pending) in
       (simp (p.0, p.1, here, b), simp (p.0, p.1, here, b))
 
-  -- after the first `--` a word goes to its place
+  -- after the first `--` an argument goes to its place
   pub trailing_step : (waiting : Waiting) (place word : Text) → arg_by_index c i ≡ Some (place_rule i place)
       → (turn_fault (shape name c) [] (walk_at h waiting i true) word ≡ settle_fault c false h)
       × (walked c [] (walk_at h waiting i true) word
@@ -101,7 +101,7 @@ module _ (name : Text) (c : List Rule) (rows : List Row) (pending : Option (Text
       let b = and_false (is_pending (place_rule i place) pending) in
       (simp (here, b), simp (here, b))
 
-  -- a word for which no place is left
+  -- an argument for which no place is left
   pub stray_step : (word : Text) → IsPlainWord word → arg_by_index c i ≡ None
       → turn_fault (shape name c) [] (walk_at h idle i false) word ≡ [] → ⊥
   unfolding clap_on_literals
@@ -125,7 +125,7 @@ module _ (name : Text) (c : List Rule) (rows : List Row) (pending : Option (Text
   dashes_step (option id) = (refl, refl)
   dashes_step positional = (refl, refl)
 
-  -- a word `--name` or `--name=value`
+  -- an argument `--name` or `--name=value`
   module _ (word long : Text) (no_dashes : bytes_eq word (45 ∷ 45 ∷ []) ≡ false) where
     pub joined_step : (value : Text) → long_of word ≡ Some (long, Some value) → arg_by_long c long ≡ Some (option_rule long)
         → (turn_fault (shape name c) [] (walk_at h idle i false) word
@@ -155,7 +155,7 @@ module _ (name : Text) (c : List Rule) (rows : List Row) (pending : Option (Text
     long_turn (option id) value is e = first_none _ _ (simp (no_dashes, is) at e)
     long_turn positional value is e = first_none _ _ (simp (no_dashes, is) at e)
 
-  -- and of a word `-abc`
+  -- and of an argument `-abc`
   pub short_turn : (waiting : Waiting) (word flags : Text) → bytes_eq word (45 ∷ 45 ∷ []) ≡ false → long_of word ≡ None → short_of word ≡ Some flags
       → turn_fault (shape name c) [] (walk_at h waiting i false) word ≡ [] → bundle_fault c false flags h ≡ []
   unfolding clap_on_literals
@@ -163,7 +163,7 @@ module _ (name : Text) (c : List Rule) (rows : List Row) (pending : Option (Text
   short_turn (option id) word flags no_dashes no_long is e = first_none _ _ (simp (no_dashes, no_long, is) at e)
   short_turn positional word flags no_dashes no_long is e = first_none _ _ (simp (no_dashes, no_long, is) at e)
 
--- the value of an option in a word of its own
+-- the value of an option in an argument of its own
 pub value_step : (name : Text) (c : List Rule) (rows : List Row) (i : ℕ) (id word : Text) → IsPlainWord word → arg_by_id c id ≡ Some (option_rule id)
     → (turn_fault (shape name c) [] (walk_at (holds rows (Some (id, []))) (option id) i false) word ≡ [])
     × (walked c [] (walk_at (holds rows (Some (id, []))) (option id) i false) word ≡ walk_at (holds rows (Some (id, word ∷ []))) idle i false)

@@ -41,7 +41,7 @@ no_bundle c none x xs rows pending utf8 e = by (chars (x ∷ xs)) refl
         let f : bundle_fault c false (x ∷ xs) (holds rows pending) ≡ kind.UnknownArgument ∷ [] = simp (is, none) in
         absurd (cc (f, e))
 
--- the walk takes the words
+-- the walk takes the arguments
 pub record Takes (name : Text) (c : List Rule) (all : List Text) (w : Walk) (words : List Text) : Type 0 where
   pub walks : walk_fault (shape name c) [] w words ≡ []
   pub settles : settle_fault c false (held_after c w words) ≡ []
@@ -55,7 +55,7 @@ pub record Fills (c : List Rule) (rows : List Row) (pending : Option (Text × Li
   pub once : are_apart (names_of values) ≡ true
   pub fresh : IsFresh (settled_rows c pending rows) values
 
--- the grammar reads the words
+-- the grammar reads the arguments
 pub record Finds (options flags : List Text) (c : List Rule) (rows : List Row) (pending : Option (Text × List Text)) (places words : List Text) : Type 0 where
   pub settles : settle_fault c false (holds rows pending) ≡ []
   pub values : List Value
@@ -68,7 +68,7 @@ first_step : (name : Text) (c : List Rule) (all : List Text) (w : Walk) (word : 
 unfolding walk_fault
 first_step name c all w word words t = first_none _ _ t.walks
 
--- and so are those that follow
+-- each step that follows is taken
 next_steps : (name : Text) (c : List Rule) (all : List Text) (w w' : Walk) (word : Text) (words : List Text) → walked c [] w word ≡ w' → Takes name c all w (word ∷ words) → Takes name c all w' words
 unfolding walk_fault
 next_steps name c all w w' word words walk t =
@@ -151,7 +151,7 @@ module _ (name : Text) (c : List Rule) (all : List Text) where
   trailing_settles (p ∷ ps) (word ∷ words) rows pending waiting i has t =
       sym (trailing_step name c rows pending i waiting p word has.0).0 ∙ first_step name c all _ word words t
 
--- a word `--name` settles what waits
+-- an argument `--name` settles what waits
 long_settles : (c : List Rule) (found : Option Rule) (value : Option Text) (h : Held) → long_fault c false found value h ≡ [] → settle_fault c false h ≡ []
 long_settles c None value h e = absurd (cc e)
 long_settles c (Some a) value h e = by (takes_values a) refl value e
@@ -342,7 +342,7 @@ module _ (name : Text) (c : List Rule) (all options flags : List Text) (has_opti
         fresh = both.1;
       }
 
-  -- a word that is no option is refused
+  -- an argument that is no option is refused
   read_long : (word long : Text) (value : Option Text) (words : List Text) → bytes_eq word (45 ∷ 45 ∷ []) ≡ false → long_of word ≡ Some (long, value) → word ≡ spelled long value
       → Reader words → ((value : Text) (rest : List Text) → words ≡ value ∷ rest → Reader rest) → Reader (word ∷ words)
   read_long word long value words no_dashes is text next after places rows pending i has apart sub awaits utf8 no_dash t =

@@ -1,4 +1,4 @@
--- What was read is what the words say.
+-- What was read is what the arguments say.
 use Rattle.std.proofs.Common.{◌≡◌, ◌∙◌, ℕ, ◌-◌, ◌≤◌, ap, ap₂, arith, drop, get_or, length, take, Some, String, List, [], ◌∷◌, codes, eq-eqb, false, nat_eq, refl, subst, sym, true}
 use Rattle.std.proofs.Math.Seq.{take-length}
 use Rattle.std.proofs.lemmas.Bool.{false≢true}
@@ -67,7 +67,7 @@ one_date_at a b m n same p q =
     let p' : IsDateAt a n = subst (λ (k : ℕ). IsDateAt a k) same p in
     same_date a b (p'.year ∙ sym q.year) (p'.month ∙ sym q.month) (p'.day ∙ sym q.day)
 
--- a list of words is the first and those behind it
+-- a list of arguments is the first and those after it
 pub parted : (words : List (String Global)) (name : String Global) → 1 ≤ length words → name ≡ get_or words 0 name → texts_of words ≡ string_bytes name ∷ texts_of (take (length words - 1) (drop 1 words))
 parted [] name least is = absurd (omega arith)
 parted (first ∷ rest) name least is =
@@ -75,7 +75,7 @@ parted (first ∷ rest) name least is =
     let all : take (length (first ∷ rest) - 1) rest ≡ rest = rw len (take-length rest) in
     ap₂ (λ (t : List ℕ) ts. t ∷ ts) (ap string_bytes (sym is)) (ap texts_of (sym all))
 
--- words that begin with `ask` and say no question say no command
+-- arguments that begin with `ask` and say no question say no command
 pub no_ask : (texts rest : List (List ℕ)) (name : List ℕ) → texts ≡ name ∷ rest → name ≡ codes "ask" → ((ask : Ask) → SaysAsk rest ask → ⊥) → (said : Command) → SaysCommand texts said → ⊥
 no_ask texts rest name parts is none said says = asked rest name is none said (subst (λ (t : List (List ℕ)). SaysCommand t said) parts says)
   where

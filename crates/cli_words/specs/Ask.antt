@@ -1,4 +1,4 @@
--- The words of `ask`.
+-- The arguments of `ask`.
 use Rattle.std.specs.Prelude.{◌≡◌, ℕ, ◌/◌, ◌-◌, List, codes, Some}
 use Rattle.lc_model.specs.declared.date.ServiceDate.{ServiceDate}
 use Rattle.cli_words.specs.Cache.{cache_said}
@@ -18,7 +18,7 @@ pub record AreAskWords (words : List (List ℕ)) (leave : ℕ) (feed : List ℕ)
   pub options : AreOptions ask_line words 3 days zone change
   pub window : IsWindow first days
 
--- the words after `ask` say this
+-- the arguments after `ask` say this
 pub record SaysAsk (words : List (List ℕ)) (ask : Ask) : Type 0 where
   pub is_line : IsLine ask_line words
   pub question : AsksQuestion words ask.query

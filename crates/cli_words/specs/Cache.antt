@@ -1,4 +1,4 @@
--- The option that says how many pages are kept.
+-- The option that says how many pages are cached.
 use Rattle.std.specs.Prelude.{ℕ, List, codes, Option}
 use Rattle.clap.specs.Simple.{App}
 use Rattle.cli_words.specs.Line.{value_at}

@@ -1,4 +1,4 @@
--- A feed and its window, where the words say the first date.
+-- A feed and its window, where the arguments say the first date.
 use Rattle.std.specs.Prelude.{◌≡◌, ℕ, List, codes, Some}
 use Rattle.clap.specs.Simple.{App}
 use Rattle.lc_model.specs.declared.date.ServiceDate.{ServiceDate}

@@ -1,4 +1,4 @@
--- The grammar of the words of a command: what stands in them, in the sentences of its table.
+-- The grammar of the arguments of a command: what they say, in the sentences of its table.
 use Rattle.std.specs.Prelude.{◌≡◌, ◌≢◌, ◌&&◌, ◌==◌, not, nat_lt, length, Bool, true, false, List, [], ◌∷◌, ◌++◌, map, codes, Option, Some, None, if◌then◌else◌, IsTrue, All}
 use Rattle.std.specs.List.{list_all, list_any}
 use Rattle.std.specs.Str.{IsUtf8, bytes_eq}
@@ -7,7 +7,7 @@ use Rattle.clap.specs.Simple.{App}
 use Rattle.clap.specs.Walk.{Text}
 use Rattle.cli_words.specs.Line.{IsLine, IsNoDash, value_at}
 
--- the word does not begin with a dash
+-- the argument does not begin with a dash
 abbrev pub IsPlainWord : Text → Type 0
 IsPlainWord [] = Unit {0}
 IsPlainWord (first ∷ rest) = first ≢ 45
@@ -25,20 +25,20 @@ are_apart (name ∷ names) = not (is_among names name) && are_apart names
 abbrev pub Value : Type 0
 Value = Text × Text
 
--- the words after the first `--`: each is the value of the next place, and no place is left
+-- the arguments after the first `--`: each is the value of the next place, and no place is left
 pub data FillsPlaces : List Text → List Text → List Value → Type 0 where
   none_left : FillsPlaces [] [] []
   filled : {place word : Text} {places words : List Text} {values : List Value} → FillsPlaces places words values
       → FillsPlaces (place ∷ places) (word ∷ words) ((place, word) ∷ values)
 
--- the words say these values of these places, and of options and flags, in the order of the words
+-- the arguments say these values of these places, and of options and flags, in the order of the arguments
 pub data Reads (options flags : List Text) : List Text → List Text → List Value → Type 0 where
-  -- the words end where no place is left
+  -- the arguments end where no place is left
   ended : Reads options flags [] [] []
-  -- after the first `--` every word is plain
+  -- after the first `--` every argument is plain
   trailing : {places words : List Text} {values : List Value} → FillsPlaces places words values
       → Reads options flags places (codes "--" ∷ words) values
-  -- a word that does not begin with a dash is the value of the next place
+  -- an argument that does not begin with a dash is the value of the next place
   plain : {place word : Text} {places words : List Text} {values : List Value} → IsPlainWord word
       → Reads options flags places words values → Reads options flags (place ∷ places) (word ∷ words) ((place, word) ∷ values)
   -- `--name value`, where the value does not begin with a dash
@@ -57,7 +57,7 @@ pub data Reads (options flags : List Text) : List Text → List Text → List Va
 abbrev pub names_of : List Value → List Text
 names_of values = map (λ v. v.0) values
 
--- the words say these values: no option comes twice, and no word is a dash alone
+-- the arguments say these values: no option comes twice, and no argument is a dash alone
 pub record SayValues (places options flags words : List Text) (values : List Value) : Type 0 where
   pub reads : Reads options flags places words values
   pub once : IsTrue (are_apart (names_of values))
@@ -68,12 +68,12 @@ abbrev pub value_of : List Text → List Value → Text → Option Text
 value_of flags [] name = if is_among flags name then Some (codes "false") else None
 value_of flags (value ∷ values) name = if bytes_eq value.0 name then Some value.1 else value_of flags values name
 
--- the words of this command are those that the grammar reads
+-- the arguments of this command are those that the grammar reads
 pub record HasGrammar (a : App) (places options flags : List Text) : Type 0 where
-  -- words that say values are a line with these values
+  -- arguments that say values are a line with these values
   pub takes : (words : List Text) (values : List Value) → SayValues places options flags words values
       → IsLine a words × ((name : Text) → value_at a words name ≡ value_of flags values name)
-  -- the words of a line say values, where they are UTF-8, as the bytes of a `String` are
+  -- the arguments of a line say values, where they are UTF-8, as the bytes of a `String` are
   pub reads : (words : List Text) → All IsUtf8 words → IsLine a words → (values : List Value) × SayValues places options flags words values
 
 -- the name of an option or a flag: it is not empty and has no equals sign
@@ -89,12 +89,12 @@ pub record IsTable (places options flags : List Text) : Type 0 where
   -- `clap` counts places in 64 bits
   pub fit : IsTrue (nat_lt (length places) usize_max)
 
--- the word is one of an option or a flag: `--name`, or `--name=value` of an option
+-- the argument is one of an option or a flag: `--name`, or `--name=value` of an option
 pub data IsOptionWord (options flags : List Text) : Text → Type 0 where
   alone : {name : Text} → IsTrue (is_among options name) → IsOptionWord options flags (codes "--" ++ name)
   with_value : (name value : Text) → IsTrue (is_among options name) → IsOptionWord options flags (codes "--" ++ name ++ codes "=" ++ value)
   switch : {name : Text} → IsTrue (is_among flags name) → IsOptionWord options flags (codes "--" ++ name)
 
--- the word begins with a dash, and is not `--`
+-- the argument begins with a dash, and is not `--`
 abbrev pub IsDashWord : Text → Type 0
 IsDashWord word = (rest : Text) × (word ≡ 45 ∷ rest) × (word ≢ codes "--")

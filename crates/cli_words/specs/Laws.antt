@@ -1,4 +1,4 @@
--- Words say one command at most, each command's words have a grammar, and what the base of a server is.
+-- Arguments say one command at most, each command's arguments have a grammar, and what the base of a server is.
 use Rattle.std.specs.Prelude.{◌≡◌, ◌≢◌, ℕ, ◌<◌, ◌^◌, ◌++◌, List, [], ◌∷◌, codes, decimal, All}
 use Rattle.std.specs.Str.{IsUtf8}
 use Rattle.clap.specs.Walk.{Text}
@@ -9,7 +9,7 @@ use Rattle.cli_words.specs.Serve.{address_at}
 use Rattle.cli_words.specs.Words.{SaysCommand}
 use Rattle.cli_words.specs.declared.command.Command.{Command}
 
--- two commands of the same words are one
+-- two commands of the same arguments are one
 abbrev pub OneCommand : Type 0
 OneCommand = (words : List (List ℕ)) (a b : Command) → SaysCommand words a → SaysCommand words b → a ≡ b
 
@@ -29,7 +29,7 @@ LinesHaveGrammar =
     (name : Text) (places options flags : List Text) → IsTable places options flags
     → HasGrammar (line name places options flags) places options flags
 
--- before the first `--` each word of a line that begins with a dash is one of an option or a flag of the command
+-- before the first `--` each argument of a line that begins with a dash is one of an option or a flag of the command
 abbrev pub DashWordsAreOptions : Type 0
 DashWordsAreOptions =
     (name : Text) (places options flags : List Text) → IsTable places options flags → (front : List Text) (word : Text) (back : List Text)

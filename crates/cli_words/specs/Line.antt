@@ -1,4 +1,4 @@
--- The words of a command, in the definitions of `clap`.
+-- The arguments of a command, in the definitions of `clap`.
 use Rattle.std.specs.Prelude.{◌≡◌, ◌≢◌, ℕ, List, [], ◌∷◌, ◌++◌, map, codes, Option, Some, true, String, All}
 use Rattle.std.specs.String.{string_bytes}
 use Rattle.std.specs.declared.alloc.Global.{Global}
@@ -9,11 +9,11 @@ use Rattle.clap.specs.Walk.{Rule, Text, first_of}
 use Rattle.clap.specs.declared.builder.action.ArgAction.TheVariants.{Set, SetTrue}
 use Rattle.clap.specs.declared.parser.matches.ArgMatches.{ArgMatches}
 
--- the words as texts
+-- the arguments as texts
 abbrev pub texts_of : List (String Global) → List Text
 texts_of words = map string_bytes words
 
--- a plain word, which has to stand in its place
+-- a plain argument, which has to be in its place
 abbrev pub placed : Text → Rule
 placed name = record (new_rule name) { action = Some Set; required = true }
 
@@ -36,23 +36,23 @@ line name places options flags = record {
   subs = [];
 }
 
--- `clap` takes the words
+-- `clap` takes the arguments
 unfoldable pub Takes : App → List Text → Type 0
 Takes a words = fault_of a words ≡ []
 
--- the value that the words give for a plain word or an option
+-- the value that the arguments give for a plain argument or an option
 unfoldable pub value_at : App → List Text → Text → Option Text
 value_at a words id = first_of id (matches_of a words)
 
--- this was found in the words
+-- this was found in the arguments
 abbrev pub HasFound : App → List Text → ArgMatches → Type 0
 HasFound a words matches = (id : List ℕ) → first_value (found_of matches) id ≡ value_at a words id
 
--- the word is not a dash alone
+-- the argument is not a dash alone
 abbrev pub IsNoDash : Text → Type 0
 IsNoDash word = word ≢ codes "-"
 
--- The words are a line of the command: `clap` takes them, and none is a dash alone.
+-- The arguments are a line of the command: `clap` takes them, and none is a dash alone.
 pub record IsLine (a : App) (words : List Text) : Type 0 where
   pub taken : Takes a words
   pub no_dash : All IsNoDash words

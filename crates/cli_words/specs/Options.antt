@@ -6,11 +6,11 @@ use Rattle.clap.specs.Simple.{App}
 use Rattle.lc_time.specs.Digits.{u32_said}
 use Rattle.cli_words.specs.Line.{value_at}
 
--- the number, if it lies between these
+-- the number, if it is between these
 abbrev pub within : ℕ → ℕ → ℕ → Option ℕ
 within low high number = if nat_le low number && nat_le number high then Some number else None
 
--- the number that a text says, if it lies between these
+-- the number that a text says, if it is between these
 abbrev pub bounded_said : ℕ → ℕ → List ℕ → Option ℕ
 bounded_said low high text = option_and_then (within low high) (u32_said text)
 

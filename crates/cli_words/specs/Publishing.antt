@@ -17,9 +17,9 @@ pub record SaysBase (text : List ℕ) (base : BaseParts) : Type 0 where
   pub reads : ReadsAsBase text url
   pub is : base ≡ base_of url
 
--- behind this front the text says a number, which lies between these
+-- after this front the text says a number, which is between these
 pub record SaysBehind (front : List ℕ) (low high : ℕ) (text : List ℕ) (number : ℕ) : Type 0 where
-  -- what stands behind the front
+  -- what comes after the front
   pub digits : List ℕ
   pub written : text ≡ front ++ digits
   pub said : bounded_said low high digits ≡ Some number

@@ -1,4 +1,4 @@
--- The question that the words of `ask` say.
+-- The question that the arguments of `ask` say.
 use Rattle.std.specs.Prelude.{◌≡◌, ◌≢◌, ℕ, ◌≤◌, List, [], codes, Option, Some, None}
 use Rattle.lc_model.specs.declared.query.Query.{Query}
 use Rattle.lc_model.specs.declared.query.TheConstants.{FIRST_LEAVE, LAST_LEAVE}
@@ -6,7 +6,7 @@ use Rattle.lc_time.specs.Iso.{SaysMoment}
 use Rattle.cli_words.specs.Line.{ask_line, value_at}
 use Rattle.cli_words.specs.Options.{number_said}
 
--- a plain word that is not empty says the stop
+-- a plain argument that is not empty says the stop
 pub record SaysStop (word : Option (List ℕ)) (stop : List ℕ) : Type 0 where
   pub is : word ≡ Some stop
   pub named : stop ≢ []
@@ -25,7 +25,7 @@ SaysKnown (Some text) (Some known) = SaysMoment text known
 
 -- MOMENT, `--known`, and `--horizon`, which is any number, and a day where it is not there
 pub record SaysTimes (words : List (List ℕ)) (leave : ℕ) (known : Option ℕ) (horizon : ℕ) : Type 0 where
-  -- the word of the moment
+  -- the argument of the moment
   pub moment : List ℕ
   pub moment_is : value_at ask_line words (codes "moment") ≡ Some moment
   pub leave_is : SaysLeave moment leave

@@ -1,4 +1,4 @@
--- The words of `replay`.
+-- The arguments of `replay`.
 use Rattle.std.specs.Prelude.{◌≡◌, ℕ, List, codes, Some}
 use Rattle.cli_words.specs.Cache.{cache_said}
 use Rattle.cli_words.specs.FeedWindow.{SaysFeedWindow}
@@ -6,7 +6,7 @@ use Rattle.cli_words.specs.Line.{IsLine, replay_line, value_at}
 use Rattle.cli_words.specs.Publishing.{SaysPublishing}
 use Rattle.cli_words.specs.declared.command.Replay.{Replay}
 
--- The words after `replay` say this. SCRIPT is any text.
+-- The arguments after `replay` say this. SCRIPT is any text.
 pub record SaysReplay (words : List (List ℕ)) (replay : Replay) : Type 0 where
   pub is_line : IsLine replay_line words
   pub feed_window : SaysFeedWindow replay_line words replay.feed replay.first replay.days replay.zone replay.change

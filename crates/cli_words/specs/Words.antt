@@ -1,4 +1,4 @@
--- The words of a command line, and the command that they say.
+-- The arguments of a command line, and the command that they say.
 use Rattle.std.specs.Prelude.{◌≡◌, ℕ, List, [], ◌∷◌, codes}
 use Rattle.cli_words.specs.Ask.{SaysAsk}
 use Rattle.cli_words.specs.Check.{SaysCheck}
@@ -8,7 +8,7 @@ use Rattle.cli_words.specs.Serve.{SaysServe}
 use Rattle.cli_words.specs.declared.command.Command.{Command}
 use Rattle.cli_words.specs.declared.command.Command.TheVariants as command
 
--- the first of the words is the command's name, and those behind it say this
+-- the first of the arguments is the command's name, and those after it say this
 abbrev pub SaysCommand : List (List ℕ) → Command → Type 0
 SaysCommand [] said = ⊥
 SaysCommand (name ∷ words) (command.Check check) = (name ≡ codes "check") × SaysCheck words check

@@ -20,7 +20,7 @@ use clap::ArgMatches;
 use lc_model::{Moment, NoMemory, Query};
 use std::alloc::Global;
 
-/// The plain words of `ask` in their order, and its options.
+/// The plain arguments of `ask` in their order, and its options.
 static PLACES: [&str; 4] = ["feed", "from", "to", "moment"];
 
 static OPTIONS: [&str; 10] = [
@@ -36,7 +36,7 @@ static OPTIONS: [&str; 10] = [
     "update",
 ];
 
-/// What the words behind `ask` say. None exactly where they say no such command.
+/// What the arguments after `ask` say. None exactly where they say no such command.
 pub(crate) fn read_ask(alloc: Global, words: &[String]) -> Result<Option<Ask>, NoMemory>
     ensures { IfOk result (λ ask. MatchOption ask ((ask : Asked) → SaysAsk (texts_of words.now) ask → ⊥)
         (SaysAsk (texts_of words.now))) }

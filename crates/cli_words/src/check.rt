@@ -10,12 +10,12 @@ use clap::ArgMatches;
 use lc_model::NoMemory;
 use std::alloc::Global;
 
-/// The plain words of `check` in their order, and its options.
+/// The plain arguments of `check` in their order, and its options.
 static PLACES: [&str; 2] = ["feed", "first"];
 
 static OPTIONS: [&str; 3] = ["days", "zone", "change"];
 
-/// What the words behind `check` say. None exactly where they say no such command.
+/// What the arguments after `check` say. None exactly where they say no such command.
 pub(crate) fn read_check(alloc: Global, words: &[String]) -> Result<Option<Check>, NoMemory>
     ensures { IfOk result (λ check. MatchOption check ((check : Checked) → SaysCheck (texts_of words.now) check → ⊥)
         (SaysCheck (texts_of words.now))) }

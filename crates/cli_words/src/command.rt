@@ -43,7 +43,7 @@ pub struct Ask {
     /// The seconds of a change of which the feed says none.
     pub change: u32,
     pub publishing: Publishing,
-    /// How many pages are kept at most.
+    /// How many pages are cached at most.
     pub cache: u32,
     /// The name of the file with a realtime message, if one is to be admitted.
     pub update: Option<Text>,
@@ -67,7 +67,7 @@ pub struct Replay {
     /// The seconds of a change of which the feed says none.
     pub change: u32,
     pub publishing: Publishing,
-    /// How many pages are kept at most.
+    /// How many pages are cached at most.
     pub cache: u32,
     /// The name of the file with the script.
     pub script: Text,
@@ -112,7 +112,7 @@ pub struct Plan {
     pub base: Base,
     /// The name of the file with the questions and turns.
     pub asks: Text,
-    /// How many pages are kept at most.
+    /// How many pages are cached at most.
     pub cache: u32,
     pub ghost some_pages: { 1 ≤ cache },
     pub ghost most_pages: { cache ≤ 10_000 },

@@ -29,7 +29,7 @@ pub(crate) struct WindowTexts {
     pub(crate) zone: Text,
 }
 
-/// The feed, the first date and the options of a window that were found in a line, or none where one of them is said wrongly.
+/// The feed, the first date and the options of a window that a line has, or none where one of them is said wrongly.
 pub(crate) fn read_feed_window<'a>(found: &ArgMatches<'a>) -> Option<FeedWindow<'a>>
     ensures { (a : App) (words : List (List ℕ)) → HasFound a words found.now → MatchOption result
         ((feed : List ℕ) (first : Date) (days : ℕ) (zone : List ℕ) (change : ℕ) → SaysFeedWindow a words feed first days zone change → ⊥)

@@ -5,13 +5,13 @@ ghost use Rattle.fragmenter.specs.declared.cutting.Cutting.TheVariants as ways;
 ghost use Rattle.cli_words.specs.Laws.{Address80, AddressesAreBases, AskGrammar, CheckGrammar, DashWordsAreOptions, LinesHaveGrammar, OneCommand, PlanGrammar, ReplayGrammar, ServeGrammar};
 ghost use Rattle.cli_words.specs.Publishing.{SaysBase, SaysCutting};
 
-/// Words say one command at most.
+/// Arguments say one command at most.
 pub fn one_command()
     ensures { OneCommand }
 {}
 
-/// The words of each command are those of a grammar: `clap` takes exactly the words that the grammar reads, and finds in them
-/// the values that the grammar gives. Before the first `--` it takes no word that begins with a dash and is no option.
+/// The arguments of each command are those of a grammar. `clap` takes exactly the arguments that the grammar reads, and finds in them
+/// the values that the grammar gives. Before the first `--` it takes no argument that begins with a dash and is no option.
 pub fn words_are_lines()
     ensures lines { LinesHaveGrammar }
     ensures dashes { DashWordsAreOptions }
@@ -22,7 +22,7 @@ pub fn words_are_lines()
     ensures plan { PlanGrammar }
 {}
 
-/// What the texts say that stand for the options of publishing where these are not there.
+/// What the texts say that are taken for the options of publishing where these are not there.
 pub fn default_publishing()
     ensures base { SaysBase (codes "http://lc.example/")
         (record { text = codes "http://lc.example/"; authority = codes "lc.example"; path = codes "/" }) }

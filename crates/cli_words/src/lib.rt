@@ -1,5 +1,5 @@
-//! The words of a command line as a command, or that they are none. It stands on `lc_model`, `lc_time`, `connection_uri`,
-//! `fragmenter` and `clap`.
+//! The arguments of a command line as a command, or that they are none. It builds on `lc_model`, `lc_time`,
+//! `connection_uri`, `fragmenter` and `clap`.
 #![tactic(auto)]
 
 mod ask;

@@ -8,7 +8,7 @@ use clap::{Arg, ArgAction, ArgMatches, Command};
 use lc_model::{NoMemory, Text};
 use std::alloc::Global;
 
-/// A plain word that has to stand in its place.
+/// A plain argument that has to be in its place.
 fn placed_arg<'a>(alloc: Global, name: &'a str) -> Arg<'a>
     ensures rule { rule_of result ≡ placed name.entry.now }
     ensures local { result.global ≡ false }
@@ -32,7 +32,7 @@ fn flagged_arg<'a>(alloc: Global, name: &'a str) -> Arg<'a>
     Arg::new(alloc, name).long(name).action(ArgAction::SetTrue)
 }
 
-/// The line of a command with these plain words and these options, with a value and without. `clap`'s own help is off.
+/// The line of a command with these plain arguments and these options, with a value and without. `clap`'s own help is off.
 fn line_of<'a>(
     alloc: Global,
     name: &'a str,
@@ -58,7 +58,7 @@ fn line_of<'a>(
     Ok(command)
 }
 
-/// What stands in the words of a line, or none where they are no words of it. Linear in the words, but for each look-up
+/// What the arguments of a line say, or none where they are not of this line. Linear in the arguments, but for each look-up
 /// among the few options.
 pub(crate) fn read_line<'a>(
     alloc: Global,
@@ -84,7 +84,7 @@ pub(crate) fn read_line<'a>(
     }
 }
 
-/// Whether no word is a dash alone. Linear in the words.
+/// Whether no argument is a dash alone. Linear in the arguments.
 fn has_no_dash(words: &[String]) -> bool
     ensures { IsTrue result ↔ All (λ word. IsNoDash (string_bytes word)) words.now }
 {

@@ -34,7 +34,7 @@ pub(crate) fn read_options<'a>(
     Some(WindowOptions { days, zone, change })
 }
 
-/// The number that an option says, if it lies between these. Linear in the text.
+/// The number that an option says, if it is between these. Linear in the text.
 pub(crate) fn number(value: Option<&str>, default: u32, low: u32, high: u32) -> Option<u32>
     ensures { result ≡ number_said default low high (option_map (λ s. s.now) value.entry) }
 {
@@ -44,7 +44,7 @@ pub(crate) fn number(value: Option<&str>, default: u32, low: u32, high: u32) -> 
     }
 }
 
-/// The number that an option says which has to be there, if it lies between these. Linear in the text.
+/// The number that an option says which has to be there, if it is between these. Linear in the text.
 pub(crate) fn required(value: Option<&str>, low: u32, high: u32) -> Option<u32>
     ensures { result ≡ required_said low high (option_map (λ s. s.now) value.entry) }
 {
@@ -64,7 +64,7 @@ pub(crate) fn flag(value: Option<&str>) -> bool
     }
 }
 
-/// The number that a text says, if it lies between these. Linear in the text.
+/// The number that a text says, if it is between these. Linear in the text.
 pub(crate) fn bounded(text: &[u8], low: u32, high: u32) -> Option<u32>
     ensures { result ≡ bounded_said low high text.now }
 {

@@ -12,7 +12,7 @@ use clap::ArgMatches;
 use lc_model::NoMemory;
 use std::alloc::Global;
 
-/// How a timetable is published, and how many of its pages are kept at most.
+/// How a timetable is published, and how many of its pages are cached at most.
 #[derive(Drop)]
 pub(crate) struct Pages {
     pub(crate) publishing: Publishing,

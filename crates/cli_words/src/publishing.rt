@@ -68,7 +68,7 @@ fn read_cutting(text: &[u8]) -> Option<Cutting>
     }
 }
 
-/// The number that the text says behind this front, if it lies between these.
+/// The number that the text says after this front, if it is between these.
 fn number_behind(text: &[u8], front: &[u8], low: u32, high: u32) -> Option<u32>
     ensures { MatchOption result ((number : ℕ) → SaysBehind front.now low high text.now number → ⊥)
         (SaysBehind front.now low high text.now) }

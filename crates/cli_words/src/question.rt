@@ -10,7 +10,7 @@ use lc_model::{FIRST_LEAVE, Id, LAST_LEAVE, Moment, NoMemory, Query};
 use lc_time::read_iso;
 use std::alloc::Global;
 
-/// How long after the moment of leaving a journey may arrive where the words do not say it, in seconds.
+/// How long after the moment of leaving a journey may arrive where the arguments do not say it, in seconds.
 const HORIZON: u32 = 86_400;
 
 /// The times of a question.
@@ -49,7 +49,7 @@ pub(crate) fn read_question<'a>(
     }))
 }
 
-/// The stop that a plain word says, if it is not empty.
+/// The stop that a plain argument says, if it is not empty.
 fn read_stop(alloc: Global, word: Option<&str>) -> Result<Option<Id>, NoMemory>
     ensures { IfOk result (λ stop. MatchOption stop
         ((stop : List ℕ) → SaysStop (option_map (λ s. s.now) word.entry) stop → ⊥)

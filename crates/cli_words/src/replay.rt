@@ -14,7 +14,7 @@ use clap::ArgMatches;
 use lc_model::NoMemory;
 use std::alloc::Global;
 
-/// The plain words of `replay` in their order, and its options.
+/// The plain arguments of `replay` in their order, and its options.
 static PLACES: [&str; 3] = ["feed", "first", "script"];
 
 static OPTIONS: [&str; 7] = [
@@ -27,7 +27,7 @@ static OPTIONS: [&str; 7] = [
     "cache",
 ];
 
-/// What the words behind `replay` say. None exactly where they say no such command.
+/// What the arguments after `replay` say. None exactly where they say no such command.
 pub(crate) fn read_replay(alloc: Global, words: &[String]) -> Result<Option<Replay>, NoMemory>
     ensures { IfOk result (λ replay. MatchOption replay ((replay : Replayed) → SaysReplay (texts_of words.now) replay → ⊥)
         (SaysReplay (texts_of words.now))) }

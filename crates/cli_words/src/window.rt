@@ -4,7 +4,7 @@ ghost use Rattle.cli_words.specs.Window.{IsDateAt, IsWindow};
 use lc_model::{Moment, ServiceDate};
 use lc_time::{days_at, iso_text, read_date};
 
-/// Whether a window of so many days from this date on lies within the dates of the timetable.
+/// Whether a window of so many days from this date on is within the dates of the timetable.
 pub(crate) fn is_window(first: ServiceDate, days: u32) -> bool
     ensures { IsTrue result ↔ IsWindow first days }
 {

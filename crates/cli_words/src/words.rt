@@ -12,8 +12,8 @@ use crate::serve::read_serve;
 use lc_model::NoMemory;
 use std::alloc::Global;
 
-/// Reads the words of a command line, without the program's name. None exactly where they say no command. Linear in the
-/// words.
+/// Reads the arguments of a command line, without the program's name. None exactly where they say no command. Linear in
+/// the arguments.
 pub fn read_words(alloc: Global, words: &[String]) -> Result<Option<Command>, NoMemory>
     ensures { IfOk result (λ read. MatchOption read ((command : Said) → SaysCommand (texts_of words.now) command → ⊥)
         (SaysCommand (texts_of words.now))) }

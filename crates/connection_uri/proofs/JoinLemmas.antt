@@ -65,7 +65,7 @@ front_list kind path front list e =
     let cut : without_last_segment path ≡ front = ap without_last_segment e ∙ ap (λ r. unwrap_or r.0 []) (rsplit_once_at 47 front [] (All-nil _)) in
     subst (IsSegmentList kind) cut (without_last_valid kind path list)
 
--- one more segment behind a slash
+-- one more segment after a slash
 extended : (kind : SchemeType) (path s : List ℕ) → IsSegmentList kind path → slice_get path (length path - 1) ≡ Some 47 → IsSegment kind s → IsSegmentList kind (path ++ s)
 extended kind path s list ends segment =
     let cut = last_slash path ends in

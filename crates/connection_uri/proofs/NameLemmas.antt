@@ -46,7 +46,7 @@ cut (b ∷ x) (b' ∷ x') y y' h h' e =
     let rest = cut x x' y y' h.1 h'.1 tail in
     (ap₂ (λ (c : ℕ) (t : List ℕ). c ∷ t) head rest.0, rest.1)
 
--- no slash lies in the front
+-- no slash is in the front
 in_front : (front rest : List ℕ) (k : ℕ) → HasNoSlash front → k < length front → get_or (front ++ rest) k 0 ≢ 47
 in_front [] rest k h lt = absurd (omega arith)
 in_front (b ∷ front) rest zero h lt = h.0
@@ -72,7 +72,7 @@ dropped : (front rest : List ℕ) → drop (suc (length front)) (front ++ 47 ∷
 dropped [] rest = refl
 dropped (b ∷ front) rest = dropped front rest
 
--- the first slash is the one behind the front
+-- the first slash is the one after the front
 pub first_slash : (text front rest : List ℕ) (at : ℕ) → HasNoSlash front → text ≡ front ++ 47 ∷ rest → get_or text at 0 ≡ 47 → ((k : ℕ) → k < at → get_or text k 0 ≢ 47) → at ≡ length front
 first_slash text front rest at h e here before =
     elim (cases_order at (length front)) [
@@ -106,7 +106,7 @@ pub front_said : (r : Option (Bor (List ℕ))) (text front : List ℕ) → Match
 front_said None text front is = tt
 front_said (Some x) text front is = is
 
--- what begins with 24 bytes is parted behind them
+-- what begins with 24 bytes is parted after them
 pub parted : (text front rest : List ℕ) → length front ≡ 24 → text ≡ front ++ rest → (take 24 text ≡ front) × (drop 24 text ≡ rest)
 parted text front rest len e =
     (ap₂ take (sym len) e ∙ taken front rest, ap₂ drop (sym len) e ∙ left front rest)
@@ -181,7 +181,7 @@ same_pair a b m n e f = ap₂ pair e f
 
 -- ---- different runs and sequences have different names
 
--- the parts of a name behind the base, grouped from the right
+-- the parts of a name after the base, grouped from the right
 abbrev pub parts_of : RunKey → ℕ → List ℕ
 parts_of k n =
     encoded k.trip ++ 47 ∷ (date_text_of k.date.year k.date.month k.date.day ++ 47 ∷ (start_part_of k.start ++ 47 ∷ decimal n))

@@ -27,7 +27,7 @@ use Rattle.connection_uri.proofs.BaseLemmas.{has_host, http_kind, path_list, beg
 use Rattle.connection_uri.proofs.JoinLemmas.{page_query, gate_of, page_of, page_list, page_said, gate_said}
 use Rattle.connection_uri.proofs.RelativeLemmas.{IsInk, whole, ink, path_ink, path_no_mark, query_ink, target_is}
 
--- ---- what stands behind a slash of a list of segments is one too
+-- ---- what comes after a slash of a list of segments is one too
 
 past : (kind : SchemeType) (b : ℕ) (behind : List ℕ) (G : Type 0) → is_slash kind b ≡ true → (s rest : List ℕ) → All (λ c. is_slash kind c ≡ false) s → ((front : List ℕ) → front ++ b ∷ behind ≡ rest → G) → (front : List ℕ) → front ++ b ∷ behind ≡ s ++ rest → G
 past kind b behind G slash [] rest whole then' front e = then' front e
@@ -50,7 +50,7 @@ cut kind b behind slash (s ∷ segments) each (d ∷ front) e =
     (λ front' e'. cut kind b behind slash segments (All-tail (IsSegment kind) s segments each) front' e')
     front tails
 
--- ---- the path that is read behind an authority is shorter
+-- ---- the path that is read after an authority is shorter
 
 at_end : length (parse_path_start SpecialNotFile [] []) ≡ 1
 unfolding url_on_literals
@@ -77,7 +77,7 @@ read_path kind path n special list two some =
           omega (arith, e, at_end)
     ]
 
--- ---- what is read where two slashes stand first
+-- ---- what is read where two slashes come first
 
 ok_same : (a b : Parts) → ◌≡◌ {A = Parsed Parts} (Ok a) (Ok b) → a ≡ b
 ok_same a b e = cc

@@ -1,4 +1,4 @@
--- Bases: the http URLs under which a publisher's documents stand.
+-- Bases: the http URLs under which a publisher's documents are.
 use Rattle.std.specs.Prelude.{◌≡◌, ℕ, ◌-◌, ◌≤◌, Bool, true, ◌&&◌, ◌||◌, nat_lt, ◌==◌, List, [], ◌++◌, length, slice_get, codes, decimal, Option, Some, None, Ok}
 use Rattle.std.specs.List.{list_all}
 use Rattle.std.specs.Str.{IsUtf8}
@@ -62,7 +62,7 @@ pub record StandsBehind (base : BaseParts) (url : Parts) : Type 0 where
   pub plain : IsPlain url
   pub is : base ≡ base_of url
 
--- a base has a URL behind it
+-- a base is the base of some URL
 unfoldable pub IsBase : BaseParts → Type 0
 IsBase base = (url : Parts) × StandsBehind base url
 

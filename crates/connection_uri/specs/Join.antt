@@ -21,12 +21,12 @@ abbrev pub PageUrlsJoin : Type 0
 PageUrlsJoin =
     (base : BaseParts) (departs : ℕ) (name : PageName) → IsBase base → departs < 253_402_128_000 → name.version < 253_402_128_000 → name.departs < 253_402_128_000 → Joins (gate_url_of base departs) (page_url_of base name) (page_url_of base name)
 
--- So is the page's URL from its path on, where the base's path does not begin with two slashes.
+-- The page's URL from its path on joins to it too, where the base's path does not begin with two slashes.
 abbrev pub PageTargetsJoin : Type 0
 PageTargetsJoin =
     (base : BaseParts) (departs : ℕ) (name : PageName) → IsBase base → slice_get base.path 1 ≢ Some slash → departs < 253_402_128_000 → name.version < 253_402_128_000 → name.departs < 253_402_128_000 → Joins (gate_url_of base departs) (page_target_of base name) (page_url_of base name)
 
--- Where it does, it never is: behind two slashes an authority is read.
+-- Where it does, it never is: after two slashes an authority is read.
 abbrev pub PageTargetsJoinNowhere : Type 0
 PageTargetsJoinNowhere =
     (base : BaseParts) (departs : ℕ) (name : PageName) → IsBase base → slice_get base.path 1 ≡ Some slash → departs < 253_402_128_000 → name.version < 253_402_128_000 → name.departs < 253_402_128_000 → ¬ (Joins (gate_url_of base departs) (page_target_of base name) (page_url_of base name))

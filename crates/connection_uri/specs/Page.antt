@@ -15,7 +15,7 @@ abbrev pub PageUrlsDiffer : Type 0
 PageUrlsDiffer =
     (base : BaseParts) (a b : PageName) → a.version < 253_402_128_000 → a.departs < 253_402_128_000 → b.version < 253_402_128_000 → b.departs < 253_402_128_000 → page_url_of base a ≡ page_url_of base b → a ≡ b
 
--- the same of any two texts for the moments, grouped from the right
+-- the parts of a page's URL, for any two texts for the moments, grouped from the right
 abbrev pub page_parts_of : BaseParts → List ℕ → List ℕ → List ℕ
 page_parts_of base version departs =
     base.text ++ (codes "memento/connections?version=" ++ (version ++ (codes "&departureTime=" ++ departs)))

@@ -1,4 +1,4 @@
--- The parts of a name behind its base.
+-- The parts of a name after its base.
 use Rattle.std.specs.Prelude.{◌≡◌, ℕ, List, ◌∷◌, ◌++◌, decimal}
 use Rattle.url.specs.Ascii.{slash}
 use Rattle.lc_model.specs.declared.key.RunKey.{RunKey}

@@ -12,7 +12,7 @@ use url::{ParseError, Url};
 
 const MOST_BYTES: usize = 4096;
 
-/// The URL under which a publisher's documents stand, as `http://lc.example/`, written as the URL Standard writes it. A
+/// The URL under which a publisher's documents are, as `http://lc.example/`, written as the URL Standard writes it. A
 /// contract sees its text, its authority and its path.
 #[derive(Drop)]
 pub struct Base {
@@ -30,8 +30,8 @@ impl Model for Base {
 }
 
 impl Base {
-    /// The base that a text says. None exactly where the text is not UTF-8, is refused by the URL Standard, has another
-    /// scheme than http, a user name, a password, a query or a fragment, a path that does not end with a slash or has
+    /// The base that a text says. None exactly where the text is not UTF-8, is refused by the URL Standard, or has another
+    /// scheme than http, a user name, a password, a query or a fragment. None too where its path does not end with a slash or has
     /// another character than letters, digits, `-`, `.`, `_`, `~`, `%` and `/`, or more than 4,096 bytes as it is written.
     pub fn read(alloc: Global, text: &[u8]) -> Result<Option<Base>, NoMemory>
         ensures said { IfOk result (λ read. IfSome read (λ base. (url : Parts) × ReadsAsBase text.now url × (base ≡ base_of url))) }

@@ -27,8 +27,8 @@ pub fn encode(alloc: Global, id: &Id) -> Result<Text, NoMemory>
     Ok(Text::from_string(text))
 }
 
-/// The id whose encoding the text is. None exactly where the text is no encoding of an id, as where it has a small
-/// letter in an escape, or an escape that is not needed. Copies the text once; one with escapes takes two copies more.
+/// The id whose encoding the text is. None exactly where it encodes no id, for example with a small letter in an
+/// escape, or with one that is not needed. Copies the text once; one with escapes takes two copies more.
 pub fn decode(alloc: Global, text: &[u8]) -> Result<Option<Id>, NoMemory>
     ensures said { IfOk result (λ read. IfSome read (λ id. IsIdText id × (text.now ≡ encoded id))) }
     ensures exact { IfOk result (λ read. (id : List ℕ) → IsIdText id → text.now ≡ encoded id → read ≡ Some id) }

@@ -1,5 +1,5 @@
 //! The names of connections and the URLs of pages under a base, each with one spelling that is read back exactly. It
-//! stands on `lc_model`, on `lc_time`, on `url` and on `percent_encoding`.
+//! builds on `lc_model`, on `lc_time`, on `url` and on `percent_encoding`.
 #![tactic(auto)]
 
 mod base;

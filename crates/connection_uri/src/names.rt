@@ -27,7 +27,7 @@ pub fn name(alloc: Global, base: &Base, key: &RunKey, sequence: u32) -> Result<T
     Ok(Text::from_string(text))
 }
 
-/// The same name, in place of what the text has.
+/// Writes the name of a connection in place of what the text has.
 pub fn fill_name(
     text: &mut String,
     base: &Base,

@@ -21,7 +21,7 @@ pub fn page_url(alloc: Global, base: &Base, name: PageName) -> Result<Text, NoMe
     Ok(Text::from_string(text))
 }
 
-/// The same URL, in place of what the text has.
+/// Writes the URL of a page in place of what the text has.
 pub fn fill_page_url(text: &mut String, base: &Base, name: PageName) -> Result<(), NoMemory>
     ensures { OnOk result (string_bytes text.new ≡ page_url_of base.now name) }
 {
@@ -98,8 +98,8 @@ pub fn page_urls_join()
     ensures { PageUrlsJoin }
 {}
 
-/// So is the URL from its path on, exactly where the base's path does not begin with two slashes: behind two an
-/// authority is read, so that no base is left out which could be in.
+/// The URL from its path on is, too, exactly where the base's path does not begin with two slashes. After two an
+/// authority is read, thus no base is left out which could be in.
 pub fn page_targets_join()
     ensures once { PageTargetsJoin }
     ensures twice { PageTargetsJoinNowhere }

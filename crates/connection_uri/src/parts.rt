@@ -24,7 +24,7 @@ pub fn behind_base<'a>(text: &'a [u8], base: &Base, front: &[u8]) -> Option<&'a 
     behind(rest, front)
 }
 
-/// The first 24 bytes of the text and what follows this mark behind them, if the mark stands there.
+/// The first 24 bytes of the text and what follows this mark after them, if the mark is there.
 pub fn split_at_mark<'a>(text: &'a [u8], mark: &[u8]) -> Option<(&'a [u8], &'a [u8])>
     ensures said { IfSome result (λ p. text.now ≡ p.0.now ++ (mark.now ++ p.1.now)) }
     ensures exact { (moment rest : List ℕ) → length moment ≡ 24 → text.now ≡ moment ++ (mark.now ++ rest)
@@ -35,7 +35,7 @@ pub fn split_at_mark<'a>(text: &'a [u8], mark: &[u8]) -> Option<(&'a [u8], &'a [
     Some((moment, rest))
 }
 
-/// The first 24 bytes of the text, and the bytes behind them.
+/// The first 24 bytes of the text, and the bytes after them.
 fn split_moment(text: &[u8]) -> Option<(&[u8], &[u8])>
     ensures said { IfSome result (λ p. text.now ≡ p.0.now ++ p.1.now) }
     ensures exact { (moment rest : List ℕ) → length moment ≡ 24 → text.now ≡ moment ++ rest
@@ -47,7 +47,7 @@ fn split_moment(text: &[u8]) -> Option<(&[u8], &[u8])>
     Some(text.split_at(24))
 }
 
-/// The text before its first slash, and the text behind it.
+/// The text before its first slash, and the text after it.
 pub fn split_at_slash(text: &[u8]) -> Option<(&[u8], &[u8])>
     ensures said { IfSome result (λ p. text.now ≡ p.0.now ++ 47 ∷ p.1.now) }
     ensures exact { (front rest : List ℕ) → HasNoSlash front → text.now ≡ front ++ 47 ∷ rest
@@ -61,7 +61,7 @@ pub fn split_at_slash(text: &[u8]) -> Option<(&[u8], &[u8])>
     None
 }
 
-/// The four parts of a name behind its base, with a slash between each two.
+/// The four parts of a name after its base, with a slash between each two.
 #[derive(Clone, Copy)]
 pub struct NameParts<'a> {
     pub trip: &'a [u8],
@@ -70,7 +70,7 @@ pub struct NameParts<'a> {
     pub sequence: &'a [u8],
 }
 
-/// The text before its first three slashes, between them and behind them.
+/// The text before its first three slashes, between them and after them.
 pub fn split_parts(text: &[u8]) -> Option<NameParts<'_>>
     ensures said { IfSome result
         (λ p. text.now ≡ p.trip.now ++ 47 ∷ (p.date.now ++ 47 ∷ (p.start.now ++ 47 ∷ p.sequence.now))) }

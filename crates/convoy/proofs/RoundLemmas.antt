@@ -1,4 +1,4 @@
--- Round after round, each client comes to its outcome.
+-- Round after round, each client reaches its outcome.
 use Rattle.std.proofs.Common.{◌≡◌, ◌≢◌, ℕ, suc, ◌<◌, ◌+◌, ◌-◌, inl, inr, sym, ap, ◌∙◌, subst, arith}
 use Rattle.std.specs.List.{AllWithin, slice_index_or}
 use Rattle.std.proofs.lemmas.Option.{get_or_from_slice_get}
@@ -20,7 +20,7 @@ minus n = omega arith
 below : (j n : ℕ) → j < suc n → j ≢ n → j < n
 below j n high other = omega arith
 
--- and so has the next
+-- the next client has had its round
 next :
     {X : Type 0} (seen : X → LinkSeen) (n : ℕ) (old mid new : ConvoyState) (before link after : X) →
     AfterRounds seen n old mid before link → Ends seen (suc n) mid new link after →
@@ -42,7 +42,7 @@ next seen n old mid new before link after rounds ends others keeps = record {
   };
 }
 
--- the same with n + 1, as the code counts
+-- the next client has had its round, with n + 1, as the code counts
 pub next_round :
     {X : Type 0} (seen : X → LinkSeen) (n : ℕ) (old mid new : ConvoyState) (before link after : X) →
     AfterRounds seen n old mid before link → Ends seen (n + 1) mid new link after →

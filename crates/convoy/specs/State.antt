@@ -21,7 +21,7 @@ pub record ConvoyState : Type 0 where
   pub kept : Kept
   pub spent : Bool
 
--- What holds of every convoy: the pages that are kept may be taken, and unless memory ran out each client waits or has its
+-- What holds of every convoy: the cached pages may be taken, and unless memory ran out each client waits or has its
 -- outcome.
 pub record IsSound (members : List Member) (kept : Kept) (spent : Bool) : Type 0 where
   pub pages : All MayBeTaken kept.pages
@@ -38,8 +38,8 @@ pub record Adds (old : ConvoyState) (query : Query) (new : ConvoyState) : Type 0
   pub none_made : member.exchanges ≡ 0
   pub is : new ≡ record old { members = old.members ++ member ∷ [] }
 
--- Client k had its turn: it has become this one, with fewer exchanges left unless it had its outcome before, and waits or has its outcome;
--- every other stays as it is, and so does the base.
+-- Client k had its turn. It has become this one, with fewer exchanges left unless it had its outcome before, and waits or has its outcome.
+-- Every other client stays as it is, and so does the base.
 pub record IsTurn (old new : ConvoyState) (k : ℕ) (before after : LinkSeen) (turn : Turn) : Type 0 where
   pub was : Member
   pub had : slice_get old.members (k - 1) ≡ Some was

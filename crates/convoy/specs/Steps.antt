@@ -1,4 +1,4 @@
--- The steps of a client: it asks the gate, the stops document or a page, or takes a page that is kept.
+-- The steps of a client: it asks the time gate, the stops document or a page, or takes a cached page.
 use Rattle.std.specs.Prelude.{◌≡◌, ℕ, true, ◌≤◌, List, Option, Some, None, Result, Ok, Err}
 use Rattle.lc_model.specs.declared.doc.StopsDoc.{StopsDoc}
 use Rattle.lc_model.specs.declared.page.PageName.{PageName}
@@ -46,7 +46,7 @@ abbrev pub Takes : Client → Client → ℕ → ℕ → (List ℕ → Type 0) �
 Takes old new before after takes (Some reply) = takes reply
 Takes old new before after takes None = shown new ≡ ended (LinkFault before after) (shown old)
 
--- what is said by the reply of the gate
+-- what is said by the reply of the time gate
 pub record TakesGate (base : BaseParts) (old new : Client) (reply : List ℕ) : Type 0 where
   pub said : Result PageName PeerFault
   pub says : IsGateReply base (shown old).query.leave reply said
@@ -58,7 +58,7 @@ pub record TakesStops (old new : Client) (reply : List ℕ) : Type 0 where
   pub says : IsStopsReply reply said
   pub after : AfterStops old reply said new
 
--- a page that passes all tests, that of the gate too, is put in the cache
+-- a page that passes all tests, that of the time gate too, is put in the cache
 abbrev pub kept_after : Option Outcome → Kept → Page → Kept
 kept_after (Some outcome) kept page = kept
 kept_after None kept page = record kept { pages = with_put kept page }
@@ -74,12 +74,12 @@ pub record TakesReply (base : BaseParts) (name : PageName) (old new : Client) (b
   pub says : IsPageReply base name reply said
   pub after_page : AfterPage old new reply before after said
 
--- the same where the exchange may have failed, which leaves the cache
+-- what is taken where the exchange may have failed, which leaves the cache
 abbrev pub TakesAsked : BaseParts → PageName → Client → Client → Kept → Kept → ℕ → ℕ → Got → Type 0
 TakesAsked base name old new kept after count now (Some reply) = TakesReply base name old new kept after reply
 TakesAsked base name old new kept after count now None = (shown new ≡ ended (LinkFault count now) (shown old)) × (after ≡ kept)
 
--- the gate is asked
+-- the time gate is asked
 pub record AsksGate (base : BaseParts) (old new : Client) (before after : LinkSeen) : Type 0 where
   pub wants : want_of (shown old).phase ≡ wants.Gate
   pub got : Got

@@ -10,7 +10,7 @@ use Rattle.convoy.specs.declared.member.Member.{Member}
 use Rattle.convoy.specs.declared.turn.Turn.{Turn}
 use Rattle.convoy.specs.declared.turn.Turn.TheVariants.{Cached, Exchanged, Finished}
 
--- one exchange was made: the gate was asked, or the stops document, or a page
+-- one exchange was made: the time gate was asked, or the stops document, or a page
 abbrev pub Asks : BaseParts → Client → Client → Kept → Kept → LinkSeen → LinkSeen → Type 0
 Asks base old new kept after_kept before after =
     (AsksGate base old new before after × (after_kept ≡ kept)) ⊎ (AsksStops base old new before after × (after_kept ≡ kept)) ⊎ AsksPage base old new kept after_kept before after

@@ -68,7 +68,7 @@ impl Convoy {
         Ok(self.members.len())
     }
 
-    /// Client k takes the reply to what it wants, or a page that is kept. Once memory has run out at a turn there are no turns any more.
+    /// Client k takes the reply to what it wants, or a cached page. Once memory has run out at a turn there are no turns any more.
     pub fn turn<L: Link>(&mut self, alloc: Global, k: usize, link: &mut L) -> Result<Turn, NoMemory>
         requires from_one { 1 ≤ k }
         requires clients { k ≤ length self.old.members }
@@ -147,7 +147,7 @@ impl Convoy {
         self.members[k - 1].client.outcome()
     }
 
-    /// How client k ended, for keeps.
+    /// How client k ended, taken out of the convoy.
     pub fn into_outcome(self, k: usize) -> Option<Outcome>
         requires from_one { 1 ≤ k }
         requires clients { k ≤ length self.members }
@@ -157,7 +157,7 @@ impl Convoy {
         members.swap_remove(k - 1).client.into_outcome()
     }
 
-    /// The clients, in the order of their numbers, for keeps.
+    /// The clients, in the order of their numbers, taken out of the convoy.
     pub fn into_members(self) -> Vec<Member>
         ensures { result.items ≡ self.members }
     {

@@ -45,7 +45,7 @@ pub fn ask<L: Link>(
     }
 }
 
-/// Asks the gate, and takes its reply.
+/// Asks the time gate, and takes its reply.
 fn ask_gate<L: Link>(
     alloc: Global,
     base: &Base,
@@ -141,7 +141,7 @@ fn take_reply(
     }
 }
 
-/// Takes a page that was asked for, and puts it in the cache unless the gate was wrong to send there.
+/// Takes a page that was asked for, and puts it in the cache unless the time gate was wrong to send there.
 fn take_asked(
     alloc: Global,
     client: &mut Client,

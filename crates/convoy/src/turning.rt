@@ -18,7 +18,7 @@ use page_client::Want;
 use page_json::Page;
 use std::alloc::Global;
 
-/// The turn of a member: it takes the reply to what it wants, or a page that is kept.
+/// The turn of a member: it takes the reply to what it wants, or a cached page.
 pub fn turned<L: Link>(
     alloc: Global,
     base: &Base,
@@ -42,7 +42,7 @@ pub fn turned<L: Link>(
     }
 }
 
-/// The member takes a page: the one that is kept, or that it is sent.
+/// The member takes a page: the cached one, or the one that it is sent.
 fn page_turn<L: Link>(
     alloc: Global,
     base: &Base,
@@ -75,7 +75,7 @@ fn page_turn<L: Link>(
     )
 }
 
-/// The member takes a page that is kept.
+/// The member takes a cached page.
 fn held_turn(alloc: Global, member: &mut Member, page: &Page) -> Result<Turn, NoMemory>
     requires wants { want_of (shown member.old.client).phase ≡ wants.Page page.now.name }
     requires decided { IsDecided (shown member.old.client) }

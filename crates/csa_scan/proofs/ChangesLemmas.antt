@@ -98,7 +98,7 @@ known_to doc place c to e f h =
 pub to_known : (doc : StopsDoc) (from to : List ℕ) (seconds : ℕ) → change_between doc.changes from to ≡ Some seconds → (HasStop doc.stops to → ⊥) → ⊥
 to_known doc from to seconds e none = not_there doc.closed (λ (h : NamesItsStops doc.stops doc.changes). let r = change_found doc.changes from to seconds e in none (known_to doc r.0 r.1 to r.2 r.4 h))
 
--- so a stop with a change from it, or to it, has a place
+-- a stop with a change from it, or to it, has a place
 pub place_from_change : (doc : StopsDoc) (from to : List ℕ) (seconds : ℕ) → change_between doc.changes from to ≡ Some seconds → (place : ℕ) × (place < length doc.stops) × (id_at doc.stops place ≡ from)
 place_from_change doc from to seconds e = elim (known_or_not doc.stops from) [ inl h ↦ h | inr none ↦ absurd (from_known doc from to seconds e (λ h. let r = place_from_HasStop doc.stops from h in none r.0 r.1 r.2)) ]
 

@@ -15,7 +15,7 @@ use Rattle.csa_scan.specs.declared.trace.Boarding.{Boarding}
 use Rattle.csa_scan.proofs.ChangesLemmas.{change_takes_time}
 use Rattle.csa_scan.proofs.ListPlacesLemmas.{slice_get-append, push_cases}
 
--- the leg ends with the connection behind the list
+-- the leg ends with the connection after the list
 pub record EndsWith (list : List Connection) (c : Connection) (ride : Ride) : Type 0 where
   pub place : ℕ
   pub boards : Connection
@@ -92,7 +92,7 @@ may_board-grown query doc arrivals a (Some place) stop at h = (h.0, slice_get-ap
 pub later : (doc : StopsDoc) (a : Arrival) (stop : List ℕ) (by : ℕ) → LeadsTo doc a stop by → by ≤ a.arr → ⊥
 later doc a stop by h e = let t = change_takes_time doc.changes (id_at doc.stops a.stop) stop h.seconds h.is_change in let u = h.in_time in omega arith
 
--- so what departs by the new arrival was boarded without it
+-- what departs by the new arrival was boarded without it
 pub may_board_before : (query : Query) (doc : StopsDoc) (arrivals : List Arrival) (a : Arrival) (after : Option ℕ) (stop : List ℕ) (at : ℕ) → at ≤ a.arr →
     MayBoard query doc (arrivals ++ a ∷ []) after stop at → MayBoard query doc arrivals after stop at
 may_board_before query doc arrivals a None stop at e h = h
@@ -102,7 +102,7 @@ may_board_before query doc arrivals a (Some place) stop at e h =
       | inr new ↦ let P : Arrival → Type 0 = λ x. LeadsTo doc x stop at in absurd (later doc a stop at (subst P new.1 h.2) e)
     ]
 
--- the end of a leg stays one, whatever is reached and taken behind
+-- the end of a leg stays one, whatever is reached and taken after it
 pub leg_end-grown : (query : Query) (doc : StopsDoc) (runs : List RunKey) (arrivals : List Arrival) (list : List Connection) (a : Arrival) (x : Arrival) →
     IsLegEnd query doc runs arrivals list x → IsLegEnd query doc runs (arrivals ++ a ∷ []) list x
 leg_end-grown query doc runs arrivals list a x h = record {
@@ -121,7 +121,7 @@ leg_end-taken query doc runs arrivals list c x h = record {
   may_board = h.may_board;
 }
 
--- and so does a boarding
+-- a boarding stays one, whatever is reached and taken after it
 pub boarding-grown : (query : Query) (doc : StopsDoc) (arrivals : List Arrival) (list : List Connection) (key : RunKey) (b : Boarding) (a : Arrival) →
     IsBoardingOf query doc arrivals list key b → IsBoardingOf query doc (arrivals ++ a ∷ []) list key b
 boarding-grown query doc arrivals list key b a h = record {

@@ -9,7 +9,7 @@ slice_get-append [] ys i x e = absurd (cc)
 slice_get-append (y ∷ xs) ys zero x e = e
 slice_get-append (y ∷ xs) ys (suc i) x e = slice_get-append xs ys i x e
 
--- the new item stands at the end
+-- the new item is at the end
 pub slice_get-last : {X : Type 0} (xs : List X) (y : X) → slice_get (xs ++ y ∷ []) (length xs) ≡ Some y
 slice_get-last [] y = refl
 slice_get-last (x ∷ xs) y = slice_get-last xs y
@@ -42,7 +42,7 @@ same_place zero (suc j) = inr (λ e. omega arith)
 same_place (suc i) zero = inr (λ e. omega arith)
 same_place (suc i) (suc j) = elim (same_place i j) [ inl h ↦ inl (ap suc h) | inr h ↦ inr (λ e. h (omega arith)) ]
 
--- what a written list has is the value at the place, or what stood there
+-- what a written list has is the value at the place, or what was there before
 pub set_cases : {X : Type 0} (xs : List X) (i : ℕ) (y : X) (j : ℕ) (x : X) → slice_get (set xs i y) j ≡ Some x → ((j ≡ i) × (x ≡ y)) ⊎ (slice_get xs j ≡ Some x)
 set_cases [] i y j x e = inr e
 set_cases (z ∷ xs) zero y zero x e = inl (refl, cc)
@@ -56,13 +56,13 @@ item_within [] i h = absurd (omega arith)
 item_within (x ∷ xs) zero h = (x, refl)
 item_within (x ∷ xs) (suc i) h = item_within xs i (omega arith)
 
--- the same, where it holds of the rest
+-- an item of what a filter keeps is one of the list, if that holds of the rest
 filter_cases : {X : Type 0} (p : X → Bool) (y : X) (xs : List X) (x : X) (rest : (i : ℕ) (x : X) → slice_get (filter p xs) i ≡ Some x → ((j : ℕ) × (slice_get xs j ≡ Some x)) × (p x ≡ true)) (b : Bool) → p y ≡ b → (i : ℕ) → slice_get (cond b (y ∷ filter p xs) (filter p xs)) i ≡ Some x → ((j : ℕ) × (slice_get (y ∷ xs) j ≡ Some x)) × (p x ≡ true)
 filter_cases p y xs x rest true h zero e = ((0, e), (let f : y ≡ x = cc in ap p (sym f) ∙ h))
 filter_cases p y xs x rest true h (suc i) e = let r = rest i x e in ((suc r.0.0, r.0.1), r.1)
 filter_cases p y xs x rest false h i e = let r = rest i x e in ((suc r.0.0, r.0.1), r.1)
 
--- what a filter keeps stands in the list and passes
+-- what a filter keeps is in the list and passes
 pub slice_get-filter : {X : Type 0} (p : X → Bool) (xs : List X) (i : ℕ) (x : X) → slice_get (filter p xs) i ≡ Some x → ((j : ℕ) × (slice_get xs j ≡ Some x)) × (p x ≡ true)
 slice_get-filter p [] i x e = absurd (cc)
 slice_get-filter p (y ∷ xs) i x e = filter_cases p y xs x (slice_get-filter p xs) (p y) refl i e

@@ -25,7 +25,7 @@ comes_from_no_end stops named outer inner seconds near none = record {
   complete = λ place l at is. absurd (none place l at is);
 }
 
--- what stands at the place of the inner stop
+-- what is at the place of the inner stop
 there : (near : List (Option Near)) (place stop : ℕ) → stop ≡ place → (o : Option Near) → slice_get near place ≡ Some o → slice_get near stop ≡ Some o
 there near place stop same o e = let P : ℕ → Type 0 = λ k. slice_get near k ≡ Some o in subst P (sym same) e
 
@@ -109,7 +109,7 @@ alone_more stops named near pushed i o same p h is =
       ];
     })
 
--- what stands at the place of a stop, whatever place is meant
+-- what is at the place of a stop, whatever place is meant
 at_place : (near : List (Option Near)) (inner_at stop : ℕ) → stop ≡ inner_at → inner_at < length near → (o : Option Near) → get_or near inner_at None ≡ o → (n : Near) → slice_get near stop ≡ Some (Some n) → o ≡ Some n
 at_place near inner_at stop same within o e n f =
     let g = there near inner_at stop same (get_or near inner_at None) (slice_get-get_or near inner_at None within) in

@@ -1,4 +1,4 @@
--- The nearest ends of a question tell its walks.
+-- The nearest ends of a question say its walks.
 use Rattle.std.proofs.Common.{◌≡◌, ℕ, ◌<◌, List, Option, Some, None, length, refl, sym, ◌∙◌, ap, subst, inl, inr, arith}
 use Rattle.std.specs.List.{slice_get}
 use Rattle.lc_model.specs.Question.{IsFrom, IsTo}
@@ -33,7 +33,7 @@ place_of_end query doc asked stop (Some walk) h = place_from_change doc stop wal
 pub stop_of_place : (doc : StopsDoc) (stop : List ℕ) → HasPlace doc stop → HasStop doc.stops stop
 stop_of_place doc stop p = let P : List ℕ → Type 0 = λ id. HasStop doc.stops id in subst P p.2 (HasStop-from_place doc.stops p.0 p.1)
 
--- the walk that the nearest end tells
+-- the walk that the nearest end says
 walk_before : (query : Query) (doc : StopsDoc) (stop : List ℕ) (n : Near) → IsNear Before doc.stops doc.changes query.from stop n →
     (walk : Option Walk) × IsWalkBefore query doc stop walk × (seconds_of walk ≡ n.seconds)
 walk_before query doc stop n (inl here) = (None, here.0, sym here.1)
@@ -124,7 +124,7 @@ after_is query doc stop n (Some walk) made (inr far) =
     let P : Walk → Type 0 = λ w. IsWalkAfter query doc stop (Some w) in
     subst P (sym made.1) (far.0, refl, far.1)
 
--- so where there is a walk, the one that was made is it
+-- where there is a walk, the one that was made is it
 pub made_before : (query : Query) (doc : StopsDoc) → IsAsked query doc → (starts : List (Option Near)) → AreNear Before doc.stops doc.changes query.from starts →
     (stop : List ℕ) (walk made : Option Walk) → IsWalkBefore query doc stop walk → IsWalkAt Before doc.stops starts stop made → IsWalkBefore query doc stop made
 made_before query doc asked starts h stop walk made w at =

@@ -29,7 +29,7 @@ at_key old new keys key h u other n true e f =
     subst P l (slice_get-last keys key) ∙ ap Some same
 at_key old new keys key h u other n false e f = slice_get-append keys (key ∷ []) n other (h.sound other n f)
 
--- and an old key keeps its number
+-- an old key keeps its number
 old_key : (old new : BTreeMap RunKey ℕ) (keys : List RunKey) (key : RunKey) → AreNumbers old keys → get key_cmp old key ≡ None → Updates key_cmp old new key (Some (length keys)) →
     (n : ℕ) (other : RunKey) → slice_get keys n ≡ Some other → (t : Bool) → is_at (key_cmp key) other ≡ t → get key_cmp new other ≡ Some n
 old_key old new keys key h none u n other e true f =

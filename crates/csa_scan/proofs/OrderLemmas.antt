@@ -23,7 +23,7 @@ here : {X : Type 0} (list : List X) (c : X) (rest : List X) → slice_get (list 
 here [] c rest = refl
 here (x ∷ list) c rest = here list c rest
 
--- so each item before the last of a list in order departs by it
+-- each item before the last of a list in order departs by it
 behind_all : (list : List Connection) (c : Connection) (rest : List Connection) → InDepartureOrder (list ++ c ∷ rest) → (place : ℕ) (x : Connection) → slice_get list place ≡ Some x → x.dep ≤ c.dep
 behind_all list c rest h place x e =
     let l = slice_get_within list place x e in
@@ -43,7 +43,7 @@ cut taken (d ∷ list) (suc i) c e =
     let r = cut (taken ++ d ∷ []) list i c e in
     (r.0, sym (append_assoc taken (d ∷ []) list) ∙ r.1 ∙ ap (λ l. l ++ c ∷ r.0) (append_assoc taken (d ∷ []) (take i list)))
 
--- the connection at a place is the next one behind those before it
+-- the connection at a place is the next one after those before it
 pub next_at : (query : Query) (runs : List RunKey) (taken list : List Connection) (numbers : List ℕ) → AreDistinct runs → AreNumbersOf runs list numbers → InDepartureOrder (taken ++ list) → NoneArrivesEarly list →
     (i : ℕ) (c : Connection) → i < length list → c ≡ get_or list i c → (run : ℕ) → slice_get numbers i ≡ Some run → IsNext runs (in_time query (taken ++ take i list)) run c
 next_at query runs taken list numbers distinct are in_order early i c l at run is =

@@ -17,7 +17,7 @@ none_there zero i x e = cc
 none_there (suc n) zero x e = cc
 none_there (suc n) (suc i) x e = none_there n i x e
 
--- a boarding stands among the old runs
+-- a boarding is among the old runs
 was_there : {X : Type 0} (xs : List (Option X)) (n i : ℕ) (x : X) → slice_get (xs ++ replicate n None) i ≡ Some (Some x) → slice_get xs i ≡ Some (Some x)
 was_there [] n i x e = absurd (none_there n i x e)
 was_there (y ∷ xs) n zero x e = e

@@ -1,4 +1,4 @@
--- What a binary search finds in stops and changes that stand in strict order.
+-- What a binary search finds in stops and changes that are in strict order.
 use Rattle.std.proofs.Common.{◌≡◌, ℕ, ◌+◌, ◌<◌, ◌≤◌, ◌⊎◌, suc, zero, Bor, List, Option, Some, Result, Ok, Err, false, length, get_or, refl, sym, ◌∙◌, ap, subst, inl, inr, arith}
 use Rattle.std.specs.List.{slice_get, HoldsAt}
 use Rattle.std.specs.List.Sorted.{IsBinarySearchResult, IsSearchInRange, IsPartitionPoint, IsNonDecreasingBy}
@@ -52,15 +52,15 @@ ids_rise stops h i j l m e =
     not_same (get_or stops i x.0).id (get_or stops j x.0).id (h i j x.0 l m)
     (sym (id_at-get_or stops i x.0 (omega arith)) ∙ e ∙ id_at-get_or stops j x.0 m)
 
--- an id stands at one place
+-- an id is at one place
 pub one_place : (stops : List Stop) → InStopOrder stops → (i j : ℕ) → i < length stops → j < length stops → id_at stops i ≡ id_at stops j → i ≡ j
 one_place stops h i j l m e = elim (three i j) [ inl less ↦ absurd (ids_rise stops h i j less m e) | inr more ↦ elim more [ inl same ↦ same | inr greater ↦ absurd (ids_rise stops h j i greater l (sym e)) ] ]
 
--- the item that a list gave stands at the place
+-- the item that a list gave is at the place
 pub item_found : {X : Type 0} (xs : List X) (i : ℕ) (r : Option (Bor X)) (x : Bor X) → IsItemAt xs i r → r ≡ Some x → (i < length xs) × (x.now ≡ get_or xs i x.now)
 item_found xs i r x item is = let at : IsItemAt xs i (Some x) = subst (IsItemAt xs i) is item in (at.3.0, at.1)
 
--- a stop stands at the place of its id
+-- a stop is at the place of its id
 pub place_there : (stops : List Stop) → InStopOrder stops → (id : List ℕ) (place : ℕ) (s : Stop) → place < length stops → s ≡ get_or stops place s → s.id ≡ id → IsPlaceOf stops id place
 place_there stops h id place s l at same =
     let is = id_at-get_or stops place s l ∙ ap (λ (t : Stop). t.id) (sym at) ∙ same in

@@ -59,7 +59,7 @@ may_not_board query doc asked starts near arrivals ready h c cannot (Some place)
     let t = l.in_time in let u = r.2 in
     (cannot p.0 p.1 p.2).not_ready r.0 r.1 (omega arith)
 
--- a boarding stands when the run that is boarded is written down
+-- a boarding stays when the run that is boarded is written down
 pub boarded-set : (runs : List RunKey) (boardings : List (Option Boarding)) (run : ℕ) (b : Boarding) → run < length boardings → (key : RunKey) →
     IsBoarded runs boardings key → IsBoarded runs (set boardings run (Some b)) key
 boarded-set runs boardings run b l key h = elim (same_place h.run run) [

@@ -44,7 +44,7 @@ take_off query doc starts near runs kept list run c early before e off asked nex
     subst P (sym (in_time-taken query list c early))
     (stands-passed query doc asked starts near runs kept (in_time query list) s run c next (record { not_boarded = e ∙ ap Some off.0; cannot = off.1 }))
 
--- how the run is boarded, by what stood there before
+-- how the run is boarded, by what was there before
 on_by : (query : Query) (doc : StopsDoc) (starts : List (Option Near)) (kept : Kept) (run : ℕ) (c : Connection) (before : Option Boarding) → slice_get kept.boardings run ≡ Some before →
     (b : Boarding) → (before ≡ Some b) ⊎ ((before ≡ None) × (c.board ≡ true) × IsFirstBoarding query doc starts kept.ready c b) → GetsOn query doc starts kept run c b
 on_by query doc starts kept run c before e b (inl was) = inl (e ∙ ap Some was)

@@ -1,4 +1,4 @@
--- The way back from an arrival: each arrival before it leads to the rides behind it.
+-- The way back from an arrival: each arrival before it leads to the rides after it.
 use Rattle.std.proofs.Common.{◌≡◌, ℕ, ◌+◌, ◌-◌, ◌<◌, ◌≤◌, List, [], ◌∷◌, ◌++◌, suc, zero, Option, Some, None, get_or, length, reverse, refl, sym, ◌∙◌, ap, subst, arith}
 use Rattle.std.specs.List.{slice_get}
 use Rattle.std.specs.Option.{option_map_or}
@@ -22,8 +22,8 @@ use Rattle.std.proofs.lemmas.List.{reverse-append}
 use Rattle.csa_scan.specs.declared.trace.Arrival.{Arrival}
 use Rattle.csa_scan.proofs.ListPlacesLemmas.{to_some_and}
 
--- the rides are the end of a journey up to the last arrival, and go on after the arrival at this place, or from the begin;
--- without rides the arrival at the place is the last one
+-- The rides are the end of a journey up to the last arrival, and go on after the arrival at this place, or from the begin.
+-- Without rides the arrival at the place is the last one.
 abbrev pub IsTail : Query → StopsDoc → List Connection → List Arrival → Arrival → Option ℕ → List Ride → Type 0
 IsTail query doc list arrivals last after [] = (place : ℕ) × (after ≡ Some place) × (slice_get arrivals place ≡ Some last)
 IsTail query doc list arrivals last after (ride ∷ rest) =
@@ -98,7 +98,7 @@ pub tail_not_empty : (query : Query) (doc : StopsDoc) (list : List Connection) (
 tail_not_empty query doc list arrivals last [] h e = let p = h.1 in cc
 tail_not_empty query doc list arrivals last (ride ∷ rest) h e = cc
 
--- so has what leads from the begin to an arrival
+-- there is a ride in what leads from the begin to an arrival
 pub leads_not_empty : (stops : List Stop) (runs : List RunKey) (arrivals : List Arrival) (goal : ℕ) (rides : List Ride) → AreRidesTo stops runs arrivals goal rides → rides ≡ [] → ⊥
 leads_not_empty stops runs arrivals goal [] h e = cc
 leads_not_empty stops runs arrivals goal (ride ∷ rest) h e = cc
@@ -158,7 +158,7 @@ tail_whole query doc list arrivals last at journey h leads before after =
       arrives,
     )
 
--- one ride more, written behind the later ones
+-- one ride more, written after the later ones
 reverse_push : {X : Type 0} (xs : List X) (x : X) → reverse (xs ++ x ∷ []) ≡ x ∷ reverse xs
 reverse_push xs x = reverse-append xs (x ∷ [])
 

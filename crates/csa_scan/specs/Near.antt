@@ -63,7 +63,7 @@ pub record IsNowNear (stops : List Stop) (named outer : List ℕ) (seconds : ℕ
   pub takes : n.seconds ≡ seconds
   pub nearer : (m : Near) → slice_get old stop ≡ Some (Some m) → seconds < m.seconds
 
--- the stop of the one id has the end of the other one so near, if it is one, or another one no farther, and no other changed
+-- The stop of the one id has the end of the other one so near, if it is one, or another one no farther. No other changed.
 pub record ComesNear (stops : List Stop) (named outer inner : List ℕ) (seconds : ℕ) (old new : List (Option Near)) : Type 0 where
   pub same_stops : length new ≡ length old
   pub sound : (stop : ℕ) (n : Near) → slice_get new stop ≡ Some (Some n) →

@@ -11,7 +11,7 @@ pub record AreNumbers (numbers : BTreeMap RunKey ℕ) (keys : List RunKey) : Typ
   pub sound : (key : RunKey) (n : ℕ) → get key_cmp numbers key ≡ Some n → slice_get keys n ≡ Some key
   pub complete : (n : ℕ) (key : RunKey) → slice_get keys n ≡ Some key → get key_cmp numbers key ≡ Some n
 
--- no key stands twice
+-- no key is there twice
 abbrev pub AreDistinct : List RunKey → Type 0
 AreDistinct keys = (i j : ℕ) (key : RunKey) → slice_get keys i ≡ Some key → slice_get keys j ≡ Some key → i ≡ j
 

@@ -3,7 +3,7 @@ use Rattle.std.specs.Prelude.{◌≡◌, ℕ, ◌<◌, List, length}
 use Rattle.lc_model.specs.declared.stop.Stop.{Stop}
 use Rattle.csa_scan.specs.Reach.{id_at}
 
--- the stop of this id stands there, and there alone
+-- the stop of this id is there, and there alone
 pub record IsPlaceOf (stops : List Stop) (id : List ℕ) (place : ℕ) : Type 0 where
   pub within : place < length stops
   pub is : id_at stops place ≡ id

@@ -12,8 +12,8 @@ use Rattle.csa_scan.specs.declared.trace.Arrival.{Arrival}
 abbrev pub PointsBack : ℕ → ℕ → List Arrival → Type 0
 PointsBack stops runs arrivals = (place : ℕ) (a : Arrival) → slice_get arrivals place ≡ Some a → IsArrivalIn stops runs place a
 
--- the rides lead on to the arrival at the goal: each is that of an arrival, the first one comes right behind the place
--- `after`, or the begin where that is none
+-- The rides lead on to the arrival at the goal. Each is that of an arrival. The first one comes right after the place
+-- `after`, or the begin where that is none.
 abbrev pub LeadsOn : List Stop → List RunKey → List Arrival → ℕ → Option ℕ → List Ride → Type 0
 LeadsOn stops runs arrivals goal after [] = after ≡ Some goal
 LeadsOn stops runs arrivals goal after (ride ∷ rest) =

@@ -20,7 +20,7 @@ pub record StandsFor (scan : Scan) (query : Query) (doc : StopsDoc) (list : List
   pub walks : AreWalks query doc scan.walks
   pub stands : Stands query doc scan.runs (kept_of scan.progress) (in_time query list)
 
--- whatever list the scan stood for, it stands for that list with the new one behind it, where this is in departure order
+-- whatever list the scan stood for, it stands for that list with the new one after it, where this is in departure order
 abbrev pub GoesOnBy : Scan → Scan → List Connection → Type 0
 GoesOnBy old new list =
     (query : Query) (doc : StopsDoc) (taken : List Connection) → InDepartureOrder (taken ++ list) → StandsFor old query doc taken → StandsFor new query doc (taken ++ list)

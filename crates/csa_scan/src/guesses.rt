@@ -1,7 +1,7 @@
 use lc_model::{Id, NoMemory, RunKey};
 use std::alloc::Global;
 
-/// So many guesses are kept. Texts of one slot take it from each other.
+/// How many guesses are stored. Texts of one slot take it from each other.
 const GUESSES: u64 = 2_048;
 
 /// The start of FNV-1a over 64 bits, and its factor.

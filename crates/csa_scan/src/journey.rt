@@ -31,7 +31,7 @@ fn ride_of(
     })
 }
 
-/// The rides up to the arrival at the place, from the first on: each arrival tells the one before it.
+/// The rides up to the arrival at the place, from the first on: each arrival names the one before it.
 pub fn rides_to(
     alloc: Global,
     stops: &[Stop],

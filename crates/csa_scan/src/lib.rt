@@ -1,5 +1,5 @@
-//! Earliest arrivals over connections in departure order, by the Connection Scan Algorithm (Dibbelt et al.): a scan is
-//! begun for a question, takes lists of connections, and tells the best arrival and a journey that has it. It stands on
+//! Earliest arrivals over connections in departure order, by the Connection Scan Algorithm (Dibbelt et al.). A scan is
+//! begun for a question, takes lists of connections, and says the best arrival and a journey that has it. It builds on
 //! the words of `lc_model`.
 #![tactic(auto)]
 

@@ -47,7 +47,7 @@ fn is_nearer(seconds: u32, near: Option<Near>) -> bool
     }
 }
 
-/// There is a walk of so many seconds between the inner stop and the outer one, which counts where this is an end of the
+/// There is a walk of so many seconds between the inner stop and the outer one. It counts where this is an end of the
 /// question.
 fn come_near(
     stops: &[Stop],

@@ -73,7 +73,7 @@ impl Progress {
         self.arrivals.push(arrival).unwrap();
     }
 
-    /// Takes the connection, the next one behind those that were taken. Its run has this number.
+    /// Takes the connection, the next one after those that were taken. Its run has this number.
     pub fn take_one(
         &mut self,
         query: &Query,

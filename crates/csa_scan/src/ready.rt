@@ -46,7 +46,7 @@ pub fn relax(doc: &StopsDoc, ready: &mut [Option<Ready>], stop: usize, arr: Mome
     ensures { Relaxes doc.now stop arr after ready.old ready.new }
 {
     let stops = doc.stops.as_slice();
-    // Changes stand in order, as what takes an arrival asks.
+    // Changes are in order, as what takes an arrival asks.
     let _in_order = doc.changes.as_slice();
     for change in doc.changes.from(&stops[stop].id) {
         improve(stops, ready, &change.to, changed_at(arr, change), after);

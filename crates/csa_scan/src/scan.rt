@@ -11,7 +11,7 @@ use crate::walks::Walks;
 use lc_model::{Connection, Connections, Journey, Moment, NoMemory, PlainData, Query, StopsDoc};
 use std::alloc::Global;
 
-/// A scan for one question. It takes connections in departure order, list by list, and tells at any time the best
+/// A scan for one question. It takes connections in departure order, list by list, and says at any time the best
 /// arrival over what it took.
 #[derive(Drop)]
 pub struct Scan {
@@ -100,8 +100,8 @@ impl Scan {
     }
 
     /// Takes the connections that come after those taken before. Departures before the question leaves are not boarded, and
-    /// what arrives after its horizon is left out. Each connection takes a constant time where its run and its stops were found by
-    /// a guess, and else the logarithm of the runs and of the stops.
+    /// what arrives after its horizon is left out. A connection takes a constant time where a guess finds its run and its stops, and
+    /// else the logarithm of the runs and of the stops.
     pub fn take_all(&mut self, alloc: Global, list: &Connections) -> Result<(), NoMemory>
         ensures ok { OnOk result (GoesOnBy self.old self.new list.now) }
         ensures err { OnErr result (StaysAsItWas self.old self.new) }

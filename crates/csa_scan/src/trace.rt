@@ -27,7 +27,7 @@ pub struct Ready {
     pub after: usize,
 }
 
-/// The end of the question that is nearest to a stop, as a place in the stops document, and the seconds of the walk: 0
+/// The end of the question that is nearest to a stop, as a place in the stops document. The seconds of the walk are 0
 /// where the stop is this end itself.
 #[derive(Clone, Copy)]
 pub struct Near {

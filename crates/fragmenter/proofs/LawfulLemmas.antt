@@ -32,7 +32,7 @@ later_span before d seconds e up = elim (cases_order before d) [
 other_departure : (before d : ℕ) → (before == d) ≡ false → before ≤ d → before < d
 other_departure before d e up = grind (arith, nat_tests)
 
--- cuts among the departures behind one
+-- cuts among the departures after one
 record Later (before : ℕ) (departures cuts : List ℕ) : Type 0 where
   above : All (λ (cut : ℕ). before < cut) cuts
   rising : AllPairs (λ (x y : ℕ). x < y) cuts
@@ -67,7 +67,7 @@ taken before d rest cuts up later = record {
   members = All-cons (λ cut. Contains (d ∷ rest) cut) d cuts (Contains-here d rest) (behind d rest cuts later.members);
 }
 
--- a departure and those behind it
+-- a departure and those after it
 record Falls (before d : ℕ) (rest : List ℕ) : Type 0 where
   up : before ≤ d
   rest_too : NeverFalls (d ∷ rest)
@@ -102,7 +102,7 @@ count_later count on_page before (d ∷ rest) h =
     count_step count on_page before d rest (count_cuts_behind count 1 (Some d) rest) (count_cuts_behind count (suc on_page) (Some d) rest)
     (nat_le count on_page) (before == d) refl refl f.up (count_later count 1 d rest f.rest_too) (count_later count (suc on_page) d rest f.rest_too)
 
--- the first departure, and cuts behind it
+-- the first departure, and cuts after it
 first_and : (first : ℕ) (rest cuts : List ℕ) → Later first rest cuts → AreCuts (first ∷ rest) (first ∷ cuts)
 first_and first rest cuts later = record {
   rising = AllPairs-cons (λ x y. x < y) first cuts later.above later.rising;

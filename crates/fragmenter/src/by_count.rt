@@ -17,7 +17,7 @@ pub struct ByCount {
 }
 
 impl ByCount {
-    // Whether a page begins at the departure, behind the one before it and a page of so many connections.
+    // Whether a page begins at the departure, after the one before it and a page of so many connections.
     fn begins(self, on_page: u64, before: Option<Moment>, departure: Moment) -> bool
         ensures { result ≡ count_begins self.count on_page before departure }
     {

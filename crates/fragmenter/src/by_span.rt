@@ -17,7 +17,7 @@ pub struct BySpan {
 }
 
 impl BySpan {
-    // Whether a page begins at the departure, behind the one before it.
+    // Whether a page begins at the departure, after the one before it.
     fn begins(self, before: Option<Moment>, departure: Moment) -> bool
         ensures { result ≡ span_begins self.seconds before departure }
     {

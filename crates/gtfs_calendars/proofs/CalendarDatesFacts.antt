@@ -18,7 +18,7 @@ use Rattle.gtfs_fields.proofs.SaidItems.{as_many, id_is, item_at, stands_again}
 use Rattle.gtfs_calendars.specs.CalendarDates.{HaveOneRowADate, added_said, calendar_dates_rule, date_key, date_keys_of, date_row_of, date_row_rules, date_row_said}
 use Rattle.gtfs_calendars.specs.declared.calendar_dates.DateRow.{DateRow}
 
--- a row that breaks no rule does not stand again
+-- a row that breaks no rule is not there again
 not_again : (service : Option (List ℕ)) (again : Bool) (added : Option Bool) (date : Option ServiceDate)
     → first_of (date_row_rules service again added date) ≡ None → again ≡ true → ⊥
 not_again None again added date none is = cc

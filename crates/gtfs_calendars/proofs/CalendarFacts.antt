@@ -15,7 +15,7 @@ use Rattle.gtfs_fields.proofs.SaidItems.{as_many, id_is, item_at, stands_again}
 use Rattle.gtfs_calendars.specs.Calendar.{HaveOneRowAService, calendar_rule, services_of, weekdays_said, weekly_of, weekly_rules, weekly_said}
 use Rattle.gtfs_calendars.specs.declared.calendar.Weekly.{Weekly}
 
--- a row that breaks no rule does not stand again
+-- a row that breaks no rule is not there again
 not_again : (service : Option (List ℕ)) (again : Bool) (days : Option (List Bool)) (from to : Option ServiceDate)
     → first_of (weekly_rules service again days from to) ≡ None → again ≡ true → ⊥
 not_again None again days from to none is = cc

@@ -17,7 +17,7 @@ one_of f x None e = ap (λ p. cons_option p []) e
 one_of f x (Some y) e = ap (λ p. cons_option p []) e
 
 module _ {Row Item : Type 0} (rule_at : ℕ → Option ℕ) (said : Row → Option Item) (rows : List Row) where
-  -- so many rows break no rule, and these are the items of those that say one
+  -- this many rows break no rule, and these are the items of those that say one
   pub record AreKept (place : ℕ) (items : List Item) : Type 0 where
     pub unbroken : IsUnbroken rule_at place
     pub listed : items ≡ filter_map said (take place rows)

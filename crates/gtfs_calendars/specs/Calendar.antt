@@ -54,7 +54,7 @@ weekly_said sheet row =
     weekly_of (id_said (text_at sheet row (codes "service_id"))) (weekdays_said sheet row)
     (date_said (text_at sheet row (codes "start_date"))) (date_said (text_at sheet row (codes "end_date")))
 
--- the first rule that the row at a place breaks: a service stands once
+-- the first rule that the row at a place breaks: a service is there once
 unfoldable pub calendar_rule : Sheet → ℕ → Option ℕ
 calendar_rule sheet place =
     let row = row_at sheet place in

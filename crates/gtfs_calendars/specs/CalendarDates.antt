@@ -49,7 +49,7 @@ date_row_said sheet row =
     date_row_of (id_said (text_at sheet row (codes "service_id"))) (added_said (text_at sheet row (codes "exception_type")))
     (date_said (text_at sheet row (codes "date")))
 
--- the first rule that the row at a place breaks: a service and a date stand once
+-- the first rule that the row at a place breaks: a service and a date are there once
 unfoldable pub calendar_dates_rule : Sheet → ℕ → Option ℕ
 calendar_dates_rule sheet place =
     let row = row_at sheet place in

@@ -20,7 +20,7 @@ use std::alloc::Global;
 use std::collections::BTreeMap;
 
 /// The rows of a calendar_dates.txt, in the order of the file (GTFS Schedule Reference, calendar_dates.txt), or the first
-/// rule that is broken: 2 to 5 of the file, and in a row 6 without a service, 7 of a service and a date that stand
+/// broken rule: 2 to 5 are of the file. In a row 6 is of an absent service, 7 of a service and a date that are there
 /// before, 11 of an exception_type that is neither 1 nor 2, 12 of an unreadable date. Of n rows: n log n.
 pub fn read_calendar_dates(alloc: Global, bytes: &[u8]) -> Result<DateRows, FileFault>
     ensures ok { IfOk result (AreDates bytes.now) }

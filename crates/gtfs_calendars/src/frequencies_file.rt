@@ -23,7 +23,7 @@ use std::alloc::Global;
 use std::collections::BTreeMap;
 
 /// The rows of a frequencies.txt of these trips, in the order of the file (GTFS Schedule Reference, frequencies.txt), or
-/// the first rule that is broken: 2 to 5 of the file, and in a row 6 without a trip, 9 of a trip that is not among the
+/// the first broken rule: 2 to 5 are of the file. In a row 6 is of an absent trip, 9 of a trip that is not among the
 /// trips, 11 of a headway that is no number from 1 on, 12 of an unreadable time. Of n rows and m trips: (n + m) log m.
 pub fn read_frequencies(
     alloc: Global,

@@ -24,7 +24,7 @@ use std::alloc::Global;
 use std::collections::BTreeMap;
 
 /// The rows of a transfers.txt of these stops, in the order of the file (GTFS Schedule Reference, transfers.txt), or the
-/// first rule that is broken: 2 to 5 of the file, and in a row 8 of a stop that is not among the stops, 11 of an
+/// first broken rule: 2 to 5 are of the file. In a row 8 is of a stop that is not among the stops, 11 of an
 /// unreadable number. A row is passed over where its transfer_type is none of 0 to 3, a stop is empty, or it is of some
 /// routes or trips alone; rule 8 is not tested for it. Of n rows and m stops: (n + m) log m.
 pub fn read_transfers(alloc: Global, bytes: &[u8], stops: &Stops) -> Result<Transfers, FileFault>

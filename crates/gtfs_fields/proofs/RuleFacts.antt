@@ -29,7 +29,7 @@ pub none_broken : (rules : List (ℕ × Bool)) → first_of rules ≡ None → N
 none_broken [] h = tt
 none_broken ((number, broken) ∷ rest) h = let both = one_more number broken rest h in (both.0, none_broken rest both.1)
 
--- keys of which none stands twice differ
+-- keys of which none is there twice differ
 pub keys_differ : {Key : Type 0} (same : Key → Key → Bool) → ((key : Key) → same key key ≡ true) → (keys : List Key)
     → ((place : ℕ) (d : Key) → place < length keys → stands_twice same keys place (get_or keys place d) ≡ false) → AllPairs (λ x y. x ≢ y) keys
 keys_differ same itself keys once i j d before inside equal =

@@ -6,7 +6,7 @@ said_is P says (Some x) law said exact = sym ((law x).1 said)
 said_is P None None law said exact = refl
 said_is P (Some y) None law said exact = exact y ((law y).0 refl)
 
--- what `is_none` tells of an option is `is_none`
+-- what `is_none` says of an option is `is_none`
 pub none_recorded : {A : Type 0} (o : Option A) (recorded : Bool) → is_some o ≡ not recorded → recorded ≡ is_none o
 none_recorded o true e = sym (ap not e)
 none_recorded o false e = sym (ap not e)

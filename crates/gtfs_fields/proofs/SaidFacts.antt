@@ -2,7 +2,7 @@
 use Rattle.std.proofs.Common.{◌≡◌, ◌∙◌, ℕ, ◌+◌, ◌<◌, ◌≤◌, ◌⊎◌, List, [], ◌∷◌, ◌++◌, Option, Some, None, Ok, ap, ap₂, below_more, get_or, inl, inr, length, map, refl, sym, take}
 use Rattle.std.proofs.lemmas.List.{map_more, map_push, take_all}
 use Rattle.gtfs_fields.specs.Rules.{IsUnbroken}
-use Rattle.gtfs_fields.specs.Fields.{IsRecordedOf, ReadsRow}
+use Rattle.gtfs_fields.specs.Fields.{IsReportedOf, ReadsRow}
 use Rattle.gtfs_fields.specs.Table.{IsRowFault}
 use Rattle.gtfs_fields.specs.declared.fault.FileFault.{FileFault}
 use Rattle.gtfs_fields.specs.declared.fault.FileFault.TheVariants.{Broken, TooMany, NoMemory}
@@ -10,7 +10,7 @@ use Rattle.gtfs_fields.specs.declared.fault.FileFault.TheVariants.{Broken, TooMa
 some_is : {A : Type 0} (x y : A) → Some x ≡ Some y → x ≡ y
 some_is x y e = cc
 
--- lists are one where they are so behind Some
+-- lists are one where their items in Some are
 pub lists_of_some : {A : Type 0} (xs ys : List A) → map Some xs ≡ map Some ys → xs ≡ ys
 lists_of_some [] [] e = refl
 lists_of_some {A} [] (y ∷ ys) e = let clash : ◌≡◌ {A = List (Option A)} [] (Some y ∷ map Some ys) = e in absurd (nil_is_not clash)
@@ -32,15 +32,15 @@ lists_of_some {A} (x ∷ xs) (y ∷ ys) e =
     tail_is e = cc
 
 -- the fault of a row before which none is broken is the first
-pub recorded_first : (rule_at : ℕ → Option ℕ) (count place : ℕ) (fault : FileFault) → place < count → IsUnbroken rule_at place → IsRecordedOf (rule_at place) place fault
+pub reported_first : (rule_at : ℕ → Option ℕ) (count place : ℕ) (fault : FileFault) → place < count → IsUnbroken rule_at place → IsReportedOf (rule_at place) place fault
     → (fault ≡ NoMemory) ⊎ IsRowFault rule_at count fault
-recorded_first rule_at count place (Broken rule row) inside before (broken, at) =
+reported_first rule_at count place (Broken rule row) inside before (broken, at) =
     inr (place, record { there = inside; broken = broken; before = before }, at)
-recorded_first rule_at count place (TooMany n) inside before recorded = absurd recorded
-recorded_first rule_at count place NoMemory inside before recorded = inl refl
+reported_first rule_at count place (TooMany n) inside before recorded = absurd recorded
+reported_first rule_at count place NoMemory inside before recorded = inl refl
 
 module _ {Row Item : Type 0} (rule_at : ℕ → Option ℕ) (said : Row → Option Item) (rows : List Row) where
-  -- so many rows break no rule, and these are the items that they say
+  -- this many rows break no rule, and these are the items that they say
   pub record AreRead (place : ℕ) (items : List Item) : Type 0 where
     pub unbroken : IsUnbroken rule_at place
     pub listed : map Some items ≡ map said (take place rows)

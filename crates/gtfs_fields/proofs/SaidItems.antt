@@ -1,4 +1,4 @@
--- The items that rows say, at their places, and the keys of rows that stand once.
+-- The items that rows say, at their places, and the keys of rows that are there once.
 use Rattle.std.proofs.Common.{◌≡◌, ◌∙◌, ℕ, ◌+◌, ◌<◌, ◌≤◌, Bool, true, false, List, Option, Some, None, ap, arith, get_or, length, map, refl, sym}
 use Rattle.std.specs.Prelude.{◌==◌, if◌then◌else◌}
 use Rattle.std.proofs.lemmas.Bool.{lt-ltb}
@@ -19,7 +19,7 @@ module _ {Row Item : Type 0} (said : Row → Option Item) (rows : List Row) (ite
       let within : place < length rows = omega arith in
       sym (get_or-map said rows place e (Some d) within) ∙ sym (ap (λ xs. get_or xs place (Some d)) listed) ∙ get_or-map Some items place d (Some d) inside
 
--- a key that stands at an earlier place too stands twice
+-- a key that is at an earlier place too is there twice
 pub stands_again : {Key : Type 0} (same : Key → Key → Bool) (keys : List Key) (i j : ℕ) (key d : Key) → i < j → j < length keys → same (get_or keys i d) key ≡ true
     → stands_twice same keys j key ≡ true
 stands_again same keys i j key d before inside passes =

@@ -88,7 +88,7 @@ module _ (columns : List (List ℕ)) (most : ℕ) (bytes : List ℕ) where
   pub small_tables_are_one : (a b : Sheet) → IsSmallTable columns most bytes a → IsSmallTable columns most bytes b → a ≡ b
   small_tables_are_one a b h k = sheets_are_one bytes a b h.table.read k.table.read
 
-  -- what a fault of the rows is recorded as
+  -- what a fault of the rows is reported as
   pub recorded : (found : RowFault) (fault : FileFault) → IsFaultOf found fault → (found ≡ row_faults.NoMemory) ⊎ Breaks bytes columns found
       → (fault ≡ NoMemory) ⊎ IsTableFault columns most bytes fault
   recorded found (Broken rule row) is (inl none) = let e : None ≡ Some (rule, row) = sym (ap rule_of_fault none) ∙ is in absurd (none_is_not_some (rule, row) e)

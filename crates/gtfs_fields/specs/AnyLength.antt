@@ -1,4 +1,4 @@
--- A file whose rows have no limit, as a table with rules for its rows: what holds where no rule is broken, and where one
+-- A file whose rows have no limit, as a table with rules for its rows. What holds where no rule is broken, and where one
 -- is.
 use Rattle.std.specs.Prelude.{ℕ, ◌⊎◌, List, Option, length}
 use Rattle.gtfs_rows.specs.Sheet.{IsTable, Sheet}
@@ -18,7 +18,7 @@ IsNoTable columns bytes (Broken rule row) = BreaksTable columns bytes rule row
 IsNoTable columns bytes (TooMany count) = ⊥
 IsNoTable columns bytes NoMemory = ⊥
 
--- the bytes are a table with these columns, but a row breaks a rule, and the first is recorded
+-- the bytes are a table with these columns, but a row breaks a rule, and the first is reported
 pub record HasBrokenRow (columns : List (List ℕ)) (rule_at : Sheet → ℕ → Option ℕ) (bytes : List ℕ) (fault : FileFault) : Type 0 where
   pub sheet : Sheet
   pub table : IsTable bytes columns sheet

@@ -23,13 +23,13 @@ abbrev pub ReadsItem : {Item : Type 0} → Option ℕ → Option Item → Result
 ReadsItem rule said (Ok item) = (rule ≡ None) × (said ≡ Some item)
 ReadsItem rule said (Err broken) = rule ≡ Some broken
 
--- the row at a place breaks this rule, and so this is recorded. Rows are counted from 1, places from 0
-abbrev pub IsRecordedOf : Option ℕ → ℕ → FileFault → Type 0
-IsRecordedOf rule place (Broken broken row) = (rule ≡ Some broken) × (row ≡ place + 1)
-IsRecordedOf rule place (TooMany count) = ⊥
-IsRecordedOf rule place NoMemory = Unit {0}
+-- the row at a place breaks this rule, thus this is reported. Rows are counted from 1, places from 0
+abbrev pub IsReportedOf : Option ℕ → ℕ → FileFault → Type 0
+IsReportedOf rule place (Broken broken row) = (rule ≡ Some broken) × (row ≡ place + 1)
+IsReportedOf rule place (TooMany count) = ⊥
+IsReportedOf rule place NoMemory = Unit {0}
 
--- the same of the row at a place, where memory may be wanting
+-- what is read of the row at a place, where memory may run out
 abbrev pub ReadsRow : {Item : Type 0} → Option ℕ → Option Item → ℕ → Result Item FileFault → Type 0
 ReadsRow rule said place (Ok item) = (rule ≡ None) × (said ≡ Some item)
-ReadsRow rule said place (Err fault) = IsRecordedOf rule place fault
+ReadsRow rule said place (Err fault) = IsReportedOf rule place fault

@@ -12,7 +12,7 @@ abbrev pub is_before : Option ℕ → ℕ → Bool
 is_before None place = false
 is_before (Some first) place = nat_lt first place
 
--- the key, which stands at this place, stands at an earlier one too
+-- the key, which is at this place, is at an earlier one too
 abbrev pub stands_twice : {Key : Type 0} → (Key → Key → Bool) → List Key → ℕ → Key → Bool
 stands_twice same keys place key = is_before (first_place same keys key) place
 

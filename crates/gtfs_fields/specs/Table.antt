@@ -13,8 +13,8 @@ pub record IsSmallTable (columns : List (List ℕ)) (most : ℕ) (bytes : List �
   pub table : IsTable bytes columns sheet
   pub small : length sheet.rows ≤ most
 
--- The rule that a fault of the rows breaks, and its row: 2 where the bytes are not UTF-8, 3 without a header, 4 where a
--- column is missing, 5 where a row has another number of fields than the header. Row 0 stands for the file.
+-- The rule that a fault of the rows breaks, and its row. It is 2 where the bytes are not UTF-8, 3 without a header, 4 where a
+-- column is missing. It is 5 where a row has another number of fields than the header. Row 0 is the file as a whole.
 abbrev pub rule_of_fault : RowFault → Option (ℕ × ℕ)
 rule_of_fault row_faults.NotUtf8 = Some (2, 0)
 rule_of_fault row_faults.NoHeader = Some (3, 0)
@@ -22,7 +22,7 @@ rule_of_fault (row_faults.NoColumn name) = Some (4, 0)
 rule_of_fault (row_faults.Ragged row) = Some (5, row)
 rule_of_fault row_faults.NoMemory = None
 
--- how a fault of the rows is recorded
+-- how a fault of the rows is reported
 abbrev pub IsFaultOf : RowFault → FileFault → Type 0
 IsFaultOf found (Broken rule row) = rule_of_fault found ≡ Some (rule, row)
 IsFaultOf found (TooMany count) = ⊥
@@ -47,13 +47,13 @@ IsTableFault columns most bytes (Broken rule row) = BreaksTable columns bytes ru
 IsTableFault columns most bytes (TooMany count) = IsTooLong columns most bytes count
 IsTableFault columns most bytes NoMemory = ⊥
 
--- Of the rows of a sheet, each of which breaks a rule or none, the first that breaks one is recorded, counted from 1.
+-- Of the rows of a sheet, each of which breaks a rule or none, the first that breaks one is reported, counted from 1.
 abbrev pub IsRowFault : (ℕ → Option ℕ) → ℕ → FileFault → Type 0
 IsRowFault rule_at count (Broken rule row) = (place : ℕ) × IsFirstBroken rule_at count place rule × (row ≡ place + 1)
 IsRowFault rule_at count (TooMany rows) = ⊥
 IsRowFault rule_at count NoMemory = ⊥
 
--- The bytes are a table with these columns of at most so many rows, but a row breaks a rule, and the first is recorded.
+-- The bytes are a table with these columns of at most so many rows, but a row breaks a rule, and the first is reported.
 pub record BreaksRow (columns : List (List ℕ)) (most : ℕ) (rule_at : Sheet → ℕ → Option ℕ) (bytes : List ℕ) (fault : FileFault) : Type 0 where
   pub sheet : Sheet
   pub table : IsSmallTable columns most bytes sheet

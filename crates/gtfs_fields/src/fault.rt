@@ -10,9 +10,9 @@ use std::fmt;
 /// Why the bytes of a file say no rows.
 #[derive(Debug, Drop)]
 pub enum FileFault {
-    /// The first rule that is broken, and the row that breaks it, counted from 1; row 0 stands for the file. 2: the bytes
+    /// The first rule that is broken, and the row that breaks it, counted from 1; row 0 is the whole file. 2: the bytes
     /// are not UTF-8. 3: there is no header. 4: a column is missing. 5: a row has another number of fields than the
-    /// header. 6: an id is empty. 7: an id stands a second time. 8: a stop is not known. 9: a trip is not known. 10: a
+    /// header. 6: an id is empty. 7: an id is there a second time. 8: a stop is not known. 9: a trip is not known. 10: a
     /// parent station is not known. 11: a number is unreadable. 12: a time or a date is unreadable. 13: the first or last
     /// row of a trip has neither time. 14: a time is earlier than the one before.
     Broken { rule: u8, row: u64 },

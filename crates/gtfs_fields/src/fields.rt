@@ -37,7 +37,7 @@ pub fn date(text: &[u8]) -> Option<ServiceDate>
     read_date(text)
 }
 
-/// What the row at this place says, counted from 0, or the rule that it breaks, recorded with the row.
+/// What the row at this place says, counted from 0, or the rule that it breaks, reported with the row.
 pub fn in_row<T>(rows: &Rows, place: usize, item: Result<T, u8>) -> Result<T, FileFault>
     requires { place < length rows.now.rows }
     ensures { (rule : Option ℕ) (said : Option T) → ReadsItem rule said item → ReadsRow rule said place result }

@@ -1,5 +1,5 @@
-//! What the files of a GTFS feed share: the rows of a table, what their fields say, the first rule that is broken, and the
-//! trips that several files name. It stands on `gtfs_rows` and `lc_time`.
+//! What the files of a GTFS feed share: the rows of a table, what their fields say, and the first rule that is broken. The
+//! trips that several files name are shared too. It builds on `gtfs_rows` and `lc_time`.
 #![tactic(auto)]
 
 pub mod columns;

@@ -1,4 +1,4 @@
--- How records that are read come to lie in one list of fields.
+-- How records that are read are stored in one list of fields.
 use Rattle.std.proofs.Common.{Bor, ◌≡◌, ◌∙◌, ℕ, zero, suc, ◌+◌, ◌-◌, ◌<◌, ◌≤◌, List, [], ◌∷◌, ◌++◌, true, false, Option, Some, None, length, map, take, drop, get_or, refl, sym, ap, subst, arith}
 use Rattle.std.specs.Prelude.{unwrap_or}
 use Rattle.std.proofs.lemmas.List.{drop-append-le, drop_at, get_or-drop, get_or-take, length-take-le, length-append, length-drop, map-append, take-append-le, take_all}
@@ -30,7 +30,7 @@ pub record IsStore (ends : List ℕ) (fields : List (List ℕ)) (records : List 
   pub whole : last_end 0 ends ≡ length fields
   pub cut : cut_records 0 ends fields ≡ records
 
--- the reader stands after the records that the store holds
+-- the reader is after the records that the store holds
 pub record IsReading (bytes : List ℕ) (reader : Reader (Bor (List ℕ))) (ends : List ℕ) (fields : Row) : Type 0 where
   pub plain : IsPlain reader
   pub idle : ends_at_end (reader_state reader) ≡ false
@@ -61,7 +61,7 @@ read_next_is a b f y plain source r =
     let (p, next, fields, state, rest) = one_from (reader_state a) y (pending_of (Some b.rdr.now) b) f b.state reads in
     (p, next, fields, state, rw r.1 rest)
 
--- one more record behind the others
+-- one more record after the others
 cut-push : (start : ℕ) (ends : List ℕ) (fields row : List (List ℕ)) (n : ℕ) → Rising start ends (length fields) → last_end start ends ≡ length fields
     → n ≡ length fields + length row
     → cut_records start (ends ++ (n ∷ [])) (fields ++ row) ≡ cut_records start ends fields ++ (row ∷ [])
@@ -169,7 +169,7 @@ get_or-record ends fields i j rising h k =
     let within : j < get_or ends i 0 - prev 0 ends i = omega arith in
     rw (get_or-cut_records 0 ends fields i h, get_or-take (get_or ends i 0 - prev 0 ends i) (drop (prev 0 ends i) fields) j [] within) (get_or-drop (prev 0 ends i) fields j [])
 
--- a field of a record lies among the fields
+-- a field of a record is among the fields
 pub field_within : (ends : List ℕ) (fields : List (List ℕ)) (i j : ℕ) → Rising 0 ends (length fields) → i < length ends
     → j < length (get_or (cut_records 0 ends fields) i [])
     → (prev 0 ends i + j < length fields) × (prev 0 ends i + j < get_or ends i 0)

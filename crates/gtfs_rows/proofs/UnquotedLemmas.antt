@@ -154,7 +154,7 @@ closes fields field text end other ended =
       | no past ↦ subst (Closes fields field) (sym (drop_all end text (omega arith))) (closes_end fields field)
     ]
 
--- the fields of a record that stand before a place are added
+-- the fields of a record that are before a place are added
 pub record IsAdding (text : List ℕ) (start at : ℕ) (old new : List (List ℕ)) : Type 0 where
   pub low : start ≤ at
   pub within : at ≤ length text
@@ -222,7 +222,7 @@ adding_done text start at end old new new2 was low high runs plain other ended p
       after = closed.after;
     }
 
--- the records that stand before a place of the text are stored
+-- the records that are before a place of the text are stored
 pub record IsFilling (text : List ℕ) (at : ℕ) (ends : List ℕ) (fields : Row) : Type 0 where
   pub within : at ≤ length text
   pub begun : at < length text → is_line_end (get_or text at 0) ≡ false

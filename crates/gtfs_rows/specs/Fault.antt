@@ -1,4 +1,4 @@
--- Where the bytes of a file are no table with the columns that are asked for: the faults in their order, each where the
+-- Where the bytes of a file are no table with the columns that are asked for. The faults come in order, each where the
 -- tests before it pass and its own does not.
 use Rattle.std.specs.Prelude.{◌≡◌, ℕ, List, [], Some, None}
 use Rattle.std.specs.Str.{IsUtf8}

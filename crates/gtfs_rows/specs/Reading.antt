@@ -5,7 +5,7 @@ use Rattle.csv.specs.Reading.{Ready, default_config, is_flexible, reader_config,
 use Rattle.csv.specs.declared.reader.Reader.{Reader}
 use Rattle.csv.specs.declared.reader.Trim.TheVariants as trim
 
--- the reader gives each record as it stands: no field is trimmed, and records may have any number of fields
+-- the reader gives each record as it is: no field is trimmed, and records may have any number of fields
 pub record IsPlain (reader : Reader (Bor (List ℕ))) : Type 0 where
   pub untrimmed : reader_trim reader ≡ trim.None
   pub ready : Ready reader

@@ -12,17 +12,17 @@ pub record Sheet : Type 0 where
   pub names : List (List ℕ)
   pub rows : List (List (List ℕ))
 
--- the records of the bytes, as `csv` has them with its default settings: fields are parted by commas and may be quoted,
--- records end with CR, LF or CRLF, empty lines are passed over. A byte-order mark at the start is dropped
+-- The records of the bytes, as `csv` has them with its default settings: fields are parted by commas and may be quoted, and
+-- records end with CR, LF or CRLF. Empty lines are passed over. A byte-order mark at the start is dropped.
 abbrev pub AreRecordsOf : List ℕ → List (List (List ℕ)) → Type 0
 AreRecordsOf bytes records = AreRecords default_config st.StartRecord (strip_bom bytes) records
 
--- the same records, without the spaces at both ends of each field
+-- the records of the bytes, without the spaces at both ends of each field
 abbrev pub AreTrimmedRecordsOf : List ℕ → List (List (List ℕ)) → Type 0
 AreTrimmedRecordsOf bytes records = (read : List (List (List ℕ))) × AreRecordsOf bytes read × (records ≡ map (map without_spaces) read)
 
--- the bytes are UTF-8, their first record is the header, and this is their sheet: the spaces at both ends of a name
--- or a field are dropped
+-- The bytes are UTF-8, their first record is the header, and this is their sheet. The spaces at both ends of a name
+-- or a field are dropped.
 pub record IsSheetOf (bytes : List ℕ) (sheet : Sheet) : Type 0 where
   pub utf8 : IsUtf8 bytes
   pub header : List (List ℕ)
@@ -55,8 +55,8 @@ missing_column sheet columns = find (λ column. is_none (column_of sheet column)
 abbrev pub ragged_row : Sheet → Option ℕ
 ragged_row sheet = option_map (λ place. place + 1) (position (λ row. not (length row == length sheet.names)) sheet.rows)
 
--- the bytes are a table with these columns, and this is its sheet: each column is there, and each row has as many
--- fields as there are columns
+-- The bytes are a table with these columns, and this is its sheet. Each column is there, and each row has as many
+-- fields as there are columns.
 pub record IsTable (bytes : List ℕ) (columns : List (List ℕ)) (sheet : Sheet) : Type 0 where
   pub read : IsSheetOf bytes sheet
   pub complete : All (λ column. IsSome (column_of sheet column)) columns

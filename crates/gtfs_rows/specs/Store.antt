@@ -1,4 +1,4 @@
--- Records that lie one after the other in one list of fields, the first with the names of the columns.
+-- Records one after the other in one list of fields, the first with the names of the columns.
 use Rattle.std.specs.Prelude.{ℕ, ◌-◌, ◌<◌, ◌≡◌, List, [], ◌∷◌, drop, length, slice_index_or, take}
 use Rattle.std.specs.Str.{IsUtf8}
 use Rattle.gtfs_rows.specs.Sheet.{Sheet}
@@ -21,7 +21,7 @@ pub record IsEven (records : List (List (List ℕ))) : Type 0 where
 abbrev pub AreTexts : List (List (List ℕ)) → Type 0
 AreTexts records = (place column : ℕ) → IsUtf8 (slice_index_or (slice_index_or records place []) column [])
 
--- what rows are kept as: records as wide as the first, which has the names, of texts
+-- how rows are stored: as records as wide as the first, which has the names, of texts
 pub record IsGrid (records : List (List (List ℕ))) : Type 0 where
   pub even : IsEven records
   pub texts : AreTexts records

@@ -1,5 +1,5 @@
-//! The rows of a GTFS file: a table read from the bytes of a CSV text, with its columns by name and its fields without
-//! the spaces round them; and such records of a text without a header. It stands on `lc_model` and on the records of `csv`.
+//! The rows of a GTFS file: a table read from the bytes of a CSV text, with its columns by name. Fields are without spaces
+//! round them. There are records of a text without a header, too. It builds on `lc_model` and on the records of `csv`.
 #![tactic(auto)]
 
 mod fault;

@@ -6,7 +6,7 @@ ghost use Rattle.gtfs_rows.specs.Reading.{IsPlain};
 use csv::{ByteRecord, Error, Reader};
 use lc_model::NoMemory;
 
-/// Reads the next record into `row`, or tells that there is none.
+/// Reads the next record into `row`, or says that there is none.
 pub(crate) fn read_next(reader: &mut Reader<&[u8]>, row: &mut ByteRecord) -> Result<bool, NoMemory>
     requires { IsPlain reader.old }
     ensures reads { IfOk result (λ found. ReadRecord (λ text. Some text.now) reader.old reader.new found (fields_of row.new)) }

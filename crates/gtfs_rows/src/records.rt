@@ -14,7 +14,7 @@ use lc_model::NoMemory;
 use std::alloc::Global;
 use std::marker::Model;
 
-/// The records of a CSV text, each with any number of fields, which lie one after the other in one list. A contract sees the
+/// The records of a CSV text, each with any number of fields, one after the other in one list. A contract sees the
 /// list of the records.
 #[derive(Drop)]
 pub struct Records {

@@ -67,7 +67,7 @@ impl Rows {
         self.records.field(place + 1, column)
     }
 
-    /// The field of a row, counted from 1, in the first column with this name, without the spaces at both ends; none
+    /// The field of a row, counted from 1, in the first column with this name, without the spaces at both ends. None
     /// where there is no such column. Linear in the columns; takes no memory.
     pub fn field(&self, row: usize, name: &str) -> Option<&[u8]>
         requires from { 1 ≤ row }

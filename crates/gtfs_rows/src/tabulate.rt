@@ -15,7 +15,7 @@ use std::str;
 /// The rows of a CSV text, which has at least these columns. Linear in the bytes.
 ///
 /// The text is UTF-8, with or without a byte-order mark at its start. Its first record is the header. Of two columns
-/// with one name the first stands. The faults are tested in the order in which [`RowFault`] lists them.
+/// with one name the first counts. The faults are tested in the order in which [`RowFault`] lists them.
 pub fn table(alloc: Global, bytes: &[u8], columns: &[&str]) -> Result<Rows, RowFault>
     ensures ok { IfOk result (IsTable bytes.now (names_of columns.now)) }
     ensures fault { IfErr result (λ fault. (fault ≡ RowFault.NoMemory) ⊎ Breaks bytes.now (names_of columns.now) fault) }

@@ -30,8 +30,8 @@ fn is_mark(a: u8, b: u8, c: u8) -> bool
     a == 0xEF && b == 0xBB && c == 0xBF
 }
 
-/// Adds the fields of all records of a text, without the spaces at their ends, and where each record ends, if no field
-/// begins with a quote; false where one does. Linear in the text.
+/// Adds the fields of all records of a text, without the spaces at their ends, and where each record ends. False where a
+/// field begins with a quote. Linear in the text.
 pub(crate) fn fill_unquoted(
     text: &[u8],
     fields: &mut ByteRecord,

@@ -1,4 +1,4 @@
--- Counts that rise by so many, and then by more.
+-- Counts that increase by a number, and then by more.
 use Rattle.std.proofs.Common.{ℕ, ◌+◌, ◌≤◌, arith}
 use Rattle.lc_io.specs.Counts.{Rose, RoseBy}
 

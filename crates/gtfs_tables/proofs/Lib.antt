@@ -3,5 +3,5 @@ pub mod FeedLaws
 pub mod FeedWalkLemmas
 pub mod OneTablesLaws
 pub mod StepLemmas
-pub mod RecordedLemmas
+pub mod ReportedLemmas
 pub mod WalkLemmas

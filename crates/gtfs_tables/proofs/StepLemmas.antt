@@ -1,4 +1,4 @@
--- A step of a file: what is looked up is judged, and what is wrong with it is recorded.
+-- A step of a file: what is looked up is judged, and what is wrong with it is reported.
 use Rattle.std.proofs.Common.{◌≡◌, ◌⊎◌, ℕ, List, Option, Some, Result, Ok, Err, inl, inr, refl, subst, sym}
 use Rattle.lc_io.specs.Folder.{FolderSeen}
 use Rattle.lc_model.specs.declared.stop.Stop.{Stop}
@@ -36,7 +36,7 @@ judged {T} {U} old new feed at looked bytes view Says IsWrong result was look ju
           (subst (λ (r : Result U End). StepEnds old new feed at (λ found b. found ≡ view b) (λ _ _. ⊥) r) was look.ends) judges;
     }
 
--- what is wrong with bytes is recorded of the file
+-- what is wrong with bytes is reported of the file
 pub recorded : {T : Type 0} (at : FeedFile) (bytes : List ℕ) (Says : Option (List ℕ) → T → Type 0) (IsWrong : Option (List ℕ) → FileFault → Type 0)
     (fault : FileFault) → named_at (λ _. Some bytes) at ≡ at → (fault ≡ wrong.NoMemory) ⊎ IsWrong (Some bytes) fault
     → Judges {T = T} at (Some bytes) Says IsWrong (Err (end_of at fault))
@@ -46,12 +46,12 @@ recorded at bytes Says IsWrong (wrong.TooMany count) named (inl none) = absurd (
 recorded at bytes Says IsWrong (wrong.TooMany count) named (inr is) = (is, sym named)
 recorded at bytes Says IsWrong wrong.NoMemory named cause = tt
 
--- the same of stop_times.txt, where a copy of the trips was read with
-pub recorded_times : {T : Type 0} (stops : List Stop) (trips copy : List TripRow) (found : Option (List ℕ)) (bytes lent : List ℕ)
+-- what is wrong with stop_times.txt is reported, where a copy of the trips was read with it
+pub reported_times : {T : Type 0} (stops : List Stop) (trips copy : List TripRow) (found : Option (List ℕ)) (bytes lent : List ℕ)
     (Says : Option (List ℕ) → T → Type 0) (fault : FileFault) (end : End) → found ≡ Some bytes → lent ≡ bytes → copy ≡ trips
     → end ≡ end_of file.StopTimes fault → (fault ≡ wrong.NoMemory) ⊎ IsStopTimesFault stops copy lent fault
     → Judges {T = T} file.StopTimes found Says (IsWrongTimes stops trips) (Err end)
-recorded_times {T} stops trips copy found bytes lent Says fault end there same_bytes same_trips same_end cause =
+reported_times {T} stops trips copy found bytes lent Says fault end there same_bytes same_trips same_end cause =
     subst (λ (e : End). Judges {T = T} file.StopTimes found Says (IsWrongTimes stops trips) (Err e)) (sym same_end)
     (subst (λ (x : Option (List ℕ)). Judges {T = T} file.StopTimes x Says (IsWrongTimes stops trips) (Err (end_of file.StopTimes fault))) (sym there)
     (recorded {T = T} file.StopTimes bytes Says (IsWrongTimes stops trips) fault refl

@@ -77,7 +77,7 @@ each_more : {X : Type 0} (P : X → Type 0) (xs : List X) (x : X) → Each P xs 
 each_more P [] x each here = (here, tt)
 each_more P (y ∷ xs) x each here = (each.0, each_more P xs x each.1 here)
 
--- the file stands at this place, and what is found of it changes nothing of the files before it
+-- the file is at this place, and what is found of it changes nothing of the files before it
 pub record Stands (place : ℕ) (at : FeedFile) : Type 0 where
   pub low : suc place ≤ 7
   pub stands : slice_get feed_files place ≡ Some at
@@ -298,7 +298,7 @@ walk_ends {T} {old} {new} {feed} {few} {Learns} {part} {end} {whole} was goes sa
     let ended : IsWalk old new feed (Err end) = subst (λ (r : Result T End). PartEnds old new feed r few Learns) was goes.ends in
     subst (λ (r : Result Tables End). IsWalk old new feed r) (sym same) ended
 
--- a part that ended ends the part that it stands in
+-- a part that ended ends the part that it belongs to
 pub part_ends : {T U : Type 0} {old new : FolderSeen} {feed : List ℕ} {few count : ℕ} {Learns : T → Found → Type 0} {Gives : U → Found → Type 0}
     {part : Result T End} {end : End} {whole : Result U End} → part ≡ Err end → GoesOn old new feed part few Learns → whole ≡ Err end
     → GoesOn old new feed whole count Gives

@@ -1,5 +1,5 @@
--- The tables of a feed: what each of its files has to be, what is wrong with one that is not so, and the first that is not so
--- (GTFS Schedule Reference, "Dataset files" and "File requirements").
+-- The tables of a feed (GTFS Schedule Reference, "Dataset files" and "File requirements"). They say what each of its files has to
+-- be, what is wrong with one that is not, and the first that is not.
 use Rattle.std.specs.Prelude.{◌≡◌, ℕ, ◌+◌, ◌⊎◌, List, [], take, length, Option, Some, None, IsNone, IsSome, IsSomeAnd, MatchOption, is_none, if◌then◌else◌}
 use Rattle.std.specs.List.{All, slice_get}
 use Rattle.lc_model.specs.declared.stop.Stop.{Stop}
@@ -66,7 +66,7 @@ abbrev pub TransfersAre : Found → List Stop → List Transfer → Type 0
 TransfersAre found stops transfers = HasRows (AreTransfers stops) (found file.Transfers) transfers
 
 -- These are the tables of the feed. The stop times, and the trips that are not left out, are of the stops of stops.txt and
--- all trips of trips.txt; the frequencies are of all these trips too, also of those that are left out.
+-- all trips of trips.txt. The frequencies are of all these trips too, also of those that are left out.
 pub record AreTables (found : Found) (tables : Tables) : Type 0 where
   pub stops : StopsAre found tables.stops
   pub all_trips : List TripRow
@@ -130,7 +130,7 @@ abbrev pub AreTransfersWrong : Found → FileFault → Type 0
 AreTransfersWrong found fault =
     (stops : List Stop) × StopsAre found stops × Holds (found file.Transfers) (λ bytes. IsTransfersFault stops bytes fault)
 
--- What is wrong first with a file: it is absent though it has to be there, or it breaks a rule, in a row or as a whole, or
+-- What is wrong first with a file. It is absent though it has to be there, or breaks a rule, in a row or as a whole, or
 -- it has too many rows.
 abbrev pub IsFaultAt : Found → FeedFile → FileFault → Type 0
 IsFaultAt found file.Stops fault = MatchOption (found file.Stops) (IsAbsence fault) (λ bytes. IsStopsFault bytes fault)
@@ -141,15 +141,15 @@ IsFaultAt found file.CalendarDates fault = AreDatesWrong found fault
 IsFaultAt found file.Frequencies fault = AreFrequenciesWrong found fault
 IsFaultAt found file.Transfers fault = AreTransfersWrong found fault
 
--- this file, at this place of the order of reading, is the first that is not as it has to be, and this is what is wrong first
--- with it
+-- This file, at this place of the order of reading, is the first that is not as it has to be. This is what is wrong first
+-- with it.
 pub record IsFirstBroken (found : Found) (place : ℕ) (at : FeedFile) (fault : FileFault) : Type 0 where
   pub stands : slice_get feed_files place ≡ Some at
   pub before : All (IsRightAt found) (take place feed_files)
   pub broken : IsFaultAt found at fault
 
--- The file that is named where this one is the first that is not as it has to be: that file, but for a feed that has neither
--- of the files that give the dates of services, which is said to lack calendar.txt.
+-- The file that is named where this one is the first that is not as it has to be. It is that file. But a feed that has neither
+-- of the files that give the dates of services is said to lack calendar.txt.
 abbrev pub named_at : Found → FeedFile → FeedFile
 named_at found file.Stops = file.Stops
 named_at found file.Trips = file.Trips

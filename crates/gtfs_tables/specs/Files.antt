@@ -1,4 +1,4 @@
--- The files of a feed (GTFS Schedule Reference, "Dataset files"), and what is found of them in a folder.
+-- The files of a feed (GTFS Schedule Reference, "Dataset files"), and what is found of them in a directory.
 use Rattle.std.specs.Prelude.{ℕ, List, [], ◌∷◌, ◌++◌, map, take, Option, codes}
 use Rattle.lc_io.specs.Folder.{bytes_named}
 use Rattle.lc_io.specs.declared.file.File.{File}
@@ -19,7 +19,7 @@ name_of file.CalendarDates = codes "calendar_dates.txt"
 name_of file.Frequencies = codes "frequencies.txt"
 name_of file.Transfers = codes "transfers.txt"
 
--- the name under which a folder has a file of the feed
+-- the name under which a directory has a file of the feed
 abbrev pub path_of : List ℕ → FeedFile → List ℕ
 path_of feed at = feed ++ codes "/" ++ name_of at
 
@@ -27,7 +27,7 @@ path_of feed at = feed ++ codes "/" ++ name_of at
 abbrev pub Found : Type 0
 Found = FeedFile → Option (List ℕ)
 
--- what a folder of these files has of the feed
+-- what a directory of these files has of the feed
 abbrev pub files_of : List File → List ℕ → Found
 files_of files feed at = bytes_named files (path_of feed at)
 

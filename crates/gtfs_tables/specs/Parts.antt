@@ -1,4 +1,4 @@
--- The walk over the files of a feed, in parts: what is known after so many files, and how a part goes on or ends the walk.
+-- The walk over the files of a feed, in parts. What is known after some files, and how a part goes on or ends the walk.
 use Rattle.std.specs.Prelude.{◌≡◌, ℕ, ◌++◌, List, [], ◌∷◌, Option, option_map, is_some, take, IfSome, Result, Ok, Err}
 use Rattle.lc_io.specs.Counts.{RoseBy}
 use Rattle.lc_io.specs.Folder.{FolderSeen}
@@ -18,7 +18,7 @@ use Rattle.gtfs_tables.specs.declared.end.End.{End}
 use Rattle.gtfs_tables.specs.declared.feed_file.FeedFile.{FeedFile}
 use Rattle.gtfs_tables.specs.declared.feed_file.FeedFile.TheVariants as file
 
--- what was found is what the folder tells, where it tells its files
+-- what was found is what the directory records, where it records its files
 abbrev pub Recorded : Option (List File) → List ℕ → Found → Type 0
 Recorded recorded feed found = IfSome recorded (λ files. (at : FeedFile) → found at ≡ files_of files feed at)
 

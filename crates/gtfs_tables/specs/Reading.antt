@@ -1,4 +1,4 @@
--- How a feed is read from a folder: one file after the other, each tested before the next is asked for.
+-- How a feed is read from a directory: one file after the other, each tested before the next is asked for.
 use Rattle.std.specs.Prelude.{◌≡◌, ℕ, suc, ◌-◌, ◌≤◌, List, ◌++◌, take, count_by, option_map, IfSome, is_none, Some, Result, Ok, Err}
 use Rattle.std.specs.List.{All}
 use Rattle.lc_io.specs.Counts.{Rose, RoseBy}
@@ -15,9 +15,9 @@ use Rattle.gtfs_tables.specs.declared.tables.Tables.{Tables}
 abbrev pub absent_among : Found → ℕ → ℕ
 absent_among found count = count_by (λ (at : FeedFile). is_none (found at)) (take count feed_files)
 
--- The folder was asked for the first `asked` files of the feed, in their order, and for nothing else, and answered for the
--- first `answered` of them, all or all but the last, with what was found. Each file before the last that was asked for was
--- as it has to be, and each that was absent raised the count of absences.
+-- The directory was asked for the first `asked` files of the feed, in their order, and for nothing else. It answered for the
+-- first `answered` of them, all or all but the last, with what was found. Each file before the last was
+-- as it has to be, and each that was absent increased the count of absences.
 pub record Reads (old new : FolderSeen) (feed : List ℕ) (found : Found) (asked answered : ℕ) : Type 0 where
   pub found_there : IfSome old.files (λ files. (at : FeedFile) → found at ≡ files_of files feed at)
   pub in_turn : new.asked ≡ option_map (λ names. names ++ first_paths feed asked) old.asked
@@ -30,10 +30,10 @@ pub record Reads (old new : FolderSeen) (feed : List ℕ) (found : Found) (asked
 -- How the reading of a feed ends.
 --
 -- Ok: all seven files are read, and these are the tables of the feed.
--- Broken: the last file that was asked for is the first that is not as it has to be, and this is the first rule that it
+-- Broken: the last file that was asked for is the first that is not as it has to be. This is the first rule that it
 -- breaks, with the row, and the file that is named.
--- TooLarge: the last file that was asked for is the first that is not as it has to be: it has so many rows of this kind.
--- Folder: the last file that was asked for could not be read: the count of faults before and after, which rose.
+-- TooLarge: the last file that was asked for is the first that is not as it has to be. It has so many rows of this kind.
+-- Folder: the last file that was asked for could not be read: the count of faults before and after, which increased.
 -- NoMemory: memory ran out, at any file.
 abbrev pub EndsSo : FolderSeen → FolderSeen → List ℕ → Result Tables FeedFault → Type 0
 EndsSo old new feed (Ok tables) = (found : Found) × Reads old new feed found 7 7 × AreTables found tables
@@ -48,7 +48,7 @@ EndsSo old new feed (Err (Folder before after)) =
     × ((found : Found) × (place : ℕ) × Reads old new feed found (suc place) place)
 EndsSo old new feed (Err NoMemory) = (found : Found) × (asked : ℕ) × (answered : ℕ) × Reads old new feed found asked answered
 
--- the folder has the same files, and no count has fallen
+-- the directory has the same files, and no count has fallen
 pub record Keeps (old new : FolderSeen) : Type 0 where
   pub files : new.files ≡ old.files
   pub faults : old.faults ≤ new.faults

@@ -1,4 +1,4 @@
--- The steps in which a feed is read, one for each file: what the folder was asked and found, and what was made of it.
+-- The steps in which a feed is read, one for each file: what the directory was asked and found, and what was made of it.
 use Rattle.std.specs.Prelude.{◌≡◌, ℕ, suc, ◌+◌, ◌⊎◌, Bool, true, false, List, length, Option, Some, IfSome, IsNone, IsSome, IsSomeAnd, MatchOption, Result, Ok, Err}
 use Rattle.lc_model.specs.declared.stop.Stop.{Stop}
 use Rattle.lc_io.specs.Counts.{Rose}
@@ -34,18 +34,18 @@ end_of file (wrong.Broken rule row) = Wrong file (wrong.Broken rule row)
 end_of file (wrong.TooMany count) = Wrong file (wrong.TooMany count)
 end_of file wrong.NoMemory = NoMemory
 
--- the folder was asked for this file, and this was found: its bytes, or none, and an absence was counted
+-- the directory was asked for this file, and this was found: its bytes, or none, and an absence was counted
 pub record Finds (old new : FolderSeen) (feed : List ℕ) (at : FeedFile) (found : Option (List ℕ)) : Type 0 where
   pub there : IfSome old.files (λ files. found ≡ files_of files feed at)
   pub asked : new.asked ≡ asked_after old.asked (path_of feed at)
   pub counted : IsNone found → Rose old.absences new.absences
 
--- the folder was asked for this file and failed to read it, and a fault was counted
+-- the directory was asked for this file and failed to read it, and a fault was counted
 pub record Fails (old new : FolderSeen) (feed : List ℕ) (at : FeedFile) : Type 0 where
   pub asked : new.asked ≡ asked_after old.asked (path_of feed at)
   pub counted : Rose old.faults new.faults
 
--- What is made of what was found: a value of which it says so, or this is wrong first with it, and this is the file that is
+-- What is made of what was found. It is a value of which it says so, or this is wrong first with it, and this is the file that is
 -- named.
 abbrev pub Judges : {T : Type 0} → FeedFile → Option (List ℕ) → (Option (List ℕ) → T → Type 0) → (Option (List ℕ) → FileFault → Type 0) → Result T End → Type 0
 Judges at found Says IsWrong (Ok value) = Says found value
@@ -53,8 +53,8 @@ Judges at found Says IsWrong (Err (Wrong named fault)) = IsWrong found fault × 
 Judges at found Says IsWrong (Err Failed) = ⊥
 Judges at found Says IsWrong (Err NoMemory) = Unit {0}
 
--- How the step of a file ends: with what is made of what was found, at a failed read, or out of memory, before the
--- folder was asked for the file or after.
+-- How the step of a file ends: with what is made of what was found, at a failed read, or out of memory before the
+-- directory was asked for the file or after.
 abbrev pub StepEnds : {T : Type 0} → FolderSeen → FolderSeen → List ℕ → FeedFile → (Option (List ℕ) → T → Type 0) → (Option (List ℕ) → FileFault → Type 0) → Result T End → Type 0
 StepEnds old new feed at Says IsWrong (Ok value) = (found : Option (List ℕ)) × Finds old new feed at found × Says found value
 StepEnds old new feed at Says IsWrong (Err (Wrong named fault)) =
@@ -83,15 +83,15 @@ pub record IsWalk (old new : FolderSeen) (feed : List ℕ) (result : Result Tabl
   pub kept : Keeps old new
   pub ends : WalkEnds old new feed result
 
--- the end can be recorded as a fault: a file with too many rows is one whose rows have a limit, and no fault is running out of memory
-abbrev pub IsTellable : End → Type 0
-IsTellable (Wrong named (wrong.Broken rule row)) = Unit {0}
-IsTellable (Wrong named (wrong.TooMany count)) = IsSome (what_of named)
-IsTellable (Wrong named wrong.NoMemory) = ⊥
-IsTellable Failed = Unit {0}
-IsTellable NoMemory = Unit {0}
+-- The end can be reported as a fault. A file with too many rows is one whose rows have a limit, and no fault is running out of memory.
+abbrev pub IsReportable : End → Type 0
+IsReportable (Wrong named (wrong.Broken rule row)) = Unit {0}
+IsReportable (Wrong named (wrong.TooMany count)) = IsSome (what_of named)
+IsReportable (Wrong named wrong.NoMemory) = ⊥
+IsReportable Failed = Unit {0}
+IsReportable NoMemory = Unit {0}
 
--- how the end is recorded as a fault
+-- how the end is reported as a fault
 abbrev pub IsFaultOf : End → ℕ → ℕ → FeedFault → Type 0
 IsFaultOf (Wrong at (wrong.Broken broken place)) first last (fault.Broken rule file row) = (rule ≡ broken) × (file ≡ at) × (row ≡ place)
 IsFaultOf (Wrong at (wrong.TooMany rows)) first last (fault.TooLarge what count) = (what_of at ≡ Some what) × (count ≡ rows)

@@ -11,7 +11,7 @@ use lc_model::NoMemory;
 pub(crate) enum End {
     /// A file is not as it has to be, this is what is wrong first with it, and this file is named.
     Wrong(FeedFile, FileFault),
-    /// The folder failed to read a file.
+    /// The directory failed to read a file.
     Failed,
     NoMemory,
 }

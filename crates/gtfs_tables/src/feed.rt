@@ -1,7 +1,7 @@
 ghost use Rattle.std.specs.Prelude.{◌≡◌, [], unwrap_or};
 ghost use Rattle.gtfs_tables.specs.Reading.{EndsSo, Keeps};
 ghost use Rattle.gtfs_tables.specs.Feed.{what_of as said_what};
-ghost use Rattle.gtfs_tables.specs.Steps.{IsFaultOf, IsTellable, IsWalk};
+ghost use Rattle.gtfs_tables.specs.Steps.{IsFaultOf, IsReportable, IsWalk};
 
 use crate::end::End;
 use crate::parts::{feed_rest, feed_rides};
@@ -11,16 +11,16 @@ use gtfs_fields::FileFault;
 use lc_io::Folder;
 use std::alloc::Global;
 
-/// The tables of the feed that lies in this folder of the folder.
+/// The tables of the feed in this subdirectory of the directory.
 ///
 /// The files are read in the order stops.txt, trips.txt, stop_times.txt, calendar.txt, calendar_dates.txt,
-/// frequencies.txt, transfers.txt, and each is tested before the next is asked for; the first that is not as it has to be
-/// ends the reading. The first three have to be there, and one of the next two: where both are absent, calendar.txt is
+/// frequencies.txt, transfers.txt, and each is tested before the next is asked for. The first that is not as it has to be
+/// ends the reading. The first three have to be there, and one of the next two. Where both are absent, calendar.txt is
 /// named. Stop times and frequencies are tested against all trips of trips.txt. Of n rows: n log n.
 pub fn read_feed<F: Folder>(alloc: Global, folder: &mut F, feed: &str) -> Result<Tables, FeedFault>
     ensures ends { EndsSo (F.seen folder.old) (F.seen folder.new) feed.now result }
 
-    // The folder has the same files, and its counts have not fallen.
+    // The directory has the same files, and its counts have not fallen.
     ensures counts { Keeps (F.seen folder.old) (F.seen folder.new) }
 {
     let before = folder.faults();
@@ -63,7 +63,7 @@ fn weekly_rows(alloc: Global, weekly: Option<WeeklyList>) -> WeeklyList
 }
 
 fn fault_of(end: End, before: u64, after: u64) -> FeedFault
-    requires { IsTellable end }
+    requires { IsReportable end }
     ensures { IsFaultOf end before after result }
 {
     match end {

@@ -1,5 +1,5 @@
-//! The tables of a GTFS feed in a folder, or the first rule or limit that it breaks, with file and row; it hands on the types of
-//! their rows. It stands on `gtfs_trips`, `gtfs_calendars` and `lc_io`.
+//! The tables of a GTFS feed in a directory, or the first rule or limit that it breaks, with file and row. It hands on the types
+//! of their rows. It builds on `gtfs_trips`, `gtfs_calendars` and `lc_io`.
 #![tactic(auto)]
 
 mod end;

@@ -30,7 +30,7 @@ pub(crate) fn look<F: Folder>(
     }
 }
 
-// The name under which the folder has a file of the feed.
+// The name under which the directory has a file of the feed.
 fn path(alloc: Global, feed: &str, file: FeedFile) -> Result<String, NoMemory>
     ensures { IfOk result (λ path. string_bytes path ≡ path_of feed.now file) }
 {

@@ -41,7 +41,7 @@ pub(crate) struct Extras {
     pub(crate) transfers: Transfers,
 }
 
-/// What the files behind the first three say.
+/// What the files after the first three say.
 #[derive(Drop)]
 pub(crate) struct Rest {
     pub(crate) services: ServiceFiles,
@@ -62,7 +62,7 @@ pub(crate) fn feed_rides<F: Folder>(alloc: Global, folder: &mut F, feed: &str) -
     })
 }
 
-/// The files behind the first three, where these say the stops and all trips.
+/// The files after the first three, where these say the stops and all trips.
 pub(crate) fn feed_rest<F: Folder>(
     alloc: Global,
     folder: &mut F,

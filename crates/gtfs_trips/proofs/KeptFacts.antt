@@ -24,7 +24,7 @@ none_all : {X : Type 0} (P : X → Type 0) → All P []
 none_all P k d inside = absurd (omega arith)
 
 module _ {X Y : Type 0} (f : X → Option Y) where
-  -- what holds of each item holds so of each that is kept
+  -- what holds of each item holds of each that is kept
   pub all_kept : (P : X → Type 0) (Q : Y → Type 0) → ((x : X) (y : Y) → f x ≡ Some y → P x → Q y) → (xs : List X) → All P xs → All Q (filter_map f xs)
   all_kept P Q gives [] all = none_all Q
   all_kept P Q gives (x ∷ xs) all = by_item (f x) refl (all_kept P Q gives xs (All-tail P x xs all))
@@ -33,7 +33,7 @@ module _ {X Y : Type 0} (f : X → Option Y) where
       by_item None is rest = rest
       by_item (Some y) is rest = All-cons Q y (filter_map f xs) (gives x y is (All-head P x xs all)) rest
 
-  -- what holds of each pair of items, the earlier first, holds so of each pair of those that are kept
+  -- what holds of each pair of items, the earlier first, holds of each pair of those that are kept
   pub pairs_kept : (R : X → X → Type 0) (S : Y → Y → Type 0) → ((x x' : X) (y y' : Y) → f x ≡ Some y → f x' ≡ Some y' → R x x' → S y y') → (xs : List X)
       → AllPairs R xs → AllPairs S (filter_map f xs)
   pairs_kept R S gives [] all = none_pairs S
@@ -57,14 +57,14 @@ passed : {X : Type 0} (b : Bool) (x y : X) → cond b (Some x) None ≡ Some y �
 passed true x y e = cc
 passed false x y e = cc
 
--- and so of each pair of those that pass a test
+-- what holds of each pair of items holds of each pair of those that pass a test
 pub pairs_filtered : {X : Type 0} (R : X → X → Type 0) (p : X → Bool) (xs : List X) → AllPairs R xs → AllPairs R (filter p xs)
 pairs_filtered {X} R p xs all =
     subst (AllPairs R) (filter_as_map p xs)
     (pairs_kept (λ x. cond (p x) (Some x) None) R R
     (λ x x' y y' is is' r. subst (λ z. R z y') (passed (p x) x y is) (subst (λ z. R x z) (passed (p x') x' y' is') r)) xs all)
 
--- the same tests keep the same items
+-- two tests that agree keep the same items
 pub filter_same : {X : Type 0} (p q : X → Bool) → ((x : X) → p x ≡ q x) → (xs : List X) → filter p xs ≡ filter q xs
 filter_same p q same [] = refl
 filter_same p q same (x ∷ xs) = ap (λ b. cond b (x ∷ filter p xs) (filter p xs)) (same x) ∙ ap (λ l. cond (q x) (x ∷ l) l) (filter_same p q same xs)

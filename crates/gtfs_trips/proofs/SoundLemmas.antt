@@ -84,7 +84,7 @@ visit_is row trip trip' stop stop' seq seq' arr arr' dep dep' board board' aligh
     ∙ ap (λ v. made row trip' stop' seq' v dep board alight) h ∙ ap (λ v. made row trip' stop' seq' arr' v board alight) i ∙ ap (λ v. made row trip' stop' seq' arr' dep' v alight) j
     ∙ ap (λ v. made row trip' stop' seq' arr' dep' board' v) k
 
--- the same trip and the same number
+-- keys that are one have one trip and one number
 keys_same : (a b : List ℕ) (m n : Option ℕ) → same_key (a, m) (b, n) ≡ true → (bytes_eq a b ≡ true) × (option_eq nat_eq m n ≡ true)
 keys_same a b m n h = both (bytes_eq a b) (option_eq nat_eq m n) h
   where
@@ -117,7 +117,7 @@ module _ (stops : List Stop) (trips : List TripRow) (sheet : Sheet) (sound : Are
       ap (λ n. nat_cmp (unwrap_or (sequence_of sheet (row_at sheet i)) 0) n) (sym number) ∙ tied_itself nat_cmp_total (unwrap_or (sequence_of sheet (row_at sheet i)) 0) in
       ap₂ ordering_then trip tie
 
-  -- no trip and number of a row stand twice
+  -- no trip and number of a row are there twice
   once : (place : ℕ) → place < length sheet.rows → stands_twice same_key (stop_time_keys sheet) place (key_of sheet (row_at sheet place)) ≡ false
   once place inside = by_test (stands_twice same_key (stop_time_keys sheet) place (key_of sheet (row_at sheet place))) refl
     where
@@ -152,7 +152,7 @@ module _ (stops : List Stop) (trips : List TripRow) (sheet : Sheet) (sound : Are
       never (is_some (sequence_of sheet (row_at sheet place))) _ (once place inside) in
       sym (rules_are stops trips sheet place false false false false false false (sym row.named) (sym seventh) (sym row.stop_known) (sym row.trip_known) (sym row.numbered) (sym row.timed))
 
--- the visits, once they are sorted, of which no two that stand side by side tie
+-- the visits, once they are sorted, of which no two side by side tie
 pub sound_from_sorted : (stops : List Stop) (trips : List TripRow) (sheet : Sheet) (visits : List Visit) → AreSoundAlone stops trips sheet → IsPermutation (visits_of_rows sheet) visits
     → IsSorted visit_cmp visits → AreNeighboursApart visits → AreSoundVisits stops trips sheet visits
 sound_from_sorted stops trips sheet visits sound moved sorted apart =
@@ -163,7 +163,7 @@ sound_from_sorted stops trips sheet visits sound moved sorted apart =
       are = record { are = moved; in_order = strict_from_neighbours visit_cmp visit_total visits sorted apart };
     }
 
--- visits that rise are sorted
+-- visits that increase are sorted
 rising_sorted : (visits : List Visit) → AreRising visits → IsSorted visit_cmp visits
 rising_sorted visits rising k d low inside =
     ap is_lt (visit_total.antisymm (get_or visits (k + 1) d) (get_or visits k d) ∙ ap ordering_reverse (rising k d inside))
@@ -171,7 +171,7 @@ rising_sorted visits rising k d low inside =
 rising_apart : (visits : List Visit) → AreRising visits → AreNeighboursApart visits
 rising_apart visits rising k d inside ties = let less : visit_cmp (get_or visits k d) (get_or visits (k + 1) d) ≡ Less = rising k d inside in cc
 
--- the visits of the rows, if they rise
+-- the visits of the rows, if they increase
 pub sound_if_rising : (stops : List Stop) (trips : List TripRow) (sheet : Sheet) (visits : List Visit) → AreSoundAlone stops trips sheet → visits ≡ visits_of_rows sheet → AreRising visits
     → AreSoundVisits stops trips sheet visits
 sound_if_rising stops trips sheet visits sound said rising =

@@ -12,7 +12,7 @@ use Rattle.gtfs_trips.specs.Stops.{stop_id_of}
 use Rattle.gtfs_trips.specs.StopTimeRows.{ids_of_stops, ids_of_trips, key_of, same_key, sequence_of, stop_time_keys, stop_time_rule_at, stop_time_rules}
 use Rattle.gtfs_trips.specs.Trips.{trip_id_of}
 
--- the same tests give the same first rule
+-- tests with equal results give one first rule
 first_same : (a6 a7 a8 a9 a11 a12 b6 b7 b8 b9 b11 b12 : Bool) → a6 ≡ b6 → a7 ≡ b7 → a8 ≡ b8 → a9 ≡ b9 → a11 ≡ b11 → a12 ≡ b12
     → first_of ((6, a6) ∷ (7, a7) ∷ (8, a8) ∷ (9, a9) ∷ (11, a11) ∷ (12, a12) ∷ []) ≡ first_of ((6, b6) ∷ (7, b7) ∷ (8, b8) ∷ (9, b9) ∷ (11, b11) ∷ (12, b12) ∷ [])
 first_same a6 a7 a8 a9 a11 a12 b6 b7 b8 b9 b11 b12 e6 e7 e8 e9 e11 e12 =

@@ -60,7 +60,7 @@ times_in_order left visits times are strict =
 pub times_are : (visits : List Visit) (left : List (Bor (List ℕ))) (times : List StopTime) → AreLeftOut visits left → times ≡ filter_map (time_unless left) visits → times ≡ filter_map (time_of visits) visits
 times_are visits left times out are = are ∙ filter_map_same (time_unless left) (time_of visits) (λ v. ap (λ b. cond b None (option_map (λ stop. record { trip = v.trip; stop = stop; seq = v.seq; arr = v.arr; dep = v.dep; board = v.board; alight = v.alight }) v.stop)) (out.are v.trip)) visits
 
--- and so are the trips
+-- the trips are those that are not left out
 pub trips_are : (visits : List Visit) (left : List (Bor (List ℕ))) (trips kept : List TripRow) → AreLeftOut visits left → kept ≡ filter (λ (t : TripRow). not (is_in left t.trip)) trips
     → kept ≡ filter (λ (t : TripRow). not (is_left_out visits t.trip)) trips
 trips_are visits left trips kept out are =

@@ -210,7 +210,7 @@ as_many f (v ∷ rest) all = by_item (f v) (All-head (λ w. is_some (f w) ≡ tr
     by_item None e h = absurd (false≢true e)
     by_item (Some t) e h = omega (arith, h)
 
--- and each stands at the place of its visit
+-- each stop time is at the place of its visit
 record IsMadeAt (f : Visit → Option StopTime) (visits : List Visit) (place : ℕ) (t : StopTime) : Type 0 where
   pub visit : Visit
   pub at : slice_get visits place ≡ Some visit

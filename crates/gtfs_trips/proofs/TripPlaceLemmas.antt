@@ -1,4 +1,4 @@
--- In visits that are sorted by trip, those of one trip stand side by side.
+-- In visits that are sorted by trip, those of one trip are side by side.
 use Rattle.std.proofs.Common.{◌≡◌, ◌≢◌, ◌∙◌, ℕ, ◌+◌, ◌-◌, ◌<◌, ◌≤◌, List, true, false, ap, arith, get_or, length, option_map, refl, sym, unwrap_or}
 use Rattle.std.proofs.lemmas.Bool.{false≢true}
 use Rattle.std.proofs.lemmas.Cmp.{nat_list_cmp_total, upto}
@@ -95,7 +95,7 @@ module _ (visits : List Visit) (trip : List ℕ) where
     rises_to : (i j : ℕ) (d : Visit) → i ≤ j → j < length visits → is_gt (id_cmp (at i d) (at j d)) ≡ false
     rises_to i j d low inside = at_most (at i d) (at j d) (rises i j d low inside)
 
-    -- the visits of lesser trips stand before all others
+    -- the visits of lesser trips are before all others
     pub parted : IsPartitionedBy (λ (v : Visit). is_lt (id_cmp v.trip trip)) visits
     parted i j d low inside less =
         let to : is_gt (id_cmp (at j d) trip) ≡ false = not_more (id_cmp (at j d) trip) less in
@@ -105,7 +105,7 @@ module _ (visits : List Visit) (trip : List ℕ) where
         let equal : is_lt (id_cmp (at j d) trip) ≡ false = ap is_lt (same_id (at j d) trip (squeezed (at j d) trip to above)) in
         absurd (false≢true (sym equal ∙ less)))
 
-    -- what stands before the first visit of the trip is less
+    -- what comes before the first visit of the trip is less
     before_first : (near m : ℕ) (d : Visit) → near < length visits → at near d ≡ trip → at (near - 1) d ≢ trip → m < near → is_lt (id_cmp (at m d) trip) ≡ true
     before_first near m d inside here other high =
         let to_here : (i : ℕ) → i ≤ near → is_gt (id_cmp (at i d) trip) ≡ false = λ i low. ap (λ t. is_gt (id_cmp (at i d) t)) (sym here) ∙ rises_to i near d low inside in

@@ -106,7 +106,7 @@ module _ (sheet : Sheet) (rows : (place : ℕ) → place < length sheet.rows →
       let within : j < length (stop_time_keys sheet) = omega arith in
       keys_apart i j key before within (k_i ∙ same ∙ sym k_j)
 
-  -- sorted, they stand strictly in order
+  -- sorted, they are strictly in order
   pub visits_strict : (visits : List Visit) → IsPermutation (visits_of_rows sheet) visits → IsSorted visit_cmp visits → IsStrict visit_cmp visits
   visits_strict visits moved sorted =
       strict_from_sorted visit_cmp visit_total visits sorted (apart_permuted visit_cmp visit_total (visits_of_rows sheet) visits moved visits_apart)

@@ -10,7 +10,7 @@ use Rattle.gtfs_trips.specs.Timing.{is_left_out}
 use Rattle.gtfs_trips.specs.declared.stop_times.StopTime.{StopTime}
 use Rattle.gtfs_trips.specs.declared.visits.Visit.{Visit}
 
--- ids stand in their order, and one may stand more than once
+-- ids are in their order, and one may be there more than once
 abbrev pub AreSorted : List (Bor (List ℕ)) → Type 0
 AreSorted ids = IsSorted (on (λ (x : Bor (List ℕ)). x.now) id_cmp) ids
 

@@ -1,4 +1,4 @@
--- Rows of stop_times.txt that break no rule, found without a look at whether a key stands twice.
+-- Rows of stop_times.txt that break no rule, found without a look at whether a key is there twice.
 use Rattle.std.specs.Prelude.{◌≡◌, ℕ, ◌+◌, ◌<◌, ◌≢◌, ◌==◌, ◌&&◌, ◌||◌, not, false, List, is_none, codes, length, slice_index_or}
 use Rattle.std.specs.List.Sorted.{IsPermutation, IsSorted}
 use Rattle.std.specs.Str.{bytes_eq}
@@ -16,7 +16,7 @@ use Rattle.gtfs_trips.specs.Trips.{trip_id_of}
 use Rattle.gtfs_trips.specs.Visits.{AreVisits, visit_at, visit_cmp}
 use Rattle.gtfs_trips.specs.declared.visits.Visit.{Visit}
 
--- the row at a place breaks no rule, but for the one that a trip and its number stand once
+-- the row at a place breaks no rule, but for the one that a trip and its number are there once
 pub record IsSoundAlone (stops : List Stop) (trips : List TripRow) (sheet : Sheet) (place : ℕ) : Type 0 where
   pub named : (length (trip_id_of sheet (row_at sheet place)) == 0) ≡ false
   pub stop_known : is_unknown (ids_of_stops stops) (stop_id_of sheet (row_at sheet place)) ≡ false
@@ -39,11 +39,11 @@ pub record AreSoundVisits (stops : List Stop) (trips : List TripRow) (sheet : Sh
   pub unbroken : IsUnbroken (stop_time_rule_at stops trips sheet) (length sheet.rows)
   pub are : AreVisits sheet visits
 
--- the visits stand strictly by trip and number
+-- the visits are strictly in the order of trip and number
 abbrev pub AreRising : List Visit → Type 0
 AreRising visits = (k : ℕ) (d : Visit) → k + 1 < length visits → visit_cmp (slice_index_or visits k d) (slice_index_or visits (k + 1) d) ≡ Less
 
--- no two visits that stand side by side have one trip and one number
+-- no two visits side by side have one trip and one number
 abbrev pub AreNeighboursApart : List Visit → Type 0
 AreNeighboursApart visits = (k : ℕ) (d : Visit) → k + 1 < length visits → visit_cmp (slice_index_or visits k d) (slice_index_or visits (k + 1) d) ≢ Equal
 

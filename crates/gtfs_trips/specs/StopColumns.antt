@@ -1,4 +1,4 @@
--- Where the columns of stops.txt stand in a sheet.
+-- Where the columns of stops.txt are in a sheet.
 use Rattle.std.specs.Prelude.{codes}
 use Rattle.gtfs_rows.specs.Sheet.{Sheet}
 use Rattle.gtfs_fields.specs.Columns.{IsColumn}

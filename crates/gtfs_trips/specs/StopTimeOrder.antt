@@ -10,6 +10,6 @@ use Rattle.gtfs_trips.specs.declared.stop_times.StopTime.{StopTime}
 abbrev pub stop_time_cmp : StopTime → StopTime → Ordering
 stop_time_cmp = then_cmp (on (λ t. t.trip) id_cmp) (on (λ t. t.seq) nat_cmp)
 
--- stop times stand strictly by trip and sequence
+-- stop times are strictly in the order of trip and sequence
 abbrev pub InTripOrder : List StopTime → Type 0
 InTripOrder times = IsStrict stop_time_cmp times

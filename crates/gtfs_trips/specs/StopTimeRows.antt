@@ -26,7 +26,7 @@ most_stop_times = 8_000_000
 abbrev pub sequence_of : Sheet → List (List ℕ) → Option ℕ
 sequence_of sheet row = u32_said (text_at sheet row (codes "stop_sequence"))
 
--- the trip and the number of a row, which tell rows apart
+-- the trip and the number of a row, by which rows differ
 abbrev pub key_of : Sheet → List (List ℕ) → List ℕ × Option ℕ
 key_of sheet row = (trip_id_of sheet row, sequence_of sheet row)
 
@@ -46,8 +46,8 @@ ids_of_stops stops = map (λ (s : Stop). s.id) stops
 abbrev pub ids_of_trips : List TripRow → List (List ℕ)
 ids_of_trips trips = map (λ (t : TripRow). t.trip) trips
 
--- Of the row at a place: 6, its trip is empty; 7, its trip and its number stand before; 8, its stop is not known; 9, its
--- trip is not known; 11, its number is unreadable; 12, one of its times is. Without a stop 8 and 12 are not tested.
+-- Of the row at a place. 6, its trip is empty. 7, an earlier row has its trip and its number. 8, its stop is not known. 9, its
+-- trip is not known. 11, its number is unreadable. 12, one of its times is. Without a stop 8 and 12 are not tested.
 unfoldable pub stop_time_rules : List Stop → List TripRow → Sheet → ℕ → List (ℕ × Bool)
 stop_time_rules stops trips sheet place =
     let row = row_at sheet place in

@@ -33,7 +33,7 @@ parent_of sheet row = text_at sheet row (codes "parent_station")
 abbrev pub stop_ids : Sheet → List (List ℕ)
 stop_ids sheet = map (stop_id_of sheet) sheet.rows
 
--- The rules of the row at a place: 6, its id is empty; 7, its id stands before; 10, its parent is not in the file.
+-- The rules of the row at a place. 6: its id is empty; 7: its id came before; 10: its parent is not in the file.
 abbrev pub stop_rules : Sheet → ℕ → List (ℕ × Bool)
 stop_rules sheet place =
     let id = stop_id_of sheet (row_at sheet place) in

@@ -26,7 +26,7 @@ NoneFalls before after = (a b : ℕ) → before ≡ Some a → after ≡ Some b 
 abbrev pub rows_of : List StopTime → List ℕ → List StopTime
 rows_of times trip = filter (λ (t : StopTime). is_same_id t.trip trip) times
 
--- The rows of one trip, in the order of their sequences: the first and the last of them have a time, each time is below
+-- The rows of one trip, in the order of their sequences. The first and the last of them have a time. Each time is below
 -- 100 hours, and none is earlier than one before it.
 pub record AreTimelyRows (rows : List StopTime) : Type 0 where
   pub first_timed : ForSome (slice_get rows 0) (λ t. is_timed t ≡ true)

@@ -49,11 +49,11 @@ timing_fault visits =
 abbrev pub trip_fault : List Visit → List ℕ → Option (ℕ × ℕ)
 trip_fault visits trip = if is_left_out visits trip then None else timing_fault (visits_of visits trip)
 
--- the same of the trip at a place of the trips
+-- the first rule that the rows of the trip at a place of the trips break together
 abbrev pub trip_fault_at : List Visit → List TripRow → ℕ → Option (ℕ × ℕ)
 trip_fault_at visits trips place = option_and_then (λ (t : TripRow). trip_fault visits t.trip) (slice_get trips place)
 
--- of the trips in their order, the first whose rows break a rule is recorded
+-- of the trips in their order, the first whose rows break a rule is reported
 abbrev pub IsTripFault : List Visit → List TripRow → FileFault → Type 0
 IsTripFault visits trips (Broken rule row) = (place : ℕ) × IsFirstBroken (trip_fault_at visits trips) (length trips) place (rule, row)
 IsTripFault visits trips (TooMany count) = ⊥

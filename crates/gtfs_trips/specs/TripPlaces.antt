@@ -1,4 +1,4 @@
--- Where the visits of a trip stand among visits that are sorted by trip.
+-- Where the visits of a trip are among visits that are sorted by trip.
 use Rattle.std.specs.Prelude.{◌≡◌, ℕ, ◌<◌, ◌≤◌, Bool, true, false, List, length, option_map, unwrap_or}
 use Rattle.std.specs.List.{slice_get}
 use Rattle.std.specs.List.Sorted.{IsPartitionPoint}

@@ -29,7 +29,7 @@ service_of sheet row = text_at sheet row (codes "service_id")
 abbrev pub trip_ids : Sheet → List (List ℕ)
 trip_ids sheet = map (trip_id_of sheet) sheet.rows
 
--- The rules of the row at a place: 6, its id or its service is empty; 7, its id stands before.
+-- The rules of the row at a place: 6, its id or its service is empty; 7, its id came before.
 abbrev pub trip_rules : Sheet → ℕ → List (ℕ × Bool)
 trip_rules sheet place =
     let id = trip_id_of sheet (row_at sheet place) in

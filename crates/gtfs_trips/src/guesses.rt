@@ -2,14 +2,14 @@ use crate::near::has_key;
 use lc_model::{NoMemory, Stop};
 use std::alloc::Global;
 
-/// Where the trip and the stop of a row likely stand. A guess may be wrong, and is tested.
+/// Where the trip and the stop of a row likely are. A guess may be wrong, and is tested.
 #[derive(Clone, Copy)]
 pub(crate) struct Guess {
     pub(crate) trip: usize,
     pub(crate) stop: usize,
 }
 
-/// What guesses are made from: where the trip and the stop of the row before stand.
+/// What guesses are made from: where the trip and the stop of the row before are.
 #[derive(Drop)]
 pub(crate) struct Guesses {
     trip: usize,
@@ -48,7 +48,7 @@ impl Guesses {
         }
     }
 
-    /// Learns where the trip and the stop of a row stand.
+    /// Learns where the trip and the stop of a row are.
     pub(crate) fn learn(&mut self, trip: usize, stop: usize) {
         if let Some(follower) = self.followers.get_mut(self.stop) {
             *follower = stop;

@@ -14,8 +14,8 @@ pub fn one_trips()
     ensures never_both { NeverBothTrips }
 {}
 
-/// stop_times.txt says one list of stop times of the stops and trips, and one of the trips that are not left out, or has
-/// one first fault, and never both.
+/// stop_times.txt says one list of stop times of the stops and trips, and one of the trips that are not left out. Or it has
+/// one first fault. Both never come together.
 pub fn one_stop_times()
     ensures times { OneStopTimes }
     ensures fault { OneStopTimesFault }

@@ -27,15 +27,15 @@ use lc_time::read_u32;
 use std::alloc::Global;
 use std::collections::BTreeMap;
 
-/// What a row says, and where its trip and its stop stand.
+/// What a row says, and where its trip and its stop are.
 #[derive(Drop)]
-pub(crate) struct Recorded {
+pub(crate) struct Reported {
     visit: Visit,
     trip: usize,
     stop: usize,
 }
 
-/// The stop that a row names, where it names one, and where it stands.
+/// The stop that a row names, where it names one, and where it is.
 #[derive(Drop)]
 pub(crate) struct SaidStop {
     id: Option<Id>,
@@ -49,7 +49,7 @@ pub(crate) struct SaidTimes {
     dep: Option<u32>,
 }
 
-/// Where the trip of a row stands, and what the row says of its number and its times.
+/// Where the trip of a row is, and what the row says of its number and its times.
 #[derive(Clone, Copy)]
 pub(crate) struct SaidRow {
     trip: usize,
@@ -64,8 +64,8 @@ pub(crate) struct Rights {
     alight: bool,
 }
 
-/// The visits of the rows, by trip and sequence, where no row breaks a rule; none where a row may break one. The ids of the
-/// visits are those of the stops and the trips, and whether a trip and a number stand twice shows once the visits are
+/// The visits of the rows, by trip and sequence, where no row breaks a rule. There are none where a row may break one. The ids of the
+/// visits are those of the stops and the trips. Whether a trip and a number are there twice shows once the visits are
 /// sorted. Of n rows, stops and trips: n log n.
 pub(crate) fn sound_visits(
     alloc: Global,
@@ -77,7 +77,7 @@ pub(crate) fn sound_visits(
     requires { AreStopTimeColumns rows.now columns }
     ensures { IfOk result (λ found. IfSome found (λ visits. AreSoundVisits stops.now trips.now rows.now visits.items)) }
 {
-    let Some(visits) = recorded_visits(alloc, rows, columns, stops, trips)? else {
+    let Some(visits) = reported_visits(alloc, rows, columns, stops, trips)? else {
         return Ok(None);
     };
     if are_rising(visits.as_slice()) {
@@ -86,7 +86,7 @@ pub(crate) fn sound_visits(
     sorted_apart(alloc, visits)
 }
 
-// Whether the visits stand strictly by trip and number already. Linear in the visits.
+// Whether the visits are strictly in the order of trip and number already. Linear in the visits.
 fn are_rising(visits: &[Visit]) -> bool
     ensures { OnTrue result (AreRising visits.now) }
 {
@@ -108,7 +108,7 @@ fn sorted_apart(alloc: Global, visits: Vec<Visit>) -> Result<Option<Vec<Visit>>,
     Ok(if_apart(sorted))
 }
 
-// These visits, if no two that stand side by side have one trip and one number.
+// These visits, if no two side by side have one trip and one number.
 fn if_apart(visits: Vec<Visit>) -> Option<Vec<Visit>>
     ensures same { IfSome result (λ same. same.items ≡ visits.items) }
     ensures apart { IfSome result (λ _. AreNeighboursApart visits.items) }
@@ -120,7 +120,7 @@ fn if_apart(visits: Vec<Visit>) -> Option<Vec<Visit>>
     }
 }
 
-// Whether no two visits that stand side by side have one trip and one number. Linear in the visits.
+// Whether no two visits side by side have one trip and one number. Linear in the visits.
 fn are_apart(visits: &[Visit]) -> bool
     ensures { OnTrue result (AreNeighboursApart visits.now) }
 {
@@ -133,7 +133,7 @@ fn are_apart(visits: &[Visit]) -> bool
 }
 
 // The visits of the rows, in their order, if none of the rows breaks a rule by itself.
-fn recorded_visits<'a>(
+fn reported_visits<'a>(
     alloc: Global,
     rows: &'a Rows,
     columns: StopTimeColumns,
@@ -167,7 +167,7 @@ fn visits_with<'a>(
     let mut visits = Vec::with_capacity(alloc, rows.len())?;
     'rows: for place in 0..rows.len() {
         let guess = guesses.next(stops, text(rows, place, columns.stop));
-        let Some(recorded) = recorded_visit(
+        let Some(recorded) = reported_visit(
             alloc, rows, columns, stops, trips, places, guess, place,
         )?
         else {
@@ -180,7 +180,7 @@ fn visits_with<'a>(
 }
 
 // What the row at this place says, if it breaks no rule by itself.
-fn recorded_visit<'a>(
+fn reported_visit<'a>(
     alloc: Global,
     rows: &'a Rows,
     columns: StopTimeColumns,
@@ -189,7 +189,7 @@ fn recorded_visit<'a>(
     places: &BTreeMap<&'a [u8], usize>,
     guess: Guess,
     place: usize,
-) -> Result<Option<Recorded>, NoMemory>
+) -> Result<Option<Reported>, NoMemory>
     requires there { place < length rows.now.rows }
     requires columns { AreStopTimeColumns rows.now columns }
     requires places { HavePlaces (ids_of_trips trips.now) places.now }
@@ -215,14 +215,14 @@ fn recorded_visit<'a>(
         alight: rights.alight,
         row: (place + 1) as u64,
     };
-    Ok(Some(Recorded {
+    Ok(Some(Reported {
         visit,
         trip: said.trip,
         stop: stop.place,
     }))
 }
 
-// Where the trip of the row at this place stands, its number and its times, if these break no rule. The row names this
+// Where the trip of the row at this place is, its number and its times, if these break no rule. The row names this
 // stop. Its trip may be the one at the place `near`, or the next.
 fn said_row<'a>(
     rows: &'a Rows,

@@ -23,7 +23,7 @@ use lc_time::read_u32;
 use std::alloc::Global;
 use std::collections::BTreeMap;
 
-/// Where the columns of stop_times.txt stand, from 0.
+/// Where the columns of stop_times.txt are, from 0.
 #[derive(Clone, Copy)]
 pub(crate) struct StopTimeColumns {
     pub(crate) trip: Option<usize>,
@@ -174,7 +174,7 @@ fn rule_at<'a>(
     ])
 }
 
-// Whether a trip and a number stand at an earlier place too.
+// Whether a trip and a number are at an earlier place too.
 fn is_second<'a>(
     places: &BTreeMap<(&'a [u8], Option<u32>), usize>,
     trip: &'a [u8],

@@ -7,7 +7,7 @@ use std::alloc::Global;
 use std::marker::Model;
 
 /// A row of stop_times.txt: when a trip arrives at a stop and departs, in seconds of the service day, where the row says
-/// so, and whether one may board and alight.
+/// it. Whether one may board and alight.
 #[derive(Drop)]
 pub struct StopTime {
     pub trip: Id,

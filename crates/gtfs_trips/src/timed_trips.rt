@@ -169,7 +169,7 @@ fn check_trips(visits: &[Visit], trips: &[TripRow], left: &[&[u8]]) -> Result<()
     ensures timed { OnOk result (IsUnbroken (trip_fault_at visits.now trips.now) (length trips.now)) }
     ensures fault { IfErr result (IsTripFault visits.now trips.now) }
 {
-    // Trips mostly stand in the order of their ids, as the visits do.
+    // Trips are mostly in the order of their ids, as the visits are.
     let mut near = 0;
     'trips: for place in 0..trips.len() {
         let judged = judged_at(visits, trips, place, left, near);

@@ -37,7 +37,7 @@ use Rattle.http_text.proofs.EntryLemmas.{Entry, fields_from, line_at, lines_from
 
 -- ---- statuses
 
--- a status in use has three digits, and a reason that can stand in the line
+-- a status in use has three digits, and a reason that can be in the line
 record IsStatus (s : ℕ) : Type 0 where
   low : 100 ≤ s
   high : s < 1000
@@ -364,7 +364,7 @@ answers r text e has bound can =
       subst (λ (n : ℕ). SaysOf (digits_value 10 (decimal r.status)) (length (print_response (head r))) n (texts_of (head r).fields) (reply_said r text)) (sym got) (says r text e has can bound),
     )
 
--- the body lies behind the head
+-- the body is after the head
 pub body_is : (r : ReplyParts) (text : List ℕ) → text ≡ reply_text_of r → drop (length text - length r.body) text ≡ r.body
 body_is r text e =
     let n : length text - length r.body ≡ length (print_response (head r)) = omega (arith, head_len r text e) in

@@ -1,4 +1,4 @@
--- Bytes that stand in a field's value, and what dropping blanks leaves of them.
+-- Bytes that are in a field's value, and what dropping blanks leaves of them.
 use Rattle.std.proofs.Common.{◌≡◌, ℕ, ◌+◌, ◌%◌, ◌^◌, ◌<◌, Bool, true, false, List, [], ◌∷◌, ◌++◌, reverse, decimal, refl, arith}
 use Rattle.std.specs.List.{list_all}
 use Rattle.std.specs.Char.{is_ascii_digit}
@@ -31,7 +31,7 @@ skip_visible : (xs : List ℕ) → list_all is_uri_byte xs ≡ true → skip_ows
 skip_visible [] h = refl
 skip_visible (x ∷ xs) h = let parts = and_parts (is_uri_byte x) (list_all is_uri_byte xs) h in rw (no_blank x parts.0) refl
 
--- the value of a field with visible bytes behind a blank
+-- the value of a field with visible bytes after a blank
 pub trimmed : (xs : List ℕ) → AllPass is_uri_byte xs → trim_ows (32 ∷ xs) ≡ xs
 unfolding trim_ows
 trimmed xs is =

@@ -1,4 +1,4 @@
--- A date of HTTP stands in a field's value as it is written.
+-- A date of HTTP is in a field's value as it is written.
 use Rattle.std.proofs.Common.{◌≡◌, ℕ, zero, suc, ◌+◌, ◌-◌, ◌/◌, ◌%◌, ◌<◌, true, false, List, [], ◌∷◌, ◌++◌, reverse, codes, refl, sym, ap, subst, ◌∙◌, arith}
 use Rattle.std.specs.Prelude.{slice_index_or}
 use Rattle.std.specs.List.{list_all}
@@ -85,7 +85,7 @@ parts_bytes p day year hour min sec =
     ten (day_name p.wday) (codes ", ") (two_digits p.day) (codes " ") (month_name p.mon) (codes " ") (four_digits p.year) (codes " ") (time_of_day p) (codes " GMT")
     (day_bytes (p.wday - 1)) refl (two_bytes p.day day) refl (month_bytes p.mon) refl (year_bytes p.year year) refl (clock_bytes p hour min sec) refl
 
--- the date behind the name of the day, up to the zone
+-- the date after the name of the day, up to the zone
 abbrev dated : List ℕ → Parts → List ℕ
 dated day p =
     day ++ codes ", " ++ two_digits p.day ++ codes " " ++ month_name p.mon ++ codes " "
@@ -136,7 +136,7 @@ day_bare (suc (suc (suc (suc (suc zero))))) h = record { first = 83; rest = code
 day_bare (suc (suc (suc (suc (suc (suc zero)))))) h = record { first = 83; rest = codes "un"; text_is = refl; bare = refl }
 day_bare (suc (suc (suc (suc (suc (suc (suc n))))))) h = absurd (omega arith)
 
--- the value of a field with the date of a moment behind a blank
+-- the value of a field with the date of a moment after a blank
 pub date_trimmed : (m : ℕ) → trim_ows (32 ∷ http_date_of m) ≡ http_date_of m
 date_trimmed m =
     let p = http_parts_of m in

@@ -75,7 +75,7 @@ one_head bytes h k a b = (request_unique (front_of bytes) h k a.0 b.0 a.1 b.1).0
 pub one_reply_head : (bytes : List ℕ) (h k : ResponseHead) → HasReplyHead bytes h → HasReplyHead bytes k → h ≡ k
 one_reply_head bytes h k a b = (response_unique (front_of bytes) h k a.0 b.0 a.1 b.1).0
 
--- where a head stands there is hope
+-- where a head is there, there is hope
 pub hope : (bytes : List ℕ) (h : RequestHead) → HasHead bytes h → IsHopeless bytes → ⊥
 hope bytes h a never = never.0 [] h (a.0 ++ []) (ReadsRequest-append (front_of bytes) h a.0 [] a.1)
 

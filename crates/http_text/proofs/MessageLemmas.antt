@@ -84,7 +84,7 @@ longer a b c d e le =
     let front : take (length c) a ≡ c = sym (take-append-le (length c) a b le) ∙ ap (take (length c)) e ∙ take_at c d (length c) refl in
     sym (take-append-drop (length c) a) ∙ ap (λ (x : List ℕ). x ++ drop (length c) a) front
 
--- where no head stands and none may follow, none will
+-- where no head is there and none may follow, none will
 never : (front : List ℕ) → HasNoResponse front → (MayBecomeResponse front → ⊥) → NeverHasResponse front
 never front none ruled more h rest (is, e) =
     elim (cases_lt (length front) (length (print_response h))) [

@@ -139,7 +139,7 @@ split (x ∷ front) rest (y ∷ first) last e =
       | inr s ↦ inr (record { middle = s.middle; first_is = ap₂ (λ (z : ℕ) (zs : List ℕ). z ∷ zs) one.0 s.first_is; last_is = s.last_is })
     ]
 
--- how a request may go on behind its method and space
+-- how a request may go on after its method and space
 abbrev rest_of_head : List ℕ
 rest_of_head = codes "/" ++ 32 ∷ (print_version 1 ++ (crlf_bytes ++ (crlf_bytes ++ [])))
 

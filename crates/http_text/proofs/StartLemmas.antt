@@ -1,4 +1,4 @@
--- What is taken of what stands at the front of the bytes, and how many bytes another answer needs.
+-- What is taken of what is at the front of the bytes, and how many bytes another answer needs.
 use Rattle.std.proofs.Common.{◌≡◌, ◌≢◌, ℕ, suc, ◌+◌, ◌<◌, ◌⊎◌, inl, inr, Bool, cond, List, [], ◌∷◌, ◌++◌, length, Option, Some, None, refl, sym, ap, subst, ◌∙◌, arith, add-one, append-nil, length-append}
 use Rattle.std.proofs.lemmas.Bool.{cases_lt, lt-ltb, le-ltb, le-leb, lt-leb}
 use Rattle.httparse.specs.Grammar.{RequestHead, NeverHasRequest, EndsInTarget}
@@ -12,7 +12,7 @@ use Rattle.http_text.proofs.HeadLemmas.{one_head, hope}
 use Rattle.http_text.proofs.StayLemmas.{head_stays}
 use Rattle.http_text.proofs.TakenLemmas.{no_head}
 
--- what stands where no bytes make a head: by whether the target is still being read
+-- what is there where no bytes make a head: by whether the target is still being read
 pub without_head_is : (bytes front : List ℕ) (start : Start) → front ≡ front_of bytes → NeverHasRequest (front_of bytes)
     → (EndsInTarget front × (start ≡ starts.Open)) ⊎ ((¬ (EndsInTarget front)) × (start ≡ starts.Refused 400)) → IsStart bytes start
 without_head_is bytes front start is never (inl (ends, is')) =

@@ -37,7 +37,7 @@ parts : (bytes : List ℕ) → bytes ≡ front_of bytes ++ drop 16_384 bytes
 unfolding front_of
 parts bytes = sym (take-append-drop 16_384 bytes)
 
--- behind the head in the first bytes stands the rest of the bytes
+-- after the head in the first bytes comes the rest of the bytes
 behind_head : (bytes : List ℕ) (h : RequestHead) (rest : List ℕ) → ReadsRequest (front_of bytes) h rest → bytes ≡ print_request h ++ (rest ++ drop 16_384 bytes)
 behind_head bytes h rest reads =
     parts bytes ∙ ap (λ (x : List ℕ). x ++ drop 16_384 bytes) reads.1 ∙ append_assoc (print_request h) rest (drop 16_384 bytes)
@@ -96,7 +96,7 @@ whole_is bytes n (inl (h, (rest, reads), is)) =
 whole_is bytes n (inr (inl (none, is))) = absurd (not_open (length bytes) n is)
 whole_is bytes n (inr (inr (never, is))) = absurd (cc)
 
--- the head of a whole request stands at the front of the bytes
+-- the head of a whole request is at the front of the bytes
 whole_head : (bytes : List ℕ) (n : ℕ) (h : RequestHead) (body : List ℕ) → IsWholeWith (take n bytes) h body → HasHead bytes h
 unfolding front_of
 whole_head bytes n h body is =

@@ -5,7 +5,7 @@ use Rattle.http_text.specs.Bytes.{quote, backslash}
 use Rattle.http_text.specs.declared.connection.Quoting.{Quoting}
 use Rattle.http_text.specs.declared.connection.Quoting.TheVariants.{Outside, Inside, Escaped}
 
--- where the next byte stands: outside of quoted strings, inside one, or behind a backslash inside one
+-- where the next byte is: outside of quoted strings, inside one, or after a backslash inside one
 abbrev pub quoting_after : Quoting → ℕ → Quoting
 quoting_after Outside byte = if byte == quote then Inside else Outside
 quoting_after Inside byte = if byte == quote then Outside else (if byte == backslash then Escaped else Inside)

@@ -7,7 +7,7 @@ use Rattle.lc_time.specs.Http.{http_date_of}
 abbrev pub line : List ℕ → List ℕ
 line text = text ++ crlf_bytes
 
--- the date of the moment behind this front, if there is a moment
+-- the date of the moment after this front, if there is a moment
 abbrev pub moment_line : List ℕ → Option ℕ → List ℕ
 moment_line front None = []
 moment_line front (Some moment) = line (front ++ http_date_of moment)

@@ -1,4 +1,4 @@
--- The values of one name among the fields that lie in bytes.
+-- The values of one name among the fields that are in bytes.
 use Rattle.std.specs.Prelude.{◌≡◌, ℕ, List, [], ◌∷◌, map}
 use Rattle.std.specs.Borrow.{Bor}
 use Rattle.httparse.specs.declared.spans.HeaderSpan.{HeaderSpan}

@@ -4,7 +4,7 @@ use Rattle.std.specs.List.{list_all}
 use Rattle.httparse.specs.Ascii.{carriage_return, line_feed, space}
 use Rattle.httparse.specs.Grammar.{is_token_byte, is_uri_byte}
 
--- the bytes behind the empty lines at their front
+-- the bytes after the empty lines at their front
 abbrev pub behind_blanks : List ℕ → List ℕ
 behind_blanks [] = []
 behind_blanks (byte ∷ []) = if byte == line_feed then [] else byte ∷ []

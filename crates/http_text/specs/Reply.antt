@@ -9,7 +9,7 @@ use Rattle.http_text.specs.Fields.{FieldText, texts_of, values_of}
 use Rattle.http_text.specs.Length.{length_of, is_wrong, said_or}
 use Rattle.http_text.specs.Request.{front_of, has_field}
 
--- the first of two fields stands
+-- the first of two fields counts
 abbrev pub first_of : List (List ℕ) → Option (List ℕ)
 first_of [] = None
 first_of (value ∷ values) = Some value
@@ -24,7 +24,7 @@ abbrev pub IsMomentOf : Option (List ℕ) → Option ℕ → Type 0
 IsMomentOf None moment = moment ≡ None
 IsMomentOf (Some value) moment = MatchOption moment ((m : ℕ) → ¬ (SaysHttpDate value m)) (SaysHttpDate value)
 
--- The fault of a head behind which so many bytes follow, by the first test that it fails: too many fields, a body in
+-- The fault of a head after which so many bytes follow, by the first test that it fails. The tests: too many fields, a body in
 -- chunks, a wrong length, a body cut short.
 abbrev pub fault_of : List FieldText → ℕ → Option ReplyFault
 fault_of fields got =
@@ -34,7 +34,7 @@ fault_of fields got =
     else (if nat_lt got (said_or (length_of fields) got) then Some (faults.Cut (said_or (length_of fields) got) got)
     else None)))
 
--- what a head of so many bytes says, behind which so many follow: without a length the body is all of them
+-- what a head of so many bytes says, after which so many follow: without a length the body is all of them
 pub record SaysOf (status len got : ℕ) (fields : List FieldText) (reply : Reply) : Type 0 where
   pub status_is : reply.status ≡ status
   pub location_is : IsTextOf (first_of (values_of (codes "location") fields)) reply.location
@@ -42,11 +42,11 @@ pub record SaysOf (status len got : ℕ) (fields : List FieldText) (reply : Repl
   pub body_from_is : reply.body_from ≡ len
   pub body_to_is : reply.body_to ≡ len + said_or (length_of fields) got
 
--- the head stands at the front of the bytes, within the first 16,384
+-- the head is at the front of the bytes, within the first 16,384
 abbrev pub HasReplyHead : List ℕ → ResponseHead → Type 0
 HasReplyHead bytes h = (rest : List ℕ) × ReadsResponse (front_of bytes) h rest
 
--- how many bytes stand behind the head
+-- how many bytes come after the head
 abbrev pub behind : List ℕ → ResponseHead → ℕ
 behind bytes h = length bytes - length (print_response h)
 
@@ -60,7 +60,7 @@ IsReply bytes reply =
 abbrev pub open_fault : ℕ → ReplyFault
 open_fault got = if nat_lt got 16_384 then faults.Head else faults.LongHead
 
--- no head stands in the first 16,384 bytes: none will, or the bytes end within it; or it is longer
+-- no head is in the first 16,384 bytes: none will be, or the bytes end within it; or it is longer
 abbrev pub HasHeadFault : List ℕ → ReplyFault → Type 0
 HasHeadFault bytes fault =
     (NeverHasResponse (front_of bytes) × (fault ≡ faults.Head))

@@ -89,7 +89,7 @@ reply_text_of reply =
     status_line reply.status ++ body_lines reply ++ target_lines reply ++ allow_line reply.allow
     ++ close_line reply.close ++ crlf_bytes ++ reply.body
 
--- The text of the reply can be read back: its URLs can stand in a field, the length is that of the body, and neither
+-- The text of the reply can be read back. Its URLs can be in a field, the length is that of the body, and neither
 -- the head nor the body is too long.
 pub record IsReadable (reply : ReplyParts) (text : List ℕ) : Type 0 where
   pub location_bytes : IfSome reply.location (λ url. AllPass is_uri_byte url × IsUtf8 url)

@@ -1,4 +1,4 @@
--- What stands at the front of the bytes that have come, before they are counted.
+-- What is at the front of the bytes that have come, before they are counted.
 use Rattle.std.specs.Prelude.{◌≡◌, ℕ, suc, ◌⊎◌, nat_lt, List, Option, Some, None, if◌then◌else◌}
 use Rattle.httparse.specs.Grammar.{RequestHead}
 use Rattle.http_text.specs.declared.start.Start.{Start}
@@ -13,7 +13,7 @@ abbrev pub judged : Option ℕ → ℕ → Start
 judged (Some status) needed = Refused status
 judged None needed = Head needed
 
--- what stands there: a head, a front of one, or none
+-- what is there: a head, a front of one, or none
 abbrev pub IsStart : List ℕ → Start → Type 0
 IsStart bytes start =
     ((h : RequestHead) × HasHead bytes h × (start ≡ judged (refusal_of_head h) (needed h)))

@@ -5,15 +5,15 @@ use Rattle.http_text.specs.declared.taken.Taken.{Taken}
 use Rattle.http_text.specs.declared.taken.Taken.TheVariants.{Whole, NotYet, Refused}
 use Rattle.http_text.specs.Request.{refusal_of_head, body_len, front_of}
 
--- the head stands at the front of the bytes, within the limit
+-- the head is at the front of the bytes, within the limit
 abbrev pub HasHead : List ℕ → RequestHead → Type 0
 HasHead bytes h = (rest : List ℕ) × ReadsRequest (front_of bytes) h rest
 
--- no head stands there, and one may follow; or the bytes end inside a target, whatever its bytes are
+-- no head is there, and one may follow; or the bytes end inside a target, whatever its bytes are
 abbrev pub IsOpen : List ℕ → Type 0
 IsOpen bytes = HasNoRequest (front_of bytes) × MayBecomeRequest (front_of bytes)
 
--- no head will stand there, whatever follows, and the bytes do not end inside a target
+-- no head will be there, whatever follows, and the bytes do not end inside a target
 abbrev pub IsHopeless : List ℕ → Type 0
 IsHopeless bytes = NeverHasRequest (front_of bytes) × ¬ (EndsInTarget (front_of bytes))
 
@@ -34,7 +34,7 @@ needed h = length (print_request h) + body_len h
 abbrev pub open_taken : ℕ → Taken
 open_taken got = if nat_lt got 16_384 then NotYet else Refused 431
 
--- what is taken of the bytes: by the head that stands there, by there being none yet, or by there never being one
+-- what is taken of the bytes: by the head that is there, by there being none yet, or by there never being one
 abbrev pub Takes : List ℕ → Taken → Type 0
 Takes bytes taken =
     ((h : RequestHead) × HasHead bytes h × (taken ≡ taken_of (refusal_of_head h) (needed h) (length bytes)))

@@ -13,7 +13,7 @@ use Rattle.http_text.specs.RequestText.{request_text_of, CanAsk}
 abbrev pub CanAskFor : BaseParts → List ℕ → Type 0
 CanAskFor base target = (known : Option ℕ) → CanAsk target (request_text_of base.authority target known)
 
--- a GET can be made of the base's path with at most 12,000 visible bytes behind it
+-- a GET can be made of the base's path with at most 12,000 visible bytes after it
 abbrev pub CanAskUnder : BaseParts → Type 0
 CanAskUnder base = (tail : List ℕ) → AllPass is_uri_byte tail → length tail ≤ 12_000 → CanAskFor base (base.path ++ tail)
 
@@ -36,7 +36,7 @@ pub record SaysTarget (target path : List ℕ) (members : List Member) : Type 0 
   pub path_is : path_of target ≡ path
   pub query_is : members_of (query_of target) ≡ members
 
--- What the targets under a base say: at the time gate the moment, at a page the version and the moment, in this order, as
+-- What the targets under a base say: at the time gate the moment, at a page the version and the moment, in this order. All are
 -- texts of ISO 8601.
 pub record TargetsSay (base : BaseParts) : Type 0 where
   pub gate : (departs : ℕ) → departs < 253_402_128_000

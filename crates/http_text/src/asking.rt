@@ -8,7 +8,7 @@ use connection_uri::Base;
 use lc_model::{Moment, NoMemory};
 use std::alloc::Global;
 
-/// The text of a GET request: the target, the host, the moment up to which the asker knows, and that the connection ends
+/// The text of a GET request: the target, the host, and the moment up to which the asker knows. The connection ends
 /// after it (RFC 9112, section 3; RFC 7089, section 2.1.1).
 pub fn request_text(
     alloc: Global,

@@ -37,7 +37,7 @@ fn has_close(value: &[u8]) -> bool
     is_close(rest)
 }
 
-/// Where a byte of a list stands: outside of quoted strings, inside one, or behind a backslash inside one.
+/// Where a byte of a list is: outside of quoted strings, inside one, or after a backslash inside one.
 #[derive(Clone, Copy)]
 enum Quoting {
     Outside,
@@ -71,7 +71,7 @@ fn is_part(quoting: Quoting, byte: u8) -> bool
     }
 }
 
-/// Where the byte behind this one stands.
+/// Where the byte after this one is.
 fn quoting_after(quoting: Quoting, byte: u8) -> Quoting
     ensures { result ≡ quoting_after quoting byte }
 {

@@ -1,7 +1,7 @@
 use lc_model::{Bytes, Items, NoMemory, PlainData};
 use std::alloc::Global;
 
-/// A field of a head. The value stands without the blanks around it.
+/// A field of a head. The value is without the blanks around it.
 #[derive(Drop)]
 pub struct Field {
     pub name: Bytes,

@@ -1,4 +1,4 @@
-//! Messages of HTTP/1.1: requests and replies taken from bytes, refused, read and written exactly. It stands on the
+//! Messages of HTTP/1.1: requests and replies taken from bytes, refused, read and written exactly. It builds on the
 //! grammar of `httparse`, on `form_urlencoded` for queries, on `connection_uri` for bases and on `lc_time` for dates.
 #![tactic(auto)]
 

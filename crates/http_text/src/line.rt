@@ -20,7 +20,7 @@ pub fn append_line(
     Ok(())
 }
 
-/// Appends a line with the date of the moment behind this front, if there is a moment.
+/// Appends a line with the date of the moment after this front, if there is a moment.
 pub fn append_moment(
     text: &mut Vec<u8>,
     front: &[u8],

@@ -14,7 +14,7 @@ pub fn ends_in_target(bytes: &[u8]) -> bool
     is_open_line(behind_blanks(bytes))
 }
 
-/// The bytes behind the empty lines at their front.
+/// The bytes after the empty lines at their front.
 fn behind_blanks(mut bytes: &[u8]) -> &[u8]
     ensures { result.now ≡ behind_blanks bytes.now }
 {
@@ -50,7 +50,7 @@ fn ends_as_method(mut bytes: &[u8]) -> bool
     false
 }
 
-/// Whether each of the bytes may stand in a target.
+/// Whether each of the bytes may be in a target.
 fn are_target_bytes(bytes: &[u8]) -> bool
     ensures { result ≡ list_all is_uri_byte bytes.now }
 {

@@ -29,7 +29,7 @@ pub fn read_request(alloc: Global, bytes: &[u8]) -> Result<Request, NoMemory>
     }
 }
 
-/// What a head says that lies in the bytes.
+/// What a head says that is in the bytes.
 fn request_of(
     alloc: Global,
     bytes: &[u8],

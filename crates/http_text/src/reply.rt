@@ -1,7 +1,7 @@
 use lc_model::{Moment, NoMemory, PlainData, Text};
 use std::alloc::Global;
 
-/// What a reply says. The body lies from `body_from` up to `body_to` in its bytes.
+/// What a reply says. The body is from `body_from` up to `body_to` in its bytes.
 #[derive(Drop)]
 pub struct Reply {
     pub status: u16,

@@ -25,7 +25,7 @@ pub struct ReplyParts {
     pub status: u16,
     pub kind: Option<BodyKind>,
     pub length: Option<u64>,
-    /// The URL to ask next. The line `Vary: accept-datetime` stands with it.
+    /// The URL to ask next. The line `Vary: accept-datetime` is with it.
     pub location: Option<Text>,
     /// The moment of the version that is sent.
     pub memento: Option<Moment>,

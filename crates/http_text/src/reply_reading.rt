@@ -50,7 +50,7 @@ pub fn reply_in(alloc: Global, room: &mut [HeaderSpan], bytes: &[u8]) -> Result<
     }
 }
 
-/// What a head says behind which the rest of so many bytes follow, or its fault.
+/// What a head says after which the rest of so many bytes follow, or its fault.
 fn reply_of(
     alloc: Global,
     front: &[u8],
@@ -99,7 +99,7 @@ fn said(
     })
 }
 
-/// The fault of a head behind which so many bytes follow, by the first test that it fails.
+/// The fault of a head after which so many bytes follow, by the first test that it fails.
 fn fault_of(front: &[u8], fields: &[HeaderSpan], got: u64) -> Option<ReplyFault>
     requires { All (IsHeaderWithin (length front.now)) fields.now }
     ensures { result ≡ fault_of (texts_at front.now fields.now) got }

@@ -2,7 +2,7 @@ use crate::{Fields, Members};
 use lc_model::{Bytes, NoMemory, PlainData};
 use std::alloc::Global;
 
-/// What a request says. Its body lies from `body_from` to the end of its bytes.
+/// What a request says. Its body is from `body_from` to the end of its bytes.
 #[derive(Drop)]
 pub struct Request {
     pub method: Bytes,

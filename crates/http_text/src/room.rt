@@ -37,23 +37,23 @@ impl HeadRoom {
         })
     }
 
-    /// How many bytes in all have to have come before it is worth taking a request from them again: after a "not yet"
-    /// those of the head and its body, or one more than there were; else 0.
+    /// How many bytes in all have to have come before it is worth taking a request from them again. After a "not yet"
+    /// they are those of the head and its body, or one more than there were. Else they are 0.
     pub fn waits_for(&self) -> usize
         ensures { result ≡ self.now.waits_for }
     {
         self.waits_for
     }
 
-    /// What stands at the front of the bytes that have come: a whole request, less than one, or a head that is refused.
+    /// What is at the front of the bytes that have come: a whole request, less than one, or a head that is refused.
     /// Takes no memory, and time linear in the first 16,384 bytes.
     pub fn take_request(&mut self, bytes: &[u8]) -> Taken
         ensures said { Takes bytes.now result }
         ensures only { (other : Answer) → Takes bytes.now other → result ≡ other }
         ensures whole { (n : ℕ) → result ≡ WholeRequest n → (n ≤ length bytes.now) × IsWhole (take n bytes.now) }
         ensures every_whole { (n : ℕ) → n ≤ length bytes.now → IsWhole (take n bytes.now) → result ≡ WholeRequest n }
-        // The room keeps how many bytes in all another answer needs: of a complete head those of its request, and of
-        // an open one, of which no more is known, one more than there are.
+        // It remembers how many bytes in all another answer needs. Of a complete head they are those of its request.
+        // Of an open one, of which no more is known, they are one more than there are.
         ensures waits { result ≡ Later → WaitsFor bytes.now self.new.waits_for }
         ensures waits_for_head { result ≡ Later → IsOpen bytes.now → self.new.waits_for ≡ length bytes.now + 1 }
         ensures waits_for_body { result ≡ Later → (h : RequestHead) → HasHead bytes.now h
@@ -78,7 +78,7 @@ impl HeadRoom {
     }
 }
 
-/// What stands at the front of the bytes that have come, as `HeadRoom::take_request` says it, with room made for it.
+/// What is at the front of the bytes that have come, as `HeadRoom::take_request` says it, with room made for it.
 pub fn take_request(alloc: Global, bytes: &[u8]) -> Result<Taken, NoMemory>
     ensures said { IfOk result (Takes bytes.now) }
     ensures only { IfOk result (λ taken. (other : Answer) → Takes bytes.now other → taken ≡ other) }

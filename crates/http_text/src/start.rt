@@ -16,7 +16,7 @@ use crate::open_target::ends_in_target;
 use httparse::Status;
 use httparse::spans::{HeaderSpan, RequestSpans, parse_request};
 
-/// What stands at the front of the bytes that have come.
+/// What is at the front of the bytes that have come.
 #[derive(Clone, Copy)]
 pub enum Start {
     /// A head that is not refused. It has so many bytes with its body.
@@ -71,7 +71,7 @@ fn open_taken(got: usize) -> Taken
     }
 }
 
-/// What stands at the front of these bytes.
+/// What is at the front of these bytes.
 pub fn start_in(room: &mut [HeaderSpan], bytes: &[u8]) -> Start
     requires { length room.old ≡ 5_500 }
     ensures { IsStart bytes.now result }
@@ -100,7 +100,7 @@ fn judge(front: &[u8], fields: &[HeaderSpan], head: RequestSpans) -> Start
     }
 }
 
-/// What stands there where no bytes make a head. Inside a target the parser may see that before the target ends, or at
+/// What is there where no bytes make a head. Inside a target the parser may see that before the target ends, or at
 /// its end.
 fn without_head(front: &[u8]) -> Start
     ensures { (EndsInTarget front.now × (result ≡ Unfinished)) ⊎ (¬ (EndsInTarget front.now) × (result ≡ Refusal 400)) }

@@ -1,4 +1,4 @@
-/// What stands at the front of the bytes that have come on a connection.
+/// What is at the front of the bytes that have come on a connection.
 #[derive(Clone, Copy, PartialEq, Eq)]
 pub enum Taken {
     /// One whole request of so many bytes.

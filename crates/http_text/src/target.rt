@@ -69,7 +69,7 @@ fn from_authority_end(mut bytes: &[u8]) -> &[u8]
     bytes
 }
 
-/// What stands before the first question mark, and what follows it.
+/// What comes before the first question mark, and what follows it.
 fn split_at_mark(bytes: &[u8]) -> (&[u8], &[u8])
     ensures before { result.0.now ≡ before_first (λ b. b == question_mark) bytes.now }
     ensures after { result.1.now ≡ after_first (λ b. b == question_mark) bytes.now }

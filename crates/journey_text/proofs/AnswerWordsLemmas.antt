@@ -94,7 +94,7 @@ some_walk_words : (walk : Walk) → walk_words_of (Some walk) ≢ []
 unfolding walk_words_of
 some_walk_words walk e = cc e
 
--- a line is parted into its words, whatever stands behind it
+-- a line is parted into its words, whatever comes after it
 ride_split : (ride : Ride) (rest : List ℕ) → IsSoundRide ride → words_of (ride_line_of ride ++ rest) ≡ ride_words_of ride ++ words_of rest
 ride_split ride rest sound =
     ap words_of (ride_line ride rest) ∙ split_spaced (ride_words_of ride) rest (ride_is_words ride sound) (some_words ride)

@@ -53,7 +53,7 @@ one_start_part (Some a) (Some b) p q e = ap Some (one_start a b (p a refl) (q b 
 
 -- ---- rides and walks
 
--- what stands at a place of two lists that are one
+-- what is at a place of two lists that are one
 at : (i : ℕ) (x y : List (List ℕ)) → x ≡ y → get_or x i [] ≡ get_or y i []
 at i x y e = ap (λ (l : List (List ℕ)). get_or l i []) e
 
@@ -99,7 +99,7 @@ one_walk_or_none (Some a) (Some b) x y p q other other' e = let one = one_walk a
 not_walk : codes "ride" ≢ codes "walk"
 not_walk e = first_apart (codes "ride") (codes "walk") e refl
 
--- no ride's line begins what stands behind the rides
+-- no ride's line begins what comes after the rides
 no_ride_behind : (after : Option Walk) (ride : Ride) (x : List (List ℕ)) → walk_words_of after ++ [] ∷ [] ≡ ride_words_of ride ++ x → ⊥
 unfolding ride_words_of walk_words_of
 no_ride_behind None ride x e = cc

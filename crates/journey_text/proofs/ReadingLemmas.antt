@@ -86,7 +86,7 @@ ride_mark words d ride behind e =
     let long : 10 ≤ length words = long_ride words ride behind e in
     said_at words d 0 (omega arith) ∙ ap (λ (l : List (List ℕ)). get_or l 0 []) e
 
--- of the rides that the words say these were taken, and the words behind say the rest of them
+-- of the rides that the words say these were taken, and the words after them say the rest
 pub record Left (taken rides : List Ride) (after : Option Walk) (words : List (List ℕ)) : Type 0 where
   pub more : List Ride
   pub sound : All IsSoundRide more
@@ -100,7 +100,7 @@ GoesOn words place taken = (rides : List Ride) (after : Option Walk) → All IsS
 pub goes_at_first : (words : List (Bor (List ℕ))) → GoesOn words 0 []
 goes_at_first words rides after sound e = record { more = rides; sound = sound; rides_are = refl; words_are = e }
 
--- the words that stand there
+-- the words that are there
 abbrev there : List (Bor (List ℕ)) → ℕ → List (Bor (List ℕ))
 there words place = take (length words - place) (drop place words)
 
@@ -138,7 +138,7 @@ goes_on words place taken ride mark exact goes rides after sound e = by left.mor
           words_are = sym (drop-drop 10 place (texts_of words)) ∙ ap (drop 10) parts ∙ dropped next behind;
         }
 
--- where no ride stands, all were taken
+-- where no ride is there, all were taken
 pub all_taken : (words : List (Bor (List ℕ))) (place : ℕ) (taken rides : List Ride) (after : Option Walk)
     → ((r : Ride) (behind : List (List ℕ)) → IsSoundRide r → texts_of (there words place) ≡ ride_words_of r ++ behind → None ≡ Some r)
     → GoesOn words place taken → All IsSoundRide rides → texts_of words ≡ rest_words_of rides after
@@ -203,7 +203,7 @@ pub behind_four : (words : List (Bor (List ℕ))) (journey : Journey) → texts_
 unfolding journey_words_of
 behind_four words journey e = texts_behind words 4 ∙ ap (drop 4) e
 
--- ten words stand there
+-- ten words are there
 pub long_there : (words : List (Bor (List ℕ))) (place : ℕ) → place ≤ length words → 10 ≤ length (take (length words - place) (drop place words)) → place + 10 ≤ length words
 long_there words place within long = omega (arith, length-drop place words, length-take (length words - place) (drop place words))
 

@@ -5,7 +5,7 @@ use Rattle.std.proofs.lemmas.List.{take_more}
 use Rattle.lc_model.specs.Journey.{arrival_of_rides}
 use Rattle.lc_model.specs.declared.ride.Ride.{Ride}
 
--- a further piece stands behind what was appended before
+-- a further piece is after what was appended before
 pub appended : (start before after done next : List ℕ) → before ≡ start ++ done → after ≡ before ++ next → after ≡ start ++ (done ++ next)
 appended start before after done next was is = is ∙ ap (λ text. text ++ next) was ∙ append_assoc start done next
 

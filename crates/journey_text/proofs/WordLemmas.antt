@@ -28,7 +28,7 @@ IsLetter byte = is_blank byte ≡ false
 abbrev pub IsWord : List ℕ → Type 0
 IsWord text = All IsLetter text
 
--- what lies above the space is no blank
+-- what is above the space is no blank
 above_space : (byte : ℕ) → 33 ≤ byte → IsLetter byte
 above_space byte h = grind (arith, nat_tests)
 
@@ -38,7 +38,7 @@ letter byte text h is = All-cons IsLetter byte text (above_space byte h) is
 no_letter : IsWord []
 no_letter = All-nil IsLetter
 
--- each byte lies above the space
+-- each byte is above the space
 abbrev pub is_above : List ℕ → Bool
 is_above [] = true
 is_above (byte ∷ text) = nat_le 33 byte && is_above text
@@ -79,7 +79,7 @@ encoded_word (byte ∷ id) = All-append IsLetter (encoded_byte byte) (encoded id
 
 -- ---- dates, starts and moments
 
--- each byte lies above the space
+-- each byte is above the space
 abbrev AreAbove : List ℕ → Type 0
 AreAbove [] = Unit {0}
 AreAbove (byte ∷ text) = (33 ≤ byte) × AreAbove text
@@ -129,7 +129,7 @@ decimal_word n = digits_word 64 n [] no_letter
 
 -- ---- lines
 
--- words with a space between each two, a line feed behind the last, and more
+-- words with a space between each two, a line feed after the last, and more
 unfoldable pub spaced : List (List ℕ) → List ℕ → List ℕ
 spaced [] rest = rest
 spaced (word ∷ []) rest = word ++ 10 ∷ rest

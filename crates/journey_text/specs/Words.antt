@@ -16,7 +16,7 @@ use Rattle.journey_text.specs.declared.ride_words.RideWords.{RideWords}
 abbrev pub is_blank : ℕ → Bool
 is_blank byte = (byte == 32) || (byte == 10)
 
--- what stands between the blanks of a text
+-- what is between the blanks of a text
 abbrev pub words_of : List ℕ → List (List ℕ)
 words_of text = slice_split is_blank text
 
@@ -36,7 +36,7 @@ unfoldable pub walk_words_of : Option Walk → List (List ℕ)
 walk_words_of None = []
 walk_words_of (Some walk) = codes "walk" ∷ encoded walk.from ∷ encoded walk.to ∷ decimal walk.seconds ∷ []
 
--- the words of the lines of rides and of the walk behind them, and what stands behind the last line feed, which is nothing
+-- the words of the lines of rides and of the walk after them, and what comes after the last line feed, which is nothing
 abbrev pub rest_words_of : List Ride → Option Walk → List (List ℕ)
 rest_words_of rides after = flat_map ride_words_of rides ++ (walk_words_of after ++ [] ∷ [])
 

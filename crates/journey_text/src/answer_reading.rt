@@ -106,7 +106,7 @@ fn arriving(before: Option<Walk>, rides: Rides, after: Option<Walk>) -> Option<J
     }
 }
 
-/// The rides whose lines would begin these words, and the words behind them.
+/// The rides whose lines would begin these words, and the words after them.
 fn written_rides<'a, 'b>(
     alloc: Global,
     words: &'a [&'b [u8]],
@@ -204,7 +204,7 @@ fn key_of(alloc: Global, trip: &[u8], date: &[u8], start: &[u8]) -> Result<Optio
     }
 }
 
-/// The walk whose line would begin these words, or none, and the words behind it.
+/// The walk whose line would begin these words, or none, and the words after it.
 fn written_walk<'a, 'b>(
     alloc: Global,
     words: &'a [&'b [u8]],

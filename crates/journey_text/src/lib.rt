@@ -1,4 +1,4 @@
-//! The texts of answers, and the answers that texts are; it hands on scripts. It stands on `lc_model`, `lc_time`, `connection_uri` and
+//! The texts of answers, and the answers that texts are; it hands on scripts. It builds on `lc_model`, `lc_time`, `connection_uri` and
 //! `script_text`.
 #![tactic(auto)]
 

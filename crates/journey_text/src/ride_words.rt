@@ -9,7 +9,7 @@ use std::alloc::Global;
 /// How many words a ride's line has.
 pub(crate) const RIDE_WORDS: usize = 10;
 
-/// The words of a ride's line behind the first, which is `ride`.
+/// The words of a ride's line after the first, which is `ride`.
 #[derive(Clone, Copy)]
 pub(crate) struct RideWords<'a> {
     pub(crate) trip: &'a [u8],
@@ -32,7 +32,7 @@ pub(crate) struct RideTimes {
     pub(crate) arr: Moment,
 }
 
-/// What stands between the spaces and line feeds of a text. Linear in the text.
+/// What is between the spaces and line feeds of a text. Linear in the text.
 pub(crate) fn words_of_text<'a>(alloc: Global, text: &'a [u8]) -> Result<Vec<&'a [u8]>, NoMemory>
     ensures { IfOk result (λ words. texts_of words.items ≡ words_of text.entry.now) }
 {

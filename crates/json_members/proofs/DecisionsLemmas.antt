@@ -84,7 +84,7 @@ Readable {X} write = (text : List ℕ) → Dec ((x : X) × (text ≡ write x))
 pub numbers : (write : ℕ → List ℕ) (bound : ℕ) → Readable (λ (n : (k : ℕ) × (k < bound)). write n.0)
 numbers write bound text = turn (λ h. ((h.0, h.1), h.2)) (λ h. (h.0.0, h.0.1, h.1)) (below (λ k. text ≡ write k) (λ k. same_text text (write k)) bound)
 
--- what stands behind a front
+-- what comes after a front
 pub behind : {X : Type 0} (front : List ℕ) (write : X → List ℕ) → Readable write → Readable (λ (x : X). front ++ write x)
 behind front write read text =
     turn

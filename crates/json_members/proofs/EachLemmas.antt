@@ -7,12 +7,12 @@ use Rattle.serde_json.specs.declared.value.Value.{Value}
 use Rattle.json_members.specs.Reading.{Reading, each_in}
 use Rattle.json_members.specs.declared.fault.PageFault.{PageFault}
 
--- more items behind those that are read
+-- more items after those that are read
 abbrev pub with_front : {X : Type 0} → List X → Result (List X) PageFault → Result (List X) PageFault
 with_front done (Ok rest) = Ok (done ++ rest)
 with_front done (Err fault) = Err fault
 
--- up to this place these items are read: what is read of the rest goes behind them
+-- up to this place these items are read: what is read of the rest goes after them
 abbrev pub AreReadTo : {X : Type 0} → (Data → Reading X) → List Value → ℕ → List X → Type 0
 AreReadTo {X} inner values place done =
     (rest : Result (List X) PageFault) → each_in inner (items_view (drop place values)) rest → each_in inner (items_view values) (with_front done rest)

@@ -1,4 +1,4 @@
--- What is written of a value with whole numbers and rising keys is read as that value.
+-- What is written of a value with whole numbers and increasing keys is read as that value.
 use Rattle.std.proofs.Common.{◌≡◌, ℕ, suc, ◌^◌, ◌<◌, ◌≤◌, pos, negsuc, List, [], Bool, true, ◌&&◌, max, Some, option_map, option_and_then, refl, sym, ap, ap₂, ◌∙◌, arith, append-nil}
 use Rattle.std.proofs.lemmas.Bool.{and_parts}
 use Rattle.std.specs.Cmp.Lexicographic.{slice_cmp}
@@ -17,12 +17,12 @@ use Rattle.serde_json.specs.Written.{compact_text, items_outline, members_outlin
 use Rattle.serde_json.proofs.Numbers.{number_of-decimal, number_of-negative}
 use Rattle.serde_json.proofs.Texts.{print-outline}
 
--- a member behind all others
+-- a member after all others
 abbrev pub behind : Members → List ℕ → Data → Members
 behind no_members k d = member k d no_members
 behind (member l e ms) k d = member l e (behind ms k d)
 
--- members behind others
+-- members after others
 abbrev pub both : Members → Members → Members
 both no_members ms = ms
 both (member l e done) ms = member l e (both done ms)

@@ -40,7 +40,7 @@ pub meets_last : {X : Type 0} (last whole : Reading X) (result : Result X PageFa
 meets_last last whole (Ok x) then' h = then' (Ok x) h
 meets_last last whole (Err fault) then' h = λ other. then' (Err fault) (h other)
 
--- the same, where what was read is not the result itself
+-- a fault that is handed on, where what was read is not the result itself
 pub err_handed_on : {X : Type 0} (P : PageFault → Type 0) (result : Result X PageFault) (fault : PageFault) → IsErrAnd result (λ y. y ≡ fault) → (fault ≢ NoMemory → P fault) → IfErr result (λ y. y ≢ NoMemory → P y)
 err_handed_on P (Ok x) fault is h = absurd is
 err_handed_on P (Err y) fault is h = λ other. subst P (sym is) (h (λ e. other (is ∙ e)))

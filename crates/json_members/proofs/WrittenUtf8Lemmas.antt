@@ -10,7 +10,7 @@ use Rattle.serde_json.specs.View.{items_of}
 use Rattle.serde_json.specs.Written.{comma_if, compact_text, items_text, members_text}
 use Rattle.json_members.specs.MemberWriting.{text_at}
 
--- ---- texts one behind the other
+-- ---- texts one after the other
 
 -- the bytes are UTF-8
 pub record Text (bytes : List ℕ) : Type 0 where
@@ -41,7 +41,7 @@ in_quotes bytes h = record { utf8 = IsUtf8-quoted bytes h.utf8 }
 pub record Tree (d : Data) : Type 0 where
   pub text : Text (compact_text d)
 
--- and that of members and of items, whatever stands before them
+-- the text of members and of items is UTF-8, whatever comes before them
 pub record Fields (ms : Members) : Type 0 where
   pub text : (later : Bool) → Text (members_text later ms)
 

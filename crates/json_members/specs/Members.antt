@@ -24,7 +24,7 @@ text_of key tree = needed as_str key (get key tree)
 abbrev pub list_of : List ℕ → Data → Result Items PageFault
 list_of key tree = needed as_array key (get key tree)
 
--- the tree is an object; else what it stands under is bad
+-- the tree is an object; else what it is under is bad
 abbrev pub object_under : List ℕ → Data → Result Members PageFault
 object_under name tree = formed name (as_object tree)
 
@@ -36,7 +36,7 @@ said_at Says key tree = after (text_of key tree) (what_is_said Says key)
 abbrev pub said_in : {X : Type 0} → (List ℕ → X → Type 0) → List ℕ → Data → Reading X
 said_in Says key d = after (formed key (as_str d)) (what_is_said Says key)
 
--- the same of a member that may be missing
+-- what the text of a member says, which may be missing
 abbrev pub said_if : {X : Type 0} → (List ℕ → X → Type 0) → List ℕ → Option Data → Reading (Option X)
 said_if Says key None = gives None
 said_if Says key (Some d) = do

@@ -1,5 +1,5 @@
-//! Members of JSON objects as they are read, step by step: lists, texts, ids, numbers and moments, or the first fault; and
-//! texts, numbers and moments as they are written. It stands on `lc_model`, on `lc_time`, on `json` and on `serde_json`.
+//! Members of JSON objects as they are read, step by step: lists, texts, ids, numbers and moments, or the first fault.
+//! Texts, numbers and moments as they are written. It builds on `lc_model`, on `lc_time`, on `json` and on `serde_json`.
 #![tactic(auto)]
 
 mod fault;

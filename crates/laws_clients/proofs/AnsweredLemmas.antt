@@ -115,7 +115,7 @@ module _ (live : List Run) (list : List Connection) (first : CutPage) (rest : Li
             subst P same ((same_best list first rest query doc pages forward found.0 found.1 until.left over.best over.last parts over.is_last over.by_last).0 over.is_best))
       ]
 
-  -- the journey of which a client knows behind what it took is the answer
+  -- the journey of which a client knows after what it took is the answer
   pub is_answer : (taken : List CutPage) (journey : Option Journey) → IsTakenUntilOver query doc (pages_on first rest query) taken → IsBestChain query doc (connections_along taken) journey →
       IsAnswer (IsRideAt live) query doc (answer_of journey)
   is_answer taken journey until best =

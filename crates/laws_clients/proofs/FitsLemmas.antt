@@ -18,7 +18,7 @@ use Rattle.publisher_spec.specs.Response.{IsPageOf}
 use Rattle.publisher_spec.specs.Side.{IsLater, IsValidSide, Side, has_version}
 use Rattle.publisher_spec.proofs.LaterLemmas.{timetables_stay, with_more}
 use Rattle.publisher_spec.proofs.VersionLemmas.{still_found}
-use Rattle.laws_clients.specs.Fits.{FitsAt, FitsSide, HasAnswered, HasEnded, HasFailed, IsDenied, IsOfSide, IsSentOn, IsUnderWay}
+use Rattle.laws_clients.specs.Fits.{FitsAt, FitsSide, HasAnswered, HasEnded, HasFailed, IsDenied, IsOfSide, IsSentOn, WaitsForPage}
 use Rattle.laws_clients.specs.Laws.{FitsStays, OwnPagesStay}
 use Rattle.laws_clients.proofs.AnsweredLemmas.{answers_stay, needed_stays}
 use Rattle.laws_clients.proofs.PublishedLemmas.{published_stays}
@@ -87,7 +87,7 @@ module _ (side : Side) (more : List Entry) (valid : IsValidSide (with_more side 
       sound = is.sound;
     }
 
-    under_way_stays : (name : PageName) → IsUnderWay side client wanted name → IsUnderWay (with_more side more) client wanted name
+    under_way_stays : (name : PageName) → WaitsForPage side client wanted name → WaitsForPage (with_more side more) client wanted name
     under_way_stays name is = record {
       accepted = is.accepted;
       at_version = is.at_version;

@@ -4,5 +4,5 @@ pub mod LinkLemmas
 pub mod OwnPageLemmas
 pub mod PublishedLemmas
 pub mod StepLemmas
-pub mod UnderWayLemmas
+pub mod WaitsForPageLemmas
 pub mod WantsLemmas

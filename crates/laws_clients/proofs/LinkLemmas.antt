@@ -58,7 +58,7 @@ module _ (side : Side) (version : ℕ) (valid : IsValidSide side) (published : P
     are = is.are_pages;
   }
 
-  -- the pages are these before one, that one, and these behind it
+  -- the pages are these before one, that one, and these after it
   abbrev Parts : List CutPage → CutPage → List CutPage → Type 0
   Parts before p behind = published.first ∷ published.rest ≡ before ++ p ∷ behind
 
@@ -119,7 +119,7 @@ module _ (side : Side) (version : ℕ) (valid : IsValidSide side) (published : P
   next_have_the_rest before p behind more parts are =
       ap (λ (l : List Page). connections_on (page_as p ∷ l)) (sym (only_along before p behind more parts are)) ∙ on_pages (p ∷ behind) ∙ suffix before p behind parts
 
-  -- the pages before one, from behind: the nearest one is the last
+  -- the pages before one, in reverse: the nearest one is the last
   nearer : (before : List CutPage) (p q : CutPage) (behind : List CutPage) → Parts (before ++ q ∷ []) p behind → Parts before q (p ∷ behind)
   nearer before p q behind parts = parts ∙ append_assoc before (q ∷ []) (p ∷ behind)
 
@@ -166,7 +166,7 @@ module _ (side : Side) (version : ℕ) (valid : IsValidSide side) (published : P
       ap (λ (l : List Page). connections_on (reverse l)) (sym same) ∙ ap connections_on (reverse_pages (reverse before)) ∙ on_pages (reverse (reverse before))
       ∙ ap connections_along (reverse-reverse before) ∙ front before p behind parts
 
--- a page of a side stands among those that are published
+-- a page of a side is among those that are published
 pub record StandsAmong (side : Side) (version : ℕ) (page : Page) : Type 0 where
   pub published : Published
   pub is_published : IsPublished side version published

@@ -1,4 +1,4 @@
--- The pages of a side between their neighbours, and the one to which its gate sends.
+-- The pages of a side between their neighbours, and the one to which its time gate sends.
 use Rattle.std.proofs.Common.{◌≡◌, ℕ, ◌<◌, ◌≤◌, inl, inr, List, [], ◌∷◌, ◌++◌, Bool, false, Option, Some, None, refl, ap, sym, subst, ◌∙◌, arith}
 use Rattle.std.specs.Prelude.{◌⊎◌, ◌||◌, option_map, reverse, if◌then◌else◌}
 use Rattle.std.specs.List.{Contains, last_or}
@@ -70,7 +70,7 @@ module _ (side : Side) (version : ℕ) (published : Published) (valid : IsValidS
   linked_there : linked version (side.cuts_of (departures_of published.list)) p ≡ between version before p behind
   linked_there = linked_between version published.list published.first published.rest before p behind (pages_by_cuts side version published valid is_published) parts
 
-  -- and so it stands between its neighbours
+  -- the side's own page is between its neighbours
   pub own_is_between : (page : Page) → IsPageOf side version p.departs page → page ≡ between version before p behind
   own_is_between page is =
       page_is side version p.departs published page is_published is ∙ ap (linked version (side.cuts_of (departures_of published.list))) found ∙ linked_there
@@ -97,7 +97,7 @@ all_parts first rest query before page behind parts =
     ∙ ap (λ on. reverse (along_previous first rest query.leave) ++ on) parts
     ∙ sym (append_assoc (reverse (along_previous first rest query.leave)) before (page ∷ behind))
 
--- the page behind the one for a moment is named after the moment
+-- the page after the one for a moment is named after the moment
 next_is_later : (first : CutPage) (rest : List CutPage) (moment : ℕ) (page next : CutPage) (more : List CutPage) → along_next first rest moment ≡ page ∷ next ∷ more → moment < next.departs
 next_is_later first [] moment page next more is = let nothing : [] ≡ next ∷ more = cc in absurd (cc)
 next_is_later first (q ∷ rest) moment page next more is =
@@ -123,7 +123,7 @@ by_moment first (q ∷ rest) moment page more early is =
           subst (λ (n : CutPage). n.departs ≤ moment) same early)
     ]
 
--- the page for a moment is named by it, or no page stands before it
+-- the page for a moment is named by it, or no page is before it
 by_moment_or_first : (first : CutPage) (rest : List CutPage) (moment : ℕ) (page : CutPage) (more : List CutPage) → along_next first rest moment ≡ page ∷ more →
     (page.departs ≤ moment) ⊎ (along_previous first rest moment ≡ [])
 by_moment_or_first first [] moment page more is = inr refl
@@ -133,7 +133,7 @@ by_moment_or_first first (q ∷ rest) moment page more is =
       | inr later ↦ inr (previous_stays first q rest moment later.0)
     ]
 
--- what stands on the page for a moment begins with its name, or nothing stands on it
+-- what is on the page for a moment begins with its name, or nothing is on it
 begins_or_empty : (list : List Connection) (first : CutPage) (rest : List CutPage) (query : Query) (page : CutPage) (more : List CutPage) → ArePagesOf list first rest → pages_on first rest query ≡ page ∷ more →
     (page.connections ≡ []) ⊎ (first_of (departures_of page.connections) ≡ Some page.departs)
 begins_or_empty list first rest query page more pages is =
@@ -189,7 +189,7 @@ no_wrong_gate : (page : Page) (leave : ℕ) (gate : Option (List ℕ)) → is_of
 no_wrong_gate page leave None right = refl
 no_wrong_gate page leave (Some reply) right = ap (λ (off : Bool). if off then Some (PeerWrong reply (GateWrong page)) else None) right
 
--- the gate is right to send to it
+-- the time gate is right to send to it
 pub gate_is_right : (list : List Connection) (first : CutPage) (rest : List CutPage) (query : Query) (version : ℕ) (page : CutPage) (behind : List CutPage) (sent : Page) (gate : Option (List ℕ)) → ArePagesOf list first rest →
     pages_on first rest query ≡ page ∷ behind → sent ≡ between version (reverse (along_previous first rest query.leave) ++ []) page behind → wrong_gate sent query.leave gate ≡ None
 gate_is_right list first rest query version page behind sent gate pages is same =

@@ -93,7 +93,7 @@ pages_are_among side version departs page is =
           ∙ ap (λ (pages : List CutPage). linked version (cuts made.published.list) (page_among pages departs)) made.is_published.are_pages;
     }
 
--- the news of a version are the same behind more messages
+-- the news of a version are the same after more messages
 same_news : (side : Side) (more : List Entry) (version : ℕ) → IsValidSide (with_more side more) → has_version side version ≡ true →
     news_at (date_in side.zone) (side.history ++ more) version ≡ news_at (date_in side.zone) side.history version
 same_news side more version valid there =

@@ -37,21 +37,21 @@ use Rattle.publisher_spec.specs.PageAt.{linked, named, page_among}
 use Rattle.publisher_spec.specs.Response.{IsPageOf}
 use Rattle.publisher_spec.specs.Short.{StandsUnder}
 use Rattle.publisher_spec.specs.Side.{IsValidSide, Side, has_version}
-use Rattle.laws_sides.specs.Recorded.{IsSentTo, IsRecordedTo, version_at}
-use Rattle.laws_sides.proofs.GateLemmas.{gate_is_recorded}
-use Rattle.laws_sides.proofs.PageLemmas.{page_is_recorded}
-use Rattle.laws_sides.proofs.StopsLemmas.{stops_are_recorded}
-use Rattle.laws_clients.specs.Fits.{FitsAt, FitsSide, HasEnded, HasFailed, IsAtGate, IsCutShort, IsOfSide, IsSentOn, IsUnderWay}
+use Rattle.laws_sides.specs.Stated.{IsSentTo, IsStatedTo, version_at}
+use Rattle.laws_sides.proofs.GateLemmas.{gate_is_stated}
+use Rattle.laws_sides.proofs.PageLemmas.{page_is_stated}
+use Rattle.laws_sides.proofs.StopsLemmas.{stops_are_stated}
+use Rattle.laws_clients.specs.Fits.{FitsAt, FitsSide, HasEnded, HasFailed, IsAtGate, IsCutShort, IsOfSide, IsSentOn, WaitsForPage}
 use Rattle.laws_clients.specs.Laws.{IsAmong}
 use Rattle.laws_clients.specs.Steps.{GateKeepsIt, GetsVersion, IsReplyTo, KeepsVersion, LinkFaultKeepsIt, PageIsOwn, PageKeepsIt, SaysOwnPage, SpentKeepsIt, StopsKeepIt}
 use Rattle.laws_clients.specs.Wants.{AreWants, HasEnds, IsItsVersion, wants_of}
 use Rattle.laws_clients.proofs.FitsLemmas.{has_own}
 use Rattle.laws_clients.proofs.OwnPageLemmas.{all_parts, found}
 use Rattle.laws_clients.proofs.PublishedLemmas.{is_lawful, pages_are_among}
-use Rattle.laws_clients.proofs.UnderWayLemmas.{ended_fits, takes_on}
+use Rattle.laws_clients.proofs.WaitsForPageLemmas.{ended_fits, takes_on}
 use Rattle.laws_clients.proofs.WantsLemmas.{wants_at}
 
--- who wants the gate waits for it
+-- who wants the time gate waits for it
 waits_at_gate : (phase : Phase) → want_of phase ≡ wants.Gate → phase ≡ phases.Gate
 waits_at_gate phases.Gate is = refl
 waits_at_gate (phases.Stops first) is = absurd (cc)
@@ -98,17 +98,17 @@ last_is_one p base (x ∷ later) = by_test (p x) refl (last_is_one p x later) (l
 has_meant : (side : Side) (known : Option ℕ) → has_version side (version_at side known) ≡ true
 has_meant side known = last_is_one (is_by known) side.base_moment (moments_of side.history)
 
--- the reply to what is asked for is recorded
-recorded_to : (side : Side) (query : Query) (want : Want) (reply : List ℕ) → IsReplyTo side side.base query want reply → IsRecordedTo side (target_of side.base query want) (known_at query want) reply
-recorded_to side query want reply is = record { request = is.request; asks = is.asks; replies = is.replies }
+-- the reply to what is asked for is the side's reply to its target
+stated_to : (side : Side) (query : Query) (want : Want) (reply : List ℕ) → IsReplyTo side side.base query want reply → IsStatedTo side (target_of side.base query want) (known_at query want) reply
+stated_to side query want reply is = record { request = is.request; asks = is.asks; replies = is.replies }
 
--- the gate's reply
+-- the time gate's reply
 module _ (side : Side) (old new : Client) (wanted : List Want) (reply : List ℕ) (said : Result PageName PeerFault) where
   gate_under : StandsUnder side.base side → IsAtGate (shown old) wanted → IsReplyTo side side.base (shown old).query wants.Gate reply → IsGateReply side.base (shown old).query.leave reply said →
       shown new ≡ after_gate reply said (shown old) → FitsSide side new (wanted ++ wants.Gate ∷ []) × GetsVersion side (shown old) (shown new)
   gate_under stands at_gate replies is_said is =
       let query = old.query in
-      let sent : IsSentTo side old.query reply = gate_is_recorded side old.query reply stands (recorded_to side old.query wants.Gate reply replies) in
+      let sent : IsSentTo side old.query reply = gate_is_stated side old.query reply stands (stated_to side old.query wants.Gate reply replies) in
       let version = version_at side old.query.known in
       let among : IsAmong side (version_at side old.query.known) old.query.leave sent.is_gate_page.page = pages_are_among side version query.leave sent.is_gate_page.page sent.is_gate_page.is_page in
       let departs = (page_for among.published.first among.published.rest query.leave).departs in
@@ -157,7 +157,7 @@ module _ (side : Side) (valid : IsValidSide side) (old new : Client) (wanted : L
       let same_version : new.version ≡ old.version = ap (λ (t : Shown). t.version) is in
       let phase : new.phase ≡ phases.Page first = ap (λ (t : Shown). t.phase) is ∙ ap behind_stops waits in
       let on = is_where_next_begins p.list p.first p.rest old.query.leave (is_lawful side first.version p valid s.is_published).pages in
-      let there : IsUnderWay side new (wanted ++ wants.Stops ∷ []) first = record {
+      let there : WaitsForPage side new (wanted ++ wants.Stops ∷ []) first = record {
         accepted = subst (λ (q : Query). IsRefusal q None) (sym same_query) s.accepted;
         at_version = same_version ∙ s.at_version;
         no_outcome = ap (λ (t : Shown). t.outcome) is ∙ s.no_outcome;
@@ -199,14 +199,14 @@ stops_keep_it side base old new wanted reply said stands fits wants_stops replie
     let phase = waits_for_stops old.phase wants_stops in
     let sent : IsSentOn side (shown old) wanted phase.0 = subst (FitsAt side old wanted) phase.1 fits.fits in
     let P : BaseParts → Type 0 = λ b. StandsUnder b side → IsReplyTo side b (shown old).query wants.Stops reply → IsStopsReply reply (Ok side.doc) in
-    let under : P side.base = λ s r. stops_are_recorded side reply s (recorded_to side old.query wants.Stops reply r) in
+    let under : P side.base = λ s r. stops_are_stated side reply s (stated_to side old.query wants.Stops reply r) in
     let is : IsStopsReply reply (Ok side.doc) = subst P stands.is_base under stands replies in
     let same : said ≡ Ok side.doc = one_stops_reply reply said (Ok side.doc) is_said is in
     let doc : AfterDoc old side.doc new = subst (λ (r : Result StopsDoc PeerFault). AfterStops old reply r new) same after in
     by_doc side stands.valid old new wanted phase.0 fits.of_side sent phase.1 doc
 
 -- a page's reply
-module _ (side : Side) (client : Client) (wanted : List Want) (name : PageName) (reply : List ℕ) (said : Result Page PeerFault) (own : IsOfSide side client.version) (u : IsUnderWay side client wanted name) where
+module _ (side : Side) (client : Client) (wanted : List Want) (name : PageName) (reply : List ℕ) (said : Result Page PeerFault) (own : IsOfSide side client.version) (u : WaitsForPage side client wanted name) where
   cuts : List ℕ
   cuts = side.cuts_of (departures_of u.published.list)
 
@@ -225,21 +225,21 @@ module _ (side : Side) (client : Client) (wanted : List Want) (name : PageName) 
             sym (ap (λ (pages : List CutPage). linked name.version by (page_among pages u.page.departs)) u.is_published.are_pages
             ∙ ap (linked name.version by) (found side name.version p stands.valid u.is_published _ u.page u.behind parts));
       } in
-      let is_recorded = page_is_recorded side page reply stands has (subst IsSoundName u.is_page u.sound) is_page (subst (λ (n : PageName). IsRecordedTo side (page_target_of side.base n) None reply) u.is_page (recorded_to side client.query (wants.Page name) reply replies)) in
+      let is_recorded = page_is_stated side page reply stands has (subst IsSoundName u.is_page u.sound) is_page (subst (λ (n : PageName). IsStatedTo side (page_target_of side.base n) None reply) u.is_page (stated_to side client.query (wants.Page name) reply replies)) in
       let same : said ≡ Ok page =
       one_page_reply side.base (named name.version u.page.departs) reply said (Ok page) (subst (λ (n : PageName). IsPageReply side.base n reply said) u.is_page is_said) is_recorded.0 in
       subst (SaysOwnPage side name) (sym same) (sym u.is_page, record { has = has; is_page = is_page; sound = is_recorded.1 })
 
 pub page_is_own : PageIsOwn
 page_is_own side base client wanted name reply said stands fits wants_page replies is_said =
-    let u : IsUnderWay side client wanted name = subst (FitsAt side client wanted) (waits_for client.phase name wants_page) fits.fits in
+    let u : WaitsForPage side client wanted name = subst (FitsAt side client wanted) (waits_for client.phase name wants_page) fits.fits in
     let P : BaseParts → Type 0 = λ b. StandsUnder b side → IsReplyTo side b (shown client).query (wants.Page name) reply → IsPageReply b name reply said → SaysOwnPage side name said in
     let under : P side.base = page_under side client wanted name reply said fits.of_side u in
     subst P stands.is_base under stands replies is_said
 
 pub page_keeps_it : PageKeepsIt
 page_keeps_it side old new wanted page valid fits wants_page is_own takes =
-    let u : IsUnderWay side old wanted page.name = subst (FitsAt side old wanted) (waits_for old.phase page.name wants_page) fits.fits in
+    let u : WaitsForPage side old wanted page.name = subst (FitsAt side old wanted) (waits_for old.phase page.name wants_page) fits.fits in
     takes_on side valid old new wanted page fits.of_side u is_own takes
 
 -- who waits has no outcome
@@ -260,7 +260,7 @@ spent_keeps_it side old new wanted fits waits is =
 something_given : (wanted rest : List Want) (want : Want) → wanted ≡ want ∷ rest → wanted ≢ []
 something_given wanted rest want given nothing = cc
 
--- behind the gate a client whose exchange fails is cut short
+-- after the time gate a client whose exchange fails is cut short
 cut_short : (side : Side) (old : Client) (wanted rest : List Want) (first : Want) (version : ℕ) (phase : Phase) → IsValidSide side → IsOfSide side old.version → FitsAt side old wanted phase →
     (want_of phase ≡ wants.Finished → ⊥) → old.version ≡ Some version → wanted ≡ first ∷ rest → HasFailed side (shown old) wanted old.version
 cut_short side old wanted rest first version phase valid own fits waits at given =

@@ -1,4 +1,4 @@
--- The wants of a client are one list, stay, and are what it was given.
+-- The wants of a client are one list, stay, and are what it received.
 use Rattle.std.proofs.Common.{◌≡◌, ℕ, inl, inr, List, [], ◌∷◌, ◌++◌, Bool, false, cond, Option, Some, None, refl, ap, sym, subst, ◌∙◌, ◌+◌, length, arith}
 use Rattle.std.specs.Prelude.{map}
 use Rattle.std.proofs.lemmas.Bool.{false_from_ne_true}
@@ -27,7 +27,7 @@ use Rattle.page_client.specs.declared.want.Want.TheVariants as wants
 use Rattle.publisher_spec.specs.PageAt.{named}
 use Rattle.publisher_spec.specs.Side.{IsValidSide, Side}
 use Rattle.laws_clients.specs.Answered.{NeededAt, names_at}
-use Rattle.laws_clients.specs.Fits.{FitsAt, HasAnswered, HasEnded, IsDenied, IsUnderWay}
+use Rattle.laws_clients.specs.Fits.{FitsAt, HasAnswered, HasEnded, IsDenied, WaitsForPage}
 use Rattle.laws_clients.specs.Laws.{OneListOfWants, WantsStay}
 use Rattle.laws_clients.specs.Published.{Published}
 use Rattle.laws_clients.specs.Steps.{EndsWithAnAnswer, EndsWithItsWants, FaultsCutShort, NoReplyFailsATest, RefusalsAreDeserved, TwoAndThePages, WantsTheNext}
@@ -69,7 +69,7 @@ wants_stay query wanted before after version valid later there =
       over_to after before version query wanted (sym same) (λ names. (needed_stays query names before after version valid later there).1),
     )
 
--- of pages that do not reach a bound all are taken up to it, and the page behind them
+-- of pages that do not reach a bound all are taken up to it, and the page after them
 passes : (bound : ℕ) (before : List CutPage) (page : CutPage) (behind : List CutPage) →
     ((front : List CutPage) (taken : CutPage) (more : List CutPage) → before ≡ front ++ taken ∷ more → is_last_by bound taken ≡ false) →
     (more : List CutPage) × (up_to_bound bound (before ++ page ∷ behind) ≡ before ++ page ∷ more)
@@ -80,7 +80,7 @@ passes bound (b ∷ before) page behind goes_on =
     (onward.0, ap (λ (r : Bool). b ∷ cond r [] (up_to_bound bound (before ++ page ∷ behind))) here ∙ ap (λ l. b ∷ l) onward.1)
 
 -- what a client that is under way wants is the next needed page
-module _ (side : Side) (valid : IsValidSide side) (client : Client) (wanted : List Want) (name : PageName) (u : IsUnderWay side client wanted name) (names : List PageName) (n : NeededAt side name.version client.query names) where
+module _ (side : Side) (valid : IsValidSide side) (client : Client) (wanted : List Want) (name : PageName) (u : WaitsForPage side client wanted name) (names : List PageName) (n : NeededAt side name.version client.query names) where
   there : AreNeeded (IsRideAt u.published.live) client.query side.doc u.published.first u.published.rest n.needed
   there =
       subst (λ (p : Published). AreNeeded (IsRideAt p.live) client.query side.doc p.first p.rest n.needed)
@@ -128,7 +128,7 @@ first_two side version query all (inr (inr x)) accepted = (map wants.Page x.name
 same_version : (own : Option ℕ) (name version : ℕ) → own ≡ Some name → IsItsVersion own version → name ≡ version
 same_version own name version e is = subst (λ (o : Option ℕ). IsItsVersion o version) e is
 
-pages_next : (side : Side) (client : Client) (wanted all : List Want) (name : PageName) → IsValidSide side → IsUnderWay side client wanted name → AreWants side name.version client.query all →
+pages_next : (side : Side) (client : Client) (wanted all : List Want) (name : PageName) → IsValidSide side → WaitsForPage side client wanted name → AreWants side name.version client.query all →
     (more : List Want) × (all ≡ wanted ++ wants.Page name ∷ more)
 pages_next side client wanted all name valid u (inl x) = absurd (refused_or_not client.query x.fault x.is_refusal u.accepted)
 pages_next side client wanted all name valid u (inr (inl x)) = absurd (x.lacks u.ends)
@@ -201,7 +201,7 @@ wants_given side client wanted version phases.Finished fits is no_fault = ended_
 pub ends_with_its_wants : EndsWithItsWants
 ends_with_its_wants side client wanted version fits is no_fault = wants_given side client wanted version client.phase fits.fits is no_fault
 
--- the gate, the stops document and the pages
+-- the time gate, the stops document and the pages
 two_more : (names : List PageName) → length (wants_of names) ≡ length names + 2
 two_more names = omega (arith, length-map names wants.Page)
 

@@ -31,14 +31,14 @@ abbrev pub IsOfSide : Side → Option ℕ → Type 0
 IsOfSide side None = Unit {0}
 IsOfSide side (Some version) = has_version side version ≡ true
 
--- it waits for the gate: its question is not refused, and it was given nothing
+-- it waits for the time gate: its question is not refused, and it received nothing
 pub record IsAtGate (s : Shown) (wanted : List Want) : Type 0 where
   pub accepted : IsRefusal s.query None
   pub no_version : s.version ≡ None
   pub no_outcome : s.outcome ≡ None
   pub given : wanted ≡ []
 
--- it waits for the stops document, and the page behind it is the one for the moment at which the question leaves, at its version
+-- it waits for the stops document, and the page after it is the one for the moment at which the question leaves, at its version
 pub record IsSentOn (side : Side) (s : Shown) (wanted : List Want) (name : PageName) : Type 0 where
   pub accepted : IsRefusal s.query None
   pub at_version : s.version ≡ Some name.version
@@ -49,9 +49,9 @@ pub record IsSentOn (side : Side) (s : Shown) (wanted : List Want) (name : PageN
   pub is_page : name ≡ named name.version (page_for published.first published.rest s.query.leave).departs
   pub sound : IsSoundName name
 
--- It waits for a page: it took the stops document of the side and all pages before that one, from the page on that is for the moment at
--- which the question leaves, and was not over after any of them.
-pub record IsUnderWay (side : Side) (client : Client) (wanted : List Want) (name : PageName) : Type 0 where
+-- It waits for a page. It took the stops document of the side and the pages before that one. They begin with the page for the moment at
+-- which the question leaves. It was not over after any of them.
+pub record WaitsForPage (side : Side) (client : Client) (wanted : List Want) (name : PageName) : Type 0 where
   pub accepted : IsRefusal client.query None
   pub at_version : client.version ≡ Some name.version
   pub no_outcome : client.outcome ≡ None
@@ -106,18 +106,18 @@ IsDenied side s wanted SameStop = IsDeniedAtOnce s wanted SameStop
 IsDenied side s wanted UnknownFrom = LacksFrom side s wanted
 IsDenied side s wanted UnknownTo = LacksTo side s wanted
 
--- A link failed behind the gate: what it was given stands before what it asked then, and all that in front of its wants.
+-- A link failed after the time gate: its wants are what it received, then what it asked for in vain, and then others.
 pub record IsCutShort (side : Side) (s : Shown) (wanted : List Want) (version : ℕ) : Type 0 where
   pub of_side : has_version side version ≡ true
   pub past_gate : wanted ≢ []
   pub goes_on : (all : List Want) → AreWants side version s.query all → (asked : Want) × (more : List Want) × (all ≡ wanted ++ asked ∷ more)
 
--- a link failed: at the gate, and it has no version, or behind it
+-- a link failed: at the time gate, and it has no version, or after it
 abbrev pub HasFailed : Side → Shown → List Want → Option ℕ → Type 0
 HasFailed side s wanted None = IsRefusal s.query None × (wanted ≡ [])
 HasFailed side s wanted (Some version) = IsCutShort side s wanted version
 
--- how it ended: with an answer, or refused, or by a fault of the link, or without memory; and never by a reply that fails a test
+-- How it ended: with an answer, or refused, or by a fault of the link, or out of memory. It never ended by a reply that fails a test.
 abbrev pub HasEnded : Side → Shown → List Want → Option Outcome → Type 0
 HasEnded side s wanted None = Unit {0}
 HasEnded side s wanted (Some (outcomes.Found journey)) = HasAnswered side s wanted (answers.Journey journey)
@@ -126,15 +126,15 @@ HasEnded side s wanted (Some (outcomes.Refused fault)) = IsDenied side s wanted 
 HasEnded side s wanted (Some (outcomes.LinkFault before after)) = HasFailed side s wanted s.version
 HasEnded side s wanted (Some (outcomes.PeerWrong reply fault)) = ⊥
 
--- where it stands
+-- what holds in each phase
 abbrev pub FitsAt : Side → Client → List Want → Phase → Type 0
 FitsAt side client wanted phases.Gate = IsAtGate (shown client) wanted
 FitsAt side client wanted (phases.Stops first) = IsSentOn side (shown client) wanted first
-FitsAt side client wanted (phases.Page name) = IsUnderWay side client wanted name
+FitsAt side client wanted (phases.Page name) = WaitsForPage side client wanted name
 FitsAt side client wanted phases.Finished = HasEnded side (shown client) wanted client.outcome
 
--- The client agrees with the side, and was given what it wanted so far: its version is one of the side, and where it stands it
--- stands by the side's documents.
+-- The client agrees with the side, and received what it wanted up to now. Its version is one of the side, and in its phase it
+-- agrees with the side's documents.
 pub record FitsSide (side : Side) (client : Client) (wanted : List Want) : Type 0 where
   pub of_side : IsOfSide side client.version
   pub fits : FitsAt side client wanted client.phase

@@ -43,8 +43,8 @@ pub record IsAmong (side : Side) (version departs : ℕ) (page : Page) : Type 0 
 abbrev pub PagesAreAmong : Type 0
 PagesAreAmong = (side : Side) (version departs : ℕ) (page : Page) → IsPageOf side version departs page → IsAmong side version departs page
 
--- The page that is sent for a moment is the one for it of what is published. Its next link leads to the page behind it along the links to the
--- next one, and its previous link to the nearest one along those to the previous one; it lacks one where there is no such page.
+-- The page that is sent for a moment is the one for it of what is published. Its next link leads to the page after it along the next
+-- links, and its previous link to the nearest one along the previous links. It lacks one where there is no such page.
 pub record LinksToNeighbours (version moment : ℕ) (published : Published) (page : Page) : Type 0 where
   pub behind : List CutPage
   pub along : along_next published.first published.rest moment ≡ page_for published.first published.rest moment ∷ behind
@@ -67,7 +67,7 @@ abbrev pub OneListOfNeededAt : Type 0
 OneListOfNeededAt =
     (side : Side) (version : ℕ) (query : Query) (a b : List PageName) → NeededAt side version query a → NeededAt side version query b → a ≡ b
 
--- and so are the wants
+-- the wants are one list
 abbrev pub OneListOfWants : Type 0
 OneListOfWants =
     (side : Side) (version : ℕ) (query : Query) (a b : List Want) → AreWants side version query a → AreWants side version query b → a ≡ b

@@ -1,5 +1,5 @@
--- The links of published pages: along those to the next page, by their names, are all connections from the page on, and along those to the
--- previous one all before it (Linked Connections 1.0).
+-- The links of published pages. Along those to the next page, by their names, are all connections from the page on. Along those to the
+-- previous one are all before it (Linked Connections 1.0).
 use Rattle.std.specs.Prelude.{◌≡◌, ◌⊎◌, ℕ, List, [], ◌∷◌, reverse, Some, None}
 use Rattle.std.specs.List.{flat_map}
 use Rattle.lc_model.specs.declared.connection.Connection.{Connection}
@@ -9,7 +9,7 @@ use Rattle.page_json.specs.declared.page.Page.{Page}
 use Rattle.publisher_spec.specs.Response.{IsPageOf}
 use Rattle.publisher_spec.specs.Side.{IsTimetableAt, IsValidSide, Side}
 
--- Behind a page of the side are these, one after the other: each is the page of the side that the link to the next one names, and the last
+-- After a page of the side come these, one after the other. Each is the page of the side that the link to the next one names. The last
 -- one has no such link.
 abbrev pub AreAlongNext : Side → Page → List Page → Type 0
 AreAlongNext side page [] = page.next ≡ None
@@ -39,17 +39,17 @@ NextLinksHaveTheRest =
     (side : Side) (version : ℕ) (list : List Connection) (page : Page) (more : List Page) → IsPageAt side version list page → AreAlongNext side page more
     → connections_on (page ∷ more) ≡ departing page.name.departs None list
 
--- along those to the previous one is, from behind, all that departs before
+-- along the links to the previous one, in reverse, is all that departs before
 abbrev pub PreviousLinksHaveTheFront : Type 0
 PreviousLinksHaveTheFront =
     (side : Side) (version : ℕ) (list : List Connection) (page : Page) (more : List Page) → IsPageAt side version list page → AreAlongPrevious side page more
     → connections_on (reverse more) ≡ departing 0 (Some page.name.departs) list
 
--- and the links come to an end
+-- the next links end
 abbrev pub NextLinksEnd : Type 0
 NextLinksEnd = (side : Side) (version : ℕ) (list : List Connection) (page : Page) → IsPageAt side version list page → (more : List Page) × AreAlongNext side page more
 
--- the links to the page before come to an end too
+-- the previous links end too
 abbrev pub PreviousLinksEnd : Type 0
 PreviousLinksEnd = (side : Side) (version : ℕ) (list : List Connection) (page : Page) → IsPageAt side version list page → (more : List Page) × AreAlongPrevious side page more
 

@@ -39,7 +39,7 @@ pub record IsOwnPage (side : Side) (page : Page) : Type 0 where
   pub is_page : IsPageOf side page.name.version page.name.departs page
   pub sound : IsSoundPage page
 
--- a page of a version as it is sent, between those before it and those behind it: linked to the last and to the first of these
+-- a page of a version as it is sent, between earlier and later ones: linked to the last and to the first of these
 abbrev pub between : ℕ → List CutPage → CutPage → List CutPage → Page
 between version before page behind = record {
   name = named version page.departs;

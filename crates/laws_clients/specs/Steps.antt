@@ -21,7 +21,7 @@ use Rattle.page_client.specs.declared.want.Want.TheVariants as wants
 use Rattle.publisher_spec.specs.Reply.{IsReply}
 use Rattle.publisher_spec.specs.Short.{StandsUnder}
 use Rattle.publisher_spec.specs.Side.{IsValidSide, Side}
-use Rattle.laws_sides.specs.Recorded.{version_at}
+use Rattle.laws_sides.specs.Stated.{version_at}
 use Rattle.laws_clients.specs.Answered.{NeededAt, answer_of}
 use Rattle.laws_clients.specs.Fits.{FitsSide, HasAnswered, HasFailed, IsDenied}
 use Rattle.laws_clients.specs.Published.{IsOwnPage}
@@ -52,7 +52,7 @@ pub record GetsVersion (side : Side) (old new : Shown) : Type 0 where
 abbrev pub BeginsInAgreement : Type 0
 BeginsInAgreement = (side : Side) (query : Query) (client : Client) → Begins query (shown client) → FitsSide side client []
 
--- behind the gate's reply it agrees with the side that gave it, and has the version that its question means there
+-- after the time gate's reply it agrees with the side that gave it, and has the version that its question means there
 abbrev pub GateKeepsIt : Type 0
 GateKeepsIt =
     (side : Side) (base : BaseParts) (old new : Client) (wanted : List Want) (reply : List ℕ) (said : Result PageName PeerFault) → StandsUnder base side
@@ -60,7 +60,7 @@ GateKeepsIt =
     → IsGateReply base (shown old).query.leave reply said → shown new ≡ after_gate reply said (shown old)
     → FitsSide side new (wanted ++ wants.Gate ∷ []) × GetsVersion side (shown old) (shown new)
 
--- behind the stops document it agrees with the side that sent it
+-- after the stops document it agrees with the side that sent it
 abbrev pub StopsKeepIt : Type 0
 StopsKeepIt =
     (side : Side) (base : BaseParts) (old new : Client) (wanted : List Want) (reply : List ℕ) (said : Result StopsDoc PeerFault) → StandsUnder base side
@@ -75,20 +75,20 @@ PageIsOwn =
     → IsReplyTo side base (shown client).query (wants.Page name) reply → IsPageReply base name reply said
     → SaysOwnPage side name said
 
--- behind a page of the side, whoever sent it, it agrees with the side
+-- after a page of the side, whoever sent it, it agrees with the side
 abbrev pub PageKeepsIt : Type 0
 PageKeepsIt =
     (side : Side) (old new : Client) (wanted : List Want) (page : Page) → IsValidSide side → FitsSide side old wanted
     → want_of (shown old).phase ≡ wants.Page page.name → IsOwnPage side page → TakesPage old page new
     → FitsSide side new (wanted ++ wants.Page page.name ∷ []) × KeepsVersion (shown old) (shown new)
 
--- a client without memory agrees with the side
+-- a client that ran out of memory agrees with the side
 abbrev pub SpentKeepsIt : Type 0
 SpentKeepsIt =
     (side : Side) (old new : Client) (wanted : List Want) → FitsSide side old wanted → (want_of (shown old).phase ≡ wants.Finished → ⊥)
     → shown new ≡ spent (shown old) → FitsSide side new wanted × KeepsVersion (shown old) (shown new)
 
--- and so does one whose exchange failed
+-- a client whose exchange failed agrees with the side
 abbrev pub LinkFaultKeepsIt : Type 0
 LinkFaultKeepsIt =
     (side : Side) (old new : Client) (wanted : List Want) (before after : ℕ) → IsValidSide side → FitsSide side old wanted
@@ -101,13 +101,13 @@ WantsTheNext =
     → IsItsVersion (shown client).version version → AreWants side version (shown client).query all → (want_of (shown client).phase ≡ wants.Finished → ⊥)
     → (more : List Want) × (all ≡ wanted ++ want_of (shown client).phase ∷ more)
 
--- a client that ended by no fault was given exactly its wants
+-- a client that ended by no fault received exactly its wants
 abbrev pub EndsWithItsWants : Type 0
 EndsWithItsWants =
     (side : Side) (client : Client) (wanted : List Want) (version : ℕ) → FitsSide side client wanted → IsItsVersion (shown client).version version
     → IsNoFault (shown client).outcome → AreWants side version (shown client).query wanted
 
--- with an answer these are two more than the needed pages: the gate and the stops document
+-- with an answer these are two more than the needed pages: the time gate and the stops document
 abbrev pub TwoAndThePages : Type 0
 TwoAndThePages =
     (side : Side) (client : Client) (wanted : List Want) (journey : Option Journey) (names : List PageName) (version : ℕ) → FitsSide side client wanted
@@ -126,7 +126,7 @@ RefusalsAreDeserved =
     (side : Side) (client : Client) (wanted : List Want) (fault : QueryFault) → FitsSide side client wanted
     → (shown client).outcome ≡ Some (Refused fault) → IsDenied side (shown client) wanted fault
 
--- who ended by a fault of the link had asked for a front of its wants, and has no version exactly where that was the gate alone
+-- Who ended by a fault of the link had asked for a front of its wants. It has no version exactly where that was the time gate alone.
 abbrev pub FaultsCutShort : Type 0
 FaultsCutShort =
     (side : Side) (client : Client) (wanted : List Want) (before after : ℕ) → FitsSide side client wanted

@@ -18,7 +18,7 @@ pub record HasEnds (doc : StopsDoc) (query : Query) : Type 0 where
   pub from : HasStop doc.stops query.from
   pub to : HasStop doc.stops query.to
 
--- the gate, the stops document, and then pages of these names
+-- the time gate, the stops document, and then pages of these names
 abbrev pub wants_of : List PageName → List Want
 wants_of names = wants.Gate ∷ wants.Stops ∷ map wants.Page names
 
@@ -42,8 +42,8 @@ pub record IsAnswered (side : Side) (version : ℕ) (query : Query) (wanted : Li
   pub are_needed : NeededAt side version query names
   pub are : wanted ≡ wants_of names
 
--- What a client of the question wants where its version is this one: nothing where the question is refused at once; the gate and the
--- stops document where this lacks an end of the question; else these two and then the needed pages.
+-- What a client of the question wants where its version is this one: nothing where the question is refused at once. It wants the time
+-- gate and the stops document where this lacks an end of the question. Else it wants these two and then the needed pages.
 abbrev pub AreWants : Side → ℕ → Query → List Want → Type 0
 AreWants side version query wanted = IsRefusedAtOnce query wanted ⊎ IsRefusedByStops side query wanted ⊎ IsAnswered side version query wanted
 

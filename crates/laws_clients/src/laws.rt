@@ -2,7 +2,7 @@ ghost use Rattle.laws_clients.specs.Laws.{AnswersStay, FitsStays, LinksLeadAlong
 ghost use Rattle.laws_clients.specs.Links.{NextLinksEnd, NextLinksHaveTheRest, PagesBeginAtTheirNames, PreviousLinksEnd, PreviousLinksHaveTheFront};
 
 /// One thing is published of a version: runs that go forward, their connections, and pages of these. The pages of a side are
-/// among them, and their links lead from each one to the next and to the one before it (Linked Connections 1.0; Hydra, `next` and `previous`).
+/// among them. Their links lead from each one to the next and to the one before it (Linked Connections 1.0; Hydra, `next` and `previous`).
 pub fn one_published()
     ensures published { OnePublished }
     ensures lawful { PublishedIsLawful }
@@ -17,8 +17,8 @@ pub fn one_answer()
     ensures wants { OneListOfWants }
 {}
 
-/// Messages that are admitted later change nothing of a version: what is published of it, its answers, the needed pages and the
-/// wants stay, and a client that agrees with a side agrees with each later one.
+/// Messages that are admitted later change nothing of a version. What is published of it, its answers, the needed pages and the
+/// wants stay. A client that agrees with a side agrees with each later one.
 pub fn versions_stay()
     ensures published { PublishedStays }
     ensures answers { AnswersStay }
@@ -28,7 +28,7 @@ pub fn versions_stay()
     ensures clients { FitsStays }
 {}
 
-/// Along the links of published pages, by their names, are all connections from a page on, and all before it, and they come to an end.
+/// Along the links of published pages, by their names, are all connections from a page on, and all before it, and the links end.
 pub fn links_lead_on()
     ensures next { NextLinksHaveTheRest }
     ensures previous { PreviousLinksHaveTheFront }

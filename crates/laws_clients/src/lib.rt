@@ -1,5 +1,5 @@
-//! When a client agrees with the publisher's side that it asks, as definitions with their laws: it ends with an answer by the timetable
-//! of its version, after exactly the needed pages. It stands on `page_client`, `laws_pages`, `publisher_spec` and `laws_sides`.
+//! When a client agrees with the publisher's side that it asks, as definitions with their laws. It ends with an answer by the timetable
+//! of its version, after exactly the needed pages. It builds on `page_client`, `laws_pages`, `publisher_spec` and `laws_sides`.
 #![tactic(auto)]
 
 mod laws;

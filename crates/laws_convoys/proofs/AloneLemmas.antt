@@ -23,9 +23,9 @@ use Rattle.page_client.proofs.PageLemmas.{waits_for}
 use Rattle.publisher_spec.specs.PageAt.{named}
 use Rattle.publisher_spec.specs.Side.{IsLater, IsValidSide, Side}
 use Rattle.publisher_spec.proofs.LaterLemmas.{with_more}
-use Rattle.laws_sides.specs.Recorded.{version_at}
+use Rattle.laws_sides.specs.Stated.{version_at}
 use Rattle.laws_clients.specs.Answered.{names_at}
-use Rattle.laws_clients.specs.Fits.{FitsAt, FitsSide, IsUnderWay}
+use Rattle.laws_clients.specs.Fits.{FitsAt, FitsSide, WaitsForPage}
 use Rattle.laws_clients.specs.Wants.{AreWants, IsItsVersion, wants_of}
 use Rattle.laws_clients.proofs.OwnPageLemmas.{all_parts, pages_by_cuts}
 use Rattle.laws_clients.proofs.WantsLemmas.{wants_the_next}
@@ -43,12 +43,12 @@ between_itself side at left first second same =
       no_more : (a b c more behind : List Entry) → b ≡ a ++ more → c ≡ b ++ behind → c ≡ a → length more ≡ 0
       no_more a b c more behind one two same = omega (arith, ap length one, ap length two, ap length same, length-append a more, length-append b behind)
 
--- what was given begins with the gate's reply, if anything was
+-- what was received begins with the time gate's reply, if anything was
 abbrev pub BeginsAtGate : List Want → Type 0
 BeginsAtGate [] = Unit {0}
 BeginsAtGate (want ∷ more) = want ≡ wants.Gate
 
--- who was given nothing and waits, waits for the gate
+-- who received nothing and waits, waits for the time gate
 pub waits_at_first : (side : Side) (client : Client) (given : List Want) (phase : Phase) → FitsAt side client given phase → (want_of phase ≡ wants.Finished → ⊥) → given ≡ [] → want_of phase ≡ wants.Gate
 waits_at_first side client given phases.Gate fits waits none = refl
 waits_at_first side client given (phases.Stops first) fits waits none = let some : given ≡ wants.Gate ∷ [] = fits.given in absurd (cc)
@@ -98,7 +98,7 @@ is_next side client query given valid fits same version waits = record {
       (subst (λ (q : Query). AreWants side (version_at side query.known) q all) (sym same) are) waits;
 }
 
--- of a list whose pairs are related, what stands before an item is related to it
+-- of a list whose pairs are related, what is before an item is related to it
 before_it : {X : Type 0} (R : X → X → Type 0) (front : List X) (x y : X) (behind : List X) → AllPairs R (front ++ y ∷ behind) → Contains front x → R x y
 before_it R [] x y behind pairs stands = absurd (Contains-nil x stands)
 before_it R (z ∷ front) x y behind pairs stands =
@@ -139,7 +139,7 @@ not_among names name not stands =
 pub page_not_given : (side : Side) (client : Client) (given : List Want) (name : PageName) → IsValidSide side → FitsSide side client given → want_of (shown client).phase ≡ wants.Page name →
     Contains given (wants.Page name) → ⊥
 page_not_given side client given name valid fits wants_it stands =
-    let u : IsUnderWay side client given name = subst (FitsAt side client given) (waits_for client.phase name wants_it) fits.fits in
+    let u : WaitsForPage side client given name = subst (FitsAt side client given) (waits_for client.phase name wants_it) fits.fits in
     let p = u.published in
     let parts = all_parts p.first p.rest client.query u.before u.page u.behind u.parts in
     let rises = names_rise p.list p.first p.rest (pages_by_cuts side name.version p valid u.is_published) in

@@ -1,4 +1,4 @@
--- What is asked for, turn after turn, by the names of the kept pages.
+-- What is asked for, turn after turn, by the names of the cached pages.
 use Rattle.std.proofs.Common.{◌≡◌, ℕ, ◌⊎◌, inl, inr, Bool, true, false, List, [], ◌∷◌, ◌++◌, Option, Some, None, refl, ap, ap₂, sym, subst, ◌∙◌}
 use Rattle.std.specs.Prelude.{if◌then◌else◌}
 use Rattle.std.proofs.lemmas.List.{append-nil, append_assoc}
@@ -25,11 +25,11 @@ use Rattle.laws_convoys.specs.Names.{asked_for, asked_of, names_after, names_of,
 use Rattle.laws_convoys.proofs.AloneLemmas.{waits_at_first}
 use Rattle.laws_convoys.proofs.NamesLemmas.{asked_of-append, lacked_is_asked, names_after-append, put_names, used_names, used_not_asked}
 
--- nothing was given or asked for
+-- nothing was received or asked for
 pub asks_nothing : (side : Side) (s : Shown) (kept : Kept) (own : List Want) → AsksByNames side s s kept kept own [] [] []
 asks_nothing side s kept own = record { capacity = refl; names = refl; are = refl; not_kept = refl; how = inl (record { none = refl; before = λ fault. fault }) }
 
--- a page was given that is kept
+-- a cached page was received
 pub asks_kept : (side : Side) (was is : Shown) (kept after : Kept) (own : List Want) (name : PageName) (page : Page) → page_named kept.pages name ≡ Some page →
     after ≡ record kept { pages = with_used kept.pages name } → ¬ HasFault is → AsksByNames side was is kept after own (wants.Page page.name ∷ []) [] []
 asks_kept side was is kept after own name page holds used no_fault =
@@ -44,7 +44,7 @@ asks_kept side was is kept after own name page holds used no_fault =
       how = inl (record { none = refl; before = λ fault. absurd (no_fault fault) });
     }
 
--- the gate's reply or the stops document was given
+-- the time gate's reply or the stops document was received
 pub asks_document : (side : Side) (was is : Shown) (kept after : Kept) (own : List Want) (want : Want) → after ≡ kept → asked_for (names_of kept.pages) want ≡ want ∷ [] →
     names_then kept.capacity (names_of kept.pages) want ≡ names_of kept.pages → ¬ HasFault is → AsksByNames side was is kept after own (want ∷ []) [] (want ∷ [])
 asks_document side was is kept after own want same asked stays no_fault = record {
@@ -55,7 +55,7 @@ asks_document side was is kept after own want same asked stays no_fault = record
   how = inl (record { none = refl; before = λ fault. absurd (no_fault fault) });
 }
 
--- a page was given that was not kept
+-- a page was received that was not cached
 pub asks_page : (side : Side) (was is : Shown) (kept after : Kept) (own : List Want) (page : Page) → page_named kept.pages page.name ≡ None → after ≡ record kept { pages = with_put kept page } →
     ¬ HasFault is → AsksByNames side was is kept after own (wants.Page page.name ∷ []) [] (wants.Page page.name ∷ [])
 asks_page side was is kept after own page lacks put no_fault = record {
@@ -88,7 +88,7 @@ asks_in_vain side was is kept after own want valid fits wants_it waits none faul
   });
 }
 
--- the gate is wrong where it is said to be
+-- the time gate is wrong where it is said to be
 gate_is_wrong : (page : Page) (leave : ℕ) (gate : Option (List ℕ)) (outcome : Outcome) → wrong_gate page leave gate ≡ Some outcome → (reply : List ℕ) × (outcome ≡ PeerWrong reply (GateWrong page))
 gate_is_wrong page leave None outcome is = absurd (cc)
 gate_is_wrong page leave (Some reply) outcome is =
@@ -119,7 +119,7 @@ pub record IsStill (was is : Shown) (given asked : List Want) : Type 0 where
   pub none_given : given ≡ []
   pub none_asked : asked ≡ []
 
--- behind a later side what failed is still the next of the wants
+-- at a later side what failed is still the next of the wants
 pub failed_later : (mid left : Side) (was is : Shown) (all_given failed : List Want) → IsValidSide left → IsLater mid left → ((version : ℕ) → is.version ≡ Some version → has_version mid version ≡ true) →
     OneFailed mid was is all_given failed → OneFailed left was is all_given failed
 failed_later mid left was is all_given failed valid later has one = record {

@@ -1,4 +1,4 @@
--- What its turn over an honest link leaves of one client, and of the pages that are kept.
+-- What its turn over an honest link leaves of one client, and of the cached pages.
 use Rattle.std.proofs.Common.{◌≡◌, ◌≢◌, ℕ, ◌+◌, inl, inr, List, [], ◌∷◌, ◌++◌, length, Option, Some, None, Result, Ok, Err, refl, ap, sym, subst, ◌∙◌, arith}
 use Rattle.std.specs.List.{All}
 use Rattle.std.proofs.lemmas.List.{append-nil}
@@ -21,7 +21,7 @@ use Rattle.page_client.specs.declared.want.Want.TheVariants as wants
 use Rattle.page_client.proofs.PageLemmas.{waits_for}
 use Rattle.publisher_spec.specs.Side.{IsLater, IsValidSide, Side}
 use Rattle.publisher_spec.proofs.LaterLemmas.{later_itself}
-use Rattle.laws_clients.specs.Fits.{FitsAt, FitsSide, IsUnderWay}
+use Rattle.laws_clients.specs.Fits.{FitsAt, FitsSide, WaitsForPage}
 use Rattle.laws_clients.specs.Published.{IsOwnPage}
 use Rattle.laws_clients.specs.Steps.{IsReplyTo, SaysOwnPage}
 use Rattle.laws_clients.proofs.FitsLemmas.{fits_stays, own_pages_stay}
@@ -43,7 +43,7 @@ use Rattle.laws_convoys.proofs.NoFaultLemmas.{gate_no_fault, page_no_fault, stop
 use Rattle.laws_convoys.proofs.RequestLemmas.{tells_nothing, tells_one}
 use Rattle.laws_convoys.proofs.RoundLemmas.{round_replied}
 
--- what a turn leaves of a client, which was given this so far, and of the kept pages
+-- what a turn leaves of a client, which had received this, and of the cached pages
 pub record MemberAgrees (base : BaseParts) (side : Side) (was is : Member) (own : List Want) (kept after_kept : Kept) (before after : LinkSeen) (turn : Turn) : Type 0 where
   pub left : Side
   pub honest : LeavesHonest base side left before after
@@ -104,7 +104,7 @@ module _ (base : BaseParts) (side : Side) (was is : Member) (own : List Want) (k
     no_outcome_stays : (outcome : Outcome) → (shown was.client).outcome ≡ Some outcome → (shown is.client).outcome ≡ Some outcome
     no_outcome_stays outcome some = absurd (cc)
 
-    -- a client that was given one thing
+    -- a client that received one thing
     given_one : (left : Side) (want : Want) (before after : LinkSeen) (asked : List Want) → (shown is.client).query ≡ (shown was.client).query →
         VersionAfter side left (shown was.client) (want ∷ []) (shown is.client).version → ¬ HasFault (shown is.client) → is.exchanges ≡ was.exchanges + length asked →
         TellsAsked before.recorded after.recorded base (shown was.client).query asked → HasGone base side left was is before after (want ∷ []) asked
@@ -119,7 +119,7 @@ module _ (base : BaseParts) (side : Side) (was is : Member) (own : List Want) (k
       recorded = recorded;
     }
 
-  -- a client that takes a page which is kept
+  -- a client that takes a cached page
   pub cached_agrees : (link : LinkSeen) → IsHonestWith link base side → FitsSide side was.client own → All (IsOwnPage side) kept.pages → IsCached was is kept after_kept →
       MemberAgrees base side was is own kept after_kept link link Cached
   cached_agrees link honest fits pages c =
@@ -128,7 +128,7 @@ module _ (base : BaseParts) (side : Side) (was is : Member) (own : List Want) (k
       let own_page = found (IsOwnPage side) (has_name holds.name) kept.pages holds.page pages holds.holds in
       let wants_it : want_of (shown was.client).phase ≡ wants.Page holds.page.name = holds.wants ∙ ap wants.Page (sym (named kept.pages holds.name holds.page holds.holds)) in
       let keeps = page_keeps_it side was.client is.client own holds.page honest.stands.valid fits wants_it own_page holds.takes in
-      let under : IsUnderWay side was.client own holds.page.name = subst (FitsAt side was.client own) (waits_for was.client.phase holds.page.name wants_it) fits.fits in
+      let under : WaitsForPage side was.client own holds.page.name = subst (FitsAt side was.client own) (waits_for was.client.phase holds.page.name wants_it) fits.fits in
       let no_fault = page_no_fault was.client is.client holds.page side.doc _ holds.takes under.stands c.had_none in
       record {
         left = side;
@@ -163,7 +163,7 @@ rose_within outcome before after low high is some rose =
       rose = subst (λ (h : ℕ). Rose low h) to (subst (λ (l : ℕ). Rose l after) from rose);
     }
 
--- what is so of the kept pages and of the one that was asked for is so afterwards
+-- what holds of the cached pages and of the one that was asked for holds afterwards
 so_after : (P : Page → Type 0) (outcome : Option Outcome) (kept : Kept) (page : Page) → P page → All P kept.pages → All P (kept_after outcome kept page).pages
 so_after P (Some outcome) kept page here all = all
 so_after P None kept page here all = All-with_put P kept page here all
@@ -264,7 +264,7 @@ module _ (base : BaseParts) (side : Side) (was is : Member) (own : List Want) (k
         pages = subst (λ (k : Kept). All (IsOwnPage x.side) k.pages) (sym same) (pages_then None ex);
       }
 
-  -- the gate
+  -- the time gate
   gate_agrees : (got : Got) (ex : IsExchange base (shown was.client) before after got) → want_of (shown was.client).phase ≡ wants.Gate →
       Takes was.client is.client before.faults after.faults (TakesGate base was.client is.client) got → after_kept ≡ kept → MemberAgrees base side was is own kept after_kept before after Exchanged
   gate_agrees None ex wants_it ends same = by_failure ex wants.Gate wants_it (λ e. cc) ends same refl
@@ -297,7 +297,7 @@ module _ (base : BaseParts) (side : Side) (was is : Member) (own : List Want) (k
       let x = exchanged (Some reply) ex in
       let wants_page : want_of (shown was.client).phase ≡ wants.Page page.name = wants_it ∙ ap wants.Page (sym says.0) in
       let keeps = page_keeps_it x.side was.client is.client own page x.honest.stands.valid (fits_then (Some reply) ex) wants_page says.1 took.0 in
-      let under : IsUnderWay x.side was.client own page.name = subst (FitsAt x.side was.client own) (waits_for was.client.phase page.name wants_page) (fits_then (Some reply) ex).fits in
+      let under : WaitsForPage x.side was.client own page.name = subst (FitsAt x.side was.client own) (waits_for was.client.phase page.name wants_page) (fits_then (Some reply) ex).fits in
       let gate = wrong_gate page (shown was.client).query.leave (shown was.client).gate in
       let right = gate_was_right x.side was.client is.client (own ++ wants.Page page.name ∷ []) page keeps.0 took.0 in
       let put : after_kept ≡ record kept { pages = with_put kept page } = took.1 ∙ ap (λ (o : Option Outcome). kept_after o kept page) right in

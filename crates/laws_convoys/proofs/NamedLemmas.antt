@@ -6,14 +6,14 @@ use Rattle.page_client.specs.declared.want.Want.{Want}
 use Rattle.page_client.specs.declared.want.Want.TheVariants as wants
 use Rattle.publisher_spec.specs.Side.{IsLater, Side}
 use Rattle.publisher_spec.proofs.LaterLemmas.{later_itself, later_on}
-use Rattle.laws_sides.specs.Recorded.{version_at}
+use Rattle.laws_sides.specs.Stated.{version_at}
 use Rattle.laws_convoys.specs.Leaves.{IsNamedBetween, VersionAfter}
 
--- this does not begin with the gate
+-- this does not begin with the time gate
 abbrev pub NoGate : List Want → Type 0
 NoGate given = (more : List Want) → given ≡ wants.Gate ∷ more → ⊥
 
--- behind other things the version is as it was
+-- after other things the version is as it was
 pub kept_version : (side left : Side) (old : Shown) (given : List Want) (version : Option ℕ) → NoGate given → VersionAfter side left old given version → version ≡ old.version
 kept_version side left old [] version no_gate after = after
 kept_version side left old (wants.Gate ∷ more) version no_gate after = absurd (no_gate more refl)
@@ -38,7 +38,7 @@ named_wider side from to left known known_then version before after same named =
   is = named.is ∙ ap (λ (k : Option ℕ). Some (version_at named.at k)) same;
 }
 
--- the same of the version of a client, who was then as it had been before
+-- the version of a client is named between further sides, where the client was then as it had been before
 pub version_wider : (side from to left : Side) (old mid_state : Shown) (given : List Want) (version : Option ℕ) → IsLater side from → IsLater to left → mid_state.query ≡ old.query → mid_state.version ≡ old.version →
     VersionAfter from to mid_state given version → VersionAfter side left old given version
 version_wider side from to left old mid_state [] version before after query same is = is ∙ same
@@ -48,7 +48,7 @@ version_wider side from to left old mid_state (wants.Stops ∷ more) version bef
 version_wider side from to left old mid_state (wants.Page name ∷ more) version before after query same is = is ∙ same
 version_wider side from to left old mid_state (wants.Finished ∷ more) version before after query same is = is ∙ same
 
--- first this was given and then that, which does not begin with the gate unless nothing was given before
+-- first this was received and then that, which does not begin with the time gate unless nothing was received before
 pub version_then : (side mid left : Side) (old mid_state : Shown) (first second : List Want) (version : Option ℕ) → IsLater side mid → IsLater mid left → mid_state.query ≡ old.query →
     VersionAfter side mid old first mid_state.version → VersionAfter mid left mid_state second version → (first ≢ [] → NoGate second) → VersionAfter side left old (first ++ second) version
 version_then side mid left old mid_state [] second version before after query one two no_gate = version_wider side mid left left old mid_state second version before (later_itself left) query one two

@@ -1,4 +1,4 @@
--- The names of kept pages, want after want.
+-- The names of cached pages, want after want.
 use Rattle.std.proofs.Common.{zero, suc, ◌⊎◌, inl, inr, Contains, ◌≡◌, ℕ, Bool, true, false, not, cond, List, [], ◌∷◌, ◌++◌, take, Option, Some, None, refl, ap, ap₂, sym, subst, ◌∙◌}
 use Rattle.std.specs.Prelude.{◌||◌, find, if◌then◌else◌}
 use Rattle.std.specs.Option.{option_map_or}
@@ -12,7 +12,7 @@ use Rattle.page_client.specs.declared.want.Want.{Want}
 use Rattle.page_client.specs.declared.want.Want.TheVariants as wants
 use Rattle.laws_convoys.specs.Names.{AskByNames, IsByNames, Round, names_behind, asked_for, asked_of, is_among, names_after, names_of, names_then, names_with, others}
 
--- the names behind wants and further wants
+-- the names after wants and further wants
 pub names_after-append : (capacity : ℕ) (names : List PageName) (first second : List Want) → names_after capacity names (first ++ second) ≡ names_after capacity (names_after capacity names first) second
 names_after-append capacity names [] second = refl
 names_after-append capacity names (want ∷ first) second = names_after-append capacity (names_then capacity names want) first second
@@ -51,7 +51,7 @@ names_without name (first ∷ pages) =
       | false ↦ names_without name pages
     ]
 
--- a kept page that is used
+-- a cached page that is used
 pub used_names : (capacity : ℕ) (pages : List Page) (name : PageName) (page : Page) → page_named pages name ≡ Some page → names_of (with_used pages name) ≡ names_with capacity (names_of pages) name
 used_names capacity pages name page is =
     let among = found_among name pages page is in

@@ -1,4 +1,4 @@
--- A client to which a reply or a page is given does not end by a fault of the link.
+-- A client that receives a reply or a page does not end by a fault of the link.
 use Rattle.std.proofs.Common.{◌≡◌, ℕ, inl, inr, List, Bool, true, false, Option, Some, None, Result, Ok, Err, ap, sym, ◌∙◌}
 use Rattle.std.specs.Prelude.{if◌then◌else◌}
 use Rattle.lc_model.specs.declared.connection.Connection.{Connection}
@@ -35,7 +35,7 @@ answer_is_other : (journey : Option _) → IsOther (Some (answered journey))
 answer_is_other None low high is = cc
 answer_is_other (Some journey) low high is = cc
 
--- the gate's reply
+-- the time gate's reply
 pub gate_no_fault : (old new : Shown) (reply : List ℕ) (said : Result PageName PeerFault) → new ≡ after_gate reply said old → old.outcome ≡ None → ¬ HasFault new
 gate_no_fault old new reply (Ok name) is none = other new None (ap (λ (s : Shown). s.outcome) is ∙ none) none_is_other
 gate_no_fault old new reply (Err fault) is none = other new (Some (PeerWrong reply fault)) (ap (λ (s : Shown). s.outcome) is) (wrong_is_other reply fault)

@@ -1,4 +1,4 @@
--- What one client alone comes to over a quiet link: turn after turn, and at the end.
+-- What one client alone results in over a quiet link: turn after turn, and at the end.
 use Rattle.std.proofs.Common.{◌≡◌, ◌≢◌, ℕ, ◌+◌, ◌-◌, ◌⊎◌, inl, inr, List, [], ◌∷◌, ◌++◌, length, Option, Some, None, Contains, refl, ap, ap₂, sym, subst, ◌∙◌, arith}
 use Rattle.std.specs.Prelude.{set}
 use Rattle.std.specs.List.{slice_get}
@@ -28,7 +28,7 @@ use Rattle.convoy.specs.declared.member.Member.{Member}
 use Rattle.convoy.specs.declared.turn.Turn.{Turn}
 use Rattle.convoy.specs.declared.turn.Turn.TheVariants.{Cached, Exchanged, Finished}
 use Rattle.laws_convoys.specs.Agreement.{FitsConvoy}
-use Rattle.laws_convoys.specs.Leaves.{Gave, HasFault, RoseWithin, StillAgrees, TurnAgrees}
+use Rattle.laws_convoys.specs.Leaves.{Gave, HasFault, RoseWithin, AgreesAfterTurnsOf, AgreesAfterTurn}
 use Rattle.laws_convoys.specs.Names.{names_after, names_of}
 use Rattle.laws_convoys.specs.OneClient.{AskedAll, AskedOneMore, IsAlone, IsNext, OneClientEndsRight, version_of}
 use Rattle.laws_convoys.specs.Requests.{TellsAsked}
@@ -39,7 +39,7 @@ use Rattle.laws_convoys.proofs.NamesLemmas.{were_wanted}
 use Rattle.laws_convoys.proofs.RepliesLemmas.{turns_replied}
 use Rattle.laws_convoys.proofs.TurnLemmas.{honest_still, nothing_yet, nothing_yet_is, one_at, one_turn_more, one_turn_more_is, turn_agrees}
 
--- exactly what was given was asked for, or one more where the link failed
+-- the client asked for exactly what it received, or for one more where the link failed
 abbrev pub IsExact : Side → Query → Member → List Want → List Want → Type 0
 IsExact side query member given asked = AskedAll member given asked ⊎ AskedOneMore side query member given asked
 
@@ -52,7 +52,7 @@ record IsFresh (query : Query) (start : ConvoyState) : Type 0 where
 
 -- the turns so far
 record AloneSoFar (side : Side) (query : Query) (start now : ConvoyState) (before after : LinkSeen) : Type 0 where
-  agrees : StillAgrees side start now ([] ∷ []) 1 before after
+  agrees : AgreesAfterTurnsOf side start now ([] ∷ []) 1 before after
   front : BeginsAtGate agrees.given
   exact : IsExact side query agrees.is agrees.given agrees.asked
 
@@ -61,7 +61,7 @@ all_so_far : (side : Side) (query : Query) (member : Member) (given asked : List
 all_so_far side query member given asked fits waits (inl all) = all.are
 all_so_far side query member given asked fits waits (inr more) = absurd (no_fault_yet side member.client given fits waits more.by_fault)
 
--- what a turn makes of what was given and asked
+-- what a turn makes of what was received and asked
 exact_then : (side : Side) (query : Query) (was is : Member) (given asked more more_asked : List Want) (turn : Turn) → IsValidSide side → FitsSide side was.client given → (shown was.client).query ≡ query →
     (shown was.client).version ≡ version_of side query given → (turn ≢ Cached) → Gave turn was is more more_asked → IsExact side query was given asked →
     IsExact side query is (given ++ more) (asked ++ more_asked)
@@ -89,7 +89,7 @@ exact_then side query was is given asked more more_asked Exchanged valid fits sa
           ∙ ap (λ (l : List Want). l ++ want_of (shown was.client).phase ∷ []) (sym no_more);
     })
 
--- a page that is kept was given, and is not wanted any more
+-- a cached page was received, and is not wanted any more
 never_cached : (side : Side) (was is : Member) (capacity : ℕ) (start : List Page) (kept after_kept : Kept) (given : List Want) → IsValidSide side → FitsSide side was.client given → start ≡ [] →
     names_of kept.pages ≡ names_after capacity (names_of start) given → IsCached was is kept after_kept → ⊥
 never_cached side was is capacity start kept after_kept given valid fits none names c =
@@ -105,7 +105,7 @@ never_cached side was is capacity start kept after_kept given valid fits none na
           let name : c.holds.page.name ≡ c.holds.name = kept_pages.named kept.pages c.holds.name c.holds.page c.holds.holds in
           page_not_given side was.client given c.holds.name valid fits c.holds.wants (subst (λ (n : PageName). Contains given (wants.Page n)) name given_it)
 
--- what was given begins with the gate's reply
+-- what was received begins with the time gate's reply
 front_then : (first second : List Want) → BeginsAtGate first → (first ≡ [] → BeginsAtGate second) → BeginsAtGate (first ++ second)
 front_then [] second front after = after refl
 front_then (want ∷ first) second front after = front
@@ -129,7 +129,7 @@ gave_front side query was is given more more_asked Exchanged valid fits same ver
 own_is_none : (own : List Want) → slice_get ([] ∷ []) 0 ≡ Some own → own ≡ []
 own_is_none own is = cc
 
--- the client as it stands after the turns so far
+-- the client as it is after the turns up to now
 record Stands (side : Side) (query : Query) (member : Member) (given : List Want) : Type 0 where
   fits : FitsSide side member.client given
   query_is : (shown member.client).query ≡ query
@@ -166,7 +166,7 @@ module _ {X : Type 0} (seen : X → LinkSeen) (side : Side) (query : Query) (sta
       never_cached side first.agrees.is t.is start.kept.capacity start.kept.pages mid.kept new.kept first.agrees.given honest.stands.valid stands.fits fresh.no_pages first.agrees.by_names.names
       (subst (λ (m : Member). IsCached m t.is mid.kept new.kept) same cached)
 
-  turned : TurnAgrees first.agrees.left mid new (set ([] ∷ []) (1 - 1) (first.agrees.own ++ first.agrees.given)) 1 (seen link) (seen after) turn (round_at turn (shown step.turned.was.client) (shown step.turned.is.client))
+  turned : AgreesAfterTurn first.agrees.left mid new (set ([] ∷ []) (1 - 1) (first.agrees.own ++ first.agrees.given)) 1 (seen link) (seen after) turn (round_at turn (shown step.turned.was.client) (shown step.turned.is.client))
   turned =
       turn_agrees seen first.agrees.left mid new (set ([] ∷ []) (1 - 1) (first.agrees.own ++ first.agrees.given)) 1 link after turn
       (honest_still start.base mid.base first.agrees.left (seen link) first.agrees.base first.agrees.honest.honest) first.agrees.fits step

@@ -1,4 +1,4 @@
--- Clients at their places, and what each was given.
+-- Clients at their places, and what each received.
 use Rattle.std.proofs.Common.{◌≡◌, ℕ, zero, suc, List, [], ◌∷◌, ◌++◌, Some, refl, ap, subst}
 use Rattle.std.specs.Prelude.{set}
 use Rattle.std.specs.List.{slice_get}
@@ -9,7 +9,7 @@ use Rattle.laws_clients.proofs.FitsLemmas.{fits_stays}
 use Rattle.convoy.specs.declared.member.Member.{Member}
 use Rattle.laws_convoys.specs.Agreement.{AllFit}
 
--- the client at a place was given what stands there
+-- the client at a place received what the list has there
 pub record StandsAt (side : Side) (member : Member) (given : List (List Want)) (place : ℕ) : Type 0 where
   pub own : List Want
   pub is : slice_get given place ≡ Some own
@@ -26,7 +26,7 @@ at_place side (first ∷ members) (own ∷ given) (suc place) member all is =
     let rest = at_place side members given place member all.1 is in
     record { own = rest.own; is = rest.is; fits = rest.fits }
 
--- another client stands at a place, who was given this
+-- another client is at a place, and received this
 pub set_place : (side : Side) (members : List Member) (given : List (List Want)) (place : ℕ) (member : Member) (own : List Want) → AllFit side members given → FitsSide side member.client own →
     AllFit side (set members place member) (set given place own)
 set_place side [] [] place member own all fits = tt
@@ -51,13 +51,13 @@ all_later before after (member ∷ members) [] valid later all = absurd all
 all_later before after (member ∷ members) (own ∷ given) valid later all =
     (fits_stays before after member.client own valid later all.0, all_later before after members given valid later all.1)
 
--- what stands at a place, put there again, changes nothing
+-- what is at a place, put there again, changes nothing
 pub set_itself : {X : Type 0} (xs : List X) (place : ℕ) (x : X) → slice_get xs place ≡ Some x → set xs place x ≡ xs
 set_itself [] place x is = refl
 set_itself (first ∷ xs) zero x is = let same : x ≡ first = cc in ap (λ y. y ∷ xs) same
 set_itself (first ∷ xs) (suc place) x is = ap (λ ys. first ∷ ys) (set_itself xs place x is)
 
--- of two values that are put at a place the second one stands there
+-- of two values that are put at a place the second one is there
 pub set_twice : {X : Type 0} (xs : List X) (place : ℕ) (x y : X) → set (set xs place x) place y ≡ set xs place y
 set_twice [] place x y = refl
 set_twice (first ∷ xs) zero x y = refl

@@ -66,7 +66,7 @@ tells_replies_then side a b c one two = record {
   is = two.is ∙ ap (option_map (λ (entries : List Entry). entries ++ two.entries)) one.is ∙ recorded_then a one.entries two.entries;
 }
 
--- so many were recorded in a turn, and the link is quiet still
+-- this many were recorded in a turn, and the link is quiet still
 pub record RepliedInTurn (base : BaseParts) (side : Side) (count : ℕ) (before after : LinkSeen) : Type 0 where
   pub tells : TellsSoMany side count before.recorded after.recorded
   pub quiet : IsQuietWith after base side

@@ -1,4 +1,4 @@
--- Client after client comes to its outcome, and the convoy goes on to agree with the side that is left.
+-- Client after client reaches its outcome, and the convoy goes on to agree with the side that is left.
 use Rattle.std.proofs.Common.{◌⊎◌, ap₂, ◌≡◌, ℕ, zero, suc, ◌+◌, ◌-◌, ◌<◌, ◌≤◌, inl, inr, List, [], ◌∷◌, ◌++◌, length, map, Some, refl, sym, subst, ◌∙◌, arith}
 use Rattle.std.specs.Prelude.{set}
 use Rattle.std.specs.List.{slice_get}
@@ -20,7 +20,7 @@ use Rattle.convoy.specs.Finish.{Ends, HasOutcome, Rounds}
 use Rattle.convoy.specs.State.{ConvoyState}
 use Rattle.convoy.specs.declared.member.Member.{Member}
 use Rattle.laws_convoys.specs.Agreement.{FitsConvoy}
-use Rattle.laws_convoys.specs.Leaves.{EndAgrees, HasCome, HasMoved, LeavesHonest, NoneFailed, OneFailed, RoundsAgree, StillAgrees}
+use Rattle.laws_convoys.specs.Leaves.{AgreesAfterOutcome, HasReachedOutcome, HasMoved, LeavesHonest, NoneFailed, OneFailed, AgreesAfterRounds, AgreesAfterTurnsOf}
 use Rattle.laws_convoys.specs.Names.{Round, asked_of, failures_in, names_after, names_behind, names_of}
 use Rattle.laws_convoys.specs.Requests.{TellsAsked, TellsRequests, request_of, requests_of}
 use Rattle.laws_convoys.specs.Rounds.{round_in, rounds_up_to}
@@ -35,7 +35,7 @@ use Rattle.laws_convoys.proofs.TurnLemmas.{honest_still, one_at, rose_wider, tur
 pub end_agrees :
     {X : Type 0} (seen : X → LinkSeen) (side : Side) (old new : ConvoyState) (so_far : List (List Want)) (k : ℕ) (before after : X) → IsHonestWith (seen before) old.base side →
     FitsConvoy side old so_far → (ends : Ends seen k old new before after) →
-    EndAgrees side old new so_far k (seen before) (seen after) (round_in seen k ends.steps old new before after ends.turns)
+    AgreesAfterOutcome side old new so_far k (seen before) (seen after) (round_in seen k ends.steps old new before after ends.turns)
 end_agrees seen side old new so_far k before after honest fits ends =
     let so = turns_agree seen side old new so_far k before after ends.steps ends.member honest fits ends.is ends.turns in
     record { agrees = so.agrees; round_is = so.round_is; ended = subst HasOutcome (one_at new.members (k - 1) ends.member so.agrees.is ends.is so.agrees.has) ends.ended }
@@ -76,7 +76,7 @@ failures_more : (rounds : List Round) (more : Round) → failures_in (rounds ++ 
 failures_more [] more = omega arith
 failures_more (round ∷ rounds) more = omega (arith, failures_more rounds more)
 
--- the count rose where the exchange of a client failed
+-- the count increased where the exchange of a client failed
 rose_by : (side left : Side) (was is : Shown) (a b : LinkSeen) (given all_given failed : List Want) → a.faults ≤ b.faults → HasMoved side left was is a b given →
     NoneFailed was is failed ⊎ OneFailed left was is all_given failed → RoseBy (length failed) a.faults b.faults
 rose_by side left was is a b given all_given failed not_fallen moved (inl none) = subst (λ (l : List Want). RoseBy (length l) a.faults b.faults) (sym none.none) (RoseBy-none a.faults b.faults not_fallen)
@@ -87,8 +87,8 @@ rose_by side left was is a b given all_given failed not_fallen moved (inr one) =
       once a b low high from to rose = omega arith
 
 -- one client more
-module _ (side : Side) (old mid new : ConvoyState) (so_far : List (List Want)) (n : ℕ) (a b c : LinkSeen) (rounds : List Round) (first : RoundsAgree side old mid so_far n a b rounds)
-    (second : StillAgrees first.left mid new first.now (suc n) b c) (ended : HasOutcome second.is) where
+module _ (side : Side) (old mid new : ConvoyState) (so_far : List (List Want)) (n : ℕ) (a b c : LinkSeen) (rounds : List Round) (first : AgreesAfterRounds side old mid so_far n a b rounds)
+    (second : AgreesAfterTurnsOf first.left mid new first.now (suc n) b c) (ended : HasOutcome second.is) where
   abbrev now : List (List Want)
   now = set first.now (suc n - 1) (second.own ++ second.given)
 
@@ -100,7 +100,7 @@ module _ (side : Side) (old mid new : ConvoyState) (so_far : List (List Want)) (
   leaves = subst (λ (base : BaseParts). LeavesHonest base first.left second.left b c) first.base second.honest
 
   -- the client whose round it is
-  comes : (was : Member) (place : ℕ) → place ≡ n → slice_get old.members place ≡ Some was → HasCome side second.left was new so_far now (rounds ++ round ∷ []) place a c
+  comes : (was : Member) (place : ℕ) → place ≡ n → slice_get old.members place ≡ Some was → HasReachedOutcome side second.left was new so_far now (rounds ++ round ∷ []) place a c
   comes was place at had =
       let index : place ≡ suc n - 1 = at ∙ sym (minus n) in
       let untouched : slice_get mid.members place ≡ slice_get old.members place = first.others place (no_less_at n place at) in
@@ -134,8 +134,8 @@ module _ (side : Side) (old mid new : ConvoyState) (so_far : List (List Want)) (
         no_less_at n place at = omega arith
 
   -- the others
-  came_before : (was : Member) (place : ℕ) → (place ≡ n → ⊥) → HasCome side first.left was mid so_far first.now rounds place a b →
-      HasCome side second.left was new so_far now (rounds ++ round ∷ []) place a c
+  came_before : (was : Member) (place : ℕ) → (place ≡ n → ⊥) → HasReachedOutcome side first.left was mid so_far first.now rounds place a b →
+      HasReachedOutcome side second.left was new so_far now (rounds ++ round ∷ []) place a c
   came_before was place not came = record {
     is = came.is;
     has = second.others place (not_last place n not) ∙ came.has;
@@ -172,11 +172,11 @@ module _ (side : Side) (old mid new : ConvoyState) (so_far : List (List Want)) (
       subst (TellsRequests a.recorded c.recorded old.base.authority) (sym (requests_more old.base old.members rounds second.was round was_there))
       (requests_then a.recorded b.recorded c.recorded old.base.authority (requests_of old.base old.members rounds) (map (request_of old.base (shown second.was.client).query) second.asked) first.recorded recorded)
 
-  -- the names of the pages that are kept then
+  -- the names of the pages that are cached then
   names_then : names_of new.kept.pages ≡ names_after old.kept.capacity (names_behind old.kept.capacity (names_of old.kept.pages) rounds) second.given
   names_then = second.by_names.names ∙ ap₂ (λ (capacity : ℕ) (names : List PageName). names_after capacity names second.given) first.capacity first.names
 
-  one_round_more : RoundsAgree side old new so_far (suc n) a c (rounds ++ round ∷ [])
+  one_round_more : AgreesAfterRounds side old new so_far (suc n) a c (rounds ++ round ∷ [])
   one_round_more = record {
     left = second.left;
     honest = leaves_then old.base side first.left second.left a b c first.honest leaves;
@@ -209,10 +209,10 @@ module _ (side : Side) (old mid new : ConvoyState) (so_far : List (List Want)) (
 pub rounds_agree :
     {X : Type 0} (seen : X → LinkSeen) (side : Side) (old new : ConvoyState) (so_far : List (List Want)) (n : ℕ) (before after : X) → IsHonestWith (seen before) old.base side →
     FitsConvoy side old so_far → (rounds : Rounds seen n old new before after) →
-    RoundsAgree side old new so_far n (seen before) (seen after) (rounds_up_to seen n old new before after rounds)
+    AgreesAfterRounds side old new so_far n (seen before) (seen after) (rounds_up_to seen n old new before after rounds)
 rounds_agree {X} seen side old new so_far zero before after honest fits rounds =
-    subst (λ (x : X). RoundsAgree side old new so_far zero (seen before) (seen x) []) (sym rounds.1)
-    (subst (λ (convoy : ConvoyState). RoundsAgree side old convoy so_far zero (seen before) (seen before) []) (sym rounds.0) (record {
+    subst (λ (x : X). AgreesAfterRounds side old new so_far zero (seen before) (seen x) []) (sym rounds.1)
+    (subst (λ (convoy : ConvoyState). AgreesAfterRounds side old convoy so_far zero (seen before) (seen before) []) (sym rounds.0) (record {
       left = side;
       honest = leaves_alone old.base side (seen before) honest;
       base = refl;
@@ -233,5 +233,5 @@ rounds_agree seen side old new so_far (suc n) before after honest fits (mid, lin
     let still = honest_still old.base mid.base first.left (seen link) first.base first.honest.honest in
     let second = end_agrees seen first.left mid new first.now (suc n) link after still first.fits ends in
     let all = rounds_up_to seen n old mid before link rounds in
-    subst (λ (r : Round). RoundsAgree side old new so_far (suc n) (seen before) (seen after) (all ++ r ∷ [])) second.round_is
+    subst (λ (r : Round). AgreesAfterRounds side old new so_far (suc n) (seen before) (seen after) (all ++ r ∷ [])) second.round_is
     (one_round_more side old mid new so_far n (seen before) (seen link) (seen after) all first second.agrees second.ended)

@@ -30,7 +30,7 @@ use Rattle.convoy.specs.declared.member.Member.{Member}
 use Rattle.convoy.specs.declared.turn.Turn.{Turn}
 use Rattle.convoy.specs.declared.turn.Turn.TheVariants.{Cached, Exchanged, Finished}
 use Rattle.laws_convoys.specs.Agreement.{AllFit, FitsConvoy}
-use Rattle.laws_convoys.specs.Leaves.{AsksByNames, HasFault, Gave, HasGone, HasMoved, LeavesHonest, RoseWithin, StillAgrees, TurnAgrees}
+use Rattle.laws_convoys.specs.Leaves.{AsksByNames, HasFault, Gave, HasGone, HasMoved, LeavesHonest, RoseWithin, AgreesAfterTurnsOf, AgreesAfterTurn}
 use Rattle.laws_convoys.specs.Names.{Round}
 use Rattle.laws_convoys.specs.Requests.{TellsAsked}
 use Rattle.laws_convoys.specs.Rounds.{round_at, round_in, round_with}
@@ -62,7 +62,7 @@ no_outcome : (outcome : Option Outcome) → IsSome outcome → outcome ≡ None 
 no_outcome None is e = cc
 no_outcome (Some o) is e = cc
 
--- a client that had its outcome was given nothing at its turn
+-- a client that had its outcome received nothing at its turn
 idle_turn : (base : BaseParts) (was is : Member) (kept after_kept : Kept) (before after : LinkSeen) (turn : Turn) (given asked : List Want) → Turned base was is kept after_kept before after turn →
     Gave turn was is given asked → HasOutcome was → given ≡ []
 idle_turn base was is kept after_kept before after Finished given asked turned idle some = idle.none_given
@@ -74,7 +74,7 @@ outcome_stays : (was is : Option Outcome) → ((ended : Outcome) → was ≡ Som
 outcome_stays None is stays some = absurd (no_outcome None some refl)
 outcome_stays (Some ended) is stays some = subst IsSome (sym (stays ended refl)) some
 
--- who waits for the gate was given nothing
+-- who waits for the time gate received nothing
 nothing_before_gate : (side : Side) (client : Client) (given : List Want) (phase : Phase) → FitsAt side client given phase → want_of phase ≡ wants.Gate → given ≡ []
 nothing_before_gate side client given phases.Gate fits is = fits.given
 nothing_before_gate side client given (phases.Stops first) fits is = absurd (cc)
@@ -91,7 +91,7 @@ no_gate_then given more want is not begins = let same : want ≡ wants.Gate = cc
 no_gate_of_none : (given more : List Want) → given ≡ [] → given ≡ wants.Gate ∷ more → ⊥
 no_gate_of_none given more none begins = cc
 
--- what a turn gave does not begin with the gate where something was given before
+-- what a turn gave does not begin with the time gate where something was received before
 pub gave_no_gate : (side : Side) (was is : Member) (own first given asked : List Want) (turn : Turn) → FitsSide side was.client (own ++ first) → Gave turn was is given asked → first ≢ [] → NoGate given
 gave_no_gate side was is own first given asked Finished fits idle some more begins = no_gate_of_none given more idle.none_given begins
 gave_no_gate side was is own first given asked Cached fits kept some more begins =
@@ -100,7 +100,7 @@ gave_no_gate side was is own first given asked Exchanged fits (inl replied) some
     no_gate_then given more (want_of was.client.phase) replied.is_given (λ gate. some (some_or_none own first (nothing_before_gate side was.client (own ++ first) was.client.phase fits.fits gate))) begins
 gave_no_gate side was is own first given asked Exchanged fits (inr failed) some more begins = no_gate_of_none given more failed.none_given begins
 
--- and nor does what is behind the other where neither does
+-- where neither begins with the time gate, the one followed by the other does not
 no_gate_of_both : (first second : List Want) → NoGate first → NoGate second → NoGate (first ++ second)
 no_gate_of_both [] second no_first no_second more begins = no_second more begins
 no_gate_of_both (want ∷ first) second no_first no_second more begins =
@@ -114,7 +114,7 @@ some_of_both (want ∷ first) second some none = cc
 pub turn_agrees :
     {X : Type 0} (seen : X → LinkSeen) (side : Side) (old new : ConvoyState) (so_far : List (List Want)) (k : ℕ) (before after : X) (turn : Turn) → IsHonestWith (seen before) old.base side →
     FitsConvoy side old so_far → (step : IsStep seen k old new before after turn) →
-    TurnAgrees side old new so_far k (seen before) (seen after) turn (round_at turn (shown step.turned.was.client) (shown step.turned.is.client))
+    AgreesAfterTurn side old new so_far k (seen before) (seen after) turn (round_at turn (shown step.turned.was.client) (shown step.turned.is.client))
 turn_agrees seen side old new so_far k before after turn honest fits step =
     let t = step.turned in
     let at : StandsAt side t.was so_far (k - 1) = at_place side old.members so_far (k - 1) t.was fits.clients t.had in
@@ -153,7 +153,7 @@ turn_agrees seen side old new so_far k before after turn honest fits step =
       version = m.version;
     }
 
--- the rise of a count is seen from further away
+-- a count that increased within two others increased within wider ones
 pub rose_wider : (a b c d low high : ℕ) → a ≤ b → c ≤ d → RoseWithin b c low high → RoseWithin a d low high
 rose_wider a b c d low high before after rose = record {
   from = no_less_then a b low before rose.from;
@@ -181,7 +181,7 @@ moved_then side mid left old between new a b c first second base one two went go
 count_then : (a b c : ℕ) (first second : List Want) → b ≡ a + length first → c ≡ b + length second → c ≡ a + length (first ++ second)
 count_then a b c first second one two = omega (arith, length-append first second)
 
--- the same with what was asked for it
+-- what became of a client in two steps, with what was asked for it
 pub gone_then :
     (base : BaseParts) (side mid left : Side) (was between is : Member) (a b c : LinkSeen) (first second first_asked second_asked : List Want) → LeavesHonest base side mid a b → LeavesHonest base mid left b c →
     HasGone base side mid was between a b first first_asked → HasGone base mid left between is b c second second_asked → (first ≢ [] → NoGate second) →
@@ -196,7 +196,7 @@ gone_then base side mid left was between is a b c first second first_asked secon
 
 -- no turn yet
 pub nothing_yet : (side : Side) (convoy : ConvoyState) (so_far : List (List Want)) (k : ℕ) (link : LinkSeen) (member : Member) → IsHonestWith link convoy.base side → FitsConvoy side convoy so_far →
-    slice_get convoy.members (k - 1) ≡ Some member → StillAgrees side convoy convoy so_far k link link
+    slice_get convoy.members (k - 1) ≡ Some member → AgreesAfterTurnsOf side convoy convoy so_far k link link
 nothing_yet side convoy so_far k link member honest fits has =
     let at : StandsAt side member so_far (k - 1) = at_place side convoy.members so_far (k - 1) member fits.clients has in
     let client : FitsSide side member.client (at.own ++ []) = subst (FitsSide side member.client) (sym (append-nil at.own)) at.fits in
@@ -238,7 +238,7 @@ nothing_yet side convoy so_far k link member honest fits has =
       no_outcome_and_one : (outcome : Option Outcome) (low high : ℕ) → outcome ≡ None → outcome ≡ Some (LinkFault low high) → ⊥
       no_outcome_and_one outcome low high none some = cc
 
--- nothing was given or asked then
+-- nothing was received or asked then
 pub nothing_yet_is : (side : Side) (convoy : ConvoyState) (so_far : List (List Want)) (k : ℕ) (link : LinkSeen) (member : Member) (honest : IsHonestWith link convoy.base side) (fits : FitsConvoy side convoy so_far)
     (has : slice_get convoy.members (k - 1) ≡ Some member) → let s = nothing_yet side convoy so_far k link member honest fits has in (s.is ≡ member) × (s.given ≡ []) × (s.asked ≡ []) × (s.failed ≡ [])
 unfolding nothing_yet
@@ -265,8 +265,8 @@ none_of_both first second none none_again = ap₂ (λ (x y : List Want). x ++ y)
 
 -- one turn more
 pub one_turn_more :
-    {round : Round} (side : Side) (old mid new : ConvoyState) (so_far : List (List Want)) (k : ℕ) (a b c : LinkSeen) (turn : Turn) (first : StillAgrees side old mid so_far k a b) →
-    TurnAgrees first.left mid new (set so_far (k - 1) (first.own ++ first.given)) k b c turn round → StillAgrees side old new so_far k a c
+    {round : Round} (side : Side) (old mid new : ConvoyState) (so_far : List (List Want)) (k : ℕ) (a b c : LinkSeen) (turn : Turn) (first : AgreesAfterTurnsOf side old mid so_far k a b) →
+    AgreesAfterTurn first.left mid new (set so_far (k - 1) (first.own ++ first.given)) k b c turn round → AgreesAfterTurnsOf side old new so_far k a c
 one_turn_more side old mid new so_far k a b c turn first turned =
     let second = turned.agrees in
     let same : second.was ≡ first.is = one_at mid.members (k - 1) second.was first.is second.had first.has in
@@ -311,10 +311,10 @@ one_turn_more side old mid new so_far k a b c turn first turned =
       fits = subst (FitsConvoy second.left new) (set_twice so_far (k - 1) (first.own ++ first.given) (second.own ++ second.given) ∙ ap (set so_far (k - 1)) whole) second.fits;
     }
 
--- what was given and asked then
+-- what was received and asked then
 pub one_turn_more_is :
-    {round : Round} (side : Side) (old mid new : ConvoyState) (so_far : List (List Want)) (k : ℕ) (a b c : LinkSeen) (turn : Turn) (first : StillAgrees side old mid so_far k a b)
-    (turned : TurnAgrees first.left mid new (set so_far (k - 1) (first.own ++ first.given)) k b c turn round) → let s = one_turn_more side old mid new so_far k a b c turn first turned in
+    {round : Round} (side : Side) (old mid new : ConvoyState) (so_far : List (List Want)) (k : ℕ) (a b c : LinkSeen) (turn : Turn) (first : AgreesAfterTurnsOf side old mid so_far k a b)
+    (turned : AgreesAfterTurn first.left mid new (set so_far (k - 1) (first.own ++ first.given)) k b c turn round) → let s = one_turn_more side old mid new so_far k a b c turn first turned in
     (s.is ≡ turned.agrees.is) × (s.given ≡ first.given ++ turned.agrees.given) × (s.asked ≡ first.asked ++ turned.agrees.asked) × (s.failed ≡ first.failed ++ turned.agrees.failed)
 unfolding one_turn_more
 one_turn_more_is side old mid new so_far k a b c turn first turned = (refl, refl, refl, refl)
@@ -325,7 +325,7 @@ honest_still base other side link same honest = subst (λ (b : BaseParts). IsHon
 
 -- turns of client k alone keep a convoy in agreement, and are this round
 pub record AgreesSo (side : Side) (old new : ConvoyState) (so_far : List (List Want)) (k : ℕ) (before after : LinkSeen) (round : Round) : Type 0 where
-  pub agrees : StillAgrees side old new so_far k before after
+  pub agrees : AgreesAfterTurnsOf side old new so_far k before after
   pub round_is : round_with agrees.given agrees.failed agrees.asked ≡ round
 
 -- client k alone had turns

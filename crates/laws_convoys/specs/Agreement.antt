@@ -8,14 +8,14 @@ use Rattle.laws_clients.specs.Published.{IsOwnPage}
 use Rattle.convoy.specs.State.{ConvoyState}
 use Rattle.convoy.specs.declared.member.Member.{Member}
 
--- each client agrees with the side, and was given what stands at its place so far
+-- each client agrees with the side, and received what the list has at its place
 abbrev pub AllFit : Side → List Member → List (List Want) → Type 0
 AllFit side [] [] = Unit {0}
 AllFit side [] (given ∷ more) = ⊥
 AllFit side (member ∷ others) [] = ⊥
 AllFit side (member ∷ others) (given ∷ more) = FitsSide side member.client given × AllFit side others more
 
--- the convoy agrees with the side: its clients do, and each page that is kept is the side's own page of its name
+-- the convoy agrees with the side: its clients do, and each cached page is the side's own page of its name
 pub record FitsConvoy (side : Side) (convoy : ConvoyState) (given : List (List Want)) : Type 0 where
   pub clients : AllFit side convoy.members given
   pub pages : All (IsOwnPage side) convoy.kept.pages

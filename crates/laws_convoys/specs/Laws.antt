@@ -11,14 +11,14 @@ use Rattle.convoy.specs.Finish.{Ends, IsStep, Rounds}
 use Rattle.convoy.specs.State.{Adds, ConvoyState, begun}
 use Rattle.convoy.specs.declared.turn.Turn.{Turn}
 use Rattle.laws_convoys.specs.Agreement.{FitsConvoy}
-use Rattle.laws_convoys.specs.Leaves.{EndAgrees, RoundsAgree, TurnAgrees}
+use Rattle.laws_convoys.specs.Leaves.{AgreesAfterOutcome, AgreesAfterRounds, AgreesAfterTurn}
 use Rattle.laws_convoys.specs.Rounds.{round_at, round_in, rounds_up_to}
 
 -- a convoy without clients agrees with every side
 abbrev pub NoneAgrees : Type 0
 NoneAgrees = (side : Side) (base : BaseParts) (capacity : ℕ) → FitsConvoy side (begun base capacity) []
 
--- a client more is there, which was given nothing yet
+-- a client more is there, which received nothing yet
 abbrev pub AddedAgrees : Type 0
 AddedAgrees =
     (side : Side) (old new : ConvoyState) (so_far : List (List Want)) (query : Query) → FitsConvoy side old so_far → Adds old query new
@@ -35,18 +35,18 @@ abbrev pub TurnKeepsAgreement : {X : Type 0} → (X → LinkSeen) → Type 0
 TurnKeepsAgreement {X} seen =
     (side : Side) (old new : ConvoyState) (so_far : List (List Want)) (k : ℕ) (before after : X) (turn : Turn) → IsHonestWith (seen before) old.base side
     → FitsConvoy side old so_far → (step : IsStep seen k old new before after turn)
-    → TurnAgrees side old new so_far k (seen before) (seen after) turn (round_at turn (shown step.turned.was.client) (shown step.turned.is.client))
+    → AgreesAfterTurn side old new so_far k (seen before) (seen after) turn (round_at turn (shown step.turned.was.client) (shown step.turned.is.client))
 
--- and so do the turns of a client to its outcome
+-- the turns of a client to its outcome keep the agreement
 abbrev pub EndKeepsAgreement : {X : Type 0} → (X → LinkSeen) → Type 0
 EndKeepsAgreement {X} seen =
     (side : Side) (old new : ConvoyState) (so_far : List (List Want)) (k : ℕ) (before after : X) → IsHonestWith (seen before) old.base side
     → FitsConvoy side old so_far → (ends : Ends seen k old new before after)
-    → EndAgrees side old new so_far k (seen before) (seen after) (round_in seen k ends.steps old new before after ends.turns)
+    → AgreesAfterOutcome side old new so_far k (seen before) (seen after) (round_in seen k ends.steps old new before after ends.turns)
 
 -- and the rounds of some or all clients
 abbrev pub RoundsKeepAgreement : {X : Type 0} → (X → LinkSeen) → Type 0
 RoundsKeepAgreement {X} seen =
     (side : Side) (old new : ConvoyState) (so_far : List (List Want)) (n : ℕ) (before after : X) → IsHonestWith (seen before) old.base side
     → FitsConvoy side old so_far → (rounds : Rounds seen n old new before after)
-    → RoundsAgree side old new so_far n (seen before) (seen after) (rounds_up_to seen n old new before after rounds)
+    → AgreesAfterRounds side old new so_far n (seen before) (seen after) (rounds_up_to seen n old new before after rounds)

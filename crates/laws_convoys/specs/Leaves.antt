@@ -11,7 +11,7 @@ use Rattle.page_client.specs.declared.outcome.Outcome.TheVariants.{LinkFault}
 use Rattle.page_client.specs.declared.want.Want.{Want}
 use Rattle.page_client.specs.declared.want.Want.TheVariants as wants
 use Rattle.publisher_spec.specs.Side.{IsLater, Side}
-use Rattle.laws_sides.specs.Recorded.{version_at}
+use Rattle.laws_sides.specs.Stated.{version_at}
 use Rattle.laws_clients.specs.Fits.{FitsSide}
 use Rattle.laws_clients.specs.Wants.{AreWants}
 use Rattle.convoy.specs.Finish.{HasOutcome}
@@ -24,7 +24,7 @@ use Rattle.laws_convoys.specs.Names.{AskByNames, Round, asked_of, failures_in, n
 use Rattle.laws_convoys.specs.Requests.{TellsAsked, TellsRequests, requests_of}
 use Rattle.laws_convoys.specs.Rounds.{round_with}
 
--- A link that was honest with the side is so with a later one, and with the same one where it was quiet, which it is still then. A
+-- A link that was honest with the side is honest with a later one. Where it was quiet, it is honest with the same one, and quiet still. A
 -- clear one is clear, and its count has not fallen.
 pub record LeavesHonest (base : BaseParts) (side left : Side) (before after : LinkSeen) : Type 0 where
   pub honest : IsHonestWith after base left
@@ -41,7 +41,7 @@ pub record IsNamedBetween (side left : Side) (known version : Option ℕ) : Type
   pub before : IsLater at left
   pub is : version ≡ Some (version_at at known)
 
--- the version after this was given: where that begins with the gate's reply, one of which this is so, and else as before
+-- the version after these were received: where they begin with the time gate's reply, one of which this holds, and else as before
 abbrev pub VersionBy : (Option ℕ → Type 0) → Option ℕ → List Want → Option ℕ → Type 0
 VersionBy IsSo before [] version = version ≡ before
 VersionBy IsSo before (wants.Gate ∷ more) version = IsSo version
@@ -53,7 +53,7 @@ VersionBy IsSo before (wants.Finished ∷ more) version = version ≡ before
 abbrev pub VersionThen : Side → Shown → List Want → Option ℕ → Type 0
 VersionThen left old given version = VersionBy (λ (v : Option ℕ). v ≡ Some (version_at left old.query.known)) old.version given version
 
--- after turns: the one that was meant when the gate replied
+-- after turns: the one that was meant when the time gate replied
 abbrev pub VersionAfter : Side → Side → Shown → List Want → Option ℕ → Type 0
 VersionAfter side left old given version = VersionBy (IsNamedBetween side left old.query.known) old.version given version
 
@@ -63,41 +63,41 @@ pub record HasFault (s : Shown) : Type 0 where
   pub high : ℕ
   pub is : s.outcome ≡ Some (LinkFault low high)
 
--- the count rose from the one to the other of these two, while it went from before to after
+-- the count increased from the one to the other of these two, while it went from before to after
 pub record RoseWithin (before after low high : ℕ) : Type 0 where
   pub from : before ≤ low
   pub to : high ≤ after
   pub rose : Rose low high
 
--- What became of a client that was given these wants: its question stays, and its outcome once it has one; its version is the one of the
--- gate's reply; and where it ended by a fault of the link, that rose meanwhile.
+-- What became of a client that received these wants. Its question stays, and its outcome once it has one. Its version is the one of the
+-- time gate's reply. Where it ended by a fault of the link, the link's count increased meanwhile.
 pub record HasMoved (side left : Side) (old new : Shown) (before after : LinkSeen) (given : List Want) : Type 0 where
   pub query : new.query ≡ old.query
   pub outcome : (ended : Outcome) → old.outcome ≡ Some ended → new.outcome ≡ Some ended
   pub version : VersionAfter side left old given new.version
   pub fault : (low high : ℕ) → old.outcome ≡ None → new.outcome ≡ Some (LinkFault low high) → RoseWithin before.faults after.faults low high
 
--- the same where it alone asked, and for these wants: each exchange is counted, and recorded where the link tells exchanges
+-- it alone asked, and for these wants: it has moved, and each exchange is counted, and recorded where the link records exchanges
 pub record HasGone (base : BaseParts) (side left : Side) (old new : Member) (before after : LinkSeen) (given asked : List Want) : Type 0 where
   pub moved : HasMoved side left (shown old.client) (shown new.client) before after given
   pub count : new.exchanges ≡ old.exchanges + length asked
   pub recorded : TellsAsked before.recorded after.recorded base (shown old.client).query asked
 
--- nothing was given or asked: it had its outcome
+-- it received nothing and asked for nothing: it had its outcome
 pub record IsIdle (old new : Member) (given asked : List Want) : Type 0 where
   pub had : HasOutcome old
   pub same : new ≡ old
   pub none_given : given ≡ []
   pub none_asked : asked ≡ []
 
--- it was given what it wanted, and nothing was asked
+-- it received what it wanted, and asked for nothing
 pub record WasKept (old new : Member) (given asked : List Want) : Type 0 where
   pub waited : want_of (shown old.client).phase ≢ wants.Finished
   pub is_given : given ≡ want_of (shown old.client).phase ∷ []
   pub none_asked : asked ≡ []
   pub no_fault : ¬ HasFault (shown new.client)
 
--- it was given what it wanted, which was asked for
+-- it received what it wanted, for which it asked
 pub record WasReplied (old new : Member) (given asked : List Want) : Type 0 where
   pub waited : want_of (shown old.client).phase ≢ wants.Finished
   pub is_given : given ≡ want_of (shown old.client).phase ∷ []
@@ -122,7 +122,7 @@ pub record NoneFailed (was is : Shown) (failed : List Want) : Type 0 where
   pub none : failed ≡ []
   pub before : HasFault is → HasFault was
 
--- its last exchange failed: that was for what it wanted behind all that it was given
+-- its last exchange failed: that was for what it wanted after all that it received
 pub record OneFailed (side : Side) (was is : Shown) (all_given failed : List Want) : Type 0 where
   pub waited : was.outcome ≡ None
   pub by_fault : HasFault is
@@ -131,8 +131,8 @@ pub record OneFailed (side : Side) (was is : Shown) (all_given failed : List Wan
   pub gate : all_given ≡ [] → want ≡ wants.Gate
   pub next : (version : ℕ) (all : List Want) → is.version ≡ Some version → AreWants side version is.query all → (more : List Want) × (all ≡ all_given ++ want ∷ more)
 
--- The names of the kept pages tell what was asked for: of what was given, and of what failed behind it, all but the pages that were kept
--- then. What failed is not kept.
+-- The names of the cached pages determine what it asked for. It asked for what it received and for what failed after it, but not for pages that
+-- were cached then. What failed is not cached.
 pub record AsksByNames (side : Side) (was is : Shown) (before after : Kept) (own given failed asked : List Want) : Type 0 where
   pub capacity : after.capacity ≡ before.capacity
   pub names : names_of after.pages ≡ names_after before.capacity (names_of before.pages) given
@@ -140,10 +140,10 @@ pub record AsksByNames (side : Side) (was is : Shown) (before after : Kept) (own
   pub not_kept : asked_of before.capacity (names_of after.pages) failed ≡ failed
   pub how : NoneFailed was is failed ⊎ OneFailed side was is (own ++ given) failed
 
--- What turns of client k alone leave of a convoy that agreed with the link's side, its clients being given this so far: it agrees with the
--- side that is left, client k being given these wants besides, and every other client stays as it was. It is given nothing where it had
--- its outcome, and the gate's reply only where it was given nothing before.
-pub record StillAgrees (side : Side) (old new : ConvoyState) (so_far : List (List Want)) (k : ℕ) (before after : LinkSeen) : Type 0 where
+-- The convoy agreed with the link's side, and its clients had received this. Then only client k had turns. The convoy agrees with the side that
+-- is left, client k received these wants besides, and every other client stays as it was. It receives nothing where it had
+-- its outcome, and the time gate's reply only where it had received nothing before.
+pub record AgreesAfterTurnsOf (side : Side) (old new : ConvoyState) (so_far : List (List Want)) (k : ℕ) (before after : LinkSeen) : Type 0 where
   pub left : Side
   pub honest : LeavesHonest old.base side left before after
   pub base : new.base ≡ old.base
@@ -164,22 +164,22 @@ pub record StillAgrees (side : Side) (old new : ConvoyState) (so_far : List (Lis
   pub client : FitsSide left is.client (own ++ given)
   pub fits : FitsConvoy left new (slice_set so_far (k - 1) (own ++ given))
 
--- the same of one turn, which is this round, with what it gave, and the version at the side that it left
-pub record TurnAgrees (side : Side) (old new : ConvoyState) (so_far : List (List Want)) (k : ℕ) (before after : LinkSeen) (turn : Turn) (round : Round) : Type 0 where
-  pub agrees : StillAgrees side old new so_far k before after
+-- the convoy agrees after one turn, which is this round, with what the turn gave, and the version at the side that it left
+pub record AgreesAfterTurn (side : Side) (old new : ConvoyState) (so_far : List (List Want)) (k : ℕ) (before after : LinkSeen) (turn : Turn) (round : Round) : Type 0 where
+  pub agrees : AgreesAfterTurnsOf side old new so_far k before after
   pub round_is : round_with agrees.given agrees.failed agrees.asked ≡ round
   pub gave : Gave turn agrees.was agrees.is agrees.given agrees.asked
   pub version : VersionThen agrees.left (shown agrees.was.client) agrees.given (shown agrees.is.client).version
 
--- the same where client k was turned until it had its outcome, in this round
-pub record EndAgrees (side : Side) (old new : ConvoyState) (so_far : List (List Want)) (k : ℕ) (before after : LinkSeen) (round : Round) : Type 0 where
-  pub agrees : StillAgrees side old new so_far k before after
+-- the convoy agrees after the turns of client k until it had its outcome, in this round
+pub record AgreesAfterOutcome (side : Side) (old new : ConvoyState) (so_far : List (List Want)) (k : ℕ) (before after : LinkSeen) (round : Round) : Type 0 where
+  pub agrees : AgreesAfterTurnsOf side old new so_far k before after
   pub round_is : round_with agrees.given agrees.failed agrees.asked ≡ round
   pub ended : HasOutcome agrees.is
 
--- The client at a place came to its outcome in its round. It is given nothing there if it had one before, and the gate's reply only if it
--- was given nothing before. What it was given all in all stands at its place now, and each exchange is counted.
-pub record HasCome (side left : Side) (was : Member) (new : ConvoyState) (so_far now : List (List Want)) (rounds : List Round) (place : ℕ) (before after : LinkSeen) : Type 0 where
+-- The client at a place reached its outcome in its round. It receives nothing there if it had one before, and the time gate's reply only if it
+-- had received nothing before. All that it received is at its place now, and each exchange is counted.
+pub record HasReachedOutcome (side left : Side) (was : Member) (new : ConvoyState) (so_far now : List (List Want)) (rounds : List Round) (place : ℕ) (before after : LinkSeen) : Type 0 where
   pub is : Member
   pub has : slice_get new.members place ≡ Some is
   pub ended : HasOutcome is
@@ -195,10 +195,10 @@ pub record HasCome (side left : Side) (was : Member) (new : ConvoyState) (so_far
   pub moved : HasMoved side left (shown was.client) (shown is.client) before after round.given
   pub client : FitsSide left is.client (own ++ round.given)
 
--- What these rounds of the first n clients leave of a convoy that agreed with the link's side: it agrees with the side that is left, each of these
--- clients came to its outcome; what was asked for the one after the other, as the names of the kept pages tell, is recorded where the link
--- tells exchanges; and the count of the link rose as often as an exchange failed.
-pub record RoundsAgree (side : Side) (old new : ConvoyState) (so_far : List (List Want)) (n : ℕ) (before after : LinkSeen) (rounds : List Round) : Type 0 where
+-- What these rounds of the first n clients leave of a convoy that agreed with the link's side. It agrees with the side that is left, and each of
+-- these clients reached its outcome. The names of the cached pages determine what they asked for, one after the other. The link records it
+-- where it records exchanges. Its count increased as often as an exchange failed.
+pub record AgreesAfterRounds (side : Side) (old new : ConvoyState) (so_far : List (List Want)) (n : ℕ) (before after : LinkSeen) (rounds : List Round) : Type 0 where
   pub left : Side
   pub honest : LeavesHonest old.base side left before after
   pub base : new.base ≡ old.base
@@ -210,6 +210,6 @@ pub record RoundsAgree (side : Side) (old new : ConvoyState) (so_far : List (Lis
   pub names : names_of new.kept.pages ≡ names_behind old.kept.capacity (names_of old.kept.pages) rounds
   pub recorded : TellsRequests before.recorded after.recorded old.base.authority (requests_of old.base old.members rounds)
   pub faults : RoseBy (failures_in rounds) before.faults after.faults
-  pub came : (place : ℕ) (was : Member) → place < n → slice_get old.members place ≡ Some was → HasCome side left was new so_far now rounds place before after
+  pub came : (place : ℕ) (was : Member) → place < n → slice_get old.members place ≡ Some was → HasReachedOutcome side left was new so_far now rounds place before after
   pub others : (place : ℕ) → n ≤ place → slice_get new.members place ≡ slice_get old.members place
   pub same : (place : ℕ) → n ≤ place → slice_get now place ≡ slice_get so_far place

@@ -1,4 +1,4 @@
--- Which wants are asked for, and which are taken from the pages that are kept. The names of these pages alone tell it.
+-- Which wants are asked for, and which are taken from the cached pages. The names of these pages alone determine it.
 use Rattle.std.specs.Prelude.{◌≡◌, ℕ, ◌+◌, Bool, not, List, [], ◌∷◌, ◌++◌, length, map, filter, take, if◌then◌else◌}
 use Rattle.std.specs.List.{list_any}
 use Rattle.lc_model.specs.declared.page.PageName.{PageName}
@@ -19,19 +19,19 @@ is_among names name = list_any (is_same name) names
 abbrev pub others : List PageName → PageName → List PageName
 others names name = filter (λ (other : PageName). not (is_same name other)) names
 
--- The names of the kept pages after one was wanted: its own stands in front, and where it was not among them, the last one goes if there
+-- The names of the cached pages after one was wanted. Its own is in front. Where it was not among them, the last one goes if there
 -- are more than the capacity then.
 abbrev pub names_with : ℕ → List PageName → PageName → List PageName
 names_with capacity names name = if is_among names name then name ∷ others names name else take capacity (name ∷ others names name)
 
--- the same after anything was wanted
+-- the names of the cached pages after anything was wanted
 abbrev pub names_then : ℕ → List PageName → Want → List PageName
 names_then capacity names wants.Gate = names
 names_then capacity names wants.Stops = names
 names_then capacity names (wants.Page name) = names_with capacity names name
 names_then capacity names wants.Finished = names
 
--- what is asked for of one want: it, or nothing where that page is kept
+-- what is asked for of one want: it, or nothing where that page is cached
 abbrev pub asked_for : List PageName → Want → List Want
 asked_for names wants.Gate = wants.Gate ∷ []
 asked_for names wants.Stops = wants.Stops ∷ []
@@ -48,7 +48,7 @@ abbrev pub asked_of : ℕ → List PageName → List Want → List Want
 asked_of capacity names [] = []
 asked_of capacity names (want ∷ more) = asked_for names want ++ asked_of capacity (names_then capacity names want) more
 
--- What a client was given in its round, what was asked for behind that in vain, and what was asked for it all in all.
+-- What a client received in its round, what it asked for after that in vain, and all that it asked for.
 pub record Round : Type 0 where
   pub given : List Want
   pub failed : List Want
@@ -59,13 +59,13 @@ abbrev pub names_behind : ℕ → List PageName → List Round → List PageName
 names_behind capacity names [] = names
 names_behind capacity names (round ∷ more) = names_behind capacity (names_after capacity names round.given) more
 
--- The names of the pages that were kept tell what was asked for in the round: all that was given or failed, but the pages that were kept
--- then. What failed was not kept.
+-- The names of the cached pages determine what was asked for in the round: all that was received or failed, but the pages cached
+-- then. What failed was not cached.
 pub record IsByNames (capacity : ℕ) (names : List PageName) (round : Round) : Type 0 where
   pub asked : round.asked ≡ asked_of capacity names (round.given ++ round.failed)
   pub not_kept : asked_of capacity (names_after capacity names round.given) round.failed ≡ round.failed
 
--- and so in each round, by the names then
+-- in each round the names at that time determine it
 abbrev pub AskByNames : ℕ → List PageName → List Round → Type 0
 AskByNames capacity names [] = Unit {0}
 AskByNames capacity names (round ∷ more) = IsByNames capacity names round × AskByNames capacity (names_after capacity names round.given) more

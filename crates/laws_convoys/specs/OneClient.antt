@@ -8,7 +8,7 @@ use Rattle.page_client.specs.declared.outcome.Outcome.TheVariants.{LinkFault}
 use Rattle.page_client.specs.declared.want.Want.{Want}
 use Rattle.page_client.specs.declared.want.Want.TheVariants as wants
 use Rattle.publisher_spec.specs.Side.{Side}
-use Rattle.laws_sides.specs.Recorded.{version_at}
+use Rattle.laws_sides.specs.Stated.{version_at}
 use Rattle.laws_clients.specs.Fits.{FitsSide}
 use Rattle.laws_clients.specs.Wants.{AreWants}
 use Rattle.convoy.specs.Finish.{HasOutcome, Rounds}
@@ -18,31 +18,31 @@ use Rattle.laws_convoys.specs.Leaves.{HasFault, RoseWithin}
 use Rattle.laws_convoys.specs.Replies.{TellsReplies}
 use Rattle.laws_convoys.specs.Requests.{TellsAsked}
 
--- the version of a client that was given this: none where it was given nothing, and else the one that its question means
+-- the version of a client that received this: none where it received nothing, and else the one that its question means
 abbrev pub version_of : Side → Query → List Want → Option ℕ
 version_of side query [] = None
 version_of side query (want ∷ more) = Some (version_at side query.known)
 
--- what a client that was given this wants next: the gate, and behind it the next one of its wants
+-- what a client that received this wants next: the time gate, and after it the next one of its wants
 pub record IsNext (side : Side) (query : Query) (given : List Want) (want : Want) : Type 0 where
   pub gate : given ≡ [] → want ≡ wants.Gate
   pub next : (all : List Want) → AreWants side (version_at side query.known) query all → (more : List Want) × (all ≡ given ++ want ∷ more)
 
--- it ended by no fault of the link, and exactly what it was given was asked for
+-- it ended by no fault of the link, and asked for exactly what it received
 pub record AskedAll (member : Member) (given asked : List Want) : Type 0 where
   pub no_fault : ¬ HasFault (shown member.client)
   pub are : asked ≡ given
 
--- it ended by a fault of the link: behind what it was given the next one of its wants was asked for
+-- it ended by a fault of the link: after what it received it asked for the next one of its wants
 pub record AskedOneMore (side : Side) (query : Query) (member : Member) (given asked : List Want) : Type 0 where
   pub by_fault : HasFault (shown member.client)
   pub want : Want
   pub is_next : IsNext side query given want
   pub are : asked ≡ given ++ want ∷ []
 
--- What one client alone comes to over a quiet link with this side: it agrees with the side, and was given these wants; it has its outcome,
--- and the version that its question means; what was asked is what it was given, and the one that failed; each exchange is counted, and recorded
--- where the link tells exchanges, with the side's own reply; and the link is as it was but for that.
+-- What one client alone results in over a quiet link with this side. It agrees with the side, and received these wants. It has its outcome,
+-- and the version that its question means. It asked for what it received, and for the one that failed. Each exchange is counted. The link
+-- records it where it records exchanges, with the side's own reply. The link is as it was but for that.
 pub record IsAlone (side : Side) (base : BaseParts) (query : Query) (new : ConvoyState) (before after : LinkSeen) : Type 0 where
   pub member : Member
   pub only : new.members ≡ member ∷ []

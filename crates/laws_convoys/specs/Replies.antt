@@ -16,7 +16,7 @@ pub record TellsReplies (side : Side) (before after : Option (List Entry)) : Typ
   pub own : All (IsRepliedBy side) entries
   pub is : after ≡ option_map (λ (recorded : List Entry). recorded ++ entries) before
 
--- and so many they were
+-- where exchanges are recorded, there are this many of them
 pub record TellsSoMany (side : Side) (count : ℕ) (before after : Option (List Entry)) : Type 0 where
   pub replies : TellsReplies side before after
   pub count_is : length replies.entries ≡ count

@@ -1,4 +1,4 @@
--- The requests by which wants are asked for, and that a link tells them.
+-- The requests by which wants are asked for, and that a link records them.
 use Rattle.std.specs.Prelude.{◌≡◌, ℕ, List, [], ◌∷◌, ◌++◌, map, Option, option_map}
 use Rattle.std.specs.List.{All}
 use Rattle.lc_model.specs.declared.query.Query.{Query}

@@ -1,4 +1,4 @@
--- The rounds of clients, as their turns tell them.
+-- The rounds of clients, as their turns give them.
 use Rattle.std.specs.Prelude.{ℕ, zero, suc, List, [], ◌∷◌, ◌++◌, Option, Some, None}
 use Rattle.convoy.specs.Finish.{Rounds, Step, TurnsOf}
 use Rattle.convoy.specs.State.{ConvoyState}
@@ -12,15 +12,15 @@ use Rattle.page_client.specs.declared.outcome.Outcome.TheVariants as outcomes
 use Rattle.page_client.specs.declared.want.Want.{Want}
 use Rattle.laws_convoys.specs.Names.{Round}
 
--- this was given, this failed, and this was asked for
+-- this was received, this failed, and this was asked for
 abbrev pub round_with : List Want → List Want → List Want → Round
 round_with given failed asked = record { given = given; failed = failed; asked = asked }
 
--- one behind the other
+-- one after the other
 abbrev pub round_then : Round → Round → Round
 round_then first second = round_with (first.given ++ second.given) (first.failed ++ second.failed) (first.asked ++ second.asked)
 
--- the want was asked for: it was given, unless the client ended by a fault of the link
+-- the want was asked for: it was received, unless the client ended by a fault of the link
 abbrev pub round_asked : Want → Option Outcome → Round
 round_asked want None = round_with (want ∷ []) [] (want ∷ [])
 round_asked want (Some (outcomes.Found journey)) = round_with (want ∷ []) [] (want ∷ [])

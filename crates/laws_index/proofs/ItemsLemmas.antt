@@ -1,4 +1,4 @@
--- Lists in which no item stands twice: with the same items they are the same in another order.
+-- Lists in which no item is there twice: with the same items they are the same in another order.
 use Rattle.std.proofs.Common.{◌≡◌, ◌≢◌, ◌⊎◌, ◌↔◌, inl, inr, List, [], ◌∷◌, filter, Bool, true, remove, sym, subst}
 use Rattle.std.specs.Cmp.{IsTotalOrder}
 use Rattle.std.specs.List.{Contains}
@@ -14,7 +14,7 @@ use Rattle.lc_model.proofs.ListLemmas.{AllPairs-head, AllPairs-tail, AllPairs-we
 use Rattle.lc_model.proofs.OrdersLemmas.{AllPairs-permutation}
 use Rattle.laws_index.specs.Held.{NoneTwice}
 
--- the first item does not stand later in the list
+-- the first item is not later in the list
 not_later : {X : Type 0} (x : X) (xs : List X) (z : X) → NoneTwice (x ∷ xs) → Contains xs z → x ≢ z
 not_later x xs z once there = All-contains (λ y. x ≢ y) xs z (AllPairs-head (λ a b. a ≢ b) x xs once) there
 

@@ -1,4 +1,4 @@
--- A walk over places meets the connections of the runs that hold, whatever a place is.
+-- A walk over places gives the connections of the runs that hold, whatever a place is.
 use Rattle.std.proofs.Common.{◌≡◌, ◌≢◌, ◌↔◌, inl, inr, ℕ, suc, ◌+◌, ◌≤◌, List, [], ◌∷◌, ◌++◌, filter, map, Bool, true, false, Option, Some, refl, sym, ap, ap₂, ◌∙◌, subst, subst₂, arith}
 use Rattle.std.specs.Prelude.{if◌then◌else◌, option_and_then, unwrap_or}
 use Rattle.std.specs.List.{All, Contains, slice_get}
@@ -100,7 +100,7 @@ module _ {P : Type 0} (number_of : P → ℕ) (places : ℕ → Run → List P) 
         ∙ ap₂ (λ first second. first ++ second) (kept_of_run number run (holds number) (first_has number run rest have) refl) (along (suc number) rest (others_have number run rest have))
         ∙ one_more run (held_from holds (suc number) rest) (holds number)
 
-    -- what a walk meets at the places of runs that hold are their connections, in some order
+    -- what a walk gives at the places of runs that hold are their connections, in some order
     pub walked_moved : (runs : List Run) (walk : List P) (walked : List Connection) → HavePlaces 0 runs → NoneTwice walk
         → ((p : P) → holds (number_of p) ≡ true → (Contains walk p ↔ Contains (places_of 0 runs) p)) → map Some walked ≡ map connection (filter stays walk)
         → IsPermutation (connections_of (held_from holds 0 runs)) walked

@@ -15,7 +15,7 @@ use Rattle.lc_versions.specs.Added.{IsFurtherRun}
 use Rattle.lc_versions.specs.News.{TripSaid}
 use Rattle.lc_versions.specs.Timetable.{AreLiveRuns, IsLiveRun}
 
--- no item stands twice in the list
+-- no item is twice in the list
 abbrev pub NoneTwice : {X : Type 0} → List X → Type 0
 NoneTwice list = AllPairs (λ x y. x ≢ y) list
 
@@ -40,7 +40,7 @@ pub record HoldBy (runs : List Run) (stops : List Stop) (list : List TripSaid) (
 abbrev pub LiveRunsHold : Type 0
 LiveRunsHold = (runs : List Run) (stops : List Stop) (list : List TripSaid) (live : List Run) → AreLiveRuns runs stops list live → HoldBy runs stops list live
 
--- runs by the news, once they stand in the order of their keys, are the live runs
+-- runs by the news, once they are in the order of their keys, are the live runs
 abbrev pub OrderedAreLive : Type 0
 OrderedAreLive =
     (runs : List Run) (stops : List Stop) (list : List TripSaid) (held ordered : List Run) → AreRunsBy runs stops list held → InKeyOrder ordered

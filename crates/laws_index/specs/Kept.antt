@@ -52,7 +52,7 @@ abbrev pub last_of_ids : List EntitySaid → List EntitySaid
 last_of_ids [] = []
 last_of_ids (entity ∷ later) = if has_id entity.id later then last_of_ids later else entity ∷ last_of_ids later
 
--- entities that go in one after the other leave of what is in force those whose ids none of them has, and then the last of each id that has news
+-- Entities that go in one after the other leave of what is in force those whose ids none of them has. Then comes the last of each id with news.
 abbrev pub PutAtOnce : Type 0
 PutAtOnce =
     (kept entities : List EntitySaid)

@@ -26,13 +26,13 @@ pub record AreSound (held : List Run) : Type 0 where
   pub apart : KeysApart held
   pub forward : RunsForward held
 
--- the connections of a span, taken from such a list and sorted for themselves, stand as they do among all connections
+-- the connections of a span, taken from such a list and sorted for themselves, are in the order that they have among all connections
 abbrev pub SortedAreRows : Type 0
 SortedAreRows =
     (held : List Run) (from : ℕ) (to : Option ℕ) (walked made sorted : List Connection) → AreSound held → IsPermutation (connections_of held) walked
     → made ≡ departing from to walked → IsPermutation made sorted → IsSorted departure_cmp sorted → AreDepartingOf held from to sorted
 
--- the departures of such a list, once they stand in their order, are those of all connections
+-- the departures of such a list, once they are in their order, are those of all connections
 abbrev pub OrderedAreDepartures : Type 0
 OrderedAreDepartures =
     (held : List Run) (walked : List Connection) (made departures : List ℕ) → AreSound held → IsPermutation (connections_of held) walked

@@ -62,7 +62,7 @@ LiveAfterLive =
 abbrev pub NoneHas : List Run → RunKey → Type 0
 NoneHas runs key = (run : Run) → Contains runs run → run.key ≡ key → ⊥
 
--- From the old news to the new these keys end, and these runs begin: every run by the new news begins or was there by the old, no key ends that
+-- From the old news to the new these keys end, and these runs begin. Every run by the new news begins or was there by the old. No key ends that
 -- still has a run, and each that was there ends or has a run still.
 pub record AreChanges (runs : List Run) (stops : List Stop) (old new : List TripSaid) (ended : List RunKey) (begun : List Run) : Type 0 where
   pub begins : (run : Run) → Contains begun run → IsRunBy runs stops new run

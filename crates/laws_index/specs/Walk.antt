@@ -1,4 +1,4 @@
--- The connections that a walk over spots meets. A spot is the number of a run and that of one of its calls.
+-- The connections that a walk over spots gives. A spot is the number of a run and that of one of its calls.
 use Rattle.std.specs.Prelude.{◌≡◌, ◌↔◌, ℕ, suc, List, [], ◌∷◌, ◌++◌, map, filter, Bool, true, if◌then◌else◌, Option, Some, None, option_and_then}
 use Rattle.std.specs.List.{Contains, slice_get}
 use Rattle.std.specs.List.Sorted.{IsPermutation}

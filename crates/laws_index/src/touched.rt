@@ -1,6 +1,6 @@
 ghost use Rattle.laws_index.specs.Touched.{LiveAfterLive, OthersStay, SameNewsSameRun, TouchFewKeys, UpdateHolds};
 
-/// The live runs by a new list of news are those that neither the old nor the new news touch, as they were, and of the touched ones
+/// The live runs by a new list of news. Those that neither the old nor the new news touch are as they were. The touched ones are
 /// those by the new list.
 pub fn others_stay()
     ensures stay { OthersStay }
@@ -17,7 +17,7 @@ pub fn touch_few_keys()
     ensures { TouchFewKeys }
 {}
 
-/// The runs by the old news, where the keys that have no run any more end and the runs that are others by the new news begin, are the runs
+/// The runs by the old news, where the keys without a run end and the runs that are others by the new news begin, are the runs
 /// by the new news, as they are worked out anew.
 pub fn update_holds()
     ensures { UpdateHolds }

@@ -44,7 +44,7 @@ of_kind A B query doc journey is are = record {
   in_time = is.in_time;
 }
 
--- the same where those rides alone are of the other kind that arrive by a moment: all do, where the last one does
+-- A journey over one kind is one over another kind that has those rides which arrive by a moment. All do, where the last one does.
 goes_in_time : (A B : Ride → Type 0) (doc : StopsDoc) (latest : ℕ) (ride : Ride) (rest : List Ride) → ((r : Ride) → A r → r.dep ≤ r.arr) → ((r : Ride) → A r → r.arr ≤ latest → B r) → GoesOn A doc ride rest → arrival_of_rides (ride ∷ rest) ≤ latest → GoesOn B doc ride rest × (ride.arr ≤ latest)
 goes_in_time A B doc latest ride [] forward all goes arrives = (goes, arrives)
 goes_in_time A B doc latest ride (next ∷ rest) forward all goes arrives =

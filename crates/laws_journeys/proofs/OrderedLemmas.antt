@@ -33,7 +33,7 @@ nat_cmp-less : (m n : ℕ) → m < n → nat_cmp m n ≡ Less
 nat_cmp-less m n below =
     by_ranked (m < n) (m ≡ n) (n < m) (nat_cmp m n) (ranked m n (nat_cmp m n) refl) (λ less _. less) (λ _ tied. absurd (omega arith)) (λ _ above. absurd (omega arith))
 
--- of one run, what departs no later and has the lower sequence stands before
+-- of one run, what departs no later and has the lower sequence comes before
 pub departs_before : (x y : Connection) → x.dep ≤ y.dep → x.key ≡ y.key → x.seq < y.seq → departure_cmp x y ≡ Less
 departs_before x y departs same lower =
     let by_dep = nat_cmp x.dep y.dep in

@@ -1,13 +1,13 @@
--- Places in lists: an item stands at a place where `slice_get` gives it.
+-- Places in lists: an item is at a place where `slice_get` gives it.
 use Rattle.std.proofs.Common.{◌≡◌, ℕ, zero, suc, ◌<◌, List, [], ◌∷◌, ◌++◌, length, get_or, Bool, true, false, Some, refl, ap, sym, subst, ◌∙◌, ◌⊎◌, inl, inr, cond, arith, filter}
 use Rattle.std.specs.List.{All, AllPairs, Contains, slice_get, flat_map}
 use Rattle.std.proofs.lemmas.Option.{get_or_from_slice_get, slice_get-get_or}
 
--- an item stands somewhere in the list
+-- an item is somewhere in the list
 abbrev pub Stands : {X : Type 0} → List X → X → Type 0
 Stands list x = (place : ℕ) × (slice_get list place ≡ Some x)
 
--- a place where an item stands is within the list
+-- a place of an item is within the list
 pub within : {X : Type 0} (list : List X) (place : ℕ) (x : X) → slice_get list place ≡ Some x → place < length list
 within [] place x stands = cc
 within (y ∷ list) zero x stands = omega arith
@@ -19,18 +19,18 @@ stands_from_contains list x (place, below, is) = (place, slice_get-get_or list p
 pub contains_from_stands : {X : Type 0} (list : List X) (x : X) → Stands list x → Contains list x
 contains_from_stands list x (place, stands) = (place, within list place x stands, get_or_from_slice_get list place x x stands)
 
--- what holds of all items holds of one that stands there
+-- what holds of all items holds of one at a place
 pub all_at : {X : Type 0} (P : X → Type 0) (list : List X) (place : ℕ) (x : X) → All P list → slice_get list place ≡ Some x → P x
 all_at P list place x all stands = subst P (get_or_from_slice_get list place x x stands) (all place x (within list place x stands))
 
--- what holds of all pairs holds of two that stand in this order
+-- what holds of all pairs holds of two that are in this order
 pub pair_at : {X : Type 0} (R : X → X → Type 0) (list : List X) (i j : ℕ) (x y : X) → AllPairs R list → i < j → slice_get list i ≡ Some x → slice_get list j ≡ Some y → R x y
 pair_at R list i j x y pairs before stands_x stands_y =
     let P = λ (a : _). R a y in
     subst (λ a. R a y) (get_or_from_slice_get list i x x stands_x)
     (subst (λ b. R (get_or list i x) b) (get_or_from_slice_get list j y x stands_y) (pairs i j x before (within list j y stands_y)))
 
--- an item that stands in the rest of a list stands in the list
+-- an item in the rest of a list is in the list
 pub later : {X : Type 0} (y x : X) (list : List X) → Stands list x → Stands (y ∷ list) x
 later y x list (place, stands) = (suc place, stands)
 
@@ -62,7 +62,7 @@ from_cond p y x list rest false place passes onward stands =
     let found = onward place stands in
     (later y x list found.0, found.1)
 
--- an item that a filter left stands in the list and passes
+-- an item that a filter left is in the list and passes
 pub stands_from_filter : {X : Type 0} (p : X → Bool) (list : List X) (place : ℕ) (x : X) → slice_get (filter p list) place ≡ Some x → Stands list x × (p x ≡ true)
 stands_from_filter p [] place x stands = cc
 stands_from_filter p (y ∷ list) place x stands =
@@ -83,7 +83,7 @@ stands_either (y ∷ xs) ys zero x stands = inl (0, stands)
 stands_either (y ∷ xs) ys (suc place) x stands =
     elim (stands_either xs ys place x stands) [ inl left ↦ inl (later y x xs left) | inr right ↦ inr right ]
 
--- an item of one of the lists stands in all of them
+-- an item of one of the lists is in all of them
 pub stands_in_flat_map : {X A : Type 0} (f : X → List A) (list : List X) (place : ℕ) (x : X) (a : A) → slice_get list place ≡ Some x → Stands (f x) a → Stands (flat_map f list) a
 stands_in_flat_map f [] place x a stands inside = cc
 stands_in_flat_map f (y ∷ list) zero x a stands inside =
@@ -92,7 +92,7 @@ stands_in_flat_map f (y ∷ list) zero x a stands inside =
 stands_in_flat_map f (y ∷ list) (suc place) x a stands inside =
     stands_right (f y) (flat_map f list) a (stands_in_flat_map f list place x a stands inside)
 
--- an item of all the lists stands in one of them
+-- an item of all the lists is in one of them
 pub stands_from_flat_map : {X A : Type 0} (f : X → List A) (list : List X) (a : A) (place : ℕ) → slice_get (flat_map f list) place ≡ Some a → (at : ℕ) × (x : X) × (slice_get list at ≡ Some x) × Stands (f x) a
 stands_from_flat_map f [] a place stands = cc
 stands_from_flat_map f (y ∷ list) a place stands =

@@ -31,14 +31,14 @@ pub record Timetable (runs : List Run) (list : List Connection) : Type 0 where
   pub forward : All (λ (r : Run). GoesForward r.calls) runs
   pub connections : AreConnectionsOf runs list
 
--- a connection of a run stands in the list, and in what is in time of it where it arrives in time
+-- a connection of a run is in the list, and in what is in time of it where it arrives in time
 stands_in_time : (runs : List Run) (list : List Connection) (query : Query) (at place : ℕ) (run : Run) (x : Connection) → Timetable runs list → slice_get runs at ≡ Some run → slice_get (connections_of_calls run.key run.calls) place ≡ Some x → x.arr ≤ latest_of query → Stands (in_time query list) x
 stands_in_time runs list query at place run x table run_at x_at in_time_x =
     let among : Stands (connections_of runs) x = stands_in_flat_map (λ (r : Run). connections_of_calls r.key r.calls) runs at run x run_at (place, x_at) in
     let listed : Stands list x = stands_from_contains list x (Contains-permutation (connections_of runs) list x table.connections.all (contains_from_stands (connections_of runs) x among)) in
     stands_in_filter (λ (c : Connection). nat_le c.arr (latest_of query)) list listed.0 x listed.1 (le-leb x.arr (latest_of query) in_time_x)
 
--- of two connections that stand in a list in departure order, the one that stands first is less
+-- of two connections in a list in departure order, the first one is less
 in_order_at : (list : List Connection) (p q : ℕ) (x y : Connection) → InDepartureOrder list → slice_get list p ≡ Some x → slice_get list q ≡ Some y → departure_cmp x y ≡ Less → p < q
 in_order_at list p q x y order x_at y_at less =
     elim (cases_lt p q) [
@@ -52,7 +52,7 @@ in_order_at list p q x y order x_at y_at less =
       ]
     ]
 
--- the connections in time stand in departure order too
+-- the connections in time are in departure order too
 in_time_order : (list : List Connection) (query : Query) → InDepartureOrder list → InDepartureOrder (in_time query list)
 in_time_order list query order = AllPairs-filter (λ a b. departure_cmp a b ≡ Less) (λ (c : Connection). nat_le c.arr (latest_of query)) list order
 
@@ -161,7 +161,7 @@ origin_of runs list query place x table stands =
 unequal : Less ≡ Equal → ⊥
 unequal same = cc
 
--- runs of one key stand at one place
+-- runs of one key are at one place
 same_place : (runs : List Run) (i j : ℕ) (r s : Run) → InKeyOrder runs → slice_get runs i ≡ Some r → slice_get runs j ≡ Some s → r.key ≡ s.key → i ≡ j
 same_place runs i j r s order r_at s_at same =
     let tied : key_cmp r.key s.key ≡ Equal = ap (λ k. key_cmp r.key k) (sym same) ∙ key_cmp-self r.key in

@@ -1,5 +1,5 @@
-//! The law that a list of connections in departure order has the journeys of the timetable that it comes from: each ride
-//! of a run is a leg of the list, and each leg a ride. It stands on `lc_model`.
+//! The law that a list of connections in departure order has the journeys of the timetable that it comes from. Each ride
+//! of a run is a leg of the list, and each leg a ride. It builds on `lc_model`.
 #![tactic(auto)]
 
 mod law;

@@ -35,7 +35,7 @@ parted_by_links list first rest query pages =
       early = before_moment first rest query.leave is.follow;
     }
 
--- and so does what departs from the moment on
+-- what departs from the moment on parts the list at that moment
 pub parted_by_moment : (list : List Connection) (moment : ℕ) → InDepartureOrder list → IsParted moment list (departing moment None list)
 parted_by_moment list moment in_order =
     record {

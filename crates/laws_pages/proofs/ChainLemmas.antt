@@ -14,7 +14,7 @@ use Rattle.laws_pages.specs.Chain.{along_next, along_previous, connections_along
 use Rattle.laws_pages.proofs.DeparturesLemmas.{Sorted, all_after, between, is_within, no_part_beyond, part_at, part_begins, whole_part}
 use Rattle.laws_pages.proofs.FilterLemmas.{filter_all, filter_drops, filter_none, filter_takes, pairs_head, pairs_tail}
 
--- the numbers rise strictly
+-- the numbers strictly increase
 abbrev pub Rising : List ℕ → Type 0
 Rising cuts = AllPairs (λ (x y : ℕ). x < y) cuts
 
@@ -30,7 +30,7 @@ pages_are_part cut (next ∷ rest) list rising sorted =
     ap (λ (more : List Connection). departing cut (Some next) list ++ more) (pages_are_part next rest list (pairs_tail (λ (x y : ℕ). x < y) cut (next ∷ rest) rising) sorted)
     ∙ part_at cut next list (omega arith) sorted
 
--- from the first departure on stands all
+-- from the first departure on is all
 pub all_from_first : (cut : ℕ) (list : List Connection) → Sorted list → Some cut ≡ first_of (departures_of list) → departing cut None list ≡ list
 all_from_first cut [] sorted begin = refl
 all_from_first cut (c ∷ list) sorted begin =
@@ -41,7 +41,7 @@ pub no_departures : (list : List Connection) → first_of (departures_of list) �
 no_departures [] none = refl
 no_departures (c ∷ list) none = cc
 
--- A page names the first departure of what stands on it at the earliest, and all that stands on it departs before the next
+-- A page names the first departure of what is on it at the earliest. All that is on it departs before the next
 -- page's name, which is later.
 abbrev pub Follow : CutPage → List CutPage → Type 0
 Follow page [] = All (λ (c : Connection). page.departs ≤ c.dep) page.connections
@@ -55,7 +55,7 @@ passes_from from to c passes = grind (arith, nat_tests)
 passes_to : (from to : ℕ) (c : Connection) → is_within from (Some to) c ≡ true → c.dep < to
 passes_to from to c passes = grind (arith, nat_tests)
 
--- what stands on a part departs from its begin on
+-- what is on a part departs from its begin on
 pub part_from : (from : ℕ) (to : Option ℕ) (list : List Connection) → All (λ (c : Connection). from ≤ c.dep) (departing from to list)
 part_from from to list =
     All-weaker (λ (c : Connection). is_within from to c ≡ true) (λ (c : Connection). from ≤ c.dep) (λ c. passes_from from to c) (departing from to list) (filter_passes (is_within from to) list)
@@ -84,7 +84,7 @@ pages_begin cut (next ∷ rest) list rising sorted members =
     (part_begins cut (Some next) list sorted (All-head (λ (m : ℕ). Contains (departures_of list) m) cut (next ∷ rest) members) ends)
     (pages_begin next rest list (pairs_tail (λ (x y : ℕ). x < y) cut (next ∷ rest) rising) sorted (All-tail (λ (m : ℕ). Contains (departures_of list) m) cut (next ∷ rest) members))
 
--- pages that follow each other rise
+-- pages that follow each other increase
 pub all_later : (page : CutPage) (rest : List CutPage) → Follow page rest → All (λ (q : CutPage). page.departs < q.departs) rest
 all_later page [] follow = All-nil (λ (q : CutPage). page.departs < q.departs)
 all_later page (next ∷ rest) follow =
@@ -96,7 +96,7 @@ names_rise page [] follow = AllPairs-cons (λ (p q : CutPage). p.departs < q.dep
 names_rise page (next ∷ rest) follow =
     AllPairs-cons (λ (p q : CutPage). p.departs < q.departs) page (next ∷ rest) (all_later page (next ∷ rest) follow) (names_rise next rest follow.3)
 
--- what stands on the one page departs before all that stands on the other one
+-- what is on the one page departs before all that is on the other one
 abbrev pub IsBeforeAll : CutPage → CutPage → Type 0
 IsBeforeAll p q = All (λ (c : Connection). All (λ (d : Connection). c.dep < d.dep) q.connections) p.connections
 
@@ -130,7 +130,7 @@ seconds_are_whole page (next ∷ rest) follow =
 abbrev pub is_by : ℕ → CutPage → Bool
 is_by moment page = nat_le page.departs moment
 
--- behind a page that is named after the moment none is named by it
+-- after a page that is named after the moment none is named by it
 pub none_by : (moment : ℕ) (page : CutPage) (rest : List CutPage) → moment < page.departs → Follow page rest → filter (is_by moment) rest ≡ []
 none_by moment page rest after follow =
     filter_none (is_by moment) rest
@@ -189,7 +189,7 @@ links_part page (next ∷ rest) moment =
           ∙ next_stays page next rest moment later.0)
     ]
 
--- along the links to the next one stands what departs from the name of the page for the moment on
+-- along the links to the next one is what departs from the name of the page for the moment on
 pub next_are_part : (cut : ℕ) (rest : List ℕ) (list : List Connection) (moment : ℕ) → Rising (cut ∷ rest) → Sorted list →
     connections_along (along_next (page_of_cut cut rest list) (pages_from rest list) moment) ≡ departing (page_for (page_of_cut cut rest list) (pages_from rest list) moment).departs None list
 next_are_part cut [] list moment rising sorted = append-nil (departing cut None list)
@@ -209,13 +209,13 @@ next_are_part cut (next ∷ rest) list moment rising sorted =
           ∙ ap (λ (p : CutPage). departing p.departs None list) (sym (stays page after others moment (pages_follow next rest list rising_on) later.0)))
     ]
 
--- The page is named by the moment, and none of the pages that is has a later name; or it is the first one, and none is.
+-- The page is named by the moment, and no other page that is has a later name. Or it is the first one, and none is.
 abbrev pub IsGreatest : CutPage → List CutPage → ℕ → CutPage → Type 0
 IsGreatest first rest moment page =
     ((page.departs ≤ moment) × All (λ (p : CutPage). p.departs ≤ moment → p.departs ≤ page.departs) (first ∷ rest))
     ⊎ ((page ≡ first) × All (λ (p : CutPage). moment < p.departs) (first ∷ rest))
 
--- a first page alone, or with none behind it that is named by the moment
+-- a first page alone, or with none after it that is named by the moment
 greatest_at_first : (page : CutPage) (rest : List CutPage) (moment : ℕ) → All (λ (p : CutPage). moment < p.departs) rest → IsGreatest page rest moment page
 greatest_at_first page rest moment others =
     elim (by_or_not page moment) [
@@ -264,7 +264,7 @@ is_one_of page (next ∷ rest) moment follow =
       | inr later ↦ subst (Contains (page ∷ next ∷ rest)) (sym (stays page next rest moment follow.3 later.0)) (0, (omega arith), refl)
     ]
 
--- What stands along the links to the previous one departs before a limit that no page named by the moment is behind.
+-- What is along the links to the previous one departs before a limit that no page named by the moment exceeds.
 pub early_along_previous : (limit : ℕ) (page : CutPage) (rest : List CutPage) (moment : ℕ) → Follow page rest → All (λ (p : CutPage). p.departs ≤ moment → p.departs ≤ limit) rest →
     All (λ (c : Connection). c.dep < limit) (connections_along (reverse (along_previous page rest moment)))
 early_along_previous limit page [] moment follow limits = All-nil (λ (c : Connection). c.dep < limit)
@@ -282,7 +282,7 @@ early_along_previous limit page (next ∷ rest) moment follow limits =
       | inr later ↦ subst Early (sym (previous_stays page next rest moment later.0)) (All-nil (λ (c : Connection). c.dep < limit))
     ]
 
--- so it departs before the moment, and before the name of the page for it
+-- it departs before the moment, and before the name of the page for it
 pub before_moment : (page : CutPage) (rest : List CutPage) (moment : ℕ) → Follow page rest → All (λ (c : Connection). c.dep < moment) (connections_along (reverse (along_previous page rest moment)))
 before_moment page rest moment follow =
     early_along_previous moment page rest moment follow (λ k d within h. h)
@@ -325,7 +325,7 @@ found_behind page (next ∷ rest) (x ∷ before) found behind follow is =
     let onward : next.departs ≤ found.departs = found_behind next rest before found behind follow.3 others in
     omega (arith, follow.2)
 
--- a page that is asked for by its name is found with those before and behind it
+-- a page that is asked for by its name is found with those before and after it
 pub found_by_name : (page : CutPage) (rest before : List CutPage) (found : CutPage) (behind : List CutPage) → Follow page rest → page ∷ rest ≡ before ++ found ∷ behind →
     (page_for page rest found.departs ≡ found) × (along_next page rest found.departs ≡ found ∷ behind) × (along_previous page rest found.departs ≡ reverse before)
 found_by_name page [] [] found behind follow is =

@@ -1,4 +1,4 @@
--- Legs of a list that stands before or behind another one.
+-- Legs of a list that is before or after another one.
 use Rattle.std.proofs.Common.{◌≡◌, ℕ, zero, suc, ◌<◌, ◌≤◌, ◌⊎◌, inl, inr, List, [], ◌∷◌, ◌++◌, length, Some, refl, ap, sym, ◌∙◌, arith}
 use Rattle.std.specs.List.{All, slice_get}
 use Rattle.std.specs.declared.cmp.Ordering.TheVariants.{Less}
@@ -13,7 +13,7 @@ use Rattle.lc_model.specs.declared.ride.Ride.{Ride}
 use Rattle.laws_journeys.proofs.PlacesLemmas.{all_at, pair_at}
 use Rattle.lc_model.proofs.ConnectionLemmas.{departs_by}
 
--- a leg is one of each list in which its first and its last connection stand in this order
+-- a leg is one of each list in which its first and its last connection are in this order
 leg_of : (list other : List Connection) (ride : Ride) (leg : IsLegOf list ride) (boards_at last_at : ℕ) → boards_at ≤ last_at → slice_get other boards_at ≡ Some leg.boards → slice_get other last_at ≡ Some leg.last → IsLegOf other ride
 leg_of list other ride leg boards_at last_at in_order is_boards is_last = record {
   boards_at = boards_at;
@@ -29,7 +29,7 @@ leg_of list other ride leg boards_at last_at in_order is_boards is_last = record
   is_ride = leg.is_ride;
 }
 
--- a leg is one behind a further connection
+-- a leg is one after a further connection
 leg_behind : (x : Connection) (list : List Connection) (ride : Ride) → IsLegOf list ride → IsLegOf (x ∷ list) ride
 leg_behind x list ride leg =
     leg_of list (x ∷ list) ride leg (suc leg.boards_at) (suc leg.last_at) (omega (arith, leg.in_order)) leg.is_boards leg.is_last
@@ -49,7 +49,7 @@ within_front [] rest place within = absurd (omega arith)
 within_front (y ∷ front) rest zero within = refl
 within_front (y ∷ front) rest (suc place) within = within_front front rest place (omega arith)
 
--- behind the front stands the rest
+-- after the front is the rest
 in_rest : {X : Type 0} (front rest : List X) (place : ℕ) (x : X) → length front ≤ place → slice_get (front ++ rest) place ≡ Some x → (at : ℕ) × (slice_get rest at ≡ Some x)
 in_rest [] rest place x behind stands = (place, stands)
 in_rest (y ∷ front) rest zero x behind stands = absurd (omega arith)
@@ -61,7 +61,7 @@ leg_of_front front rest ride leg =
     leg_of front (front ++ rest) ride leg leg.boards_at leg.last_at leg.in_order
     (place_in_front front rest leg.boards_at leg.boards leg.is_boards) (place_in_front front rest leg.last_at leg.last leg.is_last)
 
--- a leg that departs after the first connection is a leg of those behind it
+-- a leg that departs after the first connection is a leg of those after it
 leg_of_tail : (x : Connection) (list : List Connection) (ride : Ride) → IsLegOf (x ∷ list) ride → x.dep < ride.dep → IsLegOf list ride
 leg_of_tail x list ride leg later = standing leg.boards_at leg.last_at leg.in_order leg.is_boards leg.is_last where
   standing : (boards_at last_at : ℕ) → boards_at ≤ last_at → slice_get (x ∷ list) boards_at ≡ Some leg.boards → slice_get (x ∷ list) last_at ≡ Some leg.last → IsLegOf list ride

@@ -1,4 +1,4 @@
--- Journeys of the legs of a list that stands before or behind another one.
+-- Journeys of the legs of a list that is before or after another one.
 use Rattle.std.proofs.Common.{ℕ, ◌-◌, ◌<◌, ◌≤◌, List, [], ◌∷◌, ◌++◌, Option, Some, None, arith}
 use Rattle.std.specs.List.{All}
 use Rattle.std.proofs.lemmas.List.Elements.{All-filter}
@@ -15,7 +15,7 @@ use Rattle.lc_model.specs.declared.ride.Ride.{Ride}
 use Rattle.laws_journeys.proofs.JourneysLemmas.{last_in_time, of_kind, rides_in_time, rides_over, waits}
 use Rattle.laws_pages.proofs.LegLemmas.{in_time_forward, in_time_in_order, in_time_parts, leg_before_rest, leg_behind_front, leg_goes_forward, leg_of_front, leg_of_rest}
 
--- rides behind one that does not depart early are of another kind where those are that do not depart early
+-- rides after one that does not depart early are of another kind where those are that do not depart early
 goes_late : (A B : Ride → Type 0) (doc : StopsDoc) (moment : ℕ) (ride : Ride) (rest : List Ride) → ((r : Ride) → A r → r.dep ≤ r.arr) → ((r : Ride) → A r → moment ≤ r.dep → B r) → GoesOn A doc ride rest → moment ≤ ride.arr → GoesOn B doc ride rest
 goes_late A B doc moment ride [] forward all goes late = goes
 goes_late A B doc moment ride (next ∷ rest) forward all goes late =
@@ -46,12 +46,12 @@ chain_of_rest query doc front rest journey is =
     let B = IsLegOf (in_time query (front ++ rest)) in
     of_kind A B query doc journey is (rides_over A B doc journey.rides (λ ride leg. rw in_time_parts (leg_of_rest (in_time query front) (in_time query rest) ride leg)) is.are_rides)
 
--- a leg in time that departs no earlier than a moment stands behind a front that departs before it
+-- a leg in time that departs no earlier than a moment is after a front that departs before it
 pub leg_stands_behind : (query : Query) (moment : ℕ) (front rest : List Connection) (ride : Ride) → All (λ (c : Connection). c.dep < moment) front → moment ≤ ride.dep → IsLegOf (in_time query (front ++ rest)) ride → IsLegOf (in_time query rest) ride
 leg_stands_behind query moment front rest ride early late leg =
     leg_behind_front moment (in_time query front) (in_time query rest) ride (All-filter _ (λ (c : Connection). c.dep < moment) front early) late (rw (← in_time_parts query front rest) leg)
 
--- a leg in time that arrives by a moment stands before a rest that arrives after it
+-- a leg in time that arrives by a moment is before a rest that arrives after it
 pub leg_stands_before : (query : Query) (moment : ℕ) (front rest : List Connection) (ride : Ride) → All (λ (c : Connection). moment < c.arr) rest → ride.arr ≤ moment → IsLegOf (in_time query (front ++ rest)) ride → IsLegOf (in_time query front) ride
 leg_stands_before query moment front rest ride late early leg =
     leg_before_rest moment (in_time query front) (in_time query rest) ride (All-filter _ (λ (c : Connection). moment < c.arr) rest late) early (rw (← in_time_parts query front rest) leg)

@@ -50,7 +50,7 @@ row_of_cuts list (cut ∷ more) sorted lawful = record {
 pub row : (list : List Connection) (first : CutPage) (rest : List CutPage) → ArePagesOf list first rest → IsRow list first rest
 row list first rest pages = subst (AtPages (IsRow list)) pages.are (row_of_cuts list pages.cuts (sorted_from_order list pages.in_order) pages.lawful)
 
--- back along the links to the previous one and on along those to the next one stands the list
+-- back along the links to the previous one and on along those to the next one is the list
 pub whole_by_links : (list : List Connection) (first : CutPage) (rest : List CutPage) (moment : ℕ) → IsRow list first rest →
     connections_along (reverse (along_previous first rest moment)) ++ connections_along (along_next first rest moment) ≡ list
 whole_by_links list first rest moment is =

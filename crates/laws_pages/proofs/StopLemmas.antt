@@ -29,7 +29,7 @@ order_of_rest (x ∷ front) rest in_order = order_of_rest front rest (pairs_tail
 arrive_after : (moment last : ℕ) (list : List Connection) → moment ≤ last → All (λ (c : Connection). last < c.dep) list → NoneArrivesEarly list → All (λ (c : Connection). moment < c.arr) list
 arrive_after moment last list before late forward k d within = omega (arith, late k d within, forward k d within)
 
--- the same where it departs at the moment or after it
+-- what departs at a moment or after it arrives after an earlier one, where none arrives early
 arrive_later : (moment last : ℕ) (list : List Connection) → moment < last → All (λ (c : Connection). last ≤ c.dep) list → NoneArrivesEarly list → All (λ (c : Connection). moment < c.arr) list
 arrive_later moment last list before late forward k d within = omega (arith, late k d within, forward k d within)
 

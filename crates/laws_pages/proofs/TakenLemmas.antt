@@ -71,7 +71,7 @@ last_before moment last (c ∷ []) early is =
     omega arith
 last_before moment last (c ∷ next ∷ rest) early is = last_before moment last (next ∷ rest) (All-tail (λ (d : Connection). d.dep < moment) c (next ∷ rest) early) is
 
--- so what was not taken departs after what was taken did last
+-- what was not taken departs after what was taken did last
 pub left_later : (taken left : List CutPage) (last : ℕ) → AllFollow (taken ++ left) → last_departure (connections_along taken) ≡ Some last → All (λ (c : Connection). last < c.dep) (connections_along left)
 left_later taken [] last follow is = All-nil (λ (c : Connection). last < c.dep)
 left_later taken (next ∷ more) last follow is =

@@ -41,7 +41,7 @@ end_of_one bound p (q ∷ before) page e there =
     let rest : [] ≡ before ++ page ∷ [] = cc in
     absurd (not_behind before page [] rest)
 
--- the same of what is left behind a first page
+-- what is left after a first page ends there, too
 ends_behind : (bound : ℕ) (p q : CutPage) (more left : List CutPage) → EndsThere bound (p ∷ q ∷ more) left → EndsThere bound (q ∷ more) left
 ends_behind bound p q more left there = record {
   goes_on = λ before page next behind e. there.goes_on (p ∷ before) page next behind (ap (λ pages. p ∷ pages) e);
@@ -64,7 +64,7 @@ up_to_taken bound (page ∷ next ∷ more) left there =
     takes_more bound page (next ∷ more ++ left) (there.goes_on [] page next more refl)
     ∙ ap (λ pages. page ∷ pages) (up_to_taken bound (next ∷ more) left (ends_behind bound page next more left there))
 
--- what is left of pages behind those up to the bound
+-- what is left of pages after those up to the bound
 pub record IsUpTo (bound : ℕ) (pages : List CutPage) : Type 0 where
   pub left : List CutPage
   pub are : pages ≡ up_to_bound bound pages ++ left

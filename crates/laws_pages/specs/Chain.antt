@@ -1,4 +1,4 @@
--- The chain of pages: each one links to the next one and to the one before it (Linked Connections 1.0), and along these
+-- The chain of pages. Each one links to the next one and to the one before it (Linked Connections 1.0). Along these
 -- links they are the connections in their order. The laws hold for all lawful cuts.
 use Rattle.std.specs.Prelude.{◌≡◌, ℕ, ◌<◌, ◌≤◌, ◌⊎◌, List, [], ◌∷◌, ◌++◌, map, reverse, filter, nat_le, nat_lt, Some, None, if◌then◌else◌}
 use Rattle.std.specs.List.{All, AllPairs, Contains, flat_map}
@@ -15,7 +15,7 @@ connections_along pages = flat_map (λ (p : CutPage). p.connections) pages
 abbrev pub names_of : List CutPage → List ℕ
 names_of pages = map (λ (p : CutPage). p.departs) pages
 
--- of this page and those behind it, the one for the moment and, along the links to the next one, all behind that
+-- of this page and those after it, the one for the moment and, along the links to the next one, all after that
 abbrev pub along_next : CutPage → List CutPage → ℕ → List CutPage
 along_next page [] moment = page ∷ []
 along_next page (next ∷ rest) moment = if nat_le next.departs moment then along_next next rest moment else page ∷ next ∷ rest
@@ -47,19 +47,19 @@ BeginOnTime =
     ((list ≡ []) × (first ≡ record { departs = 0; connections = [] }) × (rest ≡ []))
     ⊎ All (λ (p : CutPage). first_of (departures_of p.connections) ≡ Some p.departs) (first ∷ rest)
 
--- the names of the pages rise strictly
+-- the names of the pages strictly increase
 abbrev pub NamesRise : Type 0
 NamesRise =
     (list : List Connection) (first : CutPage) (rest : List CutPage) → ArePagesOf list first rest →
     AllPairs (λ (p q : CutPage). p.departs < q.departs) (first ∷ rest)
 
--- no departure second is split: what stands on a page departs before all that stands on a later one
+-- no departure second is split: what is on a page departs before all that is on a later one
 abbrev pub SecondsAreWhole : Type 0
 SecondsAreWhole =
     (list : List Connection) (first : CutPage) (rest : List CutPage) → ArePagesOf list first rest →
     AllPairs (λ (p q : CutPage). All (λ (c : Connection). All (λ (d : Connection). c.dep < d.dep) q.connections) p.connections) (first ∷ rest)
 
--- The page for a moment is named at or before it, and no page named so has a later name; where none is named so, it is the
+-- The page for a moment is named at or before it, and no other page that is has a later name. Where none is, it is the
 -- first one.
 abbrev pub IsGreatestByThen : Type 0
 IsGreatestByThen =
@@ -87,7 +87,7 @@ NextAreTheSuffix =
     (list : List Connection) (first : CutPage) (rest : List CutPage) (moment : ℕ) → ArePagesOf list first rest →
     connections_along (along_next first rest moment) ≡ departing (page_for first rest moment).departs None list
 
--- those along the links to the previous one are, from behind, the rest of the list
+-- those along the links to the previous one, in reverse, are the rest of the list
 abbrev pub BackAreTheRest : Type 0
 BackAreTheRest =
     (list : List Connection) (first : CutPage) (rest : List CutPage) (moment : ℕ) → ArePagesOf list first rest →
@@ -95,22 +95,22 @@ BackAreTheRest =
     (connections_along (reverse (along_previous first rest moment)) ≡ departing 0 (Some page.departs) list)
     × (list ≡ departing 0 (Some page.departs) list ++ departing page.departs None list)
 
--- what departs at the moment or later stands along the links to the next one, and what stands before departs earlier
+-- what departs at the moment or later is along the links to the next one, and what comes before departs earlier
 abbrev pub LateAreAlongNext : Type 0
 LateAreAlongNext =
     (list : List Connection) (first : CutPage) (rest : List CutPage) (moment : ℕ) → ArePagesOf list first rest →
     All (λ (c : Connection). moment ≤ c.dep → Contains (connections_along (along_next first rest moment)) c) list
     × All (λ (c : Connection). c.dep < moment) (connections_along (reverse (along_previous first rest moment)))
 
--- A page that is asked for by its name, as links do, is found: along the links to the next one it and those behind it follow, along
--- those to the previous one those before it.
+-- A page that is asked for by its name, as links do, is found. Along the next links it and those after it follow, along
+-- the previous links those before it.
 abbrev pub FoundByName : Type 0
 FoundByName =
     (list : List Connection) (first : CutPage) (rest before : List CutPage) (page : CutPage) (behind : List CutPage) → ArePagesOf list first rest →
     first ∷ rest ≡ before ++ page ∷ behind →
     (page_for first rest page.departs ≡ page) × (along_next first rest page.departs ≡ page ∷ behind) × (along_previous first rest page.departs ≡ reverse before)
 
--- the cuts behind a page's name are the names of the pages behind it, and those before its name the names of the pages before it
+-- The cuts after a page's name are the names of the pages after it. Those before its name are the names of the pages before it.
 abbrev pub CutsNameNeighbours : Type 0
 CutsNameNeighbours =
     (list : List Connection) (first : CutPage) (rest before : List CutPage) (page : CutPage) (behind : List CutPage) (pages : ArePagesOf list first rest) →

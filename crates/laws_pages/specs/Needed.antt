@@ -25,8 +25,8 @@ abbrev pub up_to_bound : ℕ → List CutPage → List CutPage
 up_to_bound bound [] = []
 up_to_bound bound (page ∷ rest) = page ∷ (if reaches bound (last_departure page.connections) then [] else up_to_bound bound rest)
 
--- The pages that a question needs, from the one on that is for the moment at which it leaves: up to the first one whose last
--- departure is at the least arrival of a journey or later, or at the last second of the horizon where there is no journey.
+-- The pages that a question needs, from the one for the moment at which it leaves on. They go up to the first whose last departure
+-- is at the least arrival of a journey or later. Where there is no journey, that is the last second of the horizon.
 abbrev pub needed_pages : CutPage → List CutPage → Query → Option ℕ → List CutPage
 needed_pages first rest query best = up_to_bound (bound_of query best) (pages_on first rest query)
 
@@ -40,8 +40,8 @@ pub record AreNeeded (IsRide : Ride → Type 0) (query : Query) (doc : StopsDoc)
   pub is_best : IsLeastArrival IsRide query doc best
   pub are : needed ≡ needed_pages first rest query best
 
--- the last departure of the page that was taken last is at the least arrival of all that was taken, or later, or at the last
--- second of the horizon where that has no chain
+-- The last departure of the page that was taken last is at the least arrival of all that was taken, or later. Where that has no
+-- chain, it is at the last second of the horizon.
 pub record IsOver (query : Query) (doc : StopsDoc) (before : List CutPage) (page : CutPage) : Type 0 where
   pub best : Option ℕ
   pub is_best : IsListBest query doc (connections_along (before ++ page ∷ [])) best
@@ -49,7 +49,7 @@ pub record IsOver (query : Query) (doc : StopsDoc) (before : List CutPage) (page
   pub is_last : last_departure page.connections ≡ Some last
   pub by_last : bound_of query best ≤ last
 
--- The pages that a client takes of these, one after the other, where it goes on as long as it is not over and there is a next one.
+-- The pages that a client takes of these, one after the other. The client goes on as long as it is not over and there is a next one.
 pub record IsTakenUntilOver (query : Query) (doc : StopsDoc) (pages taken : List CutPage) : Type 0 where
   pub left : List CutPage
   pub are : pages ≡ taken ++ left
@@ -62,14 +62,14 @@ OneListOfNeeded =
     (runs : List Run) (query : Query) (doc : StopsDoc) (first : CutPage) (rest a b : List CutPage) → AreNeeded (IsRideAt runs) query doc first rest a →
     AreNeeded (IsRideAt runs) query doc first rest b → a ≡ b
 
--- Whether one is over after a page is recorded by what was taken as well as by all connections.
+-- What was taken shows as well as all connections whether one is over after a page.
 abbrev pub OverIsOver : Type 0
 OverIsOver =
     (list : List Connection) (first : CutPage) (rest : List CutPage) (query : Query) (doc : StopsDoc) (before : List CutPage) (page : CutPage) (left : List CutPage) (taken_best best : Option ℕ) (last : ℕ) →
     ArePagesOf list first rest → NoneArrivesEarly list → pages_on first rest query ≡ before ++ page ∷ left → last_departure page.connections ≡ Some last →
     IsListBest query doc (connections_along (before ++ page ∷ [])) taken_best → IsListBest query doc list best → (bound_of query taken_best ≤ last ↔ bound_of query best ≤ last)
 
--- A client that stops when it is over takes exactly the needed pages, no page more and none less, and the least arrival of
+-- A client that stops when it is over takes exactly the needed pages, no page more and none less. The least arrival of
 -- what it took is that of all connections.
 abbrev pub TakesTheNeeded : Type 0
 TakesTheNeeded =

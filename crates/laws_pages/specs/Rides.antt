@@ -1,5 +1,5 @@
--- Rides along the links to the next page: the legs, the chains and the least arrivals of all connections are those of the
--- pages from the one on that is for the moment at which the question leaves.
+-- Rides along the links to the next page. The pages from the one for the moment of leaving on have the legs, the chains and
+-- the least arrivals of all connections.
 use Rattle.std.specs.Prelude.{ℕ, ◌≤◌, List, Option, None, ◌↔◌}
 use Rattle.lc_model.specs.Connection.{InDepartureOrder, NoneArrivesEarly}
 use Rattle.lc_model.specs.Leg.{IsChain, IsLegOf, IsListBest, in_time}
@@ -37,7 +37,7 @@ ChainsAreThere =
     (list : List Connection) (first : CutPage) (rest : List CutPage) (query : Query) (doc : StopsDoc) (journey : Journey) → ArePagesOf list first rest → NoneArrivesEarly list →
     (IsChain query doc list journey ↔ IsChain query doc (connections_on first rest query) journey)
 
--- and so is their least arrival
+-- the least arrival of all connections is that of these pages
 abbrev pub LeastIsThere : Type 0
 LeastIsThere =
     (list : List Connection) (first : CutPage) (rest : List CutPage) (query : Query) (doc : StopsDoc) (best : Option ℕ) → ArePagesOf list first rest → NoneArrivesEarly list →

@@ -16,8 +16,8 @@ abbrev pub bound_of : Query → Option ℕ → ℕ
 bound_of query None = latest_of query
 bound_of query (Some arrival) = arrival
 
--- What was taken of a list is followed by later departures alone, and the bound is no later than a moment by which they all
--- depart: so the least arrival of what was taken is that of the whole list, and where the one has no chain, so has the other.
+-- What was taken of a list is followed by later departures alone. The bound is no later than a moment after which they all
+-- depart. Then the least arrival of what was taken is that of the whole list. Where the one has no chain, so has the other.
 abbrev pub FrontMayBeAll : Type 0
 FrontMayBeAll =
     (query : Query) (doc : StopsDoc) (taken left : List Connection) (best : Option ℕ) (last : ℕ) → InDepartureOrder (taken ++ left) → NoneArrivesEarly (taken ++ left) →
@@ -29,9 +29,9 @@ FrontWithChainMayBeAll =
     (query : Query) (doc : StopsDoc) (taken left : List Connection) (arrival last : ℕ) → InDepartureOrder (taken ++ left) → NoneArrivesEarly (taken ++ left) →
     All (λ (c : Connection). last ≤ c.dep) left → arrival ≤ last → IsListBest query doc taken (Some arrival) → IsListBest query doc (taken ++ left) (Some arrival)
 
--- The same of pages: some were taken, from the one on that is for the moment at which the question leaves, and what was taken
--- departs last at the bound or later. So its least arrival is that of all connections, and where the one has no chain, so has
--- the other.
+-- Some pages were taken, from the one for the moment at which the question leaves on. What was taken
+-- departs last at the bound or later. Then its least arrival is that of all connections, and where the one has no chain,
+-- the other has none.
 abbrev pub PagesMayBeAll : Type 0
 PagesMayBeAll =
     (list : List Connection) (first : CutPage) (rest : List CutPage) (query : Query) (doc : StopsDoc) (taken left : List CutPage) (best : Option ℕ) (last : ℕ) →

@@ -1,4 +1,4 @@
--- Worked values: the departures 08:00, 08:11, 08:12, 08:20, 09:00 and 10:00 on the pages 08:00, 09:00 and 10:00, as spans of half an
+-- Worked values: the departures 08:00, 08:11, 08:12, 08:20, 09:00 and 10:00 on the pages 08:00, 09:00 and 10:00. Spans of half an
 -- hour cut them, on 2024-05-01 in UTC.
 use Rattle.std.specs.Prelude.{◌≡◌, ℕ, ◌*◌, ◌+◌, ◌≤◌, List, [], ◌∷◌, ◌++◌, Option, Some, None}
 use Rattle.std.specs.List.{All}
@@ -46,8 +46,8 @@ pub record WorkedLinks (key : RunKey) : Type 0 where
   pub back : names_of (along_previous (at_eight key) (from_nine key) (at 10 0)) ≡ at 9 0 ∷ at 8 0 ∷ []
   pub back_from_first : along_previous (at_eight key) (from_nine key) (at 8 20) ≡ []
 
--- What is needed from 08:00 on: for an arrival at 08:20, the last departure of the first page, that page alone, and a second later one
--- more; for one at 08:31 two. Where there is no journey, as many as the horizon reaches. For a moment behind all departures the last
+-- What is needed from 08:00 on. For an arrival at 08:20, the last departure of the first page, that page alone, and a second later one
+-- more. For one at 08:31 two. Where there is no journey, as many as the horizon reaches. For a moment after all departures the last
 -- page, and of a timetable without connections its one page.
 pub record WorkedNeeded (key : RunKey) (query : Query) : Type 0 where
   pub at_last_departure : Leaves query (at 8 0) 86_400 → needed_names (at_eight key) (from_nine key) query (Some (at 8 20)) ≡ at 8 0 ∷ []
@@ -77,7 +77,7 @@ four key = in_sequence key 1 (at 8 0) ∷ in_sequence key 2 (at 8 11) ∷ in_seq
 abbrev pub page_with : ℕ → List Connection → CutPage
 page_with departs connections = record { departs = departs; connections = connections }
 
--- Pages of these, and near ones that are none, however they are cut: the link to the next one skips the rest of a second, a second is
+-- Pages of these, and near ones that are none, however they are cut. The link to the next one skips the rest of a second, a second is
 -- split, or the first page is named by another moment.
 pub record WorkedSeconds (key : RunKey) : Type 0 where
   pub whole_second :
@@ -88,7 +88,7 @@ pub record WorkedSeconds (key : RunKey) : Type 0 where
       ¬ ArePagesOf (four key) (page_with (at 8 0) (in_sequence key 1 (at 8 0) ∷ in_sequence key 2 (at 8 11) ∷ [])) (page_with (at 8 11) (in_sequence key 3 (at 8 11) ∷ in_sequence key 4 (at 9 0) ∷ []) ∷ [])
   pub named_by_another : ¬ ArePagesOf (four key) (page_with (at 7 0) (four key)) []
 
--- What is not so: that what was taken of a list may be all of it where the rest departs at the last second of the horizon too. A connection
+-- What does not hold: what was taken of a list may be all of it where the rest departs at the horizon's last second too. A connection
 -- that departs and arrives then is a chain. (So a page must have the whole of a second.)
 abbrev pub FrontMayBeAllAtOnce : Type 0
 FrontMayBeAllAtOnce =

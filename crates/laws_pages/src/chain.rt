@@ -11,7 +11,7 @@ pub fn pages_in_a_row()
     ensures cuts_name_neighbours { CutsNameNeighbours }
 {}
 
-/// The page for a moment, the pages behind it along the links to the next one, and those before it along the links to
+/// The page for a moment. The pages after it are along the links to the next one, and those before it along the links to
 /// the previous one.
 pub fn page_of_a_moment()
     ensures is_greatest { IsGreatestByThen }

@@ -1,5 +1,5 @@
-//! The laws of pages: along their links the order of departures goes on, rides are legs of the pages from the one asked for,
-//! where a page may be the last, and which are needed. It stands on `lc_model`, `lc_versions` and `laws_journeys`.
+//! The laws of pages. Along their links the order of departures goes on, and rides are legs from the page asked for on.
+//! They say where a page may be last and which are needed. It builds on `lc_model`, `lc_versions` and `laws_journeys`.
 #![tactic(auto)]
 
 mod chain;

@@ -18,14 +18,14 @@ pub fn one_list_of_needed()
     ensures { OneListOfNeeded }
 {}
 
-/// A client that takes page after page until what it took tells it that it is over takes exactly the needed pages.
+/// A client that takes page after page until what it took shows that it is over takes exactly the needed pages.
 pub fn needed_are_taken()
     ensures over_is_over { OverIsOver }
     ensures takes_the_needed { TakesTheNeeded }
     ensures always_stops { AlwaysStops }
 {}
 
-/// The same for the journeys of a timetable.
+/// A client that takes exactly these pages takes the needed ones for the journeys of a timetable.
 pub fn needed_of_journeys(runs: &Runs, list: &Connections, query: &Query, doc: &StopsDoc)
     requires forward { All (λ (run : RunValue). GoesForward run.calls) runs.now }
     requires connections { AreConnectionsOf runs.now list.now }

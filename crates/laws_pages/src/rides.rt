@@ -16,7 +16,7 @@ ghost use Rattle.laws_pages.specs.Rides.{ChainsAreThere, EarlyMayGo, LeastIsTher
 use laws_journeys::chains_are_journeys;
 use lc_model::{Connections, Query, Runs, StopsDoc};
 
-/// The legs of a question stand along the links to the next page, from the page on that is for the moment at which it
+/// The legs of a question are along the links to the next page. They begin with the page for the moment at which it
 /// leaves.
 pub fn legs_along_next()
     ensures legs_stand_there { LegsStandThere }
@@ -31,7 +31,7 @@ pub fn early_may_go()
     ensures least_stays { LeastWithoutEarly }
 {}
 
-/// The rides of a timetable that are of use to a question are legs along the links to the next page, the legs there are
+/// The rides of a timetable that are of use to a question are legs along the links to the next page. The legs there are
 /// rides, and the chains there are the journeys.
 pub fn journeys_along_next(runs: &Runs, list: &Connections, query: &Query, doc: &StopsDoc)
     requires forward { All (λ (run : RunValue). GoesForward run.calls) runs.now }

@@ -15,7 +15,7 @@ ghost use Rattle.laws_pages.specs.Stop.{FrontMayBeAll, FrontWithChainMayBeAll, P
 use crate::journeys_along_next;
 use lc_model::{Connections, Query, Runs, StopsDoc};
 
-/// Where what was taken departs last at the bound or later, what follows changes nothing: no chain arrives earlier, and
+/// Where what was taken departs last at the bound or later, what follows changes nothing. No chain arrives earlier, and
 /// where there is none yet there is none at all.
 pub fn stop_is_right()
     ensures front_may_be_all { FrontMayBeAll }
@@ -23,8 +23,8 @@ pub fn stop_is_right()
     ensures pages_may_be_all { PagesMayBeAll }
 {}
 
-/// The same of the journeys of a timetable: none arrives earlier than what was taken does, and where that has no chain there
-/// is no journey.
+/// Where what was taken departs last at the bound or later, no journey of a timetable arrives earlier than it does. Where it has no
+/// chain there is no journey.
 pub fn no_journey_arrives_earlier(runs: &Runs, list: &Connections, query: &Query, doc: &StopsDoc)
     requires forward { All (λ (run : RunValue). GoesForward run.calls) runs.now }
     requires connections { AreConnectionsOf runs.now list.now }

@@ -1,4 +1,4 @@
--- Two plans of one script in which each client met the same come to the same.
+-- Two plans of one script in which each client received the same result in the same.
 use Rattle.std.proofs.Common.{◌≡◌, ◌∙◌, ◌+◌, ◌<◌, ℕ, zero, suc, List, [], Some, ap, arith, length, subst, sym}
 use Rattle.std.specs.List.{AllZip, slice_get}
 use Rattle.std.proofs.lemmas.Option.{slice_get_within}
@@ -20,7 +20,7 @@ use Rattle.lc_world.specs.Link.{LinkSeen}
 use Rattle.publisher_spec.specs.Side.{Side}
 use Rattle.script_text.specs.Script.{IsClient}
 
--- the ends of one client in two plans, and what it met in its turns
+-- the ends of one client in two plans, and what it received in its turns
 pub record EndAlike (d e : ClientEnd) (rs ts : List Round) : Type 0 where
   pub version : d.version ≡ e.version
   pub outcome : SayTheSame d.outcome e.outcome

@@ -14,7 +14,7 @@ use Rattle.laws_replay.proofs.FaultLemmas.{fails, fails_in, fails_of}
 use Rattle.laws_replay.specs.History.{AreMetIn, wants_of}
 use Rattle.laws_replay.specs.Right.{FailsWith}
 use Rattle.laws_replay.specs.Turns.{failed_in, given_in, rounds_of}
-use Rattle.laws_replies.specs.Course.{HasComeTo}
+use Rattle.laws_replies.specs.Course.{WantsAfter}
 use Rattle.laws_replies.specs.Ends.{EndsBy, IsCutOff}
 use Rattle.laws_replies.specs.Made.{Made, failure_of}
 use Rattle.laws_replies.specs.Met.{Met, is_by, met_by}
@@ -33,7 +33,7 @@ is_failure made = is_none made.got
 abbrev lost_in : List Made → List Want
 lost_in made = map (λ (m : Made). m.want) (filter is_failure made)
 
--- the failed exchanges of a client are those of all that it met
+-- the failed exchanges of a client are those of all that it received
 lost_is : (client : ℕ) (all : List Met) → wants_of (fails_of client all) ≡ lost_in (met_by client all)
 lost_is client [] = refl
 lost_is client (met ∷ all) =
@@ -67,7 +67,7 @@ only_one (first ∷ second ∷ front) last one is = absurd (three first second (
 -- who was cut off at the time gate has no version
 none_at_gate : (base : BaseParts) (query : Query) (before now : ℕ) (version : Option ℕ) (made : List Made) (low high : ℕ) (cut : IsCutOff base query before now version made low high) → cut.want ≡ wants.Gate → version ≡ None
 none_at_gate base query before now version made low high cut is =
-    let came : HasComeTo base query version cut.earlier wants.Gate = subst (HasComeTo base query version cut.earlier) is cut.came in
+    let came : WantsAfter base query version cut.earlier wants.Gate = subst (WantsAfter base query version cut.earlier) is cut.came in
     came.no_version
 
 module _ (side : Side) (base : BaseParts) (query : Query) (client : ℕ) (order : List ℕ) (rounds : List Round) (met : List Met) (before now : ℕ) (met_in : AreMetIn order rounds met) where

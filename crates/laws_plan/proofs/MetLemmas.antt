@@ -1,4 +1,4 @@
--- What a client met in its turns: one turn more, and the last one.
+-- What a client received in its turns: one turn more, and the last one.
 use Rattle.std.proofs.Common.{◌≡◌, ◌∙◌, ◌⊎◌, ◌≤◌, ◌<◌, ℕ, inl, inr, List, [], ◌∷◌, ◌++◌, Option, Some, None, refl, ap, ap₂, sym, subst, append-nil, append_assoc}
 use Rattle.std.specs.Prelude.{IsSome}
 use Rattle.std.proofs.lemmas.List.Elements.{All-append, All-cons, All-nil}
@@ -15,11 +15,11 @@ use Rattle.page_client.specs.declared.outcome.Outcome.{Outcome}
 use Rattle.page_client.specs.declared.want.Want.{Want}
 use Rattle.publisher_spec.specs.Side.{Side}
 
--- each client met one want a turn so far
+-- each client received one want a turn up to now
 abbrev pub HasMetAt : ℕ → List Round → Option Outcome → Type 0
 HasMetAt place rounds outcome = HasMet rounds outcome
 
--- it met one want a turn, in the last turn the rest, and has ended
+-- it received one want a turn, in the last turn the rest, and has ended
 pub record HasFinished (rounds : List Round) (outcome : Option Outcome) : Type 0 where
   pub each : TakeOneEach rounds
   pub at_last : EndByFailure rounds
@@ -43,7 +43,7 @@ met_one mine before after round want met waits none one = record {
   at_last = fails_last mine round none;
 }
 
--- what came of a turn is what the client met in it
+-- what came of a turn is what the client received in it
 pub met_more : (side : Side) (was is : Member) (own given failed asked : List Want) (mine : List Round) → HasMet mine (shown was.client).outcome → ((shown was.client).outcome ≡ None → failed_in mine ≡ []) →
     CameOf side was is own given failed asked → HasMet (mine ++ round_with given failed asked ∷ []) (shown is.client).outcome
 met_more side was is own given failed asked mine met none (inl r) = record {

@@ -7,7 +7,7 @@ use Rattle.laws_plan.specs.Near.{NoVersionAtGate, NoneIsLost, NotAnothersVersion
 use Rattle.laws_plan.specs.Planned.{EndsAt, VersionFitsFault}
 use Rattle.laws_plan.specs.Sides.{version_with}
 use Rattle.laws_replay.specs.Turns.{failed_in}
-use Rattle.laws_sides.specs.Recorded.{version_at}
+use Rattle.laws_sides.specs.Stated.{version_at}
 use Rattle.lc_model.specs.declared.query.Query.{Query}
 use Rattle.lc_versions.specs.History.{Entry, moments_of}
 use Rattle.lc_versions.specs.Named.{is_by, last_of}

@@ -1,4 +1,4 @@
--- Two plans over links whose sides grow come to the same, where the time gates named the same versions.
+-- Two plans over links whose sides grow result in the same, where the time gates named the same versions.
 use Rattle.std.proofs.Common.{◌≡◌, ◌∙◌, ◌⊎◌, ◌+◌, ℕ, zero, suc, true, List, [], ◌∷◌, ◌++◌, Option, Some, None, ap, arith, inl, inr, length, refl, subst, sym}
 use Rattle.std.specs.List.{AllZip, slice_get}
 use Rattle.cli_ask.proofs.OneAnswerLemmas.{alike}
@@ -25,7 +25,7 @@ use Rattle.laws_replay.specs.Events.{TurnsAreOfClients, questions_in}
 use Rattle.laws_replay.specs.Turns.{failed_in, given_in, order_of, rounds_of}
 use Rattle.laws_replay.specs.declared.event.Event.{Event}
 use Rattle.laws_replies.specs.Met.{Met}
-use Rattle.laws_sides.specs.Recorded.{version_at}
+use Rattle.laws_sides.specs.Stated.{version_at}
 use Rattle.lc_model.specs.declared.answer.Answer.{Answer}
 use Rattle.lc_model.specs.declared.answer.Answer.TheVariants as answers
 use Rattle.lc_model.specs.declared.doc.StopsDoc.{StopsDoc}
@@ -201,7 +201,7 @@ module _ (one_arrival : OneArrivalAt) (one_needed : OneListOfNeededAt) (answers_
   abbrev Fine : ClientEnd → Type 0
   Fine found = IsNoLinkFault found.outcome
 
-  -- a client has one end and met the same in both plans
+  -- a client has one end and received the same in both plans
   client_at : (place : ℕ) (query : Query) (d e : ClientEnd) → slice_get (questions_in all) place ≡ Some query → slice_get ends place ≡ Some d → slice_get other_ends place ≡ Some e
       → EndAlike d e (rounds_of (place + 1) order p.planned.rounds) (rounds_of (place + 1) order q.planned.rounds)
   client_at place query d e asks is other_is =

@@ -1,4 +1,4 @@
--- Two plans over quiet links with one side come to the same.
+-- Two plans over quiet links with one side result in the same.
 use Rattle.std.proofs.Common.{◌≡◌, ◌∙◌, ◌==◌, ◌+◌, ℕ, suc, Bool, true, false, List, [], ◌∷◌, ◌++◌, Option, Some, None, ap, arith, length, refl, subst, sym}
 use Rattle.std.specs.List.{All, AllZip, slice_get}
 use Rattle.std.specs.Prelude.{if◌then◌else◌}
@@ -25,7 +25,7 @@ use Rattle.laws_replay.specs.Events.{TurnsAreOfClients, questions_in}
 use Rattle.laws_replay.specs.Turns.{failed_in, given_in, order_of, rounds_of}
 use Rattle.laws_replay.specs.declared.event.Event.{Event}
 use Rattle.laws_replies.specs.Met.{Met}
-use Rattle.laws_sides.specs.Recorded.{version_at}
+use Rattle.laws_sides.specs.Stated.{version_at}
 use Rattle.lc_model.specs.declared.page.PageName.{PageName}
 use Rattle.lc_model.specs.declared.query.Query.{Query}
 use Rattle.lc_world.specs.Link.{LinkSeen}
@@ -138,7 +138,7 @@ module _ (one_arrival : OneArrivalAt) (one_needed : OneListOfNeededAt) (base : B
   abbrev Fine : ClientEnd → Type 0
   Fine end = IsNoLinkFault end.outcome
 
-  -- a client has one end and met the same in both plans
+  -- a client has one end and received the same in both plans
   client_at : (place : ℕ) (query : Query) (d e : ClientEnd) → slice_get (questions_in all) place ≡ Some query → slice_get ends place ≡ Some d → slice_get other_ends place ≡ Some e →
       EndAlike d e (rounds_of (place + 1) order p.planned.rounds) (rounds_of (place + 1) order q.planned.rounds)
   client_at place query d e asks is other_is =

@@ -18,7 +18,7 @@ pub later_more : (first : Side) (sides : List Side) (last side left : Side) → 
 later_more first [] last side left are before behind = (later_on first last side are before, behind)
 later_more first (next ∷ sides) last side left are before behind = (are.0, later_more next sides last side left are.1 before behind)
 
--- The side of a turn: the one that the time gate's reply left, where the turn begins with that, and else the one that the turn left.
+-- The side of a turn. It is the one that the time gate's reply left, where the turn begins with that, and else the one that the turn left.
 pub record IsSideOfTurn (before left : Side) (known : Option ℕ) (given : List Want) (was version : Option ℕ) : Type 0 where
   pub at : Side
   pub later : IsLater before at
@@ -80,7 +80,7 @@ sides_of-none client (other ∷ order) (side ∷ sides) none =
       | false ↦ λ e. sides_of-none client order sides e
     ]) none
 
--- so many turns, so many sides
+-- a client has as many sides as turns
 pub as_many_sides : (client : ℕ) (order : List ℕ) (rounds : List Round) (sides : List Side) → length rounds ≡ length order → length sides ≡ length order →
     length (rounds_of client order rounds) ≡ length (sides_of client order sides)
 as_many_sides client [] rounds sides one_each sides_each = refl

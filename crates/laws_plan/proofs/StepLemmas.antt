@@ -15,7 +15,7 @@ use Rattle.laws_clients.specs.Laws.{WantsStay}
 use Rattle.laws_clients.specs.Wants.{AreWants}
 use Rattle.laws_convoys.proofs.AloneLemmas.{between_itself}
 use Rattle.laws_convoys.proofs.NamedLemmas.{kept_version}
-use Rattle.laws_convoys.specs.Leaves.{HasMoved, LeavesHonest, NoneFailed, OneFailed, StillAgrees}
+use Rattle.laws_convoys.specs.Leaves.{HasMoved, LeavesHonest, NoneFailed, OneFailed, AgreesAfterTurnsOf}
 use Rattle.laws_convoys.specs.Names.{Round, asked_of, failures_in, names_after, names_behind, names_of}
 use Rattle.laws_convoys.specs.Requests.{TellsAsked, TellsRequests, request_of}
 use Rattle.laws_convoys.specs.Rounds.{round_with}
@@ -115,7 +115,7 @@ is_member Turns side place other_place query asked member other own given rounds
 -- Client `client` alone had turns, which were this round. `Turns` is what was said of clients' turns before, and `Next` what is said then.
 module _ (Turns Next : ℕ → List Round → Option Outcome → Type 0) (base : BaseParts) (first : Side) (cache : ℕ) (questions : List Query) (order : List ℕ) (client : ℕ) (old new : ConvoyState)
     (start before after : LinkSeen) (rounds : List Round) (sides : List Side) (wants_stay : WantsStay) (p : IsPlannedTo Turns base first cache questions order old start before rounds sides)
-    (is_client : IsClient (length questions) client) (agrees : StillAgrees p.last old new p.given client before after)
+    (is_client : IsClient (length questions) client) (agrees : AgreesAfterTurnsOf p.last old new p.given client before after)
     (others : (place : ℕ) → (place ≡ client - 1 → ⊥) → (mine : List Round) (outcome : Option Outcome) → Turns place mine outcome → Next place mine outcome)
     (own_next : (query : Query) (mine : List Round) (at : List Side) → IsMemberAt (Turns (client - 1)) p.last query agrees.was agrees.own mine at →
     Next (client - 1) (mine ++ round_with agrees.given agrees.failed agrees.asked ∷ []) (shown agrees.is.client).outcome) where
@@ -337,7 +337,7 @@ module _ (Turns Next : ℕ → List Round → Option Outcome → Type 0) (base :
     members = members;
   }
 
--- the same at some sides
+-- the client has stepped, at some sides
 pub record HasStepped (Next : ℕ → List Round → Option Outcome → Type 0) (base : BaseParts) (first : Side) (cache : ℕ) (questions : List Query) (order : List ℕ) (convoy : ConvoyState) (start now : LinkSeen)
     (rounds : List Round) : Type 0 where
   pub sides : List Side

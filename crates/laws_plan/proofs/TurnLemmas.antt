@@ -10,7 +10,7 @@ use Rattle.laws_clients.specs.Fits.{FitsSide}
 use Rattle.laws_clients.specs.Laws.{WantsStay}
 use Rattle.laws_convoys.proofs.TurnLemmas.{honest_still}
 use Rattle.laws_convoys.specs.Laws.{EndKeepsAgreement, TurnKeepsAgreement}
-use Rattle.laws_convoys.specs.Leaves.{EndAgrees, NoneFailed, OneFailed, TurnAgrees}
+use Rattle.laws_convoys.specs.Leaves.{AgreesAfterOutcome, NoneFailed, OneFailed, AgreesAfterTurn}
 use Rattle.laws_convoys.specs.Names.{Round}
 use Rattle.laws_convoys.specs.Rounds.{round_at, round_in, rounds_up_to}
 use Rattle.laws_plan.proofs.MetLemmas.{HasMetAt, HaveFinished, finished, met_more}
@@ -63,7 +63,7 @@ module _ {X : Type 0} (seen : X → LinkSeen) (wants_stay : WantsStay) (base : B
   -- a turn of a client
   module _ (order : List ℕ) (client : ℕ) (old new : ConvoyState) (before after : X) (rounds : List Round) (sides : List Side) (turn : Turn) (round : Round)
       (p : IsPlannedTo HasMetAt base first cache questions order old start (seen before) rounds sides) (is_client : IsClient (length questions) client)
-      (turned : TurnAgrees p.last old new p.given client (seen before) (seen after) turn round) where
+      (turned : AgreesAfterTurn p.last old new p.given client (seen before) (seen after) turn round) where
     fits : FitsSide turned.agrees.left turned.agrees.was.client turned.agrees.own
     fits =
         fits_stays p.last turned.agrees.left turned.agrees.was.client turned.agrees.own turned.agrees.honest.honest.stands.valid turned.agrees.honest.later
@@ -91,7 +91,7 @@ module _ {X : Type 0} (seen : X → LinkSeen) (wants_stay : WantsStay) (base : B
   -- the turns of client n + 1 up to its end, after those of the clients before it
   module _ (order : List ℕ) (n : ℕ) (old new : ConvoyState) (before after : X) (rounds : List Round) (sides : List Side) (round : Round)
       (p : IsPlannedTo (HaveFinished n) base first cache questions order old start (seen before) rounds sides) (is_client : IsClient (length questions) (suc n))
-      (ended : EndAgrees p.last old new p.given (suc n) (seen before) (seen after) round) where
+      (ended : AgreesAfterOutcome p.last old new p.given (suc n) (seen before) (seen after) round) where
     below : (place n : ℕ) → (place ≡ suc n - 1 → ⊥) → place < suc n → place < n
     below place n not lt = omega arith
 

@@ -20,7 +20,7 @@ use Rattle.lc_world.specs.Link.{IsHonestWith, LinkSeen}
 use Rattle.page_client.specs.declared.outcome.Outcome.TheVariants.{LinkFault}
 use Rattle.publisher_spec.specs.Side.{Side}
 
--- where the events happened over an honest link, and each client was turned until it ended, each of them ended rightly by what it met
+-- where the events happened over an honest link, and each client was turned until it ended, each of them ended rightly by what it received
 abbrev pub PlansRight : {X : Type 0} → (X → LinkSeen) → Type 0
 PlansRight {X} seen =
     (base : BaseParts) (first : Side) (all : List Event) (cache : ℕ) (played ended : ConvoyState) (start behind after : X) (lines : List ℕ) (ends : List ClientEnd)
@@ -45,7 +45,7 @@ PlanRecordsReplies {X} seen =
     (base : BaseParts) (first : Side) (all : List Event) (cache : ℕ) (played ended : ConvoyState) (start behind after : X) (lines : List ℕ) → NoneIsMessage all → IsHonestWith (seen start) base first
     → Plays seen all (begun base cache) played start behind lines → Rounds seen (length played.members) played ended behind after → TellsAlong first (seen start) (seen after)
 
--- Over any link the one client of a plan asked as a client does that asks alone: its replies are those that the link records, where it records
+-- Over any link the one client of a plan asked as a client does that asks alone. Its replies are those that the link records, where it records
 -- replies.
 abbrev pub OneClientAsks : {X : Type 0} → (X → LinkSeen) → Type 0
 OneClientAsks {X} seen =

@@ -1,4 +1,4 @@
--- That plans over links whose sides grow come to the same, where the time gates named the same versions and no exchange failed.
+-- That plans over links whose sides grow result in the same, where the time gates named the same versions and no exchange failed.
 use Rattle.std.specs.Prelude.{◌≡◌, ℕ, List, length, Some}
 use Rattle.std.specs.List.{All, AllZip}
 use Rattle.cli_ask.specs.Laws.{AreOneEnd, IsNoLinkFault}
@@ -22,8 +22,8 @@ pub record IsGrowingPlan (base : BaseParts) (first last : Side) (all : List Even
 abbrev pub NameTheSame : List ClientEnd → List ClientEnd → Type 0
 NameTheSame ends others = AllZip (λ (a b : ClientEnd). a.version ≡ b.version) ends others
 
--- Two such plans of the same events have one end for each client, where the time gates named the same versions, and where both last sides grew, or
--- may grow, into one valid side: outcomes that say the same, and the same number of exchanges. X and Y are the types of the links.
+-- Two such plans of the same events have one end for each client, where the time gates named equal versions and both last sides grew, or
+-- may grow, into one valid side. Their outcomes say the same, and exchanges are as many. X and Y are the types of the links.
 abbrev pub OneGrowingPlan : {X Y : Type 0} → (X → LinkSeen) → (Y → LinkSeen) → Type 0
 OneGrowingPlan {X} {Y} seen saw =
     (base : BaseParts) (first last second end whole : Side) (all : List Event) (cache : ℕ) (before after : X) (other later : Y) (ends other_ends : List ClientEnd) (met other_met : List Met)

@@ -1,4 +1,4 @@
--- That plans over quiet links with one side come to the same, where no exchange failed.
+-- That plans over quiet links with one side result in the same, where no exchange failed.
 use Rattle.std.specs.Prelude.{◌≡◌, ℕ, List, length}
 use Rattle.std.specs.List.{All, AllZip}
 use Rattle.cli_ask.specs.Laws.{AreOneEnd, IsNoLinkFault}
@@ -18,7 +18,7 @@ pub record IsQuietPlan (base : BaseParts) (side : Side) (all : List Event) (cach
   pub one_each : length ends ≡ length (questions_in all)
   pub no_fault : All (λ (end : ClientEnd). IsNoLinkFault end.outcome) ends
 
--- Two such plans of the same events have one end for each client: the same version, outcomes that say the same, and the same number of exchanges.
+-- Two such plans of the same events have one end for each client: one version, outcomes that say the same, and one number of exchanges.
 -- X and Y are the types of the links, and `seen` and `saw` what is promised of them.
 abbrev pub OnePlan : {X Y : Type 0} → (X → LinkSeen) → (Y → LinkSeen) → Type 0
 OnePlan {X} {Y} seen saw =

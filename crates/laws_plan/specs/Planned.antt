@@ -46,8 +46,8 @@ VersionFitsFault (outcomes.Refused fault) failed version = Unit {0}
 VersionFitsFault (outcomes.LinkFault before after) failed version = (version ≡ None) ↔ (failed ≡ wants.Gate ∷ [])
 VersionFitsFault (outcomes.PeerWrong reply fault) failed version = Unit {0}
 
--- The client of the question had these turns, at these sides, and ended so by the last side. It received exactly its wants, one in each turn, and
--- none after an exchange that failed. It found a best journey by the timetable of its version, or none where there is none. The version is
+-- The client of the question had these turns, at these sides, and ended as said by the last side. It received exactly its wants, one in each turn,
+-- and none after an exchange that failed. It found a best journey by the timetable of its version, or none where there is none. The version is
 -- the one that the side of its own time gate exchange names. Each exchange of its own is counted.
 pub record EndsAt (last : Side) (query : Query) (rounds : List Round) (sides : List Side) (end : ClientEnd) : Type 0 where
   pub ended : HasEnded last (shown_of query end) (given_in rounds) (Some end.outcome)
@@ -64,7 +64,7 @@ pub record AreSidesOf (all : List Event) (quiet : Type 0) (first : Side) (sides 
   pub later : AreLater first sides last
   pub one_side : quiet → All (λ (side : Side). side ≡ first) sides
 
--- One round for each turn, in which all this was met. The names of the cached pages determine what was asked for. The link records these
+-- One round for each turn, in which all this was received. The names of the cached pages determine what was asked for. The link records these
 -- requests, where it records exchanges, and its count of faults increased with each exchange that failed.
 pub record AreRoundsOf (base : BaseParts) (all : List Event) (cache : ℕ) (before after : LinkSeen) (rounds : List Round) (met : List Met) : Type 0 where
   pub one_each : length rounds ≡ length (order_of all)
@@ -74,7 +74,7 @@ pub record AreRoundsOf (base : BaseParts) (all : List Event) (cache : ℕ) (befo
   pub met_in : AreMetIn (order_of all) rounds met
 
 -- The events happened over a link that was honest with the first side, and leave it honest with the last one. Each client ended rightly by
--- what it met in its own turns, and by the last side.
+-- what it received in its own turns, and by the last side.
 pub record ArePlanned (base : BaseParts) (first : Side) (all : List Event) (cache : ℕ) (before after : LinkSeen) (ends : List ClientEnd) (met : List Met) : Type 0 where
   pub last : Side
   pub leaves : LeavesHonest base first last before after

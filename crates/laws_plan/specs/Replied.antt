@@ -10,7 +10,7 @@ abbrev pub AreRepliedAlong : Side → List Entry → Side → Type 0
 AreRepliedAlong first [] last = IsLater first last
 AreRepliedAlong first (entry ∷ more) last = (side : Side) × IsLater first side × IsRepliedBy side entry × AreRepliedAlong side more last
 
--- Where the link records exchanges, these are recorded besides those before, with the replies of the sides from the first one on to the one that the link
+-- Where the link records exchanges, it records these besides those before. Their replies are of the sides from the first one on to the one that it
 -- has now.
 pub record TellsAlong (first : Side) (before after : LinkSeen) : Type 0 where
   pub last : Side

@@ -1,5 +1,5 @@
-//! Clients that plan over one link, whose side may grow between their exchanges: what it means that each of them ended rightly, and the laws
-//! that they do. It stands on `laws_replay`.
+//! Clients that plan over one link, whose side may grow between their exchanges. What it means that each of them ended rightly, and the laws
+//! that they do. It builds on `laws_replay`.
 #![tactic(auto)]
 
 mod laws;

@@ -3,8 +3,8 @@ ghost use Rattle.laws_plan.specs.Near.{NoVersionAtGate, NoneIsLost, NotAnothersV
 ghost use Rattle.laws_plan.specs.Worked.{WorkedSides};
 ghost use Rattle.publisher_spec.specs.Side.{Side};
 
-/// Near values are refused: the version of another client's time gate, or a newer one; a side that lost a message; one exchange more; and
-/// a version after a failure at the time gate, or none after another.
+/// Near values are refused: the version of another client's time gate, or a newer one; a side that lost a message; one exchange more.
+/// A version after a failure at the time gate is refused, and none after another failure.
 pub fn near_plans()
     ensures anothers { NotAnothersVersion }
     ensures newer { NotNewer }

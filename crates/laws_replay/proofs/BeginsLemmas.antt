@@ -1,4 +1,4 @@
--- A course begins, and a client asks.
+-- An event sequence begins, and a client asks.
 use Rattle.std.proofs.Common.{◌≡◌, ℕ, suc, ◌+◌, ◌<◌, ◌≤◌, ◌⊎◌, inl, inr, false, List, [], ◌∷◌, ◌++◌, length, Option, Some, None, refl, ap, sym, subst, ◌∙◌, arith}
 use Rattle.std.specs.List.{slice_get}
 use Rattle.std.proofs.lemmas.List.{length-append}
@@ -63,7 +63,7 @@ begins made publishing cache start none_agrees quiet short = record {
   members = λ place query member own asks is_member is_own. absurd (not_at_nothing place query asks);
 }
 
--- so many clients, so many lists of what was given
+-- there are as many lists of what was received as clients
 pub one_given_each : (side : Side) (members : List Member) (given : List (List Want)) → AllFit side members given → length given ≡ length members
 one_given_each side [] [] all = refl
 one_given_each side [] (own ∷ given) all = absurd all
@@ -75,7 +75,7 @@ pub begins_without_failure : (side : Side) (query : Query) (refusal : Option Que
 begins_without_failure side query None = refl
 begins_without_failure side query (Some fault) = refl
 
--- and has met nothing
+-- a client that begins has received nothing
 pub met_nothing : (outcome : Option Outcome) → HasMet [] outcome
 met_nothing outcome = record { ones = []; idle = []; are = refl; each = All-nil IsOne; none = All-nil IsIdle; ended = inl refl; at_last = tt }
 
@@ -140,7 +140,7 @@ module _ (made : Timetable) (publishing : Publishing) (cache : ℕ) (done : List
   heard : HasHeard (done ++ events.Ask query ∷ []) (store_of made publishing.base_moment) played.store lines
   heard = heard_behind_ask done query (store_of made publishing.base_moment) played.store lines played.heard
 
-  -- the clients of the course
+  -- the clients of the event sequence
   so : (place : ℕ) (asked : Query) (member : Member) (own : List Want) → (slice_get (questions_in done) place ≡ Some asked) ⊎ ((place ≡ length (questions_in done)) × (asked ≡ query)) →
       slice_get (old.members ++ adds.member ∷ []) place ≡ Some member → slice_get (played.given ++ [] ∷ []) place ≡ Some own →
       IsMemberSo made publishing (done ++ events.Ask query ∷ []) (side_with made publishing played.store) (place + 1) asked member own (rounds_of (place + 1) (turns_in done) rounds)

@@ -1,4 +1,4 @@
--- The clients of a course over any link: what they met in its turns, and behind them.
+-- The clients of an event sequence over any link: what they received in its turns, and after them.
 use Rattle.std.proofs.Common.{◌≡◌, ◌≢◌, ◌∙◌, ◌⊎◌, ◌-◌, ◌<◌, ◌≤◌, ℕ, zero, suc, inl, inr, List, [], ◌∷◌, ◌++◌, Some, ap, ap₂, append-nil, append_assoc, arith, length, refl, subst, sym}
 use Rattle.std.specs.List.{All, slice_get}
 use Rattle.std.proofs.lemmas.List.Elements.{All-append, All-cons, All-head, All-nil, All-tail, All-weaker}
@@ -41,7 +41,7 @@ record HasEndedAt (convoy : ConvoyState) (place : ℕ) : Type 0 where
   is : slice_get convoy.members place ≡ Some member
   has : HasOutcome member
 
--- what was met between two states of a convoy: none by a client that had its outcome, which it keeps
+-- what was received between two states of a convoy: none by a client that had its outcome, which it keeps
 pub record Goes (old new : ConvoyState) (more : List Met) : Type 0 where
   pub none : (place : ℕ) (member : Member) → slice_get old.members place ≡ Some member → HasOutcome member → NoneIsOf (suc place) more
   keeps : (place : ℕ) (member : Member) → slice_get old.members place ≡ Some member → HasOutcome member → HasEndedAt new place
@@ -79,7 +79,7 @@ one_member members place a b is_a is_b = (let both : Some a ≡ Some b = sym is_
 -- client k had its turn
 module _ {X : Type 0} (seen : X → LinkSeen) (base : BaseParts) (questions : List Query) (first : LinkSeen) (k : ℕ) (from_one : 1 ≤ k) (old new : ConvoyState) (link after : X) (turn : Turn) (all : List Met)
     (step : IsStep seen k old new link after turn) (m : Meets base questions first (seen after) new k step.turned.was step.turned.is all turn) where
-  -- what it has become stands at its place
+  -- what it has become is at its place
   it_is : slice_get new.members (k - 1) ≡ Some step.turned.is
   it_is =
       let t = step.turned in
@@ -126,7 +126,7 @@ module _ {X : Type 0} (seen : X → LinkSeen) (base : BaseParts) (questions : Li
 abbrev pub NoneIsOfEnded : ConvoyState → List Met → Type 0
 NoneIsOfEnded convoy tail = (place : ℕ) (member : Member) → slice_get convoy.members place ≡ Some member → HasOutcome member → NoneIsOf (suc place) tail
 
--- what clients met in turns, which are these rounds, before whatever they meet behind them
+-- what clients received in turns, which are these rounds, before whatever they receive after them
 pub record Played (base : BaseParts) (questions : List Query) (first now : LinkSeen) (turns : List ℕ) (rounds : List Round) (old new : ConvoyState) (all : List Met) : Type 0 where
   pub more : List Met
   pub so : AreSo base questions first now new (all ++ more)
@@ -172,7 +172,7 @@ module _ {X : Type 0} (seen : X → LinkSeen) (base : BaseParts) (first : LinkSe
       met_in = (m.more, rest.more, refl, met_in_turn turn k step.turned.was step.turned.is m.more m.met, rest.met_in);
     }
 
-  -- all happened that is left of a course
+  -- all happened that is left of an event sequence
   pub are_played : (rest : List Event) (questions : List Query) (old new : ConvoyState) (link after : X) (lines : List ℕ) (all : List Met) → AreFromOne (turns_in rest) → AreSo base questions first (seen link) old all →
       (plays : Plays seen rest old new link after lines) → Played base (questions ++ questions_in rest) first (seen after) (turns_in rest) (rounds_along seen rest old new link after lines plays) old new all
   are_played [] questions old new link after lines all from_one so (same, same_link, none) =
@@ -210,14 +210,14 @@ module _ {X : Type 0} (seen : X → LinkSeen) (base : BaseParts) (first : LinkSe
     met_in : IsMetIn k round more
     over : (member : Member) → slice_get new.members (k - 1) ≡ Some member → (round.failed ≡ []) ⊎ HasOutcome member
 
-  -- a turn more, behind others
+  -- a turn more, after others
   module _ (questions : List Query) (k : ℕ) (from_one : 1 ≤ k) (round : Round) (start old new : ConvoyState) (link after : X) (turn : Turn) (all : List Met)
       (before : HadTurns questions k round start old (seen link) all) (step : IsStep seen k old new link after turn)
       (m : Meets base questions first (seen after) new k step.turned.was step.turned.is (all ++ before.more) turn) where
     abbrev next : Round
     next = round_at turn (shown step.turned.was.client) (shown step.turned.is.client)
 
-    -- who had ended has ended, and met nothing
+    -- who had ended has ended, and received nothing
     not_both : HasOutcome step.turned.was → MeetsOne k step.turned.was m.more ⊎ MeetsNone step.turned.was step.turned.is m.more → MeetsNone step.turned.was step.turned.is m.more
     not_both had (inl one) = absurd (not_yet (shown step.turned.was.client).outcome one.waited had)
     not_both had (inr none) = none

@@ -1,4 +1,4 @@
--- The ends of a course over any link: each has its cause and can be printed.
+-- The ends of an event sequence over any link: each has its cause and can be printed.
 use Rattle.std.proofs.Common.{◌≡◌, ◌∙◌, ◌+◌, ◌<◌, ◌≤◌, ℕ, zero, suc, List, [], ◌∷◌, ◌++◌, Option, Some, ap, arith, length, refl, subst, sym}
 use Rattle.std.specs.Prelude.{IsSome}
 use Rattle.std.specs.List.{All, slice_get}
@@ -42,7 +42,7 @@ one_end_each [] (end ∷ ends) have = absurd have
 one_end_each (member ∷ others) [] have = absurd have
 one_end_each (member ∷ others) (end ∷ ends) have = ap suc (one_end_each others ends have.1)
 
--- the client whose end stands at a place
+-- the client whose end is at a place
 record IsEndAt (members : List Member) (end : ClientEnd) (place : ℕ) : Type 0 where
   member : Member
   is : slice_get members place ≡ Some member

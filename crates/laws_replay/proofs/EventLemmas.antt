@@ -1,4 +1,4 @@
--- Courses that grow: what is said of a course, where one more thing was done, and of turns, where there are more of them.
+-- Event sequences that grow: what is said of one, where one more thing was done, and of turns, where there are more of them.
 use Rattle.std.proofs.Common.{◌≡◌, ℕ, ◌+◌, ◌-◌, ◌<◌, ◌≤◌, Bool, true, false, List, [], ◌∷◌, ◌++◌, length, map, Option, Some, None, refl, ap, ap₂, sym, subst, ◌∙◌, arith}
 use Rattle.std.specs.Prelude.{◌==◌, if◌then◌else◌}
 use Rattle.std.specs.List.{slice_get}
@@ -29,7 +29,7 @@ use Rattle.laws_replay.specs.declared.event.Event.{Event}
 use Rattle.laws_replay.specs.declared.event.Event.TheVariants as events
 use Rattle.laws_replay.specs.declared.message.Message.{Message}
 
--- the questions and the turns of a course and then of another
+-- the questions and the turns of an event sequence and then of another
 
 pub questions_in-append : (done more : List Event) → questions_in (done ++ more) ≡ questions_in done ++ questions_in more
 questions_in-append [] more = refl
@@ -55,7 +55,7 @@ turns_behind_ask done query = turns_in-append done (events.Ask query ∷ []) ∙
 pub turns_behind_message : (done : List Event) (message : Message) → turns_in (done ++ events.Message message ∷ []) ≡ turns_in done
 turns_behind_message done message = turns_in-append done (events.Message message ∷ []) ∙ append-nil (turns_in done)
 
--- what was heard in a course and then in another
+-- what was heard in an event sequence and then in another
 
 pub heard_then : (done more : List Event) (old between new : Stored) (lines rest : List ℕ) → HasHeard done old between lines → HasHeard more between new rest → HasHeard (done ++ more) old new (lines ++ rest)
 heard_then [] more old between new lines rest first next =
@@ -83,7 +83,7 @@ abbrev pub has_turn : ℕ → List ℕ → Bool
 has_turn client [] = false
 has_turn client (other ∷ more) = if other == client then true else has_turn client more
 
--- what comes before the first turn of a client that has one, whatever comes behind
+-- what comes before the first turn of a client that has one, whatever comes after
 pub before_its_turn : (client : ℕ) (done more : List Event) → has_turn client (turns_in done) ≡ true → before_turn_of client (done ++ more) ≡ before_turn_of client done
 before_its_turn client [] more turned = absurd (false≢true turned)
 before_its_turn client (events.Ask query ∷ done) more turned = ap (λ (l : List Event). events.Ask query ∷ l) (before_its_turn client done more turned)
@@ -171,11 +171,11 @@ rounds_of-none client (other ∷ order) (round ∷ rounds) none =
       | false ↦ λ e. rounds_of-none client order rounds e
     ]) none
 
--- nothing was given to it
+-- it received nothing
 pub given_none : (client : ℕ) (order : List ℕ) (rounds : List Round) → has_turn client order ≡ false → given_in (rounds_of client order rounds) ≡ []
 given_none client order rounds none = ap given_in (rounds_of-none client order rounds none)
 
--- turns, one after the other: what was given, failed and asked, and the requests of all
+-- turns, one after the other: what was received, failed and asked, and the requests of all
 
 pub given_in-append : (rounds rest : List Round) → given_in (rounds ++ rest) ≡ given_in rounds ++ given_in rest
 given_in-append rounds rest = flat_map-append (λ (round : Round). round.given) rounds rest
@@ -249,7 +249,7 @@ abbrev pub AreClients : ℕ → List ℕ → Type 0
 AreClients count [] = Unit {0}
 AreClients count (client ∷ more) = IsClient count client × AreClients count more
 
--- a course whose turns are of clients begins with one of which that is so
+-- an event sequence whose turns are of clients begins with turns of clients
 pub turns_in_front : (front rest : List Event) → TurnsAreOfClients (front ++ rest) → TurnsAreOfClients front
 turns_in_front front rest turns before behind client is =
     turns before (behind ++ rest) client (ap (λ (l : List Event). l ++ rest) is ∙ append_assoc before (events.Turn client ∷ behind) rest)
@@ -285,7 +285,7 @@ no_turn_yet count (other ∷ order) client are later =
       not_later : (other count client : ℕ) → other ≤ count → count < client → other ≡ client → ⊥
       not_later other count client le lt same = omega arith
 
--- an item of a list stands there when that has grown
+-- an item of a list is there when that has grown
 pub slice_get-more : {X : Type 0} (xs ys : List X) (place : ℕ) → place < length xs → slice_get (xs ++ ys) place ≡ slice_get xs place
 slice_get-more xs ys place within =
     let item = item_within xs place within in
@@ -330,7 +330,7 @@ module _ (made : Timetable) (publishing : Publishing) (done : List Event) (clien
   none_by store other none is =
       is ∙ ap (version_of (side_with made publishing store) query) none ∙ sym (ap (version_of (side_with made publishing other) query) none)
 
-  -- whoever had no turn so far was given nothing
+  -- whoever had no turn yet received nothing
   pub meant_without : (more : List Event) (store : Stored) (lines : List ℕ) → has_turn client (turns_in (done ++ more)) ≡ false → given ≡ [] →
       HasHeard (done ++ more) (store_of made publishing.base_moment) store lines → IsMeant made publishing done client query given version → IsMeant made publishing (done ++ more) client query given version
   meant_without more store lines none nothing heard meant = record {

@@ -21,7 +21,7 @@ fails_last [] last none = (inr (All-nil IsIdle), tt)
 fails_last (round ∷ rounds) last none =
     (inl (front_nil round.failed (failed_in rounds) none), fails_last rounds last (back_nil round.failed (failed_in rounds) none))
 
--- and behind any turns one may follow in which nothing was wanted
+-- after any turns one may follow in which nothing was wanted
 pub fails_idle : (rounds : List Round) (last : Round) → EndByFailure rounds → IsIdle last → EndByFailure (rounds ++ last ∷ [])
 fails_idle [] last ends idle = (inr (All-nil IsIdle), tt)
 fails_idle (round ∷ rounds) last ends idle = (still ends.0, fails_idle rounds last ends.1 idle) where

@@ -85,7 +85,7 @@ own_round c round part one =
     ∙ ap₂ (λ (x y : List Met). x ++ y) (all_replied c one.replied one.got) (all_lost c one.lost (back_own c one.replied one.lost own) one.got_none) in
     ap wants_of here ∙ sym one.failed
 
--- so the failed exchanges of a client are what failed in its rounds
+-- the failed exchanges of a client are what failed in its rounds
 pub fails_in : (c : ℕ) (order : List ℕ) (rounds : List Round) (met : List Met) → AreMetIn order rounds met → wants_of (fails_of c met) ≡ failed_in (rounds_of c order rounds)
 fails_in c [] [] met are = ap (λ (l : List Met). wants_of (fails_of c l)) are
 fails_in c [] (r ∷ rs) met are = absurd are
@@ -103,7 +103,7 @@ fails_in c (k ∷ order) (r ∷ rs) met (part, rest, is, one, more) = split ∙ 
       ap₂ (λ (x y : List Want). x ++ y) (ap wants_of (all_other c k part one.own e)) later
       ∙ sym (ap (λ (b : Bool). failed_in (cond b (r ∷ rounds_of c order rs) (rounds_of c order rs))) e)
 
--- what failed stands among these
+-- what failed is among these
 among : (c : ℕ) (all : List Met) (place : ℕ) (met : Met) → slice_get all place ≡ Some met → fails c met ≡ true → (j : ℕ) × (slice_get (fails_of c all) j ≡ Some met)
 among c [] place met is passes = absurd (cc)
 among c (m ∷ all) zero met is passes =
@@ -137,7 +137,7 @@ one_pair c order rounds met w low high other later are one f g =
     let same : f.exchange ≡ g.exchange = one_there (fails_of c met) w here.0 there.0 f.exchange g.exchange (fails_in c order rounds met are ∙ one) here.1 there.1 in
     (sym f.low_is ∙ ap (λ (m : Met). m.low) same ∙ g.low_is, sym f.high_is ∙ ap (λ (m : Met). m.high) same ∙ g.high_is)
 
--- who failed by what was met failed in its rounds
+-- who failed by what was received failed in its rounds
 pub none_failed : (c : ℕ) (order : List ℕ) (rounds : List Round) (met : List Met) (low high : ℕ) → AreMetIn order rounds met →
     failed_in (rounds_of c order rounds) ≡ [] → HasFailedBetween c low high met → ⊥
 none_failed c order rounds met low high are none f =
@@ -158,7 +158,7 @@ pub one_failed : (side : Side) (query : Query) (version : Option ℕ) (given fai
 one_failed side query version given failed outcome low high so is =
     let fails = subst (FailsWith side query version given failed) is so in (fails.want, fails.one)
 
--- so a client ended by a fault of the link with the counts of each exchange of its own that failed
+-- a client ended by a fault of the link with the counts of each exchange of its own that failed
 pub faults_are_own : FaultsAreOwn
 faults_are_own made publishing all cache recorded now_recorded faults now_faults lines ends caused right place query end asks ended low high fell =
     let so = right.clients place query end asks ended in

@@ -1,4 +1,4 @@
--- How a client of a course ended rightly, which came to its outcome in a last turn of its own.
+-- How a client of an event sequence ended rightly, which reached its outcome in a last turn of its own.
 use Rattle.std.proofs.Common.{◌≡◌, ℕ, ◌+◌, ◌⊎◌, inl, inr, List, [], ◌∷◌, ◌++◌, length, Option, Some, None, refl, ap, ap₂, sym, subst, ◌∙◌, arith, append-nil, append_assoc, length-append}
 use Rattle.std.specs.List.{All}
 use Rattle.std.specs.Option.{IsSome}
@@ -13,7 +13,7 @@ use Rattle.cli_words.specs.declared.command.Publishing.{Publishing}
 use Rattle.convoy.specs.Finish.{HasOutcome}
 use Rattle.convoy.specs.State.{ConvoyState}
 use Rattle.convoy.specs.declared.member.Member.{Member}
-use Rattle.laws_convoys.specs.Leaves.{HasCome, NoneFailed, OneFailed, VersionAfter}
+use Rattle.laws_convoys.specs.Leaves.{HasReachedOutcome, NoneFailed, OneFailed, VersionAfter}
 use Rattle.laws_convoys.specs.Names.{Round}
 use Rattle.laws_convoys.specs.OneClient.{version_of}
 use Rattle.laws_convoys.proofs.AloneLemmas.{BeginsAtGate, version_is}
@@ -51,7 +51,7 @@ front_none : (first second : List Want) → first ++ second ≡ [] → first ≡
 front_none [] second none = refl
 front_none (want ∷ first) second none = absurd (cc)
 
--- who met one want in each turn, and was given nothing, while nothing failed, had no turn
+-- who received one want in each turn, but nothing in all, while nothing failed, had no turn
 no_round : (rounds : List Round) → All IsOne rounds → given_in rounds ≡ [] → failed_in rounds ≡ [] → rounds ≡ []
 no_round [] each given failed = refl
 no_round (round ∷ rounds) each given failed =
@@ -63,7 +63,7 @@ no_round (round ∷ rounds) each given failed =
       one_and_none : (all : List Want) (want : Want) → all ≡ want ∷ [] → all ≡ [] → ⊥
       one_and_none all want is none = cc
 
--- the same of one that has no outcome
+-- a client without outcome that received nothing in all, while nothing failed, had no turn
 no_turn_of : (rounds : List Round) (outcome : Option Outcome) → outcome ≡ None → HasMet rounds outcome → given_in rounds ≡ [] → failed_in rounds ≡ [] → rounds ≡ []
 no_turn_of rounds outcome none met given failed = by_end met.ended where
   all_ones : met.idle ≡ [] → rounds ≡ met.ones
@@ -75,7 +75,7 @@ no_turn_of rounds outcome none met given failed = by_end met.ended where
       are ∙ no_round met.ones met.each (sym (ap given_in are) ∙ given) (sym (ap failed_in are) ∙ failed)
   by_end (inr some) = absurd (no_outcome outcome some none)
 
--- who ended without a version wanted the gate at first, if anything
+-- who ended without a version wanted the time gate at first, if anything
 denied_gate : (side : Side) (s : Shown) (want : Want) (more : List Want) (fault : QueryFault) → IsDenied side s (want ∷ more) fault → want ≡ wants.Gate
 denied_gate side s want more HorizonRange denied = let none : want ∷ more ≡ [] = denied.given in absurd (cc)
 denied_gate side s want more SameStop denied = let none : want ∷ more ≡ [] = denied.given in absurd (cc)
@@ -112,17 +112,17 @@ none_failed side query version given failed (outcomes.PeerWrong reply fault) non
 some_is_some : (is : Option Outcome) (a b : Outcome) → is ≡ Some a → is ≡ Some b → a ≡ b
 some_is_some is a b one two = cc
 
--- A client of the question that had these turns in the course, behind which this was heard, and then a last one of its own.
+-- A client of the question that had these turns in the event sequence. After it this was heard, and it had a last turn of its own.
 module _ (made : Timetable) (publishing : Publishing) (all : List Event) (store : Stored) (lines : List ℕ) (client : ℕ) (query : Query) (was : Member) (new : ConvoyState)
     (so_far now : List (List Want)) (rounds : List Round) (place : ℕ) (before after : LinkSeen) (mine : List Round) (end : ClientEnd)
     (heard : HasHeard all (store_of made publishing.base_moment) store lines)
-    (came : HasCome (side_with made publishing store) (side_with made publishing store) was new so_far now rounds place before after)
+    (came : HasReachedOutcome (side_with made publishing store) (side_with made publishing store) was new so_far now rounds place before after)
     (m : IsMemberSo made publishing all (side_with made publishing store) client query was came.own mine) (so : HasEndedSo came.is end)
     (without_turn : mine ≡ [] → before_turn_of client all ≡ all) where
   abbrev side : Side
   side = side_with made publishing store
 
-  -- what it was given, and what was asked for in vain
+  -- what it received, and what it asked for in vain
   given_is : given_in (mine ++ came.round ∷ []) ≡ came.own ++ came.round.given
   given_is = given_in-append mine (came.round ∷ []) ∙ ap₂ (λ (x y : List Want). x ++ y) (sym m.given_is) (append-nil came.round.given)
 
@@ -158,14 +158,14 @@ module _ (made : Timetable) (publishing : Publishing) (all : List Event) (store 
   was_idle : HasOutcome was → IsIdle came.round
   was_idle some = ap₂ (λ (x y : List Want). x ++ y) (none_given some) (nothing_failed some)
 
-  -- its version stays where the gate does not reply
+  -- its version stays where the time gate does not reply
   stays : ((more : List Want) → came.round.given ≡ wants.Gate ∷ more → ⊥) → end.version ≡ (shown was.client).version
   stays no_gate = so.version ∙ kept_version side side (shown was.client) came.round.given (shown came.is.client).version no_gate came.moved.version
 
   no_gate_of_none : came.round.given ≡ [] → (more : List Want) → came.round.given ≡ wants.Gate ∷ more → ⊥
   no_gate_of_none none more begins = cc
 
-  -- and where it was given nothing before, it is the one that it means now
+  -- where it had received nothing before, its version is the one that it means now
   version_now : came.own ≡ [] → end.version ≡ version_of side query came.round.given
   version_now none =
       let no_version : (shown was.client).version ≡ None = m.meant.is ∙ ap (version_of (side_with made publishing m.meant.store) query) (sym m.given_is ∙ none) in
@@ -175,7 +175,7 @@ module _ (made : Timetable) (publishing : Publishing) (all : List Event) (store 
       ∙ version_is side side (shown was.client) query came.round.given (shown came.is.client).version m.question no_version refl
       (begins_at_gate side side (shown was.client) (shown came.is.client) came.round.given end.outcome no_version came.moved.version alone) came.moved.version
 
-  -- a client that is given something now, and was given nothing before, had no turn
+  -- a client that receives something now, and had received nothing before, had no turn
   first_turn : (want : Want) (more : List Want) → came.own ≡ [] → came.round.given ≡ want ∷ more → mine ≡ []
   first_turn want more none some = by_outcome (shown was.client).outcome refl m.failed where
     by_outcome : (outcome : Option Outcome) → (shown was.client).outcome ≡ outcome → HasFailedSo side query (shown was.client).version (given_in mine) (failed_in mine) outcome → mine ≡ []
@@ -217,7 +217,7 @@ module _ (made : Timetable) (publishing : Publishing) (all : List Event) (store 
     counted : (first second : List Want) (n : ℕ) → n ≡ length first → n + length second ≡ length (first ++ second)
     counted first second n is = omega (arith, length-append first second)
 
-  -- it met one want a turn
+  -- it received one want a turn
   each : TakeOneEach (mine ++ came.round ∷ [])
   each = by_end m.met.ended where
     by_end : (m.met.idle ≡ []) ⊎ IsSome (shown was.client).outcome → TakeOneEach (mine ++ came.round ∷ [])
@@ -229,7 +229,7 @@ module _ (made : Timetable) (publishing : Publishing) (all : List Event) (store 
         ap (λ (l : List Round). l ++ came.round ∷ []) m.met.are ∙ append_assoc m.met.ones m.met.idle (came.round ∷ []) in
         subst TakeOneEach (sym are) (ones_and_idle m.met.ones m.met.idle came.round m.met.each m.met.none (was_idle some))
 
-  -- and none behind an exchange that failed
+  -- it received none after an exchange that failed
   at_last : EndByFailure (mine ++ came.round ∷ [])
   at_last = by_outcome (shown was.client).outcome refl m.failed where
     by_outcome : (outcome : Option Outcome) → (shown was.client).outcome ≡ outcome → HasFailedSo side query (shown was.client).version (given_in mine) (failed_in mine) outcome →

@@ -1,4 +1,4 @@
--- A course that was played rightly, behind which each client came to its outcome, was played rightly to its end.
+-- An event sequence that was played rightly, after which each client reached its outcome, was played rightly to its end.
 use Rattle.std.proofs.Common.{◌≡◌, ℕ, zero, suc, ◌+◌, ◌<◌, List, [], ◌∷◌, ◌++◌, length, Some, refl, ap, ap₂, sym, subst, ◌∙◌, length-append}
 use Rattle.std.specs.List.{slice_get}
 use Rattle.std.proofs.lemmas.Option.{slice_get_within}
@@ -11,7 +11,7 @@ use Rattle.convoy.specs.Finish.{Rounds}
 use Rattle.convoy.specs.State.{ConvoyState}
 use Rattle.convoy.specs.declared.member.Member.{Member}
 use Rattle.laws_convoys.specs.Laws.{RoundsKeepAgreement}
-use Rattle.laws_convoys.specs.Leaves.{HasCome, RoundsAgree}
+use Rattle.laws_convoys.specs.Leaves.{HasReachedOutcome, AgreesAfterRounds}
 use Rattle.laws_convoys.specs.Names.{AskByNames, Round, failures_in, names_of}
 use Rattle.laws_convoys.specs.Requests.{TellsRequests, requests_of}
 use Rattle.laws_convoys.specs.Rounds.{rounds_up_to}
@@ -57,7 +57,7 @@ end_at (member ∷ members) (first ∷ ends) (suc place) end so has =
 
 module _ (made : Timetable) (publishing : Publishing) (cache : ℕ) (all : List Event) (played ended : ConvoyState) (start behind after : LinkSeen) (lines : List ℕ) (ends : List ClientEnd)
     (met : List Met) (front rest : List Round) (p : IsPlayedTo made publishing cache all played start behind lines front)
-    (r : RoundsAgree (side_with made publishing p.store) played ended p.given (length played.members) behind after rest) (have_ended : HaveEndedSo ended.members ends)
+    (r : AgreesAfterRounds (side_with made publishing p.store) played ended p.given (length played.members) behind after rest) (have_ended : HaveEndedSo ended.members ends)
     (met_in : AreMetIn (order_of all) (front ++ rest) met) (replied : TellsOwn made publishing all (front ++ rest) start.recorded after.recorded) where
   abbrev side : Side
   side = side_with made publishing p.store
@@ -108,7 +108,7 @@ module _ (made : Timetable) (publishing : Publishing) (cache : ℕ) (all : List 
 
   -- each client
   client_ends : (place : ℕ) (query : Query) (end : ClientEnd) (was : Member) → slice_get (questions_in all) place ≡ Some query → slice_get ends place ≡ Some end → slice_get played.members place ≡ Some was →
-      HasCome side side was ended p.given r.now rest place behind after → EndsSo made publishing all side (place + 1) query (rounds_of (place + 1) (order_of all) rounds) end
+      HasReachedOutcome side side was ended p.given r.now rest place behind after → EndsSo made publishing all side (place + 1) query (rounds_of (place + 1) (order_of all) rounds) end
   client_ends place query end was asked has had came =
       let there = end_at ended.members ends place end have_ended has in
       let so : HasEndedSo came.is end = subst (λ (m : Member). HasEndedSo m end) (one_at ended.members place there.member came.is there.is came.has) there.so in
@@ -128,7 +128,7 @@ module _ (made : Timetable) (publishing : Publishing) (cache : ℕ) (all : List 
       let within : place < length played.members = subst (λ (n : ℕ). place < n) (sym p.clients) (slice_get_within (questions_in all) place query asked) in
       let was = item_within played.members place within in
       client_ends place query end was.0 asked has was.1
-      (subst (λ (left : Side). HasCome side left was.0 ended p.given r.now rest place behind after) same_side (r.came place was.0 within was.1))
+      (subst (λ (left : Side). HasReachedOutcome side left was.0 ended p.given r.now rest place behind after) same_side (r.came place was.0 within was.1))
 
   pub rounds_finish : ArePlayedRight made publishing all cache start.recorded after.recorded start.faults after.faults lines ends met
   rounds_finish = record {
@@ -144,7 +144,7 @@ module _ (made : Timetable) (publishing : Publishing) (cache : ℕ) (all : List 
     clients = clients;
   }
 
--- all clients were turned to their outcomes behind a course
+-- all clients were turned to their outcomes after an event sequence
 pub finishes :
     {X : Type 0} (seen : X → LinkSeen) (made : Timetable) (publishing : Publishing) (cache : ℕ) (all : List Event) (played ended : ConvoyState) (start : LinkSeen) (behind after : X) (lines : List ℕ)
     (ends : List ClientEnd) (met : List Met) (front : List Round) → IsPlayedTo made publishing cache all played start (seen behind) lines front →

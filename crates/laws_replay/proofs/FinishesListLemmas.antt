@@ -1,4 +1,4 @@
--- Turns of a course, and behind them one of each client, in the order of their numbers.
+-- Turns of an event sequence, and after them one of each client, in the order of their numbers.
 use Rattle.std.proofs.Common.{◌≡◌, ℕ, zero, suc, ◌+◌, ◌-◌, ◌≤◌, ◌==◌, inl, inr, Bool, true, false, List, [], ◌∷◌, ◌++◌, length, Option, Some, refl, ap, ap₂, sym, subst, ◌∙◌, arith, eq-eqb, length-append}
 use Rattle.std.specs.Prelude.{if◌then◌else◌}
 use Rattle.std.specs.List.{All, slice_get}
@@ -15,7 +15,7 @@ use Rattle.laws_replay.specs.Turns.{IsIdle, IsOne, TakeOneEach, counted, request
 use Rattle.laws_replay.specs.declared.event.Event.{Event}
 use Rattle.laws_replay.specs.declared.event.Event.TheVariants as events
 
--- the numbers behind this one, so many of them
+-- this many numbers after this one
 abbrev pub counted_from : ℕ → ℕ → List ℕ
 counted_from k zero = []
 counted_from k (suc n) = suc k ∷ counted_from (suc k) n
@@ -46,7 +46,7 @@ same_rest a b same = omega arith
 none_is_some : (a : ℕ) → zero ≡ suc a → ⊥
 none_is_some a same = omega arith
 
--- among the numbers behind its own a client has no turn
+-- among the numbers after its own a client has no turn
 none_behind : (client k n : ℕ) (rounds : List Round) → client ≤ k → rounds_of client (counted_from k n) rounds ≡ []
 none_behind client k zero rounds le = refl
 none_behind client k (suc n) [] le = refl
@@ -87,7 +87,7 @@ own_round n place rounds round same has =
     let is : place + 1 ≡ suc (0 + place) = omega arith in
     ap (λ (l : List ℕ). rounds_of (place + 1) l rounds) (counted_is n) ∙ own_from (place + 1) 0 n place rounds round is same has
 
--- the requests of one turn of each client, one client behind the other
+-- the requests of one turn of each client, one client after the other
 requests_from : (base : BaseParts) (questions : List Query) (k n : ℕ) (members : List Member) (rounds : List Round) → length members ≡ n →
     ((place : ℕ) (member : Member) → slice_get members place ≡ Some member → slice_get questions (k + place) ≡ Some (shown member.client).query) →
     requests_in base questions (counted_from k n) rounds ≡ requests_of base members rounds
@@ -144,7 +144,7 @@ idle_to_last [] last none none_then = tt
 idle_to_last (round ∷ []) last none none_then = inr (all_idle (round ∷ []) last none none_then)
 idle_to_last (round ∷ next ∷ idle) last none none_then = inr (all_idle (round ∷ next ∷ idle) last none none_then)
 
--- one want in each turn up to an end, and nothing behind it
+-- one want in each turn up to an end, and nothing after it
 pub ones_and_idle : (ones idle : List Round) (last : Round) → All IsOne ones → All IsIdle idle → IsIdle last → TakeOneEach (ones ++ (idle ++ last ∷ []))
 ones_and_idle [] idle last each none none_then = idle_to_last idle last none none_then
 ones_and_idle (one ∷ ones) idle last each none none_then =

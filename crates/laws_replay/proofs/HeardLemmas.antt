@@ -1,4 +1,4 @@
--- What is heard in a course over a link whose side stays at a GET, whatever it replies.
+-- What is heard in an event sequence over a link whose side stays at a GET, whatever it replies.
 use Rattle.std.proofs.Common.{◌≡◌, ℕ, inl, inr, List, [], ◌∷◌, Some, refl, ap, sym, subst, ◌∙◌}
 use Rattle.cli_ask.specs.Admission.{IsBehind}
 use Rattle.cli_ask.specs.Publishing.{side_with, store_of}
@@ -37,7 +37,7 @@ asks_stays base was is old new before after (inl (asks, same)) still = exchange_
 asks_stays base was is old new before after (inr (inl (asks, same))) still = exchange_stays base (shown was) before after asks.got asks.exchange still
 asks_stays base was is old new before after (inr (inr asks)) still = exchange_stays base (shown was) before after asks.got asks.exchange still
 
--- and so does a turn
+-- a turn leaves it too
 turn_stays : {X : Type 0} (seen : X → LinkSeen) (k : ℕ) (turn : Turn) (old new : ConvoyState) (before after : X) → IsStep seen k old new before after turn → (seen before).still →
     ((seen after).side ≡ (seen before).side) × (seen after).still
 turn_stays {X} seen k Finished old new before after step still = subst (λ (x : X). ((seen x).side ≡ (seen before).side) × (seen x).still) (sym (step.idle (λ e. cc))) (refl, still)
@@ -47,7 +47,7 @@ turn_stays seen k Exchanged old new before after step still =
     let t : IsExchanged old.base s.was s.is old.kept new.kept (seen before) (seen after) = s.turned in
     asks_stays old.base s.was.client s.is.client old new (seen before) (seen after) t.asks still
 
--- a message that is given to a publisher with this store
+-- a message that a publisher with this store receives
 module _ (made : Timetable) (publishing : Publishing) (file : File) (store : Stored) (stops : store.stops ≡ made.doc.stops) (before after : LinkSeen) (line : List ℕ)
     (tells : before.side ≡ Some (side_with made publishing store)) (given : IsGiven before after file line) where
   same : side_of chosen_cuts given.held ≡ side_with made publishing store

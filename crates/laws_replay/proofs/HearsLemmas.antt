@@ -1,4 +1,4 @@
--- The publisher behind the link of a course is given a message.
+-- The publisher at the link of an event sequence receives a message.
 use Rattle.std.proofs.Common.{◌≡◌, ℕ, zero, suc, ◌+◌, inl, inr, List, [], ◌∷◌, ◌++◌, length, Option, Some, None, refl, ap, sym, subst, ◌∙◌}
 use Rattle.std.specs.List.{slice_get}
 use Rattle.std.proofs.lemmas.List.{append-nil}
@@ -85,11 +85,11 @@ module _ (made : Timetable) (publishing : Publishing) (held : Held Cutting) (own
       same_store held.store own (ap (λ (side : Side). side.runs) same) (stops ∙ ap (λ (side : Side). side.doc.stops) same ∙ sym own_stops) (ap (λ (side : Side). side.zone) same)
       (ap (λ (side : Side). side.base_moment) same) (ap (λ (side : Side). side.history) same)
 
-  -- and so it is of each other store
+  -- the side of each other store is the one with that store
   pub side_then : (store : Stored) → side_of chosen_cuts (record held { store = store }) ≡ side_with made publishing store
   side_then store = ap (in_place store) same
 
--- behind a message the side is a later one
+-- after a message the side is a later one
 pub later_behind : (made : Timetable) (publishing : Publishing) (file : File) (old new : Stored) (line : List ℕ) → IsBehind (Some file) old new line →
     IsLater (side_with made publishing old) (side_with made publishing new)
 later_behind made publishing file old new line (inl admitted) = record {
@@ -134,7 +134,7 @@ module _ (before after : Side) (query : Query) (version : Option ℕ) (given fai
   failed_later None fails = fails
   failed_later (Some outcome) fails = with_later outcome fails
 
--- the publisher is given the message
+-- the publisher receives the message
 module _
     (made : Timetable) (publishing : Publishing) (cache : ℕ) (done : List Event) (message : Message) (convoy : ConvoyState) (start before after : LinkSeen) (lines line : List ℕ)
     (later_agrees : LaterAgrees) (wants_stay : WantsStay) (rounds : List Round) (played : IsPlayedTo made publishing cache done convoy start before lines rounds) (given : IsGiven before after message.file line)

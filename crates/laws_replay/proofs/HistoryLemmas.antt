@@ -1,4 +1,4 @@
--- What was met in a turn, and in turns one after the other, is what their rounds tell.
+-- What was received in a turn, and in turns one after the other, is what their rounds say.
 use Rattle.std.proofs.Common.{◌≡◌, ◌∙◌, ◌⊎◌, ℕ, inl, inr, Bool, true, false, List, [], ◌∷◌, ◌++◌, ap, ap₂, append-nil, append_assoc, cond, refl, subst, sym}
 use Rattle.std.specs.Prelude.{IsSome, None}
 use Rattle.std.specs.List.{All}
@@ -25,7 +25,7 @@ HasReply met = IsSome met.made.got
 abbrev pub HasNone : Met → Type 0
 HasNone met = met.made.got ≡ None
 
--- nothing was met
+-- nothing was received
 pub met_nothing : (client : ℕ) → IsMetIn client (round_with [] [] []) []
 met_nothing client = record {
   own = All-nil (λ (met : Met). met.client ≡ client);
@@ -39,7 +39,7 @@ met_nothing client = record {
   asked = refl;
 }
 
--- one want was met
+-- one want was received
 module _ (k : ℕ) (was : Member) (asked : Bool) (more : List Met) (m : MeetsWant k was asked more) where
   abbrev want : Want
   want = want_of (shown was.client).phase
@@ -88,7 +88,7 @@ module _ (k : ℕ) (was : Member) (asked : Bool) (more : List Met) (m : MeetsWan
         asked = asked_for;
       })
 
--- what was met in a turn
+-- what was received in a turn
 pub met_in_turn : (turn : Turn) (k : ℕ) (was is : Member) (more : List Met) → MeetsIn turn k was is more → IsMetIn k (round_at turn (shown was.client) (shown is.client)) more
 met_in_turn Finished k was is more none = subst (IsMetIn k (round_with [] [] [])) (sym none) (met_nothing k)
 met_in_turn Cached k was is more (met, replied) = met_reply k was false more met is replied

@@ -1,4 +1,4 @@
--- Two plays of one course come to the same.
+-- Two plays of one event sequence result in the same.
 use Rattle.std.proofs.Common.{◌≡◌, ◌∙◌, ℕ, zero, suc, ◌+◌, ◌<◌, ◌≤◌, List, [], ◌∷◌, ◌++◌, Option, Some, ap, ap₂, arith, length, refl, subst, sym}
 use Rattle.std.specs.List.{All, AllZip, slice_get}
 use Rattle.std.proofs.lemmas.List.Elements.{All-head, All-tail}
@@ -25,7 +25,7 @@ use Rattle.page_client.specs.declared.outcome.Outcome.TheVariants as outcomes
 use Rattle.page_client.specs.declared.want.Want.{Want}
 use Rattle.publisher_spec.specs.Side.{Side}
 use Rattle.script_text.specs.Script.{IsClient}
-use Rattle.laws_sides.specs.Recorded.{version_at}
+use Rattle.laws_sides.specs.Stated.{version_at}
 use Rattle.timetable.specs.Laws.{AreSame}
 use Rattle.timetable.specs.declared.timetable.Timetable.{Timetable}
 use Rattle.version_store.specs.Laws.{OneOutcome}
@@ -47,7 +47,7 @@ none_failed side query version given failed (outcomes.Refused fault) fails fine 
 none_failed side query version given failed (outcomes.LinkFault before after) fails fine = absurd fine
 none_failed side query version given failed (outcomes.PeerWrong reply fault) fails fine = fails
 
--- each turn is one of a client, those behind the course too
+-- each turn is one of a client, those after the event sequence too
 are_more : (count : ℕ) (order more : List ℕ) → AreClients count order → AreClients count more → AreClients count (order ++ more)
 are_more count [] more are then_are = then_are
 are_more count (client ∷ order) more are then_are = (are.0, are_more count order more are.1 then_are)
@@ -78,7 +78,7 @@ zip_places R (x ∷ xs) [] same fit = absurd (omega (arith, same))
 zip_places R (x ∷ xs) (y ∷ ys) same fit =
     (fit zero x y refl refl, zip_places R xs ys (omega (arith, same)) (λ place a b is other. fit (suc place) a b is other))
 
--- the ends of one client in two plays, and what it met in its turns
+-- the ends of one client in two plays, and what it received in its turns
 record EndAlike (d e : ClientEnd) (rs ts : List Round) : Type 0 where
   version : d.version ≡ e.version
   outcome : SayTheSame d.outcome e.outcome
@@ -88,7 +88,7 @@ record EndAlike (d e : ClientEnd) (rs ts : List Round) : Type 0 where
 abbrev side_behind : Timetable → Publishing → List Entry → Side
 side_behind made publishing history = side_with made publishing (store_with made publishing.base_moment history)
 
--- one client of a course that was played to timetables that are the same
+-- one client of an event sequence that was played to timetables that are the same
 module _ (one_arrival : OneArrivalAt) (one_needed : OneListOfNeededAt) (one_outcome : OneOutcome) (a b : Timetable) (publishing : Publishing) (all : List Event) (same : AreSame a b) (store other : Stored)
     (is_of : store ≡ store_with a publishing.base_moment store.history) (other_is_of : other ≡ store_with b publishing.base_moment other.history) (one : store.history ≡ other.history) where
   here : side_with a publishing store ≡ in_zone (side_behind b publishing other.history) a.zone
@@ -127,7 +127,7 @@ module _ (one_arrival : OneArrivalAt) (one_needed : OneListOfNeededAt) (one_outc
       one_course_heard one_outcome all (store_of a publishing.base_moment) p.right.store (store_of b publishing.base_moment) q.right.store lines other_lines
       (record { base = refl; history = refl }) p.right.heard q.right.heard
 
-  -- a client has one end and met the same in both plays
+  -- a client has one end and received the same in both plays
   client_at : (place : ℕ) (query : Query) (d e : ClientEnd) → slice_get (questions_in all) place ≡ Some query → slice_get ends place ≡ Some d → slice_get other_ends place ≡ Some e →
       EndAlike d e (rounds_of (place + 1) (order_of all) p.right.rounds) (rounds_of (place + 1) (order_of all) q.right.rounds)
   client_at place query d e asks is other_is =
@@ -149,7 +149,7 @@ module _ (one_arrival : OneArrivalAt) (one_needed : OneListOfNeededAt) (one_outc
       subst (λ (client : ℕ). AllZip MetTheSame (rounds_of client (order_of all) p.right.rounds) (rounds_of client (order_of all) q.right.rounds)) number
       (client_at place asks.0 ended.0 other.0 asks.1 ended.1 other.1).met
 
-  -- so the turns are the same in both plays
+  -- the turns are the same in both plays
   rounds : p.right.rounds ≡ q.right.rounds
   rounds =
       same_rounds cache [] p.right.rounds q.right.rounds

@@ -1,4 +1,4 @@
--- What is heard in a course is one.
+-- What is heard in an event sequence is one.
 use Rattle.std.proofs.Common.{◌≡◌, ◌∙◌, ℕ, List, [], ◌∷◌, ◌++◌, Some, ap, ap₂, refl, subst, sym}
 use Rattle.cli_ask.proofs.AdmissionLemmas.{AreOne, HaveHeardOne, of_history, one_behind}
 use Rattle.version_store.specs.Laws.{OneOutcome}
@@ -7,7 +7,7 @@ use Rattle.laws_replay.specs.Versions.{HasHeard}
 use Rattle.laws_replay.specs.declared.event.Event.{Event}
 use Rattle.laws_replay.specs.declared.event.Event.TheVariants as events
 
--- the store behind a course differs in its history alone
+-- the store after an event sequence differs in its history alone
 pub of_course : (all : List Event) (old new : Stored) (lines : List ℕ) → HasHeard all old new lines → new ≡ record old { history = new.history }
 of_course [] old new lines (same, none) = subst (λ (s : Stored). s ≡ record old { history = s.history }) (sym same) refl
 of_course (events.Ask query ∷ more) old new lines heard = of_course more old new lines heard

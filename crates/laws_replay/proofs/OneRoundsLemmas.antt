@@ -1,4 +1,4 @@
--- What was given in the turns of a course fixes what was asked for in them.
+-- What was received in the turns of an event sequence fixes what was asked for in them.
 use Rattle.std.proofs.Common.{◌≡◌, ◌∙◌, ◌==◌, ℕ, inl, inr, Bool, true, false, List, [], ◌∷◌, ◌++◌, ap, ap₂, arith, length, refl, subst, sym}
 use Rattle.std.specs.List.{All, AllZip}
 use Rattle.std.specs.Prelude.{if◌then◌else◌}
@@ -12,7 +12,7 @@ use Rattle.script_text.specs.Script.{IsClient}
 use Rattle.laws_replay.specs.Turns.{IsIdle, IsOne, TakeOneEach, failed_in, given_in, rounds_of}
 use Rattle.laws_replay.proofs.EventLemmas.{AreClients}
 
--- the same was given in both turns, and the same failed
+-- both turns gave the same, and the same failed in both
 pub record MetTheSame (r s : Round) : Type 0 where
   pub given : r.given ≡ s.given
   pub failed : r.failed ≡ s.failed
@@ -32,7 +32,7 @@ no_second : {X : Type 0} (xs ys : List X) → xs ++ ys ≡ [] → ys ≡ []
 no_second [] ys none = none
 no_second (x ∷ xs) ys none = absurd (cc)
 
--- a turn in which something was met is none in which nothing was wanted
+-- a turn in which something was received is none in which nothing was wanted
 given_one : (r : Round) → r.failed ≡ [] → (one : IsOne r) → r.given ≡ one.want ∷ []
 given_one r none one = sym (ap (λ (l : List Want). r.given ++ l) none ∙ append-nil r.given) ∙ one.is
 
@@ -41,7 +41,7 @@ idle_given [] idle = refl
 idle_given (r ∷ rs) idle =
     ap₂ (λ (x y : List Want). x ++ y) (no_first r.given r.failed (All-head IsIdle r rs idle)) (idle_given rs (All-tail IsIdle r rs idle))
 
--- what was met first, and what behind it
+-- what was received first, and what after it
 first_given : (r : Round) (rs : List Round) (want : Want) → r.given ≡ want ∷ [] → given_in (r ∷ rs) ≡ want ∷ given_in rs
 first_given r rs want is = ap (λ (l : List Want). l ++ given_in rs) is
 
@@ -70,8 +70,8 @@ both_idle (r ∷ rs) (t ∷ ts) same idle other =
       both_idle rs ts (fewer r t rs ts same) (All-tail IsIdle r rs idle) (All-tail IsIdle t ts other),
     )
 
--- A client that meets one want in each turn, and what is left in the last one, was given the same in each of as many turns where it was given the same all in
--- all and nothing failed.
+-- A client receives one want in each turn, and the rest in the last one. In as many turns it received the same in each, where
+-- it received the same in all and nothing failed.
 pub met_the_same : (rs ts : List Round) → length rs ≡ length ts → TakeOneEach rs → TakeOneEach ts → failed_in rs ≡ [] → failed_in ts ≡ [] → given_in rs ≡ given_in ts →
     AllZip MetTheSame rs ts
 met_the_same [] ts many each other_each none other_none same = absurd each
@@ -105,7 +105,7 @@ met_the_same (r ∷ next ∷ rs) (t ∷ following ∷ ts) many (inr idle) (inl (
     absurd (not_idle t (following ∷ ts) (r ∷ next ∷ rs) other.want (given_one t (no_first t.failed (failed_in (following ∷ ts)) other_none) other) idle (sym same))
 met_the_same (r ∷ next ∷ rs) (t ∷ following ∷ ts) many (inr idle) (inr other) none other_none same = both_idle (r ∷ next ∷ rs) (t ∷ following ∷ ts) many idle other
 
--- a client has as many turns in each play of a course
+-- a client has as many turns in each play of an event sequence
 pub as_many_rounds : (client : ℕ) (order : List ℕ) (rs ts : List Round) → length rs ≡ length ts → length (rounds_of client order rs) ≡ length (rounds_of client order ts)
 as_many_rounds client [] rs ts same = refl
 as_many_rounds client (other ∷ order) [] [] same = refl
@@ -120,7 +120,7 @@ as_many_rounds client (other ∷ order) (r ∷ rs) (t ∷ ts) same =
       | false ↦ rest
     ]
 
--- the same was met in the turns of a client, where the first of these turns is its own or not
+-- a client received the same in its turns, where the first of these turns is its own or not
 abbrev BothMet : ℕ → List ℕ → Round → Round → List Round → List Round → Bool → Type 0
 BothMet client order r t rs ts own =
     AllZip MetTheSame (if own then r ∷ rounds_of client order rs else rounds_of client order rs) (if own then t ∷ rounds_of client order ts else rounds_of client order ts)
@@ -129,7 +129,7 @@ others_met : (client : ℕ) (order : List ℕ) (r t : Round) (rs ts : List Round
 others_met client order r t rs ts true both = both.1
 others_met client order r t rs ts false both = both
 
--- where the same was met in each turn of each client, it was met in each turn
+-- where each client received the same in each of its turns, each turn gave the same
 pub met_in_all : (count : ℕ) (order : List ℕ) (rs ts : List Round) → length rs ≡ length order → length ts ≡ length order → AreClients count order →
     ((client : ℕ) → IsClient count client → AllZip MetTheSame (rounds_of client order rs) (rounds_of client order ts)) → AllZip MetTheSame rs ts
 met_in_all count [] [] [] many other_many are met = tt
@@ -145,7 +145,7 @@ met_in_all count (first ∷ order) (r ∷ rs) (t ∷ ts) many other_many are met
       rest : (client : ℕ) → IsClient count client → AllZip MetTheSame (rounds_of client order rs) (rounds_of client order ts)
       rest client is = others_met client order r t rs ts (first == client) (met client is)
 
--- so the kept names tell one thing
+-- the names of the cached pages determine one round
 pub same_rounds : (cache : ℕ) (names : List PageName) (rs ts : List Round) → AllZip MetTheSame rs ts → AskByNames cache names rs → AskByNames cache names ts → rs ≡ ts
 same_rounds cache names [] [] met asks other_asks = refl
 same_rounds cache names [] (t ∷ ts) met asks other_asks = absurd met

@@ -1,4 +1,4 @@
--- How far a course was played rightly: what holds behind the events that are done.
+-- How far an event sequence was played rightly: what holds after the events that are done.
 use Rattle.std.proofs.Common.{◌≡◌, ◌⊎◌, ℕ, ◌+◌, List, [], ◌++◌, Option, Some, None, length}
 use Rattle.std.specs.List.{All, slice_get}
 use Rattle.std.specs.Option.{IsSome}
@@ -29,7 +29,7 @@ abbrev pub HasFailedSo : Side → Query → Option ℕ → List Want → List Wa
 HasFailedSo side query version given failed None = failed ≡ []
 HasFailedSo side query version given failed (Some outcome) = FailsWith side query version given failed outcome
 
--- it met one want in each turn up to its end, and none behind it, nor behind an exchange that failed
+-- it received one want in each turn up to its end, and none after it, nor after an exchange that failed
 pub record HasMet (rounds : List Round) (outcome : Option Outcome) : Type 0 where
   pub ones : List Round
   pub idle : List Round
@@ -39,7 +39,7 @@ pub record HasMet (rounds : List Round) (outcome : Option Outcome) : Type 0 wher
   pub ended : (idle ≡ []) ⊎ IsSome outcome
   pub at_last : EndByFailure rounds
 
--- the client of the question, with this number, behind these turns of its own
+-- the client of the question, with this number, after these turns of its own
 pub record IsMemberSo (made : Timetable) (publishing : Publishing) (done : List Event) (side : Side) (client : ℕ) (query : Query) (member : Member) (given : List Want) (rounds : List Round) : Type 0 where
   pub question : (shown member.client).query ≡ query
   pub given_is : given ≡ given_in rounds
@@ -48,7 +48,7 @@ pub record IsMemberSo (made : Timetable) (publishing : Publishing) (done : List 
   pub met : HasMet rounds (shown member.client).outcome
   pub failed : HasFailedSo side query (shown member.client).version (given_in rounds) (failed_in rounds) (shown member.client).outcome
 
--- the convoy and the link behind what is done, in these rounds
+-- the convoy and the link after what is done, in these rounds
 pub record IsPlayedTo (made : Timetable) (publishing : Publishing) (cache : ℕ) (done : List Event) (convoy : ConvoyState) (start now : LinkSeen) (lines : List ℕ) (rounds : List Round) : Type 0 where
   pub store : Stored
   pub heard : HasHeard done (store_of made publishing.base_moment) store lines

@@ -1,4 +1,4 @@
--- A course is played, event after event.
+-- An event sequence is played, event after event.
 use Rattle.std.proofs.Common.{◌≡◌, ℕ, List, [], ◌∷◌, ◌++◌, length, refl, ap, sym, subst, ◌∙◌}
 use Rattle.std.proofs.Math.Seq.{take-append_seam}
 use Rattle.std.proofs.lemmas.List.{append-nil, append_assoc}
@@ -36,13 +36,13 @@ use Rattle.laws_replay.specs.Versions.{AreShort, HasHeard}
 use Rattle.laws_replay.specs.declared.event.Event.{Event}
 use Rattle.laws_replay.specs.declared.event.Event.TheVariants as events
 
--- the texts of the publisher are short behind the beginning of a course of which that is so
+-- if the publisher's texts are short in an event sequence, they are short after the beginning of it
 pub short_behind : (made : Timetable) (publishing : Publishing) (front rest : List Event) → AreShort made publishing (front ++ rest) → (store : Stored) (lines : List ℕ) →
     HasHeard front (store_of made publishing.base_moment) store lines → IsShort (side_with made publishing store)
 short_behind made publishing front rest short store lines heard =
     short (length front) store lines (subst (λ (course : List Event). HasHeard course (store_of made publishing.base_moment) store lines) (sym (take-append_seam front rest)) heard)
 
--- a turn of a client keeps what holds of a course
+-- a turn of a client keeps what holds of an event sequence
 abbrev pub TurnsGoOn : {X : Type 0} → (X → LinkSeen) → Timetable → Publishing → ℕ → X → Type 0
 TurnsGoOn {X} seen made publishing cache start =
     (done : List Event) (old new : ConvoyState) (before after : X) (lines : List ℕ) (rounds : List Round) (client : ℕ) (turn : Turn)
@@ -51,7 +51,7 @@ TurnsGoOn {X} seen made publishing cache start =
 
 module _ {X : Type 0} (seen : X → LinkSeen) (made : Timetable) (publishing : Publishing) (cache : ℕ) (start : X) (added : AddedAgrees) (later : LaterAgrees) (wants_stay : WantsStay)
     (go_on : TurnsGoOn seen made publishing cache start) where
-  -- what is left of a course is played
+  -- what is left of an event sequence is played
   pub plays_on : (done rest : List Event) (old new : ConvoyState) (before after : X) (lines more : List ℕ) (rounds : List Round) → TurnsAreOfClients (done ++ rest) → AreShort made publishing (done ++ rest) →
       IsPlayedTo made publishing cache done old (seen start) (seen before) lines rounds → (plays : Plays seen rest old new before after more) →
       IsPlayedTo made publishing cache (done ++ rest) new (seen start) (seen after) (lines ++ more) (rounds ++ rounds_along seen rest old new before after more plays)
@@ -85,7 +85,7 @@ module _ {X : Type 0} (seen : X → LinkSeen) (made : Timetable) (publishing : P
       (plays_on (done ++ events.Turn client ∷ []) rest between new link after lines more (rounds ++ round ∷ []) (subst TurnsAreOfClients (sym whole) turns) (subst (AreShort made publishing) (sym whole) short)
       (go_on done old between before link lines rounds client turn played (turns done rest client refl) step) plays))
 
-  -- a course is played from its beginning over a quiet link
+  -- an event sequence is played from its beginning over a quiet link
   pub plays : (all : List Event) (played : ConvoyState) (behind : X) (lines : List ℕ) → NoneAgrees → TurnsAreOfClients all → IsQuietAt made publishing (seen start) → AreShort made publishing all →
       (course : Plays seen all (begun publishing.base cache) played start behind lines) →
       IsPlayedTo made publishing cache all played (seen start) (seen behind) lines (rounds_along seen all (begun publishing.base cache) played start behind lines course)
@@ -93,7 +93,7 @@ module _ {X : Type 0} (seen : X → LinkSeen) (made : Timetable) (publishing : P
       plays_on [] all (begun publishing.base cache) played start behind [] lines [] turns short
       (begins made publishing cache (seen start) none_agrees quiet (short_behind made publishing [] all short (store_of made publishing.base_moment) [] (refl, refl))) course
 
--- a course that was played so far comes to what is right once each client has come to its end
+-- an event sequence that was played rightly up to now ends right once each client has reached its end
 abbrev pub FinishesRight : {X : Type 0} → (X → LinkSeen) → Type 0
 FinishesRight {X} seen =
     (made : Timetable) (publishing : Publishing) (all : List Event) (cache : ℕ) (played ended : ConvoyState) (start behind after : X) (lines : List ℕ) (ends : List ClientEnd) (met : List Met)

@@ -1,4 +1,4 @@
--- What a quiet link records of the replies in a course.
+-- What a quiet link records of the replies in an event sequence.
 use Rattle.std.proofs.Common.{◌≡◌, ℕ, suc, List, [], ◌∷◌, ◌++◌, length, take, Option, Some, None, refl, ap, sym, subst, ◌∙◌}
 use Rattle.std.specs.List.{All}
 use Rattle.std.specs.Option.{option_map}
@@ -98,7 +98,7 @@ replied_on seen made publishing (events.Turn client ∷ more) store old new befo
       on = λ tail further are. (own, rest.entries ++ tail, append_assoc own rest.entries tail, one.tells.count_is, one.tells.replies.own, rest.on tail further are);
     }
 
--- a course over a quiet link, to the end of its clients
+-- an event sequence over a quiet link, to the end of its clients
 pub tells_own :
     {X : Type 0} (seen : X → LinkSeen) (made : Timetable) (publishing : Publishing) (all : List Event) (cache : ℕ) (played ended : ConvoyState) (start behind_it after : X) (lines : List ℕ) →
     IsQuietAt made publishing (seen start) → AreShort made publishing all → (plays : Plays seen all (begun publishing.base cache) played start behind_it lines) →

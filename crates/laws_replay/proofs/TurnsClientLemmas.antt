@@ -26,7 +26,7 @@ use Rattle.page_client.specs.declared.phase.Phase.TheVariants as phases
 use Rattle.page_client.specs.declared.want.Want.{Want}
 use Rattle.page_client.specs.declared.want.Want.TheVariants as wants
 use Rattle.publisher_spec.specs.Side.{Side}
-use Rattle.laws_sides.specs.Recorded.{version_at}
+use Rattle.laws_sides.specs.Stated.{version_at}
 use Rattle.timetable.specs.declared.timetable.Timetable.{Timetable}
 use Rattle.version_store.specs.Store.{Stored}
 use Rattle.cli_ask.specs.Publishing.{side_with, store_of}
@@ -44,7 +44,7 @@ none_yet side client given (phases.Stops first) fits waits = fits.no_outcome
 none_yet side client given (phases.Page name) fits waits = fits.no_outcome
 none_yet side client given phases.Finished fits waits = absurd (waits refl)
 
--- who was given nothing and waits, waits for the gate
+-- who received nothing and waits, waits for the time gate
 waits_at_first : (side : Side) (client : Client) (given : List Want) (phase : Phase) → FitsAt side client given phase → want_of phase ≢ wants.Finished → given ≡ [] → want_of phase ≡ wants.Gate
 waits_at_first side client given phases.Gate fits waits none = refl
 waits_at_first side client given (phases.Stops first) fits waits none = let some : given ≡ wants.Gate ∷ [] = fits.given in absurd (cc)
@@ -53,7 +53,7 @@ waits_at_first side client given (phases.Page name) fits waits none =
     absurd (cc)
 waits_at_first side client given phases.Finished fits waits none = absurd (waits refl)
 
--- who waits for the gate was given nothing
+-- who waits for the time gate received nothing
 nothing_before_gate : (side : Side) (client : Client) (given : List Want) (phase : Phase) → FitsAt side client given phase → want_of phase ≡ wants.Gate → given ≡ []
 nothing_before_gate side client given phases.Gate fits is = fits.given
 nothing_before_gate side client given (phases.Stops first) fits is = absurd (cc)
@@ -68,7 +68,7 @@ pub record HasRested (was is : Member) (given failed asked : List Want) : Type 0
   pub none_failed : failed ≡ []
   pub none_asked : asked ≡ []
 
--- it waited, and was given what it wanted: the gate's reply where it had been given nothing, and else not
+-- it waited, and received what it wanted: the time gate's reply where it had received nothing, and else not
 pub record WasGiven (was is : Member) (own given failed : List Want) : Type 0 where
   pub waited : (shown was.client).outcome ≡ None
   pub want : Want
@@ -142,7 +142,7 @@ failed_more rounds more = flat_map-append (λ (round : Round). round.failed) rou
 asked_more : (rounds : List Round) (more : Round) → asked_in (rounds ++ more ∷ []) ≡ asked_in rounds ++ more.asked
 asked_more rounds more = flat_map-append (λ (round : Round). round.asked) rounds (more ∷ []) ∙ ap (λ (l : List Want). asked_in rounds ++ l) (append-nil more.asked)
 
--- a client that waits is not at its end: it met one want in each of its turns
+-- a client that waits is not at its end: it received one want in each of its turns
 pub all_ones : (rounds : List Round) (outcome : Option Outcome) (met : HasMet rounds outcome) → outcome ≡ None → rounds ≡ met.ones
 all_ones rounds outcome met waits = by_end met.ended where
   by_end : (met.idle ≡ []) ⊎ IsSome outcome → rounds ≡ met.ones
@@ -175,7 +175,7 @@ in_vain_by_fault side query version given failed (Some (outcomes.Refused fault))
 in_vain_by_fault side query version given failed (Some (outcomes.LinkFault low high)) not none = absurd (not low high refl)
 in_vain_by_fault side query version given failed (Some (outcomes.PeerWrong reply fault)) not none = none
 
--- the version stays where the gate's reply was not given
+-- the version stays where the time gate's reply was not received
 version_kept : (left : Side) (old : Shown) (given : List Want) (version : Option ℕ) → ((more : List Want) → given ≡ wants.Gate ∷ more → ⊥) → VersionThen left old given version → version ≡ old.version
 version_kept left old [] version no_gate then_is = then_is
 version_kept left old (wants.Gate ∷ more) version no_gate then_is = absurd (no_gate more refl)
@@ -183,7 +183,7 @@ version_kept left old (wants.Stops ∷ more) version no_gate then_is = then_is
 version_kept left old (wants.Page name ∷ more) version no_gate then_is = then_is
 version_kept left old (wants.Finished ∷ more) version no_gate then_is = then_is
 
--- one client, whose turn it is, before it and behind it
+-- one client, whose turn it is, before it and after it
 module _ (made : Timetable) (publishing : Publishing) (done then_done : List Event) (store : Stored) (lines : List ℕ) (client : ℕ) (query : Query) (was is : Member) (own given failed asked : List Want)
     (rounds : List Round) (m : IsMemberSo made publishing done (side_with made publishing store) client query was own rounds)
     (later : (other : Stored) (other_lines : List ℕ) → HasHeard (before_turn_of client done) (store_of made publishing.base_moment) other other_lines →
@@ -213,7 +213,7 @@ module _ (made : Timetable) (publishing : Publishing) (done then_done : List Eve
   none_failed_yet : (shown was.client).outcome ≡ None → failed_in rounds ≡ []
   none_failed_yet waits = none_in_vain side query (shown was.client).version (given_in rounds) (failed_in rounds) (shown was.client).outcome waits m.failed
 
-  -- a client that waits and was given nothing had no turn yet
+  -- a client that waits and received nothing had no turn yet
   no_turn_yet : (shown was.client).outcome ≡ None → own ≡ [] → rounds ≡ []
   no_turn_yet waits nothing =
       no_turns rounds (subst (All IsOne) (sym (all_ones rounds (shown was.client).outcome m.met waits)) m.met.each) (sym m.given_is ∙ nothing) (none_failed_yet waits)

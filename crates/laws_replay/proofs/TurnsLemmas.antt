@@ -1,4 +1,4 @@
--- A turn of a client leaves a course that was played rightly so far played rightly.
+-- A turn of a client leaves an event sequence that was played rightly up to then played rightly.
 use Rattle.std.proofs.Common.{◌≡◌, ◌⊎◌, ℕ, zero, suc, ◌+◌, ◌-◌, ◌<◌, ◌≤◌, inl, inr, Bool, true, false, List, [], ◌∷◌, ◌++◌, length, map, Some, refl, ap, ap₂, sym, subst, ◌∙◌, arith}
 use Rattle.std.specs.Prelude.{◌==◌, if◌then◌else◌, set}
 use Rattle.std.specs.List.{slice_get}
@@ -14,7 +14,7 @@ use Rattle.convoy.specs.declared.member.Member.{Member}
 use Rattle.convoy.specs.declared.turn.Turn.{Turn}
 use Rattle.laws_convoys.specs.Agreement.{AllFit, FitsConvoy}
 use Rattle.laws_convoys.specs.Laws.{TurnKeepsAgreement}
-use Rattle.laws_convoys.specs.Leaves.{HasMoved, NoneFailed, OneFailed, TurnAgrees, VersionThen}
+use Rattle.laws_convoys.specs.Leaves.{HasMoved, NoneFailed, OneFailed, AgreesAfterTurn, VersionThen}
 use Rattle.laws_convoys.specs.Names.{Round, asked_of, failures_in, names_after, names_behind, names_of}
 use Rattle.laws_convoys.specs.Requests.{TellsAsked, TellsRequests, request_of}
 use Rattle.laws_convoys.specs.Rounds.{round_at}
@@ -51,7 +51,7 @@ fits_at side (first ∷ members) (first_own ∷ given) zero member own all has h
     subst (λ (m : Member). FitsSide side m.client own) same (subst (FitsSide side first.client) same_own all.0)
 fits_at side (first ∷ members) (first_own ∷ given) (suc place) member own all has has_own = fits_at side members given place member own all.1 has has_own
 
--- what stands at a place is one
+-- what is at a place is one
 one_there : {X : Type 0} (xs : List X) (place : ℕ) (x y : X) → slice_get xs place ≡ Some x → slice_get xs place ≡ Some y → x ≡ y
 one_there xs place x y first second = cc
 
@@ -65,7 +65,7 @@ turned_has_round client (other ∷ order) (round ∷ rounds) one_each turned non
       | false ↦ λ e nothing. turned_has_round client order rounds (omega (arith, one_each)) e nothing
     ]) turned none
 
--- what comes before the first turn of a client is the same behind a turn of it
+-- what comes before the first turn of a client is the same after a turn of it
 same_before : (client : ℕ) (done : List Event) → before_turn_of client (done ++ events.Turn client ∷ []) ≡ before_turn_of client done
 same_before client done = by_turn (has_turn client (turns_in done)) refl where
   by_turn : (turned : Bool) → has_turn client (turns_in done) ≡ turned → before_turn_of client (done ++ events.Turn client ∷ []) ≡ before_turn_of client done
@@ -79,7 +79,7 @@ all_before client done rounds one_each none = by_turn (has_turn client (turns_in
   by_turn true is = absurd (turned_has_round client (turns_in done) rounds one_each is none)
   by_turn false is = before_none client done is
 
--- the count rose where the exchange of a client failed
+-- the count increased where the exchange of a client failed
 rose_by : (side left : Side) (was is : Member) (a b : LinkSeen) (own given failed asked : List Want) → a.faults ≤ b.faults → HasMoved side left (shown was.client) (shown is.client) a b given →
     CameOf side was is own given failed asked → RoseBy (length failed) a.faults b.faults
 rose_by side left was is a b own given failed asked not_fallen moved (inl rested) =
@@ -122,7 +122,7 @@ member_stays made publishing done side client other query member own rounds stor
 -- what is so of the turn
 module _ {X : Type 0} (seen : X → LinkSeen) (made : Timetable) (publishing : Publishing) (cache : ℕ) (done : List Event) (client : ℕ) (old new : ConvoyState) (start : LinkSeen) (before after : X)
     (lines : List ℕ) (before_it : List Round) (turn : Turn) (recorded : Round) (p : IsPlayedTo made publishing cache done old start (seen before) lines before_it) (is_client : IsClient (length (questions_in done)) client)
-    (step : IsStep seen client old new before after turn) (turned : TurnAgrees (side_with made publishing p.store) old new p.given client (seen before) (seen after) turn recorded) where
+    (step : IsStep seen client old new before after turn) (turned : AgreesAfterTurn (side_with made publishing p.store) old new p.given client (seen before) (seen after) turn recorded) where
   abbrev side : Side
   side = side_with made publishing p.store
 
@@ -254,7 +254,7 @@ module _ {X : Type 0} (seen : X → LinkSeen) (made : Timetable) (publishing : P
         quiet = turned.agrees.honest.quiet quiet;
       })
 
-  -- the names of the pages that are kept then
+  -- the names of the pages that are cached then
   names_then : names_of new.kept.pages ≡ names_after cache (names_behind cache [] before_it) turned.agrees.given
   names_then = turned.agrees.by_names.names ∙ ap₂ (λ (capacity : ℕ) (names : List PageName). names_after capacity names turned.agrees.given) p.capacity p.names
 

@@ -26,20 +26,20 @@ pub record BeginWith (client : ℕ) (all rest : List Met) : Type 0 where
   pub is : all ≡ first ∷ rest
   pub own : first.client ≡ client
 
--- All this was met in turns of these clients, one after the other, and behind them. In each turn its client met one want, or else it met
--- none any more; behind the last turn each client met what it still wanted, client 1 first.
+-- Clients received all this in these turns, one after the other, and after them. In each turn its client received one want, or nothing
+-- any more. After the last turn each client received what it still wanted, client 1 first.
 abbrev pub AreMetInTurns : List ℕ → List Met → Type 0
 AreMetInTurns [] all = AreByNumber all
 AreMetInTurns (client ∷ turns) all = ((rest : List Met) × BeginWith client all rest × AreMetInTurns turns rest) ⊎ (NoneIsOf client all × AreMetInTurns turns all)
 
--- The client of this number ended by the replies to what it met, and its exchanges are counted. The counts of a fault of the link are those
--- before and behind the exchange of its own that failed.
+-- The client of this number ended by the replies to what it received, and its exchanges are counted. The counts of a fault of the link are those
+-- before and after the exchange of its own that failed.
 pub record EndsByMet (base : BaseParts) (query : Query) (faults now_faults : ℕ) (number : ℕ) (met : List Met) (end : ClientEnd) : Type 0 where
   pub ends : EndsBy base query faults now_faults end.version (met_by number met) end.outcome
   pub exchanges : end.exchanges ≡ exchanges_by number met
   pub fault : (low high : ℕ) → end.outcome ≡ LinkFault low high → HasFailedBetween number low high met
 
--- The clients of a course ended so over a link that recorded these exchanges, and had these counts of faults.
+-- The clients of an event sequence ended with these ends over a link that recorded these exchanges, and had these counts of faults.
 pub record AreCaused (base : BaseParts) (all : List Event) (recorded now_recorded : Option (List Entry)) (faults now_faults : ℕ) (ends : List ClientEnd) : Type 0 where
   pub met : List Met
   pub in_turns : AreMetInTurns (turns_in all) met

@@ -1,4 +1,4 @@
--- What a course has: its questions, its turns, and what comes before a turn.
+-- What an event sequence has: its questions, its turns, and what comes before a turn.
 use Rattle.std.specs.Prelude.{◌≡◌, ◌==◌, ℕ, List, [], ◌∷◌, ◌++◌, length, if◌then◌else◌}
 use Rattle.lc_model.specs.declared.query.Query.{Query}
 use Rattle.script_text.specs.Script.{IsClient}

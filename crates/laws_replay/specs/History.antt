@@ -1,4 +1,4 @@
--- That the rounds of clients and what clients met are one history.
+-- That the rounds of clients and what clients received are one history.
 use Rattle.std.specs.Prelude.{◌≡◌, ℕ, List, [], ◌∷◌, ◌++◌, None, IsSome, map}
 use Rattle.std.specs.List.{All}
 use Rattle.laws_replies.specs.Met.{Met, asked_in}
@@ -9,8 +9,8 @@ use Rattle.page_client.specs.declared.want.Want.{Want}
 abbrev pub wants_of : List Met → List Want
 wants_of all = map (λ (met : Met). met.made.want) all
 
--- All this was met by the client in the round. What it was given came by the replies that it got; behind that it got no reply to what failed;
--- and what was asked for are its own exchanges.
+-- The client received all this in the round. What it took came by the replies that it got. After that it got no reply to what failed.
+-- It asked for the wants of its own exchanges.
 pub record IsMetIn (client : ℕ) (round : Round) (all : List Met) : Type 0 where
   pub own : All (λ (met : Met). met.client ≡ client) all
   pub replied : List Met
@@ -22,7 +22,7 @@ pub record IsMetIn (client : ℕ) (round : Round) (all : List Met) : Type 0 wher
   pub got_none : All (λ (met : Met). met.made.got ≡ None) lost
   pub asked : round.asked ≡ wants_of (asked_in all)
 
--- all this was met in rounds of clients in this order, part after part
+-- clients received all this in their rounds in this order, part after part
 abbrev pub AreMetIn : List ℕ → List Round → List Met → Type 0
 AreMetIn [] [] all = all ≡ []
 AreMetIn [] (round ∷ rounds) all = ⊥

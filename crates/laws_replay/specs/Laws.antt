@@ -1,4 +1,4 @@
--- What courses come to that were played over a link. X is the type of the link, and `seen` what is promised of it.
+-- What event sequences result in that were played over a link. X is the type of the link, and `seen` what is promised of it.
 use Rattle.std.specs.Prelude.{◌≡◌, ◌≤◌, ℕ, ◌+◌, List, Option, Some, length, slice_get}
 use Rattle.std.specs.List.{All}
 use Rattle.cli_words.specs.declared.command.Publishing.{Publishing}
@@ -33,7 +33,7 @@ pub record IsQuietAt (made : Timetable) (publishing : Publishing) (link : LinkSe
   pub honest : link.honest publishing.base
   pub quiet : link.quiet publishing.base
 
--- a course that was played over a quiet link was played rightly, by what was met in its rounds
+-- an event sequence that was played over a quiet link was played rightly, by what was received in its rounds
 abbrev pub PlaysRight : {X : Type 0} → (X → LinkSeen) → Type 0
 PlaysRight {X} seen =
     (made : Timetable) (publishing : Publishing) (all : List Event) (cache : ℕ) (played ended : ConvoyState) (start behind after : X) (lines : List ℕ) (ends : List ClientEnd) (met : List Met)
@@ -42,8 +42,8 @@ PlaysRight {X} seen =
     → HaveEndedSo ended.members ends → AreMetIn (order_of all) (all_rounds seen all (begun publishing.base cache) played ended start behind after lines plays rounds) met
     → ArePlayedRight made publishing all cache (seen start).recorded (seen after).recorded (seen start).faults (seen after).faults lines ends met
 
--- There is one end for each question, which has its cause, by what was met in these rounds, and can be printed. A clear link is clear still, and
--- its count has not fallen.
+-- There is one end for each question, which has its cause, by what was received in these rounds, and can be printed. A clear link is clear still,
+-- and its count has not fallen.
 pub record ArePlayedCaused (base : BaseParts) (all : List Event) (before after : LinkSeen) (ends : List ClientEnd) (rounds : List Round) : Type 0 where
   pub one_each : length ends ≡ length (questions_in all)
   pub caused : AreCaused base all before.recorded after.recorded before.faults after.faults ends
@@ -52,7 +52,7 @@ pub record ArePlayedCaused (base : BaseParts) (all : List Event) (before after :
   pub clear : before.clear → after.clear
   pub not_fallen : before.faults ≤ after.faults
 
--- and so of a course over any link
+-- the ends of an event sequence over any link have their causes
 abbrev pub PlaysCaused : {X : Type 0} → (X → LinkSeen) → Type 0
 PlaysCaused {X} seen =
     (base : BaseParts) (all : List Event) (cache : ℕ) (played ended : ConvoyState) (start behind after : X) (lines : List ℕ) (ends : List ClientEnd)
@@ -65,7 +65,7 @@ pub record IsStillAt (made : Timetable) (publishing : Publishing) (link : LinkSe
   pub tells : link.side ≡ Some (side_with made publishing (store_of made publishing.base_moment))
   pub still : link.still
 
--- whatever replies came over such a link, the publisher heard the messages of the course one after the other, and these are their lines
+-- whatever replies came over such a link, the publisher heard the messages of the sequence one after the other, and these are their lines
 abbrev pub PlaysHeard : {X : Type 0} → (X → LinkSeen) → Type 0
 PlaysHeard {X} seen =
     (made : Timetable) (publishing : Publishing) (all : List Event) (cache : ℕ) (played : ConvoyState) (start behind : X) (lines : List ℕ)
@@ -75,7 +75,7 @@ PlaysHeard {X} seen =
 abbrev pub OneHearing : Type 0
 OneHearing = (made : Timetable) (publishing : Publishing) (all : List Event) (lines other : List ℕ) → AreHeard made publishing all lines → AreHeard made publishing all other → lines ≡ other
 
--- Over a clear link an exchange that failed ended its client, and no other, with the counts of the link before and behind it.
+-- Over a clear link an exchange that failed ended its client, and no other, with the counts of the link before and after it.
 abbrev pub FaultsAreOwn : Type 0
 FaultsAreOwn =
     (made : Timetable) (publishing : Publishing) (all : List Event) (cache : ℕ) (recorded now_recorded : Option (List Entry)) (faults now_faults : ℕ) (lines : List ℕ) (ends : List ClientEnd)

@@ -1,4 +1,4 @@
--- Which bytes are a message of which a publisher may be recorded.
+-- Which bytes are a message that a publisher may receive.
 use Rattle.std.specs.Prelude.{◌≡◌, ◌<◌, ℕ, Bool, true, List, length, is_none}
 use Rattle.trip_updates.specs.Faults.{fault_of}
 use Rattle.version_store.specs.Admission.{IsBroken, IsShort}

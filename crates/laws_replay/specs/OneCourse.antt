@@ -1,4 +1,4 @@
--- That two plays of one course come to the same, where the replies come as the publisher gave them.
+-- That two plays of one event sequence result in the same, where the replies come as the publisher gave them.
 use Rattle.std.specs.Prelude.{◌≡◌, ℕ, List, Option, length}
 use Rattle.std.specs.List.{All, AllZip}
 use Rattle.cli_words.specs.declared.command.Publishing.{Publishing}
@@ -12,8 +12,8 @@ use Rattle.laws_replay.specs.Events.{TurnsAreOfClients, questions_in}
 use Rattle.laws_replay.specs.Right.{ArePlayedRight}
 use Rattle.laws_replay.specs.declared.event.Event.{Event}
 
--- The course was played rightly, whatever was recorded of it, however the count of faults rose and whatever was met, to these lines and to one
--- end for each question, of which none is a fault of the link.
+-- The event sequence was played rightly, whatever was recorded or received of it, and however the count of faults increased. It has these lines
+-- and one end for each question, of which none is a fault of the link.
 pub record IsPlayedOut (made : Timetable) (publishing : Publishing) (all : List Event) (cache : ℕ) (lines : List ℕ) (ends : List ClientEnd) : Type 0 where
   pub recorded : Option (List Entry)
   pub now_recorded : Option (List Entry)
@@ -24,12 +24,12 @@ pub record IsPlayedOut (made : Timetable) (publishing : Publishing) (all : List 
   pub one_each : length ends ≡ length (questions_in all)
   pub no_fault : All (λ (end : ClientEnd). IsNoLinkFault end.outcome) ends
 
--- the messages have the same lines, and as many clients have ends that are one: the same version, outcomes that say the same, and so many exchanges
+-- The messages have the same lines. As many clients have ends that are one: one version, equal outcomes, and as many exchanges.
 pub record ComeToOne (lines other_lines : List ℕ) (ends other_ends : List ClientEnd) : Type 0 where
   pub one_text : lines ≡ other_lines
   pub one_each : AllZip AreOneEnd ends other_ends
 
--- a course whose turns are of clients comes to one, for timetables that are the same, with one way to publish them and one capacity of the cache
+-- an event sequence of turns of clients has one result, for equal timetables, with one way to publish them and one capacity of the cache
 abbrev pub OneCourse : Type 0
 OneCourse =
     (a b : Timetable) (publishing : Publishing) (all : List Event) (cache : ℕ) (lines other_lines : List ℕ) (ends other_ends : List ClientEnd)

@@ -1,4 +1,4 @@
--- What was done in a course: clients asked, the publisher behind the link was given messages, and clients had turns. X is the type of the
+-- What was done in an event sequence: clients asked, the publisher at the link received messages, and clients had turns. X is the type of the
 -- link, and `seen` what is promised of it.
 use Rattle.std.specs.Prelude.{◌≡◌, ℕ, List, [], ◌∷◌, ◌++◌, Some}
 use Rattle.connection_uri.specs.Base.{BaseParts}
@@ -19,7 +19,7 @@ use Rattle.cli_ask.specs.declared.end.ClientEnd.{ClientEnd}
 use Rattle.laws_replay.specs.declared.event.Event.{Event}
 use Rattle.laws_replay.specs.declared.event.Event.TheVariants as events
 
--- The publisher at the other end of the link was given the message of the file, and this is its line. Nothing else of the link has changed.
+-- The publisher at the other end of the link received the message of the file, and this is its line. Nothing else of the link has changed.
 pub record IsGiven (before after : LinkSeen) (file : File) (line : List ℕ) : Type 0 where
   pub held : Held Cutting
   pub side_was : before.side ≡ Some (side_of chosen_cuts held)

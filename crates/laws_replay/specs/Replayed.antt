@@ -1,4 +1,4 @@
--- What is printed of a course.
+-- What is printed of an event sequence.
 use Rattle.std.specs.Prelude.{◌≡◌, ◌≤◌, ℕ, ◌+◌, List, [], ◌∷◌, ◌++◌, length}
 use Rattle.cli_words.specs.declared.command.Publishing.{Publishing}
 use Rattle.lc_world.specs.Link.{LinkSeen}
@@ -11,14 +11,14 @@ use Rattle.laws_replay.specs.Right.{ArePlayedRight}
 use Rattle.laws_replay.specs.Versions.{AreHeard, AreShort}
 use Rattle.laws_replay.specs.declared.event.Event.{Event}
 
--- the lines of client k, and of those behind it
+-- the lines of client k, and of those after it
 abbrev pub clients_text_of : ℕ → List ClientEnd → List ℕ
 clients_text_of k [] = []
 clients_text_of k (end ∷ ends) = client_text_of k end ++ clients_text_of (k + 1) ends
 
--- The course was played to a publisher of the timetable, over the link, with a cache of so many pages. The text is the lines of the messages,
--- which the publisher heard one after the other whatever the link is, and then those of the clients, each of which has ended by the replies
--- that it got. Where the link is clear and the publisher's texts fit into replies, the course was played rightly by what the clients met.
+-- The events were played to a publisher of the timetable, over the link, with a cache of so many pages. The text is the lines of the messages
+-- and then those of the clients. The publisher heard the messages one after the other, whatever the link is. Each client ended by the replies
+-- that it got. Where the link is clear and the publisher's texts fit into replies, they were played rightly by what the clients received.
 pub record IsReplayed (made : Timetable) (publishing : Publishing) (all : List Event) (cache : ℕ) (before after : LinkSeen) (text : List ℕ) (ends : List ClientEnd) : Type 0 where
   pub lines : List ℕ
   pub heard : AreHeard made publishing all lines

@@ -1,4 +1,4 @@
--- That a link records what the publisher of a course replied.
+-- That a link records what the publisher of an event sequence replied.
 use Rattle.std.specs.Prelude.{◌≡◌, ℕ, List, [], ◌∷◌, ◌++◌, Option, Some, length, option_map}
 use Rattle.std.specs.List.{All}
 use Rattle.cli_words.specs.declared.command.Publishing.{Publishing}
@@ -12,8 +12,8 @@ use Rattle.cli_ask.specs.Publishing.{side_with, store_of}
 use Rattle.laws_replay.specs.declared.event.Event.{Event}
 use Rattle.laws_replay.specs.declared.event.Event.TheVariants as events
 
--- From this store on, the exchanges of each turn were replied to by the side that had heard all messages before it, and those after the
--- last event by the side that had heard all.
+-- From this store on, the side that had heard all messages before a turn replied to its exchanges. The side that had heard all replied after
+-- the last event.
 abbrev pub AreReplied : Timetable → Publishing → List Event → Stored → List Round → List Entry → Type 0
 AreReplied made publishing [] store rounds entries = All (IsRepliedBy (side_with made publishing store)) entries
 AreReplied made publishing (events.Ask query ∷ more) store rounds entries = AreReplied made publishing more store rounds entries
@@ -24,7 +24,7 @@ AreReplied made publishing (events.Turn client ∷ more) store (round ∷ rounds
     (own : List Entry) × (rest : List Entry) × (entries ≡ own ++ rest) × (length own ≡ length round.asked) × All (IsRepliedBy (side_with made publishing store)) own
     × AreReplied made publishing more store rounds rest
 
--- where the link records exchanges, those of the course are recorded besides those before, with the publisher's own replies
+-- where the link records exchanges, those of the sequence are recorded besides those before, with the publisher's own replies
 pub record TellsOwn (made : Timetable) (publishing : Publishing) (all : List Event) (rounds : List Round) (recorded now_recorded : Option (List Entry)) : Type 0 where
   pub entries : List Entry
   pub replied : AreReplied made publishing all (store_of made publishing.base_moment) rounds entries

@@ -1,4 +1,4 @@
--- How the clients of a course end rightly by the publisher's side, where the replies come as it gave them.
+-- How the clients of an event sequence end rightly by the publisher's side, where the replies come as it gave them.
 use Rattle.std.specs.Prelude.{◌≡◌, ℕ, ◌+◌, List, [], ◌∷◌, ◌++◌, Option, Some, length, slice_get}
 use Rattle.laws_clients.specs.Fits.{HasEnded}
 use Rattle.laws_clients.specs.Wants.{AreWants}
@@ -26,7 +26,7 @@ use Rattle.laws_replay.specs.Turns.{EndByFailure, TakeOneEach, asked_in, failed_
 use Rattle.laws_replay.specs.Versions.{HasHeard, IsMeant}
 use Rattle.laws_replay.specs.declared.event.Event.{Event}
 
--- one exchange failed: that for what stands behind all that was given, at the gate where that is nothing
+-- one exchange failed: that for what comes after all that was received, at the time gate where that is nothing
 pub record FailsAtNext (side : Side) (query : Query) (version : Option ℕ) (given failed : List Want) : Type 0 where
   pub want : Want
   pub one : failed ≡ want ∷ []
@@ -41,9 +41,9 @@ FailsWith side query version given failed (outcomes.Refused fault) = failed ≡ 
 FailsWith side query version given failed (outcomes.LinkFault before after) = FailsAtNext side query version given failed
 FailsWith side query version given failed (outcomes.PeerWrong reply fault) = failed ≡ []
 
--- The client of the question ended so, in these turns: it was given exactly its wants, has a best journey by the timetable of its version, or
--- no journey where there is none; the version is the one that it meant when it first asked; it met one want a turn, and none behind an
--- exchange that failed; and each exchange of its own is counted.
+-- The client of the question ended in these turns. It received exactly its wants, and has a best journey by the timetable of its version, or
+-- no journey where there is none. The version is the one that it meant when it first asked. It received one want a turn, and none after an
+-- exchange that failed. Each exchange of its own is counted.
 pub record EndsSo (made : Timetable) (publishing : Publishing) (all : List Event) (side : Side) (client : ℕ) (query : Query) (rounds : List Round) (end : ClientEnd) : Type 0 where
   pub ended : HasEnded side (shown_of query end) (given_in rounds) (Some end.outcome)
   pub meant : IsMeant made publishing all client query (given_in rounds) end.version
@@ -52,9 +52,9 @@ pub record EndsSo (made : Timetable) (publishing : Publishing) (all : List Event
   pub at_last : EndByFailure rounds
   pub failed : FailsWith side query end.version (given_in rounds) (failed_in rounds) end.outcome
 
--- The course was played rightly: the lines are those of its messages; in each turn the names of the pages that are kept tell what was asked
--- for; that is recorded where the link records exchanges, with the publisher's own replies, and the count of its faults increased by the exchanges that
--- failed; it is what the clients met; and each client ended rightly.
+-- The event sequence was played rightly. The lines are those of its messages. In each turn the names of the cached pages determine what was asked
+-- for. The link records it where it records exchanges, with the publisher's own replies. Its count of faults increased by the exchanges that
+-- failed. It is what the clients received, and each client ended rightly.
 pub record ArePlayedRight (made : Timetable) (publishing : Publishing) (all : List Event) (cache : ℕ) (recorded now_recorded : Option (List Entry)) (faults now_faults : ℕ)
     (lines : List ℕ) (ends : List ClientEnd) (met : List Met) : Type 0 where
   pub store : Stored

@@ -1,4 +1,4 @@
--- The rounds of a course, as its turns tell them.
+-- The rounds of an event sequence, as its turns give them.
 use Rattle.std.specs.Prelude.{ℕ, List, [], ◌∷◌, ◌++◌, length}
 use Rattle.convoy.specs.Finish.{Rounds}
 use Rattle.convoy.specs.State.{ConvoyState}
@@ -18,7 +18,7 @@ rounds_along seen (events.Message message ∷ more) old new before after lines (
 rounds_along seen (events.Turn client ∷ more) old new before after lines (between, link, turn, step, plays) =
     round_at turn (shown step.turned.was.client) (shown step.turned.is.client) ∷ rounds_along seen more between new link after lines plays
 
--- and then one for each client, behind them
+-- and then one for each client, after them
 abbrev pub all_rounds : {X : Type 0} (seen : X → LinkSeen) (all : List Event) (start played ended : ConvoyState) (before behind after : X) (lines : List ℕ)
     → Plays seen all start played before behind lines → Rounds seen (length played.members) played ended behind after → List Round
 all_rounds seen all start played ended before behind after lines plays rounds =

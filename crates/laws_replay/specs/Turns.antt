@@ -1,4 +1,4 @@
--- The turns of clients: first those of the course, then the rest of each client, in the order of their numbers.
+-- The turns of clients: first those of the event sequence, then the rest of each client, in the order of their numbers.
 use Rattle.std.specs.Prelude.{◌≡◌, ◌==◌, ◌⊎◌, ℕ, zero, suc, ◌-◌, List, [], ◌∷◌, ◌++◌, Option, Some, None, length, map, slice_get, if◌then◌else◌}
 use Rattle.std.specs.List.{All, flat_map}
 use Rattle.connection_uri.specs.Base.{BaseParts}
@@ -14,7 +14,7 @@ abbrev pub counted : ℕ → List ℕ
 counted zero = []
 counted (suc n) = counted n ++ suc n ∷ []
 
--- whose turn it is, one after the other: as the course says, and then each client until it ends
+-- whose turn it is, one after the other: as the events say, and then each client until it ends
 abbrev pub order_of : List Event → List ℕ
 order_of all = turns_in all ++ counted (length (questions_in all))
 
@@ -24,7 +24,7 @@ rounds_of client [] rounds = []
 rounds_of client (other ∷ more) [] = []
 rounds_of client (other ∷ more) (round ∷ rounds) = if other == client then round ∷ rounds_of client more rounds else rounds_of client more rounds
 
--- what was given in these turns
+-- what was received in these turns
 abbrev pub given_in : List Round → List Want
 given_in rounds = flat_map (λ (round : Round). round.given) rounds
 
@@ -36,7 +36,7 @@ failed_in rounds = flat_map (λ (round : Round). round.failed) rounds
 abbrev pub asked_in : List Round → List Want
 asked_in rounds = flat_map (λ (round : Round). round.asked) rounds
 
--- one want was met in the turn, or its exchange failed
+-- one want was received in the turn, or its exchange failed
 pub record IsOne (round : Round) : Type 0 where
   pub want : Want
   pub is : round.given ++ round.failed ≡ want ∷ []
@@ -45,13 +45,13 @@ pub record IsOne (round : Round) : Type 0 where
 abbrev pub IsIdle : Round → Type 0
 IsIdle round = round.given ++ round.failed ≡ []
 
--- a client meets one want in each turn of the course, up to its end, and in the last turn the rest
+-- a client receives one want in each turn of the event sequence, up to its end, and in the last turn the rest
 abbrev pub TakeOneEach : List Round → Type 0
 TakeOneEach [] = ⊥
 TakeOneEach (last ∷ []) = Unit {0}
 TakeOneEach (round ∷ next ∷ more) = (IsOne round × TakeOneEach (next ∷ more)) ⊎ All IsIdle (round ∷ next ∷ more)
 
--- behind a turn in which an exchange failed nothing was wanted any more
+-- after a turn in which an exchange failed nothing was wanted any more
 abbrev pub EndByFailure : List Round → Type 0
 EndByFailure [] = Unit {0}
 EndByFailure (round ∷ more) = ((round.failed ≡ []) ⊎ All IsIdle more) × EndByFailure more

@@ -1,4 +1,4 @@
--- Which messages are heard in a course, and which version each client means.
+-- Which messages are heard in an event sequence, and which version each client means.
 use Rattle.std.specs.Prelude.{◌≡◌, ℕ, List, [], ◌∷◌, ◌++◌, Option, Some, take}
 use Rattle.cli_words.specs.declared.command.Publishing.{Publishing}
 use Rattle.laws_convoys.specs.OneClient.{version_of}
@@ -13,7 +13,7 @@ use Rattle.laws_replay.specs.Events.{before_turn_of}
 use Rattle.laws_replay.specs.declared.event.Event.{Event}
 use Rattle.laws_replay.specs.declared.event.Event.TheVariants as events
 
--- the store behind the messages of a course, one after the other, and their lines
+-- the store after the messages of an event sequence, one after the other, and their lines
 abbrev pub HasHeard : List Event → Stored → Stored → List ℕ → Type 0
 HasHeard [] old new lines = (new ≡ old) × (lines ≡ [])
 HasHeard (events.Ask query ∷ more) old new lines = HasHeard more old new lines
@@ -21,13 +21,13 @@ HasHeard (events.Message message ∷ more) old new lines =
     (between : Stored) × (line : List ℕ) × (rest : List ℕ) × IsBehind (Some message.file) old between line × HasHeard more between new rest × (lines ≡ line ++ rest)
 HasHeard (events.Turn client ∷ more) old new lines = HasHeard more old new lines
 
--- the messages of a course, heard by a publisher of the timetable that had heard nothing, have these lines
+-- the messages of an event sequence, heard by a publisher of the timetable that had heard nothing, have these lines
 pub record AreHeard (made : Timetable) (publishing : Publishing) (all : List Event) (lines : List ℕ) : Type 0 where
   pub store : Stored
   pub heard : HasHeard all (store_of made publishing.base_moment) store lines
 
--- The version of a client of the question that was given this: the one that it means by what was heard before its first turn, or by all
--- messages where it has none; and none where it was given nothing.
+-- The version of a client of the question that received this. The client means it by what was heard before its first turn, or by all
+-- messages where it has none. It has no version where it received nothing.
 pub record IsMeant (made : Timetable) (publishing : Publishing) (all : List Event) (client : ℕ) (query : Query) (given : List Want) (version : Option ℕ) : Type 0 where
   pub store : Stored
   pub lines : List ℕ

@@ -15,7 +15,7 @@ pub struct Message {
     ghost whole: { IsTrue (has_no_fault file.bytes) },
 }
 
-/// Tests whether the bytes of a file are a message of which a publisher may be recorded.
+/// Tests whether the bytes of a file are a message that a publisher may receive.
 pub fn test_message(alloc: Global, bytes: &[u8]) -> Result<(), MessageFault>
     ensures said { OnOk result (IsMessageText bytes.now) }
     ensures fault { IfErr result (IsNoText bytes.now) }

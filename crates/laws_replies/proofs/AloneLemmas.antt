@@ -1,4 +1,4 @@
--- Who is alone among clients met all by exchanges of its own.
+-- Who is alone among clients made exchanges for all that it received.
 use Rattle.std.proofs.Common.{◌≡◌, ◌∙◌, ◌-◌, ◌<◌, ◌&&◌, ℕ, suc, zero, Bool, true, false, List, [], ◌∷◌, ◌++◌, Option, Some, None, ap, ap₂, arith, eq-eqb, inl, inr, length, map, option_map, refl, subst, sym}
 use Rattle.std.specs.List.{All, slice_get}
 use Rattle.std.proofs.lemmas.List.Elements.{All-cons, All-head, All-nil, All-tail, All-weaker}
@@ -14,7 +14,7 @@ use Rattle.page_client.specs.declared.fault.QueryFault.TheVariants.{HorizonRange
 use Rattle.page_client.specs.declared.outcome.Outcome.{Outcome}
 use Rattle.page_client.specs.declared.outcome.Outcome.TheVariants as outcomes
 use Rattle.page_client.specs.declared.want.Want.TheVariants as wants
-use Rattle.laws_replies.specs.Course.{HasComeTo}
+use Rattle.laws_replies.specs.Course.{WantsAfter}
 use Rattle.laws_replies.specs.Ends.{EndsBy, HasAnswered, HasReadStops}
 use Rattle.laws_replies.specs.Laws.{AloneAsksAll}
 use Rattle.laws_replies.specs.Made.{AreEntriesOf, IsEntryOf, Made, TellsAll, failure_of, reply_to}
@@ -27,7 +27,7 @@ at_place P [] place x all is = absurd (cc)
 at_place P (y ∷ xs) zero x all is = let same : y ≡ x = cc in subst P same (All-head P y xs all)
 at_place P (y ∷ xs) (suc place) x all is = at_place P xs place x (All-tail P y xs all) is
 
--- it was met by an exchange
+-- it was received by an exchange
 abbrev IsAsked : Met → Type 0
 IsAsked met = met.asked ≡ true
 
@@ -79,7 +79,7 @@ tells_alone base query all before after are asked tells = record {
 abbrev made_in : List Met → List Made
 made_in all = map (λ (met : Met). met.made) all
 
--- what is new was not kept
+-- what is new was not cached
 not_kept : (base : BaseParts) (before : List Met) (made : Made) → IsNew (made_in before) made → WasKept base before made → ⊥
 not_kept base before made new kept =
     let wanted : made.want ≡ wants.Page kept.name = ap (λ (m : Made). m.want) kept.is in
@@ -99,7 +99,7 @@ all_asked base before (met ∷ all) kept new =
     (all_asked base (before ++ met ∷ []) all kept.1 (subst (λ (l : List Made). AreNew l (made_in all)) (sym (map-append (λ (m : Met). m.made) before (met ∷ []))) new.1))
 
 -- what came last was new too
-last_new : (base : BaseParts) (query : Query) (version : Option ℕ) (earlier made : List Made) (last : Made) → HasComeTo base query version earlier last.want → made ≡ earlier ++ last ∷ [] → AreNew [] made
+last_new : (base : BaseParts) (query : Query) (version : Option ℕ) (earlier made : List Made) (last : Made) → WantsAfter base query version earlier last.want → made ≡ earlier ++ last ∷ [] → AreNew [] made
 last_new base query version earlier made last came is =
     let new = come_new base query version earlier last.want came in
     subst (AreNew []) (sym is) (new_more [] earlier last new.are new.is)
@@ -113,7 +113,7 @@ stops_new base query version made doc read = last_new base query version read.ea
 answered_new : (base : BaseParts) (query : Query) (version : Option ℕ) (made : List Made) (journey : Option Journey) → HasAnswered base query version made journey → AreNew [] made
 answered_new base query version made journey has = last_new base query version has.earlier made (reply_to (wants.Page has.name) has.reply) has.came has.was_made
 
--- all that a client met is new, however it ended
+-- all that a client received is new, however it ended
 ends_new : (base : BaseParts) (query : Query) (faults now : ℕ) (version : Option ℕ) (made : List Made) (outcome : Outcome) → EndsBy base query faults now version made outcome → AreNew [] made
 ends_new base query faults now version made (outcomes.Found journey) ends = answered_new base query version made (Some journey) ends
 ends_new base query faults now version made outcomes.NoJourney ends = answered_new base query version made None ends

@@ -11,7 +11,7 @@ use Rattle.lc_world.specs.Link.{LinkSeen}
 use Rattle.page_client.specs.declared.want.Want.{Want}
 use Rattle.page_client.specs.declared.want.Want.TheVariants as wants
 use Rattle.page_json.specs.declared.page.Page.{Page}
-use Rattle.laws_replies.specs.Course.{HasComeTo, ReadsPages}
+use Rattle.laws_replies.specs.Course.{WantsAfter, ReadsPages}
 use Rattle.laws_replies.specs.Laws.{FaultsAreAroundLast, NoFaultIsShrunken}
 use Rattle.laws_replies.specs.Made.{Made, failure_of, reply_to}
 use Rattle.laws_replies.specs.Met.{CountAlong, Met}
@@ -30,8 +30,8 @@ pages_replied base None (m ∷ made) (page ∷ pages) reads = absurd reads
 pages_replied base (Some name) (m ∷ made) (page ∷ pages) reads =
     All-cons IsReplied m made (replied m (wants.Page name) reads.0.reply reads.0.is) (pages_replied base page.next made pages reads.1)
 
--- whatever a client comes to want, all before was replied to
-come_replied : (base : BaseParts) (query : Query) (version : Option ℕ) (earlier : List Made) (want : Want) → HasComeTo base query version earlier want → All IsReplied earlier
+-- whatever a client wants, all before was replied to
+come_replied : (base : BaseParts) (query : Query) (version : Option ℕ) (earlier : List Made) (want : Want) → WantsAfter base query version earlier want → All IsReplied earlier
 come_replied base query version earlier wants.Gate came = subst (All IsReplied) (sym came.nothing_made) (All-nil IsReplied)
 come_replied base query version earlier wants.Stops came =
     subst (All IsReplied) (sym came.was_made) (All-cons IsReplied (reply_to wants.Gate came.gate) [] (replied (reply_to wants.Gate came.gate) wants.Gate came.gate refl) (All-nil IsReplied))
@@ -47,7 +47,7 @@ come_replied base query version earlier wants.Finished came = absurd came
 abbrev made_in : List Met → List Made
 made_in all = map (λ (met : Met). met.made) all
 
--- the one that failed is the last, behind which the count is that of now
+-- the one that failed is the last, after which the count is that of now
 last_high : (all : List Met) (earlier : List Made) (last : Made) (faults now place : ℕ) (one : Met) → made_in all ≡ earlier ++ last ∷ [] → All IsReplied earlier → CountAlong faults now all
     → slice_get all place ≡ Some one → one.made.got ≡ None → one.high ≡ now
 last_high [] earlier last faults now place one is before along there failed = absurd (cc)
@@ -69,7 +69,7 @@ first_low (m ∷ []) faults now zero one is along there = let same : m ≡ one =
 first_low (m ∷ []) faults now (suc place) one is along there = absurd (cc)
 first_low (m ∷ x ∷ all) faults now place one is along there = absurd (omega (arith, is))
 
--- a count that rose by one in all rose in the last exchange alone
+-- a count that increased by one in all increased in the last exchange alone
 only_rise : (before now low high : ℕ) → before ≤ low → Rose low high → high ≡ now → now ≡ before + 1 → now < 2 ^ 64 - 1 → low ≡ before
 only_rise before now low high from rose is one less = omega (arith, from, rose, is, one, less)
 

@@ -1,4 +1,4 @@
--- The clients of a convoy over any link: what each of their turns meets, and the link meanwhile.
+-- The clients of a convoy over any link: what each of their turns receives, and the link meanwhile.
 use Rattle.std.proofs.Common.{◌≡◌, ◌∙◌, ◌⊎◌, ◌+◌, ◌-◌, ◌<◌, ◌≤◌, ℕ, suc, inl, inr, Bool, true, false, List, [], ◌∷◌, ◌++◌, Option, Some, None, Result, Ok, Err, ap, append-nil, arith, cond, is_none, length, length-append, length-set, refl, subst, sym}
 use Rattle.std.specs.Prelude.{IsSome}
 use Rattle.std.specs.List.{All, slice_get, slice_set}
@@ -59,7 +59,7 @@ grown_then a b c one two = record {
   not_fallen = (let first = one.not_fallen in let second = two.not_fallen in omega arith);
 }
 
--- The client of this number stands somewhere by what it met, over a link whose count went from the one to the other, and each exchange
+-- The client of this number is in a phase by what it received, over a link whose count went from the one to the other. Each exchange
 -- of its own is counted, and is the one that failed where it ended by a fault.
 pub record IsClientSo (base : BaseParts) (query : Query) (before now : ℕ) (member : Member) (number : ℕ) (all : List Met) : Type 0 where
   pub question : (shown member.client).query ≡ query
@@ -77,7 +77,7 @@ pub record IsSaid (base : BaseParts) (all : List Met) (page : Page) : Type 0 whe
   pub asked : exchange.asked ≡ true
   pub made : exchange.made ≡ reply_to (wants.Page page.name) reply
 
--- The clients of a convoy are those of these questions, one for each, and met all this over a link that was this one at first.
+-- The clients of a convoy are those of these questions, one for each. They received all this over a link that was this one at first.
 pub record AreSo (base : BaseParts) (questions : List Query) (first now : LinkSeen) (convoy : ConvoyState) (all : List Met) : Type 0 where
   pub base_is : convoy.base ≡ base
   pub clients : length convoy.members ≡ length questions
@@ -87,7 +87,7 @@ pub record AreSo (base : BaseParts) (questions : List Query) (first now : LinkSe
   pub met : AreMet base questions first.recorded now.recorded first.faults now.faults all
   pub grown : HasGrown first now
 
--- how a client ended stays so while the count rises
+-- how a client ended stays right while the count increases
 ends_later : (base : BaseParts) (query : Query) (before now later : ℕ) (version : Option ℕ) (made : List Made) (outcome : Outcome) → now ≤ later → EndsBy base query before now version made outcome →
     EndsBy base query before later version made outcome
 ends_later base query before now later version made (outcomes.Found journey) le ends = ends
@@ -136,7 +136,7 @@ failed_more client low high all more failed = record {
   high_is = failed.high_is;
 }
 
--- and while others meet what they want
+-- a client stays as it is while others receive what they want
 so_beside : (base : BaseParts) (query : Query) (before now : ℕ) (member : Member) (number : ℕ) (all : List Met) (one : Met) → (one.client ≡ number → ⊥) → IsClientSo base query before now member number all →
     IsClientSo base query before now member number (all ++ one ∷ [])
 so_beside base query before now member number all one other so = record {
@@ -180,7 +180,7 @@ are_begun base cache link = record {
   grown = grown_not link;
 }
 
--- a client more has met nothing yet
+-- a client more has received nothing yet
 module _ (base : BaseParts) (query : Query) (before now : ℕ) (member : Member) (number : ℕ) (all : List Met) (nothing : met_by number all ≡ []) (uncounted : exchanges_by number all ≡ 0) where
   by_refusal : (refusal : Option QueryFault) → IsRefusal query refusal →
       At base before now member.client [] (record { query = query; phase = first_phase refusal; version = None; gate = None; outcome = first_outcome refusal }) (first_phase refusal)
@@ -283,7 +283,7 @@ same_counts a b c d same = (cc, cc)
 no_less : (n : ℕ) → n ≤ n
 no_less n = omega arith
 
--- who wants the gate waits for it
+-- who wants the time gate waits for it
 waits_at_gate : (phase : Phase) → want_of phase ≡ wants.Gate → phase ≡ phases.Gate
 waits_at_gate phases.Gate is = refl
 waits_at_gate (phases.Stops first) is = absurd (cc)
@@ -311,7 +311,7 @@ has_ended base before now client made s (phases.Stops first) at some = absurd (n
 has_ended base before now client made s (phases.Page name) at some = absurd (not_yet s.outcome at.none some)
 has_ended base before now client made s phases.Finished at some = at
 
--- who ended by a fault of the link had it in what it met last
+-- who ended by a fault of the link had it in what it received last
 failed_last : (base : BaseParts) (before now : ℕ) (client : Client) (so_far : List Made) (last : Made) (low high : ℕ) → At base before now client (so_far ++ last ∷ []) (shown client) (shown client).phase →
     (shown client).outcome ≡ Some (outcomes.LinkFault low high) → last.got ≡ None
 failed_last base before now client so_far last low high at is =
@@ -322,7 +322,7 @@ failed_last base before now client so_far last low high at is =
     subst (EndsBy base (shown client).query before now (shown client).version (so_far ++ last ∷ [])) same e.ends in
     ap (λ (m : Made). m.got) (stands_last so_far ends.earlier last (failure_of ends.want) ends.was_made).1
 
--- the client, which waited, met one of its wants
+-- the client, which waited, received one of its wants
 pub record MeetsOne (k : ℕ) (was : Member) (more : List Met) : Type 0 where
   pub one : Met
   pub is : more ≡ one ∷ []
@@ -348,7 +348,7 @@ pub record GotNone (is : Member) (one : Met) : Type 0 where
   pub high : ℕ
   pub ended : (shown is.client).outcome ≡ Some (outcomes.LinkFault low high)
 
--- client k met what it wanted, by an exchange or without one
+-- client k received what it wanted, by an exchange or without one
 pub record MeetsWant (k : ℕ) (was : Member) (asked : Bool) (more : List Met) : Type 0 where
   pub one : Met
   pub is : more ≡ one ∷ []
@@ -356,20 +356,20 @@ pub record MeetsWant (k : ℕ) (was : Member) (asked : Bool) (more : List Met) :
   pub want : one.made.want ≡ want_of (shown was.client).phase
   pub asked_is : one.asked ≡ asked
 
--- what client k met in a turn, by which it has become another
+-- what client k received in a turn, by which it has become another
 abbrev pub MeetsIn : Turn → ℕ → Member → Member → List Met → Type 0
 MeetsIn Finished k was is more = more ≡ []
 MeetsIn Cached k was is more = (met : MeetsWant k was false more) × GotReply is met.one
 MeetsIn Exchanged k was is more = (met : MeetsWant k was true more) × (GotReply is met.one ⊎ GotNone is met.one)
 
--- what a turn of client k comes to, by which it has become another
+-- what a turn of client k results in, by which it has become another
 pub record Meets (base : BaseParts) (questions : List Query) (first after : LinkSeen) (new : ConvoyState) (k : ℕ) (was is : Member) (all : List Met) (turn : Turn) : Type 0 where
   pub more : List Met
   pub so : AreSo base questions first after new (all ++ more)
   pub how : MeetsOne k was more ⊎ MeetsNone was is more
   pub met : MeetsIn turn k was is more
 
--- one question stands at a place
+-- one question is at a place
 one_question : (questions : List Query) (place : ℕ) (a b : Query) → slice_get questions place ≡ Some a → slice_get questions place ≡ Some b → a ≡ b
 one_question questions place a b is_a is_b = (let both : Some a ≡ Some b = sym is_a ∙ is_b in cc)
 
@@ -389,7 +389,7 @@ module _ (base : BaseParts) (questions : List Query) (query : Query) (first link
   it_waited : (phase : Phase) → (shown was.client).phase ≡ phase → At base first.faults link.faults was.client (met_by k all) (shown was.client) phase
   it_waited phase is = subst (At base first.faults link.faults was.client (met_by k all) (shown was.client)) is it_was.at
 
-  -- what stands at a place now
+  -- the client at a place now
   at_place : (more : List Met) (place : ℕ) (q : Query) (member : Member) → IsClientSo base query first.faults after.faults is k (all ++ more)
       → ((number : ℕ) (q : Query) (m : Member) → (k ≡ number → ⊥) → IsClientSo base q first.faults link.faults m number all → IsClientSo base q first.faults link.faults m number (all ++ more))
       → slice_get questions place ≡ Some q → slice_get new.members place ≡ Some member → (place ≡ k - 1) ⊎ (place ≡ k - 1 → ⊥) → IsClientSo base q first.faults after.faults member (suc place) (all ++ more)
@@ -408,7 +408,7 @@ module _ (base : BaseParts) (questions : List Query) (query : Query) (first link
       so_later base q first.faults link.faults after.faults member (suc place) (all ++ more) grown.not_fallen
       (others (suc place) q member not_own (so.members place q member asked old_there))
 
-  -- the convoy with more that was met
+  -- the convoy with more that was received
   with_more : (more : List Met) → IsClientSo base query first.faults after.faults is k (all ++ more)
       → ((number : ℕ) (q : Query) (m : Member) → (k ≡ number → ⊥) → IsClientSo base q first.faults link.faults m number all → IsClientSo base q first.faults link.faults m number (all ++ more))
       → All (IsSaid base (all ++ more)) new.kept.pages → AreMet base questions first.recorded after.recorded first.faults after.faults (all ++ more) → AreSo base questions first after new (all ++ more)
@@ -452,7 +452,7 @@ module _ (base : BaseParts) (questions : List Query) (query : Query) (first link
     abbrev one : Met
     one = record { client = k; made = exchange_of want got; asked = true; low = link.faults; high = after.faults }
 
-    -- the count rose where it failed
+    -- the count increased where it failed
     rose_by : (g : Got) → got ≡ g → RoseBy (failures_in (one ∷ [])) link.faults after.faults
     rose_by None is =
         let fault : IsExchange base (shown was.client) link after None = subst (IsExchange base (shown was.client) link after) is x in
@@ -507,7 +507,7 @@ module _ (base : BaseParts) (questions : List Query) (query : Query) (first link
     pub exchanged_beside : new.kept ≡ old.kept → Meets base questions first after new k was is all Exchanged
     exchanged_beside same = exchanged (subst (λ (kept : Kept). All (IsSaid base (all ++ one ∷ [])) kept.pages) (sym same) (said_more base all (one ∷ []) old.kept.pages so.said))
 
-  -- the cache behind a page that was asked for
+  -- the cache after a page that was asked for
   module _ (name : PageName) (got : Got) where
     abbrev page_one : Met
     page_one = record { client = k; made = exchange_of (wants.Page name) got; asked = true; low = link.faults; high = after.faults }

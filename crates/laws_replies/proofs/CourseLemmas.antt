@@ -22,7 +22,7 @@ use Rattle.page_client.specs.declared.fault.PeerFault.TheVariants.{Advance, Iden
 use Rattle.page_client.specs.declared.want.Want.{Want}
 use Rattle.page_client.specs.declared.want.Want.TheVariants as wants
 use Rattle.page_client.proofs.OrderLemmas.{LeadsOn, leads_on, spans}
-use Rattle.laws_replies.specs.Course.{GoesOnAfterEach, HasComeTo, IsReading, IsSentRight, Reads, ReadsPages, connections_in, link_behind}
+use Rattle.laws_replies.specs.Course.{GoesOnAfterEach, WantsAfter, IsReading, IsSentRight, Reads, ReadsPages, connections_in, link_behind}
 use Rattle.laws_replies.specs.Made.{Made, reply_to}
 
 -- the connections, with one page more
@@ -39,7 +39,7 @@ reads_more base link (m ∷ made) [] name one page reads links is = absurd reads
 reads_more base None (m ∷ made) (p ∷ pages) name one page reads links is = absurd reads
 reads_more base (Some first) (m ∷ made) (p ∷ pages) name one page reads links is = (reads.0, reads_more base p.next made pages name one page reads.1 links is)
 
--- behind it comes the page to which it links
+-- after it comes the page to which it links
 pub link_more : (link : Option PageName) (pages : List Page) (page : Page) → link_behind link (pages ++ page ∷ []) ≡ page.next
 link_more link [] page = refl
 link_more link (p ∷ pages) page = link_more p.next pages page
@@ -162,7 +162,7 @@ IsForEarlier name made = (earlier : PageName) → made.want ≡ wants.Page earli
 abbrev pub IsNew : List Made → Made → Type 0
 IsNew front made = (name : PageName) → made.want ≡ wants.Page name → All (IsForEarlier name) front
 
--- and so of each of these
+-- each of these is new: where it is for a page, those before are for none that departs as late
 abbrev pub AreNew : List Made → List Made → Type 0
 AreNew front [] = Unit {0}
 AreNew front (made ∷ more) = IsNew front made × AreNew (front ++ made ∷ []) more
@@ -179,7 +179,7 @@ record ReadNew (front made : List Made) (name : PageName) : Type 0 where
 same_name : (a b : PageName) → wants.Page a ≡ wants.Page b → a ≡ b
 same_name a b same = cc
 
--- a page, and those behind it
+-- a page, and those after it
 module _ (base : BaseParts) (first name : PageName) (front : List Made) (made : Made) (more : List Made) (page : Page) (pages : List Page) (read : Reads base first made page) (reads : ReadsPages base page.next more pages)
     (links : link_behind page.next pages ≡ Some name) (before : All (IsForEarlier first) front)
     (rest : (next : PageName) → ReadsPages base (Some next) more pages → link_behind (Some next) pages ≡ Some name → All (IsForEarlier next) (front ++ made ∷ []) → ReadNew (front ++ made ∷ []) more name) where
@@ -220,12 +220,12 @@ not_gate name same = cc
 not_stops : (name : PageName) → wants.Stops ≡ wants.Page name → ⊥
 not_stops name same = cc
 
--- whatever a client has come to want is new, and so was all that it met
-pub record HasComeNew (made : List Made) (want : Want) : Type 0 where
+-- whatever a client wants now is new, and all that it received was
+pub record WantsNew (made : List Made) (want : Want) : Type 0 where
   pub are : AreNew [] made
   pub is : (name : PageName) → want ≡ wants.Page name → All (IsForEarlier name) made
 
-come_reading : (base : BaseParts) (query : Query) (version : Option ℕ) (made : List Made) (name : PageName) → IsReading base query version made name → HasComeNew made (wants.Page name)
+come_reading : (base : BaseParts) (query : Query) (version : Option ℕ) (made : List Made) (name : PageName) → IsReading base query version made name → WantsNew made (wants.Page name)
 come_reading base query version made name came =
     let gate : Made = reply_to wants.Gate came.gate in
     let stops : Made = reply_to wants.Stops came.stops in
@@ -239,7 +239,7 @@ come_reading base query version made name came =
       is = λ n same. subst (All (IsForEarlier n)) (sym came.was_made) (subst (λ (x : PageName). All (IsForEarlier x) (front ++ came.for_pages)) (same_name name n same) pages.behind);
     }
 
-pub come_new : (base : BaseParts) (query : Query) (version : Option ℕ) (made : List Made) (want : Want) → HasComeTo base query version made want → HasComeNew made want
+pub come_new : (base : BaseParts) (query : Query) (version : Option ℕ) (made : List Made) (want : Want) → WantsAfter base query version made want → WantsNew made want
 come_new base query version made wants.Gate came = record { are = subst (AreNew []) (sym came.nothing_made) tt; is = λ name same. absurd (not_gate name same) }
 come_new base query version made wants.Stops came =
     record { are = subst (AreNew []) (sym came.was_made) (λ name wanted. absurd (not_gate name wanted), tt); is = λ name same. absurd (not_stops name same) }

@@ -15,7 +15,7 @@ entries_more base query [] (e ∷ entries) one entry are is = absurd are
 entries_more base query (m ∷ made) [] one entry are is = absurd are
 entries_more base query (m ∷ made) (e ∷ entries) one entry are is = (are.0, entries_more base query made entries one entry are.1 is)
 
--- an exchange is recorded so, whether it was replied to or failed
+-- an exchange is recorded by what was got, whether it was replied to or failed
 pub recorded_by : (before after : Option (List Entry)) (authority request : List ℕ) (got : Got) → Tells before after authority request (bytes_of got) (result_of got) → TellsMore before after authority request got
 recorded_by before after authority request (Some reply) tells = tells
 recorded_by before after authority request None tells = tells
@@ -33,7 +33,7 @@ stays (Some recorded) = ap Some (sym (append-nil recorded))
 pub tells_none : (base : BaseParts) (query : Query) (recorded : Option (List Entry)) → TellsAll base query [] recorded recorded
 tells_none base query recorded = record { entries = []; are = tt; is = stays recorded }
 
--- and one more is recorded with each
+-- with each exchange one more is recorded
 pub tells_more :
     (base : BaseParts) (query : Query) (made : List Made) (one : Made) (request : List ℕ) (start before after : Option (List Entry)) →
     TellsAll base query made start before → Asks base (target_of base query one.want) (known_at query one.want) request →

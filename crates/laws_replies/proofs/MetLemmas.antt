@@ -1,4 +1,4 @@
--- What was met, with one more.
+-- What was received, with one more.
 use Rattle.std.proofs.Common.{◌≡◌, ◌==◌, ◌&&◌, ◌+◌, ◌-◌, ℕ, Bool, true, false, List, [], ◌∷◌, ◌++◌, Option, Some, ap, ap₂, append-nil, append_assoc, eq-eqb, eqb-true, filter, length, length-append, map, option_map, refl, subst, sym, ◌∙◌, cond}
 use Rattle.std.specs.List.{All, slice_get}
 use Rattle.std.proofs.lemmas.List.{map-append}
@@ -88,7 +88,7 @@ pub along_more : (faults now later : ℕ) (all : List Met) (met : Met) → Count
 along_more faults now later [] met along from kept rose to = (from ∙ sym along, kept, rose, to)
 along_more faults now later (m ∷ all) met along from kept rose to = (along.0, along.1, along.2, along_more m.high now later all met along.3 from kept rose to)
 
--- one more that was kept, if it was met without an exchange
+-- one more that was cached, if it was received without an exchange
 pub take_kept_more : (base : BaseParts) (before all : List Met) (met : Met) → TakeKept base before all → (met.asked ≡ false → WasKept base (before ++ all) met.made) → TakeKept base before (all ++ met ∷ [])
 take_kept_more base before [] met take kept = (λ none. subst (λ (l : List Met). WasKept base l met.made) (append-nil before) (kept none), tt)
 take_kept_more base before (m ∷ all) met take kept =

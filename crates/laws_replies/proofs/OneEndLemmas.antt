@@ -25,7 +25,7 @@ use Rattle.page_client.specs.declared.outcome.Outcome.TheVariants as outcomes
 use Rattle.page_client.specs.declared.want.Want.{Want}
 use Rattle.page_client.specs.declared.want.Want.TheVariants as wants
 use Rattle.page_client.proofs.OneReplyLemmas.{one_gate_reply, one_page_reply, one_stops_reply}
-use Rattle.laws_replies.specs.Course.{HasComeTo, IsReading, IsSentOn, IsSentRight, ReadsPages, connections_in, link_behind}
+use Rattle.laws_replies.specs.Course.{WantsAfter, IsReading, IsSentOn, IsSentRight, ReadsPages, connections_in, link_behind}
 use Rattle.laws_replies.specs.Ends.{EndsBy, FailsTest, HasAnswered, IsRefusedAtOnce}
 use Rattle.laws_replies.specs.Laws.{IsOneEnd, OneEnd, SayTheSame, replies_of}
 use Rattle.laws_replies.specs.Made.{Made, reply_to}
@@ -66,7 +66,7 @@ one_list_of_pages base (Some name) (m ∷ made_a) (n ∷ made_b) (p ∷ a) (q �
       pages = ap (λ (r : Page). r ∷ a) page ∙ ap (λ (l : List Page). q ∷ l) more.pages;
     }
 
--- the gate sends to one page
+-- the time gate sends to one page
 one_first : (base : BaseParts) (leave : ℕ) (gate_a gate_b : List ℕ) (first_a first_b : PageName) → IsGateReply base leave gate_a (Ok first_a) → IsGateReply base leave gate_b (Ok first_b) → gate_a ≡ gate_b → first_a ≡ first_b
 one_first base leave gate_a gate_b first_a first_b x y same =
     let result : Ok first_a ≡ Ok first_b = one_gate_reply base leave gate_b (Ok first_a) (Ok first_b) (subst (λ (g : List ℕ). IsGateReply base leave g (Ok first_a)) same x) y in
@@ -82,7 +82,7 @@ record SameReading {base : BaseParts} {query : Query} {version_a version_b : Opt
   doc : a.doc ≡ b.doc
   pages : a.pages ≡ b.pages
 
--- and so is what was made before
+-- what was made before is one
 record SameCourse (made_a made_b : List Made) (version_a version_b : Option ℕ) (want_a want_b : Want) : Type 0 where
   made : made_a ≡ made_b
   version : version_a ≡ version_b
@@ -124,8 +124,8 @@ module _ (base : BaseParts) (query : Query) (version_a version_b : Option ℕ) (
         pages = one.pages;
       }
 
-  -- it came to want one thing
-  one_course : (want_a want_b : Want) → HasComeTo base query version_a made_a want_a → HasComeTo base query version_b made_b want_b → SameCourse made_a made_b version_a version_b want_a want_b
+  -- it wants one thing
+  one_course : (want_a want_b : Want) → WantsAfter base query version_a made_a want_a → WantsAfter base query version_b made_b want_b → SameCourse made_a made_b version_a version_b want_a want_b
   one_course wants.Gate wants.Gate a b = record { made = a.nothing_made ∙ sym b.nothing_made; version = a.no_version ∙ sym b.no_version; want = refl }
   one_course wants.Gate wants.Stops a b = (let none : [] ≡ Some b.gate ∷ [] = sym (ap replies_of a.nothing_made) ∙ same ∙ ap replies_of b.was_made in absurd (cc))
   one_course wants.Gate (wants.Page name) a b =
@@ -156,7 +156,7 @@ record ByFault (outcome : Outcome) : Type 0 where
   later : ℕ
   is : outcome ≡ outcomes.LinkFault count later
 
--- the gate's reply fails a test
+-- the time gate's reply fails a test
 record ByGate (base : BaseParts) (query : Query) (reply : List ℕ) (outcome : Outcome) : Type 0 where
   fault : PeerFault
   fails : IsGateReply base query.leave reply (Err fault)
@@ -173,7 +173,7 @@ record ByStops (query : Query) (reply : List ℕ) (outcome : Outcome) : Type 0 w
   says : IsStopsReply reply said
   after : AfterDoc query reply said outcome
 
--- the gate was wrong to send to the page
+-- the time gate was wrong to send to the page
 record ByOff (query : Query) (gate : List ℕ) (pages : List Page) (page : Page) (outcome : Outcome) : Type 0 where
   none_before : pages ≡ []
   off : is_off query.leave page ≡ true
@@ -196,7 +196,7 @@ record ByPage (base : BaseParts) (query : Query) (name : PageName) (gate : List 
   after : AfterPage query gate doc pages reply said outcome
 
 -- what the last exchange says
-abbrev Says : (base : BaseParts) (query : Query) (version : Option ℕ) (earlier : List Made) (want : Want) → HasComeTo base query version earlier want → Option (List ℕ) → Outcome → Type 0
+abbrev Says : (base : BaseParts) (query : Query) (version : Option ℕ) (earlier : List Made) (want : Want) → WantsAfter base query version earlier want → Option (List ℕ) → Outcome → Type 0
 Says base query version earlier want came None outcome = ByFault outcome
 Says base query version earlier wants.Gate came (Some reply) outcome = ByGate base query reply outcome
 Says base query version earlier wants.Stops came (Some reply) outcome = ByStops query reply outcome
@@ -208,7 +208,7 @@ record ByLast (base : BaseParts) (query : Query) (version : Option ℕ) (made : 
   earlier : List Made
   want : Want
   got : Option (List ℕ)
-  came : HasComeTo base query version earlier want
+  came : WantsAfter base query version earlier want
   was_made : made ≡ earlier ++ record { want = want; got = got } ∷ []
   says : Says base query version earlier want came got outcome
 
@@ -218,7 +218,7 @@ record ByQuestion (query : Query) (version : Option ℕ) (made : List Made) (out
   at_once : IsRefusedAtOnce query version made fault
   is : outcome ≡ outcomes.Refused fault
 
-fails_at : (base : BaseParts) (query : Query) (version : Option ℕ) (earlier : List Made) (want : Want) (came : HasComeTo base query version earlier want) (reply : List ℕ) (fault : PeerFault) → FailsTest base query want reply fault →
+fails_at : (base : BaseParts) (query : Query) (version : Option ℕ) (earlier : List Made) (want : Want) (came : WantsAfter base query version earlier want) (reply : List ℕ) (fault : PeerFault) → FailsTest base query want reply fault →
     Says base query version earlier want came (Some reply) (outcomes.PeerWrong reply fault)
 fails_at base query version earlier wants.Gate came reply fault fails = record { fault = fault; fails = fails; is = refl }
 fails_at base query version earlier wants.Stops came reply fault fails = record { said = Err fault; says = fails; after = refl }
@@ -320,7 +320,7 @@ module _ (query : Query) (a b : Outcome) where
 
 -- the last exchange says one thing
 module _ (base : BaseParts) (query : Query) (version_a version_b : Option ℕ) (earlier : List Made) (a b : Outcome) where
-  one_said : (want : Want) (got : Option (List ℕ)) (came_a : HasComeTo base query version_a earlier want) (came_b : HasComeTo base query version_b earlier want) →
+  one_said : (want : Want) (got : Option (List ℕ)) (came_a : WantsAfter base query version_a earlier want) (came_b : WantsAfter base query version_b earlier want) →
       Says base query version_a earlier want came_a got a → Says base query version_b earlier want came_b got b → SayTheSame a b
   one_said want None x y says_a says_b = same_by a b (outcomes.LinkFault says_a.count says_a.later) (outcomes.LinkFault says_b.count says_b.later) says_a.is says_b.is tt
   one_said wants.Finished (Some reply) x y says_a says_b = absurd x
@@ -362,7 +362,7 @@ module _ (base : BaseParts) (query : Query) (version_a version_b : Option ℕ) (
   by_last x y =
       let parts = stands_last (replies_of x.earlier) (replies_of y.earlier) x.got y.got (sym (got_more x.earlier made_a x.want x.got x.was_made) ∙ same ∙ got_more y.earlier made_b y.want y.got y.was_made) in
       let course = one_course base query version_a version_b x.earlier y.earlier parts.0 x.want y.want x.came y.came in
-      let P : List Made → Want → Option (List ℕ) → Type 0 = λ l w g. (came : HasComeTo base query version_b l w) → Says base query version_b l w came g b → SayTheSame a b in
+      let P : List Made → Want → Option (List ℕ) → Type 0 = λ l w g. (came : WantsAfter base query version_b l w) → Says base query version_b l w came g b → SayTheSame a b in
       let there : P x.earlier x.want x.got = λ came says. one_said base query version_a version_b x.earlier a b x.want x.got x.came came x.says says in
       let by_got : P x.earlier x.want y.got = subst (P x.earlier x.want) parts.1 there in
       let by_want : P x.earlier y.want y.got = subst (λ (w : Want). P x.earlier w y.got) course.want by_got in

@@ -1,4 +1,4 @@
--- What a link tells of replies that it does not hide is what was got.
+-- What a link records of replies that it does not hide is what was got.
 use Rattle.std.proofs.Common.{◌≡◌, ℕ, inl, inr, List, [], ◌∷◌, ◌++◌, map, Option, Some, None, option_map, refl, ap, ap₂, sym, subst, ◌∙◌}
 use Rattle.std.specs.Prelude.{◌⊎◌}
 use Rattle.std.specs.List.{All}
@@ -27,7 +27,7 @@ got_is_recorded base query (m ∷ made) (e ∷ entries) are tell =
     ap₂ (λ (one : RecordedReply) (more : List RecordedReply). one ∷ more) (not_hidden e.reply (recorded_of m.got) (All-head TellsReply e entries tell) are.0.reply)
     (got_is_recorded base query made entries are.1 (All-tail TellsReply e entries tell))
 
--- what is recorded so is recorded of one thing only
+-- equal records are of one thing only
 one_got : (a b : Option (List ℕ)) → recorded_of a ≡ recorded_of b → a ≡ b
 one_got None None same = refl
 one_got None (Some reply) same = absurd (cc)
@@ -43,7 +43,7 @@ all_got (x ∷ a) (y ∷ b) same =
     let rest : map recorded_of a ≡ map recorded_of b = cc in
     ap₂ (λ (one : Option (List ℕ)) (more : List (Option (List ℕ))). one ∷ more) (one_got x y first) (all_got a b rest)
 
--- the entries behind those before are these
+-- the entries after those before are these
 entries_are : (before after : Option (List Entry)) (recorded entries own : List Entry) → before ≡ Some recorded → after ≡ Some (recorded ++ entries) →
     after ≡ option_map (λ (t : List Entry). t ++ own) before → own ≡ entries
 entries_are before after recorded entries own was is all =

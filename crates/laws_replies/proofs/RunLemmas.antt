@@ -1,4 +1,4 @@
--- Turn after turn, a client alone comes to its outcome by its replies.
+-- Turn after turn, a client alone reaches its outcome by its replies.
 use Rattle.std.proofs.Common.{◌≡◌, ◌∙◌, ◌≤◌, ℕ, List, [], ◌∷◌, ◌++◌, Some, ap, arith, length, refl, subst, sym}
 use Rattle.std.specs.Prelude.{IsSome}
 use Rattle.std.specs.List.{slice_get}

@@ -1,4 +1,4 @@
--- Where a client stands that has come so far, and each of its steps, by an exchange or by a page that was kept.
+-- The phase of a client that has come this far, and each of its steps, by an exchange or by a cached page.
 use Rattle.std.proofs.Common.{◌≡◌, ℕ, ◌≤◌, inl, inr, List, [], ◌∷◌, ◌++◌, Bool, true, false, Option, Some, None, Result, Ok, Err, IsErrOf, refl, ap, sym, subst, ◌∙◌, arith}
 use Rattle.std.specs.Prelude.{◌⊎◌, if◌then◌else◌}
 use Rattle.std.specs.Option.{IfSome}
@@ -36,18 +36,18 @@ use Rattle.page_client.specs.declared.want.Want.{Want}
 use Rattle.page_client.specs.declared.want.Want.TheVariants as wants
 use Rattle.convoy.specs.Exchange.{Got, result_of}
 use Rattle.convoy.specs.Steps.{AfterPage as AfterPageSaid, Takes, TakesAsked, TakesGate, TakesStops}
-use Rattle.laws_replies.specs.Course.{HasComeTo, IsAtGate, IsReading, IsSentOn, IsSentRight, connections_in}
+use Rattle.laws_replies.specs.Course.{WantsAfter, IsAtGate, IsReading, IsSentOn, IsSentRight, connections_in}
 use Rattle.laws_replies.specs.Ends.{EndsBy, FailsTest, HasAnswered}
 use Rattle.laws_replies.specs.Made.{Made, failure_of, reply_to}
 use Rattle.laws_replies.proofs.CourseLemmas.{connections_more, goes_on_at_first, goes_on_more, link_more, reads_more}
 
--- it wants the gate's reply
+-- it wants the time gate's reply
 pub record AtGate (base : BaseParts) (s : Shown) (made : List Made) : Type 0 where
   pub accepted : IsRefusal s.query None
   pub come : IsAtGate s.version made
   pub none : s.outcome ≡ None
 
--- behind it the gate's reply is held
+-- after it the time gate's reply is held
 pub record AtStops (base : BaseParts) (s : Shown) (made : List Made) (first : PageName) : Type 0 where
   pub accepted : IsRefusal s.query None
   pub come : IsSentOn base s.query s.version made
@@ -74,14 +74,14 @@ pub record AtEnd (base : BaseParts) (before now : ℕ) (s : Shown) (made : List 
   pub ended : s.outcome ≡ Some outcome
   pub ends : EndsBy base s.query before now s.version made outcome
 
--- where it stands
+-- what holds in each phase
 abbrev pub At : BaseParts → ℕ → ℕ → Client → List Made → Shown → Phase → Type 0
 At base before now client made s phases.Gate = AtGate base s made
 At base before now client made s (phases.Stops first) = AtStops base s made first
 At base before now client made s (phases.Page name) = AtPage base s client made name
 At base before now client made s phases.Finished = AtEnd base before now s made
 
--- the question stays, and it stands somewhere
+-- the question stays, and the client is in a phase
 pub record Moves (base : BaseParts) (before now : ℕ) (old new : Client) (made : List Made) : Type 0 where
   pub query : (shown new).query ≡ (shown old).query
   pub at : At base before now new made (shown new) (shown new).phase
@@ -92,7 +92,7 @@ pub record Spans (before count later : ℕ) (got : Got) : Type 0 where
   pub cause : HasCause count later (IsErrOf (result_of got) Failed)
 
 module _ (base : BaseParts) (before now : ℕ) (old new : Client) (made : List Made) where
-  -- it shows this now, and so stands there
+  -- the client shows this now, and is in its phase
   moved : (t : Shown) → shown new ≡ t → t.query ≡ (shown old).query → At base before now new made t t.phase → Moves base before now old new made
   moved t is same there = record {
     query = ap (λ (s : Shown). s.query) is ∙ same;
@@ -104,7 +104,7 @@ module _ (base : BaseParts) (before now : ℕ) (old new : Client) (made : List M
   at_end outcome is ends = moved (ended outcome (shown old)) is refl (record { outcome = outcome; ended = refl; ends = ends })
 
 module _ (base : BaseParts) (before count later : ℕ) (old new : Client) (made : List Made) (want : Want) (accepted : IsRefusal (shown old).query None)
-    (come : HasComeTo base (shown old).query (shown old).version made want) where
+    (come : WantsAfter base (shown old).query (shown old).version made want) where
   -- by an exchange that failed
   cut_off : Spans before count later None → shown new ≡ ended (outcomes.LinkFault count later) (shown old) →
       Moves base before later old new (made ++ failure_of want ∷ [])
@@ -132,7 +132,7 @@ module _ (base : BaseParts) (before count later : ℕ) (old new : Client) (made 
 abbrev pub exchange_of : Want → Got → Made
 exchange_of want got = record { want = want; got = got }
 
--- the gate is asked
+-- the time gate is asked
 module _ (base : BaseParts) (before count later : ℕ) (old new : Client) (made : List Made) (at : AtGate base (shown old) made) where
   by_gate : (reply : List ℕ) (said : Result PageName PeerFault) → IsGateReply base (shown old).query.leave reply said → shown new ≡ after_gate reply said (shown old) →
       Moves base before later old new (made ++ reply_to wants.Gate reply ∷ [])
@@ -207,7 +207,7 @@ module _ (base : BaseParts) (before count later : ℕ) (old new : Client) (made 
   stops_asked None spans takes = cut_off base before count later old new made wants.Stops at.accepted at.come spans takes
   stops_asked (Some reply) spans takes = by_stops reply takes.said takes.says takes.after
 
--- once a page is taken the gate's reply is not held any more
+-- once a page is taken the time gate's reply is not held any more
 holds_none : (reply : List ℕ) (pages : List Page) (page : Page) → HoldsGate reply (pages ++ page ∷ []) None
 holds_none reply [] page = refl
 holds_none reply (first ∷ rest) page = refl
@@ -288,7 +288,7 @@ module _ (base : BaseParts) (before later : ℕ) (old new : Client) (made : List
   by_step (Next next) right follows leaves = goes next right follows.0 follows.1 leaves.0 leaves.1
   by_step (Last journey) right follows leaves = ends journey right follows.0 follows.1 leaves
 
-  -- the gate was right to send to the first of them
+  -- the time gate was right to send to the first of them
   takes_on : IsSentRight (shown old).query.leave (at.come.pages ++ page ∷ []) → GoesOnBy old page new →
       Moves base before later old new (made ++ reply_to (wants.Page name) reply ∷ [])
   takes_on right goes_on =
@@ -315,7 +315,7 @@ module _ (base : BaseParts) (before later : ℕ) (old new : Client) (made : List
         was_made = refl;
       }))
 
-  -- by the test of the gate
+  -- by the test of the time gate
   by_off : (off : Bool) → is_off (shown old).query.leave page ≡ off → at.come.pages ≡ [] →
       AfterPage old page (if off then Some (outcomes.PeerWrong at.come.gate (GateWrong page)) else None) new →
       Moves base before later old new (made ++ reply_to (wants.Page name) reply ∷ [])

@@ -1,4 +1,4 @@
--- How far a client has come by the replies that it got, whoever gave them.
+-- Which want a client has reached by the replies that it got, whoever gave them.
 use Rattle.std.specs.Prelude.{◌≡◌, ℕ, false, List, [], ◌∷◌, ◌++◌, Option, Some, None, Ok}
 use Rattle.std.specs.List.{flat_map}
 use Rattle.lc_model.specs.Stop.{HasStop}
@@ -27,7 +27,7 @@ pub record Reads (base : BaseParts) (name : PageName) (made : Made) (page : Page
   pub is : made ≡ reply_to (wants.Page name) reply
   pub says : IsPageReply base name reply (Ok page)
 
--- the replies say these pages, one after the other: the one of this name, if one is named, and then each to which the one before links
+-- The replies say these pages, one after the other. The first has this name, if one is named, and each other one is linked by the one before.
 abbrev pub ReadsPages : BaseParts → Option PageName → List Made → List Page → Type 0
 ReadsPages base link [] [] = Unit {0}
 ReadsPages base link [] (page ∷ pages) = ⊥
@@ -35,27 +35,27 @@ ReadsPages base link (made ∷ more) [] = ⊥
 ReadsPages base None (made ∷ more) (page ∷ pages) = ⊥
 ReadsPages base (Some name) (made ∷ more) (page ∷ pages) = Reads base name made page × ReadsPages base page.next more pages
 
--- the link behind pages: that of the last one, or this one where there is no page
+-- the link after pages: that of the last one, or this one where there is no page
 abbrev pub link_behind : Option PageName → List Page → Option PageName
 link_behind link [] = link
 link_behind link (page ∷ pages) = link_behind page.next pages
 
--- the gate was right to send to the first of these pages, if there is one
+-- the time gate was right to send to the first of these pages, if there is one
 abbrev pub IsSentRight : ℕ → List Page → Type 0
 IsSentRight leave [] = Unit {0}
 IsSentRight leave (first ∷ rest) = is_off leave first ≡ false
 
--- after each of these pages something behind it could be better
+-- after each of these pages a later one could be better
 abbrev pub GoesOnAfterEach : Query → StopsDoc → List Page → Type 0
 GoesOnAfterEach query doc pages =
     (front : List Page) (page : Page) (more : List Page) → pages ≡ front ++ page ∷ more → IsOver query doc (connections_in front ++ page.list) page → ⊥
 
--- it wants the gate's reply: it has made no exchange, and has no version
+-- it wants the time gate's reply: it has made no exchange, and has no version
 pub record IsAtGate (version : Option ℕ) (made : List Made) : Type 0 where
   pub no_version : version ≡ None
   pub nothing_made : made ≡ []
 
--- it wants the stops document: the gate's reply sends it to a page, whose version it has
+-- it wants the stops document: the time gate's reply sends it to a page, whose version it has
 pub record IsSentOn (base : BaseParts) (query : Query) (version : Option ℕ) (made : List Made) : Type 0 where
   pub gate : List ℕ
   pub first : PageName
@@ -63,8 +63,8 @@ pub record IsSentOn (base : BaseParts) (query : Query) (version : Option ℕ) (m
   pub at_version : version ≡ Some first.version
   pub was_made : made ≡ reply_to wants.Gate gate ∷ []
 
--- It wants the page of this name: the gate's reply sends it to a page, whose version it has; the stops document has both ends of the question;
--- it has read the pages from the one of the gate up to this one, along their links, the first rightly; and was over after none of them.
+-- It wants the page of this name. The time gate's reply sends it to a page, whose version it has. The stops document has both ends of the
+-- question. It read the pages from that one up to this one, along their links, the first rightly. It was over after none of them.
 pub record IsReading (base : BaseParts) (query : Query) (version : Option ℕ) (made : List Made) (name : PageName) : Type 0 where
   pub gate : List ℕ
   pub first : PageName
@@ -83,9 +83,9 @@ pub record IsReading (base : BaseParts) (query : Query) (version : Option ℕ) (
   pub goes_on : GoesOnAfterEach query doc pages
   pub was_made : made ≡ reply_to wants.Gate gate ∷ reply_to wants.Stops stops ∷ for_pages
 
--- a client of the question has come to want this, by these exchanges
-abbrev pub HasComeTo : BaseParts → Query → Option ℕ → List Made → Want → Type 0
-HasComeTo base query version made wants.Gate = IsAtGate version made
-HasComeTo base query version made wants.Stops = IsSentOn base query version made
-HasComeTo base query version made (wants.Page name) = IsReading base query version made name
-HasComeTo base query version made wants.Finished = ⊥
+-- a client of the question wants this, after these exchanges
+abbrev pub WantsAfter : BaseParts → Query → Option ℕ → List Made → Want → Type 0
+WantsAfter base query version made wants.Gate = IsAtGate version made
+WantsAfter base query version made wants.Stops = IsSentOn base query version made
+WantsAfter base query version made (wants.Page name) = IsReading base query version made name
+WantsAfter base query version made wants.Finished = ⊥

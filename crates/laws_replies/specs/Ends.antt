@@ -25,11 +25,11 @@ use Rattle.page_client.specs.declared.outcome.Outcome.{Outcome}
 use Rattle.page_client.specs.declared.outcome.Outcome.TheVariants as outcomes
 use Rattle.page_client.specs.declared.want.Want.{Want}
 use Rattle.page_client.specs.declared.want.Want.TheVariants as wants
-use Rattle.laws_replies.specs.Course.{HasComeTo, IsReading, IsSentOn, IsSentRight, connections_in}
+use Rattle.laws_replies.specs.Course.{WantsAfter, IsReading, IsSentOn, IsSentRight, connections_in}
 use Rattle.laws_replies.specs.Made.{Made, failure_of, reply_to}
 
--- It read one page more, and this is the last: it links to none, or nothing behind it could be better. The answer is a best chain of
--- the connections of all pages that it read, within the horizon of the question; or there is no chain of them.
+-- It read one page more, and this is the last: it links to none, or no later page could be better. The answer is a best chain of
+-- the connections of all pages that it read, within the horizon of the question. Or there is no chain of them.
 pub record HasAnswered (base : BaseParts) (query : Query) (version : Option ℕ) (made : List Made) (journey : Option Journey) : Type 0 where
   pub accepted : IsRefusal query None
   pub earlier : List Made
@@ -50,7 +50,7 @@ pub record IsRefusedAtOnce (query : Query) (version : Option ℕ) (made : List M
   pub no_version : version ≡ None
   pub nothing_made : made ≡ []
 
--- it read this stops document, behind the gate's reply
+-- it read this stops document, after the time gate's reply
 pub record HasReadStops (base : BaseParts) (query : Query) (version : Option ℕ) (made : List Made) (doc : StopsDoc) : Type 0 where
   pub accepted : IsRefusal query None
   pub earlier : List Made
@@ -79,13 +79,13 @@ IsRefusedBy base query version made SameStop = IsRefusedAtOnce query version mad
 IsRefusedBy base query version made UnknownFrom = LacksFrom base query version made
 IsRefusedBy base query version made UnknownTo = LacksTo base query version made
 
--- The exchange by which it asked for what it wanted then failed: the link's count rose in it from the one to the other, and these lie
+-- The exchange by which it asked for what it wanted then failed. In it the link's count increased from the one to the other, and these are
 -- between those before and now.
 pub record IsCutOff (base : BaseParts) (query : Query) (before now : ℕ) (version : Option ℕ) (made : List Made) (count later : ℕ) : Type 0 where
   pub accepted : IsRefusal query None
   pub earlier : List Made
   pub want : Want
-  pub came : HasComeTo base query version earlier want
+  pub came : WantsAfter base query version earlier want
   pub was_made : made ≡ earlier ++ failure_of want ∷ []
   pub from : before ≤ count
   pub rose : Rose count later
@@ -103,12 +103,12 @@ pub record GotWrongReply (base : BaseParts) (query : Query) (version : Option �
   pub accepted : IsRefusal query None
   pub earlier : List Made
   pub want : Want
-  pub came : HasComeTo base query version earlier want
+  pub came : WantsAfter base query version earlier want
   pub fails : FailsTest base query want reply fault
   pub was_made : made ≡ earlier ++ reply_to want reply ∷ []
 
--- The first page that it read is not the one for the moment at which the question leaves: this reply is that of the gate, which sent
--- it there.
+-- The first page that it read is not the one for the moment at which the question leaves. This reply is that of the time gate, which
+-- sent it there.
 pub record WasSentWrong (base : BaseParts) (query : Query) (version : Option ℕ) (made : List Made) (reply : List ℕ) (fault : PeerFault) : Type 0 where
   pub accepted : IsRefusal query None
   pub earlier : List Made

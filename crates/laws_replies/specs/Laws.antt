@@ -1,4 +1,4 @@
--- That how a client ended is one for the replies that it got, and these are those that a link tells.
+-- That how a client ended is one for the replies that it got, and these are those that a link records.
 use Rattle.std.specs.Prelude.{◌≡◌, ℕ, ◌+◌, ◌-◌, ◌^◌, ◌<◌, List, [], ◌∷◌, ◌++◌, length, map, Option, Some}
 use Rattle.std.specs.List.{All}
 use Rattle.lc_model.specs.Journey.{arrives_at}
@@ -14,8 +14,8 @@ use Rattle.laws_replies.specs.Made.{AreEntriesOf, Made, TellsAll}
 use Rattle.laws_replies.specs.Met.{AreMet, Met, exchanges_by, met_by}
 use Rattle.laws_replies.specs.Run.{HasAsked}
 
--- The outcomes say the same: journeys that arrive at one moment, or that there is none, or one refusal, or that the link failed, or one
--- reply that fails one test.
+-- The outcomes say the same. Their journeys arrive at one moment, or there is none, or they have one refusal, or the link failed, or one
+-- reply fails one test.
 abbrev pub SayTheSame : Outcome → Outcome → Type 0
 SayTheSame (outcomes.Found a) (outcomes.Found b) = arrives_at a ≡ arrives_at b
 SayTheSame outcomes.NoJourney outcomes.NoJourney = Unit {0}
@@ -28,7 +28,7 @@ SayTheSame a b = ⊥
 abbrev pub replies_of : List Made → List (Option (List ℕ))
 replies_of made = map (λ (m : Made). m.got) made
 
--- the same was wanted in each exchange, the version is one, and the outcomes say the same
+-- both wanted the same in each exchange, the version is one, and the outcomes say the same
 pub record IsOneEnd (made_a made_b : List Made) (version_a version_b : Option ℕ) (a b : Outcome) : Type 0 where
   pub made : made_a ≡ made_b
   pub version : version_a ≡ version_b
@@ -45,13 +45,13 @@ OneEnd =
 abbrev pub TellsReply : Entry → Type 0
 TellsReply entry = entry.reply ≡ Hidden → ⊥
 
--- entries of which none hides its reply tell what was got, exchange for exchange: a failure is recorded of no exchange that was replied to
+-- entries of which none hides its reply record what was got, exchange for exchange: they record a failure of no exchange that was replied to
 abbrev pub GotIsRecorded : Type 0
 GotIsRecorded =
     (base : BaseParts) (query : Query) (made : List Made) (entries : List Entry) → AreEntriesOf base query made entries → All TellsReply entries
     → map (λ (entry : Entry). entry.reply) entries ≡ map recorded_of (replies_of made)
 
--- so where a link recorded exchanges, and hid no reply of them, a client of the question ended in one way by what is recorded
+-- where a link recorded exchanges, and hid no reply of them, a client of the question ended in one way by what is recorded
 abbrev pub OneRecordedEnd : {X : Type 0} → (X → LinkSeen) → Type 0
 OneRecordedEnd {X} seen =
     (base : BaseParts) (query : Query) (before after : X) (recorded entries : List Entry) (version_a version_b : Option ℕ) (exchanges_a exchanges_b : ℕ) (a b : Outcome)
@@ -59,15 +59,15 @@ OneRecordedEnd {X} seen =
     → (asked_a : HasAsked base query (seen before) (seen after) version_a exchanges_a a) (asked_b : HasAsked base query (seen before) (seen after) version_b exchanges_b b)
     → IsOneEnd asked_a.made asked_b.made version_a version_b a b
 
--- who is alone among the clients met all by exchanges of its own: they are counted, and recorded where the link tells exchanges
+-- who is alone among the clients made exchanges for all that it received: they are counted, and recorded where the link records exchanges
 abbrev pub AloneAsksAll : Type 0
 AloneAsksAll =
     (base : BaseParts) (query : Query) (before after : Option (List Entry)) (faults now_faults : ℕ) (version : Option ℕ) (all : List Met) (outcome : Outcome)
     → AreMet base (query ∷ []) before after faults now_faults all → EndsBy base query faults now_faults version (met_by 1 all) outcome
     → (exchanges_by 1 all ≡ length (met_by 1 all)) × TellsAll base query (met_by 1 all) before after
 
--- The counts are those around the last of so many exchanges: the second is the count now; and the first is that before, where there is one
--- exchange, or where the count rose by one in all, and not to its last value.
+-- The counts are those around the last of so many exchanges. The second is the count now. The first is that before, where there is one
+-- exchange, or where the count increased by one in all, and not to its last value.
 pub record AreAroundLast (exchanges before now low high : ℕ) : Type 0 where
   pub now_is : high ≡ now
   pub before_is : exchanges ≡ 1 → low ≡ before

@@ -1,4 +1,4 @@
--- The exchanges that a client made, and the entries by which a link tells them.
+-- The exchanges that a client made, and the entries by which a link records them.
 use Rattle.std.specs.Prelude.{◌≡◌, ◌⊎◌, ℕ, List, [], ◌∷◌, ◌++◌, Option, Some, None, option_map}
 use Rattle.lc_model.specs.declared.query.Query.{Query}
 use Rattle.connection_uri.specs.Base.{BaseParts}
@@ -21,7 +21,7 @@ reply_to want reply = record { want = want; got = Some reply }
 abbrev pub failure_of : Want → Made
 failure_of want = record { want = want; got = None }
 
--- The entry tells the exchange: whom it asked, by the request for what was wanted, and with the reply that was got, or that it failed,
+-- The entry records the exchange. It says whom the client asked, by the request for what it wanted, and the reply or the failure,
 -- unless it hides that.
 pub record IsEntryOf (base : BaseParts) (query : Query) (made : Made) (entry : Entry) : Type 0 where
   pub authority : entry.authority ≡ base.authority
@@ -35,7 +35,7 @@ AreEntriesOf base query [] (entry ∷ entries) = ⊥
 AreEntriesOf base query (made ∷ more) [] = ⊥
 AreEntriesOf base query (made ∷ more) (entry ∷ entries) = IsEntryOf base query made entry × AreEntriesOf base query more entries
 
--- where the link tells exchanges, these were recorded, behind those before
+-- where the link records exchanges, it recorded these, after those before
 pub record TellsAll (base : BaseParts) (query : Query) (made : List Made) (before after : Option (List Entry)) : Type 0 where
   pub entries : List Entry
   pub are : AreEntriesOf base query made entries

@@ -1,4 +1,4 @@
--- What the clients of a convoy met in their turns, whoever replied: what each wanted, and by which reply it went on.
+-- What the clients of a convoy received in their turns, whoever replied: what each wanted, and by which reply it went on.
 use Rattle.std.specs.Prelude.{◌≡◌, ◌==◌, ◌&&◌, ◌-◌, ◌≤◌, ℕ, Bool, true, false, List, [], ◌∷◌, ◌++◌, length, map, filter, is_none, Option, Some, None, Ok, option_map, slice_get}
 use Rattle.std.specs.List.{All}
 use Rattle.lc_io.specs.Counts.{RoseBy}
@@ -11,8 +11,8 @@ use Rattle.page_client.specs.declared.want.Want.TheVariants as wants
 use Rattle.page_json.specs.declared.page.Page.{Page}
 use Rattle.laws_replies.specs.Made.{IsEntryOf, Made, reply_to}
 
--- A client met one of its wants: by an exchange of its own, which gave this reply or failed, or else by a page that was kept, which this
--- reply said; and the link's count of faults was this before it and that behind it. Clients are numbered from 1.
+-- What a client received for one of its wants. It is the reply or the failure of its own exchange, or the reply that said a cached page.
+-- The link's count of faults was the one before it and the other after it. Clients are numbered from 1.
 pub record Met : Type 0 where
   pub client : ℕ
   pub made : Made
@@ -24,7 +24,7 @@ pub record Met : Type 0 where
 abbrev pub is_by : ℕ → Met → Bool
 is_by client met = met.client == client
 
--- what the client met
+-- what the client received
 abbrev pub met_by : ℕ → List Met → List Made
 met_by client all = map (λ (met : Met). met.made) (filter (is_by client) all)
 
@@ -40,8 +40,8 @@ asked_in all = filter (λ (met : Met). met.asked) all
 abbrev pub failures_in : List Met → ℕ
 failures_in all = length (filter (λ (met : Met). is_none met.made.got) all)
 
--- The count of a link's faults went along all this from the one to the other: nothing came between, each exchange that failed raised it, and a
--- page that was kept left it.
+-- The count of a link's faults went along all this from the one to the other. Nothing came between, each exchange that failed increased it, and
+-- a cached page left it.
 abbrev pub CountAlong : ℕ → ℕ → List Met → Type 0
 CountAlong faults now [] = faults ≡ now
 CountAlong faults now (met ∷ more) =
@@ -62,7 +62,7 @@ pub record IsByOneOf (clients : ℕ) (met : Met) : Type 0 where
   pub from_one : 1 ≤ met.client
   pub at_most : met.client ≤ clients
 
--- A page that was kept was met by the reply that said it: that of an exchange before.
+-- A cached page was received by the reply that said it: that of an exchange before.
 pub record WasKept (base : BaseParts) (before : List Met) (made : Made) : Type 0 where
   pub name : PageName
   pub reply : List ℕ
@@ -75,12 +75,12 @@ pub record WasKept (base : BaseParts) (before : List Met) (made : Made) : Type 0
   pub asked : exchange.asked ≡ true
   pub same : exchange.made ≡ made
 
--- behind those before, whatever was met without an exchange is a page that was kept
+-- after those before, whatever was received without an exchange is a cached page
 abbrev pub TakeKept : BaseParts → List Met → List Met → Type 0
 TakeKept base before [] = Unit {0}
 TakeKept base before (met ∷ more) = (met.asked ≡ false → WasKept base before met.made) × TakeKept base (before ++ met ∷ []) more
 
--- the entry tells the exchange of one who asked one of these questions
+-- the entry records the exchange of one who asked one of these questions
 pub record IsRecordedOf (base : BaseParts) (questions : List Query) (met : Met) (entry : Entry) : Type 0 where
   pub query : Query
   pub asks : slice_get questions (met.client - 1) ≡ Some query
@@ -93,13 +93,13 @@ AreRecordedOf base questions [] (entry ∷ entries) = ⊥
 AreRecordedOf base questions (met ∷ more) [] = ⊥
 AreRecordedOf base questions (met ∷ more) (entry ∷ entries) = IsRecordedOf base questions met entry × AreRecordedOf base questions more entries
 
--- where the link tells exchanges, these were recorded, behind those before
+-- where the link records exchanges, it recorded these, after those before
 pub record TellsMet (base : BaseParts) (questions : List Query) (exchanges : List Met) (before after : Option (List Entry)) : Type 0 where
   pub entries : List Entry
   pub are : AreRecordedOf base questions exchanges entries
   pub is : after ≡ option_map (λ (recorded : List Entry). recorded ++ entries) before
 
--- The clients of these questions met all this over a link: each exchange is recorded, where the link tells exchanges, and its count of faults
+-- The clients of these questions received all this over a link. It records each exchange, where it records any, and its count of faults
 -- went from the one to the other.
 pub record AreMet (base : BaseParts) (questions : List Query) (before after : Option (List Entry)) (faults now_faults : ℕ) (all : List Met) : Type 0 where
   pub by_clients : All (IsByOneOf (length questions)) all

@@ -13,16 +13,16 @@ use Rattle.laws_replies.specs.Ends.{EndsBy}
 use Rattle.laws_replies.specs.Made.{Made, TellsAll}
 use Rattle.laws_replies.specs.Met.{CountAlong, HasFailedBetween, Met}
 
--- The link's count of faults went along these exchanges from the one to the other: nothing came between, and each that failed raised it.
--- The counts of a fault of the link are those before and behind the exchange that failed.
+-- The link's count of faults went along these exchanges from the one to the other: nothing came between, and each that failed increased it.
+-- The counts of a fault of the link are those before and after the exchange that failed.
 pub record IsCounted (faults now : ℕ) (made : List Made) (outcome : Outcome) : Type 0 where
   pub met : List Met
   pub are : made ≡ map (λ (met : Met). met.made) met
   pub along : CountAlong faults now met
   pub fault : (low high : ℕ) → outcome ≡ LinkFault low high → HasFailedBetween 1 low high met
 
--- A client of the question asked over the link, and ended so: with this version, after so many exchanges, with this outcome. The
--- exchanges were recorded, where the link tells any; a clear link is clear still; and its count of faults has not fallen, and went along them.
+-- A client of the question asked over the link, and ended like this: with this version, after so many exchanges, with this outcome. The
+-- link recorded the exchanges, where it records any. A clear link is clear still. Its count of faults has not fallen, and went along them.
 pub record HasAsked (base : BaseParts) (query : Query) (before after : LinkSeen) (version : Option ℕ) (exchanges : ℕ) (outcome : Outcome) : Type 0 where
   pub made : List Made
   pub counted : exchanges ≡ length made

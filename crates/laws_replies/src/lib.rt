@@ -1,5 +1,5 @@
-//! What clients have read, over any link, those that take turns and one that asks alone, and how each ended by that: definitions with their
-//! laws. It stands on `convoy` and the crates below it.
+//! What clients have read, over any link, those that take turns and one that asks alone. How each ended by that, as definitions with their
+//! laws. It builds on `convoy` and the crates below it.
 #![tactic(auto)]
 
 mod laws;

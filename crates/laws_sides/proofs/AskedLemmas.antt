@@ -20,7 +20,7 @@ use Rattle.publisher_spec.specs.declared.asked.Asked.{Asked}
 use Rattle.publisher_spec.specs.declared.asked.Asked.TheVariants as kinds
 use Rattle.publisher_spec.specs.declared.response.Response.{Response}
 use Rattle.publisher_spec.proofs.AskedLemmas.{same_behind}
-use Rattle.laws_sides.specs.Recorded.{IsRecordedTo, version_at}
+use Rattle.laws_sides.specs.Stated.{IsStatedTo, version_at}
 use Rattle.memento.specs.Negotiation.{Negotiates}
 
 -- ---- what the paths ask for
@@ -51,7 +51,7 @@ value_is_first name (field ∷ fields) =
 
 -- ---- what is said
 
--- The side says this to a GET of the target by one who knows up to this moment, where it asks for this, and the text is its reply.
+-- The side says this to a GET of the target by one who knows up to this moment. It asks for this, and the text is its reply.
 pub record Answers (side : Side) (target : List ℕ) (known : Option ℕ) (asked : Asked) (reply : List ℕ) : Type 0 where
   pub request : Request
   pub body : List ℕ
@@ -63,7 +63,7 @@ pub record Answers (side : Side) (target : List ℕ) (known : Option ℕ) (asked
   pub text_is : reply ≡ reply_text_of (parts_of side.base side.doc true response)
 
 pub answers : (side : Side) (target : List ℕ) (known : Option ℕ) (asked : Asked) (reply : List ℕ) → asked_of side.base side.accepts_updates (path_of target) (codes "GET") ≡ asked
-    → IsRecordedTo side target known reply → Answers side target known asked reply
+    → IsStatedTo side target known reply → Answers side target known asked reply
 answers side target known asked reply is recorded =
     let request = recorded.asks.request in
     let says = recorded.asks.says in

@@ -24,7 +24,7 @@ use Rattle.publisher_spec.specs.PageAt.{named, next_cut, page_among, page_at, pr
 
 -- ---- valid
 
--- what stands on a page is in order, and none of it arrives early
+-- what is on a page is in order, and none of it arrives early
 record IsPart (page : CutPage) : Type 0 where
   in_order : InDepartureOrder page.connections
   forward : NoneArrivesEarly page.connections
@@ -70,7 +70,7 @@ page_is_valid version cuts list moment lawful in_order forward =
 
 -- ---- advances
 
--- an item of a list, with what stands before it and behind it
+-- an item of a list, with what is before it and after it
 record Stands {X : Type 0} (xs : List X) (x : X) : Type 0 where
   before : List X
   behind : List X

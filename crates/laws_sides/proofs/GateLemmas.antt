@@ -1,4 +1,4 @@
--- The reply at the gate sends to the page for the moment at which the question leaves.
+-- The time gate's reply sends to the page for the moment at which the question leaves.
 use Rattle.std.proofs.Common.{◌≡◌, ℕ, ◌<◌, List, codes, true, Option, Some, Ok, refl, sym, ap, subst, ◌∙◌, arith}
 use Rattle.lc_model.specs.declared.page.PageName.{PageName}
 use Rattle.lc_model.specs.declared.query.Query.{Query}
@@ -19,7 +19,7 @@ use Rattle.publisher_spec.specs.Side.{Side, versions_of}
 use Rattle.publisher_spec.specs.declared.asked.Asked.TheVariants as kinds
 use Rattle.publisher_spec.specs.declared.response.Response.{Response}
 use Rattle.publisher_spec.proofs.OneReplyLemmas.{one_departure, one_negotiated, the_one}
-use Rattle.laws_sides.specs.Recorded.{GateIsRecorded, IsSentTo, version_at}
+use Rattle.laws_sides.specs.Stated.{GateIsStated, IsSentTo, version_at}
 use Rattle.laws_sides.proofs.AskedLemmas.{answers, gate_asked, version_is_meant}
 use Rattle.laws_sides.proofs.TextLemmas.{CanBeRead, found_len, gate_url_fits, page_url_fits, says_parts}
 
@@ -53,10 +53,10 @@ leads base departs name is bound sound =
       };
     }
 
--- a response that moves is recorded
-moved_is_recorded : (side : Side) (query : Query) (reply : List ℕ) (response : Response) → IsBase side.base → reply ≡ reply_text_of (parts_of side.base side.doc true response)
+-- a response that moves says the page in its reply
+moved_is_stated : (side : Side) (query : Query) (reply : List ℕ) (response : Response) → IsBase side.base → reply ≡ reply_text_of (parts_of side.base side.doc true response)
     → IsMovedTo side (version_at side query.known) query.leave response → IsSentTo side query reply
-moved_is_recorded side query reply response is text_is moved =
+moved_is_stated side query reply response is text_is moved =
     let base = side.base in
     let name = moved.page.name in
     let bound = leaves_in_range query in
@@ -72,8 +72,8 @@ moved_is_recorded side query reply response is text_is moved =
       );
     }
 
-pub gate_is_recorded : GateIsRecorded
-gate_is_recorded side query reply stands recorded =
+pub gate_is_stated : GateIsStated
+gate_is_stated side query reply stands recorded =
     let base = side.base in
     let leave = query.leave in
     let known = query.known in
@@ -88,5 +88,5 @@ gate_is_recorded side query reply stands recorded =
     let read : IsMomentOf value known = subst (λ (v : Option (List ℕ)). IsMomentOf v known) (sym a.known_is) a.known_read in
     let same_version : version ≡ Some (version_at side known) =
     the_one (Negotiates (versions_of side) value) (one_negotiated (versions_of side) value) version (Some (version_at side known)) is_version (version_is_meant side value known a.known_is read) in
-    moved_is_recorded side query reply a.response stands.valid.base a.text_is
+    moved_is_stated side query reply a.response stands.valid.base a.text_is
     (subst (λ (v : Option ℕ). IsGateResponse side (Some leave) v a.response) same_version (subst (λ (d : Option ℕ). IsGateResponse side d version a.response) same_departs response))

@@ -26,7 +26,7 @@ use Rattle.publisher_spec.specs.declared.asked.Asked.TheVariants as kinds
 use Rattle.publisher_spec.specs.declared.response.Response.{Response}
 use Rattle.publisher_spec.specs.declared.response.Response.TheVariants as responses
 use Rattle.publisher_spec.proofs.OneReplyLemmas.{one_departure, one_page, one_version, the_one}
-use Rattle.laws_sides.specs.Recorded.{PageIsRecorded}
+use Rattle.laws_sides.specs.Stated.{PageIsStated}
 use Rattle.laws_sides.proofs.AskedLemmas.{answers, page_asked}
 use Rattle.laws_sides.proofs.CutPageLemmas.{page_advances, page_is_valid}
 use Rattle.laws_sides.proofs.TextLemmas.{CanBeRead, body_said, gate_url_fits, ok_len, says_parts}
@@ -64,11 +64,11 @@ passes asked on page e f = rw (e, f) refl
 is_as_asked : (page : Page) → is_asked page.name (Some page.name.version) page ≡ true
 is_as_asked page = rw (eq-eqb page.name.version page.name.version refl, eq-eqb page.name.departs page.name.departs refl) refl
 
--- a page that is sent is recorded
-sent_is_recorded : (side : Side) (page : Page) (reply : List ℕ) (response : Response) → StandsUnder side.base side → has_version side page.name.version ≡ true
+-- a response that sends a page says it in its reply
+sent_is_stated : (side : Side) (page : Page) (reply : List ℕ) (response : Response) → StandsUnder side.base side → has_version side page.name.version ≡ true
     → IsPageOf side page.name.version page.name.departs page → reply ≡ reply_text_of (parts_of side.base side.doc true response) → IsSent side page.name.version page.name.departs response
     → IsPageReply side.base page.name reply (Ok page) × IsSoundPage page
-sent_is_recorded side page reply response stands has is text_is sent =
+sent_is_stated side page reply response stands has is text_is sent =
     let base = side.base in
     let version = page.name.version in
     let departs = page.name.departs in
@@ -90,8 +90,8 @@ sent_is_recorded side page reply response stands has is text_is sent =
       sound,
     )
 
-pub page_is_recorded : PageIsRecorded
-page_is_recorded side page reply stands has sound is recorded =
+pub page_is_stated : PageIsStated
+page_is_stated side page reply stands has sound is recorded =
     let base = side.base in
     let name = page.name in
     let says = (targets_are_read base stands.valid.base).page name sound.version sound.departs in
@@ -108,4 +108,4 @@ page_is_recorded side page reply stands has sound is recorded =
     the_one (SaysVersion of) (one_version of) version (Some name.version) is_version (subst (λ (v : Option (List ℕ)). SaysVersion v name.version) (sym at_version) (says_text name.version sound.version)) in
     let sent_of : IsSentOf side (has_version side name.version) name.version name.departs a.response =
     subst (λ (v : Option ℕ). IsPageResponse side v (Some name.departs) a.response) same_version (subst (λ (d : Option ℕ). IsPageResponse side version d a.response) same_departs response) in
-    sent_is_recorded side page reply a.response stands has is a.text_is (subst (λ (b : Bool). IsSentOf side b name.version name.departs a.response) has sent_of)
+    sent_is_stated side page reply a.response stands has is a.text_is (subst (λ (b : Bool). IsSentOf side b name.version name.departs a.response) has sent_of)

@@ -14,7 +14,7 @@ use Rattle.publisher_spec.specs.Short.{StandsUnder}
 use Rattle.publisher_spec.specs.Side.{Side}
 use Rattle.publisher_spec.specs.declared.asked.Asked.TheVariants as kinds
 use Rattle.publisher_spec.specs.declared.response.Response.{Response}
-use Rattle.laws_sides.specs.Recorded.{StopsAreRecorded}
+use Rattle.laws_sides.specs.Stated.{StopsAreStated}
 use Rattle.laws_sides.proofs.AskedLemmas.{answers, stops_asked}
 use Rattle.laws_sides.proofs.TextLemmas.{CanBeRead, body_said, ok_len, says_parts}
 
@@ -30,8 +30,8 @@ can_be_read side stands = record {
   body_fits = stands.short.doc;
 }
 
-pub stops_are_recorded : StopsAreRecorded
-stops_are_recorded side reply stands recorded =
+pub stops_are_stated : StopsAreStated
+stops_are_stated side reply stands recorded =
     let base = side.base in
     let doc = side.doc in
     let path = (targets_are_read base stands.valid.base).stops.path_is in

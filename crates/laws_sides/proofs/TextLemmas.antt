@@ -68,7 +68,7 @@ close_len false = omega arith
 
 -- ---- what can be read back
 
--- a URL can stand in a field, and is short
+-- a URL can be in a field, and is short
 pub record IsFieldUrl (url : List ℕ) : Type 0 where
   pub visible : AllPass is_uri_byte url
   pub short : length url ≤ 4_300

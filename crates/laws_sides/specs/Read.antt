@@ -13,24 +13,24 @@ use Rattle.page_json.specs.declared.page.Page.{Page}
 use Rattle.publisher_spec.specs.Response.{IsPageOf}
 use Rattle.publisher_spec.specs.Short.{StandsUnder}
 use Rattle.publisher_spec.specs.Side.{Side, has_version}
-use Rattle.laws_sides.specs.Recorded.{IsGatePage, IsRecordedTo}
+use Rattle.laws_sides.specs.Stated.{IsGatePage, IsStatedTo}
 
--- of the gate's reply the page for the moment at which the question leaves
+-- of the time gate's reply the page for the moment at which the question leaves
 abbrev pub GateIsRead : Type 0
 GateIsRead =
     (side : Side) (query : Query) (reply : List ℕ) (read : Result PageName PeerFault) → StandsUnder side.base side
-    → IsRecordedTo side (gate_target_of side.base query.leave) query.known reply → IsGateReply side.base query.leave reply read
+    → IsStatedTo side (gate_target_of side.base query.leave) query.known reply → IsGateReply side.base query.leave reply read
     → (name : PageName) × IsGatePage side query name × (read ≡ Ok name)
 
 -- the stops document
 abbrev pub StopsAreRead : Type 0
 StopsAreRead =
     (side : Side) (reply : List ℕ) (read : Result StopsDoc PeerFault) → StandsUnder side.base side
-    → IsRecordedTo side (stops_target_of side.base) None reply → IsStopsReply reply read → read ≡ Ok side.doc
+    → IsStatedTo side (stops_target_of side.base) None reply → IsStopsReply reply read → read ≡ Ok side.doc
 
 -- the page that is asked for by its name
 abbrev pub PageIsRead : Type 0
 PageIsRead =
     (side : Side) (page : Page) (reply : List ℕ) (read : Result Page PeerFault) → StandsUnder side.base side
     → has_version side page.name.version ≡ true → IsSoundName page.name → IsPageOf side page.name.version page.name.departs page
-    → IsRecordedTo side (page_target_of side.base page.name) None reply → IsPageReply side.base page.name reply read → read ≡ Ok page
+    → IsStatedTo side (page_target_of side.base page.name) None reply → IsPageReply side.base page.name reply read → read ≡ Ok page

@@ -1,4 +1,4 @@
-//! The program `lc`: it runs the command of its words over the system's files, its output and its sockets. It stands on `lc_cli`.
+//! The program `lc`: it runs the command of its arguments over the system's files, output and sockets. It builds on `lc_cli`.
 #![tactic(auto)]
 
 mod words;
@@ -13,7 +13,7 @@ fn main(rt: HostRuntime) -> ExitCode {
     ExitCode::from(code(&carried_out(&rt, &mut out)))
 }
 
-/// Carries out the command that the words of the command line say, and gives the status with which it ended.
+/// Carries out the command that the arguments of the command line say, and gives the status with which it ended.
 fn carried_out(rt: &HostRuntime, out: &mut StdSink<HostRuntime>) -> Status {
     let alloc = rt.alloc();
     let words = match words_of(rt) {

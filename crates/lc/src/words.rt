@@ -19,7 +19,7 @@ pub(crate) fn words_of(rt: &HostRuntime) -> Result<Vec<String>, Refusal>
     }
 }
 
-/// What words are refused for that cannot be read: no command has one that is not UTF-8.
+/// What arguments are refused for that cannot be read: no command has one that is not UTF-8.
 fn refusal_of(kind: ErrorKind) -> Refusal
     ensures no_memory { (result ≡ Load no_memory) ↔ (kind ≡ OutOfMemory) }
     ensures usage { (result ≡ Usage) ↔ (kind ≢ OutOfMemory) }

@@ -1,4 +1,4 @@
--- From what is read and asked to what a command comes to.
+-- From what is read and asked to what a command results in.
 use Rattle.std.proofs.Common.{◌≡◌, ◌∷◌, inr, ℕ, List, [], Option, Result, Ok, Err, IfErr, IfOk, subst, sym}
 use Rattle.cli_ask.specs.Asked.{IsAsked}
 use Rattle.cli_ask.specs.declared.end.ClientEnd.{ClientEnd}
@@ -33,7 +33,7 @@ ask_block_of ask old new before after made file inputs text end block is client 
   client = client;
 }
 
--- what is printed of a course
+-- the output of an event sequence that was played
 pub replay_block_of : (replay : Replay) (old new : FolderSeen) (before after : LinkSeen) (made : Timetable) (all : List Event) → ReadsReplay (replay_scope replay) replay.script old new made all
     → (text ends : _) (block : Block) → block.text ≡ text → block.ends ≡ ends → IsReplayed made replay.publishing all replay.cache before after text.items ends.items → IsReplayBlock replay old new before after block
 replay_block_of replay old new before after made all inputs text ends block text_is ends_is replayed = record {
@@ -58,7 +58,7 @@ pub refused_printed : (old new : FolderSeen) (command : Command) (block : Result
 refused_printed old new command (Ok block) result is work refused = subst (λ (r : Result Work Refusal). IfErr r (IsRefusedAs command old new)) (sym work) tt
 refused_printed old new command (Err refusal) result is work refused = subst (λ (r : Result Work Refusal). IfErr r (IsRefusedAs command old new)) (sym refused) is
 
--- what words that say a command result in
+-- what arguments that say a command result in
 pub said_works : (words : List (List ℕ)) (old new : FolderSeen) (before after : LinkSeen) (command : Command) (result : Result Work Refusal) → SaysCommand words command
     → IfOk result (ResultsIn command old new before after) → IfOk result (IsRightWork words old new before after)
 said_works words old new before after command (Ok (works.Print block)) says is = record { command = command; says = says; prints = is }

@@ -1,4 +1,4 @@
--- Why the recorded files refuse a course is one.
+-- The recorded files refuse an event sequence for one cause.
 use Rattle.std.proofs.Common.{◌≡◌, ◌∙◌, ◌⊎◌, ◌<◌, ◌+◌, ◌++◌, ◌∷◌, ℕ, true, inl, inr, List, [], None, Some, Option, Ok, Err, ap, arith, length, refl, subst, sym}
 use Rattle.cli_ask.specs.Admission.{IsIgnored}
 use Rattle.cli_ask.specs.Publishing.{store_of}
@@ -141,7 +141,7 @@ pub record StopsBehind (recorded : List File) (replay : Replay) (s : Status) : T
   loaded : HasLoaded recorded replay
   stops : StopsRecorded recorded has.script s
 
--- the recorded files refuse the course
+-- the recorded files refuse the event sequence
 abbrev pub IsCourseRefused : List File → Replay → Status → Type 0
 IsCourseRefused recorded replay s =
     ((bytes_named recorded replay.script ≡ None) × (s ≡ ScriptWrong 0)) ⊎ IsWrongRecorded recorded replay s ⊎ FailsRecorded recorded replay s ⊎ StopsBehind recorded replay s
@@ -218,7 +218,7 @@ module _ (recorded : List File) (replay : Replay) (old new : FolderSeen) (tells 
   fails (fault.Folder before after) of_files is status = absurd of_files
   fails fault.NoMemory of_files is status = absurd of_files
 
-  -- a course is refused by the recorded files, memory apart
+  -- an event sequence is refused by the recorded files, unless memory ran out
   pub course_refused : (refusal : Refusal) → IsReplayRefused (replay_scope replay) replay.script old new refusal → s ≡ status_of refusal → (s ≡ NoMemory) ⊎ IsCourseRefused recorded replay s
   course_refused refused.Usage is status = absurd is
   course_refused (refused.Load (fault.Broken rule file row)) is status = inr (fails (fault.Broken rule file row) tt is status)
@@ -251,7 +251,7 @@ module _ (recorded : List File) (replay : Replay) (old new : FolderSeen) (tells 
       (λ files. (stops.0, bytes_recorded recorded x.stops.at new name stops.0 files stops.2, (λ store. stops.3), (λ ignored. ignored))) status)
 
 module _ (one_outcome : OneOutcome) (one_end : OneEnd) (one_script : OneScript) (one_fault : OneFault) (never_both : NeverBoth) (recorded : List File) (replay : Replay) where
-  -- the recorded script is one, and not wrong
+  -- there is one recorded script, and it is not wrong
   same_script : (a b : HasRecordedScript recorded replay) → a.script ≡ b.script
   same_script a b = one_recorded_script one_script recorded replay.script true a.script b.script a.is_recorded b.is_recorded
 
@@ -323,7 +323,7 @@ module _ (one_outcome : OneOutcome) (one_end : OneEnd) (one_script : OneScript) 
       ∙ one_stop store x.name y.name x.cause y.cause x.is y.is x.before y.before x.said y.said x.behind y.behind x.done y.done 0 x.names y.names x.are y.are (sym x.parts ∙ same ∙ y.parts)
       ∙ sym (ap (λ (n : ℕ). status_by n y.name y.cause) (from_none (length y.before + 1))) ∙ sym y.status_is
 
-  -- the recorded files refuse a course with one status
+  -- the recorded files refuse an event sequence with one status
   pub one_course_refusal : (s t : Status) → IsCourseRefused recorded replay s → IsCourseRefused recorded replay t → s ≡ t
   one_course_refusal s t (inl x) (inl y) = x.1 ∙ sym y.1
   one_course_refusal s t (inl x) (inr (inl y)) = let e = sym x.0 ∙ y.is_recorded in absurd (cc)

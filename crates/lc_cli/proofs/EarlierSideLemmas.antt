@@ -79,7 +79,7 @@ more_since one_outcome client (events.Turn own ∷ all) old mid new front lines 
       by true first later = subst (λ (store : Stored). HasMore store new) (sym first.0) (more_heard all old new lines heard)
       by false rest later = later rest
 
--- the moments of the versions rise
+-- the moments of the versions increase
 abbrev pub Rises : Stored → Type 0
 Rises store = IsRising store.base (moments_of store.history)
 

@@ -91,14 +91,14 @@ has_answered side s given outcome found ended = by found.answer (subst (λ (o : 
   by (answers.Journey journey) is = is
   by answers.NoJourney is = is
 
--- and exactly what it was given was asked for
+-- the client asked for exactly what it received
 all_asked : (side : Side) (query : Query) (given asked : List Want) (outcome : Outcome) → HasAnswer outcome → AsksFor side query given asked outcome → asked ≡ given
 all_asked side query given asked outcome found asks = by found.answer (subst (AsksFor side query given asked) found.is asks) where
   by : (answer : Answer) → AsksFor side query given asked (outcome_of answer) → asked ≡ given
   by (answers.Journey journey) is = is
   by answers.NoJourney is = is
 
--- the gate, the stops document and the pages
+-- the time gate, the stops document and the pages
 count_wants : (names : List PageName) → length (wants_of names) ≡ 2 + length names
 count_wants names = let pages : length (map wants.Page names) ≡ length names = length-map names wants.Page in omega (arith, pages)
 

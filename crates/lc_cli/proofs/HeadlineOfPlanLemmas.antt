@@ -13,7 +13,7 @@ use Rattle.laws_convoys.specs.Names.{Round}
 use Rattle.laws_plan.specs.Planned.{EndsAt}
 use Rattle.laws_plan.specs.Sides.{version_after, version_with}
 use Rattle.laws_replay.specs.Turns.{given_in}
-use Rattle.laws_sides.specs.Recorded.{version_at}
+use Rattle.laws_sides.specs.Stated.{version_at}
 use Rattle.lc_io.specs.declared.file.File.{File}
 use Rattle.lc_model.specs.declared.query.Query.{Query}
 use Rattle.lc_world.specs.Link.{IsHonestWith, LinkSeen}

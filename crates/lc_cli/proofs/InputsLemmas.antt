@@ -9,7 +9,7 @@ use Rattle.timetable.specs.declared.timetable.Timetable.{Timetable}
 use Rattle.lc_cli.specs.Clear.{IsRecordedFile}
 use Rattle.cli_inputs.specs.Inputs.{ReadsFile, ReadsInputs, ReadsUpdate}
 
--- a folder that tells files tells them still once the timetable is loaded
+-- a directory that records files still records them once the timetable is loaded
 pub still_recorded : (recorded : List File) (old new : FolderSeen) → old.files ≡ Some recorded → Keeps old new → new.files ≡ Some recorded
 still_recorded recorded old new tells kept = kept.files ∙ tells
 

@@ -1,4 +1,4 @@
--- Two runs that play one course over the same files print one output.
+-- Two runs that play one event sequence over the same files print one output.
 use Rattle.std.proofs.Common.{◌≡◌, ◌∙◌, ◌+◌, ◌++◌, ◌∷◌, ℕ, Bool, true, List, [], Some, ap, arith, length, refl, subst, sym}
 use Rattle.std.proofs.Props.{props}
 use Rattle.std.proofs.lemmas.List.Elements.{All-cons, All-nil}
@@ -79,7 +79,7 @@ one_list_of_events recorded (said ∷ script) (first ∷ a) (second ∷ b) x y =
     let rest = one_list_of_events recorded script a b x.1 y.1 in
     ap (λ (e : Event). let l : List Event = e ∷ a in l) (one_event recorded said first second x.0 y.0) ∙ ap (λ (l : List Event). second ∷ l) rest
 
--- recorded files say one script under a name, and so one course
+-- recorded files say one script under a name, and by it one event sequence
 pub one_recorded_script : OneScript → (recorded : List File) (name : List ℕ) (updates : Bool) (a b : List Record) → IsRecordedScript recorded name updates a
     → IsRecordedScript recorded name updates b → a ≡ b
 one_recorded_script one_script recorded name updates a b x y =
@@ -92,7 +92,7 @@ one_recorded_course one_script recorded replay made other all others x y =
     one_list_of_events recorded y.script all others
     (subst (λ (script : List Record). AreRecordedEvents recorded script all) (one_recorded_script one_script recorded replay.script true x.script y.script x.is_recorded y.is_recorded) x.are) y.are
 
--- the turns of a recorded course are of clients, as those of its script are
+-- the turns of a recorded event sequence are of clients, as those of its script are
 pub turn_at : (updates : Bool) (recorded : List File) (clients : ℕ) (rows : List (List (List ℕ))) (script : List Record) (before behind : List Event) (client : ℕ) → SayRecords updates clients rows script
     → AreRecordedEvents recorded script (before ++ events.Turn client ∷ behind) → IsClient (clients + length (questions_in before)) client
 turn_at updates recorded clients rows [] [] behind client say are = absurd are
@@ -136,7 +136,7 @@ no_link_faults (end ∷ more) fine =
     All-cons (λ (end : ClientEnd). IsNoLinkFault end.outcome) end more (no_link_fault end.outcome fine.0) (no_link_faults more fine.1)
 
 module _ (loads_recorded : LoadsRecorded) (one_timetable : OneTimetable) (one_script : OneScript) (one_course : OneCourse) where
-  -- over a fair link a course is played rightly to its end
+  -- over a fair link an event sequence is played rightly to its end
   played_out : (recorded : List File) (replay : Replay) (old new : FolderSeen) (before after : LinkSeen) (block : Block) (x : IsReplayBlock replay old new before after block) → old.files ≡ Some recorded
       → HasFairCourse recorded replay before.clear before.faults after.faults → IsPlayedOut x.made replay.publishing x.all replay.cache x.replayed.lines block.ends.items
   played_out recorded replay old new before after block x tells fair = record {
@@ -150,7 +150,7 @@ module _ (loads_recorded : LoadsRecorded) (one_timetable : OneTimetable) (one_sc
     no_fault = no_link_faults block.ends.items (course_fine loads_recorded recorded replay old new before after block x tells fair);
   }
 
-  -- what is printed of one course over the same files is one
+  -- the output of one event sequence over the same files is one
   pub one_replay : (recorded : List File) (replay : Replay) (old new other later : FolderSeen) (before after from to : LinkSeen) (x y : Block) → IsReplayBlock replay old new before after x
       → IsReplayBlock replay other later from to y → old.files ≡ Some recorded → other.files ≡ Some recorded → HasFairCourse recorded replay before.clear before.faults after.faults
       → HasFairCourse recorded replay from.clear from.faults to.faults → PrintOneCourse x y

@@ -89,7 +89,7 @@ module _ {X Y : Type 0} (seen : X → LinkSeen) (saw : Y → LinkSeen) (one_time
       (subst (λ f. IsAsked b.made ask.publishing f ask.query (saw from) (saw to) y.text.items b.end) file b.asked)
 
   module _ (one_command : OneCommand) (one_script : OneScript) (one_course : OneCourse) where
-    -- runs over these words and files that print something print one output
+    -- runs over these arguments and files that print something print one output
     pub one_run : OneRun seen saw
     one_run p q recorded words home at to s t x y = by x.right.command x.right.says x.right.prints other where
       same : y.right.command ≡ x.right.command

@@ -58,7 +58,7 @@ record Whole {X : Type 0} (seen : X → LinkSeen) (p : Past X) (s : Status) : Ty
   right : IsRightBlock p.words p.folder_before p.folder_after (seen p.link_before) (seen p.link_after) block
   status_is : s ≡ client_status_of 1 block.ends.items
 
--- the words say no command
+-- the arguments say no command
 record NoCommand {X : Type 0} (p : Past X) (s : Status) : Type 0 where
   says_none : (command : Command) → SaysCommand p.words command → ⊥
   status_is : s ≡ Usage
@@ -85,7 +85,7 @@ record UpdateFails {X : Type 0} (scope : Scope) (update : Option (List ℕ)) (re
 abbrev Fails : {X : Type 0} → Scope → Option (List ℕ) → List File → Past X → Status → Type 0
 Fails scope update recorded p s = LoadFails scope p s ⊎ UpdateFails scope update recorded p s
 
--- what the files refuse: the feed or the message of a command, or its course
+-- what the files refuse: the feed or the message of a command, or its event sequence
 abbrev IsRefusedSo : {X : Type 0} → List File → Past X → Status → Command → Type 0
 IsRefusedSo recorded p s (commands.Check check) = Fails (check_scope check) None recorded p s
 IsRefusedSo recorded p s (commands.Ask ask) = Fails (ask_scope ask) ask.update recorded p s
@@ -216,7 +216,7 @@ module _ {X Y : Type 0} (seen : X → LinkSeen) (saw : Y → LinkSeen) (one_comm
     loads : Loads scope r.folder_before between made
     heard : IsHeardBy recorded update
 
-  -- a course that was played over the recorded files
+  -- an event sequence that was played over the recorded files
   record PlayedRecorded (replay : Replay) : Type 0 where
     made : Timetable
     all : List Event

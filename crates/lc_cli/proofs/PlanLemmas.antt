@@ -1,4 +1,4 @@
--- What `plan` reads and comes to over recorded files that nothing hinders.
+-- What `plan` reads and results in over recorded files that nothing hinders.
 use Rattle.std.proofs.Common.{◌≡◌, ◌∙◌, ◌⊎◌, ℕ, false, inl, inr, List, Some, refl, subst, sym}
 use Rattle.cli_inputs.specs.Plan.{ReadsPlan}
 use Rattle.cli_inputs.specs.Script.{IsScriptRefused}

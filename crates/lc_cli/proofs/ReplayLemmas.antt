@@ -1,4 +1,4 @@
--- What a course comes to over recorded files that nothing hinders.
+-- What an event sequence results in over recorded files that nothing hinders.
 use Rattle.std.proofs.Common.{◌≡◌, ◌∙◌, ◌⊎◌, ◌<◌, ◌++◌, ◌∷◌, ℕ, zero, suc, true, inl, inr, List, [], Some, Option, arith, length, refl, subst, sym}
 use Rattle.std.specs.List.{slice_get}
 use Rattle.cli_ask.specs.Client.{shown_of}
@@ -63,7 +63,7 @@ recorded_events recorded (said ∷ script) old new (event ∷ all) tells (betwee
     let first = recorded_event recorded said old between event tells is in
     (first.0, recorded_events recorded script between new all first.1 more)
 
--- each record of a recorded course is an event
+-- each record of a recorded event sequence is an event
 pub recorded_at : (recorded : List File) (before behind : List Record) (said : Record) (all : List Event) → AreRecordedEvents recorded (before ++ said ∷ behind) all → (event : Event) × IsRecordedEvent recorded said event
 recorded_at recorded [] behind said [] are = absurd are
 recorded_at recorded [] behind said (event ∷ all) are = (event, are.0)
@@ -102,7 +102,7 @@ no_fault_of side given query end base before after version made (outcomes.LinkFa
 no_fault_of side given query end base before after version made (outcomes.PeerWrong reply found) ends ended no_fault = absurd ended
 
 module _ (loads_recorded : LoadsRecorded) where
-  -- the course that was played is the one of the recorded files
+  -- the event sequence that was played is the one of the recorded files
   pub course_recorded : (recorded : List File) (replay : Replay) (old new : FolderSeen) (made : Timetable) (all : List Event) → old.files ≡ Some recorded
       → ReadsReplay (replay_scope replay) replay.script old new made all → IsRecordedCourse recorded replay made all
   course_recorded recorded replay old new made all tells read =
@@ -131,7 +131,7 @@ module _ (one_script : OneScript) (never_both : NeverBoth) (not_broken : NotBrok
   same_script : (bytes : List ℕ) → bytes_named recorded replay.script ≡ Some bytes → bytes ≡ course.is_recorded.bytes
   same_script bytes is = let e : Some bytes ≡ Some course.is_recorded.bytes = sym is ∙ course.is_recorded.is_recorded in cc
 
-  -- the record at which the reading stopped is one of the recorded course
+  -- the record at which the reading stopped is one of the recorded event sequence
   stopped_at : (refusal : Refusal) (x : StopsAtRecord (replay_scope replay) replay.script old new refusal) → (event : Event) × IsRecordedEvent recorded x.stops.said event
   stopped_at refusal x =
       let read = x.has.script.read in
@@ -139,7 +139,7 @@ module _ (one_script : OneScript) (never_both : NeverBoth) (not_broken : NotBrok
       let same : x.has.script.script ≡ course.script = one_script course.is_recorded.bytes true x.has.script.script course.script (subst (λ b. SaysScript b true x.has.script.script) bytes read.says) course.is_recorded.says in
       recorded_at recorded x.stops.before x.stops.behind x.stops.said all (subst (λ s. AreRecordedEvents recorded s all) (sym same ∙ x.stops.parts) course.are)
 
-  -- and the folder tells the same files there
+  -- the directory records these files there, too
   files_at : (refusal : Refusal) (x : StopsAtRecord (replay_scope replay) replay.script old new refusal) → x.stops.at.files ≡ Some recorded
   files_at refusal x =
       still_recorded recorded x.between x.stops.at (still_recorded recorded x.has.between x.between (still_recorded recorded old x.has.between tells x.has.script.kept) x.has.kept) x.stops.kept
@@ -160,7 +160,7 @@ module _ (one_script : OneScript) (never_both : NeverBoth) (not_broken : NotBrok
   not_broken_message : (message : Message) (bytes : List ℕ) (found : RtFault) → message.file.bytes ≡ bytes → fault_of bytes ≡ Some found → ⊥
   not_broken_message message bytes found is wrong = let whole = message.whole in let e : fault_of message.file.bytes ≡ Some found = subst (λ b. fault_of b ≡ Some found) (sym is) wrong in absurd (cc)
 
-  -- a course of recorded files is refused for no cause but memory
+  -- an event sequence of recorded files is refused for no cause but memory
   pub never_refused : (refusal : Refusal) → IsReplayRefused (replay_scope replay) replay.script old new refusal → (status_of refusal ≡ NoMemory) ⊎ ⊥
   never_refused refused.Usage is = inr is
   never_refused (refused.Load (fault.Broken rule file row)) is =

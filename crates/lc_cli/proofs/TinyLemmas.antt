@@ -253,11 +253,11 @@ the_worked = (rides_make to_b (to_d_at (moment 8 31) ∷ []) None None).0
 the_worked_answers : IsAnswer (IsRideAt runs) from_a_to_d doc (answers.Journey the_worked)
 the_worked_answers = best the_worked (rides_make to_b (to_d_at (moment 8 31) ∷ []) None None).1
 
--- one run stands before another
+-- one run is before another by its key
 abbrev KeyBefore : Run → Run → Type 0
 KeyBefore a b = on (λ (r : Run). r.key) key_cmp a b ≡ Less
 
--- the runs stand by their trips
+-- the runs are in the order of their trips
 in_order : InKeyOrder runs
 in_order =
     AllPairs-cons KeyBefore (run_at 0) (drop 1 runs) (All-cons (KeyBefore (run_at 0)) (run_at 1) (drop 2 runs) refl
@@ -288,7 +288,7 @@ all_on_time =
       two from first arr dep to second last a d l =
           All-cons IsOnTime (call from first arr dep) (call to second last last ∷ []) (on_time from first arr dep a d) (All-cons IsOnTime (call to second last last) [] (on_time to second last last l l) (All-nil IsOnTime))
 
--- so are the runs
+-- the runs are on time
 runs_on_time : All RunsOnTime runs
 runs_on_time place run inside = record { forward = forward place run inside; on_time = all_on_time place run inside }
 

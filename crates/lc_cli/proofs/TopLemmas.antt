@@ -45,7 +45,7 @@ use Rattle.lc_cli.specs.declared.status.Status.{Status}
 use Rattle.lc_cli.specs.declared.status.Status.TheVariants.{Usage, NoMemory}
 use Rattle.lc_cli.proofs.InputsLemmas.{absent_recorded, bytes_recorded, inputs_recorded, still_recorded}
 
--- every other status has a command that the words say
+-- every other status has a command that the arguments say
 pub usage_only : {X : Type 0} (seen : X → LinkSeen) (p : Past X) (status : Status) → IsRight seen p status → ((command : Command) → SaysCommand p.words command → ⊥) → (status ≡ Usage) ⊎ (status ≡ NoMemory)
 usage_only seen p status (inl printed) none = absurd (none printed.right.command printed.right.says)
 usage_only seen p status (inr (inr served)) none = absurd (none (commands.Serve served.right.serve) served.right.says)
@@ -70,7 +70,7 @@ IsNoFault (outcomes.Refused fault) = Unit {0}
 IsNoFault (outcomes.LinkFault before after) = ⊥
 IsNoFault (outcomes.PeerWrong reply fault) = ⊥
 
--- the same of each client
+-- no client ended with a fault
 abbrev pub AreNoFaults : List ClientEnd → Type 0
 AreNoFaults [] = Unit {0}
 AreNoFaults (end ∷ more) = IsNoFault end.outcome × AreNoFaults more
@@ -130,7 +130,7 @@ side_served loads_recorded recorded serve old new server tells x = record {
   is = refl;
 }
 
--- The file of the message is recorded, if there is a name, and this store is behind it.
+-- The file of the message is recorded, if there is a name, and a store took it, with this store as the result.
 pub record IsHeardBy (recorded : List File) (update : Option (List ℕ)) : Type 0 where
   pub file : Option File
   pub is_recorded : IsRecordedFile recorded update file

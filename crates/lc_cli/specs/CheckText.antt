@@ -6,8 +6,8 @@ use Rattle.timetable.specs.declared.timetable.Timetable.{Timetable}
 abbrev pub count_line_of : List ℕ → ℕ → List ℕ
 count_line_of name count = name ++ codes " " ++ decimal count ++ codes "\n"
 
--- How many stops and trips the feed has, how many of the trips are left out, and how many runs, connections and changes its
--- timetable has; and that no rule is broken.
+-- How many stops and trips the feed has, and how many of the trips are left out. How many runs, connections and changes its
+-- timetable has, and that no rule is broken.
 abbrev pub check_text_of : Timetable → List ℕ
 check_text_of made =
     count_line_of (codes "stops") (length made.doc.stops) ++ count_line_of (codes "trips") (made.trips + made.left_out)

@@ -1,4 +1,4 @@
--- When nothing but memory keeps the output from being printed, and it is one.
+-- When nothing but memory keeps the output from being printed, and that there is one such output.
 use Rattle.std.specs.Prelude.{◌≡◌, ℕ, Bool, false, true, List, [], ◌∷◌, Option, Some, None}
 use Rattle.cli_ask.specs.Admission.{IsBehind}
 use Rattle.cli_ask.specs.Publishing.{side_for, side_with, store_of}
@@ -38,8 +38,8 @@ IsRecordedFile recorded None (Some file) = ⊥
 IsRecordedFile recorded (Some name) None = ⊥
 IsRecordedFile recorded (Some name) (Some file) = (file.name ≡ name) × (bytes_named recorded name ≡ Some file.bytes)
 
--- by the files that are recorded, this is the side of the publisher that the question is put to: that of the feed's timetable with the
--- message, if there is one, which is a message that is not too long
+-- By the recorded files, this is the side of the publisher that is asked: that of the feed's timetable. It has the
+-- message, if there is one, which is a message that is not too long.
 pub record IsAskedSide (recorded : List File) (ask : Ask) (side : Side) : Type 0 where
   pub made : Timetable
   pub sound : IsSound recorded (ask_scope ask) made
@@ -50,7 +50,7 @@ pub record IsAskedSide (recorded : List File) (ask : Ask) (side : Side) : Type 0
   pub behind : IsBehind file (store_of made ask.publishing.base_moment) store line
   pub is : side ≡ side_with made ask.publishing store
 
--- By the files that are recorded, this is the side of the publisher that is served first: that of the feed's timetable with the message, if
+-- By the recorded files, this is the side of the publisher that is served first: that of the feed's timetable. It has the message, if
 -- there is one, which is a message that is not too long. It takes messages where the arguments say so.
 pub record IsServedSide (recorded : List File) (serve : Serve) (side : Side) : Type 0 where
   pub made : Timetable
@@ -67,7 +67,7 @@ pub record HasClearLink (clear : Type 0) (before after : ℕ) : Type 0 where
   pub was_clear : clear
   pub no_fault : Rose before after → ⊥
 
--- what a question needs of its link: it was clear and did not fail, and the texts of the publisher that is asked fit into replies
+-- what a question needs of its link: it was clear and did not fail, and the texts of the asked publisher fit into replies
 pub record HasFairLink (recorded : List File) (ask : Ask) (clear : Type 0) (before after : ℕ) : Type 0 where
   pub link : HasClearLink clear before after
   pub short : (side : Side) → IsAskedSide recorded ask side → IsShort side
@@ -97,7 +97,7 @@ AreRecordedEvents recorded [] (event ∷ all) = ⊥
 AreRecordedEvents recorded (said ∷ script) [] = ⊥
 AreRecordedEvents recorded (said ∷ script) (event ∷ more) = IsRecordedEvent recorded said event × AreRecordedEvents recorded script more
 
--- by the files that are recorded, these are the timetable and the course of a replay
+-- by the files that are recorded, these are the timetable and the event sequence of a replay
 pub record IsRecordedCourse (recorded : List File) (replay : Replay) (made : Timetable) (all : List Event) : Type 0 where
   pub sound : IsSound recorded (replay_scope replay) made
   pub script : List Record
@@ -110,7 +110,7 @@ pub record AreRecordedAsks (recorded : List File) (name : List ℕ) (all : List 
   pub is_recorded : IsRecordedScript recorded name false script
   pub say : SayEvents script all
 
--- what a course needs of its link: it was clear and did not fail, and the texts of the publisher fit into replies, whatever it has heard
+-- What an event sequence needs of its link: it was clear and did not fail. The publisher's texts fit into replies, whatever it has heard.
 pub record HasFairCourse (recorded : List File) (replay : Replay) (clear : Type 0) (before after : ℕ) : Type 0 where
   pub link : HasClearLink clear before after
   pub short : (made : Timetable) (all : List Event) → IsRecordedCourse recorded replay made all → AreShort made replay.publishing all
@@ -121,7 +121,7 @@ pub record HasHonestLink (plan : Plan) (before after : LinkSeen) : Type 0 where
   pub was_honest : IsHonestWith before plan.base first
   pub no_fault : Rose before.faults after.faults → ⊥
 
--- The folder tells these files, neither its count of faults rose nor those of the door and the sink, and clients had a fair link.
+-- The directory records these files. No count of faults increased: the directory's, the door's and the sink's. Clients had a fair link.
 pub record IsUnhindered {X : Type 0} (seen : X → LinkSeen) (p : Past X) (recorded : List File) : Type 0 where
   pub tells : p.folder_before.files ≡ Some recorded
   pub no_folder_fault : Rose p.folder_before.faults p.folder_after.faults → ⊥
@@ -145,8 +145,8 @@ IsFed recorded (commands.Replay replay) = HasTimetable recorded (replay_scope re
 IsFed recorded (commands.Serve serve) = HasTimetable recorded (serve_scope serve)
 IsFed recorded (commands.Plan plan) = Unit {0}
 
--- The message of a question or of a server, if it has one, is a message, so that there is a publisher to ask or to serve. So are the messages
--- of a course, and its script is one, as are the questions and turns of `plan`.
+-- The message of a question or of a server, if it has one, reads as a message. There is a publisher to ask or to serve. The messages
+-- of an event sequence do too. Its script reads as a script, and the questions and turns of `plan` as such.
 abbrev pub IsHeard : List File → Command → Type 0
 IsHeard recorded (commands.Check check) = Unit {0}
 IsHeard recorded (commands.Ask ask) = (side : Side) × IsAskedSide recorded ask side
@@ -154,7 +154,7 @@ IsHeard recorded (commands.Replay replay) = (made : Timetable) × (all : List Ev
 IsHeard recorded (commands.Serve serve) = (side : Side) × IsServedSide recorded serve side
 IsHeard recorded (commands.Plan plan) = (all : List Event) × AreRecordedAsks recorded plan.asks all
 
--- The words say a command, nothing hinders it, and by the files that are recorded no rule and no limit refuses what it reads.
+-- The arguments say a command, nothing hinders it, and by the recorded files no rule and no limit refuses what it reads.
 pub record IsClear {X : Type 0} (seen : X → LinkSeen) (p : Past X) : Type 0 where
   pub command : Command
   pub says : SaysCommand p.words command

@@ -55,7 +55,7 @@ pub record IsCheckBlock (check : Check) (old new : FolderSeen) (block : Block) :
   pub text : block.text.items ≡ check_text_of made
   pub no_client : block.ends.items ≡ []
 
--- A publisher of the timetable was given the message and was asked the question, over the link. What is printed are the line of
+-- A publisher of the timetable received the message, and a client asked it the question over the link. The block has the line of
 -- the message and those of the client.
 pub record IsAskBlock (ask : Ask) (old new : FolderSeen) (before after : LinkSeen) (block : Block) : Type 0 where
   pub made : Timetable
@@ -65,8 +65,8 @@ pub record IsAskBlock (ask : Ask) (old new : FolderSeen) (before after : LinkSee
   pub asked : IsAsked made ask.publishing file ask.query before after block.text.items end
   pub client : block.ends.items ≡ end ∷ []
 
--- A publisher of the timetable was recorded the messages of the script, and was asked its questions, over the link. What is printed are the lines of
--- the messages and those of the clients.
+-- A publisher of the timetable received the messages of the script, and clients asked it their questions over the link. The block has the
+-- lines of the messages and those of the clients.
 pub record IsReplayBlock (replay : Replay) (old new : FolderSeen) (before after : LinkSeen) (block : Block) : Type 0 where
   pub made : Timetable
   pub all : List Event
@@ -87,7 +87,7 @@ Prints (commands.Replay replay) old new before after block = IsReplayBlock repla
 Prints (commands.Serve serve) old new before after block = ⊥
 Prints (commands.Plan plan) old new before after block = IsPlanBlock plan old new before after block
 
--- the words say a command, and the block is what it prints
+-- the arguments say a command, and the block is what it prints
 pub record IsRightBlock (words : List (List ℕ)) (old new : FolderSeen) (before after : LinkSeen) (block : Block) : Type 0 where
   pub command : Command
   pub says : SaysCommand words command
@@ -116,13 +116,13 @@ abbrev pub ResultsIn : Command → FolderSeen → FolderSeen → LinkSeen → Li
 ResultsIn command old new before after (works.Print block) = Prints command old new before after block
 ResultsIn command old new before after (works.Serve server) = Serves command old new server
 
--- the words say `serve`, and this is what serves it
+-- the arguments say `serve`, and this is what serves it
 pub record IsRightServer (words : List (List ℕ)) (old new : FolderSeen) (server : Server) : Type 0 where
   pub serve : Serve
   pub says : SaysCommand words (commands.Serve serve)
   pub is : IsServer serve old new server
 
--- what the command of the words results in
+-- what the command of the arguments results in
 abbrev pub IsRightWork : List (List ℕ) → FolderSeen → FolderSeen → LinkSeen → LinkSeen → Work → Type 0
 IsRightWork words old new before after (works.Print block) = IsRightBlock words old new before after block
 IsRightWork words old new before after (works.Serve server) = IsRightServer words old new server
@@ -135,13 +135,13 @@ IsRefusedAs (commands.Replay replay) old new refusal = IsReplayRefused (replay_s
 IsRefusedAs (commands.Serve serve) old new refusal = IsRefusedFor (serve_scope serve) serve.update old new refusal
 IsRefusedAs (commands.Plan plan) old new refusal = IsScriptRefused false plan.asks old new refusal
 
--- the words say a command, which is refused for this
+-- the arguments say a command, which is refused for this
 pub record IsRefusedCommand (words : List (List ℕ)) (old new : FolderSeen) (refusal : Refusal) : Type 0 where
   pub command : Command
   pub says : SaysCommand words command
   pub refused : IsRefusedAs command old new refusal
 
--- the words say no command, and the folder was asked for nothing
+-- the arguments say no command, and the directory was asked for nothing
 pub record IsUsage (words : List (List ℕ)) (old new : FolderSeen) (refusal : Refusal) : Type 0 where
   pub is : refusal ≡ Usage
   pub says_none : (command : Command) → SaysCommand words command → ⊥

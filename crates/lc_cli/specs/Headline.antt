@@ -128,8 +128,8 @@ pub record IsGateSide (rounds : List Round) (sides : List Side) (side : Side) : 
   pub gate : round.given ≡ wants.Gate ∷ more
   pub side_is : slice_get sides turn ≡ Some side
 
--- The client had these turns, at these sides. By the last side, it ended with a best journey at the version that its question means at the side of
--- its own time gate exchange, or with none where none exists.
+-- The client had these turns, at these sides. By the last side, it ended with a best journey at the version that its question means,
+-- or with none where none exists. The version is meant at the side of its own time gate exchange.
 pub record EndsBestAt (rounds : List Round) (sides : List Side) (last : Side) (query : Query) (end : ClientEnd) : Type 0 where
   pub side : Side
   pub is_gate_side : IsGateSide rounds sides side
@@ -151,7 +151,7 @@ pub record PlannedEachBest {X : Type 0} (seen : X → LinkSeen) (p : Past X) (pl
       → EndsBestAt (rounds_of (place + 1) (order_of all) planned.rounds) (sides_of (place + 1) (order_of all) planned.sides) planned.last query end
   pub wrote : Wrote p.sink_before p.sink_after (clients_text_of 1 ends)
 
--- Over recorded files and a link that is honest under the base, also one whose side grows, status Done of `plan` means that it wrote a best
+-- Over recorded files and an honest link, also one whose side grows, status Done of `plan` means this. It wrote a best
 -- journey for each client that asked, or that none exists.
 abbrev pub HeadlineOfPlan : {X : Type 0} → (X → LinkSeen) → Type 0
 HeadlineOfPlan {X} seen =

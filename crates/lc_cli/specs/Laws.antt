@@ -15,7 +15,7 @@ use Rattle.lc_cli.specs.declared.block.Block.{Block}
 use Rattle.lc_cli.specs.declared.status.Status.{Status}
 use Rattle.lc_cli.specs.declared.status.Status.TheVariants.{Done, NoMemory}
 
--- the outputs of two plays of a course are one: the same lines of the messages, and those of as many clients whose ends are one
+-- The outputs of two plays of an event sequence are one. They have equal lines of messages, and lines of as many clients whose ends are one.
 pub record PrintOneCourse (x y : Block) : Type 0 where
   pub lines : List ℕ
   pub first_is : x.text.items ≡ lines ++ clients_text_of 1 x.ends.items
@@ -30,7 +30,7 @@ IsInProcess (commands.Replay replay) = Unit {0}
 IsInProcess (commands.Serve serve) = ⊥
 IsInProcess (commands.Plan plan) = ⊥
 
--- the words say no other command
+-- the arguments say no other command
 abbrev pub AreInProcess : List (List ℕ) → Type 0
 AreInProcess words = (command : Command) → SaysCommand words command → IsInProcess command
 
@@ -46,14 +46,14 @@ PrintOne (commands.Ask ask) x y = (first : ClientEnd) × (second : ClientEnd) ×
 abbrev pub DoneIsPrinted : {X : Type 0} → (X → LinkSeen) → Type 0
 DoneIsPrinted {X} seen = (p : Past X) → IsRight seen p Done → HasPrinted seen p Done ⊎ HasServed p Done
 
--- Runs of the same words over the same files, which nothing hindered, print one output where they have one to print and ask an in-process
+-- Runs of equal arguments over equal files, which nothing hindered, print one output where they have one to print. They ask an in-process
 -- publisher. X and Y are the types of their links, and `seen` and `saw` what is promised of these.
 abbrev pub OneRun : {X Y : Type 0} → (X → LinkSeen) → (Y → LinkSeen) → Type 0
 OneRun {X} {Y} seen saw =
     (p : Past X) (q : Past Y) (recorded : List File) → p.words ≡ q.words → AreInProcess p.words → IsUnhindered seen p recorded → IsUnhindered saw q recorded
     → (s t : Status) (x : HasPrinted seen p s) (y : HasPrinted saw q t) → PrintOne x.right.command x.block y.block
 
--- Runs of the same words over the same files, which nothing hindered, end with one status, memory apart: each status comes exactly where it has
+-- Runs of equal arguments over equal files, which nothing hindered, end with one status, memory apart. Each status comes exactly where it has
 -- its cause.
 abbrev pub OneStatus : {X Y : Type 0} → (X → LinkSeen) → (Y → LinkSeen) → Type 0
 OneStatus {X} {Y} seen saw =

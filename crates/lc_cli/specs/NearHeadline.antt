@@ -38,7 +38,7 @@ EndAtOneVersion query =
 abbrev pub within : ℕ → Query
 within seconds = record from_a_to_d { horizon = seconds }
 
--- the same question of one who knows what was known at this moment
+-- the question to D, asked by one who knows what was known at this moment
 abbrev pub knowing : ℕ → Query
 knowing moment = record from_a_to_d { known = Some moment }
 

@@ -1,4 +1,4 @@
--- How a client of `plan` ends best by publishers of the small feed's timetable, and how it does not: statements near the headline of `plan` are
+-- How a client of `plan` ends best by publishers of the small feed's timetable, and how it does not. Statements near the headline of `plan` are
 -- not the headline.
 use Rattle.std.specs.Prelude.{◌≡◌, ◌≢◌, ℕ, List, ◌∷◌}
 use Rattle.std.specs.List.{All}

@@ -1,4 +1,4 @@
--- That two runs of `plan` print one output: over quiet links with one side, and over links whose sides grow, where the time gates named the same versions.
+-- That two runs of `plan` print one output. The links are quiet with one side, or their sides grow and the time gates named the same versions.
 use Rattle.std.specs.Prelude.{◌≡◌, List, Some}
 use Rattle.std.specs.List.{AllZip}
 use Rattle.cli_ask.specs.Laws.{AreOneEnd}

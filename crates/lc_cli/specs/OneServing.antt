@@ -27,8 +27,8 @@ BeginsFromIt {X} seen =
     (p : Past X) (recorded : List File) (status : Status) → p.folder_before.files ≡ Some recorded → (x : HasServed p status)
     → IsServedSide recorded x.right.serve (asked_of x.server).first
 
--- Runs of `serve` with the same words over the same files, which are done, are alike where the same bytes waited at their doors and no read or
--- write failed: they sent the same on each connection, and wrote one text. X and Y are the types of their links.
+-- Runs of `serve` with equal arguments over equal files, which are done, are alike where equal bytes waited at their doors and no read or
+-- write failed. They sent the same on each connection, and wrote one text. X and Y are the types of their links.
 abbrev pub OneServing : {X Y : Type 0} → (X → LinkSeen) → (Y → LinkSeen) → Type 0
 OneServing {X} {Y} seen saw =
     (p : Past X) (q : Past Y) (recorded : List File) (had has held holds : DoorRecorded) → p.words ≡ q.words

@@ -20,7 +20,7 @@ abbrev pub AnswersTiny : Publishing → ℕ → Query → Answer → Type 0
 AnswersTiny publishing version query answer =
     (made : Timetable) × IsTiny made × AnswersAt (side_with made publishing (store_of made publishing.base_moment)) version query answer
 
--- the same however it is published, at every version
+-- this is the answer however the small feed is published, at every version
 abbrev pub AnswersAlways : Query → Answer → Type 0
 AnswersAlways query answer = (publishing : Publishing) (version : ℕ) → AnswersTiny publishing version query answer
 
@@ -61,11 +61,11 @@ to_d_later = ride_of (codes "T2") (codes "B") (moment 8 20) (codes "D") (moment 
 abbrev pub worked : List Ride
 worked = to_b ∷ to_d_at (moment 8 31) ∷ []
 
--- the same, said to arrive one second later
+-- the worked journey, said to arrive one second later
 abbrev pub a_second_late : List Ride
 a_second_late = to_b ∷ to_d_at (moment 8 31 + 1) ∷ []
 
--- the same rides the other way round
+-- the rides of the worked journey, the other way round
 abbrev pub swapped : List Ride
 swapped = to_d_at (moment 8 31) ∷ to_b ∷ []
 

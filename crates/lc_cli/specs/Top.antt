@@ -1,4 +1,4 @@
--- What a run comes to: its status, with the cause, and what it leaves in the sink.
+-- What a run results in: its status, with the cause, and what it leaves in the sink.
 use Rattle.std.specs.Prelude.{◌≡◌, ◌⊎◌, ℕ, List}
 use Rattle.lc_doors.specs.Door.{DoorSeen}
 use Rattle.lc_io.specs.Folder.{FolderSeen}
@@ -14,7 +14,7 @@ use Rattle.cli_inputs.specs.declared.refusal.Refusal.{Refusal}
 use Rattle.lc_cli.specs.declared.status.Status.{Status}
 use Rattle.lc_cli.specs.declared.status.Status.TheVariants.{Done, Usage, FeedBroken, UpdateBroken, FolderFault, SinkFault, LinkFault, PeerWrong, QueryRefused, DoorFault, ScriptWrong, TooLarge, NoMemory}
 
--- The words, what is seen of the folder, the door and the sink before and after the run, and the link before and after it, of the type X.
+-- The arguments, and what is seen of the directory, the door and the sink before and after the run. The link of type X before and after it.
 pub record Past (X : Type 0) : Type 0 where
   pub words : List (List ℕ)
   pub folder_before : FolderSeen
@@ -27,16 +27,16 @@ pub record Past (X : Type 0) : Type 0 where
   pub sink_after : SinkSeen
 
 -- The command has something to print: the counts of the feed's timetable, or the lines of messages and of the clients that asked. It was
--- written whole, and the status is Done, or that of the first client that has no answer: its question was refused, an exchange of it failed,
--- or a reply to it failed a test. Or the sink failed or ran out of memory, which it counted, and a front of it was written.
+-- written whole. The status is Done, or that of the first client without an answer: a refused question, a failed exchange,
+-- or a reply that failed a test. Or the sink failed or ran out of memory, which it counted, and a front of it was written.
 pub record HasPrinted {X : Type 0} (seen : X → LinkSeen) (p : Past X) (status : Status) : Type 0 where
   pub block : Block
   pub right : IsRightBlock p.words p.folder_before p.folder_after (seen p.link_before) (seen p.link_after) block
   pub end : IsBlockEnd block p.sink_before p.sink_after status
   pub door_stays : p.door_after ≡ p.door_before
 
--- There is a cause why nothing is printed but an error line: the words, the feed, the folder, a message, the script, or memory. That line
--- was written whole, or a front of it, where the sink counted a fault, or ran out of memory; the status is that of the cause.
+-- There is a cause why nothing is printed but an error line: the arguments, the feed, the directory, a message, the script, or memory. That line
+-- was written whole, or a front of it, where the sink counted a fault, or ran out of memory. The status is that of the cause.
 pub record WasRefused {X : Type 0} (p : Past X) (status : Status) : Type 0 where
   pub refusal : Refusal
   pub right : IsRightRefusal p.words p.folder_before p.folder_after refusal

@@ -29,7 +29,7 @@ use lc_world::{File, Folder, Link};
 use std::alloc::Global;
 use timetable::{LoadFault, Scope, load};
 
-/// What the command of these words results in, and the link, as it is left. Nothing is written yet, and nothing is served.
+/// What the command of these arguments results in, and the link, as it is left. Nothing is written yet, and nothing is served.
 pub(crate) fn outcome<F: Folder, L: Link>(
     alloc: Global,
     words: &[String],
@@ -200,7 +200,7 @@ fn client_block(alloc: Global, asked: Asked) -> Result<Block, NoMemory>
     }
 }
 
-/// Reads what a course is played from, and plays it.
+/// Reads what an event sequence is played from, and plays it.
 fn replay_block<F: Folder, L: Link>(
     alloc: Global,
     folder: &mut F,
@@ -249,7 +249,7 @@ fn replay_block<F: Folder, L: Link>(
     }
 }
 
-/// What is printed of a course.
+/// The output of an event sequence that was played.
 fn course_block(replayed: Replayed) -> Block
     ensures text { result.text ≡ replayed.text }
     ensures ends { result.ends ≡ replayed.ends }

@@ -26,8 +26,8 @@ pub fn headline<L: Link>()
     one_outcome();
 }
 
-/// Runs of the same words over the same files, which nothing hindered, print the same counts, or the same lines of messages and clients with one
-/// version, one arrival and so many exchanges. It speaks of commands that ask an in-process publisher, or none.
+/// Runs of equal arguments over equal files, which nothing hindered, print one output: equal counts, or equal lines of messages. Clients have
+/// one version, one arrival and one number of exchanges. It speaks of commands that ask an in-process publisher, or none.
 pub fn one_run<L: Link, M: Link>()
     ensures { OneRun L.seen M.seen }
 {
@@ -38,7 +38,7 @@ pub fn one_run<L: Link, M: Link>()
     one_output::<L, M>();
 }
 
-/// Runs of the same words over the same files, which nothing hindered, end with one status, memory apart, where they ask an in-process publisher
+/// Runs of equal arguments over equal files, which nothing hindered, end with one status, memory apart. They ask an in-process publisher
 /// or none. Of each command, a run that is done printed its output or served its connections, and nothing hindered it.
 pub fn one_status<L: Link, M: Link>()
     ensures one { OneStatus L.seen M.seen }
@@ -54,8 +54,8 @@ pub fn one_status<L: Link, M: Link>()
     one_output::<L, M>();
 }
 
-/// Runs of `plan` with the same words over the same files print one output, where no exchange failed: over quiet links with one side, and over
-/// links whose sides grow into one side, where the time gates named one version to each client.
+/// Runs of `plan` with equal arguments over equal files print one output, where no exchange failed. The links are quiet with one side, or have
+/// sides that grow into one, where the time gates named one version to each client.
 pub fn one_planned<L: Link, M: Link>()
     ensures quiet { OneQuietPlan L.seen M.seen }
     ensures named { OneNamedPlan L.seen M.seen }
@@ -80,7 +80,7 @@ pub fn one_side<L: Link>()
     one_outcome();
 }
 
-/// Runs of `serve` with the same words over the same files send the same on each connection and write one text, where the same bytes wait at their
+/// Runs of `serve` with equal arguments over equal files send the same on each connection and write one text. Equal bytes wait at their
 /// doors and nothing fails.
 pub fn one_served<L: Link, M: Link>()
     ensures { OneServing L.seen M.seen }

@@ -1,5 +1,5 @@
-//! The commands of `lc`: they check feeds, publish them, and plan journeys over pages that a publisher gives. It stands on the words, the
-//! timetable of a feed, `cli_ask`, `cli_replay`, `cli_serve` and `cli_plan`.
+//! The commands of `lc`: they check feeds, publish them, and plan journeys over pages that a publisher gives. It builds on the
+//! arguments, the timetable of a feed, `cli_ask`, `cli_replay`, `cli_serve` and `cli_plan`.
 #![tactic(auto)]
 
 mod block;

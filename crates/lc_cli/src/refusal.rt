@@ -14,7 +14,7 @@ use trip_updates::RtFault;
 
 pub(crate) const NO_MEMORY: &[u8] = b"error no memory\n";
 
-/// Says the refusal in one line, which is tried once, and ends with its status, whatever becomes of the line; or out of memory
+/// Says the refusal in one line, which is tried once. It ends with its status, whatever becomes of the line, or out of memory
 /// where there is none to make the line.
 pub fn refuse<S: Sink>(alloc: Global, refusal: Refusal, out: &mut S) -> Status
     ensures end { IsRefusalEnd refusal (S.seen out.old) (S.seen out.new) result }

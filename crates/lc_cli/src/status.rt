@@ -11,9 +11,9 @@ use trip_updates::RtFault;
 pub enum Status {
     /// All inputs were read to their end, and all output was written.
     Done,
-    /// The words are none that a command has.
+    /// The arguments are none that a command has.
     Usage,
-    /// A file of the feed breaks a rule in a row, or as a whole in row 0; by rule 15 the word of the zone says none.
+    /// A file of the feed breaks a rule in a row, or as a whole in row 0. By rule 15 the word of the zone says none.
     FeedBroken {
         rule: u8,
         file: Text,
@@ -24,7 +24,7 @@ pub enum Status {
         name: Text,
         fault: RtFault,
     },
-    /// The folder failed: its count of faults before and after.
+    /// The directory failed: its count of faults before and after.
     FolderFault {
         before: u64,
         after: u64,

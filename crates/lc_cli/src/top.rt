@@ -24,15 +24,15 @@ use std::alloc::Global;
 use timetable::one_timetable;
 use version_store::one_outcome;
 
-/// Runs the command of these words, over a folder, a link, a door and a sink, and gives the link back.
+/// Runs the command of these arguments, over a directory, a link, a door and a sink, and gives the link back.
 ///
-/// `check FEED FIRST` reads the GTFS feed of that name in the folder and prints its counts, or the first rule that it breaks.
-/// `ask FEED FROM TO MOMENT` publishes its timetable as pages, with the realtime message of a file where `--update` names one, and lets a
-/// client ask this publisher: it prints a best journey from one stop to another that leaves at the moment or later and arrives within the
-/// horizon, or that there is none, by the timetable as it was known then. Each reply is handed on over the link.
-/// `replay FEED FIRST SCRIPT` plays the day of a script to such a publisher: messages come in between the exchanges of many clients that share a
-/// cache of pages, and each client's answer is best by the timetable as it was known when it first asked.
-/// `serve FEED FIRST --port P --connections N` publishes a timetable at the door: it answers the requests of so many connections, one
+/// `check FEED FIRST` reads the GTFS feed of that name in the directory and prints its counts, or the first rule that it breaks.
+/// `ask FEED FROM TO MOMENT` publishes its timetable as pages, with the realtime message of a file where `--update` names one. It lets a
+/// client ask this publisher and prints a best journey, or that there is none. The journey leaves at the moment or later, and arrives
+/// within the horizon. The timetable is the one that was known then. Each reply is handed on over the link.
+/// `replay FEED FIRST SCRIPT` plays the day of a script to such a publisher. Messages come in between the exchanges of many clients that share a
+/// cache of pages. Each client's answer is best by the timetable as it was known when it first asked.
+/// `serve FEED FIRST --port P --connections N` publishes a timetable at the door. It answers the requests of this many connections, one
 /// after the other, and prints how many there were. With `--accept-updates` clients may post messages.
 /// `plan URL ASKS` lets the clients of a script ask the publisher under the URL, over the link handed in, and prints their answers.
 pub fn run<F: Folder, L: Link, D: Door, S: Sink>(
@@ -55,12 +55,12 @@ pub fn run<F: Folder, L: Link, D: Door, S: Sink>(
       sink_after = S.seen out.new;
     }) result.0 }
 
-    // Usage comes wherever the words say no command, memory apart.
+    // Usage comes wherever the arguments say no command, memory apart.
     ensures usage_only { ((command : Command) → SaysCommand (texts_of words.now) command → ⊥)
         → (result.0 ≡ Status.Usage) ⊎ (result.0 ≡ Status.NoMemory) }
 
-    // Nothing but memory keeps the output from being printed where no rule refuses the feed, the script and the messages, no fault is
-    // counted, and clients have a clear link, or those of `plan` an honest one. What fails on a connection of `serve` does not hinder it.
+    // Nothing but memory keeps the output from being printed where no rule refuses the feed, the script and the messages, and no fault is
+    // counted. Clients have a clear link, or those of `plan` an honest one. What fails on a connection of `serve` does not hinder it.
     ensures complete { IsClear L.seen (record {
       words = texts_of words.now;
       folder_before = F.seen folder.old;
@@ -73,7 +73,7 @@ pub fn run<F: Folder, L: Link, D: Door, S: Sink>(
       sink_after = S.seen out.new;
     }) → IsAnswered result.0 }
 
-    // The folder has the same files, and no count has fallen. The door is as it was, but for `serve`.
+    // The directory has the same files, and no count has fallen. The door is as it was, but for `serve`.
     ensures folder { Keeps (F.seen folder.old) (F.seen folder.new) }
     ensures sink { SinkNeverFell (S.seen out.old) (S.seen out.new) }
     ensures door { ((serve : Served) → SaysCommand (texts_of words.now) (commands.Serve serve) → ⊥) → door.new ≡ door.old }

@@ -20,7 +20,7 @@ pub fn worked_answer()
     ensures has_a_later_journey { AreJourneyBy from_a_to_d nine_minutes_late }
     ensures refuses_a_later_journey { AreRefused None nine_minutes_late }
 
-    // A walk from a stop to itself stands for no walk, however short it is.
+    // A walk from a stop to itself is no walk, however short it is.
     ensures refuses_a_walk_in_place { (seconds : ℕ) → AreRefused (Some (in_place seconds)) worked }
 
     // Rides make a journey, of which the clauses above speak, and no rides make none.

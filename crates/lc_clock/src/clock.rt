@@ -11,8 +11,8 @@ use lc_time::Zone;
 
 const HALF_A_DAY: i64 = 43_200;
 
-/// The moment from which the times of a service day are counted: 12 hours before noon of its date in the zone (GTFS
-/// Schedule Reference, field type Time). None exactly where that is no moment.
+/// The moment from which the times of a service day are counted: 12 hours before noon of its date in the zone. None
+/// exactly where that is no moment (GTFS Schedule Reference, field type Time).
 pub fn anchor(zone: &Zone, date: ServiceDate) -> Option<Moment>
     ensures { result ≡ anchor_of zone.now date }
 {

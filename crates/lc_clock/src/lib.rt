@@ -1,5 +1,5 @@
 //! What the clock of a zone shows: the moment from which the times of a service day are counted, and the date at a moment.
-//! It stands on `lc_time` and on the calendar and the zones of `jiff`.
+//! It builds on `lc_time` and on the calendar and the zones of `jiff`.
 #![tactic(auto)]
 
 mod clock;

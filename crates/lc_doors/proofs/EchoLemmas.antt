@@ -1,4 +1,4 @@
--- What is given back of more bytes.
+-- What the talk gives back of more bytes.
 use Rattle.std.proofs.Common.{◌≡◌, ◌≢◌, ◌∙◌, ℕ, zero, suc, ◌+◌, ◌-◌, ◌≤◌, ◌==◌, ◌||◌, Bool, true, false, List, [], ◌∷◌, ◌++◌, length, take, min, refl, sym, ap, arith, append_assoc, length-append, length-take}
 use borrow.Author.Tests.{eqb-false}
 use Rattle.lc_doors.specs.EchoTalk.{EchoTalkState, HasEchoed, take_none}

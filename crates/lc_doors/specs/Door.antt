@@ -7,7 +7,7 @@ use Rattle.lc_doors.specs.declared.door.DoorFail.TheVariants.{Failed, NoMemory}
 use Rattle.lc_doors.specs.declared.door.Next.{Next}
 use Rattle.lc_doors.specs.declared.door.Next.TheVariants.{Connection, Closed}
 
--- The bytes of one connection that are still to come, those that were read, those that were sent, and whether a read or a write failed.
+-- The bytes of one connection that are still to come, those that were read, and those that were sent. Whether a read or a write failed.
 pub record Wire : Type 0 where
   pub to_come : List ℕ
   pub read : List ℕ
@@ -21,7 +21,7 @@ pub record DoorRecorded : Type 0 where
   pub past : List Wire
   pub current : Option Wire
 
--- Whether the door listens and whether it has a current connection; its record, where it keeps one; how often `listen` or `next` has
+-- Whether the door listens and whether it has a current connection. Its record, where it has one. How often `listen` or `next` has
 -- failed, and how often `read` or `write`.
 pub record DoorSeen : Type 0 where
   pub listens : Bool

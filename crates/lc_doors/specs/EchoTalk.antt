@@ -3,22 +3,22 @@ use Rattle.std.specs.Prelude.{◌≡◌, ◌≢◌, ℕ, zero, suc, ◌<◌, ◌
 use Rattle.std.proofs.Common.{sym, ◌∙◌, ap, arith, ne_eqb}
 use Rattle.lc_doors.specs.Talk.{Said, TalkSeen}
 
--- how many bytes it gives back at most, how many were given back, which of them are not sent, and whether memory has run out
+-- how many bytes it gives back at most, how many it gave back, which of them are not sent, and whether memory has run out
 pub record EchoTalkState : Type 0 where
   pub limit : ℕ
   pub requests : ℕ
   pub pending : List ℕ
   pub spent : Bool
 
--- each byte is a request; the talk has ended once there were as many as it answers, or without memory
+-- each byte is a request; the talk has ended once there were as many as it answers, or once memory ran out
 abbrev pub echo_seen : EchoTalkState → TalkSeen
 echo_seen talk = record { count = talk.requests; pending = talk.pending; requests = talk.requests; ended = talk.spent || (talk.requests == talk.limit) }
 
--- what is said for bytes, where so many are given back at most
+-- what is said for bytes, where the talk gives back so many at most
 abbrev pub echo_of : ℕ → List ℕ → Said
 echo_of limit fed = record { output = take limit fed; requests = min limit (length fed); ended = min limit (length fed) == limit }
 
--- some bytes are given back, and this is said
+-- it gives back some bytes, and says this
 pub record Echoes (limit : ℕ) (fed : List ℕ) (said : Said) : Type 0 where
   pub some : 0 < limit
   pub is : said ≡ echo_of limit fed
@@ -41,7 +41,7 @@ same_said a b m n p q output requests ended =
     ∙ (ap (λ (k : ℕ). record { output = b; requests = k; ended = p }) requests
     ∙ ap (λ (e : Bool). record { output = b; requests = n; ended = e }) ended)
 
--- what was given back, and what is pending, is what is said
+-- what it gave back, and what is pending, is what is said
 pub echo_said : (talk : EchoTalkState) (limit : ℕ) (fed sent : List ℕ) → HasEchoed talk limit fed sent
     → Echoes limit fed (record { output = sent ++ (echo_seen talk).pending; requests = (echo_seen talk).requests; ended = (echo_seen talk).ended })
 echo_said talk limit fed sent has = record {

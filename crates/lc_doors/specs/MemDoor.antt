@@ -4,8 +4,8 @@ use Rattle.std.specs.List.{Contains}
 use Rattle.lc_io.specs.Counts.{one_more}
 use Rattle.lc_doors.specs.MemWires.{MemWiresState}
 
--- the connections, the numbers of the calls that fail, how many calls there were, and how many failed: of `listen` and `next`, and of
--- `read` and `write`
+-- The connections, the numbers of the calls that fail, and how many calls there were. How many failed: of `listen` and `next`, and of
+-- `read` and `write`.
 pub record MemDoorState : Type 0 where
   pub wires : MemWiresState
   pub fails : List ℕ

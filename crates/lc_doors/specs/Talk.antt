@@ -1,7 +1,7 @@
 -- What a talk is seen to be.
 use Rattle.std.specs.Prelude.{ℕ, Bool, List}
 
--- How many bytes a talk was fed, as long as it goes on; what of its output was not sent yet; how many requests its output answers; and
+-- How many bytes a talk was fed, as long as it goes on. What of its output was not sent yet. How many requests its output answers, and
 -- whether it has ended.
 pub record TalkSeen : Type 0 where
   pub count : ℕ

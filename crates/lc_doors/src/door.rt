@@ -60,7 +60,7 @@ pub trait Door {
         ensures broken { HasCause (seen self.old).broken (seen self.new).broken (IsErrOf result Failed) }
         ensures others { seen self.new ≡ record (seen self.old) { recorded = (seen self.new).recorded; broken = (seen self.new).broken } };
 
-    /// Sends bytes of the front of the piece to the current client, at least one of a piece that is not empty, and says how many.
+    /// Sends bytes of the front of the piece to the current client, at least one of a piece that is not empty. It says how many.
     fn write(&mut self, piece: &[u8]) -> Result<usize, DoorFail>
         requires { IsTrue (seen self.old).connected }
         ensures at_most { IfOk result (λ n. n ≤ length piece.now) }

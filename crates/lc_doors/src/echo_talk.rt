@@ -42,7 +42,7 @@ impl EchoTalk {
         }
     }
 
-    /// How many of so many bytes more are given back.
+    /// How many of so many bytes more it gives back.
     fn room_for(&self, length: usize) -> usize
         ensures room { result ≡ min (self.now.limit - self.now.requests) length }
         ensures within { self.now.requests ≤ self.now.limit }

@@ -8,8 +8,8 @@ pub fn one_step()
     ensures exchange { OneExchange }
 {}
 
-/// Near values are refused: an end of the input while bytes are to come, a client that is skipped or turned away, a connection that is served
-/// before its input or its talk has ended, or before all is sent.
+/// Near values are refused: an end of the input while bytes are to come, or a client that is skipped or turned away. No connection is
+/// served before its input or its talk has ended, or before all is sent.
 pub fn near_values()
     ensures unread { NoneUnread }
     ensures skipped { NoneSkipped }

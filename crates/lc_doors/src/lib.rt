@@ -1,5 +1,5 @@
-//! The door of a server and the talk on one connection as traits, each with the meanings that contracts cite, forms of both in memory, and
-//! how one connection is served. It stands on `lc_io`, for counts of faults.
+//! The door of a server and the talk on one connection as traits. Each has the meanings that contracts cite, and forms in memory. It says
+//! how one connection is served. It builds on `lc_io`, for counts of faults.
 #![tactic(auto)]
 
 mod door;

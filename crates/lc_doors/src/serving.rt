@@ -35,7 +35,7 @@ fn send_all<T: Talk, D: Door>(talk: &mut T, door: &mut D) -> Result<(), DoorFail
     Ok(())
 }
 
-/// Reads once, into the room of the piece, and feeds what came to the talk. At the end of the input it says that no more comes.
+/// Reads once, into the room of the piece, and feeds what it read to the talk. At the end of the input it says that no more comes.
 fn hear<T: Talk, D: Door>(
     alloc: Global,
     talk: &mut T,

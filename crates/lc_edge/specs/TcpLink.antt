@@ -6,6 +6,6 @@ use Rattle.lc_world.specs.Link.{LinkSeen}
 pub record TcpLinkState : Type 0 where
   pub faults : ℕ
 
--- A link of sockets tells no side and no exchanges, is honest for no base, and leaves an answer that is handed on as it is.
+-- A link of sockets records no side and no exchanges, and is honest for no base. It leaves an answer that is handed on as it is.
 abbrev pub seen_of : TcpLinkState → LinkSeen
 seen_of link = record { side = None; recorded = None; honest = λ _. ⊥; quiet = λ _. ⊥; clear = Unit {0}; still = Unit {0}; faults = link.faults }

@@ -5,7 +5,7 @@ use std::net::Ipv6Addr;
 /// The port of HTTP (RFC 9110, section 4.2.1).
 const HTTP_PORT: u16 = 80;
 
-/// The host and the port that an authority says, or 80 where it says no port (RFC 3986, section 3.2). An IPv6 address stands in brackets,
+/// The host and the port that an authority says, or 80 where it says no port (RFC 3986, section 3.2). An IPv6 address is in brackets,
 /// and is the host without them.
 pub(crate) fn host_and_port(authority: &str) -> Option<(&str, u16)> {
     match authority.rsplit_once(':') {

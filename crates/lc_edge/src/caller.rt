@@ -64,7 +64,7 @@ impl<S: Read + Write + OpenStream + Drop> Caller<S> {
         written
     }
 
-    /// Ends the own side, and reads a bounded rest for a short time: a connection that is closed with bytes unread is reset, and its
+    /// Ends the own side, and reads a bounded rest for a short time. A connection that is closed with bytes unread is reset, and its
     /// client may lose a reply (RFC 9112, section 9.6). What fails here is of no concern.
     pub(crate) fn leave(&mut self, clock: &impl Clock) {
         let _ = self.read_rest(clock);

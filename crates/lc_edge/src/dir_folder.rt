@@ -11,7 +11,7 @@ use std::rt::Files;
 /// The largest file that is read, in bytes.
 const MOST_BYTES: usize = 1 << 30;
 
-/// The files of the system, by their paths. It tells nothing of what they hold.
+/// The files of the system, by their paths. It records nothing of what they hold.
 #[derive(Drop)]
 pub struct DirFolder<'a, R: Files + AllocGlobal> {
     rt: &'a R,
@@ -20,7 +20,7 @@ pub struct DirFolder<'a, R: Files + AllocGlobal> {
 }
 
 impl<'a, R: Files + AllocGlobal> DirFolder<'a, R> {
-    /// The folder, with its counts at 0.
+    /// The directory, with its counts at 0.
     pub fn new(rt: &'a R) -> DirFolder<'a, R>
         ensures faults { result.faults ≡ 0 }
         ensures absences { result.absences ≡ 0 }

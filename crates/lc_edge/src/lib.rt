@@ -1,4 +1,4 @@
-//! The edges of this machine: its files, its standard output and its sockets, as a door and as a link. It stands on `lc_world`, and hands
+//! The edges of this machine: its files, its standard output and its sockets, as a door and as a link. It builds on `lc_world`, and hands
 //! on the links of `lc_links`, which do not leave the process.
 #![tactic(auto)]
 

@@ -3,7 +3,7 @@ ghost use Rattle.std.specs.Prelude.{◌≡◌, ◌≤◌, IfOk, None, length};
 use lc_world::{Sink, SinkFail};
 use std::io::{self, Write};
 
-/// The standard output. Each write is flushed, and one that takes nothing is a fault. It tells nothing of what is there.
+/// The standard output. Each write is flushed, and one that takes nothing is a fault. It records nothing that is there.
 #[derive(Drop)]
 pub struct StdSink<'a, R: Print> {
     rt: &'a R,

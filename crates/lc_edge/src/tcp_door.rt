@@ -14,7 +14,7 @@ use std::time::Clock;
 /// How many clients are taken, at most, until one is there.
 const TRIES: usize = 64;
 
-/// A door of the system's sockets, at the loopback address 127.0.0.1 alone. It serves one connection at a time, and tells nothing of what
+/// A door of the system's sockets, at the loopback address 127.0.0.1 alone. It serves one connection at a time, and records nothing that
 /// comes and goes. A read or a write waits 10 seconds at most, and those of one connection wait 60 seconds together; one that waits longer
 /// has failed.
 #[derive(Drop)]

@@ -25,7 +25,7 @@ const ONE_WAIT: u64 = 30;
 
 /// A link over the system's sockets. Each exchange has a connection of its own, to the port 80 where the authority says none. Each address
 /// of the host is tried in turn, for 10 seconds at most. A read or a write waits 30 seconds at most, the reply ends with the connection, and
-/// one above 268,435,456 bytes is a fault. It tells nothing, and leaves an answer that is handed on as it is.
+/// one above 268,435,456 bytes is a fault. It records nothing, and leaves an answer that is handed on as it is.
 #[derive(Drop)]
 pub struct TcpLink<'a, R: Net> {
     rt: &'a R,

@@ -1,4 +1,4 @@
--- Folders in memory.
+-- Directories in memory.
 use Rattle.std.specs.Prelude.{ℕ, List}
 use Rattle.lc_io.specs.declared.file.File.{File}
 

@@ -1,7 +1,7 @@
 -- What a sink is seen to be.
 use Rattle.std.specs.Prelude.{ℕ, List, ◌++◌, take, Option, option_map}
 
--- The bytes written so far, where the sink tells them, how often a write has failed, and how often one wanted memory.
+-- The bytes written until now, where the sink records them, how often a write failed, and how often memory ran out.
 pub record SinkSeen : Type 0 where
   pub written : Option (List ℕ)
   pub faults : ℕ

@@ -1,4 +1,4 @@
--- Folders in memory of which no read fails.
+-- Directories in memory of which no read fails.
 use Rattle.std.specs.Prelude.{ℕ, List}
 use Rattle.lc_io.specs.declared.file.File.{File}
 

@@ -1,6 +1,6 @@
 use lc_model::{Bytes, Text};
 
-/// A file of a folder in memory.
+/// A file in memory.
 #[derive(Drop)]
 pub struct File {
     pub name: Text,

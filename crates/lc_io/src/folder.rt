@@ -5,7 +5,7 @@ ghost use Rattle.lc_io.specs.declared.folder.FolderFail.TheVariants.{Failed, Abs
 
 use std::alloc::Global;
 
-/// Why a folder gave no bytes.
+/// Why a directory gave no bytes.
 #[derive(Clone, Copy, PartialEq, Eq)]
 pub enum FolderFail {
     /// The file could not be read.
@@ -17,7 +17,7 @@ pub enum FolderFail {
 
 /// Where files are read from.
 pub trait Folder {
-    /// What is known of the folder. The files never change.
+    /// What is known of the directory. The files never change.
     ghost seen: { Self → FolderSeen };
 
     /// The bytes of the file of this name.

@@ -1,5 +1,5 @@
-//! Folders to read and sinks to write as traits, each with the meanings that contracts cite and a count of its
-//! faults, and forms of them in memory. It stands on `lc_model`.
+//! Directories to read and sinks to write as traits, with the meanings that contracts cite and counts of
+//! their faults, and forms of them in memory. It builds on `lc_model`.
 #![tactic(auto)]
 
 mod file;

@@ -33,7 +33,7 @@ pub(crate) fn bytes_of(alloc: Global, files: &[File], name: &str) -> Result<Vec<
     }
 }
 
-/// Adds the name to those asked for. Without memory for it they stay as they were.
+/// Adds the name to those asked for. Where memory runs out they stay as they were.
 pub(crate) fn add_asked(alloc: Global, asked: &mut Vec<Text>, name: &str) -> Result<(), NoMemory>
     ensures ok { OnOk result (asked.new.items ≡ asked.old.items ++ name.now ∷ []) }
     ensures err { OnErr result (asked.new.items ≡ asked.old.items) }
@@ -42,7 +42,7 @@ pub(crate) fn add_asked(alloc: Global, asked: &mut Vec<Text>, name: &str) -> Res
     Ok(())
 }
 
-/// A folder in memory, some of whose reads fail.
+/// A directory in memory, some of whose reads fail.
 #[derive(Drop)]
 pub struct MemFolder {
     files: Vec<File>,
@@ -69,7 +69,7 @@ impl Model for MemFolder {
 }
 
 impl MemFolder {
-    /// A folder of these files, in which the reads of these numbers, from 1, fail.
+    /// A directory of these files, in which the reads of these numbers, from 1, fail.
     pub fn new(alloc: Global, files: Vec<File>, fails: Vec<u64>) -> Result<MemFolder, NoMemory>
         ensures { IfOk result (λ folder. folder ≡ record {
           files = files.items;
@@ -108,7 +108,7 @@ impl Folder for MemFolder {
         ensures faults { HasCause self.old.faults self.new.faults (IsErrOf result Failed) }
         ensures absences { HasCause self.old.absences self.new.absences (IsErrOf result Absent) }
         ensures asked { TellsAsked (Some self.old.asked) (Some self.new.asked) name.now result }
-        // A read is counted even where there is no memory for its name; a listed one fails once its name is kept.
+        // A read is counted even where there is no memory for its name; a listed one fails once its name is recorded.
         ensures reads { self.new ≡ record self.old {
           reads = one_more self.old.reads;
           faults = self.new.faults;

@@ -9,7 +9,7 @@ use lc_model::{NoMemory, Text};
 use std::alloc::Global;
 use std::marker::Model;
 
-/// A folder in memory, of which no read fails.
+/// A directory in memory, of which no read fails.
 #[derive(Drop)]
 pub struct SureFolder {
     files: Vec<File>,

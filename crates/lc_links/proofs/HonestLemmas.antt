@@ -1,4 +1,4 @@
--- Honest links: one whose side stays, and one behind which an answer is handed on.
+-- Honest links: one whose side stays, and one after which an answer is handed on.
 use Rattle.std.proofs.Common.{◌≡◌, ◌∙◌, ℕ, List, Option, Some, refl, sym, ap, subst}
 use Rattle.std.specs.Prelude.{OnOk, Result, Ok, Err, unwrap_or}
 use Rattle.connection_uri.specs.Base.{BaseParts}
@@ -62,7 +62,7 @@ handed_on base side after clear now_clear request answer reply answered result s
   quiet = stays_clear;
 }
 
--- and so it is where nothing was answered
+-- a link at which nothing was answered is as honest as before
 pub not_handed_on : {T : Type 0} (base : BaseParts) (side after : Side) (clear : Type 0) (request reply : List ℕ) (fail other : LinkFail)
     → Stays {T = T} base side after request reply (Err fail) → clear
     → StaysHonest {T = T} base side clear (Some after) clear clear request reply (Err other)
@@ -87,7 +87,7 @@ not_reached base side recorded said quiet request reply fail honest = record {
   quiet = λ is. is;
 }
 
--- after an error what stands in the reply is nothing
+-- after an error nothing is in the reply
 pub without_reply : {T : Type 0} (base : BaseParts) (side : Side) (was_quiet : Type 0) (recorded : Option Side) (said quiet : Type 0) (request reply other : List ℕ) (fail now : LinkFail)
     → StaysHonest {T = T} base side was_quiet recorded said quiet request reply (Err fail) → StaysHonest {T = T} base side was_quiet recorded said quiet request other (Err now)
 without_reply base side was_quiet recorded said quiet request reply other fail now stays = record {

@@ -12,7 +12,7 @@ pub record FaultyLinkState (L : Type 0) : Type 0 where
   pub calls : ℕ
   pub faults : ℕ
 
--- the exchange has reached a link, which has recorded it, where it tells, and has failed, if it has
+-- the exchange has reached a link, which has recorded it, where it records any, and has failed, if it has
 pub record HasReached {T : Type 0} (recorded : Type 0) (before_faults after_faults : ℕ) (result : Result T LinkFail) : Type 0 where
   pub tells : recorded
   pub has_cause : HasCause before_faults after_faults (IsErrOf result Failed)

@@ -33,7 +33,7 @@ impl ClosedLink {
 impl Link for ClosedLink {
     ghost use Rattle.std.specs.Prelude.{None};
 
-    /// It tells no side and no exchanges.
+    /// It records no side and no exchanges.
     ghost seen = { λ c. record {
       side = None;
       recorded = None;

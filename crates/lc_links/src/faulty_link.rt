@@ -64,7 +64,7 @@ fn fail(faults: &mut u64, reply: &mut Vec<u8>)
 impl<L: Link> Link for FaultyLink<L> {
     ghost use Rattle.std.specs.Prelude.{None};
 
-    /// It tells the side of the other link, and no exchanges.
+    /// It records the side of the other link, and no exchanges.
     ghost seen = { λ f. record {
       side = (L.seen f.inner).side;
       recorded = None;

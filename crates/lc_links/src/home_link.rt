@@ -56,7 +56,7 @@ impl<G: Fragmenter + Drop, L: Link> Link for HomeLink<G, L> {
     ghost use Rattle.std.specs.Prelude.{Some};
     ghost use Rattle.publisher.specs.Held.{side_of};
 
-    /// It tells the side of its publisher, and what the outer link records of exchanges. It is honest where the outer link is clear, and its
+    /// It records the side of its publisher, and the outer link's record of exchanges. It is honest where the outer link is clear, and its
     /// side stays at a GET whatever the outer link does.
     ghost seen = { λ h. record {
       side = Some (side_of G.cuts_of h.local.publisher);

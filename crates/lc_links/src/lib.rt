@@ -1,5 +1,5 @@
-//! The links that do not leave the process: to an in-process publisher, over a link with failures, at home, where the program answers
-//! and hands the answer on, and to nobody. It stands on `publisher` and on `lc_world`.
+//! The links that do not leave the process: to an in-process publisher, over a link with failures, and to nobody. At home the
+//! program answers and hands the answer on. It builds on `publisher` and on `lc_world`.
 #![tactic(auto)]
 
 mod closed_link;

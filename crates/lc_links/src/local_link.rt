@@ -102,7 +102,7 @@ impl<G: Fragmenter + Drop> Link for LocalLink<G> {
     ghost use Rattle.std.specs.Prelude.{Some};
     ghost use Rattle.publisher.specs.Held.{side_of};
 
-    /// It tells its side, and the exchanges without their replies. Its count is always 0.
+    /// It records its side, and the exchanges without their replies. Its count is always 0.
     ghost seen = { λ l. record {
       side = Some (side_of G.cuts_of l.publisher);
       recorded = Some l.recorded;
@@ -148,7 +148,7 @@ impl<G: Fragmenter + Drop> Link for LocalLink<G> {
         }
     }
 
-    /// It tells the exchange, and does nothing else.
+    /// It records the exchange, and does nothing else.
     fn pass(
         &mut self,
         alloc: Global,

@@ -22,7 +22,7 @@ fn is_all(taken: Taken, length: usize) -> bool
     taken == Taken::Whole { length }
 }
 
-/// Tells an exchange without its reply. Linear in the request.
+/// Records an exchange without its reply. Linear in the request.
 pub(crate) fn tell(
     alloc: Global,
     recorded: &mut Vec<Entry>,

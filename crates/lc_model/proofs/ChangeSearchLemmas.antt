@@ -41,7 +41,7 @@ not_true : (b : Bool) → (b ≡ true → ⊥) → b ≡ false
 not_true true never = absurd (never refl)
 not_true false never = refl
 
--- how a change stands to the one that is sought
+-- how a change compares with the one that is sought
 abbrev pub stands : List ℕ → List ℕ → Change → Ordering
 stands from to c = ordering_then (id_cmp c.from from) (id_cmp c.to to)
 

@@ -22,7 +22,7 @@ use Rattle.lc_model.proofs.OrdersLemmas.{IsStrict-from_sorted}
 use Rattle.lc_model.specs.Totals.{departure_cmp_total}
 use Rattle.lc_model.proofs.SearchLemmas.{both_tie}
 
--- what stands before another departs no later
+-- what comes before another departs no later
 pub departs_by : (c d : Connection) → departure_cmp c d ≡ Less → c.dep ≤ d.dep
 departs_by c d e = first_part (nat_cmp c.dep d.dep) refl e where
   first_part : (o : Ordering) → nat_cmp c.dep d.dep ≡ o → ordering_then o (ordering_then (key_cmp c.key d.key) (nat_cmp c.seq d.seq)) ≡ Less → c.dep ≤ d.dep
@@ -114,6 +114,6 @@ pub NoneArrivesEarly-sorted : (runs : List Run) (made sorted : List Connection) 
 NoneArrivesEarly-sorted runs made sorted forward e moved =
     All-permutation (λ (c : Connection). c.dep ≤ c.arr) made sorted moved (subst NoneArrivesEarly (sym e) (NoneArrivesEarly-connections_of runs forward))
 
--- the sequences rise in runs that go forward
+-- the sequences increase in runs that go forward
 pub in_sequence : (runs : List Run) → RunsForward runs → All (λ (r : Run). InSequence r.calls) runs
 in_sequence runs forward = All-weaker (λ (r : Run). GoesForward r.calls) (λ (r : Run). InSequence r.calls) (λ r goes. goes.in_sequence) runs forward

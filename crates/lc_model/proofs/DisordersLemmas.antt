@@ -53,7 +53,7 @@ pub no_disorder : {X : Type 0} (cmp : X → X → Ordering) → IsTotalOrder cmp
 no_disorder cmp total [] h = refl
 no_disorder cmp total (first ∷ rest) h = none_after cmp total first 1 rest h
 
--- so what a search for a disorder answers, says whether the list is in strict order
+-- what a search for a disorder answers, says whether the list is in strict order
 pub disorder_tells : {X : Type 0} (cmp : X → X → Ordering) → IsTotalOrder cmp → (list : List X) (place : Option ℕ) → place ≡ first_disorder cmp list → (place ≡ None → IsStrict cmp list) × (IsStrict cmp list → place ≡ None)
 disorder_tells cmp total list place is = (
   (λ none. strict_without_disorder cmp total list (sym is ∙ none)),

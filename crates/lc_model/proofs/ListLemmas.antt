@@ -1,4 +1,4 @@
--- What stands in lists that are joined, mapped and filtered, and the part of a list that a test keeps.
+-- What is in lists that are joined, mapped and filtered, and the part of a list that a test keeps.
 use Rattle.std.proofs.Common.{◌≡◌, suc, zero, ◌⊎◌, inl, inr, List, [], ◌∷◌, ◌++◌, get_or, map, Bool, true, false, cond, sym, ap, ◌∙◌, subst, refl, arith}
 use Rattle.std.specs.List.{All, AllPairs, Contains, filter, flat_map}
 use Rattle.std.proofs.lemmas.List.Elements.{All-append, All-contains, Contains-append_cases, Contains-append_left, Contains-append_right, All-contains_itself}
@@ -37,7 +37,7 @@ Contains-map f (y ∷ xs) x h = elim (Contains-cases y xs x h) [
   | inr k ↦ Contains-there (f y) (map f xs) (f x) (Contains-map f xs x k)
 ]
 
--- an item of lists joined end to end stands in one of them
+-- an item of lists joined end to end is in one of them
 pub record StandsIn {X Y : Type 0} (f : X → List Y) (xs : List X) (y : Y) : Type 0 where
   pub of : X
   pub stands : Contains xs of
@@ -67,7 +67,7 @@ Contains-filter p (y ∷ xs) x h e = elim (Contains-cases y xs x h) [
   kept true k = Contains-there y (filter p xs) x k
   kept false k = k
 
--- the item stands in the list, and the test keeps it
+-- the item is in the list, and the test keeps it
 pub record IsKept {X : Type 0} (p : X → Bool) (xs : List X) (x : X) : Type 0 where
   pub stands : Contains xs x
   pub passes : p x ≡ true
@@ -82,7 +82,7 @@ IsKept-filter p (y ∷ xs) x h = go (p y) refl (λ k. IsKept-filter p xs x k) h 
   ]
   go false e rest k = let r = rest k in record { stands = Contains-there y xs x r.stands; passes = r.passes }
 
--- what holds of each item that stands in the list
+-- what holds of each item that is in the list
 pub All-from_contains : {X : Type 0} (P : X → Type 0) (xs : List X) → ((x : X) → Contains xs x → P x) → All P xs
 All-from_contains P xs h = λ k d lt. h (get_or xs k d) (All-contains_itself xs k d lt)
 

@@ -30,7 +30,7 @@ module _ {X : Type 0} (R : X → X → Type 0) where
   pairs_from_apart : (xs : List X) → AllApart xs → AllPairs R xs
   pairs_from_apart xs h = λ i j d lt lj. let ne : i ≢ j = omega arith in h i j d (omega arith) lj ne
 
-  -- where the item at a place stood before the swap
+  -- where the item at a place was before the swap
   record StoodAt (l : List X) (i j m : ℕ) (d : X) : Type 0 where
     place : ℕ
     within : place < length l
@@ -96,7 +96,7 @@ strict_from_neighbours {X} cmp total xs sorted apart i j d before inside =
     sorted_far (λ x y. is_lt (cmp x y)) (ranks_by total (λ x. x)) xs sorted (i + 1) j d (omega arith) inside in
     cc)
 
--- so nothing ties where no neighbours do
+-- nothing ties where no neighbours do
 pub apart_from_neighbours : {X : Type 0} (cmp : X → X → Ordering) → IsTotalOrder cmp → (xs : List X) → IsSorted cmp xs → NeighboursApart cmp xs → AreApart cmp xs
 apart_from_neighbours cmp total xs sorted apart i j d before inside ties =
     let less : cmp (get_or xs i d) (get_or xs j d) ≡ Less = strict_from_neighbours cmp total xs sorted apart i j d before inside in
@@ -142,7 +142,7 @@ module _ {X : Type 0} (R : X → X → Ordering) (total : IsTotalOrder R) where
       let reverse : R x y ≡ ordering_reverse (R y x) = total.antisymm x y in
       absurd (let f : Less ≡ Greater = sym less ∙ reverse ∙ ap ordering_reverse back in cc)
 
-  -- what stands behind the one head stands behind the other, which is the same
+  -- what comes after the one head comes after the other, which is the same
   behind_the_other : (x : X) (xs : List X) (y : X) (ys : List X) → IsStrict R (x ∷ xs) → x ≡ y → (z : X) → Contains xs z → (y ≡ z) ⊎ Contains ys z → Contains ys z
   behind_the_other x xs y ys strict same z there (inr other) = other
   behind_the_other x xs y ys strict same z there (inl head) =

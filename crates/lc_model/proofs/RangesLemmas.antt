@@ -1,4 +1,4 @@
--- In a list that is sorted by its keys, the items of one key stand between two places that a binary search finds.
+-- In a list that is sorted by its keys, the items of one key are between two places that a binary search finds.
 use Rattle.std.proofs.Common.{◌≡◌, ℕ, suc, ◌+◌, ◌<◌, ◌≤◌, inl, inr, List, [], ◌∷◌, ◌++◌, length, get_or, take, drop, Bool, true, false, sym, ap, ◌∙◌, refl, arith}
 use Rattle.std.specs.Cmp.{IsTotalOrder}
 use Rattle.std.specs.List.{All, AllWithin, filter, between}
@@ -46,7 +46,7 @@ module _ {K : Type 0} (R : K → K → Ordering) (total : IsTotalOrder R) where
   not_less_back : (a b : K) → is_lt (R b a) ≡ false → is_lt (ordering_reverse (R a b)) ≡ false
   not_less_back a b h = ap is_lt (sym (total.antisymm b a)) ∙ h
 
-  -- what stands before an item that is less than k is less too
+  -- what comes before an item that is less than k is less too
   lt_down : (a b k : K) → is_lt (R b a) ≡ false → is_lt (R b k) ≡ true → is_lt (R a k) ≡ true
   lt_down a b k h lt = ap is_lt (lt_down_by a b k (R a b) refl (not_less_back a b h) (less_from (R b k) lt)) where
     less_from : (o : Ordering) → is_lt o ≡ true → o ≡ Less
@@ -63,7 +63,7 @@ module _ {K : Type 0} (R : K → K → Ordering) (total : IsTotalOrder R) where
     equal_down Greater g h = cc
   le_down_by a b k Greater e f h = cc
 
-  -- what stands before an item that is no more than k is no more either
+  -- what comes before an item that is no more than k is no more either
   le_down : (a b k : K) → is_lt (R b a) ≡ false → is_le (R b k) ≡ true → is_le (R a k) ≡ true
   le_down a b k h le = le_down_by a b k (R b k) refl le h
 
@@ -137,7 +137,7 @@ first_not_back Less p e = refl
 first_not_back Equal p e = refl
 first_not_back Greater p e = cc
 
--- what stands strictly by a key and then by something else, is sorted by the key
+-- what is strictly in the order of a key and then of something else, is sorted by the key
 pub sorted_by_key : {X : Type 0} (f : X → List ℕ) (S : X → X → Ordering) (xs : List X) → IsStrict (then_cmp (on f id_cmp) S) xs → IsSorted (on f id_cmp) xs
 sorted_by_key f S xs strict k d low inside =
     let x = get_or xs k d in

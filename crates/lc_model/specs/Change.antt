@@ -11,7 +11,7 @@ use Rattle.lc_model.specs.declared.change.Change.{Change}
 abbrev pub change_cmp : Change → Change → Ordering
 change_cmp = then_cmp (on (λ c. c.from) id_cmp) (on (λ c. c.to) id_cmp)
 
--- changes stand strictly by their stops
+-- changes are strictly in the order of their stops
 abbrev pub InChangeOrder : List Change → Type 0
 InChangeOrder changes = IsStrict change_cmp changes
 

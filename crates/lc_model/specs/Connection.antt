@@ -19,7 +19,7 @@ NoneArrivesEarly list = All (λ (c : Connection). c.dep ≤ c.arr) list
 abbrev pub departure_cmp : Connection → Connection → Ordering
 departure_cmp = then_cmp (on (λ c. c.dep) nat_cmp) (then_cmp (on (λ c. c.key) key_cmp) (on (λ c. c.seq) nat_cmp))
 
--- connections stand strictly by their departures
+-- connections are strictly in the order of their departures
 abbrev pub InDepartureOrder : List Connection → Type 0
 InDepartureOrder list = IsStrict departure_cmp list
 

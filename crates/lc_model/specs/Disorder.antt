@@ -3,7 +3,7 @@ use Rattle.std.specs.Prelude.{ℕ, suc, List, [], ◌∷◌, Option, Some, None,
 use Rattle.std.specs.Ordering.{is_lt}
 use Rattle.std.specs.declared.cmp.Ordering.{Ordering}
 
--- the first place from `place` on whose item does not come after the one before it; `before` stands before them all
+-- the first place from `place` on whose item does not come after the one before it; `before` comes before them all
 abbrev pub disorder_after : {X : Type 0} → (X → X → Ordering) → X → ℕ → List X → Option ℕ
 disorder_after cmp before place [] = None
 disorder_after cmp before place (x ∷ rest) =

@@ -47,7 +47,7 @@ abbrev pub CanChange : StopsDoc → Ride → Ride → Type 0
 CanChange doc ride next =
     IsSomeAnd (change_between doc.changes ride.alight next.board) (λ seconds. ride.arr + seconds ≤ next.dep)
 
--- behind this ride the others are rides too, with a change from each to the next
+-- after this ride the others are rides too, with a change from each to the next
 abbrev pub GoesOn : (Ride → Type 0) → StopsDoc → Ride → List Ride → Type 0
 GoesOn IsRide doc last [] = Unit {0}
 GoesOn IsRide doc ride (next ∷ rest) = IsRide next × CanChange doc ride next × GoesOn IsRide doc next rest
@@ -57,8 +57,8 @@ abbrev pub AreRides : (Ride → Type 0) → StopsDoc → List Ride → Type 0
 AreRides IsRide doc [] = ⊥
 AreRides IsRide doc (first ∷ rest) = IsRide first × GoesOn IsRide doc first rest
 
--- Rides, one after the other, with the walks before and after them where the question does not begin and end there:
--- no earlier than it leaves, and within its horizon.
+-- Rides, one after the other, with the walks before and after them where the question does not begin and end there.
+-- They leave no earlier than it says, and arrive within its horizon.
 pub record IsJourney (IsRide : Ride → Type 0) (query : Query) (doc : StopsDoc) (journey : Journey) : Type 0 where
   pub are_rides : AreRides IsRide doc journey.rides
   pub begins : IsWalkBefore query doc (board_of journey.rides) journey.before

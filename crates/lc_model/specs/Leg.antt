@@ -9,8 +9,8 @@ use Rattle.lc_model.specs.declared.journey.Journey.{Journey}
 use Rattle.lc_model.specs.declared.query.Query.{Query}
 use Rattle.lc_model.specs.declared.ride.Ride.{Ride}
 
--- The ride boards the connection `boards` of the list and alights from the connection `last` of the same run, which
--- is the same one or stands behind it.
+-- The ride boards the connection `boards` of the list and alights from the connection `last` of the same run. That
+-- is the same one or comes after it.
 pub record IsLegOf (list : List Connection) (ride : Ride) : Type 0 where
   pub boards_at : ℕ
   pub last_at : ℕ

@@ -6,7 +6,7 @@ use Rattle.lc_model.specs.declared.key.RunKey.{RunKey}
 use Rattle.lc_model.specs.declared.ride.Ride.{Ride}
 use Rattle.lc_model.specs.declared.run.Run.{Run}
 
--- The ride boards at one call of the run and alights at a later one. The call `last` stands right before the one of
+-- The ride boards at one call of the run and alights at a later one. The call `last` is right before the one of
 -- alighting.
 pub record IsRideOn (key : RunKey) (calls : List Call) (ride : Ride) : Type 0 where
   pub boards_at : ℕ

@@ -7,7 +7,7 @@ use Rattle.lc_model.specs.Order.{IsStrict}
 use Rattle.lc_model.specs.RunKey.{key_cmp}
 use Rattle.lc_model.specs.declared.run.Run.{Run}
 
--- runs stand strictly by their keys
+-- runs are strictly in the order of their keys
 abbrev pub InKeyOrder : List Run → Type 0
 InKeyOrder runs = IsStrict (on (λ (r : Run). r.key) key_cmp) runs
 

@@ -6,7 +6,7 @@ use Rattle.lc_model.specs.Order.{IsStrict}
 use Rattle.lc_model.specs.Text.{id_cmp}
 use Rattle.lc_model.specs.declared.stop.Stop.{Stop}
 
--- stops stand strictly by their ids
+-- stops are strictly in the order of their ids
 abbrev pub InStopOrder : List Stop → Type 0
 InStopOrder stops = IsStrict (on (λ (s : Stop). s.id) id_cmp) stops
 

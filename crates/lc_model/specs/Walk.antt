@@ -1,5 +1,5 @@
--- Walks at the ends of a journey: from a stop where the question may begin to the first ride, and from the last ride
--- to a stop where it may end, each by a change between the two stops.
+-- Walks at the ends of a journey: from a stop where the question may begin to the first ride, or from the last ride
+-- to a stop where it may end. Each is by a change between the two stops.
 use Rattle.std.specs.Prelude.{◌≡◌, ◌≢◌, ℕ, ◌<◌, ◌⊎◌, List, Option, Some, None}
 use Rattle.std.specs.declared.cmp.Ordering.TheVariants.{Greater}
 use Rattle.lc_model.specs.Change.{change_between}
@@ -13,14 +13,14 @@ use Rattle.lc_model.specs.declared.walk.Walk.{Walk}
 abbrev pub IsNearer : List ℕ → ℕ → List ℕ → ℕ → Type 0
 IsNearer stop seconds other longer = (seconds < longer) ⊎ ((seconds ≡ longer) × (id_cmp stop other ≢ Greater))
 
--- Of the ends of a question, each of which takes some seconds where there is a change, this stop takes least; of several
+-- Of the ends of a question, each of which takes some seconds where there is a change, this stop takes least. Of several
 -- it is the first by bytes.
 pub record IsNearest (IsAnEnd : List ℕ → Type 0) (takes : List ℕ → Option ℕ) (stop : List ℕ) (seconds : ℕ) : Type 0 where
   pub is_an_end : IsAnEnd stop
   pub takes_so_long : takes stop ≡ Some seconds
   pub none_is_nearer : (other : List ℕ) (longer : ℕ) → IsAnEnd other → takes other ≡ Some longer → IsNearer stop seconds other longer
 
--- The walk to the stop where the first ride boards: none where the question may begin there, else the one from the
+-- The walk to the stop where the first ride boards. There is none where the question may begin there, else the one from the
 -- nearest stop where it may.
 abbrev pub IsWalkBefore : Query → StopsDoc → List ℕ → Option Walk → Type 0
 IsWalkBefore query doc board None = IsFrom doc.stops query board
@@ -28,7 +28,7 @@ IsWalkBefore query doc board (Some walk) =
     (IsFrom doc.stops query board → ⊥) × (walk.to ≡ board)
     × IsNearest (IsFrom doc.stops query) (λ stop. change_between doc.changes stop board) walk.from walk.seconds
 
--- The walk from the stop where the last ride alights: none where the question may end there, else the one to the nearest
+-- The walk from the stop where the last ride alights. There is none where the question may end there, else the one to the nearest
 -- stop where it may.
 abbrev pub IsWalkAfter : Query → StopsDoc → List ℕ → Option Walk → Type 0
 IsWalkAfter query doc alight None = IsTo doc.stops query alight

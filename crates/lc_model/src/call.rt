@@ -34,7 +34,7 @@ impl PlainData for Call {
     }
 }
 
-/// The calls of a run. Their sequences rise strictly.
+/// The calls of a run. Their sequences strictly increase.
 #[derive(Drop)]
 pub struct Calls {
     items: Vec<Call>,

@@ -3,8 +3,8 @@ ghost use Rattle.std.specs.Prelude.{◌≢◌, []};
 use crate::{NoMemory, PlainData, Rides, Walk};
 use std::alloc::Global;
 
-/// A journey: at least one ride, one after the other, with a walk before them or after them where the first does not
-/// board, or the last does not alight, at an end of the question.
+/// A journey: at least one ride, one after the other. A walk is before them where the first does not
+/// board at an end of the question, and after them where the last does not alight at one.
 #[derive(Drop)]
 pub struct Journey {
     pub before: Option<Walk>,

@@ -4,8 +4,8 @@ ghost use Rattle.std.specs.Option.{ForSome};
 use crate::{Id, NoMemory, PlainData, ServiceDate};
 use std::alloc::Global;
 
-/// What names a run: its trip, its service date and, where the trip is repeated by a headway, its start in seconds of
-/// the service day, below 360,000 (100 hours).
+/// What names a run: its trip, its service date and its start, where a headway repeats the trip. The start is in
+/// seconds of the service day, below 360,000 (100 hours).
 #[derive(PartialEq, Eq, PartialOrd, Ord, Drop)]
 pub struct RunKey {
     pub trip: Id,

@@ -14,14 +14,14 @@ pub fn one_arrival()
     ensures chains { OneLeastArrival }
 {}
 
-/// A journey has one walk to the stop where its first ride boards, and one from the stop where its last ride alights, or
-/// it needs none.
+/// A journey has one walk to the stop where its first ride boards, or needs none. From the stop where its last ride
+/// alights it has one walk or needs none, too.
 pub fn one_walk()
     ensures before { OneWalkBefore }
     ensures after { OneWalkAfter }
 {}
 
-/// A question may leave from ten days behind the first moment on, and up to fifteen days before the last.
+/// A question may leave from ten days after the first moment on, and up to fifteen days before the last.
 pub fn leaving_within()
     ensures first { FIRST_LEAVE ≡ 10 * 86_400 }
     ensures last { LAST_LEAVE + 1 + 15 * 86_400 ≡ MOMENTS_END }

@@ -1,5 +1,5 @@
 //! The words of the timetable that every other crate speaks: moments, stops, runs, connections, questions and
-//! journeys, each with the facts that hold of every value, and the definitions that contracts cite. It stands on
+//! journeys. Each has the facts that hold of every value, and the definitions that contracts cite. It builds on
 //! nothing but `std`.
 #![tactic(auto)]
 

@@ -24,7 +24,7 @@ impl Model for Moment {
 }
 
 impl Moment {
-    /// The moment of this many seconds since 1970, or none where it lies past the range.
+    /// The moment of this many seconds since 1970, or none where it is past the range.
     pub fn new(seconds: u64) -> Option<Moment>
         ensures { SomeIff result (seconds < MOMENTS_END) seconds }
     {

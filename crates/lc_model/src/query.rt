@@ -10,8 +10,8 @@ pub const FIRST_LEAVE: u64 = 864_000;
 /// The last moment at which a question may leave: 9999-12-14T23:59:59Z.
 pub const LAST_LEAVE: u64 = 253_400_831_999;
 
-/// A question: how to get from one stop to another, leaving at a moment or later and arriving within a horizon, by
-/// the timetable that was known at a moment, or the newest.
+/// A question: how to get from one stop to another, leaving at a moment or later and arriving within a horizon.
+/// The timetable is the one that was known at a moment, or the newest.
 #[derive(PartialEq, Eq, Drop)]
 pub struct Query {
     pub from: Id,

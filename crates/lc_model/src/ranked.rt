@@ -15,7 +15,7 @@ ghost use Rattle.lc_model.specs.Totals.{change_cmp_total, departure_cmp_total, r
 use crate::{Change, Connection, Run, Stop};
 use std::cmp::Ordering;
 
-/// What stands in a list in an order of its own.
+/// What is in a list in an order of its own.
 pub trait Ranked {
     ghost order: { Self → Self → Ordering };
 

@@ -54,7 +54,7 @@ impl Stops {
         Stops { items: list }
     }
 
-    /// These in a list, if they stand strictly in order; else the first place, counted from 0, whose item does not come
+    /// These in a list, if they are strictly in order. Else the first place, counted from 0, whose item does not come
     /// after the one before it. Linear in the list.
     pub fn try_from_list(list: Vec<Stop>) -> Result<Stops, usize>
         ensures same { IfOk result (λ same. same ≡ list.items) }

@@ -141,7 +141,7 @@ day_bare (suc (suc (suc (suc (suc zero))))) h = record { first = 83; rest = code
 day_bare (suc (suc (suc (suc (suc (suc zero)))))) h = record { first = 83; rest = codes "un"; text_is = refl; bare = refl }
 day_bare (suc (suc (suc (suc (suc (suc (suc n))))))) h = absurd (omega arith)
 
--- the date behind the name of the day, up to the zone
+-- the date after the name of the day, up to the zone
 abbrev dated : List ℕ → Parts → List ℕ
 dated day p =
     day ++ codes ", " ++ two_digits p.day ++ codes " " ++ month_name p.mon ++ codes " "

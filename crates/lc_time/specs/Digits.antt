@@ -1,4 +1,4 @@
--- Numbers in decimal. What digits write is `digits_value 10` of std, in which zeros may stand first.
+-- Numbers in decimal. What digits write is `digits_value 10` of std, in which zeros may come first.
 use Rattle.std.specs.Prelude.{ℕ, ◌+◌, ◌/◌, ◌%◌, ◌^◌, nat_lt, nat_le, Bool, ◌&&◌, if◌then◌else◌, List, [], ◌∷◌, ◌++◌, length, Option, Some, None}
 use Rattle.std.specs.Char.{is_ascii_digit}
 use Rattle.std.specs.List.{list_all}

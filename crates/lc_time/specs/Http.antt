@@ -35,8 +35,8 @@ without_front_blanks (byte ∷ rest) = if is_blank byte then without_front_blank
 abbrev pub without_blanks : List ℕ → List ℕ
 without_blanks text = reverse (without_front_blanks (reverse (without_front_blanks text)))
 
--- Without the blanks at its ends, the text is the date of this moment in one of the three formats: IMF-fixdate, that of
--- RFC 850, whose two digits of the year say 1970 to 2069, and that of asctime.
+-- Without the blanks at its ends, the text is the date of this moment in one of three formats. These are IMF-fixdate,
+-- that of RFC 850, whose two digits of the year say 1970 to 2069, and that of asctime.
 pub record SaysHttpDate (text : List ℕ) (moment : ℕ) : Type 0 where
   pub in_range : moment < 253_402_128_000
   pub written : IsPartsText (without_blanks text) (http_parts_of moment)

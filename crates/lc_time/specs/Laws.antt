@@ -22,7 +22,7 @@ OneTime = (text : List ℕ) (a b : ℕ) → SaysGtfsTime text a → SaysGtfsTime
 abbrev pub OneMoment : Type 0
 OneMoment = (text : List ℕ) (a b : ℕ) → SaysMoment text a → SaysMoment text b → a ≡ b
 
--- and so does a date of HTTP
+-- a date of HTTP says one moment
 abbrev pub OneHttpMoment : Type 0
 OneHttpMoment = (text : List ℕ) (a b : ℕ) → SaysHttpDate text a → SaysHttpDate text b → a ≡ b
 
@@ -30,6 +30,6 @@ OneHttpMoment = (text : List ℕ) (a b : ℕ) → SaysHttpDate text a → SaysHt
 abbrev pub DateSaid : Type 0
 DateSaid = (text : List ℕ) (date : ServiceDate) → (date_said text ≡ Some date) ↔ (text ≡ date_text_of date.year date.month date.day)
 
--- and so it is with a time of GTFS
+-- the time of GTFS that a text says is the one whose text it is
 abbrev pub TimeSaid : Type 0
 TimeSaid = (text : List ℕ) (seconds : ℕ) → (gtfs_time_said text ≡ Some seconds) ↔ SaysGtfsTime text seconds

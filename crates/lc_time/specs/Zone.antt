@@ -23,8 +23,8 @@ offset_at Utc second = pos 0
 offset_at (Posix rule) second = (Rule.offset_at rule (nanos_of_seconds second)).seconds
 offset_at (File table) second = (Table.offset_at table (nanos_of_seconds second)).seconds
 
--- The seconds by which the zone's clock is ahead of UTC where it shows a date and time: in a gap, which it never shows,
--- those before the gap; in a fold, which it shows twice, those of the earlier time.
+-- The seconds by which the zone's clock is ahead of UTC where it shows a date and time. In a gap, never shown, they
+-- are those before the gap. In a fold, which it shows twice, they are those of the earlier time.
 unfoldable pub offset_shown : Zone → DateTime → ℤ
 offset_shown Utc shown = pos 0
 offset_shown (Posix rule) shown = (compatible_offset (Rule.ambiguous_at rule shown)).seconds
@@ -67,8 +67,8 @@ abbrev pub moment_at : ℤ → Option ℕ
 moment_at (pos second) = if nat_lt second 253_402_128_000 then Some second else None
 moment_at (negsuc before) = None
 
--- The moment from which the times of a service day are counted: noon of its date less 12 hours, if that is a moment
--- (GTFS Schedule Reference, field type Time).
+-- The moment from which the times of a service day are counted. It is noon of its date less 12 hours, if there is
+-- such a moment (GTFS Schedule Reference, field type Time).
 abbrev pub anchor_of : Zone → ServiceDate → Option ℕ
 anchor_of zone date = moment_at (second_shown zone (noon_of date) -ℤ pos 43_200)
 

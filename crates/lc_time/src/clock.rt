@@ -45,8 +45,8 @@ fn written_seconds(text: [u8; 6]) -> u32
     u32::from(number(h0, h1)) * 3600 + u32::from(number(m0, m1)) * 60 + u32::from(number(s0, s1))
 }
 
-/// The seconds that a time of GTFS says, as `25:10:00` or `7:05:00`: two digits of hours, or one, and two of minutes and
-/// seconds up to 59. None exactly where the text is no such time.
+/// The seconds that a time of GTFS says, as `25:10:00` or `7:05:00`. It has two digits of hours, or one, and two of
+/// minutes and seconds up to 59. None exactly where the text is no such time.
 pub fn read_gtfs_time(text: &[u8]) -> Option<u32>
     ensures said { IfSome result (SaysGtfsTime text.now) }
     ensures exact { (seconds : ℕ) → SaysGtfsTime text.now seconds → result ≡ Some seconds }

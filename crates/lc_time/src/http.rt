@@ -15,7 +15,7 @@ pub fn http_date(moment: Moment) -> [u8; 29]
         .to_bytes()
 }
 
-/// The moment that a date of HTTP says, in one of the three formats of RFC 9110, section 5.6.7, with spaces and tabs
+/// The moment that a date of HTTP says, in one of the three formats of RFC 9110, section 5.6.7. Spaces and tabs are
 /// dropped at both ends. None exactly where the text is no such date of a moment.
 pub fn read_http_date(text: &[u8]) -> Option<Moment>
     ensures said { IfSome result (SaysHttpDate text.now) }

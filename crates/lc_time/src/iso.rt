@@ -23,7 +23,7 @@ pub fn iso_text(moment: Moment) -> [u8; 24]
     text
 }
 
-/// The moment that a text of ISO 8601 in UTC says: YYYY-MM-DDTHH:MM:SSZ, or the same with a point and three digits
+/// The moment that a text of ISO 8601 in UTC says. It is YYYY-MM-DDTHH:MM:SSZ, or that with a point and three digits
 /// before the Z, which are dropped. None exactly where the text is no such one of a moment.
 pub fn read_iso(text: &[u8]) -> Option<Moment>
     ensures said { IfSome result (SaysMoment text.now) }

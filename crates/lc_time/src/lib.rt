@@ -1,5 +1,5 @@
-//! Moments, service dates, times of day and decimal numbers as texts: each reader takes exactly its grammar, and reads
-//! back what is written; and what the clock of a zone shows. It stands on `lc_model`, on the calendar and the zones of
+//! Moments, service dates, times of day and decimal numbers as texts. Each reader takes exactly its grammar, and reads
+//! back what is written. What the clock of a zone shows. It builds on `lc_model`, on the calendar and the zones of
 //! `jiff` and on `httpdate`.
 #![tactic(auto)]
 

@@ -54,7 +54,7 @@ is_skipped relations.Scheduled = false
 is_skipped relations.Skipped = true
 is_skipped relations.NoData = false
 
--- The call that the news of a stop of an added trip give: none where it is SKIPPED, its stop is missing or unknown, or no
+-- The call that the news of a stop of an added trip give. It is none where it is SKIPPED, its stop is missing or unknown, or no
 -- time is said of it.
 abbrev pub added_call : List Stop → ℕ → StopSaid → Option StatedCall
 added_call stops seq news = if is_skipped news.relation then None else added_at stops seq news.stop (time_of news.arr) (time_of news.dep)
@@ -83,8 +83,8 @@ has_key key news = is_same_id news.trip key.trip && (is_on key.date news.date &&
 abbrev pub news_of_key : RunKey → List TripSaid → Option TripSaid
 news_of_key key list = last_or None (filter (has_key key) list)
 
--- the run is a further one: the timetable has none of its key, the last news of its key are of an added trip, which has an
--- id, and give its calls, at least two
+-- The run is a further one: the timetable has none of its key. The last news of its key are of an added trip, which has an
+-- id, and give its calls, at least two.
 pub record IsFurtherRun (runs : List Run) (stops : List Stop) (list : List TripSaid) (run : Run) : Type 0 where
   pub is_new : Any (λ (r : Run). r.key ≡ run.key) runs → ⊥
   pub news : TripSaid

@@ -11,7 +11,7 @@ abbrev pub first_of : List ℕ → Option ℕ
 first_of [] = None
 first_of (first ∷ rest) = Some first
 
--- The cuts rise strictly, each is one of the departures, and they begin with the first one; there are none exactly where
+-- The cuts strictly increase, each is one of the departures, and they begin with the first; there are none exactly where
 -- there are no departures.
 pub record AreCuts (departures cuts : List ℕ) : Type 0 where
   pub rising : AllPairs (λ (x y : ℕ). x < y) cuts

@@ -16,7 +16,7 @@ pub record Entry : Type 0 where
 abbrev pub moments_of : List Entry → List ℕ
 moments_of history = map (λ (e : Entry). e.update.moment) history
 
--- the moments of a history rise strictly, from above that of the base on
+-- the moments of a history strictly increase, from above that of the base on
 abbrev pub IsRising : ℕ → List ℕ → Type 0
 IsRising base moments = AllPairs (λ (x y : ℕ). x < y) (base ∷ moments)
 
@@ -50,13 +50,13 @@ abbrev pub put_all : List EntitySaid → List EntitySaid → List EntitySaid
 put_all kept [] = kept
 put_all kept (entity ∷ rest) = put_all (put kept entity) rest
 
--- What is kept behind an update (GTFS Realtime Reference, FeedHeader.Incrementality): of a full one its own entities with
--- news; another one replaces and takes out entities by their ids.
+-- What is in force after an update (GTFS Realtime Reference, FeedHeader.Incrementality): of a full one its own entities that have
+-- news. Another one replaces and takes out entities by their ids.
 abbrev pub kept_after : (ℕ → ServiceDate) → List EntitySaid → Update → List EntitySaid
 kept_after date_of kept update =
     if update.full then with_news (filled_entities date_of update) else put_all kept (filled_entities date_of update)
 
--- what is kept behind all of these entries
+-- what is in force after all of these entries
 abbrev pub kept_behind : (ℕ → ServiceDate) → List EntitySaid → List Entry → List EntitySaid
 kept_behind date_of kept [] = kept
 kept_behind date_of kept (entry ∷ rest) = kept_behind date_of (kept_after date_of kept entry.update) rest

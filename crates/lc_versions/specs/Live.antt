@@ -13,13 +13,13 @@ pub record Stated : Type 0 where
   pub time : ℤ
   pub delay : ℤ
 
--- What an event says of a scheduled moment, behind a delay: its time; or else its delay; or else the delay so far goes on.
+-- What an event says of a scheduled moment, after a delay: its time; or else its delay; or else the delay goes on.
 abbrev pub stated_by : ℕ → ℤ → Option ℤ → Option ℤ → Stated
 stated_by scheduled late delay (Some time) = record { time = time; delay = time -ℤ pos scheduled }
 stated_by scheduled late (Some delay) None = record { time = pos scheduled +ℤ delay; delay = delay }
 stated_by scheduled late None None = record { time = pos scheduled +ℤ late; delay = late }
 
--- the same of an event that may be absent
+-- what an event says, which may be absent
 abbrev pub stated : ℕ → ℤ → Option Event → Stated
 stated scheduled late None = stated_by scheduled late None None
 stated scheduled late (Some event) = stated_by scheduled late event.delay event.time
@@ -43,15 +43,15 @@ call_at call arr dep = record {
   dep_delay = pos dep -ℤ pos call.dep;
 }
 
--- a call whose arrival and departure are stated, before those behind the delay that these leave
+-- a call whose arrival and departure are stated, before those after the delay that these leave
 abbrev pub stated_both : Call → (ℤ → List StatedCall) → Stated → Stated → List StatedCall
 stated_both call behind arrival departure = record { at = call_at call; arr = arrival.time; dep = departure.time } ∷ behind departure.delay
 
--- a call by its events: the departure is stated behind the delay that the arrival leaves
+-- a call by its events: the departure is stated after the delay that the arrival leaves
 abbrev pub stated_events : Call → (ℤ → List StatedCall) → Option Event → Stated → List StatedCall
 stated_events call behind dep arrival = stated_both call behind arrival (stated call.dep arrival.delay dep)
 
--- A call by the news of its stop, behind a delay: NO_DATA leaves the schedule and ends the delay, and a call that is SKIPPED
+-- A call by the news of its stop, after a delay. NO_DATA leaves the schedule and ends the delay. A call that is SKIPPED
 -- is left out.
 abbrev pub stated_related : Call → (ℤ → List StatedCall) → ℤ → StopSaid → Relation → List StatedCall
 stated_related call behind late news relations.NoData = record { at = call_at call; arr = pos call.arr; dep = pos call.dep } ∷ behind (pos 0)
@@ -63,7 +63,7 @@ abbrev pub stated_with : Call → (ℤ → List StatedCall) → ℤ → Option S
 stated_with call behind late None = record { at = call_at call; arr = pos call.arr +ℤ late; dep = pos call.dep +ℤ late } ∷ behind late
 stated_with call behind late (Some news) = stated_related call behind late news news.relation
 
--- what is stated of the calls from this place on, behind a delay
+-- what is stated of the calls from this place on, after a delay
 abbrev pub stated_calls : List Naming → ℕ → ℤ → List Call → List StatedCall
 stated_calls all place late [] = []
 stated_calls all place late (call ∷ rest) = stated_with call (λ delay. stated_calls all (suc place) delay rest) late (news_at_place all place)
@@ -73,7 +73,7 @@ abbrev pub in_range : ℤ → ℕ
 in_range (pos second) = min second (MOMENTS_END - 1)
 in_range (negsuc second) = 0
 
--- a call that arrives then, before those behind its departure
+-- a call that arrives then, before those after its departure
 abbrev pub raised_to : StatedCall → (ℕ → List Call) → ℕ → List Call
 raised_to stated behind arr = stated.at arr (max arr (in_range stated.dep)) ∷ behind (max arr (in_range stated.dep))
 

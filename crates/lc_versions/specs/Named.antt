@@ -6,17 +6,17 @@ abbrev pub last_of : ℕ → List ℕ → ℕ
 last_of moment [] = moment
 last_of moment (next ∷ rest) = last_of next rest
 
--- the version is at or before the known moment, where one is given
+-- the version is at or before the known moment, if there is one
 abbrev pub is_by : Option ℕ → ℕ → Bool
 is_by None version = true
 is_by (Some known) version = nat_le version known
 
--- The version of a known moment, of a base version and the later ones in their order: the last one at or before it, or the base
--- where none is. Where no moment is given it is the newest.
+-- The version of a known moment, of a base version and the later ones in their order. It is the last one at or before it, or
+-- the base where none is. Where no moment is known it is the newest.
 abbrev pub version_named : ℕ → List ℕ → Option ℕ → ℕ
 version_named base later known = last_of base (filter (is_by known) later)
 
--- the same of a list of versions, the first of which is the base
+-- the version of a known moment, of a list of versions, the first of which is the base
 abbrev pub version_among : List ℕ → Option ℕ → Option ℕ
 version_among [] known = None
 version_among (base ∷ later) known = Some (version_named base later known)

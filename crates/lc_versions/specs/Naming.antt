@@ -50,7 +50,7 @@ abbrev pub place_of : (Call → Bool) → List Call → Option ℕ
 place_of is_so [] = None
 place_of is_so (call ∷ calls) = if is_so call then Some 0 else option_map suc (place_of is_so calls)
 
--- The call that the news of a stop name, by its place: the one of their sequence, or else the first one at their stop from
+-- The call that the news of a stop name, by its place. It is the one of their sequence, or else the first one at their stop from
 -- this place on.
 abbrev pub named_by : List Call → ℕ → Option ℕ → Option (List ℕ) → Option ℕ
 named_by calls next (Some seq) stop = place_of (λ (c : Call). c.seq == seq) calls
@@ -62,12 +62,12 @@ pub record Naming : Type 0 where
   pub place : ℕ
   pub news : StopSaid
 
--- the news of a stop with the call that they name, if they name one, before the namings behind that place or this one
+-- the news of a stop with the call that they name, if they name one, before the namings after that place or this one
 abbrev pub naming_then : StopSaid → (ℕ → List Naming) → ℕ → Option ℕ → List Naming
 naming_then news behind next None = behind next
 naming_then news behind next (Some place) = record { place = place; news = news } ∷ behind (suc place)
 
--- The news of stops one after the other, each with the call that it names. A stop is looked for behind the call that was
+-- The news of stops one after the other, each with the call that it names. A stop is looked for after the call that was
 -- named last; news that name no call are passed over.
 abbrev pub namings : List Call → ℕ → List StopSaid → List Naming
 namings calls next [] = []

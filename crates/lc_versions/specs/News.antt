@@ -5,7 +5,7 @@ use Rattle.lc_versions.specs.declared.event.Event.{Event}
 use Rattle.lc_versions.specs.declared.event.Relation.{Relation}
 use Rattle.lc_versions.specs.declared.event.TripKind.{TripKind}
 
--- The news of one stop of a trip: its sequence and its id, as far as they are said, how the trip serves it, and what is
+-- The news of one stop of a trip: its sequence and its id, as far as they are said. How the trip serves it, and what is
 -- said of the arrival and of the departure.
 pub record StopSaid : Type 0 where
   pub seq : Option ℕ
@@ -14,8 +14,8 @@ pub record StopSaid : Type 0 where
   pub arr : Option Event
   pub dep : Option Event
 
--- The news of one trip: its id, the date and the start of the run as far as they are said, what the news are, and the news
--- of its stops in the order of the message.
+-- The news of one trip: its id, the date and the start of the run as far as they are said, and what the news are. The
+-- news of its stops in the order of the message.
 pub record TripSaid : Type 0 where
   pub trip : List ℕ
   pub date : Option ServiceDate

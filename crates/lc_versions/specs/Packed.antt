@@ -1,4 +1,4 @@
--- What the news that are kept small stand for.
+-- What the news that are held small stand for.
 use Rattle.std.specs.Prelude.{ℕ, Option, Some, None}
 use Rattle.lc_versions.specs.News.{StopSaid}
 use Rattle.lc_versions.specs.declared.event.Relation.TheVariants as relations

@@ -16,8 +16,8 @@ pub record IsLiveRun (runs : List Run) (list : List TripSaid) (live : Run) : Typ
   pub same_key : live.key ≡ run.key
   pub calls : live.calls ≡ live_calls_of run.calls (news_for run.key list)
 
--- These are the runs with their live calls by the news, strictly by their keys: those of the timetable and the further ones,
--- and no others.
+-- These are the runs with their live calls by the news, strictly by their keys. They are those of the timetable and the
+-- further ones, and no others.
 pub record AreLiveRuns (runs : List Run) (stops : List Stop) (list : List TripSaid) (live : List Run) : Type 0 where
   pub in_order : InKeyOrder live
   pub exactly : (run : Run) → Contains live run ↔ (IsLiveRun runs list run ⊎ IsFurtherRun runs stops list run)

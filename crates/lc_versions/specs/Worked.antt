@@ -1,4 +1,4 @@
--- Worked values: a trip of three calls under news, an added trip, the news that are kept, the version that is named, and pages.
+-- Worked values: a trip of three calls under news, an added trip, the news in force, the version that is named, and pages.
 -- Moments are seconds of a day here.
 use Rattle.std.specs.Prelude.{◌≡◌, ℕ, ℤ, pos, negsuc, ◌*◌, ◌+◌, List, [], ◌∷◌, map, codes, Bool, true, false, Option, Some, None}
 use Rattle.lc_model.specs.declared.call.Call.{Call}
@@ -63,7 +63,7 @@ t1_with stops = live_calls_of t1 (Some (trip_news (codes "T1") None kinds.Schedu
 
 -- What news make of T1. A delay of 60 at the arrival in B goes on to C. A stop that is skipped is left out. Leaving A 900 late, and on
 -- time in B: no call arrives before the one before it departs. Where there are no data in B the delay ends there. B may be named by its
--- id, and the last news of several stand.
+-- id, and the last news of several count.
 pub record WorkedCalls : Type 0 where
   pub without_news : live_calls_of t1 None ≡ t1
   pub canceled : live_calls_of t1 (Some (trip_news (codes "T1") None kinds.Canceled [])) ≡ []
@@ -86,7 +86,7 @@ pub record WorkedCalls : Type 0 where
 abbrev pub two_stops : List Stop
 two_stops = record { id = codes "A"; name = []; parent = None } ∷ record { id = codes "D"; name = []; parent = None } ∷ []
 
--- An added trip from A at 08:05 over the unknown stop Q to D at 08:25: Q is left out, and the sequences are the places of the news.
+-- An added trip from A at 08:05 over the unknown stop Q to D at 08:25. Q is left out, and the sequences are the places of the news.
 pub record WorkedAdded : Type 0 where
   pub over_q :
       added_calls two_stops (stop_news None (Some (codes "A")) Scheduled None (timed (at 8 5)) ∷ stop_news None (Some (codes "Q")) Scheduled (timed (at 8 10)) None
@@ -113,7 +113,7 @@ bare trip date kind = trip_news trip date kind []
 abbrev pub first_message : Entry
 first_message = entry (at 7 0) true (entity (codes "1") (Some (bare (codes "T1") None kinds.Scheduled)) ∷ [])
 
--- What is kept behind that message and a second one. News without a date have that of their message's moment. A differential message
+-- What is in force after that message and a second one. News without a date have that of their message's moment. A differential message
 -- takes out an entity, or adds one; a full one leaves nothing of the first.
 pub record WorkedNews (date : ServiceDate) : Type 0 where
   pub at_the_base : news_at (λ moment. date) (first_message ∷ []) (at 6 0) ≡ []

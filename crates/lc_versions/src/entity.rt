@@ -6,7 +6,7 @@ use lc_model::{Bytes, Items, NoMemory, PlainData};
 use std::alloc::Global;
 use std::marker::Model;
 
-/// An entity of a message: its id, and its news where it has some. A contract sees these. The news lie apart, since most of
+/// An entity of a message: its id, and its news where it has some. A contract sees these. The news are apart, since most of
 /// a hostile message's entities have none.
 #[derive(Drop)]
 pub struct EntityNews {

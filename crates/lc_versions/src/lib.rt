@@ -1,5 +1,5 @@
 //! Versions of a timetable: what realtime messages say of trips and stops, and the definitions of what was known when. It
-//! stands on `lc_model`.
+//! builds on `lc_model`.
 #![tactic(auto)]
 
 mod entity;

@@ -8,7 +8,7 @@ use std::alloc::Global;
 use std::marker::Model;
 
 /// The news of one stop of a trip, named by its sequence or its stop. A contract sees what is said. A message may say
-/// nothing of very many stops in two bytes each, so what is said beyond the sequence lies apart: without it the news take
+/// nothing of very many stops in two bytes each, thus what is said beyond the sequence is apart. Without it the news take
 /// 24 bytes.
 #[derive(Drop)]
 pub struct StopNews {

@@ -2,7 +2,7 @@ use crate::EntityList;
 use lc_model::{Moment, NoMemory, PlainData};
 use std::alloc::Global;
 
-/// What a message of GTFS Realtime says: its moment, whether it is the full state or what changed, its entities, and how many
+/// What a message of GTFS Realtime says: its moment, whether it is the full state or what changed, and its entities. How many
 /// trip updates were passed over.
 #[derive(Drop)]
 pub struct Update {

@@ -2,8 +2,8 @@ ghost use Rattle.lc_model.specs.declared.date.ServiceDate.{ServiceDate as Date};
 ghost use Rattle.lc_model.specs.declared.key.RunKey.{RunKey as Key};
 ghost use Rattle.lc_versions.specs.Worked.{WorkedAdded, WorkedCalls, WorkedNews, WorkedPages, WorkedVersions};
 
-/// Values that were worked out by hand, which the definitions take: what news make of a trip, an added trip, the news that are
-/// kept, the version that is named, and pages.
+/// Values that were worked out by hand, which the definitions take. They are what news make of a trip, an added trip, the
+/// news in force, the version that is named, and pages.
 pub fn worked_versions()
     ensures calls { WorkedCalls }
     ensures added { WorkedAdded }

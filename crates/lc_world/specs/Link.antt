@@ -12,9 +12,9 @@ use Rattle.lc_world.specs.declared.entry.RecordedReply.TheVariants as recorded_r
 use Rattle.lc_world.specs.declared.link.LinkFail.{LinkFail}
 use Rattle.lc_world.specs.declared.link.LinkFail.TheVariants.{Failed, NoMemory}
 
--- The side at the other end, where the link tells it; the exchanges, where it tells them; under which bases it is honest, as far as
--- its side does not say it, and under which its side also stays as it is; whether it leaves an answer that is handed on as it is;
--- whether a GET leaves its side as it is, whatever it replies; and how often it has failed.
+-- The side at the other end and the exchanges, where the link records them. Under which bases it is honest, as far as
+-- its side does not say it, and under which its side also stays as it is. Whether it leaves an answer that is handed on as it is.
+-- Whether a GET leaves its side as it is, whatever it replies. How often it has failed.
 pub record LinkSeen : Type 1 where
   pub side : Option Side
   pub recorded : Option (List Entry)
@@ -24,7 +24,7 @@ pub record LinkSeen : Type 1 where
   pub still : Type 0
   pub faults : ℕ
 
--- a link that tells this side and of which this is said is honest under the base with a side that stands there
+-- a link that records this side and of which this is said is honest under the base with a side that is under it
 pub record IsHonest (recorded : Option Side) (said : Type 0) (base : BaseParts) (side : Side) : Type 0 where
   pub tells : recorded ≡ Some side
   pub stands : StandsUnder base side
@@ -49,8 +49,8 @@ pub record IsGet (bytes : List ℕ) : Type 0 where
   pub whole : IsWholeRequest bytes request
   pub method_is : request.method ≡ codes "GET"
 
--- What an honest link with this side has become, by what it tells now and what is said of it, and whether it was quiet: it is honest
--- with a later side, which has given the reply if there is one, and with the same side, and still quiet, if it was quiet.
+-- What an honest link with this side has become, by what it records now, what is said of it, and whether it was quiet. It is honest
+-- with a later side, which has given the reply if there is one. If it was quiet, it is honest with the same side, and still quiet.
 pub record StaysHonest {T : Type 0} (base : BaseParts) (before : Side) (was_quiet : Type 0) (recorded : Option Side) (said said_quiet : Type 0)
     (request reply : List ℕ) (result : Result T LinkFail) : Type 0 where
   pub side : Side
@@ -65,12 +65,12 @@ abbrev pub Exchanges : {T : Type 0} → LinkSeen → LinkSeen → BaseParts → 
 Exchanges before after base side request reply result =
     StaysHonest base side (before.quiet base) after.side (after.honest base) (after.quiet base) request reply result
 
--- what is recorded of the reply that was given, or that there was none
+-- what is recorded of the reply that came, or that there was none
 abbrev pub recorded_of : Option (List ℕ) → RecordedReply
 recorded_of None = recorded_replies.Failed
 recorded_of (Some reply) = recorded_replies.Reply reply
 
--- One exchange more is recorded, where exchanges are recorded: with the reply that was given, or that it failed, unless the link hides replies.
+-- One exchange more is recorded, where exchanges are recorded: with the reply that came, or that it failed, unless the link hides replies.
 pub record TellsMore (before after : Option (List Entry)) (authority request : List ℕ) (given : Option (List ℕ)) : Type 0 where
   pub reply : RecordedReply
   pub is_given : (reply ≡ recorded_replies.Hidden) ⊎ (reply ≡ recorded_of given)

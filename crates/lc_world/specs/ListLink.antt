@@ -6,7 +6,7 @@ use Rattle.lc_world.specs.declared.entry.Entry.{Entry}
 use Rattle.lc_world.specs.declared.entry.RecordedReply.{RecordedReply}
 use Rattle.lc_world.specs.declared.entry.RecordedReply.TheVariants.{Failed, Reply}
 
--- The replies, the numbers of the calls that fail, how many replies were given, how many calls there were, the exchanges with what was
+-- The replies, the numbers of the calls that fail, how many replies came, and how many calls there were. The exchanges with what was
 -- replied, and how often a call has failed.
 pub record ListLinkState : Type 0 where
   pub replies : List (List ℕ)

@@ -1,9 +1,9 @@
 use lc_model::{Bytes, Text};
 
-/// What a link tells of the reply to an exchange.
+/// What a link records of its reply.
 #[derive(Drop)]
 pub enum RecordedReply {
-    /// It does not tell whether there was one.
+    /// It does not record whether there was one.
     Hidden,
     /// There was none: the exchange failed.
     Failed,
@@ -11,7 +11,7 @@ pub enum RecordedReply {
     Reply(Bytes),
 }
 
-/// An exchange that a link tells.
+/// An exchange that a link records.
 #[derive(Drop)]
 pub struct Entry {
     /// Who was asked, as `host:port`.

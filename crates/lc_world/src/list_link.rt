@@ -45,7 +45,7 @@ impl Model for ListLink {
 }
 
 impl ListLink {
-    /// A link of which no call fails but for want of a reply.
+    /// A link of which a call fails only where no reply is left.
     pub fn new(replies: Vec<Bytes>) -> Result<ListLink, NoMemory>
         ensures { IfOk result (λ link. link ≡ record { replies = replies.items; fails = []; given = 0; calls = 0; recorded = []; faults = 0 }) }
     {
@@ -226,7 +226,7 @@ impl Link for ListLink {
     ghost use Rattle.std.specs.Prelude.{◌≡◌, Some, None};
     ghost use Rattle.lc_world.specs.ListLink.{IsUsedUp};
 
-    /// It records its exchanges with their replies, and tells no side.
+    /// It records its exchanges with their replies, and no side.
     ghost seen = { λ l. record {
       side = None;
       recorded = Some l.recorded;

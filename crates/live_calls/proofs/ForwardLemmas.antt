@@ -11,7 +11,7 @@ use Rattle.lc_versions.specs.Live.{StatedCall, in_range, raised}
 abbrev pub seq_of : StatedCall → ℕ
 seq_of stated = (stated.at 0 0).seq
 
--- the call is made at the moments that are given to it, and its sequence does not depend on them
+-- the call is made at the moments that are stated of it, and its sequence does not depend on them
 pub record KeepsTimes (stated : StatedCall) : Type 0 where
   pub arr : (a d : ℕ) → (stated.at a d).arr ≡ a
   pub dep : (a d : ℕ) → (stated.at a d).dep ≡ d
@@ -36,7 +36,7 @@ dep_of before stated = max (arr_of before stated) (in_range stated.dep)
 abbrev first_of : ℕ → StatedCall → Call
 first_of before stated = stated.at (arr_of before stated) (dep_of before stated)
 
--- no call arrives before the moment that stands before them all
+-- no call arrives before the moment that comes before them all
 above : (before : ℕ) (list : List StatedCall) → All KeepsTimes list → All (λ (c : Call). before ≤ c.arr) (raised before list)
 above before [] keeps = All-nil (λ (c : Call). before ≤ c.arr)
 above before (stated ∷ rest) keeps =
@@ -75,7 +75,7 @@ all_raised P before (stated ∷ rest) keeps all =
     (subst P (sym (here.seq (arr_of before stated) (dep_of before stated))) (All-head (λ (t : StatedCall). P (seq_of t)) stated rest all))
     (all_raised P (dep_of before stated) rest (All-tail KeepsTimes stated rest keeps) (All-tail (λ (t : StatedCall). P (seq_of t)) stated rest all))
 
--- the sequences of calls as they are stated rise
+-- the sequences of calls as they are stated increase
 abbrev pub RiseInStated : List StatedCall → Type 0
 RiseInStated list = AllPairs (λ (x y : StatedCall). seq_of x < seq_of y) list
 

@@ -36,7 +36,7 @@ live_more all calls place call late late' before before' old new whole news time
     ∙ ap (λ v. old ++ raised before v) (stated_here all calls place call late news inside is of_news)
     ∙ e
 
--- a call as it is stated, before those behind a delay
+-- a call as it is stated, before those after a delay
 record IsStated (call : Call) (behind : ℤ → List StatedCall) (list : List StatedCall) : Type 0 where
   times : Option Times
   late : ℤ

@@ -35,7 +35,7 @@ own_moments call on =
       dep_delay = dep i;
     }
 
--- a moment in range, without a delay, behind an earlier one
+-- a moment in range, without a delay, after an earlier one
 raised_none : (before n : ℕ) → before ≤ n → n < MOMENTS_END → max before (in_range (pos n +ℤ pos 0)) ≡ n
 raised_none before n le under =
     let same : in_range (pos n +ℤ pos 0) ≡ n = omega arith in

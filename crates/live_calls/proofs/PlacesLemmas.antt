@@ -53,7 +53,7 @@ is_before_stated p q =
 ranks : IsStrictWeakOrder is_before
 ranks = ranks_by (then_total (on_total (λ (p : StopPlace). p.stop.now) nat_list_cmp_total) (on_total (λ (p : StopPlace). p.place) nat_cmp_total)) (λ p. p)
 
--- what stands before the asked place stands in front
+-- what is before the asked place is in front
 pub parted : (places : List StopPlace) (asked : StopPlace) → IsSorted place_cmp places → IsPartitionedBy (λ p. is_before p asked) places
 parted places asked sorted = λ i j d le inside before. true_from_ne_false _ (λ not.
     let still : is_before (get_or places j d) asked ≡ false = ranks.chain (get_or places j d) (get_or places i d) asked (sorted_far is_before ranks places sorted i j d le inside) not in cc)
@@ -79,7 +79,7 @@ neither_less Greater Less e f g = cc
 neither_less Greater Equal e f g = cc
 neither_less Greater Greater e f g = cc
 
--- what stands between two places at one stop is at that stop
+-- what is between two places at one stop is at that stop
 between : (p q r : StopPlace) → is_before q p ≡ false → is_before r q ≡ false → r.stop.now ≡ p.stop.now → q.stop.now ≡ p.stop.now
 between p q r first second same =
     let low : is_lt (id_cmp q.stop.now p.stop.now) ≡ false = first_not_less _ (nat_cmp q.place p.place) first in
@@ -117,7 +117,7 @@ module _ (calls : List Call) (places : List StopPlace) (are : ArePlaces calls (l
   none_from none = place_of-none is_there (drop asked.place calls) (λ k d inside.
       rw (get_or-drop asked.place calls k d) (false_from_ne_true _ (none (asked.place + k) d (omega arith) (omega (arith, inside, length-drop asked.place calls)))))
 
-  -- no place is the asked one or behind it
+  -- no place is the asked one or after it
   pub none_at_end : length places ≤ at → place_of is_there (drop asked.place calls) ≡ None
   none_at_end end = none_from (λ j d from inside there. let s = stands j d from inside there in absurd (omega (arith, s.from, s.inside)))
 

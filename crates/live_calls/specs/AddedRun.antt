@@ -20,7 +20,7 @@ pub record IsAddedRun (stops : List Stop) (news : TripSaid) (run : Run) : Type 0
 abbrev pub HasNoKey : TripSaid → Type 0
 HasNoKey news = (IsIdText news.trip → ⊥) ⊎ ((news.date ≡ None) ⊎ IsSomeAnd news.start (λ start. 360_000 ≤ start))
 
--- the same news of a run on this date
+-- the news, now of a run on this date
 abbrev pub on_date : ServiceDate → TripSaid → TripSaid
 on_date date news = record { trip = news.trip; date = Some date; start = news.start; kind = news.kind; stops = news.stops }
 

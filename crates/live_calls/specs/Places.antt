@@ -16,7 +16,7 @@ place_cmp = then_cmp (on (λ p. p.stop.now) id_cmp) (on (λ p. p.place) nat_cmp)
 abbrev pub is_before : StopPlace → StopPlace → Bool
 is_before p q = is_lt (place_cmp p q)
 
--- a call stands at the place, and the stop is its
+-- a call is at the place, and the stop is its
 abbrev pub IsOfCall : List Call → StopPlace → Type 0
 IsOfCall calls p = (p.place < length calls) × ((d : Call) → p.stop.now ≡ (slice_index_or calls p.place d).stop)
 

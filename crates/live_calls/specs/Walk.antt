@@ -9,7 +9,7 @@ use Rattle.lc_versions.specs.Naming.{Naming}
 use Rattle.lc_versions.specs.News.{StopSaid}
 use Rattle.live_calls.specs.declared.stated.Times.{Times}
 
--- so late or early may a call be stated: by any 64 bits of seconds
+-- as late or early as a call may be stated: by any 64 bits of seconds
 pub record IsLateness (late : ℤ) : Type 0 where
   pub low : negsuc 18_446_744_073_709_551_615 ≤ℤ late
   pub high : late ≤ℤ pos 18_446_744_073_709_551_616

@@ -82,7 +82,7 @@ fn added_call_at(alloc: Global, stop: &Id, seq: u32, raised: Raised) -> Result<C
     })
 }
 
-/// Adds a call at a stop if it is known, behind one that departs at a moment, and gives the moment of the departure then.
+/// Adds a call at a stop if it is known, after one that departs at a moment, and gives the moment of the departure then.
 fn push_at_stop(
     alloc: Global,
     calls: &mut Vec<Call>,
@@ -125,7 +125,7 @@ fn push_added(
     }
 }
 
-/// The sequence of the call that stands at a place, counted from 0. Out of memory where there is none.
+/// The sequence of the call at a place, counted from 0. Out of memory where there is none.
 fn sequence_at(place: usize) -> Result<u32, NoMemory>
     ensures { IfOk result (λ seq. seq ≡ suc place) }
 {

@@ -60,7 +60,7 @@ pub fn added_run_on(
 }
 
 /// The run that the news of an added trip make: it has their trip, date and start, and the calls that they give. None exactly
-/// where the trip is no id, no date is said, the start is past 100 hours, or fewer than two calls are given. Each of the news
+/// where the trip is no id, no date is said, the start is past 100 hours, or they give fewer than two calls. Each of the news
 /// of stops takes the logarithm of the stops. Out of memory also where there are 2^32 news of stops.
 pub fn added_run(alloc: Global, news: &TripNews, stops: &Stops) -> Result<Option<Run>, NoMemory>
     ensures { IfOk result (IsAdded stops.now news.now) }

@@ -1,4 +1,4 @@
-//! The calls of runs as news change them, their connections, and the runs that news of added trips make. It stands on the
+//! The calls of runs as news change them, their connections, and the runs that news of added trips make. It builds on the
 //! words of `lc_model` and the definitions of `lc_versions`.
 #![tactic(auto)]
 

@@ -42,7 +42,7 @@ fn stop_places<'a>(alloc: Global, calls: &'a [Call]) -> Result<Vec<StopPlace<'a>
     Ok(places)
 }
 
-/// How many of the places stand before the asked one. Takes the logarithm of the places.
+/// How many of the places are before the asked one. Takes the logarithm of the places.
 fn places_before<'a>(places: &[StopPlace<'a>], asked: StopPlace<'a>) -> usize
     requires { IsSorted place_cmp places.now }
     ensures bound { result ≤ length places.now }
@@ -84,7 +84,7 @@ fn named_place<'a>(
     }
 }
 
-/// Puts the news beside the call that they name, in the place of those that named it before, and gives the place behind it.
+/// Puts the news beside the call that they name, in the place of those that named it before, and gives the place after it.
 fn put_news<'a>(
     calls: &[Call],
     places: &[StopPlace<'a>],

@@ -28,7 +28,7 @@ fn call_at(alloc: Global, call: &Call, raised: Raised) -> Result<Call, NoMemory>
     })
 }
 
-/// Adds a call where it has times, behind one that departs at a moment, and gives the moment of the departure then.
+/// Adds a call where it has times, after one that departs at a moment, and gives the moment of the departure then.
 fn push_stated(
     alloc: Global,
     calls: &mut Vec<Call>,
@@ -99,8 +99,8 @@ fn live_list(alloc: Global, calls: &[Call], news: Option<&TripNews>) -> Result<V
     }
 }
 
-/// The live calls of a run with the news that name it, or without. It takes the time of the calls, of a sort of them where there are news of
-/// stops, and for each of these the logarithm of the calls.
+/// The live calls of a run with the news that name it, or without. It takes the time of the calls. News of stops take the time of a
+/// sort of the calls, and each of them the logarithm of the calls.
 pub fn live(alloc: Global, run: &Run, news: Option<&TripNews>) -> Result<Calls, NoMemory>
     ensures live { IfOk result (λ calls. calls ≡ live_calls_of run.now.calls (option_copied news.entry)) }
     ensures forward { IfOk result GoesForward }

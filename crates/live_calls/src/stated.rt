@@ -20,14 +20,14 @@ pub(crate) struct StatedMoment {
     pub(crate) delay: i128,
 }
 
-/// What is stated of a call, nothing where it is left out, and the delay behind it.
+/// What is stated of a call, nothing where it is left out, and the delay after it.
 #[derive(Clone, Copy)]
 pub(crate) struct Telling {
     pub(crate) times: Option<Times>,
     pub(crate) late: i128,
 }
 
-/// What an event says of a scheduled moment behind a delay.
+/// What an event says of a scheduled moment after a delay.
 fn stated_moment(scheduled: Moment, late: i128, event: Option<Event>) -> StatedMoment
     requires { IsLateness late }
     ensures time { result.time ≡ (stated scheduled late event).time }
@@ -55,7 +55,7 @@ fn stated_moment(scheduled: Moment, late: i128, event: Option<Event>) -> StatedM
     }
 }
 
-/// How a call is stated by its events: the departure behind the delay that the arrival leaves.
+/// How a call is stated by its events: the departure after the delay that the arrival leaves.
 fn stated_by_events(call: &Call, late: i128, arr: Option<Event>, dep: Option<Event>) -> Telling
     requires { IsLateness late }
     ensures stated { (behind : ℤ → List StatedCall) → stated_events call.now behind dep (stated call.now.arr late arr)
@@ -107,7 +107,7 @@ fn stated_scheduled(call: &Call) -> Telling
     }
 }
 
-/// How a call is stated by the news of its stop, or without, behind a delay.
+/// How a call is stated by the news of its stop, or without, after a delay.
 pub(crate) fn stated_call(call: &Call, late: i128, news: Option<&StopNews>) -> Telling
     requires { IsLateness late }
     ensures stated { (behind : ℤ → List StatedCall) → stated_with call.now behind late (option_copied news.entry)

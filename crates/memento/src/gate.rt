@@ -7,7 +7,7 @@ use lc_time::iso_text;
 use percent_encoding::ascii_str;
 use std::alloc::Global;
 
-/// The target of a request at the time gate for departures from this moment on: the gate's URL from its path on.
+/// The target of a request at the time gate for departures from this moment on: its URL from its path on.
 pub fn gate_target(alloc: Global, base: &Base, departs: Moment) -> Result<Text, NoMemory>
     ensures { IfOk result (λ target. target ≡ gate_target_of base.now departs) }
 {

@@ -6,7 +6,7 @@ ghost use Rattle.memento.specs.Negotiation.{Negotiates};
 use lc_model::Moment;
 use lc_time::read_http_date;
 
-// Whether the version is at or before the known moment, where one is given.
+// Whether the version is at or before the known moment, if there is one.
 fn is_by(known: &Option<Moment>, version: Moment) -> bool
     ensures { result ≡ is_by_it known.now version }
 {
@@ -27,8 +27,8 @@ fn meant(named: Moment, known: &Option<Moment>, version: Moment) -> Moment
     }
 }
 
-/// The version of a known moment among these, the first of which is the base: the last one at or before it, or the base where
-/// none is, or the newest where no moment is given. Linear in the versions.
+/// The version of a known moment among these, the first of which is the base. It is the last one at or before it, or the
+/// base where none is, or the newest where no moment is known. Linear in the versions.
 pub fn version_among(versions: &[Moment], known: Option<Moment>) -> Moment
     requires { 1 ≤ length versions.now }
     ensures { named_among versions.now known ≡ Some result }

@@ -1,4 +1,4 @@
--- Entries that are kept by keys of their values, seen as the list of the values.
+-- Entries that are cached by keys of their values, seen as the list of the values.
 use Rattle.std.proofs.Common.{◌≡◌, ◌⊎◌, inl, inr, ℕ, zero, suc, ◌+◌, ◌-◌, ◌<◌, ◌≤◌, Bool, true, false, cond, not, List, [], ◌∷◌, length, map, take, Option, Some, None, Contains, refl, sym, ap, ◌∙◌, arith}
 use Rattle.std.specs.List.{All, AllByRecursion, IsDistinct, filter, find}
 use Rattle.std.specs.Option.{option_map, option_map_or}
@@ -11,7 +11,7 @@ use Rattle.lru.specs.LruCache.{LruCache, promoted, put_entries}
 use Rattle.lru.proofs.CallerLemmas.{Contains-promoted, Contains-put_entries, IsPut}
 
 module _ {K X : Type 0} (key : X → K) where
-  -- each value is kept by its key
+  -- each value is cached by its key
   abbrev pub IsKeyed : K × X → Type 0
   IsKeyed e = e.0 ≡ key e.1
 
@@ -121,7 +121,7 @@ module _ {K X : Type 0} (key : X → K) where
         → values (put_entries eq c k x) ≡ take c.cap (x ∷ filter (λ (y : X). not (p y)) (values c.entries))
     values-put_entries h apart fits some = after_put h apart fits some (lookup_entry (eq k) c.entries) refl
 
-  -- a value that is put by its key is kept by it
+  -- a value that is put by its key is cached by it
   pub AreKept-put_entries : (eq : K → K → Bool) → ((j k : K) → eq j k ≡ true → j ≡ k) → (c : LruCache K X) (k : K) (x : X) → key x ≡ k → AreKept c.entries
       → AreKept (put_entries eq c k x)
   AreKept-put_entries eq same c k x named h = All-from_contains IsKeyed (put_entries eq c k x) (λ e within. elim (Contains-put_entries eq c k x e within) [

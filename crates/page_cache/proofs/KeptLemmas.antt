@@ -1,4 +1,4 @@
--- What holds of each page that is kept holds of each page that is kept later.
+-- What holds of each cached page holds of each page that is cached later.
 use Rattle.std.proofs.Common.{◌≡◌, ℕ, ◌⊎◌, Bool, not, List, [], ◌∷◌, take, Option, Some, None, Contains, cond, true, false, subst, sym, refl, ap, ◌∙◌}
 use Rattle.std.specs.List.{All, filter, find}
 use Rattle.std.specs.Option.{option_map_or}
@@ -44,7 +44,7 @@ passes test (first ∷ rest) page is = (elim (test first) as (λ v. test first �
   | false ↦ λ t e. passes test rest page e
 ]) refl is
 
--- and so it has the name
+-- the page that is found has the name
 pub named : (pages : List Page) (name : PageName) (page : Page) → page_named pages name ≡ Some page → page.name ≡ name
 named pages name page is =
     let e = both name.version name.departs page.name.version page.name.departs (passes (has_name name) pages page is) in

@@ -1,4 +1,4 @@
--- How a cache keeps its pages: each by the key of its name.
+-- How a cache holds its pages: each by the key of its name.
 use Rattle.std.specs.Prelude.{◌≡◌, List}
 use Rattle.std.specs.List.{All}
 use Rattle.lc_model.specs.declared.page.PageName.{PageName}
@@ -9,6 +9,6 @@ use Rattle.page_cache.specs.declared.cache.Key.{Key}
 abbrev pub key_of : PageName → Key
 key_of name = record { version = name.version; departs = name.departs }
 
--- each page stands by the key of its name
+-- each page is at the key of its name
 abbrev pub AreKeyed : List (Key × Page) → Type 0
 AreKeyed entries = All (λ (e : Key × Page). e.0 ≡ key_of e.1.name) entries

@@ -1,4 +1,4 @@
--- The pages that a cache keeps, most recently used first.
+-- The pages that are cached, most recently used first.
 use Rattle.std.specs.Prelude.{ℕ, ◌≤◌, Bool, not, ◌&&◌, ◌==◌, List, [], ◌∷◌, length, take, filter, find, map, Option}
 use Rattle.std.specs.List.{IsDistinct}
 use Rattle.std.specs.Option.{option_map_or}
@@ -18,7 +18,7 @@ is_same a b = (a.version == b.version) && (a.departs == b.departs)
 abbrev pub has_name : PageName → Page → Bool
 has_name name page = is_same name page.name
 
--- the page of this name, if it is kept
+-- the page of this name, if it is cached
 abbrev pub page_named : List Page → PageName → Option Page
 page_named pages name = find (has_name name) pages
 
@@ -26,11 +26,11 @@ page_named pages name = find (has_name name) pages
 abbrev pub without : List Page → PageName → List Page
 without pages name = filter (λ (page : Page). not (has_name name page)) pages
 
--- a page that is used moves to the front, if it is kept
+-- a page that is used moves to the front, if it is cached
 abbrev pub with_used : List Page → PageName → List Page
 with_used pages name = option_map_or (λ (page : Page). page ∷ without pages name) (page_named pages name) pages
 
--- a page that is put stands in front, and the last one is dropped where there are more than the capacity then
+-- a page that is put is in front, and the last one is dropped where there are more than the capacity then
 abbrev pub with_put : Kept → Page → List Page
 with_put kept page = take kept.capacity (page ∷ without kept.pages page.name)
 

@@ -11,7 +11,7 @@ use std::num::NonZeroUsize;
 /// The greatest capacity of a cache.
 pub const MOST_PAGES: usize = 10_000;
 
-/// What a page is kept by.
+/// What a page is cached by.
 #[derive(Clone, Copy, PartialEq, Eq, Hash)]
 struct Key {
     version: Moment,
@@ -53,7 +53,7 @@ impl PageCache {
         })
     }
 
-    /// The page of this name, if it is kept. It is the most recently used one then. Takes a constant time on average.
+    /// The page of this name, if it is cached. It is the most recently used one then. Takes a constant time on average.
     pub fn get(&mut self, name: PageName) -> Option<&Page>
         ensures* used { sem 𝓛 (EndsUsed self.entry name) }
         ensures page { option_copied result ≡ page_named self.old.pages name }
@@ -74,7 +74,7 @@ impl PageCache {
         Ok(())
     }
 
-    /// How many pages are kept.
+    /// How many pages are cached.
     pub fn len(&self) -> usize
         ensures len { result ≡ length self.now.pages }
         ensures within { IsWithin self.now }

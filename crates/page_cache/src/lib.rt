@@ -1,4 +1,4 @@
-//! A bounded cache of pages, by their names, in the order of their last use. It stands on `page_json` and `lc_model`, and on
+//! A bounded cache of pages, by their names, in the order of their last use. It builds on `page_json` and `lc_model`, and on
 //! `lru` of the kit.
 #![tactic(auto)]
 

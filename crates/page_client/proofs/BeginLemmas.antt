@@ -1,4 +1,4 @@
--- A client behind the stops document.
+-- A client after the stops document.
 use Rattle.std.proofs.Common.{◌≡◌, ℕ, ◌+◌, ◌<◌, List, [], Option, Some, None, refl, sym, ap, subst, arith}
 use Rattle.std.proofs.Math.Logic.{∥∥₁_elim, ∥∥₁_map}
 use Rattle.std.proofs.lemmas.List.Elements.{All-nil}
@@ -48,14 +48,14 @@ module _ (query : Query) (gate : Option (List ℕ)) (old : Option Scan) (phase :
     by_gate (Some reply) h = omega arith
     by_gate None h = ∥∥₁_elim h le_prop (λ s. absurd (s.replied refl))
 
--- the page behind the stops document is the first one
+-- the page after the stops document is the first one
 pub first_shown : (s : Shown) (first : PageName) → s.phase ≡ phases.Stops first →
     record { query = s.query; phase = phases.Page first; version = s.version; gate = s.gate; outcome = s.outcome } ≡ after_stops s
 first_shown s first at_stops =
     let F : Phase → Shown = λ p. record { query = s.query; phase = behind_stops p; version = s.version; gate = s.gate; outcome = s.outcome } in
     ap F (sym at_stops)
 
--- a client that took the gate's reply is sound
+-- a client that took the time gate's reply is sound
 pub sent_on : (query : Query) (gate : Option (List ℕ)) (scan : Option Scan) (phase : Phase) (reply : List ℕ) (first : PageName) → want_of phase ≡ wants.Gate → ∥ IsSound query gate scan phase ∥₁ →
     ∥ IsSound query (Some reply) scan (phases.Stops first) ∥₁
 sent_on query gate scan phases.Gate reply first at_gate sound = ∥∥₁_map sound (λ horizon. record { horizon = horizon; replied = λ none. absurd (cc) })

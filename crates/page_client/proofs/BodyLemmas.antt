@@ -1,4 +1,4 @@
--- The body of a reply lies within its bytes.
+-- The body of a reply is within its bytes.
 use Rattle.std.proofs.Common.{◌≡◌, ℕ, ◌+◌, ◌-◌, ◌≤◌, List, length, length-append, Bool, true, false, Some, None, refl, ap, arith}
 use Rattle.std.specs.Prelude.{codes, nat_lt, if◌then◌else◌}
 use Rattle.std.proofs.lemmas.Bool.Decides.{nat_tests}

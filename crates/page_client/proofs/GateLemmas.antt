@@ -1,4 +1,4 @@
--- Where the gate sends, by its URL.
+-- Where the time gate sends, by its URL.
 use Rattle.std.proofs.Common.{◌≡◌, ℕ, List, Option, Some, None, Result, Ok, Err, IfOk, refl, sym, subst}
 use Rattle.url.specs.Parser.{parse_url}
 use Rattle.url.specs.Parts.{Parts}
@@ -10,7 +10,7 @@ use Rattle.page_client.specs.Gate.{IsJoined, IsSent, LeadsTo}
 use Rattle.page_client.specs.declared.fault.PeerFault.TheVariants.{Location}
 
 module _ (base : BaseParts) (leave : ℕ) where
-  -- the gate has one URL, so what is joined to it is where the gate leads
+  -- the time gate has one URL, thus what is joined to it is where the time gate leads
   pub led_exact : (reference : List ℕ) (gate : Parts) (r : Result (Option PageName) NoMemory) → parse_url None (gate_url_of base leave) ≡ Ok gate →
       IfOk r (λ joined. (name : PageName) → IsJoined base gate reference name → joined ≡ Some name) → IfOk r (λ led. (name : PageName) → LeadsTo base leave reference name → led ≡ Some name)
   led_exact reference gate (Ok joined) is exact = λ name leads.

@@ -1,4 +1,4 @@
--- Connections of pages, one page after the other, and where something behind could be better.
+-- Connections of pages, one page after the other, and where a later one could be better.
 use Rattle.std.proofs.Common.{◌≡◌, ℕ, zero, suc, ◌<◌, ◌≤◌, List, [], ◌∷◌, ◌++◌, true, Option, Some, None, inl, inr, refl, sym, subst, arith}
 use Rattle.std.specs.List.{All, AllPairs}
 use Rattle.std.specs.Ordering.{nat_cmp, ordering_then}
@@ -23,7 +23,7 @@ use Rattle.lc_model.specs.Connection.{last_departure}
 use Rattle.page_client.specs.Page.{begins_at, is_on_from}
 use Rattle.lc_model.proofs.ConnectionLemmas.{departs_by}
 
--- one connection stands before another
+-- one connection is before another
 abbrev pub Before : Connection → Connection → Type 0
 Before c d = departure_cmp c d ≡ Less
 
@@ -34,7 +34,7 @@ pairs_head R x list pairs k d within = pairs zero (suc k) d (omega arith) (omega
 pairs_tail : {X : Type 0} (R : X → X → Type 0) (x : X) (list : List X) → AllPairs R (x ∷ list) → AllPairs R list
 pairs_tail R x list pairs i j d before within = pairs (suc i) (suc j) d (omega arith) (omega arith)
 
--- what departs earlier stands before
+-- what departs earlier is before
 stands_before : (c d : Connection) → c.dep < d.dep → Before c d
 stands_before c d earlier = first_part (nat_cmp c.dep d.dep) refl where
   first_part : (o : Ordering) → nat_cmp c.dep d.dep ≡ o → ordering_then o (ordering_then (key_cmp c.key d.key) (nat_cmp c.seq d.seq)) ≡ Less
@@ -80,7 +80,7 @@ spans (first ∷ rest) moment last order begun is =
     let by : first.dep ≤ last = All-head (λ (d : Connection). d.dep ≤ last) first rest (ends (first ∷ rest) last order is) in
     omega arith
 
--- the page behind a link begins behind the last departure
+-- the page of a link begins after the last departure
 pub record LeadsOn (list : List Connection) (next : PageName) : Type 0 where
   pub last : ℕ
   pub is_last : last_departure list ≡ Some last
@@ -100,7 +100,7 @@ leads_on list (Some link) next goes is = by_last (last_departure list) refl goes
     above = let above : last < link.departs = grind (arith, nat_tests) in let P : PageName → Type 0 = λ n. last < n.departs in subst P same above;
   }
 
--- where something behind a moment could be better, it lies within the horizon
+-- where a departure after a moment could be better, it is within the horizon
 pub within_horizon : (query : Query) (doc : StopsDoc) (taken : List Connection) (best : Option ℕ) (last : ℕ) → IsListBest query doc taken best → (IsDone query best last → ⊥) → last < latest_of query
 within_horizon query doc taken None last is not_done = grind (arith, not_done)
 within_horizon query doc taken (Some arrival) last ((journey, is_journey, at), least) not_done =

@@ -1,4 +1,4 @@
--- A client behind a page.
+-- A client after a page.
 use Rattle.std.proofs.Common.{◌≡◌, ℕ, ◌<◌, ◌≤◌, List, ◌++◌, Bool, true, false, Option, Some, None, refl, sym, ap, subst, arith}
 use Rattle.std.proofs.Math.Logic.{∥∥₁_elim, ∥∥₁_map}
 use Rattle.std.specs.Prelude.{◌||◌, ◌&&◌, if◌then◌else◌}
@@ -62,7 +62,7 @@ both true true e = (refl, refl)
 both true false e = absurd (cc)
 both false b e = absurd (cc)
 
--- a page whose gate was not wrong links behind the moment at which the question leaves
+-- a page whose time gate was not wrong links to a page after the moment at which the question leaves
 later_than_leave : (page : Page) (leave : ℕ) (reply : List ℕ) (next : PageName) → wrong_gate page leave (Some reply) ≡ None → page.next ≡ Some next → leave < next.departs
 later_than_leave page leave reply next right is = by_late (is_late leave page.list page.previous) (is_early leave page.next) right refl where
   by_late : (late early : Bool) → (if late || early then Some (PeerWrong reply (GateWrong page)) else None) ≡ None → is_early leave page.next ≡ early → leave < next.departs
@@ -98,7 +98,7 @@ module _ (page : Page) (goes : advances page ≡ true) (valid : IsValidPage page
         (All-weaker (λ (c : Connection). c.dep < page.name.departs) (λ (c : Connection). c.dep < next.departs) (λ c h. omega arith) taken before)
         (All-weaker (λ (c : Connection). c.dep ≤ on.last) (λ (c : Connection). c.dep < next.departs) (λ c h. omega arith) page.list (ends page.list on.last valid.in_order on.is_last))
 
-    -- the next page departs behind the moment at which the question leaves
+    -- the next page departs after the moment at which the question leaves
     pub later : (query : Query) (gate : Option (List ℕ)) → wrong_gate page query.leave gate ≡ None → (gate ≡ None → query.leave < page.name.departs) → query.leave < next.departs
     later query (Some reply) right before = later_than_leave page query.leave reply next right links
     later query None right before = let first = before refl in let above = on.above in let by = by_last in omega arith

@@ -21,7 +21,7 @@ use Rattle.page_client.specs.declared.step.Step.TheVariants.{Last, Next}
 abbrev pub shown : Client → Shown
 shown c = record { query = c.query; phase = c.phase; version = c.version; gate = c.gate; outcome = c.outcome }
 
--- The client reads pages: it took the stops document and, page by page, these connections, and wants the page behind them.
+-- The client reads pages: it took the stops document and, page by page, these connections, and wants the page after them.
 pub record StandsFor (client : Client) (doc : StopsDoc) (taken : List Connection) : Type 0 where
   pub scan : Scan
   pub has : client.scan ≡ Some scan
@@ -29,7 +29,7 @@ pub record StandsFor (client : Client) (doc : StopsDoc) (taken : List Connection
   pub wants : client.phase ≡ phases.Page name
   pub scanned : HasScanned client.query doc taken name scan
 
--- After the stops document: it lacks the stop where the question begins, or the one where it ends, or the first page is wanted
+-- After the stops document. It lacks the stop where the question begins, or the one where it ends, or the first page is wanted
 -- and nothing is taken yet.
 abbrev pub AfterDoc : Client → StopsDoc → Client → Type 0
 AfterDoc old doc new =
@@ -47,17 +47,17 @@ abbrev pub Leaves : Shown → StopsDoc → List Connection → Step → Client �
 Leaves old doc taken (Next next) new = (shown new ≡ onward next old) × StandsFor new doc taken
 Leaves old doc taken (Last journey) new = shown new ≡ ended (answered journey) old
 
--- whatever the client stood for, it goes on by the page's connections behind it
+-- whatever the client stood for, it goes on by the page's connections after it
 abbrev pub GoesOnBy : Client → Page → Client → Type 0
 GoesOnBy old page new =
     (doc : StopsDoc) (taken : List Connection) → StandsFor old doc taken →
     (step : Step) × Follows old.query doc (taken ++ page.list) page step × Leaves (shown old) doc (taken ++ page.list) step new
 
--- after a page: the gate was wrong to send there, or the page is taken
+-- after a page: the time gate was wrong to send there, or the page is taken
 abbrev pub AfterPage : Client → Page → Option Outcome → Client → Type 0
 AfterPage old page (Some outcome) new = shown new ≡ ended outcome (shown old)
 AfterPage old page None new = GoesOnBy old page new
 
--- what the client is behind a page
+-- what the client is after a page
 abbrev pub TakesPage : Client → Page → Client → Type 0
 TakesPage old page new = AfterPage old page (wrong_gate page old.query.leave old.gate) new

@@ -11,13 +11,13 @@ use Rattle.page_client.specs.Fault.{Tested}
 use Rattle.page_client.specs.Replied.{IsTested}
 use Rattle.page_client.specs.declared.fault.PeerFault.TheVariants.{Location}
 
--- the reference, joined to the URL of the gate, is the URL of the page
+-- the reference, joined to the URL of the time gate, is the URL of the page
 pub record IsJoined (base : BaseParts) (gate : Parts) (reference : List ℕ) (name : PageName) : Type 0 where
   pub url : Parts
   pub joined : parse_url (Some gate) reference ≡ Ok url
   pub says : SaysPage base (serialize url) name
 
--- the same of the gate's URL for this moment
+-- the reference, joined to the time gate's URL for this moment, is the URL of the page
 pub record LeadsTo (base : BaseParts) (leave : ℕ) (reference : List ℕ) (name : PageName) : Type 0 where
   pub gate : Parts
   pub gate_is : parse_url None (gate_url_of base leave) ≡ Ok gate
@@ -28,11 +28,11 @@ abbrev pub IsLed : BaseParts → ℕ → List ℕ → Tested PageName
 IsLed base leave reference (Ok name) = LeadsTo base leave reference name
 IsLed base leave reference (Err fault) = (fault ≡ Location) × ((name : PageName) → LeadsTo base leave reference name → ⊥)
 
--- the same where the reply may have no reference
+-- the page to which a reply leads, which may have no reference
 abbrev pub IsSent : BaseParts → ℕ → Option (List ℕ) → Tested PageName
 IsSent base leave None = λ result. result ≡ Err Location
 IsSent base leave (Some reference) = IsLed base leave reference
 
--- the page to which the bytes of the gate's reply send, or the first test that they fail
+-- the page to which the bytes of the time gate's reply send, or the first test that they fail
 abbrev pub IsGateReply : BaseParts → ℕ → List ℕ → Tested PageName
 IsGateReply base leave bytes = IsTested bytes 302 (λ (reply : Reply). IsSent base leave reply.location)

@@ -34,7 +34,7 @@ abbrev pub begins_at : List Connection → ℕ → Bool
 begins_at [] departs = true
 begins_at (first ∷ rest) departs = first.dep == departs
 
--- The page begins with its name's departure, and its next link leads behind its last one; without connections it has no
+-- The page begins with its name's departure, and its next link leads to a page after its last departure. Without connections it has no
 -- next link.
 abbrev pub advances : Page → Bool
 advances page = begins_at page.list page.name.departs && is_on_from (last_departure page.list) page.next
@@ -51,7 +51,7 @@ tested_page name memento page =
     else (if not (advances page) then Err Advance
     else Ok page)
 
--- the same of what was read
+-- the tests of what was read, which may be no page
 abbrev pub tested_body : PageName → Option ℕ → Result Page PageFault → Result Page PeerFault
 tested_body name memento (Ok page) = tested_page name memento page
 tested_body name memento (Err fault) = Err (Body fault)

@@ -29,7 +29,7 @@ abbrev pub IsAnswered : List ℕ → ℕ → Tested Said
 IsAnswered bytes status (Ok reply) = IsReply bytes reply × (reply.status ≡ status)
 IsAnswered bytes status (Err fault) = IsUnread bytes fault ⊎ HasOtherStatus bytes status fault
 
--- what is tested behind these, by what the reply says
+-- what is tested after these, by what the reply says
 abbrev pub tested_further : {X : Type 0} → (Said → Tested X) → Result Said PeerFault → Tested X
 tested_further next (Ok reply) = next reply
 tested_further next (Err fault) = λ result. result ≡ Err fault

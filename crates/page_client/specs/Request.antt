@@ -1,4 +1,4 @@
--- The requests of a client: at the gate with the moment up to which it knows, if its question has one.
+-- The requests of a client: at the time gate with the moment up to which it knows, if it has one.
 use Rattle.std.specs.Prelude.{◌≡◌, ℕ, List, [], Option, None}
 use Rattle.lc_model.specs.declared.query.Query.{Query}
 use Rattle.connection_uri.specs.Base.{BaseParts}

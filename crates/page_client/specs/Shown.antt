@@ -1,4 +1,4 @@
--- What a client shows of where it stands, and its steps as functions of that.
+-- What a client shows of its phase, and its steps as functions of that.
 use Rattle.std.specs.Prelude.{◌≡◌, ℕ, ◌+◌, ◌-◌, ◌≤◌, Bool, true, false, ◌||◌, nat_le, nat_lt, List, [], ◌∷◌, Option, Some, None, is_some, IsSome, Result, Ok, Err, if◌then◌else◌}
 use Rattle.lc_model.specs.declared.connection.Connection.{Connection}
 use Rattle.lc_model.specs.declared.journey.Journey.{Journey}
@@ -16,7 +16,7 @@ use Rattle.page_client.specs.declared.phase.Phase.TheVariants as phases
 use Rattle.page_client.specs.declared.want.Want.{Want}
 use Rattle.page_client.specs.declared.want.Want.TheVariants as wants
 
--- The question, where the client stands, the version that the gate named, the gate's reply until the first page is taken, and
+-- The question, the phase of the client and the version that the time gate named. The time gate's reply until the first page is taken, and
 -- the outcome.
 pub record Shown : Type 0 where
   pub query : Query
@@ -71,11 +71,11 @@ pub record Begins (query : Query) (s : Shown) : Type 0 where
 abbrev pub ended : Outcome → Shown → Shown
 ended outcome s = record { query = s.query; phase = phases.Finished; version = s.version; gate = None; outcome = Some outcome }
 
--- without memory: it wants nothing, and has no outcome more
+-- after running out of memory: it wants nothing, and has no outcome more
 abbrev pub spent : Shown → Shown
 spent s = record { query = s.query; phase = phases.Finished; version = s.version; gate = None; outcome = s.outcome }
 
--- after the gate's reply, which sends to this page or fails a test
+-- after the time gate's reply, which sends to this page or fails a test
 abbrev pub after_gate : List ℕ → Result PageName PeerFault → Shown → Shown
 after_gate reply (Ok name) s = record {
   query = s.query;
@@ -86,12 +86,12 @@ after_gate reply (Ok name) s = record {
 }
 after_gate reply (Err fault) s = ended (outcomes.PeerWrong reply fault) s
 
--- the page that comes behind the stops document
+-- the page that comes after the stops document
 abbrev pub behind_stops : Phase → Phase
 behind_stops (phases.Stops first) = phases.Page first
 behind_stops phase = phase
 
--- what is shown behind the stops document
+-- what is shown after the stops document
 abbrev pub after_stops : Shown → Shown
 after_stops s = record { query = s.query; phase = behind_stops s.phase; version = s.version; gate = s.gate; outcome = s.outcome }
 
@@ -113,7 +113,7 @@ is_early leave (Some next) = nat_le next.departs leave
 abbrev pub is_off : ℕ → Page → Bool
 is_off leave page = is_late leave page.list page.previous || is_early leave page.next
 
--- the gate was wrong to send here: its reply, which is kept until the first page is taken, and the page
+-- the time gate was wrong to send here: its reply, which is held until the first page is taken, and the page
 abbrev pub wrong_gate : Page → ℕ → Option (List ℕ) → Option Outcome
 wrong_gate page leave None = None
 wrong_gate page leave (Some reply) = if is_off leave page then Some (outcomes.PeerWrong reply (GateWrong page)) else None
@@ -139,8 +139,8 @@ StaysOrEnds before (phases.Stops first) after = after ≡ before
 StaysOrEnds before (phases.Page name) after = after ≡ before
 StaysOrEnds before phases.Finished after = IsSome after
 
--- How many exchanges a client makes at most from here on: the gate, the stops document, and then a page for each second of the
--- horizon that is left, and one more.
+-- How many exchanges a client makes at most from here on. They are the time gate, the stops document, and a page for each second of
+-- the horizon that is left, and one more.
 abbrev pub pages_left : Query → Option (List ℕ) → PageName → ℕ
 pages_left query (Some gate) name = query.horizon + 1
 pages_left query None name = query.leave + query.horizon - name.departs + 1

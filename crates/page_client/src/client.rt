@@ -14,14 +14,14 @@ use lc_model::{Bytes, Moment, NoMemory, PageName, Query, StopsDoc};
 use page_json::Page;
 use std::alloc::Global;
 
-/// A client of one question. It wants the reply of the time gate, then that of the stops document, then page after page, and
-/// is given them, one after the other, until it has its outcome.
+/// A client of one question. It wants the reply of the time gate, then that of the stops document, then page after page. It
+/// receives them, one after the other, until it has its outcome.
 #[derive(Drop)]
 pub struct Client {
     query: Query,
     phase: Phase,
     version: Option<Moment>,
-    /// The gate's reply, until the first page is taken.
+    /// The time gate's reply, until the first page is taken.
     gate: Option<Bytes>,
     scan: Option<Scan>,
     outcome: Option<Outcome>,
@@ -44,7 +44,7 @@ impl Client {
     ghost use Rattle.page_client.specs.declared.fault.PeerFault.{PeerFault as Wrong};
     ghost use Rattle.page_client.specs.declared.outcome.Outcome.TheVariants as outcomes;
 
-    /// A client of the question, which is refused at once where its horizon is not from 1 to 604,800 seconds, and else where
+    /// A client of the question. It is refused at once where its horizon is not from 1 to 604,800 seconds, and else where
     /// it begins and ends at one stop.
     pub fn new(query: Query) -> Client
         ensures begins { Begins query (shown result) }
@@ -80,7 +80,7 @@ impl Client {
         self.outcome.as_ref()
     }
 
-    /// How the client ended, for keeps.
+    /// How the client ended, taken out of it.
     pub fn into_outcome(self) -> Option<Outcome>
         ensures { result ≡ (shown self).outcome }
     {
@@ -183,7 +183,7 @@ impl Client {
         }
     }
 
-    /// Ends the client by an exchange that failed, in which the link's count of faults rose so.
+    /// Ends the client by an exchange that failed, in which the link's count of faults increased from the one to the other.
     pub fn give_link_fault(&mut self, before: u64, after: u64)
         requires { want_of (shown self.old).phase ≢ Want.Finished }
         ensures { shown self.new ≡ ended (outcomes.LinkFault before after) (shown self.old) }

@@ -42,7 +42,7 @@ pub enum PeerFault {
     Reply(ReplyFault),
     /// It has another status than 302 at the time gate and 200 elsewhere.
     Status { got: u16 },
-    /// The gate sends to no page, or to none of this base.
+    /// The time gate sends to no page, or to none of this base.
     Location,
     /// It has no body that says a page, or a stops document.
     Body(PageFault),
@@ -50,7 +50,7 @@ pub enum PeerFault {
     Identity,
     /// The page does not begin with its name's departure, or its next link does not go on.
     Advance,
-    /// The gate sent to this page, though another one is for the moment at which the question leaves.
+    /// The time gate sent to this page, though another is for the moment when the question leaves.
     GateWrong { page: Page },
 }
 

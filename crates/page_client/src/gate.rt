@@ -27,7 +27,7 @@ pub fn gate_said(
     }
 }
 
-/// The page to which the gate sends by this reference, if it has one.
+/// The page to which the time gate sends by this reference, if it has one.
 fn sent(
     alloc: Global,
     base: &Base,
@@ -64,7 +64,7 @@ fn led(
     }
 }
 
-/// The page whose URL the reference is, joined to the gate's.
+/// The page whose URL the reference is, joined to the time gate's.
 fn joined(base: &Base, gate: &Url, reference: &str) -> Result<Option<PageName>, NoMemory>
     ensures said { IfOk result (λ joined. IfSome joined (IsJoined base.now gate.now reference.now)) }
     ensures exact { IfOk result (λ joined. (name : Named) → IsJoined base.now gate.now reference.now name

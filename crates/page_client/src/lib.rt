@@ -1,5 +1,5 @@
-//! One client: it asks the time gate, the stops document and page after page, until nothing later can be better, and
-//! knows nothing but the bytes of replies; it hands on the cache of pages that clients share. It stands on `csa_scan`,
+//! One client: it asks the time gate, the stops document and page after page, until no later page can be better. It
+//! knows nothing but the bytes of replies. It hands on the cache of pages that clients share. It builds on `csa_scan`,
 //! `page_json`, `page_cache`, `http_text`, `memento` and `connection_uri`.
 #![tactic(auto)]
 

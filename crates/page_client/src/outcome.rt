@@ -16,7 +16,7 @@ pub enum Outcome {
     NoJourney,
     /// The question was refused.
     Refused(QueryFault),
-    /// An exchange failed, in which the link's count of faults rose.
+    /// An exchange failed, in which the link's count of faults increased.
     LinkFault { before: u64, after: u64 },
     /// This reply fails a test.
     PeerWrong { reply: Bytes, fault: PeerFault },
@@ -42,7 +42,7 @@ pub fn answered(journey: Option<Journey>) -> Outcome
     }
 }
 
-/// That the gate, whose reply is kept until the first page is taken, was wrong to send to this page.
+/// That the time gate, whose reply is held until the first page is taken, was wrong to send here.
 pub fn wrong_gate(
     alloc: Global,
     page: &Page,

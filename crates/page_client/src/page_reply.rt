@@ -79,7 +79,7 @@ fn is_of_version(version: Moment, memento: Option<Moment>) -> bool
     }
 }
 
-/// Whether the page begins with its name's departure, and its next link leads behind its last one.
+/// Whether the page begins with its name's departure, and its next link leads to a page after its last departure.
 pub fn advances(page: &Page) -> bool
     ensures { result ≡ advances page.now }
 {

@@ -1,11 +1,11 @@
 use lc_model::PageName;
 
-/// Where a client stands. It begins at the gate.
+/// What a client waits for. It begins at the time gate.
 #[derive(Clone, Copy, PartialEq, Eq)]
 pub enum Phase {
     /// It waits for the time gate.
     Gate,
-    /// It waits for the stops document, behind which comes the page of this name, the one of the gate.
+    /// It waits for the stops document, and then for the page of this name, the one of the time gate.
     Stops(PageName),
     /// It waits for the page of this name.
     Page(PageName),

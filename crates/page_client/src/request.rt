@@ -24,7 +24,7 @@ pub fn ask_gate(
     ensures { IfOk result (λ text. Asks base.now (gate_target_of base.now leave) known text.items) }
 {
     targets_are_good();
-    // What is known of values is recorded by their calls: that the base is one, and the ranges of moments.
+    // The calls of values say what is known of them: that the base is one, and the ranges of moments.
     let _path = base.path();
     let _leave = leave.seconds();
     let target = gate_target(alloc, base, leave)?;

@@ -75,7 +75,7 @@ fn after_right_page(alloc: Global, scan: &mut Scan, page: &Page) -> Result<Seque
     }
 }
 
-/// The page to which this one links, unless nothing behind it can be better.
+/// The page to which this one links, unless no later page can be better.
 fn next_of(scan: &Scan, page: &Page) -> Option<PageName>
     ensures next { IfSome result (λ next. (page.now.next ≡ Some next) × ((query : Query) (doc : StopsDoc) (taken : List Connection)
         → StandsFor scan.now query doc taken → IsOver query doc taken page.now → ⊥)) }
@@ -90,7 +90,7 @@ fn next_of(scan: &Scan, page: &Page) -> Option<PageName>
     }
 }
 
-/// Whether nothing behind the page can be better.
+/// Whether no page after this one can be better.
 fn is_over(scan: &Scan, page: &Page) -> bool
     ensures over { IsTrue result → ((query : Query) (doc : StopsDoc) (taken : List Connection) → StandsFor scan.now query doc taken
         → IsOver query doc taken page.now) }

@@ -63,7 +63,7 @@ allowed : (b : Bool) → Text (allowed_text b)
 allowed true = plain (codes "gtfs:Regular") refl
 allowed false = plain (codes "gtfs:NotAvailable") refl
 
--- ---- what stands under a base
+-- ---- what is under a base
 
 module _ (base : BaseParts) (base_text : Text base.text) where
   name : (key : RunKey) (seq : ℕ) → IsIdText key.trip → seq < 2 ^ 32 → Text (name_of base key seq)

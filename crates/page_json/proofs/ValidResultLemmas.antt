@@ -141,7 +141,7 @@ pub valid_doc_of_bytes : (bytes : List ℕ) (doc : StopsDoc) → doc_of_bytes by
 unfolding doc_of_bytes
 valid_doc_of_bytes bytes doc is = (gives_then Any IsValidDoc (json_in bytes) _ (any _) (λ tree _. valid_doc tree)).so doc is
 
--- so is the document of a call that met its reading
+-- the document of a call that meets its reading is valid
 pub valid_where_met : (bytes : List ℕ) (result : Result StopsDoc PageFault) → Meets (doc_of_bytes bytes) result → IfOk result IsValidDoc
 valid_where_met bytes (Ok doc) is = valid_doc_of_bytes bytes doc is
 valid_where_met bytes (Err fault) is = tt

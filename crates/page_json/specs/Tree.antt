@@ -1,4 +1,4 @@
--- The JSON of a page and of the stops document (Linked Connections 1.0, Hydra, JSON-LD 1.1). Members stand in the order
+-- The JSON of a page and of the stops document (Linked Connections 1.0, Hydra, JSON-LD 1.1). Members are in the order
 -- of their bytes.
 use Rattle.std.specs.Prelude.{ℕ, List, ◌++◌, Bool, codes, Option, Some, None, true, if◌then◌else◌}
 use Rattle.lc_model.specs.declared.change.Change.{Change}

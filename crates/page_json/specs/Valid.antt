@@ -13,14 +13,14 @@ use Rattle.page_json.specs.declared.page.Page.{Page}
 abbrev pub IsOfVersion : ℕ → Option PageName → Type 0
 IsOfVersion version link = IfSome link (λ (name : PageName). name.version ≡ version)
 
--- the connections stand strictly by their departures, none arrives early, and the links stay in the page's version
+-- the connections are strictly in departure order, none arrives early, and the links stay in the page's version
 pub record IsValidPage (page : Page) : Type 0 where
   pub in_order : InDepartureOrder page.list
   pub forward : NoneArrivesEarly page.list
   pub next : IsOfVersion page.name.version page.next
   pub previous : IsOfVersion page.name.version page.previous
 
--- both lists stand in strict order, and each parent and each end of a change is one of the stops
+-- both lists are in strict order, and each parent and each end of a change is one of the stops
 pub record IsValidDoc (doc : StopsDoc) : Type 0 where
   pub stops : InStopOrder doc.stops
   pub changes : InChangeOrder doc.changes

@@ -25,7 +25,7 @@ impl<'a> Cursor<'a> {
         Some(())
     }
 
-    /// Moves past the first place where these bytes stand, if they do.
+    /// Moves past the first place where these bytes are, if they are there.
     pub fn find(&mut self, bytes: &[u8]) -> Option<()> {
         let place = memmem::find(self.rest, bytes)?;
         self.rest = self.rest.get(place..)?;

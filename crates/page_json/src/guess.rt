@@ -221,7 +221,7 @@ fn with_view(base: &Base, cursor: &mut Cursor<'_>, list: Connections) -> Option<
     })
 }
 
-/// The page whose URL stands after this key, if that comes next.
+/// The page whose URL comes after this key, if that comes next.
 fn page_after(base: &Base, cursor: &mut Cursor<'_>, key: &[u8]) -> Option<PageName> {
     read_page_url(base, cursor.text_after(key)?)
 }

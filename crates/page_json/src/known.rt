@@ -8,7 +8,7 @@ ghost use Rattle.page_json.specs.StopsReading.{AreParents};
 use lc_model::{NoMemory, Stop, sorted_keys};
 use std::alloc::Global;
 
-/// Whether each parent is one of the stops, in whatever order they stand. Sorts their ids, and looks each parent up by
+/// Whether each parent is one of the stops, in whatever order they are. Sorts their ids, and looks each parent up by
 /// binary search.
 pub fn have_parents(alloc: Global, stops: &[Stop]) -> Result<bool, NoMemory>
     ensures { IfOk result (λ all. IsTrue all ↔ AreParents stops.now) }

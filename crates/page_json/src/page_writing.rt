@@ -35,7 +35,7 @@ pub fn page_text(alloc: Global, base: &Base, page: &Page) -> Result<Vec<u8>, NoM
     page_text_in(alloc, base, page, text_room(base, page))
 }
 
-/// The same text, for which room for so many bytes is made at once.
+/// The text of the page, for which room for so many bytes is made at once.
 pub fn page_text_in(
     alloc: Global,
     base: &Base,

@@ -1,4 +1,4 @@
--- The cuts that are cached for versions: where a moment lies among them, and that they stay after a message.
+-- The cuts that are cached for versions: where a moment is among them, and that they stay after a message.
 use Rattle.std.proofs.Common.{Vec, Global, Result, Ok, Err, ◌≡◌, ◌∙◌, ◌⊎◌, inl, inr, ℕ, List, [], ◌∷◌, length, true, Option, Some, None, Contains, refl, sym, ap, subst}
 use Rattle.std.specs.Prelude.{IfOk, IfSome, OnErr, nat_eq, option_map}
 use Rattle.std.specs.Map.{lookup}
@@ -28,7 +28,7 @@ use Rattle.publisher.proofs.PageLemmas.{timetable_of}
 use Rattle.publisher_spec.proofs.PageLemmas.{never_falls}
 use Rattle.publisher.proofs.VersionsLemmas.{contained_is_there}
 
--- where a moment lies among the cuts of a version
+-- where a moment is among the cuts of a version
 pub place_among : (side : Side) → ((departures : List ℕ) → NeverFalls departures → AreCuts departures (side.cuts_of departures))
     → (version departs : ℕ) (cuts : List ℕ) (place : Place) → HasCuts side version cuts → place ≡ place_of cuts departs → IsPlaceOf side version departs place
 place_among side lawful version departs cuts place has is = record {
@@ -48,7 +48,7 @@ has_cuts cuts_of held same_stops version departures cuts there are are_cuts = re
   is = are_cuts ∙ ap (cuts_of held.cutting) are.one_each;
 }
 
--- they rise strictly
+-- they strictly increase
 pub rising_cuts : (side : Side) → ((departures : List ℕ) → NeverFalls departures → AreCuts departures (side.cuts_of departures))
     → (version : ℕ) (cuts : List ℕ) → HasCuts side version cuts → AreRising cuts
 rising_cuts side lawful version cuts has =
@@ -59,7 +59,7 @@ pub all_rise : (side : Side) → ((departures : List ℕ) → NeverFalls departu
     → (cached : List (ℕ × Vec ℕ Global)) → KeepsCuts side cached → AllRise cached
 all_rise side lawful cached keeps = λ version cuts within. rising_cuts side lawful version cuts.items (keeps version cuts within)
 
--- where a moment lies among the cuts that are cached for a version
+-- where a moment is among the cuts that are cached for a version
 module _ (side : Side) (lawful : (departures : List ℕ) → NeverFalls departures → AreCuts departures (side.cuts_of departures))
     (version departs : ℕ) (cached : List (ℕ × Vec ℕ Global)) (keeps : KeepsCuts side cached) where
   abbrev place_in : Option (Vec ℕ Global) → Option Place
@@ -114,13 +114,13 @@ module _ {G : Type 0} (cuts_of : G → List ℕ → List ℕ) (held : Held G) (s
   later_after (Ok admitted) is same = record { more = entry_of is.update (length bytes) ∷ []; is = ap (λ (s : Stored). side_of cuts_of (record held { store = s })) is.appended }
   later_after (Err fault) is same = record { more = []; is = ap (λ (s : Stored). side_of cuts_of (record held { store = s })) same ∙ ap (λ (history : List Entry). record (side_of cuts_of held) { history = history }) (sym (append-nil held.store.history)) }
 
-  -- so the cuts stay
+  -- the cuts stay after a message or its refusal
   pub keeps_after : (outcome : Result Admitted AdmitFault) (cached : List (ℕ × Vec ℕ Global)) → IfOk outcome (Admits held.store store bytes) → OnErr outcome (store ≡ held.store)
       → IsRising store.base (moments_of store.history) → KeepsCuts (side_of cuts_of held) cached → KeepsCuts (side_of cuts_of (record held { store = store })) cached
   keeps_after outcome cached is same rising keeps version cuts within =
       cuts_stay (side_of cuts_of held) (side_of cuts_of (record held { store = store })) version cuts.items (later_after outcome is same) rising (keeps version cuts within)
 
-  -- and so do the stops and the runs
+  -- the stops and the runs stay after a message or its refusal
   pub same_stops : (outcome : Result Admitted AdmitFault) → IfOk outcome (Admits held.store store bytes) → OnErr outcome (store ≡ held.store) → store.stops ≡ held.store.stops
   same_stops (Ok admitted) is same = ap (λ (s : Stored). s.stops) is.appended
   same_stops (Err fault) is same = ap (λ (s : Stored). s.stops) same

@@ -18,7 +18,7 @@ rising_tail x xs rising i j d before inside = rising (suc i) (suc j) d (omega ar
 rising_head : (x : ℕ) (xs : List ℕ) → AreRising (x ∷ xs) → All (λ (y : ℕ). x < y) xs
 rising_head x xs rising = λ k d inside. rising 0 (suc k) d (omega arith) (omega arith)
 
--- of pages that begin behind the moment none is named at or before it
+-- of pages that begin after the moment none is named at or before it
 none_named : (moment : ℕ) (cuts : List ℕ) (list : List Connection) → All (λ (cut : ℕ). moment < cut) cuts
     → filter (λ (p : CutPage). nat_le p.departs moment) (pages_from cuts list) ≡ []
 none_named moment [] list later = refl
@@ -65,7 +65,7 @@ cut_behind previous cut (next ∷ rest) moment rising =
     (All-head (λ (y : ℕ). cut < y) next rest (rising_head cut (next ∷ rest) rising))
     (cut_behind (Some cut) next rest moment (rising_tail cut (next ∷ rest) rising))
 
--- no cut behind is before
+-- no later cut is before
 none_before : (cut : ℕ) (cuts : List ℕ) → All (λ (y : ℕ). cut < y) cuts → filter (λ (y : ℕ). nat_lt y cut) cuts ≡ []
 none_before cut [] later = refl
 none_before cut (first ∷ rest) later =
@@ -80,12 +80,12 @@ not_below_itself cut = grind (arith, nat_tests)
 pub passed : (previous : Option ℕ) (cut next : ℕ) (rest : List ℕ) (moment : ℕ) → nat_le next moment ≡ true → place_behind previous cut (next ∷ rest) moment ≡ place_behind (Some cut) next rest moment
 passed previous cut next rest moment is = rw is refl
 
--- one behind it is not
+-- one after it is not
 pub stopped : (previous : Option ℕ) (cut next : ℕ) (rest : List ℕ) (moment : ℕ) → nat_le next moment ≡ false
     → place_behind previous cut (next ∷ rest) moment ≡ record { previous = previous; cut = cut; next = Some next }
 stopped previous cut next rest moment is = rw is refl
 
--- the cuts behind that of a place begin with its next one
+-- the cuts after that of a place begin with its next one
 next_passed : (p : Place) (cut : ℕ) (cuts : List ℕ) → cut < p.cut → first_of (filter (nat_lt p.cut) cuts) ≡ p.next → first_of (filter (nat_lt p.cut) (cut ∷ cuts)) ≡ p.next
 next_passed p cut cuts before goes_on =
     let over : nat_lt p.cut cut ≡ false = grind (arith, nat_tests) in

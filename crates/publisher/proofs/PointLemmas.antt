@@ -8,18 +8,18 @@ use Rattle.publisher.specs.Place.{AreRising, cut_before, place_at, place_behind,
 use Rattle.publisher.specs.declared.place.Place.{Place}
 use Rattle.publisher.proofs.PlaceLemmas.{passed, stopped}
 
--- cuts that rise strictly never fall
+-- cuts that strictly increase never fall
 never_fall : (cuts : List ℕ) → AreRising cuts → IsNonDecreasingBy (λ (cut : ℕ). cut) cuts
 never_fall cuts rising i j d before inside = elim (cases_lt i j) [
   | inl less ↦ let below : get_or cuts i d < get_or cuts j d = rising i j d less inside in omega arith
   | inr no_less ↦ let same : i ≡ j = omega arith in rw same (omega arith)
 ]
 
--- those at or before a moment stand first
+-- those at or before a moment come first
 pub parted : (cuts : List ℕ) (moment : ℕ) → AreRising cuts → IsPartitionedBy (λ (cut : ℕ). nat_le cut moment) cuts
 parted cuts moment rising = IsPartitionedBy-leb (λ (cut : ℕ). cut) cuts moment (never_fall cuts rising)
 
--- so many cuts are at or before the moment, and none of the others
+-- this many cuts are at or before the moment, and none of the others
 abbrev pub IsPoint : List ℕ → ℕ → ℕ → Type 0
 IsPoint cuts moment count = IsPartitionPoint (λ (cut : ℕ). nat_le cut moment ≡ true) (λ (cut : ℕ). nat_le cut moment ≡ false) cuts count
 
@@ -29,7 +29,7 @@ point_behind cut cuts moment count point = (λ k d low high. point.0 (suc k) d (
 none_behind : (cut : ℕ) (cuts : List ℕ) (moment : ℕ) → IsPoint (cut ∷ cuts) moment zero → IsPoint cuts moment zero
 none_behind cut cuts moment point = (λ k d low high. absurd (omega arith), λ k d low high. point.1 (suc k) d (omega arith) (omega arith))
 
--- the cut at a place with its neighbours, where this one stands before the first
+-- the cut at a place with its neighbours, where this one comes before the first
 abbrev place_from : Option ℕ → List ℕ → ℕ → Place
 place_from previous cuts zero = record { previous = previous; cut = slice_index cuts 0; next = slice_get cuts 1 }
 place_from previous cuts (suc before) = record { previous = slice_get cuts before; cut = slice_index cuts (suc before); next = slice_get cuts (suc (suc before)) }

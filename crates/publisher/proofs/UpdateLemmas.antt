@@ -84,7 +84,7 @@ module _ (side : Side) (request : Request) (body : List ℕ) (said : says_length
         let status : status_of_update side request body (Some update) ≡ 204 = rw (said, under, late, is) refl in
         record { update = Some update; update_is = message; status_is = sym status; next_is = rw status refl }
 
--- what there is no room for is recorded by the test
+-- the test says when there is no room
 pub is_full_for : (history : List Entry) (bytes : ℕ) → IsFullFor history bytes → is_full history bytes ≡ true
 is_full_for history bytes (inl many) = rw (le-leb 10_000 (length history) many) refl
 is_full_for history bytes (inr long) =

@@ -17,6 +17,6 @@ pub record HasCuts (side : Side) (version : ℕ) (cuts : List ℕ) : Type 0 wher
 abbrev pub KeepsCuts : Side → List (ℕ × Vec ℕ Global) → Type 0
 KeepsCuts side cached = (version : ℕ) (cuts : Vec ℕ Global) → Contains cached (version, cuts) → HasCuts side version cuts.items
 
--- the cuts of each version rise strictly
+-- the cuts of each version strictly increase
 abbrev pub AllRise : List (ℕ × Vec ℕ Global) → Type 0
 AllRise cached = (version : ℕ) (cuts : Vec ℕ Global) → Contains cached (version, cuts) → AreRising cuts.items

@@ -14,7 +14,7 @@ pub record Held (G : Type 0) : Type 0 where
   pub base : BaseParts
   pub accepts_updates : Bool
 
--- the side for which it stands, by what the way to cut makes of departures
+-- the side that it stands for, by what the way to cut makes of departures
 abbrev pub side_of : {G : Type 0} → (G → List ℕ → List ℕ) → Held G → Side
 side_of cuts_of held = record {
   runs = held.store.runs;

@@ -20,7 +20,7 @@ held_of fields = record {
   accepts_updates = fields.options.accept_updates;
 }
 
--- The store has the stops of the document, its runs stand in order, as do the sequences of each. The cuts that are cached are those of
+-- The store has the stops of the document, its runs are in order, as are the sequences of each. The cuts that are cached are those of
 -- their versions, of 16 at most. The text is that of the document, which is as its type has it.
 pub record IsKept {G : Type 0} (cuts_of : G → List ℕ → List ℕ) (fields : Inside G) : Type 0 where
   pub stops : fields.store.stops ≡ fields.doc.stops

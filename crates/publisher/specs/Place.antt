@@ -1,9 +1,9 @@
--- Where a moment lies among the cuts of a version.
+-- Where a moment is among the cuts of a version.
 use Rattle.std.specs.Prelude.{ℕ, zero, suc, ◌+◌, ◌<◌, nat_le, List, [], ◌∷◌, Option, Some, None, if◌then◌else◌, slice_get, slice_index}
 use Rattle.std.specs.List.{AllPairs}
 use Rattle.publisher.specs.declared.place.Place.{Place}
 
--- the cuts rise strictly
+-- the cuts strictly increase
 abbrev pub AreRising : List ℕ → Type 0
 AreRising cuts = AllPairs (λ (x y : ℕ). x < y) cuts
 

@@ -1,4 +1,4 @@
--- Where the page for a moment of departure lies at a version of a side.
+-- Where the page for a moment of departure is at a version of a side.
 use Rattle.std.specs.Prelude.{◌≡◌, ℕ, List}
 use Rattle.lc_model.specs.declared.connection.Connection.{Connection}
 use Rattle.lc_versions.specs.Cuts.{AreCuts}

@@ -11,7 +11,7 @@ ghost use Rattle.page_json.specs.Valid.{IsValidDoc};
 use lc_model::{Change, Connection, PageName, Run, Runs, Stop, StopsDoc};
 use page_json::Page;
 
-/// The runs stand in order, and so do the calls of each. Linear in the runs.
+/// The runs are in order, and so are the calls of each. Linear in the runs.
 pub(crate) fn runs_are_in_order(runs: &Runs)
     ensures runs { InKeyOrder runs.now }
     ensures calls { All (λ (run : RunSaid). InSequence run.calls) runs.now }

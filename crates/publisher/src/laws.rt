@@ -5,7 +5,7 @@ pub fn some_timetable()
     ensures { SomeTimetable }
 {}
 
-/// Each whole request has a reply of a valid side whose documents are sound, and leaves a side, so that what is said of these is said of
+/// Each whole request has a reply of a valid side whose documents are sound, and leaves a side. What is said of these is said of
 /// something.
 pub fn some_reply()
     ensures reply { SomeReply }

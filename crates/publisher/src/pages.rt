@@ -16,7 +16,7 @@ use lc_model::{Moment, NoMemory, PageName};
 use page_json::Page;
 use std::alloc::Global;
 
-/// The page of a version that begins there, if one is given.
+/// The page of a version that begins there, if a departure is named.
 fn named(version: Moment, departs: Option<Moment>) -> Option<PageName>
     ensures { result ≡ option_map (named_there version) departs }
 {
@@ -27,7 +27,7 @@ fn named(version: Moment, departs: Option<Moment>) -> Option<PageName>
 }
 
 impl<G: Fragmenter + Drop> Publisher<G> {
-    /// Where the page for a moment of departure lies among the cuts of a version, if these are cached. Takes their logarithm.
+    /// Where the page for a moment of departure is among the cuts of a version, if these are cached. Takes their logarithm.
     fn cached_place(&mut self, version: Moment, departs: Moment) -> Option<Place>
         ensures place { IfSome result (IsPlaceOf (side_of G.cuts_of self.old) version departs) }
         ensures same { self.new ≡ self.old }
@@ -38,7 +38,7 @@ impl<G: Fragmenter + Drop> Publisher<G> {
         place
     }
 
-    /// Where the page for a moment of departure lies at a version. It takes the time of the store's departures where the cuts of the
+    /// Where the page for a moment of departure is at a version. It takes the time of the store's departures where the cuts of the
     /// version are not cached, and else the logarithm of the cuts.
     pub(crate) fn place(
         &mut self,
@@ -56,7 +56,7 @@ impl<G: Fragmenter + Drop> Publisher<G> {
         }
     }
 
-    /// Where the page for a moment of departure lies among the cuts of a version, which are made and cached.
+    /// Where the page for a moment of departure is among the cuts of a version, which are made and cached.
     fn new_place(
         &mut self,
         alloc: Global,

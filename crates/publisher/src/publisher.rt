@@ -136,14 +136,14 @@ impl<G: Fragmenter + Drop> Publisher<G> {
         self.store.newest()
     }
 
-    /// The base under which the documents stand.
+    /// The base under which the documents are.
     pub fn base(&self) -> &Base
         ensures { result.now ≡ self.now.base }
     {
         &self.options.base
     }
 
-    /// The side for which a publisher stands is valid, and its store and its document have the same stops. A law: the call does nothing.
+    /// The side that a publisher stands for is valid, and its store and its document have the same stops. A law: the call does nothing.
     pub fn side_is_valid(&self)
         ensures valid { IsValidSide (side_of G.cuts_of self.now) }
         ensures stops { self.now.store.stops ≡ self.now.doc.stops }

@@ -78,7 +78,7 @@ fn behind<'a>(text: &'a [u8], front: &[u8]) -> Option<&'a [u8]>
     text.strip_prefix(front)
 }
 
-/// Whether the path is the base's with this behind it.
+/// Whether the path is the base's with this after it.
 fn is_under(base: &Base, tail: &[u8], path: &[u8]) -> bool
     ensures { result ≡ is_under base.now tail.now path.now }
 {
@@ -98,8 +98,8 @@ fn body_of<'a>(bytes: &'a [u8], request: &Request) -> &'a [u8]
 
 impl<G: Fragmenter + Drop> Publisher<G> {
     /// The reply to the bytes of one whole request. Where these bring a message that is taken, it is admitted. For a page it
-    /// takes the time of the store's rows, that of the version's departures too where its cuts are not cached, and else that of the
-    /// reply and of the request.
+    /// takes the time of the store's rows, and that of the version's departures too where its cuts are not cached. Everything else takes the
+    /// time of the reply and of the request.
     pub fn answer(&mut self, alloc: Global, bytes: &[u8]) -> Result<Vec<u8>, NoMemory>
         requires { IsWhole bytes.now }
         ensures reply { IfOk result (λ reply. IsReply (side_of G.cuts_of self.old) bytes.now reply.items) }

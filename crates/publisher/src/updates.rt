@@ -31,7 +31,7 @@ fn status_of(fault: AdmitFault) -> Option<u16>
 }
 
 impl<G: Fragmenter + Drop> Publisher<G> {
-    /// Admits a message, as the store does: behind it there is a version of its moment.
+    /// Admits a message, as the store does: after it there is a version of its moment.
     pub fn admit(&mut self, alloc: Global, bytes: &[u8]) -> Result<Admitted, AdmitFault>
         ensures taken { IfOk result (Admits self.old.store self.new.store bytes.now) }
         ensures same { self.new ≡ record self.old { store = self.new.store } }

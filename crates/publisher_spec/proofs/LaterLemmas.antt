@@ -18,7 +18,7 @@ use Rattle.publisher_spec.specs.declared.response.Response.{Response}
 use Rattle.publisher_spec.specs.declared.response.Response.TheVariants.{Status}
 use Rattle.publisher_spec.proofs.VersionLemmas.{history_rises, later_moments, news_stay, still_found}
 
--- the side with these messages behind its own
+-- the side with these messages after its own
 abbrev pub with_more : Side → List Entry → Side
 with_more side more = record side { history = side.history ++ more }
 
@@ -35,7 +35,7 @@ later_on a b c first second = record {
       ∙ ap (λ (history : List Entry). record a { history = history }) (append_assoc a.history first.more second.more);
 }
 
--- the timetable of a version is the same behind more messages
+-- the timetable of a version is the same after more messages
 pub timetable_stays : (side : Side) (more : List Entry) (version : ℕ) (list : List Connection) → IsRising side.base_moment (moments_of (side.history ++ more))
     → has_version side version ≡ true → IsTimetableAt side version list → IsTimetableAt (with_more side more) version list
 timetable_stays side more version list rising there t = record {
@@ -61,7 +61,7 @@ no_gate side None version response is document = no_status response 400 is docum
 no_gate side (Some departs) None response is document = no_status response 400 is document
 no_gate side (Some departs) (Some version) response is document = subst IsDocument is.is document
 
--- a page that was sent is sent behind more messages
+-- a page that was sent is sent after more messages
 sent_stays : (side : Side) (more : List Entry) (there now : Bool) (version departs : ℕ) (response : Response) → IsRising side.base_moment (moments_of (side.history ++ more))
     → has_version side version ≡ there → has_version (with_more side more) version ≡ now → IsDocument response
     → IsSentOf side there version departs response → IsSentOf (with_more side more) now version departs response
@@ -135,7 +135,7 @@ not_old true true old full admitted = cc
 not_old true false true full admitted = cc
 not_old true false false full admitted = refl
 
--- so it is newer than the side
+-- an admitted message is newer than the side
 pub newer : (side : Side) (request : Request) (body : List ℕ) (update : Update) → (status_of_update side request body (Some update) == 204) ≡ true → newest_of side < update.moment
 newer side request body update admitted =
     leb-false update.moment (newest_of side)

@@ -98,7 +98,7 @@ tests_hold a b e = grind (arith, nat_tests)
 abbrev status_of_none : Bool → Bool → ℕ
 status_of_none said long = if said then (if long then 413 else 400) else 411
 
--- and so has a message that is admitted 204
+-- a message has 204 where it is admitted, and 400 at least where it is refused
 abbrev status_of_some : Bool → Bool → Bool → Bool → ℕ
 status_of_some said long old full = if said then (if long then 413 else (if old then 409 else (if full then 507 else 204))) else 411
 
@@ -124,7 +124,7 @@ admitted_by side request body kinds.Update asks (update, is_update, is) = update
 admitted_by side request body (kinds.OtherMethod allow) asks is = let f : 204 ≡ 405 = ap status_of is in absurd (omega (arith, f))
 admitted_by side request body kinds.Nothing asks is = let f : 204 ≡ 404 = ap status_of is in absurd (omega (arith, f))
 
--- behind a message that was admitted the newest version is its moment
+-- after a message that was admitted the newest version is its moment
 last_pushed : (x : ℕ) (xs : List ℕ) (m : ℕ) → last_of x (xs ++ m ∷ []) ≡ m
 last_pushed x [] m = refl
 last_pushed x (y ∷ xs) m = last_pushed y xs m
@@ -134,7 +134,7 @@ newest_behind side update bytes =
     ap (last_of side.base_moment) (map-append (λ (e : Entry). e.update.moment) side.history (record { update = update; bytes = bytes; cuts = [] } ∷ []))
     ∙ last_pushed side.base_moment (moments_of side.history) update.moment
 
--- the side behind what was admitted
+-- the side after what was admitted
 behind_admitted : (side next : Side) (request : Request) (body : List ℕ) → WasAdmitted side request body → (asked : Asked) → asked ≡ kinds.Update → IsBehind side request body asked next
     → (update : Update) × IsMessage body update × (newest_of next ≡ update.moment)
 behind_admitted side next request body was kinds.Update asks (None, none, is) = absurd (none was.update was.message)
@@ -169,11 +169,11 @@ admitted_once side next bytes first again has step has_again =
 abbrev Rising : List ℕ → Type 0
 Rising numbers = AllPairs (λ (x y : ℕ). x < y) numbers
 
--- the last one of these that is not behind the known moment, or the base
+-- the last one of these that is not after the known moment, or the base
 abbrev chosen : ℕ → ℕ → List ℕ → ℕ
 chosen known base later = last_of base (filter (is_by (Some known)) later)
 
--- what is chosen is not behind the known moment, or is the base
+-- what is chosen is not after the known moment, or is the base
 abbrev IsByOrBase : ℕ → ℕ → List ℕ → Type 0
 IsByOrBase known base later = (chosen known base later ≤ known) ⊎ (chosen known base later ≡ base)
 
@@ -186,7 +186,7 @@ is_by_or_base : (known base : ℕ) (later : List ℕ) → IsByOrBase known base 
 is_by_or_base known base [] = inr refl
 is_by_or_base known base (next ∷ rest) = by_step known base next rest (nat_le next known) refl (is_by_or_base known next rest) (is_by_or_base known base rest)
 
--- and none that is not behind the known moment stands behind it
+-- no later one that is not after the known moment comes after the chosen one
 abbrev NoneBehind : ℕ → ℕ → List ℕ → Type 0
 NoneBehind known base later = (other : ℕ) → Contains (base ∷ later) other → other ≤ known → other ≤ chosen known base later
 

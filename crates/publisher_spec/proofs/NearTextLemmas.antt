@@ -57,7 +57,7 @@ page_said side request body version departs response is_version is_departs (said
     let same_version : said_version ≡ Some version = the_one _ (one_version (member_value (codes "version") request.query)) said_version (Some version) version_is is_version in
     subst (λ (v : Option ℕ). IsPageResponse side v (Some departs) response) same_version (subst (λ (d : Option ℕ). IsPageResponse side said_version d response) same_departs is)
 
--- the same of a reply
+-- a reply says what is sent of the version
 pub record IsSaid (side : Side) (version departs : ℕ) (request : Request) (text : List ℕ) : Type 0 where
   pub response : Response
   pub said : IsSentOf side (has_version side version) version departs response
@@ -87,7 +87,7 @@ not_found_where_not side bytes text version departs asks there reply =
     let sent = subst (λ (b : Bool). IsSentOf side b version departs is.response) there is.said in
     is.text_is ∙ ap (text_said side asks.request) sent
 
--- THE GATE
+-- THE TIME GATE
 
 name_in : Response → PageName → PageName
 name_in (responses.Status status) other = other

@@ -38,7 +38,7 @@ one_list_of_live_runs runs stops news a b first second =
     (λ run there. (second.exactly run).1 ((first.exactly run).0 there))
     (λ run there. (first.exactly run).1 ((second.exactly run).0 there))
 
--- so a version has one timetable
+-- a version has one timetable
 pub one_timetable : (side : Side) (version : ℕ) (a b : List Connection) → IsTimetableAt side version a → IsTimetableAt side version b → a ≡ b
 one_timetable side version a b first second =
     let same : second.live ≡ first.live = one_list_of_live_runs _ _ _ second.live first.live second.are_live first.are_live in

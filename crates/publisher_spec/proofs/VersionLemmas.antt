@@ -13,11 +13,11 @@ use Rattle.lc_versions.specs.History.{Entry, IsRising, kept_behind, moments_of, 
 use Rattle.lc_versions.specs.Named.{last_of}
 use Rattle.lc_versions.specs.News.{EntitySaid}
 
--- the numbers rise strictly
+-- the numbers strictly increase
 abbrev pub Rising : List ℕ → Type 0
 Rising numbers = AllPairs (λ (x y : ℕ). x < y) numbers
 
--- what stands before others in a rising list is below them
+-- what is before others in an increasing list is below them
 pub below : (xs ys : List ℕ) (v : ℕ) → Rising (xs ++ ys) → Contains xs v → All (λ (y : ℕ). v < y) ys
 below xs ys v rising (k, inside, at) =
     All-from_get_or (λ (y : ℕ). v < y) ys v (λ j within.
@@ -40,7 +40,7 @@ none_up_to v (entry ∷ more) later =
     let over : nat_le entry.update.moment v ≡ false = grind (arith, nat_tests) in
     rw over (none_up_to v more (All-tail (λ (y : ℕ). v < y) entry.update.moment (moments_of more) later))
 
--- so the news of the version stay
+-- the news of the version stay
 pub news_stay : (date_of : ℕ → ServiceDate) (history more : List Entry) (v : ℕ) → All (λ (y : ℕ). v < y) (moments_of more)
     → news_at date_of (history ++ more) v ≡ news_at date_of history v
 news_stay date_of history more v later =
@@ -52,7 +52,7 @@ news_stay date_of history more v later =
 pub moments_on : (history more : List Entry) → moments_of (history ++ more) ≡ moments_of history ++ moments_of more
 moments_on history more = map-append (λ (e : Entry). e.update.moment) history more
 
--- the version stands before what was admitted later
+-- the version is before what was admitted later
 pub later_moments : (base : ℕ) (history more : List Entry) (v : ℕ) → IsRising base (moments_of (history ++ more))
     → list_any (λ (w : ℕ). w == v) (base ∷ moments_of history) ≡ true → All (λ (y : ℕ). v < y) (moments_of more)
 later_moments base history more v rising found =
@@ -68,7 +68,7 @@ still_found base history more v found =
     ∙ list_any-append (λ (w : ℕ). w == v) (base ∷ moments_of history) (moments_of more)
     ∙ ap (λ (there : Bool). there || list_any (λ (w : ℕ). w == v) (moments_of more)) found
 
--- the last one of a rising list is the greatest
+-- the last one of an increasing list is the greatest
 pub last_is_greatest : (x : ℕ) (xs : List ℕ) → Rising (x ∷ xs) → All (λ (y : ℕ). y ≤ last_of x xs) (x ∷ xs)
 last_is_greatest x [] rising = All-cons (λ (y : ℕ). y ≤ x) x [] (omega arith) (All-nil (λ (y : ℕ). y ≤ x))
 last_is_greatest x (y ∷ ys) rising =
@@ -77,7 +77,7 @@ last_is_greatest x (y ∷ ys) rising =
     let second : y ≤ last_of y ys = All-head (λ (z : ℕ). z ≤ last_of y ys) y ys rest in
     All-cons (λ (z : ℕ). z ≤ last_of y ys) x (y ∷ ys) (omega arith) rest
 
--- a rising list goes on by a number above all of it
+-- an increasing list goes on by a number above all of it
 pub rising_on : (xs : List ℕ) (m : ℕ) → Rising xs → All (λ (x : ℕ). x < m) xs → Rising (xs ++ m ∷ [])
 rising_on [] m rising under = λ i j d before inside. absurd (omega arith)
 rising_on (x ∷ xs) m rising under =
@@ -87,7 +87,7 @@ rising_on (x ∷ xs) m rising under =
     (All-append (λ (y : ℕ). x < y) xs (m ∷ []) below_rest (All-cons (λ (y : ℕ). x < y) m [] (All-head (λ (y : ℕ). y < m) x xs under) (All-nil (λ (y : ℕ). x < y))))
     (rising_on xs m rest (All-tail (λ (y : ℕ). y < m) x xs under))
 
--- the moments still rise with one above the last
+-- the moments still increase with one above the last
 pub history_rises : (base : ℕ) (history : List Entry) (entry : Entry) → IsRising base (moments_of history)
     → last_of base (moments_of history) < entry.update.moment → IsRising base (moments_of (history ++ entry ∷ []))
 history_rises base history entry rising above =

@@ -13,7 +13,7 @@ use Rattle.publisher_spec.specs.declared.asked.Asked.TheVariants as kinds
 abbrev pub is_same : List ℕ → List ℕ → Bool
 is_same = is_same_id
 
--- the path is the base's with this behind it
+-- the path is the base's with this after it
 abbrev pub is_under : BaseParts → List ℕ → List ℕ → Bool
 is_under base tail path = is_same path (base.path ++ tail)
 
@@ -37,8 +37,8 @@ asked_by_reading method asked = if is_reading method then asked else kinds.Other
 abbrev pub asked_by_posting : List ℕ → Asked → Asked
 asked_by_posting method asked = if is_posting method then asked else kinds.OtherMethod Posting
 
--- What a request asks for by its path and its method: the time gate, a page, the stops document or, where messages are taken, that
--- one is admitted. A known path with another method is recorded from an unknown one.
+-- What a request asks for by its path and its method: the time gate, a page or the stops document. Where messages are taken, one
+-- may be admitted. A known path with another method is distinguished from an unknown one.
 abbrev pub asked_of : BaseParts → Bool → List ℕ → List ℕ → Asked
 asked_of base accepts_updates path method =
     if is_under base (codes "connections") path then asked_by_reading method kinds.Gate

@@ -21,12 +21,12 @@ use Rattle.publisher_spec.specs.declared.asked.Asked.TheVariants as kinds
 use Rattle.publisher_spec.specs.declared.response.Response.{Response}
 use Rattle.publisher_spec.specs.declared.response.Response.TheVariants as responses
 
--- no connection stands twice in a timetable
+-- no connection is twice in a timetable
 abbrev pub NoneTwice : Type 0
 NoneTwice =
     (side : Side) (version : ℕ) (before between behind : List Connection) (c : Connection) → IsTimetableAt side version (before ++ c ∷ between ++ c ∷ behind) → ⊥
 
--- none stands before one that departs earlier
+-- none is before one that departs earlier
 abbrev pub NoneTooEarly : Type 0
 NoneTooEarly =
     (side : Side) (version : ℕ) (before behind : List Connection) (late early : Connection) → early.dep < late.dep
@@ -44,7 +44,7 @@ NoneIsLeftOut =
     (side : Side) (version : ℕ) (list : List Connection) (run : Run) (c : Connection) → IsTimetableAt side version list → RunsAt side version run
     → Contains (connections_of_calls run.key run.calls) c → Contains list c
 
--- a run that stands live, and has the connection
+-- a live run that has the connection
 pub record HasConnection (side : Side) (version : ℕ) (c : Connection) : Type 0 where
   pub run : Run
   pub runs : RunsAt side version run
@@ -54,7 +54,7 @@ pub record HasConnection (side : Side) (version : ℕ) (c : Connection) : Type 0
 abbrev pub NoneIsMadeUp : Type 0
 NoneIsMadeUp = (side : Side) (version : ℕ) (list : List Connection) (c : Connection) → IsTimetableAt side version list → Contains list c → HasConnection side version c
 
--- so a timetable is not empty where a run has two calls
+-- a timetable is not empty where a run has two calls
 abbrev pub NotEmpty : Type 0
 NotEmpty = (side : Side) (version : ℕ) (run : Run) → RunsAt side version run → 2 ≤ length run.calls → IsTimetableAt side version [] → ⊥
 
@@ -96,7 +96,7 @@ AdmittedOnce =
     (side next : Side) (bytes first again : List ℕ) → HasReply side bytes (responses.Status 204) first → IsNextSide side bytes next
     → HasReply next bytes (responses.Status 204) again → ⊥
 
--- by a known moment no version behind it is meant but the base, and none before the last one that is not behind it
+-- by a known moment no version after it is meant but the base, and none before the last one that is not after it
 abbrev pub NoneLaterIsMeant : Type 0
 NoneLaterIsMeant =
     (base : ℕ) (moments text : List ℕ) (known version : ℕ) → IsRising base moments → SaysHttpDate text known → Negotiates (base ∷ moments) (Some text) version
@@ -153,7 +153,7 @@ MovedToTheMeant =
 abbrev pub NoneIsEmpty : Type 0
 NoneIsEmpty = (side : Side) (bytes : List ℕ) → IsReply side bytes [] → ⊥
 
--- the same request as a HEAD
+-- the request with HEAD as its method
 abbrev pub as_head : Request → Request
 as_head request = record request { method = codes "HEAD" }
 

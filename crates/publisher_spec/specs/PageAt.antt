@@ -12,7 +12,7 @@ abbrev pub page_among : List CutPage → ℕ → CutPage
 page_among [] moment = record { departs = 0; connections = [] }
 page_among (first ∷ rest) moment = page_for first rest moment
 
--- the cut behind a page's name, if there is one: there the next page begins
+-- the cut after a page's name, if there is one: there the next page begins
 abbrev pub next_cut : List ℕ → ℕ → Option ℕ
 next_cut cuts departs = first_of (filter (nat_lt departs) cuts)
 

@@ -89,7 +89,7 @@ pub record HasReply (side : Side) (bytes : List ℕ) (response : Response) (text
 abbrev pub IsReply : Side → List ℕ → List ℕ → Type 0
 IsReply side bytes text = (response : Response) × HasReply side bytes response text
 
--- the side behind a body that is a message or not
+-- the side after a body that is a message or not
 abbrev pub side_behind : Side → Request → List ℕ → Option Update → Side
 side_behind side request body None = side
 side_behind side request body (Some update) =

@@ -1,5 +1,5 @@
--- What a publisher says to a request: the page that is meant, a page, the stops document, or a status (RFC 7089, section 4.2;
--- RFC 9110, section 15).
+-- What a publisher says to a request (RFC 7089, section 4.2; RFC 9110, section 15). It says the page that is meant, a page, the stops
+-- document, or a status.
 use Rattle.std.specs.Prelude.{◌≡◌, ℕ, ◌+◌, nat_le, nat_lt, Bool, true, false, ◌||◌, List, length, sum_by, codes, Option, Some, None, is_some, if◌then◌else◌}
 use Rattle.lc_model.specs.declared.connection.Connection.{Connection}
 use Rattle.lc_time.specs.Iso.{SaysMoment}
@@ -60,7 +60,7 @@ pub record IsMovedTo (side : Side) (version departs : ℕ) (response : Response)
   pub sound : IsSoundName page.name
   pub is : response ≡ Found page.name departs
 
--- at the time gate: the page for the moment of departure at the version that is meant, or that one of the two cannot be read
+-- At the time gate: the page for the moment of departure at the version that is meant. Or it says that one of the two cannot be read.
 abbrev pub IsGateResponse : Side → Option ℕ → Option ℕ → Response → Type 0
 IsGateResponse side None version response = response ≡ Status 400
 IsGateResponse side (Some departs) None response = response ≡ Status 400
@@ -78,7 +78,7 @@ abbrev pub IsSentOf : Side → Bool → ℕ → ℕ → Response → Type 0
 IsSentOf side true version departs response = IsSent side version departs response
 IsSentOf side false version departs response = response ≡ Status 404
 
--- at a memento: the page for the moment of departure at the version, that there is no such version, or that one of the two cannot be read
+-- At a memento: the page for the moment of departure at the version. Or it says that there is no such version, or that one of the two is unreadable.
 abbrev pub IsPageResponse : Side → Option ℕ → Option ℕ → Response → Type 0
 IsPageResponse side version None response = response ≡ Status 400
 IsPageResponse side None (Some departs) response = response ≡ Status 400
@@ -145,7 +145,7 @@ asked_at side request = asked_of side.base side.accepts_updates request.path req
 abbrev pub IsResponse : Side → Request → List ℕ → Response → Type 0
 IsResponse side request body response = IsResponseTo side request body (asked_at side request) response
 
--- it is a page or the stops document, as they stand at a version, and no status
+-- it is a page or the stops document, as they are at a version, and no status
 abbrev pub IsDocument : Response → Type 0
 IsDocument (Status status) = ⊥
 IsDocument (OtherMethod allow) = ⊥

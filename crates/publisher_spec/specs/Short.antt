@@ -13,7 +13,7 @@ pub record IsShort (side : Side) : Type 0 where
       (version departs : ℕ) (page : Page) → has_version side version ≡ true → IsPageOf side version departs page
       → length (page_text_of side.base page) < 10_000_000_000
 
--- the side is valid, stands under this base, and its texts fit into replies
+-- the side is valid, is under this base, and its texts fit into replies
 pub record StandsUnder (base : BaseParts) (side : Side) : Type 0 where
   pub is_base : side.base ≡ base
   pub valid : IsValidSide side

@@ -19,8 +19,8 @@ use Rattle.lc_versions.specs.declared.update.Update.{Update}
 use Rattle.connection_uri.specs.Base.{BaseParts, IsBase}
 use Rattle.page_json.specs.Valid.{IsValidDoc}
 
--- What a publisher has: the runs of its timetable and its stops document; the base under which its documents stand, the moment
--- of its base version, the zone of its feed, and whether it takes messages; those that it has admitted; and how it cuts
+-- What a publisher has. It has the runs of its timetable and its stops document. It has the base under which its documents are, the moment
+-- of its base version, the zone of its feed, and whether it takes messages. It has those that it admitted. It has a way to cut
 -- departures into pages, which is the same at every version. The cuts of an entry are not looked at.
 pub record Side : Type 0 where
   pub runs : List Run
@@ -41,7 +41,7 @@ first_date = record {
   civil = record { year_from = lit≤ tt; year_to = lit≤ tt; month_from = lit≤ tt; month_to = lit≤ tt; day_from = lit≤ tt; day_to = lit≤ tt };
 }
 
--- the date that the zone's clock shows at a moment; at what is no moment the first one may stand for it
+-- the date that the zone's clock shows at a moment; at what is no moment the first one may be taken for it
 abbrev pub date_in : Zone → ℕ → ServiceDate
 date_in zone moment = unwrap_or (date_shown zone moment) first_date
 
@@ -63,7 +63,7 @@ pub record IsTimetableAt (side : Side) (version : ℕ) (list : List Connection) 
   pub are_live : AreLiveRuns side.runs side.doc.stops (news_at (date_in side.zone) side.history version) live
   pub are_connections : AreConnectionsOf live list
 
--- The runs stand in order, and so do the calls of each; the document is valid; the base is one; the versions rise strictly; and
+-- The runs are in order, and so are the calls of each. The document is valid. The base is one. The versions strictly increase. All
 -- departures that never fall are cut lawfully.
 pub record IsValidSide (side : Side) : Type 0 where
   pub runs : InKeyOrder side.runs

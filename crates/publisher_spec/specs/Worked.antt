@@ -31,7 +31,7 @@ pub record WorkedAsked : Type 0 where
   pub other_base : asked_of example_base true (codes "/stops") (codes "GET") ≡ Nothing
   pub longer : asked_of example_base true (codes "/a/stops/") (codes "GET") ≡ Nothing
 
--- The first value of a name stands. The names of fields have no case, those of members do.
+-- The first value of a name counts. The names of fields have no case, those of members do.
 pub record WorkedValues : Type 0 where
   pub field :
       field_value (codes "accept-datetime") (record { name = codes "Accept-Datetime"; value = codes "a" } ∷ record { name = codes "accept-datetime"; value = codes "b" } ∷ [])
@@ -41,7 +41,7 @@ pub record WorkedValues : Type 0 where
       ≡ Some (codes "b")
   pub no_member : member_value (codes "version") [] ≡ None
 
--- The departures 08:00, 08:11, 08:11 again, 08:20, 09:00 and 10:00 by the cuts 08:00, 09:00 and 10:00: the pages for some moments, with
+-- The departures 08:00, 08:11, 08:11 again, 08:20, 09:00 and 10:00 by the cuts 08:00, 09:00 and 10:00. The pages for some moments, with
 -- their links, and the empty page.
 pub record WorkedPages (key : RunKey) : Type 0 where
   pub first :
@@ -58,8 +58,8 @@ pub record WorkedPages (key : RunKey) : Type 0 where
       ≡ record { name = named 7 (at 10 0); next = None; previous = Some (named 7 (at 9 0)); list = connections_at key (at 10 0 ∷ []) }
   pub empty : page_at 7 [] [] (at 8 0) ≡ record { name = named 7 0; next = None; previous = None; list = [] }
 
--- The reply at the time gate for 2024-05-01T08:00:00Z at the version of 07:00:00, a status, one that closes, an unknown method, and what
--- a HEAD is sent of a reply.
+-- The reply at the time gate for 2024-05-01T08:00:00Z at the version of 07:00:00, a status, one that closes, an unknown method, and a
+-- reply to a HEAD.
 pub record WorkedReplies (doc : StopsDoc) : Type 0 where
   pub found :
       reply_text_of (parts_of example_base doc false (responses.Found (named 1_714_546_800 1_714_550_400) 1_714_550_400)) ≡

@@ -16,15 +16,15 @@ pub fn next_is_later()
     ensures goes_on { LaterGoesOn }
 {}
 
-/// A memento never changes: a version keeps its timetable, and each page and each stops document that was sent once is the reply
+/// A memento never changes. A version keeps its timetable. Each page and each stops document that was sent once is the reply
 /// to the same request ever after (RFC 7089, section 1.1).
 pub fn mementos_stay()
     ensures timetables { TimetablesStay }
     ensures replies { MementosStay }
 {}
 
-/// Near values are refused: a timetable with a connection twice, out of order, left out or made up; another page; a side that lost its
-/// messages, or took one twice; a version behind the known moment, or before the last one that is not.
+/// Near values are refused: a timetable with a connection twice, out of order, left out or made up; another page. A side that lost its
+/// messages or took one twice is refused, too. A version after the known moment is, or before the last one that is not.
 pub fn near_values()
     ensures twice { NoneTwice }
     ensures early { NoneTooEarly }
@@ -41,8 +41,8 @@ pub fn near_values()
     ensures sent { SentOfItsVersions }
 {}
 
-/// Near replies are refused: a page where the version is not there, 404 where it is, another version at the time gate, no bytes at all, and a
-/// body for a HEAD.
+/// Near replies are refused: a page where the version is not there, 404 where it is, another version at the time gate, no bytes. A
+/// body for a HEAD is, too.
 pub fn near_replies()
     ensures sent { SentWhereThere }
     ensures not_found { NotFoundWhereNot }

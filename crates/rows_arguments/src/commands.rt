@@ -1,4 +1,4 @@
-//! What the words of each command say.
+//! What the arguments of each command say.
 use crate::network::{PLANS, SERVES, put_plan, put_serve};
 use crate::words::{Side, command_of, put_publishing, put_read};
 use cli_words::{Ask, Check, Command, Replay, read_words};
@@ -9,7 +9,7 @@ use std::alloc::Global;
 use std::fmt::Display;
 use std::str::from_utf8;
 
-/// Words of `check` and `ask`, words of no command among them.
+/// Arguments of `check` and `ask`, arguments of no command among them.
 const COMMANDS: [&str; 57] = [
     "check tiny 20240501",
     "check tiny 20240501 --days 14",
@@ -70,7 +70,7 @@ const COMMANDS: [&str; 57] = [
     "",
 ];
 
-/// Words of `replay`.
+/// Arguments of `replay`.
 const REPLAYS: [&str; 32] = [
     "replay tiny 20240501 s.csv",
     "replay -- tiny 20240501 s.csv",
@@ -106,7 +106,7 @@ const REPLAYS: [&str; 32] = [
     "replay --help",
 ];
 
-/// A line for each row of these tables, and one for no word.
+/// A line for each row of these tables, and one for no argument.
 pub fn put_commands(alloc: Global, draft: &mut Draft) {
     put_table(alloc, draft, &COMMANDS);
     put_table(alloc, draft, &REPLAYS);
@@ -129,7 +129,7 @@ fn put_words(alloc: Global, draft: &mut Draft, words: &str) {
     put_read(draft, command_of(alloc, words), Side::Words);
 }
 
-/// What the words of a command say.
+/// What the arguments of a command say.
 pub fn put_said(draft: &mut Draft, read: &Result<Option<Command>, NoMemory>) {
     match read {
         Ok(Some(Command::Check(check))) => put_check(draft, check),
@@ -151,7 +151,7 @@ fn put_check(draft: &mut Draft, check: &Check) {
     put_word(draft, &check.change);
 }
 
-/// A space, and what is shown behind it.
+/// A space, and what is shown after it.
 pub fn put_word<T: Display>(draft: &mut Draft, shown: &T) {
     draft.put(" ");
     draft.put_shown(shown);

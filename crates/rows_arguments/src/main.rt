@@ -1,5 +1,5 @@
-//! Prints what the words of a command line say, a line a case: options before, between and behind the plain words, and what is no
-//! command. What the lines have to be stands in `stdout`.
+//! Prints what the arguments of a command line say, a line a case. There are options before, between and after the plain ones,
+//! and what is no command. The expected lines are in `stdout`.
 #![tactic(auto)]
 
 mod commands;

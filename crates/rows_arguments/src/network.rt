@@ -115,7 +115,7 @@ fn put_door(draft: &mut Draft, serve: &Serve) {
     draft.put(if serve.accept_updates { " yes" } else { " no" });
 }
 
-/// A plan: its base, the name of its questions, and how many pages it keeps.
+/// A plan: its base, the name of its questions, and how many pages it caches.
 pub fn put_plan(draft: &mut Draft, plan: &Plan) {
     draft.put("plan ");
     draft.put(plan.base.text());

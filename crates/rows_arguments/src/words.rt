@@ -6,7 +6,7 @@ use lc_model::NoMemory;
 use rows_common::Draft;
 use std::alloc::Global;
 
-/// The command that the words of a text say, which spaces part.
+/// The command that the arguments of a text say, which spaces part.
 pub fn command_of(alloc: Global, words: &str) -> Result<Option<Command>, NoMemory> {
     let mut list = Vec::new(alloc);
     push_words(alloc, &mut list, words)?;
@@ -20,7 +20,7 @@ fn push_words(alloc: Global, list: &mut Vec<String>, words: &str) -> Result<(), 
     Ok(())
 }
 
-/// What is recorded of a command.
+/// What is said of a command.
 #[derive(Clone, Copy)]
 pub enum Side {
     Words,

@@ -1,4 +1,4 @@
-//! The questions of the clients, the replies that they are given, and what they say of them.
+//! The questions of the clients, the replies that they receive, and what they say of them.
 
 /// The ends of a question, the second of its day at which it leaves, its horizon, and the replies that are there.
 pub type Case = (&'static str, &'static str, u32, u32, &'static str);
@@ -133,7 +133,7 @@ pub static REQUESTS: [Case; 3] = [
 pub static CUT_OFF: [Case; 1] = [("A", "D", 28_800, 86_400, "gate/08:00:00")];
 
 /// Replies by one word: what a publisher of the small feed replies, with its pages cut each half hour, or with a page for each
-/// connection, of which the gate names the first from its path on; and a page a second.
+/// connection. Of the latter the time gate names the first from its path on. There is a page a second, too.
 pub fn replies_of(words: &str) -> &str {
     match words {
         "half_hours" => {

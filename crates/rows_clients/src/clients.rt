@@ -113,7 +113,7 @@ fn put_run(
     }
 }
 
-/// What a client of a question says after its replies, and how many it was given.
+/// What a client of a question says after its replies, and how many it received.
 fn put_ended(draft: &mut Draft, client: &Client, case: &Case, given: u64) {
     put_asked(draft, case);
     put_outcome(draft, client.outcome());
@@ -243,7 +243,7 @@ fn put_sign(draft: &mut Draft, byte: u8) {
     }
 }
 
-/// A client of which an exchange fails: the version that it was recorded, and how it ended.
+/// A client of which an exchange fails: the version that the time gate named to it, and how it ended.
 fn put_cut(draft: &mut Draft, client: &mut Client) {
     if client.want() == Want::Finished {
         return draft.lose();

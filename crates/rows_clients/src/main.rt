@@ -1,4 +1,4 @@
-//! Prints what a client of worked cases comes to, a line each, and what they are compared with stands in `stdout`.
+//! Prints what a client of worked cases results in, a line each. The expected lines are in `stdout`.
 #![tactic(auto)]
 
 mod asked;

@@ -129,7 +129,7 @@ fn put_name(reply: &mut Draft, time: &str) {
     reply.put(time);
 }
 
-/// What stands before a time of 2024-05-01. No time is the first moment.
+/// What comes before a time of 2024-05-01. No time is the first moment.
 fn day(time: &str) -> &str {
     if time.is_empty() {
         "1970-01-01T00:00:00"
@@ -149,7 +149,7 @@ fn put_parts(reply: &mut Draft, parts: &str) {
     put_rows(reply, letters);
 }
 
-/// The text before the first slash, and the text behind it.
+/// The text before the first slash, and the text after it.
 fn cut(text: &str) -> (&str, &str) {
     text.split_once('/').unwrap_or((text, ""))
 }

@@ -4,7 +4,7 @@ use std::alloc::Global;
 use std::fmt::Display;
 
 /// A text that is written piece by piece. Running out of memory stops none of its writers: it is
-/// kept, and said at the end.
+/// remembered, and said at the end.
 #[derive(Drop)]
 pub struct Draft {
     text: String,
@@ -27,7 +27,7 @@ impl Draft {
         self.text.as_str().as_bytes()
     }
 
-    /// The bytes of the text, for keeps.
+    /// The bytes of the text, taken out of the draft.
     pub fn into_bytes(self) -> Vec<u8> {
         let Draft { text, is_whole: _ } = self;
         text.into_bytes()
@@ -38,12 +38,12 @@ impl Draft {
         if self.is_whole { Ok(()) } else { Err(Unmade) }
     }
 
-    /// Something could not be made of which a piece was to tell.
+    /// Something could not be made of which a piece was to speak.
     pub fn lose(&mut self) {
         self.is_whole = false;
     }
 
-    /// A part of which a piece tells has to be whole too.
+    /// A part of which a piece speaks has to be whole too.
     pub fn also(&mut self, part: &Draft) {
         if !part.is_whole {
             self.lose();
@@ -111,7 +111,7 @@ impl Draft {
         self.put("\"");
     }
 
-    /// Bytes: what ASCII prints as it stands, and else its escape.
+    /// Bytes: what ASCII prints as it is, and else its escape.
     pub fn put_escaped(&mut self, bytes: &[u8]) {
         for byte in bytes {
             self.put_byte(*byte);

@@ -1,5 +1,5 @@
-//! What the programs of cases share: lines with one value each, a text that is written piece by piece, and how a case that could not
-//! be made ends its program. It stands on nothing but `std`.
+//! What the programs of cases share: lines with one value each, and a text that is written piece by piece. How a case that could not
+//! be made ends its program. It builds on nothing but `std`.
 #![tactic(auto)]
 
 mod draft;

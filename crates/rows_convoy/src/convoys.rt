@@ -20,7 +20,7 @@ pub fn begun(alloc: Global, cache: usize) -> Result<Convoy, Unmade> {
     }
 }
 
-/// So many clients more.
+/// This many clients more.
 pub fn ask_each(
     alloc: Global,
     draft: &mut Draft,

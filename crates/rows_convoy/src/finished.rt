@@ -62,7 +62,7 @@ fn put_before(draft: &mut Draft, convoy: &Convoy) {
     draft.put("\n");
 }
 
-/// How many clients there are, the version that client 2 was recorded, how many exchanges each made, and what the link tells.
+/// How many clients there are, client 2's version by the time gate, how many exchanges each made, and what the link recorded.
 fn put_after(draft: &mut Draft, convoy: &Convoy, link: &ListLink) {
     let clients = convoy.clients();
     if clients < 3 {
@@ -81,7 +81,7 @@ fn put_after(draft: &mut Draft, convoy: &Convoy, link: &ListLink) {
     draft.put("\n");
 }
 
-/// How client 2 ended, for keeps.
+/// How client 2 ended, taken out of the convoy.
 fn put_kept(draft: &mut Draft, convoy: Convoy) {
     if convoy.clients() < 2 {
         return draft.lose();

@@ -28,7 +28,7 @@ fn push(alloc: Global, draft: &mut Draft, replies: &mut Vec<Bytes>, word: &str) 
     draft.need(replies.push(Bytes::from_list(reply.into_bytes())));
 }
 
-/// Adds a reply: of the gate, of the stops document, or of a page by its second and that of the next page.
+/// Adds a reply: of the time gate, of the stops document, or of a page by its second and that of the next page.
 fn put_reply(reply: &mut Draft, word: &str) {
     match word.split_once('/') {
         Some((second, next)) => put_linked(reply, second, next),

@@ -1,4 +1,4 @@
-//! Prints what the clients of worked convoys come to, a line each, and what they are compared with stands in `stdout`.
+//! Prints what the clients of worked convoys result in, a line each. The expected lines are in `stdout`.
 #![tactic(auto)]
 
 mod convoys;

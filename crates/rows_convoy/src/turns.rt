@@ -11,7 +11,7 @@ use std::alloc::Global;
 struct Case {
     name: &'static str,
     horizon: u32,
-    /// How many pages are kept.
+    /// How many pages are cached.
     cache: usize,
     clients: usize,
     replies: &'static str,
@@ -29,7 +29,7 @@ static CASES: [Case; 5] = [
         replies: "gate stops gate 0/ stops",
         turns: "11212212",
     },
-    // Of two pages a cache of one keeps the last one alone.
+    // Of two pages a cache of one holds the last one alone.
     Case {
         name: "a small cache",
         horizon: 3_600,
@@ -38,7 +38,7 @@ static CASES: [Case; 5] = [
         replies: "gate stops 0/1 1/ gate stops 0/1 1/",
         turns: "11112222",
     },
-    // The third client and the fourth one fail, and the second one goes on by what is kept.
+    // The third client and the fourth one fail, and the second one goes on by what is cached.
     Case {
         name: "links that fail",
         horizon: 3_600,
@@ -47,7 +47,7 @@ static CASES: [Case; 5] = [
         replies: "gate stops gate stops 0/1 1/",
         turns: "112211323422",
     },
-    // A page whose next link leads to itself is not kept for the second client.
+    // A page whose next link leads to itself is not cached for the second client.
     Case {
         name: "not kept",
         horizon: 3_600,
@@ -56,7 +56,7 @@ static CASES: [Case; 5] = [
         replies: "gate stops 0/0 gate stops 0/",
         turns: "111222",
     },
-    // Pages of a second each: the client asks for none that begins behind the horizon.
+    // Pages of a second each: the client asks for none that begins after the horizon.
     Case {
         name: "behind the horizon",
         horizon: 3,
@@ -107,7 +107,7 @@ fn put_convoy(
     draft.put("\n");
 }
 
-/// The turn of client k: what it does, and how many exchanges more the link tells then.
+/// The turn of client k: what it does, and how many exchanges more the link records then.
 fn put_turn(alloc: Global, draft: &mut Draft, convoy: &mut Convoy, k: usize, link: &mut ListLink) {
     if k < 1 || convoy.clients() < k {
         return draft.lose();

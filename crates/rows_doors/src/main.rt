@@ -1,4 +1,4 @@
-//! Prints what doors in memory do and how connections are served in worked cases, a line a value, and what they are compared with stands in
+//! Prints what doors in memory do and how connections are served in worked cases, a line a value. The expected lines are in
 //! `stdout`.
 #![tactic(auto)]
 

@@ -28,8 +28,8 @@ const NO_SUCH_TRIP: &str = "trip_id,start_time,end_time,headway_secs\nT9,10:00:0
 
 const NO_STOP: &str = "from_stop_id,to_stop_id\nA,Z\n";
 
-/// A line for the whole feed: how many rows each table has, in the order of the files, and how many trips are left out, or the
-/// fault; and how many files the folder was asked for.
+/// A line for the whole feed: how many rows each table has, in the order of the files, and how many trips are left out. Or the
+/// fault. Then it says how many files the directory was asked for.
 pub fn put_whole(alloc: Global, draft: &mut Draft) {
     draft.put("whole: ");
     put_said(alloc, draft, whole(alloc), 8);

@@ -1,5 +1,5 @@
-//! Prints what is taken, read and written of messages of HTTP, a line a case: heads as real clients send them, and rows after
-//! RFC 9112 and RFC 9110. What the lines have to be stands in `stdout`.
+//! Prints what is taken, read and written of messages of HTTP, a line a case. There are heads as real clients send them,
+//! and rows after RFC 9112 and RFC 9110. The expected lines are in `stdout`.
 #![tactic(auto)]
 
 mod limits;

@@ -4,8 +4,8 @@ use lc_model::PlainData;
 use rows_common::Draft;
 use std::alloc::Global;
 
-/// Bytes of which is said, as of a reply, the status, the location, the moment in seconds, or 0 where there is none, and the body;
-/// or their first fault.
+/// Bytes, and what is said of them as of a reply: the status, the location, the moment in seconds, or 0, and the body. Or it is
+/// their first fault.
 const REPLIES: [&str; 20] = [
     "HTTP/1.1 200 OK\r\nContent-Length: 0\r\n\r\n",
     "HTTP/1.1 404 Not Found\r\nContent-Length: 0\r\n\r\n",

@@ -45,7 +45,7 @@ const REFUSED: [&str; 28] = [
     "GET / HTTP/1.1\r\nHost: x\r\nA: \0\r\n\r\n",
     "GET / HTTP/1.1\r\nHost : x\r\n\r\n",
     "GET  / HTTP/1.1\r\nHost: x\r\n\r\n",
-    // The first test that fails decides, in whatever order the fields stand.
+    // The first test that fails decides, in whatever order the fields are.
     "GET * HTTP/1.1\r\nContent-Length: x\r\nTransfer-Encoding: chunked\r\n\r\n",
     "GET * HTTP/1.1\r\nTransfer-Encoding: chunked\r\nContent-Length: x\r\n\r\n",
     "GET / HTTP/1.1\r\nHost: x\r\nHost: x\r\nTransfer-Encoding: chunked\r\n\r\n",
@@ -80,7 +80,7 @@ fn put_each(draft: &mut Draft, room: &mut HeadRoom, table: &[&str]) {
     }
 }
 
-/// A line with what stands at the front of the bytes.
+/// A line with what is at the front of the bytes.
 pub fn put_taken_of(draft: &mut Draft, room: &mut HeadRoom, bytes: &[u8]) {
     draft.put_quoted(bytes);
     put_answer(draft, room.take_request(bytes));
@@ -109,7 +109,7 @@ fn put_alone(alloc: Global, draft: &mut Draft) {
     }
 }
 
-/// Lines for the fronts of two requests, one behind the other.
+/// Lines for the fronts of two requests, one after the other.
 fn put_fronts(alloc: Global, draft: &mut Draft, room: &mut HeadRoom) {
     let mut both = Draft::new(alloc);
     both.put(CURL_POST);

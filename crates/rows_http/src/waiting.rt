@@ -4,7 +4,7 @@ use http_text::HeadRoom;
 use rows_common::{Draft, Unmade};
 use std::alloc::Global;
 
-/// Bytes of a target that are no UTF-8: within a target, behind it, and where no target is.
+/// Bytes of a target that are no UTF-8: within a target, after it, and where no target is.
 const NO_TEXT: [&[u8]; 8] = [
     b"GET /\xff",
     b"\r\n\nGET \xff",
@@ -50,7 +50,7 @@ fn put_long_target(alloc: Global, draft: &mut Draft, room: &mut HeadRoom, length
     }
 }
 
-/// So many bytes that end inside a target that is no UTF-8.
+/// This many bytes that end inside a target that is no UTF-8.
 fn long_target(alloc: Global, length: usize) -> Result<Vec<u8>, Unmade> {
     let mut bytes = Vec::new(alloc);
     for place in 0..length {

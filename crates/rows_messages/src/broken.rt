@@ -8,7 +8,7 @@ use trip_updates::{Part, RtFault};
 /// A header of the version 2.0 and the moment 5.
 const HEADER: &[u8] = b"\x0a\x07\x0a\x032.0\x18\x05";
 
-/// Behind `HEADER`.
+/// After `HEADER`.
 static BEHIND: [(&str, &[u8]); 13] = [
     ("a second header", b"\x0a\x07\x0a\x032.0\x18\x05"),
     ("an entity without an id", b"\x12\x00"),
@@ -101,7 +101,7 @@ fn put_behind(alloc: Global, text: &mut String) -> Result<(), Unmade> {
     Ok(())
 }
 
-/// A line for each front of LATE: it ends within the header, behind it, or within the entity.
+/// A line for each front of LATE: it ends within the header, after it, or within the entity.
 fn put_fronts(alloc: Global, text: &mut String) -> Result<(), Unmade> {
     for length in 1..46 {
         write!(text, "{length} ")?;

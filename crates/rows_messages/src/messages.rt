@@ -23,12 +23,12 @@ const UNKNOWN: &[u8] =
 const OPPOSITE: &[u8] =
     b"\x12\x1d\x1a\x18\x12\x06\x12\x02\x08\x3c\x08\x02\x0a\x0e\x1a\x0820240501\x0a\x02T1\x0a\x011\x0a\x0d\x18\xf0\xd0\xc7\xb1\x06\x10\x00\x0a\x032.0";
 
-// LATE with other numbers and texts before its own: version "1.0", DIFFERENTIAL, timestamp 7, id "x", trip "T9" of 20230101,
+// LATE with other numbers and texts before its own: version "1.0", DIFFERENTIAL, timestamp 7, id "x", trip "T9" of 20230101. And
 // CANCELED, sequence 9, SKIPPED, delay -5.
 const LAST_STANDS: &[u8] =
     b"\x0a\x16\x0a\x031.0\x10\x01\x18\x07\x0a\x032.0\x10\x00\x18\xf0\xd0\xc7\xb1\x06\x12\x43\x0a\x01x\x0a\x011\x1a\x3b\x0a\x20\x0a\x02T9\x1a\x0820230101\x20\x03\x0a\x02T1\x1a\x0820240501\x20\x00\x12\x17\x08\x09\x28\x01\x12\x0d\x08\xfb\xff\xff\xff\xff\xff\xff\xff\xff\x01\x08\x3c\x08\x02\x28\x00";
 
-// LATE with a varint 7 behind each text and message, and a text "7" behind each number, under the same field number.
+// LATE with a varint 7 after each text and message, and a text "7" after each number, under the same field number.
 const OTHER_TYPES: &[u8] =
     b"\x0a\x15\x0a\x032.0\x10\x00\x18\xf0\xd0\xc7\xb1\x06\x08\x07\x12\x017\x1a\x017\x12\x40\x0a\x011\x1a\x37\x0a\x17\x0a\x02T1\x1a\x0820240501\x08\x07\x10\x07\x18\x07\x22\x017\x12\x18\x08\x02\x12\x08\x08\x3c\x0a\x017\x12\x017\x10\x07\x18\x07\x20\x07\x0a\x017\x2a\x017\x08\x07\x10\x07\x08\x07\x18\x07\x08\x07\x10\x07";
 
@@ -57,7 +57,7 @@ const WIDE: &[u8] =
 const DELETED: &[u8] =
     b"\x0a\x0d\x0a\x032.0\x10\x01\x18\xc8\xd5\xc7\xb1\x06\x12\x05\x0a\x011\x10\x01";
 
-// The same as a full message with a passed trip update in its entity.
+// DELETED as a full message with a passed trip update in its entity.
 const FULL_DELETED: &[u8] =
     b"\x0a\x0d\x0a\x032.0\x10\x00\x18\xc8\xd5\xc7\xb1\x06\x12\x09\x0a\x011\x10\x01\x1a\x02\x0a\x00";
 
@@ -112,7 +112,7 @@ fn put_counts_of(alloc: Global, text: &mut String, message: &[u8]) -> Result<(),
     put_counts(text, "ten thousand", &update)
 }
 
-/// How many news the entity of LATE gives that stands ten thousand times.
+/// How many news the entity of LATE gives that is there ten thousand times.
 fn put_many_entities(alloc: Global, text: &mut String) -> Result<(), Unmade> {
     let message = many(alloc)?;
     put_counts_of(alloc, text, message.as_slice())

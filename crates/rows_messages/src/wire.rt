@@ -2,7 +2,7 @@
 use rows_common::{Unmade, put_line};
 use rt_protobuf::{Field, Value, WireFault, next_field, one_parting};
 
-/// A line of what stands at a place: the number of a field, what it holds and the place behind it; the end; or a fault.
+/// A line of what is at a place: the number of a field, what it holds and the place after it. Or the end, or a fault.
 fn put_next(
     text: &mut String,
     name: &str,
@@ -26,7 +26,7 @@ fn put_field(text: &mut String, name: &str, field: Field) -> Result<(), Unmade> 
     put_value(text, field.value, field.next)
 }
 
-/// What a field holds, and the place behind it.
+/// What a field holds, and the place after it.
 fn put_value(text: &mut String, value: Value, next: usize) -> Result<(), Unmade> {
     let (word, held) = match value {
         Value::Varint(held) => ("varint", held),
@@ -54,7 +54,7 @@ fn put_fault(text: &mut String, name: &str, fault: WireFault) -> Result<(), Unma
     Ok(())
 }
 
-/// Three fields behind one another, as protoc writes "a: 300 d: 7", with an empty text between them.
+/// Three fields one after another, as protoc writes "a: 300 d: 7", with an empty text between them.
 const THREE: &[u8] = b"\x08\xac\x02\x1a\x00\x2d\x07\x00\x00\x00";
 
 /// A tag and a number that are written longer than they need be.
@@ -89,7 +89,7 @@ static FIELDS: [(&str, &[u8], usize); 31] = [
     ("the second", THREE, 3),
     ("the third", THREE, 5),
     ("behind the third", THREE, 10),
-    // What the standard says of broken bytes, each behind one byte that is no part of it.
+    // What the standard says of broken bytes, each after one byte that is no part of it.
     ("a group begins", b"\x00\x0b", 1),
     ("a group ends", b"\x00\x0c", 1),
     ("number 0", b"\x00\x00", 1),

@@ -1,4 +1,4 @@
-//! Folders that are read, and sinks that are written.
+//! Directories that are read, and sinks that are written.
 use lc_io::{
     File, Folder, FolderFail, MemFolder, MemSink, Sink, SinkFail, SureFolder, SureSink, put_all,
 };
@@ -30,7 +30,7 @@ fn files(alloc: Global) -> Result<Vec<File>, Unmade> {
     Ok(files)
 }
 
-/// What comes of the reads in a folder whose reads never fail.
+/// What comes of the reads in a directory whose reads never fail.
 fn put_sure_folder(alloc: Global, text: &mut String) -> Result<(), Unmade> {
     let files = files(alloc)?;
     match SureFolder::new(alloc, files) {
@@ -44,7 +44,7 @@ fn put_sure_reads(alloc: Global, text: &mut String, folder: &mut SureFolder) -> 
     put_asked(text, folder.asked())
 }
 
-/// What comes of the reads in a folder whose second and fourth read fail.
+/// What comes of the reads in a directory whose second and fourth read fail.
 fn put_folder(alloc: Global, text: &mut String) -> Result<(), Unmade> {
     let fails = vec![in alloc; 2, 4]?;
     let files = files(alloc)?;

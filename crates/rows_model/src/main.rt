@@ -1,5 +1,5 @@
-//! Prints what the words of the timetable, folders and sinks, updates and cuts come to in worked cases, a line a value, and what
-//! they are compared with stands in `stdout`.
+//! Prints what the words of the timetable, directories and sinks, updates and cuts result in, in worked cases, a line a value.
+//! The expected lines are in `stdout`.
 #![tactic(auto)]
 
 mod cuts;

@@ -47,7 +47,7 @@ const IDS: [(&str, &[u8]); 4] = [
     ("id", b"a/b \xc3\xbc"),
 ];
 
-/// Two ids, of which the first stands before the second.
+/// Two ids, of which the first comes before the second.
 const RISING: [(&str, &str, &str); 2] = [
     ("id T1 before T10", "T1", "T10"),
     ("id T10 before T2", "T10", "T2"),

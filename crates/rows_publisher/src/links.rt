@@ -92,7 +92,7 @@ static ASKED: [(&str, &[u8]); 4] = [
     ("local not whole", NOT_WHOLE),
 ];
 
-/// What a publisher of the program answers, and what the link tells.
+/// What an in-process publisher answers, and what the link records.
 fn put_local(alloc: Global, draft: &mut Draft, reply: &mut Vec<u8>) {
     match local(alloc) {
         Ok(mut link) => put_local_of(alloc, draft, &mut link, reply),
@@ -199,7 +199,7 @@ fn put_home_exchanges(
     draft.put("\n");
 }
 
-/// How many exchanges the outer link tells, and whether the last of them has this reply.
+/// How many exchanges the outer link records, and whether the last of them has this reply.
 fn put_recorded(draft: &mut Draft, outer: &ListLink, reply: &[u8]) {
     let Some(entry) = outer.recorded().last() else {
         return draft.lose();

@@ -1,4 +1,4 @@
-//! What publishers reply, each request behind the others (RFC 9110; RFC 7089; Linked Connections 1.0).
+//! What publishers reply, each request after the others (RFC 9110; RFC 7089; Linked Connections 1.0).
 use crate::making::{ALONE, BY_HALF_HOURS, OF_NOTHING, ONE_BY_ONE, Plan, WHOLE, publisher};
 use crate::requests;
 use crate::requests::{ALL, Asked, message};
@@ -116,7 +116,7 @@ fn request(alloc: Global, head: &str, body: &[u8]) -> Result<Vec<u8>, Unmade> {
     Ok(request)
 }
 
-/// So much of the reply to a whole request, with the ends of its lines written out.
+/// The reply to a whole request up to some length, with the ends of its lines written out.
 pub fn put_reply(
     alloc: Global,
     draft: &mut Draft,
@@ -140,7 +140,7 @@ fn put_answer(draft: &mut Draft, answer: Result<Vec<u8>, NoMemory>, most: usize)
     }
 }
 
-/// So many of the bytes, or all of them.
+/// This many of the bytes, or all of them.
 fn put_front(draft: &mut Draft, bytes: &[u8], most: usize) {
     draft.put_escaped(bytes.get(..most).unwrap_or(bytes));
 }

@@ -5,7 +5,7 @@ use rows_common::Draft;
 use std::alloc::Global;
 use std::str;
 
-/// The file of the folder `data`, one that is not there, a name that no file can have, and a folder, which is no file.
+/// The file of the directory `data`, an absent one, a name that no file can have, and a directory, which is no file.
 static NAMES: [&str; 4] = ["stops.txt", "absent.txt", "stops\0.txt", "."];
 
 /// A line for each row of `NAMES`.
@@ -47,7 +47,7 @@ fn put_file(draft: &mut Draft, bytes: &[u8]) {
     }
 }
 
-/// The system's standard output takes a line, which stands before all others.
+/// The system's standard output takes a line, which comes before all others.
 pub fn put_output(draft: &mut Draft, rt: &HostRuntime) {
     let mut out = StdSink::new(rt);
     let written = put_all(&mut out, b"a line of a test\n").is_ok();

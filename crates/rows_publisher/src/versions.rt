@@ -14,7 +14,7 @@ const VERSIONS: u8 = 20;
 /// 2024-05-01T06:00:00Z.
 const AT_SIX: u32 = 1_714_543_200;
 
-/// So many characters of a time gate's reply end with the name of the page.
+/// This many characters of a time gate's reply end with the name of the page.
 const PLACE: usize = 158;
 
 /// The versions are asked in turn twice. By the message of each, T1 departs from its second stop another minute later, where a page begins.

@@ -11,8 +11,8 @@ use std::alloc::Global;
 const STATIONS: &str =
     "stop_id,stop_name,parent_station\nP,P,\nP1,P1,P\nP2,P2,P\nQ,Q,\nQ1,Q1,Q\nS,S,\n";
 
-/// Rows, parted by spaces (of each the stop or station from which it goes, that to which it goes, its type and its seconds), and
-/// the stops from and to which a change is looked for.
+/// Rows, parted by spaces. Each has the stop or station from which it goes, that to which it goes, its type and its seconds.
+/// Then come the stops from and to which a change is looked for.
 const BY_ROWS: [(&str, &str, &str); 27] = [
     ("", "P1", "P2"),
     ("", "P1", "P1"),

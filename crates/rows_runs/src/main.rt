@@ -1,5 +1,5 @@
-//! Prints worked cases of service days, of changes between stops and of runs, a line each, and what they are compared with stands
-//! in `stdout`.
+//! Prints worked cases of service days, of changes between stops and of runs, a line each. The expected lines are in
+//! `stdout`.
 #![tactic(auto)]
 
 mod change_cases;

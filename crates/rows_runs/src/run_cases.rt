@@ -87,7 +87,7 @@ struct Feed<'a> {
     first: &'a str,
 }
 
-/// Trips, times, dates and frequencies, the zone, the first date, and the place of one of the runs; a place past the last stands for
+/// Trips, times, dates and frequencies, the zone, the first date, and the place of one of the runs. A place past the last means
 /// the connections.
 const FEEDS: [(&str, &str, &str, &str, &str, &str, usize); 8] = [
     (

@@ -32,7 +32,7 @@ const TIMES: [(&str, &str, u64); 18] = [
     (AT_NOON, "20241027", 0),
     ("file:x", "20240501", 0),
     ("file:x", "19800101", 0),
-    // Service days that lie outside of the moments.
+    // Service days that are outside of the moments.
     ("utc", "19691231", 0),
     ("utc", "99991230", 0),
     ("posix:CET-1", "19700101", 0),

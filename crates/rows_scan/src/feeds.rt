@@ -13,7 +13,7 @@ pub const SIX_STOPS: &str = "{\"changes\":[\
     {\"from\":\"F\",\"seconds\":120,\"to\":\"F\"}],\
     \"stops\":[{\"id\":\"A\"},{\"id\":\"B\"},{\"id\":\"C\"},{\"id\":\"D\"},{\"id\":\"E\"},{\"id\":\"F\"}]}";
 
-/// The same with a change from B to E.
+/// The six stops with a change from B to E.
 pub const WITH_B_TO_E: &str = "{\"changes\":[\
     {\"from\":\"A\",\"seconds\":120,\"to\":\"A\"},\
     {\"from\":\"B\",\"seconds\":120,\"to\":\"B\"},\
@@ -24,7 +24,7 @@ pub const WITH_B_TO_E: &str = "{\"changes\":[\
     {\"from\":\"F\",\"seconds\":120,\"to\":\"F\"}],\
     \"stops\":[{\"id\":\"A\"},{\"id\":\"B\"},{\"id\":\"C\"},{\"id\":\"D\"},{\"id\":\"E\"},{\"id\":\"F\"}]}";
 
-/// The same with a change from D to F.
+/// The six stops with a change from D to F.
 pub const WITH_D_TO_F: &str = "{\"changes\":[\
     {\"from\":\"A\",\"seconds\":120,\"to\":\"A\"},\
     {\"from\":\"B\",\"seconds\":120,\"to\":\"B\"},\

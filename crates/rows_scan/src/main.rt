@@ -1,4 +1,4 @@
-//! Prints what scans of worked cases answer, a line each, and what they are compared with stands in `stdout`.
+//! Prints what scans of worked cases answer, a line each. The expected lines are in `stdout`.
 #![tactic(auto)]
 
 mod feeds;

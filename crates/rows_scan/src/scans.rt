@@ -22,7 +22,7 @@ const DATE: ServiceDate = ServiceDate {
     day: 1,
 };
 
-/// The name of a case, the ends of its question, the second at which it leaves, its horizon, and the second from which on no
+/// The name of a case, the ends of its question, the second at which it leaves, and its horizon. The second from which on no
 /// departure changes its answer.
 type Case = (&'static str, &'static str, &'static str, u32, u32, u32);
 
@@ -52,7 +52,7 @@ const TO_A_WALK: &[Case] = &[
 
 const FROM_A_PARENT: &[Case] = &[("from the nearest stop", "P", "F", 32_100, 86_400, 33_000)];
 
-/// Of two unknown stops the first one is recorded. No scan is begun, so the last number of a row is not read.
+/// Of two unknown stops the first one is reported. No scan is begun, thus the last number of a row is not read.
 const UNKNOWN: &[Case] = &[
     ("an unknown first stop", "Q", "D", 28_800, 60, 0),
     ("two unknown stops", "Q", "R", 28_800, 60, 0),

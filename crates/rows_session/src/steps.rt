@@ -77,7 +77,7 @@ fn put_fed(draft: &mut Draft, fed: Result<Fed, NoMemory>) {
     }
 }
 
-/// So many bytes are sent, or all.
+/// This many bytes are sent, or all.
 fn send(draft: &mut Draft, session: &mut Session, count: usize) {
     let count = count.min(session.pending().len());
     session.sent(count);

@@ -7,7 +7,7 @@ pub enum Step {
     Comes(&'static [u8]),
     /// These bytes come, so many in each piece.
     ComesBy(&'static [u8], usize),
-    /// So many of the pending bytes are sent.
+    /// This many of the pending bytes are sent.
     Sends(usize),
     /// All pending bytes are sent.
     SendsAll,

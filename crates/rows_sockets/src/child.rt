@@ -49,7 +49,7 @@ fn put_child(rt: &HostRuntime, draft: &mut Draft, child: &mut Child) -> Result<u
 }
 
 /// The server says its port, and after the exchanges how each connection was served. It waits for as many connections as there are exchanges,
-/// so where one has failed nothing more is read.
+/// thus where one has failed nothing more is read.
 fn put_lines<B: BufRead>(
     rt: &HostRuntime,
     draft: &mut Draft,

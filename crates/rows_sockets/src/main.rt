@@ -1,4 +1,4 @@
-//! Prints what a door and a link of sockets do in worked cases, a line a value, and what they are compared with stands in `stdout`. The door
+//! Prints what a door and a link of sockets do in worked cases, a line a value. The expected lines are in `stdout`. The door
 //! is that of a second process, which the program starts from its own file. The two meet at a free port of the loopback address.
 #![tactic(auto)]
 

@@ -6,7 +6,7 @@ use lc_world::{Door, EchoTalk, Next, Served, serve_one};
 use rows_common::Unmade;
 use std::process;
 
-/// The ports that are tried begin at one of so many from the first one on, by the number of the process, so that programs that run side by
+/// The ports that are tried begin at one of so many from the first one on, by the number of the process. Programs that run side by
 /// side seldom meet.
 const FIRST_PORT: u16 = 20_000;
 
@@ -15,7 +15,7 @@ const PORTS: u32 = 10_000;
 /// How many ports are tried.
 const TRIES: u16 = 100;
 
-/// How many bytes are given back to each client, at most.
+/// How many bytes each client gets back, at most.
 const LIMITS: [u32; 4] = [5, 5, 0, 20_000];
 
 /// Serves these clients at the first free port. It prints the port, a line for each client, and how often the door has failed.

@@ -1,5 +1,5 @@
 //! What calendar.txt and calendar_dates.txt say, or the first rule that each breaks.
-use crate::recorded::put_recorded;
+use crate::recorded::put_reported;
 use gtfs_calendars::{DateRow, Weekly, WeeklyList, read_calendar, read_calendar_dates};
 use gtfs_fields::FileFault;
 use lc_model::ServiceDate;
@@ -43,13 +43,13 @@ pub fn put_files(alloc: Global, draft: &mut Draft) {
 fn put_file(alloc: Global, draft: &mut Draft, bytes: &[u8]) {
     draft.put("calendar.txt ");
     draft.put_escaped(bytes);
-    put_recorded(draft, &read_calendar(alloc, bytes));
+    put_reported(draft, &read_calendar(alloc, bytes));
 }
 
 fn put_rows(alloc: Global, draft: &mut Draft, rows: &str) {
     draft.put("calendar.txt, rows ");
     draft.put_escaped(rows.as_bytes());
-    put_recorded(draft, &read_rows(alloc, rows));
+    put_reported(draft, &read_rows(alloc, rows));
 }
 
 fn read_rows(alloc: Global, rows: &str) -> Result<WeeklyList, FileFault> {
@@ -57,7 +57,7 @@ fn read_rows(alloc: Global, rows: &str) -> Result<WeeklyList, FileFault> {
     read_calendar(alloc, file.as_bytes())
 }
 
-/// The columns stand in another order.
+/// The columns are in another order.
 const WEEKS: &str =
     "end_date,sunday,saturday,friday,thursday,wednesday,tuesday,monday,start_date,service_id\n\
     20240531,0,0,0,0,1,0,0,20240401,w\n20241231,1,0,0,0,0,0,1,20240101,v\n";
@@ -122,7 +122,7 @@ pub fn put_date_files(alloc: Global, draft: &mut Draft) {
 fn put_date_file(alloc: Global, draft: &mut Draft, bytes: &[u8]) {
     draft.put("calendar_dates.txt ");
     draft.put_escaped(bytes);
-    put_recorded(draft, &read_calendar_dates(alloc, bytes));
+    put_reported(draft, &read_calendar_dates(alloc, bytes));
 }
 
 /// A line for each date of a file.

@@ -1,4 +1,4 @@
-//! Prints worked cases of the files of a feed, each read alone, a line each, and what they are compared with stands in `stdout`.
+//! Prints worked cases of the files of a feed, each read alone, a line each. The expected lines are in `stdout`.
 #![tactic(auto)]
 
 mod calendar_cases;

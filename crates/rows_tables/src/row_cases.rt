@@ -8,7 +8,7 @@ const DATES_COLUMNS: &str = "service_id,date,exception_type";
 
 const STOP_TIMES_COLUMNS: &str = "trip_id,stop_id,stop_sequence,arrival_time,departure_time";
 
-/// A table of a small feed, the columns that are required of it, parted by commas, and the row, counted from 1, and the column of
+/// A table of a small feed, and the columns that are required of it, parted by commas. The row, counted from 1, and the column of
 /// a field.
 const TABLES: [(&str, &str, &str, usize, &str); 7] = [
     ("stops", STOPS, "stop_id", 6, "stop_name"),
@@ -104,7 +104,7 @@ const TEXTS: [(&str, usize, &str); 27] = [
     ("a,b\n\t1 , 2\t\n", 1, "a"),
     ("a,b\n\t1 , 2\t\n", 1, "b"),
     ("a\n\u{A0}1\n", 1, "a"),
-    // Of two columns with one name the first stands; letter case counts.
+    // Of two columns with one name the first counts; letter case matters.
     ("a,b, a\n1,2,3\n", 1, "a"),
     ("A,b\n1,2\n", 1, "a"),
     ("a,b\n1,2\n", 1, ""),

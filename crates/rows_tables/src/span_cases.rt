@@ -1,5 +1,5 @@
 //! What frequencies.txt says of the trip T, or the first rule that it breaks.
-use crate::recorded::put_recorded;
+use crate::recorded::put_reported;
 use gtfs_calendars::{Frequency, read_frequencies};
 use gtfs_fields::TripRows;
 use gtfs_trips::read_trips;
@@ -44,7 +44,7 @@ fn put_spans_of(alloc: Global, draft: &mut Draft, trips: &TripRows) {
 fn put_file(alloc: Global, draft: &mut Draft, trips: &TripRows, bytes: &[u8]) {
     draft.put("frequencies.txt ");
     draft.put_escaped(bytes);
-    put_recorded(draft, &read_frequencies(alloc, bytes, trips));
+    put_reported(draft, &read_frequencies(alloc, bytes, trips));
 }
 
 fn put_each(draft: &mut Draft, frequencies: &[Frequency]) {

@@ -1,5 +1,5 @@
 //! What stop_times.txt says, or the first rule that it breaks.
-use crate::recorded::put_recorded;
+use crate::recorded::put_reported;
 use gtfs_fields::FileFault;
 use gtfs_trips::{StopTime, TimedTrips, read_stop_times, read_stops, read_trips};
 use lc_model::Stops;
@@ -67,7 +67,7 @@ fn put_files_at(alloc: Global, draft: &mut Draft, stops: &Stops) {
 fn put_file(alloc: Global, draft: &mut Draft, stops: &Stops, rows: &str) {
     draft.put("stop_times.txt, rows ");
     draft.put_escaped(rows.as_bytes());
-    put_recorded(draft, &read_rows(alloc, stops, rows));
+    put_reported(draft, &read_rows(alloc, stops, rows));
 }
 
 fn read_rows(alloc: Global, stops: &Stops, rows: &str) -> Result<TimedTrips, FileFault> {
@@ -106,7 +106,7 @@ fn put_timed(draft: &mut Draft, timed: &TimedTrips) {
     draft.put("\n");
 }
 
-/// The trip, the stop, the sequence, the arrival and the departure, where 1 stands for none, and whether one may board and alight.
+/// The trip, the stop, the sequence, the arrival and the departure, where 1 means none, and whether one may board and alight.
 fn put_time(draft: &mut Draft, time: &StopTime) {
     draft.put("stop time: ");
     draft.put(time.trip.as_str());

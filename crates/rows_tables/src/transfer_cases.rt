@@ -1,5 +1,5 @@
 //! What transfers.txt says of the stops A and B, or the first rule that it breaks.
-use crate::recorded::put_recorded;
+use crate::recorded::put_reported;
 use gtfs_calendars::{Transfer, read_transfers};
 use gtfs_trips::read_stops;
 use lc_model::Stops;
@@ -46,7 +46,7 @@ fn put_transfers_at(alloc: Global, draft: &mut Draft, stops: &Stops) {
 fn put_file(alloc: Global, draft: &mut Draft, stops: &Stops, bytes: &[u8]) {
     draft.put("transfers.txt ");
     draft.put_escaped(bytes);
-    put_recorded(draft, &read_transfers(alloc, bytes, stops));
+    put_reported(draft, &read_transfers(alloc, bytes, stops));
 }
 
 fn put_each(draft: &mut Draft, transfers: &[Transfer]) {

@@ -1,5 +1,5 @@
 //! What stops.txt and trips.txt say, or the first rule that each breaks.
-use crate::recorded::put_recorded;
+use crate::recorded::put_reported;
 use gtfs_fields::TripRow;
 use gtfs_trips::{read_stops, read_trips};
 use lc_model::Stop;
@@ -17,7 +17,7 @@ const STOP_FILES: [&[u8]; 12] = [
     // Of two rows of one id the later is named.
     b"stop_id\nA\nB\n A\nB\n",
     b"stop_id,parent_station\nA,\nB,C\n",
-    // A parent may stand behind its child.
+    // A parent may be after its child.
     b"\xEF\xBB\xBFstop_id,parent_station\nB,A\nA,\n",
     // In a row the rules are tested in order of number, and the first row counts.
     b"stop_id,parent_station\n,C\n",
@@ -35,7 +35,7 @@ pub fn put_stop_files(alloc: Global, draft: &mut Draft) {
 fn put_stop_file(alloc: Global, draft: &mut Draft, bytes: &[u8]) {
     draft.put("stops.txt ");
     draft.put_escaped(bytes);
-    put_recorded(draft, &read_stops(alloc, bytes));
+    put_reported(draft, &read_stops(alloc, bytes));
 }
 
 /// A line for each stop of a file.
@@ -68,7 +68,7 @@ fn put_stop(draft: &mut Draft, stop: &Stop) {
     draft.put("\n");
 }
 
-/// A line for 100,000 stops, and one for a row more, which has the id of the first: the limit comes before the rules of rows.
+/// A line for 100,000 stops, and one for a row more, which has the id of the first. The limit comes before the rules of rows.
 pub fn put_many_stops(alloc: Global, draft: &mut Draft) {
     let mut file = Draft::new(alloc);
     put_numbers(&mut file);
@@ -79,7 +79,7 @@ pub fn put_many_stops(alloc: Global, draft: &mut Draft) {
 
 fn put_count(alloc: Global, draft: &mut Draft, name: &str, file: &Draft) {
     draft.put(name);
-    put_recorded(draft, &read_stops(alloc, file.as_str().as_bytes()));
+    put_reported(draft, &read_stops(alloc, file.as_str().as_bytes()));
 }
 
 fn put_numbers(file: &mut Draft) {
@@ -111,7 +111,7 @@ pub fn put_trip_files(alloc: Global, draft: &mut Draft) {
 fn put_trip_file(alloc: Global, draft: &mut Draft, bytes: &[u8]) {
     draft.put("trips.txt ");
     draft.put_escaped(bytes);
-    put_recorded(draft, &read_trips(alloc, bytes));
+    put_reported(draft, &read_trips(alloc, bytes));
 }
 
 /// A line for each trip of a file: its service.

@@ -22,7 +22,7 @@ ride a%2Fb%20%C3%BC 20240501 073000 5 4294967295 B 2024-05-01T08:12:00.000Z D 20
 walk D F 60
 ";
 
-/// A text, and what stands in it in place of what, so that it is no answer's.
+/// A text, and what is in it in place of what, and makes it no answer's.
 const OTHER: [(&str, &str, &str); 19] = [
     ("no journey\n", "\n", ""),
     ("no journey\n", "\n", "\n\n"),

@@ -48,7 +48,7 @@ pub const DOCUMENTS: [&str; 44] = [
     "{\"stops\":[{\"id\":\"A\"},{\"id\":\"B\"}],\"changes\":[{\"from\":\"B\",\"seconds\":1,\"to\":\"B\"},{\"from\":\"A\",\"seconds\":2,\"to\":\"C\"}]}",
     "{\"stops\":[{\"id\":\"A\"},{\"id\":\"B\"}],\"changes\":[{\"from\":\"C\",\"to\":\"C\"}]}",
     "{\"stops\":[{\"id\":\"A\"},{\"id\":\"B\"}],\"changes\":[{\"from\":\"A\",\"seconds\":0,\"to\":\"C\"}]}",
-    // Escapes, in the name of a member too, are what they stand for (RFC 8259, section 7).
+    // Escapes, in the name of a member too, are what they mean (RFC 8259, section 7).
     "{\"stops\":[{\"\\u0069d\":\"\\u0041\"}],\"changes\":[{\"from\":\"A\",\"seconds\":1,\"to\":\"A\"}]}",
     "{\"stops\":[{\"id\":\"\\ud83d\\uDE00\"}],\"changes\":[{\"from\":\"😀\",\"seconds\":1,\"to\":\"😀\"}]}",
 ];

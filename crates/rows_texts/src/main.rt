@@ -1,5 +1,5 @@
-//! Prints what is read and written of the texts of the program, a line a case: members of JSON, pages and stops documents,
-//! answers, and scripts. What the lines have to be stands in `stdout`.
+//! Prints what is read and written of texts, a line a case: members of JSON, pages and stops documents,
+//! answers, and scripts. The expected lines are in `stdout`.
 #![tactic(auto)]
 
 mod answers;

@@ -12,7 +12,7 @@ use std::alloc::Global;
 /// How deep a text of JSON nests, of which 127 levels are the most.
 const LEVELS: [usize; 2] = [127, 128];
 
-/// Half a surrogate pair, which is no text, and numbers, of which one above all floats is none, also in a member that is passed over.
+/// Half a surrogate pair, which is no text. Numbers, of which one above all floats is none, also in a member that is passed over.
 const NO_JSON: [&str; 4] = [
     "{\"x\":\"\\ud83d\"}",
     "{\"x\":\"\\ude00\"}",
@@ -137,7 +137,7 @@ fn write_members(out: &mut Writer) -> Result<(), NoMemory> {
     Ok(())
 }
 
-// Of outside: what stands in `stdout` is what Python 3 writes by json.dumps(.., separators=(',', ':'), ensure_ascii=False).
+// From outside: `stdout` has what Python 3 writes by json.dumps(.., separators=(',', ':'), ensure_ascii=False).
 fn put_written_text(alloc: Global, draft: &mut Draft, written: &[u8]) {
     draft.put("members as they are written: ");
     draft.put_escaped(written);

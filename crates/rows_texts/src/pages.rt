@@ -95,7 +95,7 @@ fn put_stops_text(alloc: Global, draft: &mut Draft, base: &Base, doc: &StopsDoc)
     draft.put("\n");
 }
 
-/// A line with what is read of a text in which words stand for long parts.
+/// A line with what is read of a text in which words are short for long parts.
 fn put_page(alloc: Global, draft: &mut Draft, base: &Base, json: &str) {
     draft.put("page ");
     draft.put(json);
@@ -106,7 +106,7 @@ fn put_page(alloc: Global, draft: &mut Draft, base: &Base, json: &str) {
     }
 }
 
-/// The text with what its words stand for.
+/// The text with what its words are short for.
 fn written_out(alloc: Global, json: &str) -> Result<String, Unmade> {
     let mut whole = String::from_str(alloc, json)?;
     for &(word, meaning) in &WORDS {

@@ -4,7 +4,7 @@ use rows_common::Draft;
 use script_text::{Record, read_script};
 use std::alloc::Global;
 
-// A moment, for which `@` stands in the tables below.
+// A moment, for which `@` is short in the tables below.
 const MOMENT: &str = "2024-05-01T08:00:00Z";
 
 // Texts of scripts.
@@ -66,7 +66,7 @@ const WRONG: [&[u8]; 44] = [
     b"ask,,D,@",
     b"ask,A,,@",
     b"ask,A,\"  \",@",
-    // A moment that is none, or lies outside the range of questions.
+    // A moment that is none, or is outside the range of questions.
     b"ask,A,D,",
     b"ask,A,D,2024-05-01",
     b"ask,A,D,2024-05-01T08:00:00",

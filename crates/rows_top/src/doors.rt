@@ -62,7 +62,7 @@ fn cut(alloc: Global, bytes: &[u8], by: usize) -> Result<Vec<Bytes>, Unmade> {
     Ok(list)
 }
 
-/// The parts of the line stand between bars, and each is sent with the end of a line after it. But the name of a message stands for its
+/// The parts of the line are between bars, and each is sent with the end of a line after it. But the name of a message means its
 /// bytes, and `-` for none.
 fn bytes_of(alloc: Global, line: &str) -> Result<Vec<u8>, Unmade> {
     let mut bytes = Vec::new(alloc);

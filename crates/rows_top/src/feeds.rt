@@ -74,8 +74,8 @@ const B_TO_E: &str = "from_stop_id,to_stop_id,transfer_type,min_transfer_time\nB
 
 const FIRST_DAY: &str = "check tiny 20240501";
 
-/// The name of a file, its path, its other text and the words. The files have no stops, no rows of trips, a ride over two calls at one
-/// moment, and a row of no trip; and then changes at a stop and between stops, and a station.
+/// The name of a file, its path, its other text and the arguments. The files have no stops, no rows of trips, a ride over two calls at one
+/// moment, and a row of no trip. Then come changes at a stop and between stops, and a station.
 static OTHERS: [(&str, &str, &str, &str); 9] = [
     (
         "stops.txt",

@@ -27,7 +27,7 @@ pub fn put_links(alloc: Global, draft: &mut Draft) {
     put_replies_of_another_feed(alloc, draft);
 }
 
-/// Runs the words over a link whose first replies are 404: each client prints what such a reply says, and not what the publisher has.
+/// Runs the arguments over a link whose first replies are 404. Each client prints what such a reply says, not what the publisher has.
 fn put_not_found(alloc: Global, draft: &mut Draft, words: &str, script: &str, replies: &[&str]) {
     put_line(draft, words);
     put_line(draft, script);

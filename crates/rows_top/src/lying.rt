@@ -28,7 +28,7 @@ fn put_lies_of(alloc: Global, draft: &mut Draft, honest: &ListLink) {
     put_pages_without_end(alloc, draft, honest);
 }
 
-/// A lie: the reply that lies and the reply with the page, each by its number, and a text that stands in place of another.
+/// A lie: the reply that lies and the reply with the page, each by its number, and a text that replaces another.
 struct Lie {
     liar: usize,
     page: usize,

@@ -1,5 +1,5 @@
-//! Prints what commands come to: their words, the rows of their script, the status and the output. It stands on `lc_cli`, and what
-//! it has to print stands in `stdout`.
+//! Prints what commands result in: their arguments, the rows of their script, the status and the output. It builds on `lc_cli`.
+//! The expected lines are in `stdout`.
 #![tactic(auto)]
 
 mod doors;

@@ -22,7 +22,7 @@ pub const ASK: &str = "ask,A,D,2024-05-01T08:00:00Z";
 const ONE: &str = "plan http://lc.example/ a.csv
 ask,A,D,2024-05-01T08:00:00Z";
 
-/// Words and asks, each under the number of the exchange that fails. Exchanges are counted from 1, so that at 0 none fails. With room for
+/// Arguments and asks, each under the number of the exchange that fails. Exchanges are counted from 1: at 0 none fails. With room for
 /// one page the second client finds that of 09:00 where it looks for that of 08:00.
 static CASES: [(u64, &str); 19] = [
     (0, ONE),

@@ -1,9 +1,9 @@
-//! What questions and scripts come to with messages, where each reply comes as the publisher gave it or a call fails.
+//! What questions and scripts result in with messages, where each reply comes as the publisher gave it or a call fails.
 use crate::running::{A_TO_D, Fails, over_tiny, put_failing, put_line, put_run};
 use rows_common::Draft;
 use std::alloc::Global;
 
-/// Runs cases over the feed Tiny: words, and after them the rows of a script.
+/// Runs cases over the feed Tiny: arguments, and after them the rows of a script.
 pub fn put_each(alloc: Global, draft: &mut Draft, cases: &str, between: &str) {
     for case in cases.split(between) {
         put_case(alloc, draft, case);
@@ -22,7 +22,7 @@ fn put_script(alloc: Global, draft: &mut Draft, words: &str, script: &str) {
 
 const SCRIPT: &str = "ask,A,D,2024-05-01T08:00:00Z\nask,A,D,2024-05-01T08:00:00Z\n";
 
-/// What fails, and the words. The third exchange ends the client that made it, and the other one has its answer. The status is that of the
+/// What fails, and the arguments. The third exchange ends the client that made it. The other one has its answer. The status is that of the
 /// first.
 static FAILURES: [(&str, Fails, &str); 2] = [
     (

@@ -10,16 +10,16 @@ use tiny_feed::TINY;
 
 pub const A_TO_D: &str = "ask tiny A D 2024-05-01T08:00:00Z";
 
-/// Words, and the texts of the files over which they run.
+/// Arguments, and the texts of the files over which they run.
 #[derive(Clone, Copy)]
 pub struct Case<'a> {
     pub words: &'a str,
-    /// Files that stand in place of those of the feed, or beside them.
+    /// Files that take the place of those of the feed, or are beside them.
     pub first: &'a [(&'a str, &'a str)],
     pub feed: &'a [(&'a str, &'a str)],
 }
 
-/// The words over the feed Tiny and these files.
+/// The arguments over the feed Tiny and these files.
 pub fn over_tiny<'a>(words: &'a str, first: &'a [(&'a str, &'a str)]) -> Case<'a> {
     Case {
         words,
@@ -135,7 +135,7 @@ fn sink_of(alloc: Global, fails: u64) -> Result<MemSink, Unmade> {
     Ok(MemSink::new(alloc, fails)?)
 }
 
-/// The words between spaces. An empty text has none.
+/// The arguments between spaces. An empty text has none.
 pub fn words_of(alloc: Global, words: &str) -> Result<Vec<String>, Unmade> {
     let mut list = Vec::new(alloc);
     if !words.is_empty() {
@@ -156,7 +156,7 @@ fn push_word(alloc: Global, list: &mut Vec<String>, word: &str) -> Result<(), Un
     Ok(())
 }
 
-/// Runs the words of the stage over a link, which is given back, and a door to which nobody comes.
+/// Runs the arguments of the stage over a link, which is given back, and a door to which nobody comes.
 pub fn put_linked<L: Link>(alloc: Global, draft: &mut Draft, stage: &mut Stage, link: L) -> L {
     match SureDoor::new(alloc, Vec::new(alloc)) {
         Ok(mut door) => {
@@ -171,7 +171,7 @@ pub fn put_linked<L: Link>(alloc: Global, draft: &mut Draft, stage: &mut Stage, 
     }
 }
 
-/// Runs the words of the stage over a door and a link, and gives the link back.
+/// Runs the arguments of the stage over a door and a link, and gives the link back.
 pub fn put_over<L: Link, D: Door>(
     alloc: Global,
     draft: &mut Draft,

@@ -6,7 +6,7 @@ use lc_world::{MemDoor, SureDoor};
 use rows_common::{Draft, Unmade};
 use std::alloc::Global;
 
-/// Words, and after them a line for each connection, as `doors` reads it. A blank line stands between one case and the next. Each case is
+/// Arguments, and after them a line for each connection, as `doors` reads it. A blank line is between one case and the next. Each case is
 /// run twice: the bytes of a connection come in one piece, and byte by byte.
 const CASES: &str = "serve tiny 20240501 --port 8080 --connections 1
 GET / HTTP/1.1|Host: x|
@@ -129,7 +129,7 @@ pub fn put_servings(alloc: Global, draft: &mut Draft) {
     put_failing_sink(alloc, draft, 2);
 }
 
-/// The words of a case, and its connections.
+/// The arguments of a case, and its connections.
 fn parts_of(case: &str) -> (&str, &str) {
     case.split_once('\n').unwrap_or((case, ""))
 }

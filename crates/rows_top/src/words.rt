@@ -1,8 +1,8 @@
-//! Words that are run over the feed Tiny.
+//! Arguments that are run over the feed Tiny.
 
 /// A line for each case: by hand from the ten minutes of Tiny at B and its two minutes of change. A page has half an hour of departures:
-/// those of 08:00, 09:00 and 10:00. The lines with `--cuts` tell how many exchanges a question takes: with a page for each departure, with
-/// one page, and with half an hour in each. A blank line has no word at all.
+/// those of 08:00, 09:00 and 10:00. The lines with `--cuts` show how many exchanges a question takes. They have a page for each departure,
+/// one page, or half an hour in each. A blank line has no argument at all.
 pub const WORDS: &str = "ask tiny A D 2024-05-01T08:00:00Z
 ask --days=3 tiny -- A D 2024-05-01T08:00:00Z
 ask tiny A D 2024-05-01T08:00:01Z

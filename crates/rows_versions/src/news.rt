@@ -35,14 +35,14 @@ type Said = (
 
 const SERVED: Relation = Relation::Scheduled;
 
-/// Three trips of a small timetable; that of T1 said by one time at each end; one that serves B twice; from A to D; the same over a
-/// stop that is unknown; and one stop alone.
+/// Three trips of a small timetable. That of T1 is said by one time at each end. One serves B twice. One goes from A to D, and
+/// one over a stop that is unknown, too. One has one stop alone.
 ///
-/// Then what is said of T1: A left 900 late and B reached in time, where no call may arrive before the one before it departs; B left
-/// out alone, and after a delay, which goes on over it; and no data of B, which ends the delay.
+/// Then what is said of T1. A is left 900 late and B reached in time, where no call may arrive before the one before it departs.
+/// B is left out alone, and after a delay, which goes on over it. There are no data of B, which ends the delay.
 ///
-/// And of the trip that serves B twice: B, which is its first call; B, now its second; A by its sequence; and B, now its first call
-/// again.
+/// And of the trip that serves B twice. It is B, which is its first call, then B, now its second, then A by its sequence. Then
+/// it is B, now its first call again.
 static SAID: [Said; 31] = [
     ("T1", None, Some("A"), SERVED, At(28_800), At(28_800)),
     ("T1", None, Some("B"), SERVED, At(29_400), At(29_460)),

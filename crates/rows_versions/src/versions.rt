@@ -205,7 +205,7 @@ fn put_versions_of(alloc: Global, draft: &mut Draft, store: &mut Store) {
     put_day(draft, newest);
 }
 
-/// The versions, and the departures of the newest, behind a message, the same again and its front: they are those of the first.
+/// The versions, and the departures of the newest, after a message, the same again and its front: they are those of the first.
 pub fn put_versions(alloc: Global, draft: &mut Draft) {
     match store(alloc) {
         Ok(mut store) => put_versions_of(alloc, draft, &mut store),

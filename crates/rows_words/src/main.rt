@@ -1,5 +1,5 @@
-//! Prints what texts of moments, dates, times, numbers, bases, ids, names, pages and versions are read as and written as in worked
-//! cases, a line each, and what they are compared with stands in `stdout`.
+//! Prints texts of moments, dates, times, numbers, bases, ids, names, pages and versions, as they are read and written in worked
+//! cases, a line each. The expected lines are in `stdout`.
 #![tactic(auto)]
 
 mod lines;

@@ -40,7 +40,7 @@ const BASES: [&str; 17] = [
     "",
 ];
 
-/// Each of `BASES`, by a copy: its text, its authority and its path, or that it is none; and that a text is none that is no UTF-8.
+/// Each of `BASES`, by a copy: its text, its authority and its path, or that it is none. A text is none that is no UTF-8.
 fn put_bases(alloc: Global, text: &mut String) -> Result<(), Unmade> {
     for input in &BASES {
         put_read_base(alloc, text, *input, input.as_bytes())?;
@@ -79,7 +79,7 @@ fn put_parts(text: &mut String, base: &Base) -> Result<(), Unmade> {
     put_line(text, "path", base.path())
 }
 
-/// How many letters stand in the path: with the first a base has 4,096 bytes, and with the second one more.
+/// How many letters are in the path: with the first a base has 4,096 bytes, and with the second one more.
 fn put_long_bases(alloc: Global, text: &mut String) -> Result<(), Unmade> {
     put_long_base(alloc, text, "base with 4077 letters", 4077)?;
     put_long_base(alloc, text, "base with 4078 letters", 4078)

@@ -31,7 +31,7 @@ fn put_known(text: &mut String, versions: &[Moment; 2]) -> Result<(), Unmade> {
     put_read(text, "version by no value", "", seconds_of(newest))
 }
 
-/// The target of the time gate, and the moments of the page that is read of the URL that the gate sends to.
+/// The target of the time gate, and the moments of the page that is read of the URL that it sends to.
 pub fn put_urls(alloc: Global, text: &mut String, base: &Base) -> Result<(), Unmade> {
     let departs = moment(1_714_550_400)?;
     put_target(alloc, text, base, departs)?;

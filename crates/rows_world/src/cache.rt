@@ -48,7 +48,7 @@ fn page_name(version: u64, departs: u64) -> Result<PageName, Unmade> {
     }
 }
 
-/// The departure of the next page of the page of this name, if it is kept.
+/// The departure of the next page of the page of this name, if it is cached.
 fn next_of(cache: &mut PageCache, name: PageName) -> Option<u64> {
     Some(cache.get(name)?.next?.departs.seconds())
 }

@@ -24,7 +24,7 @@ pub fn put_links(alloc: Global, text: &mut String) -> Result<(), Unmade> {
     put_exchanges(alloc, text, &mut link)
 }
 
-/// One reply, and the calls 1 and 3 fail. The reply is given by the call between these, and the last call leaves the answer.
+/// One reply, and the calls 1 and 3 fail. The call between these gives the reply, and the last call leaves the answer.
 pub fn put_failing(alloc: Global, text: &mut String) -> Result<(), Unmade> {
     let only = bytes(alloc, "one")?;
     let replies = vec![in alloc; only]?;
@@ -46,7 +46,7 @@ fn put_failures(
     put_answer(alloc, text, link, reply)
 }
 
-/// An answer that is handed on behind the failures, and all that is recorded.
+/// An answer that is handed on after the failures, and all that is recorded.
 fn put_answer(
     alloc: Global,
     text: &mut String,
@@ -80,7 +80,7 @@ fn put_replies(
     put_used_up(alloc, text, link, reply)
 }
 
-/// The faults in front of an exchange without a reply and behind it, and all that is recorded.
+/// The faults before an exchange without a reply and after it, and all that is recorded.
 fn put_used_up(
     alloc: Global,
     text: &mut String,
@@ -126,7 +126,7 @@ fn put_came(text: &mut String, name: &str, came: Result<(), LinkFail>) -> Result
     }
 }
 
-/// The exchanges that the link tells, behind their number.
+/// The exchanges that the link records, after their number.
 fn put_recorded(text: &mut String, recorded: &[Entry]) -> Result<(), Unmade> {
     put_count(text, "recorded exchanges", recorded.len())?;
     for entry in recorded {

@@ -1,4 +1,4 @@
-//! Prints what links and caches of pages give in worked cases, a line a value, and what they are compared with stands in
+//! Prints what links and caches of pages give in worked cases, a line a value. The expected lines are in
 //! `stdout`.
 #![tactic(auto)]
 

@@ -17,7 +17,7 @@ use Rattle.rt_protobuf.proofs.FaultsLemmas.{is_cut, is_long, is_bad, is_group, c
 abbrev out_of_range : ℕ → Bool
 out_of_range number = eqb number 0 || ltb 536_870_911 number
 
--- what is read behind a tag
+-- what is read after a tag
 abbrev behind_tag : ℕ → ℕ → ℕ → List ℕ → Result (WireField × List ℕ) WireFault
 behind_tag place number wire behind =
     cond (out_of_range number) (Err (BadField place)) (content_at place wire behind >>= λ c. Ok (record { number = number; content = c.0 }, c.1))
@@ -103,7 +103,7 @@ field_fails place bytes fault e = elim (bind_err (varint_at place 10 bytes) (λ 
       ]
 ]
 
--- what stands behind a good tag fails so
+-- what comes after a good tag fails with this fault
 fails_behind : (place number wire : ℕ) (tag behind bytes : List ℕ) (fault : WireFault) → bytes ≡ tag ++ behind → IsTag tag number wire → IsNumber number → content_at place wire behind ≡ Err fault → field_at place bytes ≡ Err fault
 fails_behind place number wire tag behind bytes fault parts t n f =
     ap (field_at place) parts ∙ at_tag place number wire tag behind t ∙ rw (in_range number n, f) refl

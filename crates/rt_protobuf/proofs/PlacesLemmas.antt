@@ -52,7 +52,7 @@ lands message from to next f behind order within at e =
           (refl, t.front, behind, t.parts, t.spelled, next_is, subst (λ (x : List ℕ). PartsInto next x (parts_of next (slice_range message next to))) s.after (parts_are next (slice_range message next to))));
     }
 
--- what stands behind a field is no longer than the bytes
+-- what comes after a field is no longer than the bytes
 pub behind_within : (message : List ℕ) (from to : ℕ) (f : WireField) (behind : List ℕ) → from ≤ to → to ≤ length message → field_at from (slice_range message from to) ≡ Ok (f, behind) → length behind ≤ to
 behind_within message from to f behind order within e =
     let t = field_takes from (slice_range message from to) f behind e in

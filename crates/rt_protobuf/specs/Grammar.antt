@@ -19,7 +19,7 @@ wire_type (eight n) = 1
 wire_type (text bytes) = 2
 wire_type (four n) = 5
 
--- a field without the place where it stands
+-- a field without its place
 pub record WireField : Type 0 where
   pub number : ℕ
   pub content : Content
@@ -35,11 +35,11 @@ IsContent bytes (eight n) = (length bytes ≡ 8) × (n ≡ from_le_bytes w64 byt
 IsContent bytes (text inner) = (front : List ℕ) × (bytes ≡ front ++ inner) × IsVarint front (length inner)
 IsContent bytes (four n) = (length bytes ≡ 4) × (n ≡ from_le_bytes w32 bytes)
 
--- the tag and, behind it, the content
+-- the tag and, after it, the content
 abbrev pub IsTag : List ℕ → ℕ → ℕ → Type 0
 IsTag bytes number wire = (wire < 8) × IsVarint bytes (number * 8 + wire)
 
--- the bytes are the field: its tag and, behind it, its content
+-- the bytes are the field: its tag and, after it, its content
 abbrev pub IsField : List ℕ → WireField → Type 0
 IsField bytes field = (tag : List ℕ) × (behind : List ℕ) × (bytes ≡ tag ++ behind) × IsTag tag field.number (wire_type field.content) × IsNumber field.number × IsContent behind field.content
 
@@ -48,11 +48,11 @@ abbrev pub AreFields : List ℕ → List WireField → Type 0
 AreFields bytes [] = bytes ≡ []
 AreFields bytes (first ∷ others) = (front : List ℕ) × (behind : List ℕ) × (bytes ≡ front ++ behind) × IsField front first × AreFields behind others
 
--- the bytes begin with a tag, and this holds of its number, its wire type and the bytes behind it
+-- the bytes begin with a tag, and this holds of its number, its wire type and the bytes after it
 abbrev pub AtTag : List ℕ → (ℕ → ℕ → List ℕ → Type 0) → Type 0
 AtTag bytes P = (number : ℕ) × (wire : ℕ) × (tag : List ℕ) × (behind : List ℕ) × (bytes ≡ tag ++ behind) × IsTag tag number wire × P number wire behind
 
--- the length of a text stands whole, and fewer bytes than that stand behind it
+-- the length of a text is whole, and fewer bytes than that come after it
 abbrev pub IsCutText : List ℕ → Type 0
 IsCutText bytes = (front : List ℕ) × (behind : List ℕ) × (n : ℕ) × (bytes ≡ front ++ behind) × IsVarint front n × (length behind < n)
 
@@ -60,7 +60,7 @@ IsCutText bytes = (front : List ℕ) × (behind : List ℕ) × (n : ℕ) × (byt
 abbrev pub IsCutContent : ℕ → List ℕ → Type 0
 IsCutContent wire bytes = ((wire ≡ 0) × IsCutVarint bytes) ⊎ (((wire ≡ 1) × (length bytes < 8)) ⊎ (((wire ≡ 2) × (IsCutVarint bytes ⊎ IsCutText bytes)) ⊎ ((wire ≡ 5) × (length bytes < 4))))
 
--- The bytes begin with no field, and this is the first test that fails: the varint of the tag, the tag's number and wire
+-- The bytes begin with no field, and this is the first test that fails. The tests: the varint of the tag, the tag's number and wire
 -- type, that it is no group, the content.
 abbrev pub IsBroken : ℕ → List ℕ → WireFault → Type 0
 IsBroken place bytes (Cut at) = (at ≡ place) × (IsCutVarint bytes ⊎ AtTag bytes (λ number wire behind. IsNumber number × IsCutContent wire behind))

@@ -20,7 +20,7 @@ value_before next (eight n) = values.Eight n
 value_before next (text bytes) = values.Span (next - length bytes) next
 value_before next (four n) = values.Four n
 
--- as many bytes stand before the place
+-- as many bytes are before the place
 abbrev pub FitsBefore : ℕ → Content → Type 0
 FitsBefore next (varint n) = Unit {0}
 FitsBefore next (eight n) = Unit {0}

@@ -15,18 +15,18 @@ content_of message (values.Eight n) = eight n
 content_of message (values.Span from to) = text (slice_range message from to)
 content_of message (values.Four n) = four n
 
--- the field that stands at these places
+-- the field at these places
 abbrev pub field_of : List ℕ → Field → WireField
 field_of message f = record { number = f.number; content = content_of message f.value }
 
--- a span lies behind the place of the tag, and ends where the field ends
+-- a span is after the place of the tag, and ends where the field ends
 abbrev pub EndsField : ℕ → ℕ → Value → Type 0
 EndsField place next (values.Varint n) = Unit {0}
 EndsField place next (values.Eight n) = Unit {0}
 EndsField place next (values.Span from to) = (place < from) × (from ≤ to) × (to ≡ next)
 EndsField place next (values.Four n) = Unit {0}
 
--- the field stands in the message from this place on, and ends before the byte at `to`
+-- the field is in the message from this place on, and ends before the byte at `to`
 pub record IsFieldAt (message : List ℕ) (place to : ℕ) (f : Field) : Type 0 where
   pub forward : place < f.next
   pub within : f.next ≤ to

@@ -12,7 +12,7 @@ abbrev pub ◌>>=◌ : {A B : Type 0} → Result A WireFault → (A → Result B
 (Ok x) >>= f = f x
 (Err e) >>= f = Err e
 
--- the varint at the front, of at most so many bytes, and the bytes behind it
+-- the varint at the front, of at most so many bytes, and the bytes after it
 unfoldable pub varint_at : ℕ → ℕ → List ℕ → Result (ℕ × List ℕ) WireFault
 varint_at place left [] = if left == 0 then Err (LongVarint place) else Err (Cut place)
 varint_at place left (b ∷ bytes) =
@@ -20,21 +20,21 @@ varint_at place left (b ∷ bytes) =
     else (if nat_lt b 128 then Ok (b, bytes)
     else (varint_at place (left - 1) bytes >>= λ high. Ok ((b - 128 + 128 * high.0) % 2 ^ 64, high.1)))
 
--- the bytes of a length that is said before them, and what is behind
+-- the bytes of a length that is said before them, and what comes after
 unfoldable pub text_at : ℕ → List ℕ → Result (List ℕ × List ℕ) WireFault
 text_at place bytes = do
   n ← varint_at place 10 bytes
   if nat_lt (length n.1) n.0 then Err (Cut place) else Ok (take n.0 n.1, drop n.0 n.1)
 
--- eight bytes as a number, and what is behind
+-- eight bytes as a number, and what comes after
 unfoldable pub eight_at : ℕ → List ℕ → Result (ℕ × List ℕ) WireFault
 eight_at place bytes = if nat_lt (length bytes) 8 then Err (Cut place) else Ok (from_le_bytes w64 (take 8 bytes), drop 8 bytes)
 
--- four bytes as a number, and what is behind
+-- four bytes as a number, and what comes after
 unfoldable pub four_at : ℕ → List ℕ → Result (ℕ × List ℕ) WireFault
 four_at place bytes = if nat_lt (length bytes) 4 then Err (Cut place) else Ok (from_le_bytes w32 (take 4 bytes), drop 4 bytes)
 
--- content of a wire type, and what is behind
+-- content of a wire type, and what comes after
 unfoldable pub content_at : ℕ → ℕ → List ℕ → Result (Content × List ℕ) WireFault
 content_at place wire bytes =
     if wire == 0 then (varint_at place 10 bytes >>= λ n. Ok (varint n.0, n.1))
@@ -43,7 +43,7 @@ content_at place wire bytes =
     else (if wire == 5 then (four_at place bytes >>= λ n. Ok (four n.0, n.1))
     else (if nat_lt 5 wire then Err (BadField place) else Err (Group place)))))
 
--- a field, and what is behind
+-- a field, and what comes after
 unfoldable pub field_at : ℕ → List ℕ → Result (WireField × List ℕ) WireFault
 field_at place bytes = do
   tag ← varint_at place 10 bytes

@@ -2,7 +2,7 @@
 use Rattle.std.specs.Prelude.{◌≡◌, ℕ, ◌+◌, ◌*◌, ◌%◌, ◌^◌, ◌<◌, ◌≤◌, ◌⊎◌, List, [], ◌∷◌, length, take}
 use Rattle.std.specs.List.{AllByRecursion}
 
--- A byte below 128 is the last, and stands for itself. One from 128 on has seven bits, and the bytes behind it spell
+-- A byte below 128 is the last, and says itself. One from 128 on has seven bits, and the bytes after it spell
 -- the rest of the number, of which these are the lowest bits.
 abbrev pub Spells : List ℕ → ℕ → Type 0
 Spells [] n = ⊥
@@ -16,6 +16,6 @@ IsVarint bytes n = (length bytes ≤ 10) × ((whole : ℕ) × Spells bytes whole
 abbrev pub IsCutVarint : List ℕ → Type 0
 IsCutVarint bytes = (length bytes < 10) × AllByRecursion (λ b. 128 ≤ b) bytes
 
--- the varint at the front goes on behind its tenth byte
+-- the varint at the front goes on after its tenth byte
 abbrev pub IsLongVarint : List ℕ → Type 0
 IsLongVarint bytes = (10 ≤ length bytes) × AllByRecursion (λ b. 128 ≤ b) (take 10 bytes)

@@ -1,4 +1,4 @@
-//! The wire format of Protocol Buffers: which field of a message stands next, or which fault its bytes have. It stands
+//! The wire format of Protocol Buffers: which field of a message comes next, or which fault its bytes have. It builds
 //! on nothing but `std`.
 #![tactic(auto)]
 

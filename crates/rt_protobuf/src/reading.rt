@@ -34,7 +34,7 @@ impl Held<'_> {
     }
 }
 
-// Seven bits of a number below those that stand behind them.
+// Seven bits of a number below those that come after them.
 fn joined(first: u8, high: u64) -> u64
     requires { 128 ≤ first }
     ensures { result ≡ (first - 128 + 128 * high) % 2 ^ 64 }
@@ -42,7 +42,7 @@ fn joined(first: u8, high: u64) -> u64
     high.wrapping_mul(128).wrapping_add(u64::from(first - 128))
 }
 
-// The varint at the front, of at most `left` bytes, and the bytes behind it.
+// The varint at the front, of at most `left` bytes, and the bytes after it.
 #[tactic(auto, unfolding(crate::specs::Reading::varint_at))]
 fn varint(bytes: &[u8], left: u8, place: usize) -> Result<(u64, &[u8]), WireFault>
     ensures { Gives (λ x. (x.0, x.1.now)) result (varint_at place left bytes.now) }
@@ -90,7 +90,7 @@ fn four(bytes: &[u8], place: usize) -> Result<(u32, &[u8]), WireFault>
     }
 }
 
-// What a field of this wire type holds, and the bytes behind it.
+// What a field of this wire type holds, and the bytes after it.
 #[tactic(auto, unfolding(crate::specs::Reading::content_at))]
 fn content(bytes: &[u8], wire: u64, place: usize) -> Result<(Held<'_>, &[u8]), WireFault>
     ensures { Gives (λ x. (held_content x.0, x.1.now)) result (content_at place wire bytes.now) }
@@ -117,7 +117,7 @@ fn content(bytes: &[u8], wire: u64, place: usize) -> Result<(Held<'_>, &[u8]), W
     }
 }
 
-// The number of the field at the front, what it holds, and the bytes behind it.
+// The number of the field at the front, what it holds, and the bytes after it.
 #[tactic(auto, unfolding(crate::specs::Reading::field_at))]
 fn field(bytes: &[u8], place: usize) -> Result<(u32, Held<'_>, &[u8]), WireFault>
     ensures { Gives (λ x. (record { number = x.0; content = held_content x.1 }, x.2.now)) result
@@ -132,10 +132,10 @@ fn field(bytes: &[u8], place: usize) -> Result<(u32, Held<'_>, &[u8]), WireFault
     Ok((number as u32, held, behind))
 }
 
-/// The field of the message that begins at the place `from` and ends up to the place `to`, or none where no byte stands
+/// The field of the message that begins at the place `from` and ends up to the place `to`, or none where no byte is
 /// there. It takes no memory, and the time of a constant number of bytes.
 ///
-/// Of a broken field the first fault is answered, in the order: the varint of the tag, its number and wire type, that it
+/// Of a broken field the first fault is answered. The order is the varint of the tag, its number and wire type, that it
 /// is no group, what it holds (Protocol Buffers, "Encoding").
 pub fn next_field(bytes: &[u8], from: usize, to: usize) -> Result<Option<Field>, WireFault>
     requires order { from ≤ to }

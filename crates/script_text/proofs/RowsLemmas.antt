@@ -7,7 +7,7 @@ use Rattle.script_text.specs.Script.{IsClient, NamesNone, SayRecords, SaysRecord
 use Rattle.script_text.specs.declared.script.Record.{Record}
 use Rattle.script_text.specs.declared.script.Record.TheVariants as records
 
--- the clients before a record are the first ones and those of what stands between
+-- the clients before a record are the first ones and those of what is between
 clients_behind : (clients : ℕ) (first : Record) (before : List Record) → clients + clients_in (first ∷ before) ≡ clients + clients_of first + clients_in before
 clients_behind clients first before =
     ap (λ n. clients + n) (sum_by-cons clients_of first before) ∙ sym (add_assoc clients (clients_of first) (clients_in before))

@@ -43,7 +43,7 @@ pub record SaysTimes (row : List (List ℕ)) (leave : ℕ) (known : Option ℕ) 
   pub known_is : SaysKnown (field_of row 4) known
   pub horizon_is : horizon_said (field_of row 5) ≡ Some horizon
 
--- `ask,FROM,TO,MOMENT`, and behind it KNOWN, or KNOWN and HORIZON: a new client asks this
+-- `ask,FROM,TO,MOMENT`, and after it KNOWN, or KNOWN and HORIZON: a new client asks this
 pub record SaysAsk (row : List (List ℕ)) (query : Query) : Type 0 where
   pub kind : IsOfKind row (codes "ask") 4 6
   pub from_is : query.from ≡ field_of row 1

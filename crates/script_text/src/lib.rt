@@ -1,4 +1,4 @@
-//! Scripts as texts, and the scripts that texts are: who asks what, which messages come between, and who has a turn. It stands on
+//! Scripts as texts, and the scripts that texts are: who asks what, which messages come between, and who has a turn. It builds on
 //! `lc_model`, `lc_time` and the records of `gtfs_rows`.
 #![tactic(auto)]
 

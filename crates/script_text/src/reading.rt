@@ -50,7 +50,7 @@ fn records_of(alloc: Global, rows: &Records, updates: bool) -> Result<Script, Sc
     Ok(Items::from_list(script))
 }
 
-/// How many clients there are behind a record.
+/// How many clients there are after a record.
 fn clients_behind(clients: u64, said: &Record) -> u64
     requires { clients + 1 < 2 ^ 64 }
     ensures { result ≡ clients + clients_of said.now }

@@ -39,7 +39,7 @@ removed_pushed row days copy same removed =
 pub none_removed : (row : DateRow) (days : List ServiceDay) → row.added ≡ true → Gains (IsRemovedBy row) days days
 none_removed row days added = Gains-nothing (IsRemovedBy row) days (λ x k. let f : true ≡ false = sym added ∙ k.added_is in cc)
 
--- in another order the same days stand in the list
+-- in another order the list has the same days
 pub moved : (IsSo : ServiceDay → Type 0) (xs ys : List ServiceDay) → ((x : ServiceDay) → Contains xs x ↔ IsSo x) → IsPermutation xs ys → (x : ServiceDay) → Contains ys x ↔ IsSo x
 moved IsSo xs ys are to x = (
   λ h. (are x).0 (Contains-permutation ys xs x (IsPermutation-sym xs ys to) h),

@@ -23,7 +23,7 @@ use Rattle.service_days.specs.Laws.{OneZone, ShowSame}
 use Rattle.service_days.specs.ZoneWord.{IsTableOf, file_named, rule_named}
 use Rattle.service_days.proofs.ClockLemmas.{rule_offset, rule_shown, table_offset, table_shown}
 
--- the same offset at each second, and where the clock shows a date and time
+-- two clocks with one offset at each second, and where the clock shows a date and time
 record AreOneClock (a b : Zone) : Type 0 where
   at : (second : ℤ) → offset_at a second ≡ offset_at b second
   shown : (dt : DateTime) → offset_shown a dt ≡ offset_shown b dt

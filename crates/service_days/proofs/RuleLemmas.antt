@@ -51,7 +51,7 @@ window_same d e y s t view std =
     let ahead : d.offset.seconds ≡ e.offset.seconds = ap (λ v. v.seconds) view in
     rw (start, end, ahead, std) refl
 
--- the same offset, flag and abbreviation
+-- two offsets that show one offset, flag and abbreviation
 record ShowsSame (a b : OffsetInfo) : Type 0 where
   seconds : a.offset.seconds ≡ b.offset.seconds
   dst : a.dst ≡ b.dst

@@ -20,7 +20,7 @@ day_number date = days_from_civil (pos date.year) date.month date.day
 abbrev pub weekday_of : ServiceDate → ℕ
 weekday_of date = weekday_number (day_number date)
 
--- The row runs its service on the date: its day of the week is set, and it lies in the range, both ends included.
+-- The row runs its service on the date: its day of the week is set, and it is in the range, both ends included.
 pub record RunsWeekly (row : Weekly) (date : ServiceDate) : Type 0 where
   pub weekday_set : IsTrue (slice_index_or row.days (weekday_of date) false)
   pub not_before : day_number row.from ≤ℤ day_number date

@@ -1,4 +1,4 @@
--- A word says one clock, the dates of services are one list, and in UTC a service day is a day of 24 hours from midnight.
+-- A word says one clock. The dates of services are one list. In UTC a service day is a day of 24 hours from midnight.
 use Rattle.std.specs.Prelude.{◌≡◌, ◌+◌, ◌*◌, ◌<◌, ℕ, pos, List, Option, Some}
 use Rattle.lc_model.specs.declared.date.ServiceDate.{ServiceDate}
 use Rattle.lc_time.specs.Calendar.{day_at}

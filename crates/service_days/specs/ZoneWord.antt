@@ -1,4 +1,4 @@
--- Words that say a zone: utc, posix: and a rule, or file: and the name of a file, whose bytes stand beside the word.
+-- Words that say a zone: utc, posix: and a rule, or file: and the name of a file, whose bytes are beside the word.
 use Rattle.std.specs.Prelude.{◌≡◌, ◌≢◌, ◌⊎◌, ℕ, nat_eq, if◌then◌else◌, List, length, take, drop, codes, Option, Some, None, Ok, IsSome, IsSomeAnd, IsErr, MatchOption, ⊤}
 use Rattle.std.specs.Cmp.Lexicographic.{pointwise}
 use Rattle.jiff_tz.specs.PosixReader.{read_whole}
@@ -11,7 +11,7 @@ use Rattle.lc_time.specs.declared.zone.Zone.TheVariants.{Utc, Posix, File}
 use Rattle.service_days.specs.declared.zone_word.ZoneFault.{ZoneFault}
 use Rattle.service_days.specs.declared.zone_word.ZoneFault.TheVariants.{Wrong, NoMemory}
 
--- what stands behind a front in a text that begins with it
+-- what comes after a front in a text that begins with it
 abbrev pub behind : List ℕ → List ℕ → Option (List ℕ)
 behind front text =
     if pointwise nat_eq (take (length front) text) front then Some (drop (length front) text) else None

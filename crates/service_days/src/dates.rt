@@ -41,9 +41,9 @@ fn in_order(mut days: Vec<ServiceDay>) -> Vec<ServiceDay>
 }
 
 /// The dates, of so many from the first on, on which services run (GTFS Schedule Reference, calendar.txt and
-/// calendar_dates.txt). Dates behind the year 9999 are no dates.
+/// calendar_dates.txt). Dates after the year 9999 are no dates.
 ///
-/// It takes the time of a sort of the days that are found, of two looks at each row of `weekly` for each date of the
+/// It takes the time of a sort of the days that are found. It takes two looks at each row of `weekly` for each date of the
 /// window, and of a sort of the rows of `dates`.
 pub fn days(
     alloc: Global,

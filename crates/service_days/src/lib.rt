@@ -1,4 +1,4 @@
-//! Zones as words, and the dates of services; it hands on what a zone's clock shows. It stands on `lc_clock`, on the typed
+//! Zones as words, and the dates of services; it hands on what a zone's clock shows. It builds on `lc_clock`, on the typed
 //! rows of `gtfs_calendars` and on the zones of `jiff`.
 #![tactic(auto)]
 

@@ -31,7 +31,7 @@ fn push_date(list: &mut Vec<ServiceDate>, number: i64) -> Result<(), NoMemory>
     Ok(())
 }
 
-/// So many dates from the first on, as far as the year 9999.
+/// This many dates from the first on, as far as the year 9999.
 pub(crate) fn window_dates(
     alloc: Global,
     first: ServiceDate,

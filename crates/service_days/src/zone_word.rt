@@ -33,7 +33,7 @@ impl fmt::Display for ZoneFault {
 impl Error for ZoneFault {}
 
 /// The zone that a word says: `utc`, `posix:` and a rule (POSIX, variable TZ, with the hours of RFC 9636), or `file:` and
-/// a name, where `file` has the bytes of the file of that name (RFC 9636). Only such a file takes memory.
+/// a name. For a name `file` has the bytes of the file (RFC 9636). Only such a file takes memory.
 pub fn read_zone(alloc: Global, word: &[u8], file: Option<&[u8]>) -> Result<Zone, ZoneFault>
     ensures said { IfOk result (SaysZone word.now (option_copied file.entry)) }
     ensures wrong { result ≡ Err ZoneFault.Wrong → IsWrong word.now (option_copied file.entry) }

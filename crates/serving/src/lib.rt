@@ -1,5 +1,5 @@
-//! The talk of one connection with a publisher: it answers what is fed to it by a session, and keeps the publisher for the next connection. It
-//! stands on `wire_session`, which says what is replied, and on `lc_doors`, by whose trait a connection is served.
+//! The talk of one connection with a publisher. It answers what is fed to it by a session, and keeps the publisher for the next connection. It
+//! builds on `wire_session`, which says what is replied, and on `lc_doors`, by whose trait a connection is served.
 #![tactic(auto)]
 
 mod serving;

@@ -13,7 +13,7 @@ use std::alloc::Global;
 use std::marker::Model;
 use wire_session::Session;
 
-/// A talk that owns the session of a connection and the publisher that answers its requests. Nothing is kept of what it was fed.
+/// A talk that owns the session of a connection and the publisher that answers its requests. It holds nothing of what it was fed.
 #[derive(Drop)]
 pub struct Serving<G: Fragmenter + Drop> {
     session: Session,

@@ -42,7 +42,7 @@ leaves key calls at c e = go (slice_get calls at) (slice_get calls (suc at)) ref
       let same : connection_between key from to ≡ c = cc in
       record { call = from; is = is; same_key = sym (ap (λ (d : Connection). d.key) same); same_seq = sym (ap (λ (d : Connection). d.seq) same) }
 
--- calls of one sequence stand at one place
+-- calls of one sequence are at one place
 one_place : (calls : List Call) (i j : ℕ) (a b : Call) → InSequence calls → slice_get calls i ≡ Some a → slice_get calls j ≡ Some b → a.seq ≡ b.seq → i ≡ j
 one_place calls i j a b rise is_a is_b same =
     let in_i = slice_get_within calls i a is_a in

@@ -20,7 +20,7 @@ use Rattle.span_index.proofs.PlacedLemmas.{in_strict_order}
 abbrev KeysApart : Run → Run → Type 0
 KeysApart r s = key_cmp r.key s.key ≢ Equal
 
--- the runs of two lists have the same connections, if each of the one stands in the other
+-- the runs of two lists have the same connections, if each of the one is in the other
 connections_stand : (runs live : List Run) (c : Connection) → ((r : Run) → Contains runs r → Contains live r) → Contains (connections_of runs) c → Contains (connections_of live) c
 connections_stand runs live c stands h =
     let calls = λ (r : Run). connections_of_calls r.key r.calls in

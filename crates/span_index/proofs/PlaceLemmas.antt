@@ -1,4 +1,4 @@
--- The order of places is total and tells places apart, and a span of departures is a range in it.
+-- The order of places is total and distinguishes places, and a span of departures is a range in it.
 use Rattle.std.proofs.Common.{◌≡◌, ℕ, Option, Some, None, Bool, true, false, not, refl, sym, ap, ◌∙◌, arith}
 use Rattle.std.specs.Prelude.{◌&&◌, max, nat_le, nat_lt}
 use Rattle.std.specs.BTreeMap.Range.{range_contains}

@@ -1,4 +1,4 @@
--- A run that holds in no version is added with its places: what was kept is kept, and no version shows it.
+-- A run that holds in no version is added with its places. What was stored is stored, and no version shows it.
 use Rattle.std.proofs.Common.{Result, Ok, Err, ◌≡◌, ℕ, ◌⊎◌, ◌↔◌, inl, inr, List, [], ◌∷◌, ◌++◌, append_assoc, length, map, Bool, true, false, cond, Some, None, refl, sym, ap, ◌∙◌, subst, arith, ⊎_elim}
 use Rattle.std.specs.Prelude.{IsSome, IsTrue, OnOk, is_some}
 use Rattle.std.specs.BTreeSet.{BTreeSet, contains}

@@ -59,7 +59,7 @@ held_forward version states forward =
 in_order : (version : ℕ) (states : List State) (places : List Place) → AreSpans states places → Ordered (held version states)
 in_order version states places spans = ordered (held version states) (keys_apart version states (spans.apart version)) (held_forward version states spans.forward)
 
--- the places stand strictly in order
+-- the places are strictly in order
 pub places_rise : (places : List Place) → IsStrictlySortedBy place_cmp places → AllPairs Before places
 places_rise places up i j d before inside = Less-from_sorted place_cmp places i j d up before inside
 

@@ -15,11 +15,11 @@ use Rattle.span_index.specs.Spans.{held, holds, run_of}
 use Rattle.span_index.specs.declared.place.Place.{Place}
 use Rattle.span_index.specs.declared.state.State.{State}
 
--- the item at a place of a list stands in it
+-- the item at a place of a list is in it
 pub Contains-slice_get : {X : Type 0} (xs : List X) (i : ℕ) (x : X) → slice_get xs i ≡ Some x → Contains xs x
 Contains-slice_get xs i x e = (i, slice_get_within xs i x e, get_or_from_slice_get xs i x x e)
 
--- an item that stands in a list has a place in it
+-- an item of a list has a place in it
 pub record Stands {X : Type 0} (xs : List X) (x : X) : Type 0 where
   pub at : ℕ
   pub is : slice_get xs at ≡ Some x
@@ -27,7 +27,7 @@ pub record Stands {X : Type 0} (xs : List X) (x : X) : Type 0 where
 pub Stands-contains : {X : Type 0} (xs : List X) (x : X) → Contains xs x → Stands xs x
 Stands-contains xs x (k, inside, at) = record { at = k; is = slice_get_read xs (length xs) k x refl inside (sym at) }
 
--- an item of a list of what is given comes from one that gives it
+-- an item of a list of results comes from one that gives it
 pub record Gives {X Y : Type 0} (f : X → Option Y) (xs : List X) (y : Y) : Type 0 where
   pub from : X
   pub stands : Contains xs from

@@ -1,4 +1,4 @@
--- A run of the newest version ends, and one begins: what is kept, and which runs there are then.
+-- A run of the newest version ends, and one begins. What is stored, and which runs there are then.
 use Rattle.std.proofs.Common.{◌≡◌, ℕ, ◌<◌, ◌≤◌, ◌⊎◌, ◌↔◌, inl, inr, List, set, Bool, true, false, cond, Option, Some, None, refl, sym, ap, ◌∙◌, subst, rules, ⊎_elim}
 use Rattle.std.specs.Prelude.{IsSome}
 use Rattle.std.specs.List.{Contains, slice_get}
@@ -36,7 +36,7 @@ put_here key value found q same =
 pub put_other : (key : RunKey) (value : Option ℕ) (found : Found) (q : RunKey) → is_eq (key_cmp key q) ≡ false → put_at key value found q ≡ found q
 put_other key value found q apart = ap (λ (b : Bool). cond b (Some value) (found q)) apart
 
--- a key is this one, or it is told apart from it
+-- a key is this one, or is distinguished from it
 pub tied_or_not : (key q : RunKey) → (key ≡ q) ⊎ (is_eq (key_cmp key q) ≡ false)
 tied_or_not key q = ⊎_elim (λ (e : is_eq (key_cmp key q) ≡ true). inl (same_keys key q (tie_from (key_cmp key q) e))) (λ (e : is_eq (key_cmp key q) ≡ false). inr e) (cases_Bool (is_eq (key_cmp key q)))
 

@@ -1,4 +1,4 @@
--- Runs that end and begin one after the other, and what an update comes to.
+-- Runs that end and begin one after the other, and what an update results in.
 use Rattle.std.proofs.Common.{◌≡◌, ℕ, suc, ◌<◌, ◌≤◌, ◌⊎◌, inl, inr, List, [], ◌∷◌, ◌++◌, append_assoc, length, set, map, Bool, true, false, cond, Option, Some, None, Result, Ok, Err, refl, sym, ap, ◌∙◌, subst, arith, ⊎_elim}
 use Rattle.std.specs.Prelude.{IsSome, OnErr, OnOk, is_some}
 use Rattle.std.specs.BTreeMap.{BTreeMap, IsUnchanged, Updates, get}

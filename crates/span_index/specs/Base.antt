@@ -13,7 +13,7 @@ use Rattle.span_index.specs.declared.state.State.{State}
 abbrev pub base_state : Run → State
 base_state run = record { key = run.key; calls = run.calls; begin = 0; end = None }
 
--- the states stand strictly by their keys
+-- the states are strictly in the order of their keys
 abbrev pub AreKeysInOrder : List State → Type 0
 AreKeysInOrder states = IsStrict (on (λ (s : State). s.key) key_cmp) states
 

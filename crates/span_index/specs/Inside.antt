@@ -52,12 +52,12 @@ pub record IsOpenAt (version : ℕ) (states : List State) (key : RunKey) (number
 abbrev pub AreOpen : ℕ → List State → (RunKey → Option (Option ℕ)) → Type 0
 AreOpen version states found = (key : RunKey) (number : ℕ) → (found key ≡ Some (Some number)) ↔ IsOpenAt version states key number
 
--- the spans are kept, none reaches past this version, and the runs of it are found by their keys
+-- the spans are stored, none reaches past this version, and the runs of it are found by their keys
 pub record AreKept (newest : ℕ) (states : List State) (places : List Place) (found : RunKey → Option (Option ℕ)) : Type 0 where
   pub spans : AreSpans states places
   pub past : All (IsPast newest) states
   pub are_open : AreOpen newest states found
 
--- the same of the fields, with the newest version
+-- the fields are stored, with the newest version
 abbrev pub IsKept : Inside → Type 0
 IsKept index = AreKept index.newest index.spans.states.items index.spans.places.keys (get key_cmp index.spans.running)

@@ -1,4 +1,4 @@
--- What an update needs before runs end and begin, and what is kept while it is prepared and after each of its turns.
+-- What an update needs before runs end and begin, and what is stored while it is prepared and after each of its turns.
 use Rattle.std.specs.Prelude.{◌≡◌, ℕ, ◌<◌, ◌⊎◌, ◌↔◌, List, [], ◌∷◌, ◌++◌, Option, Some, IsSome, cond}
 use Rattle.std.specs.List.{Contains, slice_get, slice_set}
 use Rattle.std.specs.Ordering.{is_eq}
@@ -22,14 +22,14 @@ Found = RunKey → Option (Option ℕ)
 abbrev pub HasPlaces : ℕ → State → List Place → Type 0
 HasPlaces number state places = (p : Place) → IsOf number state p → Contains places p
 
--- the run is ready to begin: its state stands at the number and holds in no version, its places are there, and so is its key
+-- the run is ready to begin: its state is at the number and holds in no version, its places are there, and so is its key
 pub record IsReady (states : List State) (places : List Place) (found : Found) (ready : Ready) (run : Run) : Type 0 where
   pub stands : slice_get states ready.number ≡ Some (closed_state run)
   pub same_key : ready.key ≡ run.key
   pub has_key : IsSome (found run.key)
   pub has : HasPlaces ready.number (closed_state run) places
 
--- what was kept is kept, each version has the runs that it had, and what was ready is
+-- what was stored is stored, each version has the runs that it had, and what was ready is
 pub record Carries (states : List State) (places : List Place) (found : Found) (new_states : List State) (new_places : List Place) (new_found : Found) : Type 0 where
   pub kept : (newest : ℕ) → AreKept newest states places found → AreKept newest new_states new_places new_found
   pub same : (version : ℕ) → held version new_states ≡ held version states
@@ -58,7 +58,7 @@ HaveAlike found new = (q : RunKey) (n : ℕ) → (new q ≡ Some (Some n)) ↔ (
 abbrev pub KeepKeys : Found → Found → Type 0
 KeepKeys found new = (q : RunKey) → IsSome (found q) → IsSome (new q)
 
--- the run of the key has ended in the version that is being made: the other versions and the other runs stay, and so does what is ready
+-- the run of the key has ended in the version that is being made. The other versions and the other runs stay, and so does what is ready
 pub record EndsRun (next : ℕ) (key : RunKey) (states : List State) (places : List Place) (found : Found) (new_states : List State) (new_places : List Place) (new_found : Found) : Type 0 where
   pub kept : AreKept next new_states new_places new_found
   pub before : (version : ℕ) → version < next → held version new_states ≡ held version states

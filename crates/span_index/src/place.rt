@@ -3,8 +3,8 @@ ghost use Rattle.std.specs.Prelude.{◌≡◌};
 use lc_model::Moment;
 use std::ops::Bound;
 
-/// Where a connection stands: its departure, the number of the run's state, and the place of its first call. In this order, so
-/// that the places of a span of departures follow one another.
+/// Where a connection is: its departure, the number of the run's state, and the place of its first call. In this order the
+/// places of a span of departures follow one another.
 #[derive(Clone, Copy, PartialEq, Eq, PartialOrd, Ord)]
 pub(crate) struct Place {
     pub(crate) dep: Moment,

@@ -77,8 +77,8 @@ fn push_shown(
     Ok(())
 }
 
-/// The connections of the runs that hold in a version which depart from a moment on, and before the other one where there is one, in the
-/// order of their places. Takes the time of a walk over the places of these departures, of all versions.
+/// The connections of the runs that hold in a version, in the order of their places. They depart from a moment on, and before the other
+/// one where there is one. Takes the time of a walk over the places of these departures, of all versions.
 fn all_between(
     alloc: Global,
     states: &[State],
@@ -101,7 +101,7 @@ fn all_between(
     Ok(list)
 }
 
-/// The same in departure order.
+/// The connections of the runs that hold in a version, in departure order.
 fn sorted_between(
     alloc: Global,
     states: &[State],
@@ -181,8 +181,8 @@ fn all_departures(
 
 impl Index {
     /// The connections of a version that depart from a moment on, and before the other one where there is one, in departure order. It
-    /// takes the time of a walk over the places of these departures, of all versions, and of a sort of the connections, which is one walk
-    /// where runs were neither added nor changed.
+    /// takes the time of a walk over the places of these departures, of all versions, and of a sort of the connections. The sort is one
+    /// walk where runs were neither added nor changed.
     pub fn rows(
         &self,
         alloc: Global,

@@ -8,7 +8,7 @@ use std::collections::{BTreeMap, BTreeSet};
 pub(crate) struct Spans {
     /// A state that was made for a version that did not come about holds in none, and its number is not used again.
     pub(crate) states: Vec<State>,
-    /// Where the connections of the states stand, in departure order.
+    /// Where the connections of the states are, in departure order.
     pub(crate) places: BTreeSet<Place>,
     /// By its key, the number of the state that each run has in the newest version, if it has one.
     pub(crate) running: BTreeMap<RunKey, Option<u32>>,

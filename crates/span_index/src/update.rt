@@ -9,7 +9,7 @@ use lc_model::{NoMemory, Run, RunKey};
 use std::alloc::Global;
 
 impl Index {
-    /// Adds a version: of the runs of the newest one, those of the keys `ended` are gone, and those of `begun` are there, each in place of
+    /// Adds a version. Of the runs of the newest one, those of the keys `ended` are gone. Those of `begun` are there, each in place of
     /// the one of its key, if there was one. All memory is taken first: after a refusal each version is as it was. It takes the time of the
     /// connections of the runs that begin and of the ended keys, by the logarithm of the index.
     pub fn update(

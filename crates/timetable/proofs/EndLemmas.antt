@@ -1,4 +1,4 @@
--- How the loading ends behind the zone: with a timetable, or for a fault of the feed or of its timetable.
+-- How the loading ends after the zone: with a timetable, or for a fault of the feed or of its timetable.
 use Rattle.std.proofs.Common.{◌≡◌, ◌∙◌, inl, inr, ℕ, ◌≤◌, Result, Ok, Err, IfErr, IfOk, arith, refl, subst, sym}
 use Rattle.lc_io.specs.Counts.{Rose}
 use Rattle.lc_io.specs.Folder.{FolderSeen}
@@ -7,7 +7,7 @@ use Rattle.gtfs_tables.specs.Reading.{EndsSo, Keeps}
 use Rattle.gtfs_tables.specs.declared.fault.FeedFault.{FeedFault}
 use Rattle.gtfs_tables.specs.declared.fault.FeedFault.TheVariants as feed
 use Rattle.gtfs_tables.specs.declared.tables.Tables.{Tables}
-use Rattle.timetable.specs.Loading.{IsRecordedAs, LoadsSo, ReadsFeed}
+use Rattle.timetable.specs.Loading.{IsReportedAs, LoadsSo, ReadsFeed}
 use Rattle.timetable.specs.Made.{FailsToMake}
 use Rattle.timetable.specs.Timetable.{IsTimetableOf}
 use Rattle.timetable.specs.Zone.{ReadsZone}
@@ -16,7 +16,7 @@ use Rattle.timetable.specs.declared.fault.LoadFault.TheVariants.{Broken, TooLarg
 use Rattle.timetable.specs.declared.scope.Scope.{Scope}
 use Rattle.timetable.specs.declared.timetable.Timetable.{Timetable}
 
--- what is kept twice is kept
+-- a directory that stays from one state to the next, and then to a third, stays from the first to the third
 pub kept_then : (a b c : FolderSeen) → Keeps a b → Keeps b c → Keeps a c
 kept_then a b c p q = record {
   files = q.files ∙ p.files;
@@ -24,7 +24,7 @@ kept_then a b c p q = record {
   absences = omega (arith, p.absences, q.absences);
 }
 
--- a count that rose after it had not fallen rose
+-- a count that increased after it had not fallen increased over all
 rose_then : (a b c : ℕ) → a ≤ b → Rose b c → Rose a c
 rose_then a b c kept rose = omega (arith, kept, rose)
 
@@ -42,7 +42,7 @@ module _ (scope : Scope) (old mid new : FolderSeen) (zone : Zone) (read : ReadsZ
   ran_out : (found : FeedFault) (recorded : LoadFault) → EndsSo mid new scope.feed (Err found) → recorded ≡ NoMemory → LoadsSo scope old new (Err recorded)
   ran_out found recorded ends is = subst (λ (t : LoadFault). LoadsSo scope old new (Err t)) (sym is) (inr (zone, Err found, reads (Err found) ends))
 
-  pub fault_ends : (found : FeedFault) (recorded : LoadFault) (before : ℕ) → EndsSo mid new scope.feed (Err found) → IsRecordedAs found before recorded → before ≡ old.faults → old.faults ≤ mid.faults → LoadsSo scope old new (Err recorded)
+  pub fault_ends : (found : FeedFault) (recorded : LoadFault) (before : ℕ) → EndsSo mid new scope.feed (Err found) → IsReportedAs found before recorded → before ≡ old.faults → old.faults ≤ mid.faults → LoadsSo scope old new (Err recorded)
   fault_ends (feed.Broken rule at row) recorded before ends (inl is) at_start kept =
       subst (λ (t : LoadFault). LoadsSo scope old new (Err t)) (sym is) (inr (record { zone = zone; at = at; read = reads (Err (feed.Broken rule at row)) ends; named = refl }))
   fault_ends (feed.Broken rule at row) recorded before ends (inr is) at_start kept = ran_out (feed.Broken rule at row) recorded ends is

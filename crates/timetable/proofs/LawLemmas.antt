@@ -120,7 +120,7 @@ pub zone_recorded : (files : List File) (old new : FolderSeen) (word : List ℕ)
 zone_recorded files old new word zone tells read =
     subst (λ found. SaysZone word found zone) (looked_up files old new read.found (file_named word) tells read.looked).1 read.says
 
--- the folder tells the same files once the zone is read
+-- the directory records these files once the zone is read, too
 pub still_recorded : (files : List File) (old new : FolderSeen) (word : List ℕ) (zone : Zone) → old.files ≡ Some files → ReadsZone old new word zone → new.files ≡ Some files
 still_recorded files old new word zone tells read = (looked_up files old new read.found (file_named word) tells read.looked).0
 

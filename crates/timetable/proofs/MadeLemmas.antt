@@ -35,7 +35,7 @@ date_plannable first date count window within = record {
   not_after = omega (arith, signed_arith, window.not_after, within.not_after);
 }
 
--- and so may all days of it
+-- all days of the window may be planned
 pub days_plannable : (weekly : List Weekly) (dates : List DateRow) (first : ServiceDate) (count : ℕ) (days : List ServiceDay) → AreDays weekly dates first count days → IsWindow first count → ArePlannable days
 days_plannable weekly dates first count days are window place d inside =
     let day = get_or days place d in

@@ -11,7 +11,7 @@ use Rattle.lc_time.specs.declared.zone.Zone.TheVariants.{Utc, Posix, File}
 use Rattle.service_days.specs.ZoneWord.{IsBadFile, IsTableOf, IsWrong, SaysZone, behind, file_named, rule_named}
 use Rattle.service_days.proofs.RuleLemmas.{good_file}
 
--- a text with something behind a front begins with it
+-- a text with something after a front begins with it
 begins : (same : Bool) (rest : List ℕ) (text : List ℕ) → cond same (Some rest) None ≡ Some text → same ≡ true
 begins true rest text e = refl
 begins false rest text e = cc

@@ -1,4 +1,4 @@
--- What stands behind a front in a text.
+-- What comes after a front in a text.
 use Rattle.std.proofs.Common.{◌≡◌, ◌∙◌, ℕ, List, ◌++◌, length, take, take-append-drop, drop, Bool, true, false, cond, Option, Some, None, ap, sym, refl}
 use Rattle.std.specs.Prelude.{MatchOption}
 use Rattle.std.specs.Option.{option_copied}
@@ -17,7 +17,7 @@ not_parted : (same : Bool) (rest : List ℕ) → (same ≡ true → ⊥) → Non
 not_parted true rest e = absurd (e refl)
 not_parted false rest e = refl
 
--- what is left of a text without a front is what stands behind it
+-- what is left of a text without a front is what comes after it
 pub stripped : (front text : List ℕ) (found : Option (Bor (List ℕ)))
     → MatchOption found (FindsTextPrefix front text None) (λ rest. StripsPrefix (FindsTextPrefix front) text rest.now)
     → option_copied found ≡ behind front text

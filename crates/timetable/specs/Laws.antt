@@ -22,7 +22,7 @@ use Rattle.timetable.specs.declared.fault.LoadFault.TheVariants as fault
 use Rattle.timetable.specs.declared.scope.Scope.{Scope}
 use Rattle.timetable.specs.declared.timetable.Timetable.{Timetable}
 
--- Two timetables have the same runs, document and counts. Their zones may be recorded in two ways, but show the same.
+-- Two timetables have the same runs, document and counts. Their zones may be represented in two ways, but show the same.
 pub record AreSame (a b : Timetable) : Type 0 where
   pub zones : ShowSame a.zone b.zone
   pub runs : a.runs ≡ b.runs
@@ -41,7 +41,7 @@ OneOfTables =
 abbrev pub OneTimetable : Type 0
 OneTimetable = (files : List File) (scope : Scope) (a b : Timetable) → IsSound files scope a → IsSound files scope b → AreSame a b
 
--- what is loaded from a folder that tells its files is the timetable of these
+-- what is loaded from a directory that records its files is the timetable of these
 abbrev pub LoadsRecorded : Type 0
 LoadsRecorded =
     (files : List File) (scope : Scope) (old new : FolderSeen) (made : Timetable) → old.files ≡ Some files → Loads scope old new made
@@ -59,7 +59,7 @@ NotTooLarge =
     (files : List File) (scope : Scope) (old new : FolderSeen) (made : Timetable) (what : What) (count : ℕ) → old.files ≡ Some files
     → IsSound files scope made → LoadsSo scope old new (Err (fault.TooLarge what count)) → ⊥
 
--- the end is one that the files have: neither a fault of the folder nor running out of memory
+-- the end is one that the files have: neither a fault of the directory nor running out of memory
 abbrev pub IsOfFiles : Result Timetable LoadFault → Type 0
 IsOfFiles (Ok made) = Unit {0}
 IsOfFiles (Err (fault.Broken rule file row)) = Unit {0}
@@ -74,7 +74,7 @@ AreSameEnds (Ok a) (Err g) = ⊥
 AreSameEnds (Err f) (Ok b) = ⊥
 AreSameEnds (Err f) (Err g) = f ≡ g
 
--- The loading of recorded files ends in one way, but for faults of the folder and running out of memory: the timetable, the first rule that
+-- The loading of recorded files ends in one way, but for faults of the directory and running out of memory. It is the timetable, the first rule that
 -- is broken with its file and row, or what is too large and how much of it.
 abbrev pub OneEnd : Type 0
 OneEnd =
@@ -82,8 +82,8 @@ OneEnd =
     → old.files ≡ Some files → other.files ≡ Some files → IsOfFiles x → IsOfFiles y → LoadsSo scope old new x → LoadsSo scope other later y
     → AreSameEnds x y
 
--- where the word says a zone and recorded files break this rule first, the loading ends with it, but for faults of the folder and want
--- of memory
+-- The word says a zone and recorded files break this rule first. Then the loading ends with it, unless the directory fails or memory
+-- runs out.
 abbrev pub BrokenEnds : Type 0
 BrokenEnds =
     (files : List File) (scope : Scope) (old new : FolderSeen) (end : Result Timetable LoadFault) (zone : Zone) (place : ℕ) (at : FeedFile) (rule row : ℕ)

@@ -79,9 +79,9 @@ LoadsSo scope old new (Err NoMemory) =
     RunsOutAtZone old new scope.zone
     ⊎ ((zone : Zone) × (result : Result Tables FeedFault) × ReadsFeed scope old new zone result)
 
--- how the fault of a feed is recorded, where the count of the folder's faults was this at the start; memory may run out
-abbrev pub IsRecordedAs : FeedFault → ℕ → LoadFault → Type 0
-IsRecordedAs (feed.Broken rule at row) before fault = (fault ≡ Broken rule (name_of at) row) ⊎ (fault ≡ NoMemory)
-IsRecordedAs (feed.TooLarge what count) before fault = fault ≡ TooLarge what count
-IsRecordedAs (feed.Folder first after) before fault = fault ≡ Folder before after
-IsRecordedAs feed.NoMemory before fault = fault ≡ NoMemory
+-- how the fault of a feed is reported, where the count of the directory's faults was this at the start; memory may run out
+abbrev pub IsReportedAs : FeedFault → ℕ → LoadFault → Type 0
+IsReportedAs (feed.Broken rule at row) before fault = (fault ≡ Broken rule (name_of at) row) ⊎ (fault ≡ NoMemory)
+IsReportedAs (feed.TooLarge what count) before fault = fault ≡ TooLarge what count
+IsReportedAs (feed.Folder first after) before fault = fault ≡ Folder before after
+IsReportedAs feed.NoMemory before fault = fault ≡ NoMemory

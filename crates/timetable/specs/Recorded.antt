@@ -1,4 +1,4 @@
--- The timetable of a feed by the files that a folder tells.
+-- The timetable of a feed by the files that a directory records.
 use Rattle.std.specs.Prelude.{ℕ, List, Option, option_and_then}
 use Rattle.lc_io.specs.Folder.{bytes_named}
 use Rattle.lc_io.specs.declared.file.File.{File}

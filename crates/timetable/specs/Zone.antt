@@ -8,14 +8,14 @@ use Rattle.gtfs_tables.specs.Reading.{Keeps}
 use Rattle.timetable.specs.declared.zone_end.ZoneEnd.{ZoneEnd}
 use Rattle.timetable.specs.declared.zone_end.ZoneEnd.TheVariants.{Wrong, Failed, NoMemory}
 
--- The folder was asked for the file of this name, and this was found: its bytes, or none, and an absence was counted.
+-- The directory was asked for the file of this name, and this was found: its bytes, or none, and an absence was counted.
 pub record Finds (old new : FolderSeen) (name : List ℕ) (found : Option (List ℕ)) : Type 0 where
   pub there : IfSome old.files (λ files. found ≡ bytes_named files name)
   pub asked : new.asked ≡ asked_after old.asked name
   pub counted : IsNone found → Rose old.absences new.absences
   pub kept : Keeps old new
 
--- Where the word names a file, the folder was asked for it, and this was found; else it was asked for nothing.
+-- Where the word names a file, the directory was asked for it, and this was found; else it was asked for nothing.
 abbrev pub LooksUp : FolderSeen → FolderSeen → List ℕ → Option (List ℕ) → Type 0
 LooksUp old new word found = MatchOption (file_named word) ((new ≡ old) × (found ≡ None)) (λ name. Finds old new name found)
 
@@ -31,7 +31,7 @@ pub record FindsNoZone (old new : FolderSeen) (word : List ℕ) : Type 0 where
   pub looked : LooksUp old new word found
   pub wrong : IsWrong word found
 
--- the word names a file, for which the folder was asked, and it failed to read it
+-- the word names a file, for which the directory was asked, and it failed to read it
 pub record FailsAtZone (old new : FolderSeen) (word : List ℕ) : Type 0 where
   pub name : List ℕ
   pub named : file_named word ≡ Some name
@@ -39,7 +39,7 @@ pub record FailsAtZone (old new : FolderSeen) (word : List ℕ) : Type 0 where
   pub counted : Rose old.faults new.faults
   pub kept : Keeps old new
 
--- memory ran out at the zone: the folder was asked for nothing, or for the file that the word names
+-- memory ran out at the zone: the directory was asked for nothing, or for the file that the word names
 pub record RunsOutAtZone (old new : FolderSeen) (word : List ℕ) : Type 0 where
   pub asked : (new.asked ≡ old.asked) ⊎ IfSome (file_named word) (λ name. new.asked ≡ asked_after old.asked name)
   pub kept : Keeps old new

@@ -7,12 +7,12 @@ use lc_model::{NoMemory, Text};
 /// Why there is no timetable.
 #[derive(Drop)]
 pub enum LoadFault {
-    /// The first rule that is broken, the file, and the row that breaks it, counted from 1; row 0 stands for the file. By rule 15
-    /// the word says no zone, and stands in the place of the file.
+    /// The first rule that is broken, the file, and the row that breaks it, counted from 1; row 0 is the whole file. By rule 15
+    /// the word says no zone, and takes the place of the file.
     Broken { rule: u8, file: Text, row: u64 },
     /// There is more of something than is taken: so much of it.
     TooLarge { what: What, count: u64 },
-    /// The folder failed to read a file. Its count of faults was `before` as the call began, and is `after`.
+    /// The directory failed to read a file. Its count of faults was `before` as the call began, and is `after`.
     Folder { before: u64, after: u64 },
     /// There was not enough memory.
     NoMemory,

@@ -5,7 +5,7 @@ use gtfs_tables::one_feed;
 use service_days::{one_list_of_days, one_zone_a_word};
 use trip_calls::one_list_of_runs;
 
-/// The files that a folder tells have one timetable in a scope, which is what is loaded from it, and a feed that has one is not
+/// The files that a directory records have one timetable in a scope. It is what is loaded from it. A feed that has one is not
 /// refused.
 pub fn one_timetable()
     ensures of_tables { OneOfTables }
@@ -21,8 +21,8 @@ pub fn one_timetable()
     one_list_of_changes();
 }
 
-/// The loading of the files that a folder tells ends in one way, but for faults of the folder and running out of memory: exactly as the word of the
-/// zone, the first file that is wrong, or a limit has it, and else with a timetable.
+/// The loading of recorded files ends in one way, but for faults of the directory and running out of memory. The end is as the word of the
+/// zone, the first file that is wrong, or a limit has it. Else it is a timetable.
 pub fn one_end()
     ensures one { OneEnd }
     ensures no_zone { NoZoneEnds }

@@ -1,5 +1,5 @@
-//! The timetable of a feed in a window of days: its runs and its stops document in the zone that a word says, or why there
-//! is none; and each of its parts alone. It stands on `gtfs_tables`, `service_days`, `trip_calls` and `change_table`.
+//! The timetable of a feed in a window of days: its runs and its stops document in the zone that a word says. Or why there
+//! is none. Each of its parts alone. It builds on `gtfs_tables`, `service_days`, `trip_calls` and `change_table`.
 #![tactic(auto)]
 
 mod fault;

@@ -1,6 +1,6 @@
 ghost use Rattle.std.specs.Prelude.{◌≡◌, ◌⊎◌};
 ghost use Rattle.gtfs_tables.specs.Reading.{Keeps};
-ghost use Rattle.timetable.specs.Loading.{IsRecordedAs, LoadsSo};
+ghost use Rattle.timetable.specs.Loading.{IsReportedAs, LoadsSo};
 ghost use Rattle.timetable.specs.Scope.{IsWindow};
 ghost use Rattle.timetable.specs.declared.fault.LoadFault.TheVariants.{Broken, NoMemory as OutOfMemory};
 
@@ -18,13 +18,13 @@ const NO_ZONE: u8 = 15;
 
 /// The timetable of the feed in the scope.
 ///
-/// The word of the zone comes first, with the file that it names; then the files of the feed, one after the other; then the limit
-/// of 4,000,000 connections, and the one of 1,000,000 changes. Of n rows, calls and changes: n log n.
+/// The word of the zone comes first, with the file that it names. Then come the files of the feed, one after the other. Then come
+/// the limits of 4,000,000 connections and of 1,000,000 changes. Of n rows, calls and changes: n log n.
 pub fn load<F: Folder>(alloc: Global, folder: &mut F, scope: &Scope) -> Result<Timetable, LoadFault>
     requires { IsWindow scope.now.first scope.now.days }
     ensures ends { LoadsSo scope.now (F.seen folder.old) (F.seen folder.new) result }
 
-    // The folder has the same files, and its counts have not fallen.
+    // The directory has the same files, and its counts have not fallen.
     ensures counts { Keeps (F.seen folder.old) (F.seen folder.new) }
 {
     let start = folder.faults();
@@ -45,9 +45,9 @@ pub fn load<F: Folder>(alloc: Global, folder: &mut F, scope: &Scope) -> Result<T
     }
 }
 
-// The fault of a feed as one of its timetable. The count of the folder's faults was `before` at the start.
+// The fault of a feed as one of its timetable. The count of the directory's faults was `before` at the start.
 fn feed_fault(alloc: Global, fault: FeedFault, before: u64) -> LoadFault
-    ensures { IsRecordedAs fault before result }
+    ensures { IsReportedAs fault before result }
 {
     match fault {
         FeedFault::Broken { rule, file, row } => match String::from_str(alloc, file.name()) {

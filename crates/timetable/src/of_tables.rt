@@ -22,8 +22,8 @@ use service_days::Days;
 use std::alloc::Global;
 use trip_calls::LoadFault as RunsFault;
 
-/// The dates, of so many from the first on, on which the services of the tables run. It takes the time of a sort of the days that are
-/// found, of two looks at each row of calendar.txt for each date, and of a sort of the rows of calendar_dates.txt.
+/// The dates, of so many from the first on, on which the services of the tables run. It takes the time of a sort of the days that it
+/// finds. It takes two looks at each row of calendar.txt for each date, and a sort of the rows of calendar_dates.txt.
 pub fn days(
     alloc: Global,
     tables: &Tables,
@@ -42,8 +42,8 @@ pub fn days(
     )
 }
 
-/// The runs of the tables on these days, in the zone, strictly ordered by their keys; or that they have too many connections. It takes
-/// the time of a sort of the runs, of a sort of the rows of frequencies.txt and of the starts that they give, of all calls, and of eight
+/// The runs of the tables on these days, in the zone, strictly ordered by their keys. Or that they have too many connections. It takes
+/// the time of a sort of the runs, of a sort of the rows of frequencies.txt and of their starts. It takes that of all calls, and of eight
 /// binary searches for each trip.
 pub fn runs(alloc: Global, tables: &Tables, days: &Days, zone: &Zone) -> Result<Runs, RunsFault>
     requires { ArePlannable days.now }
@@ -62,9 +62,9 @@ pub fn runs(alloc: Global, tables: &Tables, days: &Days, zone: &Zone) -> Result<
     )
 }
 
-/// The changes between the stops of the tables, with a default number of seconds for a change at a stop or within a station; or that
-/// there are too many. It takes the time of a sort of the rows of transfers.txt and of the stops, and for each stop of a sort of the stops
-/// that its rows, those of its parent and its station name.
+/// The changes between the stops of the tables, with a default number of seconds for a change at a stop or within a station. Or that
+/// there are too many. It takes the time of a sort of the rows of transfers.txt and of the stops. For each stop it takes that of a sort of
+/// the stops that its rows, those of its parent and its station name.
 pub fn changes(alloc: Global, tables: &Tables, default: u32) -> Result<Changes, ChangeFault>
     ensures are { IfOk result (AreChangesOf tables.now.stops tables.now.transfers default) }
     ensures between { IfOk result (λ changes. (from to : List ℕ) →

@@ -3,7 +3,7 @@ use lc_model::{ServiceDate, Text};
 /// What is asked of a feed.
 #[derive(Drop)]
 pub struct Scope {
-    /// The name of the feed's folder.
+    /// The name of the feed's directory.
     pub feed: Text,
     /// The word of its zone.
     pub zone: Text,

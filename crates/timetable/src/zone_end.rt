@@ -3,7 +3,7 @@
 pub(crate) enum ZoneEnd {
     /// The word says none.
     Wrong,
-    /// The folder failed to read the file that the word names.
+    /// It failed to read the file that the word names.
     Failed,
     NoMemory,
 }

@@ -1,4 +1,4 @@
-//! The small feed Tiny, by which other crates are tested: five trips over six stops on one day. It stands on `lc_io`.
+//! The small feed Tiny, by which other crates are tested: five trips over six stops on one day. It builds on `lc_io`.
 #![tactic(auto)]
 
 ghost use Rattle.std.specs.Prelude.{◌≡◌, IfOk, map};
@@ -28,7 +28,7 @@ T5,10:10:00,10:10:00,F,2
 
 pub const CALENDAR_DATES: &str = "service_id,date,exception_type\nw,20240501,1\n";
 
-/// The files of the feed, in the folder `tiny`.
+/// The files of the feed, in the directory `tiny`.
 pub const TINY: [(&str, &str); 4] = [
     ("tiny/stops.txt", STOPS),
     ("tiny/trips.txt", TRIPS),

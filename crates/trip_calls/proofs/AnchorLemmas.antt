@@ -16,7 +16,7 @@ use Rattle.service_days.specs.Days.{day_number}
 use Rattle.trip_calls.specs.Plannable.{IsPlannable}
 use Rattle.trip_calls.specs.TripRuns.{HasMoments}
 
--- a clock is ahead of UTC, or behind it, by less than 26 hours
+-- a clock is ahead of UTC, or late, by less than 26 hours
 offset_range : (zone : Zone) (shown : DateTime) → IsOffsetSeconds (offset_shown zone shown)
 unfolding offset_shown
 offset_range Utc shown = (omega (arith, signed_arith), omega (arith, signed_arith))

@@ -86,7 +86,7 @@ pub from_first : (origin : ℕ) (rows : List StopTime) (stays : List Stay) → s
 from_first origin [] stays are = refl
 from_first origin (row ∷ rows) stays are = ap (λ (l : List Stay). calls_from origin (first_arrival l) (row ∷ rows)) are
 
--- the sequences of a trip's rows rise
+-- the sequences of a trip's rows increase
 pub rise_in_rows : (times : List StopTime) (trip : List ℕ) → InTripOrder times → RiseInSequence (rows_of times trip)
 rise_in_rows times trip up =
     AllPairs-weaker (λ (x y : StopTime). stop_time_cmp x y ≡ Less) (λ (x y : StopTime). x.seq < y.seq) (rows_of times trip)

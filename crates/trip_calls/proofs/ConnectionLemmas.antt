@@ -18,14 +18,14 @@ no_more key (x ∷ []) zero h = refl
 no_more key (x ∷ y ∷ calls) zero h = absurd (omega (arith, h))
 no_more key (x ∷ calls) (suc n) h = no_more key calls n (omega (arith, h))
 
--- the connection from a call to the next, and those behind it
+-- the connection from a call to the next, and those after it
 pub one_more : (key : RunKey) (calls : List Call) (n : ℕ) (d : Call) → n + 1 < length calls → connections_of_calls key (drop n calls) ≡ connection_between key (get_or calls n d) (get_or calls (suc n) d) ∷ connections_of_calls key (drop (suc n) calls)
 one_more key [] n d h = absurd (omega (arith, h))
 one_more key (x ∷ []) n d h = absurd (omega (arith, h))
 one_more key (x ∷ y ∷ calls) zero d h = refl
 one_more key (x ∷ y ∷ calls) (suc n) d h = one_more key (y ∷ calls) n d (omega (arith, h))
 
--- a connection more, and those behind it
+-- a connection more, and those after it
 pub one_behind : (key : RunKey) (calls : List Call) (i : ℕ) (a b : Call) (now new whole : List Connection) (x : Connection) → 1 ≤ i → i < length calls → a ≡ get_or calls (i - 1) a → b ≡ get_or calls i b
     → new ≡ now ++ x ∷ [] → x ≡ connection_between key a b → now ++ connections_of_calls key (drop (i - 1) calls) ≡ whole → new ++ connections_of_calls key (drop (i + 1 - 1) calls) ≡ whole
 one_behind key calls i a b now new whole x from lt at_a at_b grown made so_far =

@@ -64,7 +64,7 @@ unsaid rows place d lt e = by_test (is_timed (get_or rows place d)) refl e
     by_test true t h = absurd (none_not_some _ (sym h))
     by_test false t h = ap (λ o. option_map_or is_timed o false) (slice_get-get_or rows place d lt) ∙ t
 
--- the same stays at places where two functions agree
+-- stays are equal at places where two functions agree
 map_range : {X : Type 0} (f g : ℕ → X) (from count : ℕ) → ((k : ℕ) → from ≤ k → k < from + count → f k ≡ g k) → map f (range_with_len from count) ≡ map g (range_with_len from count)
 map_range f g from zero same = refl
 map_range {X} f g from (suc count) same =
@@ -80,7 +80,7 @@ range_append {X} f from (suc n) m =
     ∙ ap (λ (l : List X). f from ∷ l) (range_append f (from + 1) n m)
     ∙ sym (ap (λ v. map f (range_with_len from v)) b)
 
--- so far there is nothing
+-- at first there is nothing
 pub none_yet : (rows : List StopTime) (stays : List Stay) → stays ≡ [] → AreStaysTo rows 0 stays
 none_yet rows stays e =
     let size : length stays ≡ 0 = ap length e in
@@ -121,7 +121,7 @@ last_is rows place stays so_far lt =
     slice_get-get_or stays last d inside
     ∙ ap Some (ap (λ (l : List Stay). get_or l last d) so_far.are ∙ get_or-map-range_with_len (stay_at rows) 0 (length stays) last last d inside (omega arith))
 
--- it ends no later than a row with a time behind the blank rows arrives
+-- it ends no later than a row with a time after the blank rows arrives
 pub none_later : (rows : List StopTime) (place : ℕ) (d : StopTime) (stays : List Stay) (s : Stay) → place < length rows → AreTimelyRows rows → AreStaysTo rows place stays
     → stay_said (get_or rows place d) ≡ Some s → NoneLater stays s.arr
 none_later rows place d stays s inside timely so_far e last at = elim (cases_lt 0 (length stays)) [
@@ -168,7 +168,7 @@ blanks rows place stays s timely so_far is lt =
         let dep : time_between (departs_at rows i) i k place s.arr ≡ departs_at rows k = ends ∙ sym time ∙ sym (departs_blank rows k none) in
         ap₂ stay arr dep
 
--- a row with a time adds its stay behind those of the blank rows
+-- a row with a time adds its stay after those of the blank rows
 pub stay_row : (rows : List StopTime) (place : ℕ) (d : StopTime) (stays new : List Stay) (s : Stay) → place < length rows → AreTimelyRows rows → AreStaysTo rows place stays
     → stay_said (get_or rows place d) ≡ Some s → new ≡ (stays ++ blank_after stays place s.arr) ++ s ∷ [] → AreStaysTo rows (place + 1) new
 stay_row rows place d stays new s inside timely so_far e grown = by_count (cases_lt 0 (length stays))
@@ -206,7 +206,7 @@ stay_row rows place d stays new s inside timely so_far e grown = by_count (cases
         let front : stays ++ blank_after stays place s.arr ≡ stays_upto rows place = ap (λ (l : List Stay). l ++ blank_after l place s.arr) nothing ∙ sym (ap (stays_upto rows) first) in
         from_whole (grown ∙ ap₂ (λ (a : List Stay) (b : Stay). a ++ b ∷ []) front is.is ∙ sym (map-range_with_len_more (stay_at rows) 0 place place (omega arith)))
 
--- behind the last row all stays are there
+-- after the last row all stays are there
 pub all_stays : (rows : List StopTime) (place : ℕ) (stays : List Stay) → length rows ≤ place → place ≤ length rows → AreTimelyRows rows → AreStaysTo rows place stays → stays ≡ stays_upto rows (length rows)
 all_stays rows place stays past upto timely so_far =
     let whole : length stays ≡ length rows = elim (cases_lt (length stays) (length rows)) [
@@ -218,7 +218,7 @@ all_stays rows place stays past upto timely so_far =
     ] in
     so_far.are ∙ ap (stays_upto rows) whole
 
--- all stays lie in a service day
+-- all stays are in a service day
 pub stays_in_day : (rows : List StopTime) (stays : List Stay) → AreTimelyRows rows → stays ≡ stays_upto rows (length rows) → AreInDay stays
 stays_in_day rows stays timely are = subst AreInDay (sym are) all
   where

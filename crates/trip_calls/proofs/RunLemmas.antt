@@ -236,7 +236,7 @@ of_more trips i t times spans days zone a b once lt is of_a of_b =
         let at_i : get_or trips i x ≡ t = get_or_default trips i x t lt ∙ sym is in
         once k i x before lt (ap (λ (v : TripRow). v.trip) at_k ∙ e ∙ sym (ap (λ (v : TripRow). v.trip) at_i))
 
--- a trip's runs behind others
+-- a trip's runs after others
 pub adds : (t : TripRow) (times : List StopTime) (spans : List Frequency) (days : List ServiceDay) (zone : Zone) (own : List StopTime) (starts given : List Start) (dates : List ServiceDay) (old new : List Run)
     → own ≡ rows_of times t.trip → starts ≡ given → dates ≡ dates_of days t.service → AreStarts spans t.trip given → ArePlannable days → InDayOrder dates
     → new ≡ old ++ runs_of_trip zone own t.trip starts dates → AddsRunsOf t times spans days zone old new

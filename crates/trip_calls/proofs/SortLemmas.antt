@@ -1,4 +1,4 @@
--- Items of which no two tie stand strictly in order in some list.
+-- Items of which no two tie are strictly in order in some list.
 use Rattle.std.proofs.Common.{◌≡◌, ◌≢◌, ◌∙◌, List, [], ◌∷◌, ap, refl}
 use Rattle.std.specs.Cmp.{IsTotalOrder}
 use Rattle.std.specs.List.{All}
@@ -18,7 +18,7 @@ put Less x y ys rest = x ∷ y ∷ ys
 put Equal x y ys rest = y ∷ rest
 put Greater x y ys rest = y ∷ rest
 
--- the item among others that stand in order
+-- the item among others that are in order
 abbrev pub place : {X : Type 0} → (X → X → Ordering) → X → List X → List X
 place cmp x [] = x ∷ []
 place cmp x (y ∷ ys) = put (cmp x y) x y ys (place cmp x ys)

@@ -97,7 +97,7 @@ given_none starts rows e start = (
     none [] (k, g, inside, at, s) = absurd (omega (arith, inside))
     none (row ∷ rows) (k, g, inside, at, s) = absurd (omega (arith, inside))
 
--- a start that is given lies in the service day
+-- a start that rows give is in the service day
 pub given_in_day : (rows : List Frequency) (starts : List ℕ) → AreAllGiven rows starts → All (λ (f : Frequency). f.to < 360_000) rows → All (λ s. s < 360_000) starts
 given_in_day rows starts given in_day =
     All-from_contains (λ s. s < 360_000) starts (λ s h. below s ((given s).0 h))
@@ -156,7 +156,7 @@ with_rows frequencies trip own given starts own_is some are is = record { all = 
     size : length starts ≡ length given
     size = sym (length-map starts (λ (s : Start). s.seconds)) ∙ ap length is ∙ length-map given Some
 
-    -- the start at a place is the one that is given there
+    -- the start at a place is the one that the list has there
     at_place : (k : ℕ) (s : Start) (d : ℕ) → k < length starts → (get_or starts k s).seconds ≡ Some (get_or given k d)
     at_place k s d lt =
         sym (get_or-map (λ (s : Start). s.seconds) starts k s None lt) ∙ ap (λ l. get_or l k None) is ∙ get_or-map Some given k d None (omega (arith, lt, size))
@@ -219,7 +219,7 @@ with_rows frequencies trip own given starts own_is some are is = record { all = 
         let less = are.once i j 0 lt (omega (arith, inside, size)) in
         omega (arith, same, less)
 
--- how far the starts of a row have come
+-- how far the starts of a row are made
 pub record AreGrowing (f : Frequency) (old now : List ℕ) (start : ℕ) : Type 0 where
   pub added : now ≡ old ++ starts_upto f (length now - length old)
   pub grown : length old ≤ length now
@@ -259,7 +259,7 @@ growing_more f old now new start headway so_far grown lt same =
 pub growing_all : (f : Frequency) (old now : List ℕ) (start : ℕ) → AreGrowing f old now start → f.to ≤ start → GainsStarts f old now
 growing_all f old now start so_far past = gained f old now (length now - length old) start so_far.added so_far.before so_far.next past
 
--- a start more that is given
+-- a start more of the list
 pub given_push : (old now new : List Start) (s : Start) (given : List ℕ) (i : ℕ) → new ≡ now ++ s ∷ [] → s.seconds ≡ Some (get_or given i 0) → i < length given
     → seconds_of now ≡ seconds_of old ++ map Some (take i given) → seconds_of new ≡ seconds_of old ++ map Some (take (i + 1) given)
 given_push old now new s given i grown is lt so_far =
@@ -293,7 +293,7 @@ count_is f seconds count is bounds =
       past = omega (arith, above, is);
     }
 
--- the starts of a row stand each once
+-- the starts of a row are there once each
 upto_once : (f : Frequency) (count : ℕ) → 0 < f.headway → AllPairs (λ (s t : ℕ). s < t) (starts_upto f count)
 upto_once f count apart i j d lt inside =
     let size = length-map-range_with_len (λ k. f.from + k * f.headway) 0 count in
@@ -325,7 +325,7 @@ unfolding starts_from
 seconds_of-starts_from [] in_day = refl
 seconds_of-starts_from (s ∷ given) in_day = ap (λ (l : List (Option ℕ)). Some s ∷ l) (seconds_of-starts_from given (λ k d lt. in_day (suc k) d (omega arith)))
 
--- the row that stands alone is a span
+-- a row that is alone is a span
 pub alone_is_span : (spans own : List Frequency) (trip : List ℕ) (f : Frequency) → AreSpans spans → own ≡ spans_of spans trip → 0 < length own → f ≡ get_or own 0 f → IsSpan f
 alone_is_span spans own trip f are own_is there is =
     let all : AreSpans own = subst AreSpans (sym own_is) (All-filter (λ (g : Frequency). is_same_id g.trip trip) IsSpan spans are) in

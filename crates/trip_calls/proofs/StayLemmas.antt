@@ -1,4 +1,4 @@
--- The stays of a trip at the stops of its rows: none is before the one before it, and all lie in a service day.
+-- The stays of a trip at the stops of its rows: none is before the one before it, and all are in a service day.
 use Rattle.std.proofs.Common.{◌≡◌, ◌∙◌, ℕ, ◌-◌, ◌*◌, ◌/◌, ◌<◌, ◌≤◌, ◌||◌, Bool, true, false, cond, List, Option, Some, None, ap, ap₂, arith, get_or, inl, inr, is_some, length, refl, subst, suc, sym, unwrap_or, zero}
 use Rattle.std.specs.Prelude.{option_and_then}
 use Rattle.std.specs.List.{All, slice_get}
@@ -117,7 +117,7 @@ module _ (rows : List StopTime) (timely : AreTimelyRows rows) where
       let d = at_row (λ t. IsInDay t.dep) rows k timely.departures_in_day t in
       (day_of t.row.arr t.row.dep (arrival_at rows k) a d t.arrival_is, day_of t.row.dep t.row.arr (departure_at rows k) d a t.departure_is)
 
-  -- a blank row's time lies between those of the nearest rows
+  -- a blank row's time is between those of the nearest rows
   blank_upto : (k : ℕ) → k < length rows → is_timed_at rows k ≡ false → blank_time rows k ≤ arrival_at rows (timed_after rows k)
   blank_upto k lt none =
       let b = lie_between rows k timely lt none in

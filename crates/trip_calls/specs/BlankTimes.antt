@@ -1,5 +1,5 @@
 -- When a trip is at the stops of its rows, also of those without a time (GTFS Schedule Reference, stop_times.txt:
--- arrival_time). The rows of a trip stand at places from 0 on, in the order of their sequences.
+-- arrival_time). The rows of a trip are at places from 0 on, in the order of their sequences.
 use Rattle.std.specs.Prelude.{ℕ, zero, suc, ◌+◌, ◌-◌, ◌*◌, ◌/◌, Bool, false, if◌then◌else◌, List, unwrap_or, option_and_then}
 use Rattle.std.specs.List.{slice_get, position_or_len}
 use Rattle.std.specs.Option.{option_map_or}
@@ -28,8 +28,8 @@ timed_before rows (suc place) = if is_timed_at rows place then place else timed_
 abbrev pub timed_after : List StopTime → ℕ → ℕ
 timed_after rows place = place + 1 + position_or_len is_timed (drop (place + 1) rows)
 
--- Where a trip departs at one time at a place and arrives at another time at a later place, when it is at a place between
--- them: the seconds between are spread evenly over the places.
+-- Where a trip departs at one time at a place and arrives later at a later place, when it is at a place between
+-- them. The seconds between are spread evenly over the places.
 abbrev pub time_between : ℕ → ℕ → ℕ → ℕ → ℕ → ℕ
 time_between departs before place after arrives = departs + (arrives - departs) * (place - before) / (after - before)
 

@@ -1,4 +1,4 @@
--- The runs of a feed are one list, and a row without a time stands between the nearest rows with one.
+-- The runs of a feed are one list, and the time of a row without one is between those of the nearest rows with one.
 use Rattle.std.specs.Prelude.{◌≡◌, ℕ, ◌<◌, true, false, List, length}
 use Rattle.lc_model.specs.declared.run.Run.{Run}
 use Rattle.lc_time.specs.declared.zone.Zone.{Zone}
@@ -16,7 +16,7 @@ OneListOfRuns =
     (trips : List TripRow) (times : List StopTime) (frequencies : List Frequency) (days : List ServiceDay) (zone : Zone) (a b : List Run)
     → AreRunsOf trips times frequencies days zone a → AreRunsOf trips times frequencies days zone b → a ≡ b
 
--- the place lies between two rows with a time, and no row between these has one
+-- the place is between two rows with a time, and no row between these has one
 pub record IsBetween (rows : List StopTime) (before place after : ℕ) : Type 0 where
   pub is_before : before < place
   pub is_after : place < after
@@ -25,7 +25,7 @@ pub record IsBetween (rows : List StopTime) (before place after : ℕ) : Type 0 
   pub after_timed : is_timed_at rows after ≡ true
   pub blank : (k : ℕ) → before < k → k < after → is_timed_at rows k ≡ false
 
--- a row without a time lies between the nearest rows with one
+-- a row without a time is between the nearest rows with one
 abbrev pub BlankRowsLieBetween : Type 0
 BlankRowsLieBetween =
     (rows : List StopTime) (place : ℕ) → AreTimelyRows rows → place < length rows → is_timed_at rows place ≡ false

@@ -49,7 +49,7 @@ pub record AreStaysTo (rows : List StopTime) (place : ℕ) (stays : List Stay) :
   pub last_timed : 0 < length stays → is_timed_at rows (length stays - 1) ≡ true
   pub blank : (k : ℕ) → length stays ≤ k → k < place → is_timed_at rows k ≡ false
 
--- the stays lie in a service day
+-- the stays are in a service day
 abbrev pub AreInDay : List Stay → Type 0
 AreInDay stays = All (λ (s : Stay). (s.arr < 360_000) × (s.dep < 360_000)) stays
 

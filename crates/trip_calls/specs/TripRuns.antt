@@ -51,7 +51,7 @@ pub record AddsRunsOf (trip : TripRow) (times : List StopTime) (frequencies : Li
   pub are : AreAllRuns (trip ∷ []) times frequencies days zone runs
   pub added : new ≡ old ++ runs
 
--- the sequences of the rows rise strictly
+-- the sequences of the rows strictly increase
 abbrev pub RiseInSequence : List StopTime → Type 0
 RiseInSequence rows = AllPairs (λ (x y : StopTime). x.seq < y.seq) rows
 

@@ -62,12 +62,12 @@ fn by_key(a: &Run, b: &Run) -> Ordering
 
 /// The runs of the trips of a feed on the dates of their services, strictly ordered by their keys. Their times are counted
 /// from the anchors of these dates in the zone (GTFS Schedule Reference, field type Time). A trip that has rows in
-/// frequencies.txt starts whenever they say, a start that two rows give once; else it runs once on each date. It is refused
+/// frequencies.txt starts whenever they say, a start that two rows give once. Else it runs once on each date. It is refused
 /// if the runs have more connections than may be, before any of them is made. More than 4,000,000 runs without a connection,
 /// as of a trip with one row and a headway, are out of memory.
 ///
-/// It takes the time of a sort of the runs, of a sort of the rows of frequencies.txt and of the starts that they give, of
-/// all calls, and of eight binary searches for each trip.
+/// It takes the time of a sort of the runs, and of a sort of the rows of frequencies.txt and of their starts. It takes that
+/// of all calls, and of eight binary searches for each trip.
 pub fn runs(
     alloc: Global,
     trips: &TripRows,

@@ -42,7 +42,7 @@ pub(crate) struct Count {
     pub(crate) bare_runs: u64,
 }
 
-/// How many runs without a connection a trip has, with so many dates, starts and pairs of rows: as many as 64 bits count
+/// How many runs without a connection a trip has, with so many dates, starts and pairs of rows. They are as many as 64 bits count
 /// where there are more.
 fn bare_runs(dates: u64, starts: u64, pairs: u64) -> u64 {
     if pairs == 0 {
@@ -79,8 +79,8 @@ fn trip_count(
     })
 }
 
-/// How many connections the runs of the trips have, of which none is made: for each trip four binary searches, and, where
-/// it has more than one row of frequencies.txt, a sort of the starts that they give. These are sorted by their trips.
+/// How many connections the runs of the trips have, of which none is made. For each trip it takes four binary searches. Where
+/// it has several rows of frequencies.txt it takes a sort of the starts that they give. These are sorted by their trips.
 pub(crate) fn count_of(
     alloc: Global,
     trips: &[TripRow],

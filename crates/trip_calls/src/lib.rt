@@ -1,4 +1,4 @@
-//! The runs of a feed's trips on the dates of their services, in the feed's zone, and their connections. It stands on
+//! The runs of a feed's trips on the dates of their services, in the feed's zone, and their connections. It builds on
 //! `gtfs_trips`, `gtfs_calendars` and `service_days`.
 #![tactic(auto)]
 

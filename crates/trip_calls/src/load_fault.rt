@@ -7,7 +7,7 @@ use std::alloc::{AllocError, AllocFailed};
 use std::error::Error;
 use std::fmt;
 
-/// So many scheduled connections may the runs have.
+/// The most scheduled connections that the runs may have.
 pub const MOST_CONNECTIONS: u64 = 4_000_000;
 
 /// Why there is no list of runs.

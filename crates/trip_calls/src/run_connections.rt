@@ -53,8 +53,8 @@ fn all_connections(alloc: Global, runs: &[Run]) -> Result<Vec<Connection>, NoMem
     Ok(connections)
 }
 
-/// The connections of runs, from each call of a run to its next, strictly in the order of their departures: by
-/// departure, then trip, service date, start and sequence (Linked Connections 1.0). It takes the time of a sort.
+/// The connections of runs, from each call to the next, in strict departure order: by departure, trip, service
+/// date, start and sequence (Linked Connections 1.0). It takes the time of a sort.
 pub fn connections(alloc: Global, runs: &Runs) -> Result<Connections, NoMemory>
     requires { RunsForward runs.now }
     ensures { IfOk result (AreConnectionsOf runs.now) }

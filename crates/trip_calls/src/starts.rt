@@ -70,7 +70,7 @@ fn leave_few(starts: &mut Vec<u32>)
     leave_once(starts);
 }
 
-/// The starts that rows give, of which one may stand more than once. However many rows there are, there is room for three
+/// The starts that rows give, of which one may be there more than once. However many rows there are, there is room for three
 /// times as many as can differ.
 fn all_starts(alloc: Global, spans: &[Frequency]) -> Result<Vec<u32>, NoMemory>
     requires { AreSpans spans.now }
@@ -106,7 +106,7 @@ fn push_given(starts: &mut Vec<Start>, given: &[u32]) -> Result<(), NoMemory>
     Ok(())
 }
 
-/// The starts of the runs of a trip, each once, where the rows are sorted by their trips: two binary searches, and a sort
+/// The starts of the runs of a trip, each once, where the rows are sorted by their trips. It takes two binary searches, and a sort
 /// of the starts that the rows of the trip give.
 pub(crate) fn starts_of(
     alloc: Global,

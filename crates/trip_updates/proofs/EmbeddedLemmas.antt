@@ -39,7 +39,7 @@ many_err shows shows' inner m before next number from to bytes e order is within
     subst (λ (p : ℕ). Answers shows' (Err e) (inner m p (slice_range bytes from to) >>= λ tree. Ok (and_message before number tree))) (sym (place_of bytes from to next order is within))
     (fault_goes_on shows shows' e (inner m from (slice_range bytes from to)) (λ tree. Ok (and_message before number tree)) a)
 
--- a message that stands at most once, and did not stand before
+-- a message that is there at most once, and was not there before
 pub one_ok : {X Y : Type 0} (shows : X → Tree → Type 0) (shows' : Y → Tree → Type 0) (inner : Reader) (part : Part) (m : Message) (before : Tree) (next number from to : ℕ) (bytes : List ℕ) (x : X) (y : Result Y RtFault)
     → is_some (last_message number before) ≡ false → from ≤ to → to ≡ next → next ≤ length bytes → Answers shows (Ok x) (inner m from (slice_range bytes from to)) → ((tree : Tree) → shows x tree → Answers shows' y (Ok (and_message before number tree)))
     → Answers shows' y (with_text inner (one part m) before next number (slice_range bytes from to))
@@ -60,7 +60,7 @@ in_span shows y inner message before bytes f k from to p q a =
 pub span_at : (len next from to : ℕ) (v : Value) → v ≡ values.Span from to → SpanEnds len next v → (from ≤ to) × (to ≡ next) × (next ≤ len)
 span_at len next from to v is s = subst (λ (x : Value). SpanEnds len next x) is s
 
--- what did not stand before
+-- what was not there before
 pub none_yet : {X : Type 0} (f : Tree → X) (o : Option Tree) (p : Option X) → p ≡ option_map f o → is_some p ≡ false → is_some o ≡ false
 none_yet f None p e s = refl
 none_yet f (Some tree) p e s = sym (ap is_some e) ∙ s

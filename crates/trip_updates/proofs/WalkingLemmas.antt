@@ -94,7 +94,7 @@ stops shows result inner message bytes to x at total f e g begins stepped =
     subst (λ (r : Result Tree RtFault). Answers result (Err e) r) (next_is shows inner message bytes to x at total f g begins)
     (fault_goes_on shows result e (step inner message g.before f.next (field_of bytes f)) (λ tree. walk inner message tree (parts_of f.next (slice_range bytes f.next to))) (stepped g.before g.shown))
 
--- so do bytes that are broken
+-- bytes that are broken end it
 pub breaks : {X Y : Type 0} (shows : X → Tree → Type 0) (result : Y → Tree → Type 0) (inner : Reader) (message : Message) (bytes : List ℕ) (to : ℕ) (x : X) (at : ℕ) (total : Result Tree RtFault) (fault : WireFault) (e : RtFault) → Going shows inner message bytes to x at total
     → parts_of at (slice_range bytes at to) ≡ broken fault → e ≡ wire fault → Answers result (Err e) total
 unfolding walk

@@ -15,7 +15,7 @@ abbrev pub ◌>>=◌ : {A B : Type 0} → Result A RtFault → (A → Result B R
 (Ok x) >>= f = f x
 (Err e) >>= f = Err e
 
--- a way to read an embedded message, of which the first byte stands at a place
+-- a way to read an embedded message, of which the first byte is at a place
 abbrev pub Reader : Type 0
 Reader = Message → ℕ → List ℕ → Result Tree RtFault
 
@@ -50,13 +50,13 @@ abbrev pub complete : Option RtFault → Tree → Result Tree RtFault
 complete None tree = Ok tree
 complete (Some fault) tree = Err fault
 
--- the fields of all of these parts behind those before them, or the first fault
+-- the fields of all of these parts after those before them, or the first fault
 unfoldable pub walk : Reader → Message → Tree → Parts → Result Tree RtFault
 walk inner message before whole = complete (lacks message before) before
 walk inner message before (broken fault) = Err (wire fault)
 walk inner message before (field place next first others) = step inner message before next first >>= λ tree. walk inner message tree others
 
--- the same of bytes of so many levels of messages
+-- the reading of bytes of so many levels of messages
 unfoldable pub read : ℕ → Reader
 read zero message place bytes = walk (λ _ _ _. Ok empty) message empty (parts_of place bytes)
 read (suc levels) message place bytes = walk (read levels) message empty (parts_of place bytes)

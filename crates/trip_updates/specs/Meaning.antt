@@ -102,8 +102,8 @@ entity_of tree = record {
   passed = is_passed (said_of tree);
 }
 
--- FeedHeader: the moment of its `timestamp`, which stands wherever nothing is lacking, and whether the message is full, as it is
--- unless `incrementality` is DIFFERENTIAL, 1
+-- FeedHeader: the moment of its `timestamp`, which is there wherever nothing is lacking. Whether the message is full, as it is
+-- unless `incrementality` is DIFFERENTIAL, 1.
 abbrev pub head_of : Tree → Head
 head_of header = record {
   moment = unwrap_or (last_varint 3 header) 0;

@@ -1,4 +1,4 @@
--- What the code has read so far, as the tree of fields that it stands for.
+-- What the code has read, as the tree of fields that it stands for.
 use Rattle.std.specs.Prelude.{◌≡◌, ℕ, ◌≤◌, map, Option, Some, None, option_map, is_some, unwrap_or, Result, Ok, Err, ◌⊎◌}
 use Rattle.std.specs.Option.{option_copied}
 use Rattle.rt_protobuf.specs.declared.field.Value.{Value}
@@ -32,7 +32,7 @@ Answers shows (Err e) (Err fault) = (e ≡ faults.NoMemory) ⊎ (e ≡ fault)
 abbrev pub ShowsEvent : Event → Tree → Type 0
 ShowsEvent event tree = event ≡ event_of tree
 
--- a span lies within the bytes and ends where its field ends
+-- a span is within the bytes and ends where its field ends
 abbrev pub SpanEnds : ℕ → ℕ → Value → Type 0
 SpanEnds len next (values.Varint n) = Unit {0}
 SpanEnds len next (values.Eight n) = Unit {0}

@@ -16,7 +16,7 @@ pub data Message : Type 0 where
   stop_time_update : Message
   stop_time_event : Message
 
--- What a field is read as: not at all, as a varint, as a text, as a message that stands at most once, or as one of many
+-- What a field is read as: not at all, as a varint, as a text, as a message that is there at most once, or as one of several
 -- messages.
 pub data Kind : Type 0 where
   skipped : Kind

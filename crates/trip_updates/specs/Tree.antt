@@ -1,7 +1,7 @@
 -- The fields that are read of a message, those of its embedded messages included.
 use Rattle.std.specs.Prelude.{ℕ, List, [], ◌∷◌, ◌++◌, Option, Some, None, ◌==◌, if◌then◌else◌}
 
--- nothing yet, or what stood before and then one field: a varint, a text or a message, with its number
+-- nothing yet, or what came before and then one field: a varint, a text or a message, with its number
 pub data Tree : Type 0 where
   empty : Tree
   and_varint : (before : Tree) (number : ℕ) (n : ℕ) → Tree

@@ -9,7 +9,7 @@ use std::alloc::{AllocError, AllocFailed};
 use std::error::Error;
 use std::fmt;
 
-/// A part of a message that may be missing or stand twice.
+/// A part of a message that may be missing or be there twice.
 #[derive(Clone, Copy, Debug, PartialEq, Eq)]
 pub enum Part {
     Header,
@@ -38,7 +38,7 @@ impl fmt::Display for Part {
 }
 
 /// The first fault of bytes that are no message. A place is the offset, in the whole message, of the tag of the field in
-/// which the fault stands.
+/// which the fault is.
 #[derive(Clone, Copy, Debug, PartialEq, Eq)]
 pub enum RtFault {
     /// The bytes of the message in hand end within a field.
@@ -53,7 +53,7 @@ pub enum RtFault {
     Missing { field: Part },
     /// The timestamp of the header is absent, or no moment.
     NoMoment,
-    /// A part stands a second time in one message.
+    /// A part is there a second time in one message.
     Repeated { field: Part },
     /// There was not enough memory.
     NoMemory,

@@ -218,7 +218,7 @@ no_further stops live e run = (
 abbrev pub run_of : RunKey × List Call → Run
 run_of entry = record { key = entry.0; calls = entry.1 }
 
--- the runs of a map stand in the order of their keys
+-- the runs of a map are in the order of their keys
 pub runs_in_order : (live : BTreeMap RunKey (List Call)) (runs : List Run) → IsOrdered key_cmp live → runs ≡ map run_of live.entries → InKeyOrder runs
 runs_in_order live runs ordered e = subst InKeyOrder (sym e) (λ i j d before inside.
     let es = live.entries in

@@ -1,4 +1,4 @@
--- What is kept behind messages is what a walk from the last entity to the first one keeps.
+-- What is in force after messages is what a walk from the last entity to the first one finds.
 use Rattle.std.proofs.Common.{◌≡◌, ℕ, ◌+◌, ◌<◌, drop, get_or, length, leb, List, [], ◌∷◌, ◌++◌, map, filter, reverse, Bool, true, false, cond, Option, Some, None, refl, sym, ap, ap₂, ◌∙◌}
 use Rattle.std.specs.Prelude.{if◌then◌else◌, not, ◌&&◌, ◌||◌, is_some}
 use Rattle.std.specs.List.{filter_map}
@@ -32,7 +32,7 @@ pub entities_none : (replaces : Bool) (kept : List EntitySaid) → then_entities
 entities_none true kept = refl
 entities_none false kept = append-nil kept
 
--- a message behind those before it
+-- a message after those before it
 pub update_after : (full : Bool) (kept entities : List EntitySaid) →
     then_entities (not full) (if full then [] else kept) entities ≡ (if full then with_news entities else put_all kept entities)
 update_after true kept entities = refl
@@ -52,7 +52,7 @@ filter_twice p q r both (x ∷ xs) = one_test p q r x xs (filter_twice p q r bot
 abbrev Stays : List Marked → EntitySaid → Bool
 Stays later e = not (is_replaced e.id later)
 
--- the news of one entity behind others
+-- the news of one entity after others
 one_kept : (later : List Marked) (e : EntitySaid) (news : Option TripSaid) (replaced : Bool) → e.news ≡ news → is_replaced e.id later ≡ replaced →
     filter_map (λ (e : EntitySaid). e.news) (filter (Stays later) (if is_some news then e ∷ [] else [])) ≡ kept_of replaced news
 one_kept later e None true f g = refl
@@ -93,7 +93,7 @@ news_behind kept (marked ∷ later) =
     ∙ ap (λ v. v ++ survivors later) (kept_then marked.replaces kept e later)
     ∙ append_assoc (filter_map N (filter (Stays (marked ∷ later)) kept)) (kept_of (is_replaced e.id later) e.news) (survivors later)
 
--- the news that are kept are those of the entities that no later one takes out
+-- the news in force are those of the entities that no later one takes out
 pub survivors_are_kept : (marks : List Marked) → survivors marks ≡ filter_map (λ (e : EntitySaid). e.news) (then_all [] marks)
 survivors_are_kept marks = sym (news_behind [] marks)
 
@@ -129,7 +129,7 @@ marks_more replaces f entities i entity old new marked whole inside is pushed sa
     ∙ ap (λ v. then_entities replaces (then_all [] old) (map f v)) (sym (drop_more entities i entity inside))
     ∙ e
 
--- a message behind the version is not of it
+-- a message after the version is not of it
 pub up_to-later : (version : ℕ) (entry : Entry) (rest : List Entry) → leb entry.update.moment version ≡ false → up_to version (entry ∷ rest) ≡ up_to version rest
 up_to-later version entry rest e = rw e refl
 

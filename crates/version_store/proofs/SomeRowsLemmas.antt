@@ -1,4 +1,4 @@
--- A version has a list of connections: its further runs and the runs of the timetable are put into a map one after the other, and
+-- A version has a list of connections. Its further runs and the runs of the timetable are put into a map one after the other, and
 -- their connections into order.
 use Rattle.std.proofs.Common.{◌≡◌, ◌⊎◌, inl, inr, ℕ, ◌<◌, ◌≤◌, List, [], ◌∷◌, ◌++◌, length, get_or, map, Bool, true, false, Option, Some, None, refl, sym, ap, ◌∙◌, subst, arith, append_assoc, ⊎_elim}
 use Rattle.std.specs.Prelude.{if◌then◌else◌}
@@ -59,7 +59,7 @@ map_of entries = btree_map entries (inl tt)
 abbrev found : RunKey → Entries → Option (List Call)
 found key entries = lookup (tie key) entries
 
--- the keys rise strictly
+-- the keys strictly increase
 abbrev AreSorted : Entries → Type 0
 AreSorted entries = IsStrictlySortedBy key_cmp (keys_of entries)
 
@@ -94,7 +94,7 @@ inserted_by key other calls e es tail Greater is behind =
     let f : Equal ≡ Greater = sym equal ∙ is in cc)
     behind
 
--- what is found behind calls that are put at a key
+-- what is found after calls were put at a key
 inserted_at : (key other : RunKey) (calls : List Call) (es : Entries) → found other (insert_entry key_cmp es key calls) ≡ (if tie key other then Some calls else found other es)
 inserted_at key other calls [] = let none : Option (List Call) = None in ap (λ b. if b then Some calls else none) (tie_flips other key)
 inserted_at key other calls (e ∷ es) = inserted_by key other calls e es (insert_entry key_cmp es key calls) (key_cmp key e.0) refl (inserted_at key other calls es)

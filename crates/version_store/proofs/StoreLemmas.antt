@@ -21,7 +21,7 @@ moments_more history entry = map-append (λ (e : Entry). e.update.moment) histor
 pub bytes_more : (history : List Entry) (entry : Entry) → bytes_of (history ++ entry ∷ []) ≡ bytes_of history + entry.bytes
 bytes_more history entry = sum_by_push (λ (e : Entry). e.bytes) history entry
 
--- what the fields of a store keep
+-- what the fields of a store hold
 pub record AreKept (base : ℕ) (versions : List ℕ) (admitted : List Admission) (bytes : ℕ) : Type 0 where
   pub versions_are : versions ≡ base ∷ moments_of (said_of admitted)
   pub rising : IsRising base (moments_of (said_of admitted))

@@ -30,7 +30,7 @@ pub record IsTaken (store : Stored) (bytes : List ℕ) (update : Update) : Type 
   pub newer : newest_of store < update.moment
   pub room : HasRoom store.history (length bytes)
 
--- the message stands at the end of the history, and nothing else changed
+-- the message is at the end of the history, and nothing else changed
 pub record Admits (old new : Stored) (bytes : List ℕ) (admitted : Admitted) : Type 0 where
   pub update : Update
   pub taken : IsTaken old bytes update

@@ -1,4 +1,4 @@
--- The news that are kept behind the messages, as a walk from the last entity to the first one finds them.
+-- The news in force after the messages, as a walk from the last entity to the first one finds them.
 use Rattle.std.specs.Prelude.{ℕ, List, [], ◌∷◌, ◌++◌, Bool, true, false, ◌&&◌, if◌then◌else◌, Option, option_to_list}
 use Rattle.std.specs.List.{list_any}
 use Rattle.lc_model.specs.Change.{is_same_id}

@@ -18,7 +18,7 @@ abbrev pub OneListOfRows : Type 0
 OneListOfRows =
     (store : Stored) (version : ℕ) (a b : List Connection) → AreConnectionsAt store version a → AreConnectionsAt store version b → a ≡ b
 
--- a version has some list of connections, where the runs stand in order, and the calls of each
+-- a version has some list of connections, where the runs are in order, and the calls of each
 abbrev pub SomeListOfRows : Type 0
 SomeListOfRows =
     (store : Stored) (version : ℕ) → InKeyOrder store.runs → All (λ (run : Run). InSequence run.calls) store.runs

@@ -1,4 +1,4 @@
--- The news by the keys of the runs that they name, as a map has them: one entry for the runs without a start, and one more for the run
+-- The news by the keys of the runs that they name, as a map has them. One entry is for the runs without a start, and one more for the run
 -- of the start that they say.
 use Rattle.std.specs.Prelude.{◌≡◌, ◌&&◌, Bool, List, Option, Some, option_map, if◌then◌else◌, is_some}
 use Rattle.std.specs.BTreeMap.{BTreeMap, get}

@@ -46,7 +46,7 @@ abbrev pub OneListBetween : Type 0
 OneListBetween =
     (store : Stored) (version from : ℕ) (to : Option ℕ) (a b : List Connection) → AreRows store version from to a → AreRows store version from to b → a ≡ b
 
--- so no more and no fewer are rows
+-- no more and no fewer are rows
 abbrev pub NoneMore : Type 0
 NoneMore =
     (store : Stored) (version from : ℕ) (to : Option ℕ) (rows : List Connection) (c : Connection) → AreRows store version from to rows
@@ -71,7 +71,7 @@ abbrev pub DeletedIsGone : Type 0
 DeletedIsGone =
     (kept : List EntitySaid) (id : List ℕ) (e : EntitySaid) → Contains (put kept (record { id = id; news = None })) e → is_same_id e.id id ≡ false
 
--- a full message leaves nothing of what was kept
+-- a full message leaves none of the news in force before it
 abbrev pub FullForgets : Type 0
 FullForgets =
     (date_of : ℕ → ServiceDate) (one other : List EntitySaid) (update : Update) → update.full ≡ true → kept_after date_of one update ≡ kept_after date_of other update

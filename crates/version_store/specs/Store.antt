@@ -1,5 +1,5 @@
--- What a store stands for: a timetable and the messages that were admitted (RFC 7089: one version at the base, and one more behind
--- each message).
+-- What a store stands for: a timetable and the messages that were admitted. It has one version at the base, and one more after
+-- each message (RFC 7089).
 use Rattle.std.specs.Prelude.{ℕ, List, [], ◌∷◌, map, sum_by}
 use Rattle.lc_model.specs.declared.run.Run.{Run}
 use Rattle.lc_model.specs.declared.stop.Stop.{Stop}
@@ -23,7 +23,7 @@ pub record Stored : Type 0 where
 abbrev pub entry_of : Update → ℕ → Entry
 entry_of update bytes = record { update = update; bytes = bytes; cuts = [] }
 
--- the same history without cuts
+-- a history without its cuts
 abbrev pub without_cuts : List Entry → List Entry
 without_cuts history = map (λ (e : Entry). entry_of e.update e.bytes) history
 

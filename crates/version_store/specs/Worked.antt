@@ -1,5 +1,5 @@
--- Worked values: a store with one run from A at 08:00 to B at 08:10 and one message of 07:00, by which the run arrives 60 seconds late in B; what
--- its versions are, and near values that they are not. Moments are seconds of 1970-01-01.
+-- Worked values: a store with one run from A at 08:00 to B at 08:10 and one message of 07:00. By it the run arrives 60 seconds late in B.
+-- They are its versions, and near values that these are not. Moments are seconds of 1970-01-01.
 use Rattle.std.specs.Prelude.{◌≡◌, ◌<◌, ℕ, pos, List, [], ◌∷◌, codes, true, Some, None}
 use Rattle.lc_model.specs.Connection.{connection_between}
 use Rattle.lc_model.specs.declared.call.Call.{Call}
@@ -60,8 +60,8 @@ one_message = entry (at 7 0) true (entity (codes "1") (Some (dated_news (codes "
 abbrev pub small_store : Stored
 small_store = record { runs = on_time ∷ []; stops = []; zone = Utc; base = at 6 0; history = one_message ∷ [] }
 
--- At the base the run is on time, and at the version of 07:00 it is late; there it is not left out, not on time, not there twice, and
--- no other run stands beside it.
+-- At the base the run is on time, and at the version of 07:00 it is late. There it is not left out, not on time, not there twice, and
+-- no other run is beside it.
 pub record WorkedRuns : Type 0 where
   pub at_the_base : AreRunsAt small_store (at 6 0) (on_time ∷ [])
   pub late_at_the_base : AreRunsAt small_store (at 6 0) (late_run ∷ []) → ⊥
@@ -71,7 +71,7 @@ pub record WorkedRuns : Type 0 where
   pub twice : AreRunsAt small_store (at 7 0) (late_run ∷ late_run ∷ []) → ⊥
   pub one_more : (other : Run) → AreRunsAt small_store (at 7 0) (late_run ∷ other ∷ []) → ⊥
 
--- The rows are the one connection; it is not left out, not on time, not there twice, and does not depart before 08:00, up to which there is none.
+-- The rows are the one connection. It is not left out, not on time, not there twice, and does not depart before 08:00, up to which there is none.
 pub record WorkedRows : Type 0 where
   pub from_eight : AreRows small_store (at 7 0) (at 8 0) None (connection_to (at 8 11) 60 ∷ [])
   pub no_row : AreRows small_store (at 7 0) (at 8 0) None [] → ⊥
@@ -93,8 +93,8 @@ run_with trip calls = record { key = key_of trip; calls = calls }
 abbrev pub added_calls_to : ℕ → List Call
 added_calls_to moment = call (codes "A") 1 (at 8 5) (at 8 5) (pos 0) (pos 0) ∷ call (codes "D") 2 moment moment (pos 0) (pos 0) ∷ []
 
--- The news of X1 make a further run; not one that arrives a second later, none of a trip that runs by the timetable, none without its second call,
--- none of another trip, and none where later news cancel it.
+-- The news of X1 make a further run. They make none that arrives a second later, none of a trip of the timetable, and none without its
+-- second call. They make none of another trip, and none where later news cancel it.
 pub record WorkedFurther : Type 0 where
   pub x1 : IsFurtherRun (on_time ∷ []) two_stops (added_news (codes "X1") ∷ []) (run_with (codes "X1") (added_calls_to (at 8 25)))
   pub a_second_later : IsFurtherRun (on_time ∷ []) two_stops (added_news (codes "X1") ∷ []) (run_with (codes "X1") (added_calls_to 30_301)) → ⊥

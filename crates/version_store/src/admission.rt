@@ -10,11 +10,11 @@ use std::error::Error;
 use std::fmt;
 use trip_updates::RtFault;
 
-/// So many bytes may a message have: 16 MiB.
+/// The most bytes that a message may have: 16 MiB.
 pub const MOST_MESSAGE_BYTES: usize = 16_777_216;
-/// So many messages are admitted.
+/// The most messages that are admitted.
 pub const MOST_MESSAGES: usize = 10_000;
-/// So many bytes may all admitted messages have: 256 MiB.
+/// The most bytes that all admitted messages may have: 256 MiB.
 pub const MOST_BYTES: usize = 268_435_456;
 
 /// A message that was admitted: its moment, which is the new version, and how many of its trip updates were passed over.
@@ -24,7 +24,7 @@ pub struct Admitted {
     pub passed: u32,
 }
 
-/// Why a message was not admitted. Of several causes the first one stands.
+/// Why a message was not admitted. Of several causes the first one counts.
 #[derive(Clone, Copy, Debug, PartialEq, Eq)]
 pub enum AdmitFault {
     /// The message is too long.

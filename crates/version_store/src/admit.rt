@@ -130,8 +130,8 @@ impl Store {
         Ok(())
     }
 
-    /// Admits a message (GTFS Realtime): behind it there is a version of its moment. Of the causes of a refusal the first one
-    /// in the order of `AdmitFault` stands. Linear in the bytes.
+    /// Admits a message (GTFS Realtime): after it there is a version of its moment. Of the causes of a refusal the first one
+    /// in the order of `AdmitFault` counts. Linear in the bytes.
     pub fn admit(&mut self, alloc: Global, bytes: &[u8]) -> Result<Admitted, AdmitFault>
         ensures taken { IfOk result (Admits self.old self.new bytes.now) }
         ensures refused { IfErr result (λ fault. (fault ≡ OutOfMemory) ⊎ IsRefused self.old bytes.now fault) }

@@ -10,7 +10,7 @@ pub fn one_list_of_rows()
     ensures { OneListOfRows }
 {}
 
-/// A version has some list of connections, so that what `rows` and `departures` give is there to be given.
+/// A version has some list of connections, and what `rows` and `departures` give is there.
 pub fn some_list_of_rows()
     ensures { SomeListOfRows }
 {}
@@ -26,8 +26,8 @@ pub fn one_outcome()
     ensures some { SomeOutcome }
 {}
 
-/// Near values are refused: a message taken twice or too old, or refused as if the bytes lacked memory; rows more or outside of the span; news of
-/// what was deleted, or of another day.
+/// Near values are refused: a message taken twice or too old, or refused as if memory ran out; rows more or outside of the span. News of
+/// what was deleted, or of another day, are refused, too.
 pub fn near_values()
     ensures older { NoneOlderIsTaken }
     ensures again { RefusedAgain }

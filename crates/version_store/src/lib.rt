@@ -1,4 +1,4 @@
-//! The versions of a timetable: the messages that were admitted, and the runs, departures and rows of each version. It stands
+//! The versions of a timetable: the messages that were admitted, and the runs, departures and rows of each version. It builds
 //! on `live_calls` for calls and runs under news, on `trip_updates` for messages, and on `lc_clock` for dates.
 #![tactic(auto)]
 

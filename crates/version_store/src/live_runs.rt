@@ -68,7 +68,7 @@ fn put_further(
     put_at_key(alloc, further, stops, news, &key)
 }
 
-/// Puts the run that news make in the place of the one of this key of theirs, or takes that one out where they make none.
+/// Puts the run that news make in the place of the one of this key of theirs. Takes that one out where they make none.
 fn put_at_key(
     alloc: Global,
     further: &mut BTreeMap<RunKey, Calls>,

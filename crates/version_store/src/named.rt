@@ -52,7 +52,7 @@ fn put_started<'a>(
     Ok(())
 }
 
-/// Puts the news at the keys of the runs of the timetable that they may name: of those without a start, and of the one of their
+/// Puts the news at the keys of the runs that they may name: those without a start, and the one of their
 /// start.
 fn put_named<'a>(
     alloc: Global,

@@ -19,7 +19,7 @@ pub(crate) struct Admission {
     pub(crate) bytes: usize,
 }
 
-/// A timetable and the messages that were admitted. Its versions are the base and one behind each message. A contract sees
+/// A timetable and the messages that were admitted. Its versions are the base and one after each message. A contract sees
 /// the runs and the stops of the feed, the zone, the moment of the base and the history without cuts.
 #[derive(Drop)]
 pub struct Store {
@@ -71,7 +71,7 @@ impl Store {
         })
     }
 
-    /// All versions, the base first, then one behind each message.
+    /// All versions, the base first, then one after each message.
     pub fn versions(&self) -> &[Moment]
         ensures all { result.now ≡ versions_of self.now }
         ensures rising { IsRising self.now.base (moments_of self.now.history) }
@@ -96,7 +96,7 @@ impl Store {
         self.versions.as_slice().binary_search(&version).is_ok()
     }
 
-    /// The version of a known moment: the last one at or before it, or the base where none is; where no moment is given the
+    /// The version of a known moment: the last one at or before it, or the base where none is. Where no moment is known the
     /// newest (RFC 7089). Linear in the versions.
     pub fn named(&self, known: Option<Moment>) -> Moment
         ensures { result ≡ version_named self.now.base (moments_of self.now.history) known }

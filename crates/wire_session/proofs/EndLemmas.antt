@@ -1,4 +1,4 @@
--- An end stays, and there are at most so many replies as may be given.
+-- An end stays, and there are no more replies than a connection may get.
 use Rattle.std.proofs.Common.{◌≡◌, ◌≢◌, ℕ, zero, suc, ◌+◌, ◌≤◌, Bool, true, false, List, [], ◌∷◌, ◌++◌, length, drop, refl, sym, ap, subst, ◌∙◌, arith, length-append}
 use Rattle.std.proofs.lemmas.List.{take_all}
 use Rattle.http_text.specs.declared.taken.Taken.{Taken}

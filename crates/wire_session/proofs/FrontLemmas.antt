@@ -1,4 +1,4 @@
--- What is taken of bytes: no bytes are less than a request, a refusal has a reason, and a request is not longer than its limits.
+-- What is taken of bytes. No bytes are less than a request, a refusal has a reason, and a request is not longer than its limits.
 use Rattle.std.proofs.Common.{◌≡◌, ℕ, ◌+◌, ◌<◌, ◌≤◌, inl, inr, Bool, true, false, ◌||◌, cond, ltb, leb, List, [], length, take, codes, Option, Some, None, refl, sym, ap, subst, ◌∙◌, arith, append-nil, length-append}
 use Rattle.std.proofs.lemmas.Bool.{leb-false, ltb-false, ltb-true}
 use Rattle.std.proofs.lemmas.List.{length-take-le}

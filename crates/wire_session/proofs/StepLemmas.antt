@@ -95,7 +95,7 @@ cut_short_at start fed text count side rest most piece was =
 
 -- ---- a piece after what waits
 
--- the requests that were answered stand before the bytes with the piece
+-- the requests that were answered are before the bytes with the piece
 pub answered_with : (start : Side) (fed text : List ℕ) (count : ℕ) (side : Side) (rest : List ℕ) (most : ℕ) (piece all : List ℕ) → all ≡ rest ++ piece
     → IsWaiting start fed text count side rest most → HasAnswered start (fed ++ piece) text count side all
 answered_with start fed text count side rest most piece all is was =

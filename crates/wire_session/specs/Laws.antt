@@ -21,7 +21,7 @@ abbrev pub OutputGrows : Type 0
 OutputGrows =
     (side : Side) (bytes more : List ℕ) (a b : Said) → SessionOut side bytes a → SessionOut side (bytes ++ more) b → BeginsWith b.replies a.replies
 
--- The replies that a session keeps where memory runs out are the first ones of what it says.
+-- The replies that a session holds where memory runs out are the first ones of what it says.
 abbrev pub CutShortIsFront : Type 0
 CutShortIsFront =
     (start : Side) (fed text : List ℕ) (count : ℕ) (side : Side) (said : Said) → IsCutShort start fed text count side → SessionOut start fed said

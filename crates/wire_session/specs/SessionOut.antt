@@ -1,5 +1,5 @@
--- What a session says to the bytes of one connection: the replies to the whole requests at their front, each from the side that
--- the one before left, up to a request that closes (RFC 9112, section 9.6), a refused head, or the hundredth reply.
+-- What a session says to the bytes of one connection: the replies to the whole requests at their front, each from the side
+-- that the one before left. The last is to a request that closes (RFC 9112, section 9.6), to a refused head, or the hundredth.
 use Rattle.std.specs.Prelude.{◌≡◌, ℕ, zero, suc, Bool, true, false, List, [], ◌∷◌, take, drop}
 use Rattle.http_text.specs.ReplyText.{reply_text_of}
 use Rattle.http_text.specs.Request.{IsWholeRequest}
@@ -57,7 +57,7 @@ IsSaidBy Goes (Whole count) side bytes said = IsSaidFirst Goes side count bytes 
 IsSaidBy Goes NotYet side bytes said = said ≡ silent side false
 IsSaidBy Goes (Refused status) side bytes said = said ≡ with_reply (refusal_text status) (silent side true)
 
--- what is said to the bytes where at most so many replies are given
+-- what is said to the bytes where at most so many replies are sent
 unfoldable pub Says : ℕ → Side → List ℕ → Said → Type 0
 Says zero side bytes said = said ≡ silent side true
 Says (suc more) side bytes said = (taken : Taken) × Takes bytes taken × IsSaidBy (Says more) taken side bytes said

@@ -1,4 +1,4 @@
--- What a session stands for: the side at its start, all bytes that it was fed, however they were cut, and the replies to them.
+-- What a session stands for: the side at its start, all bytes that it received, however they were cut, and the replies to them.
 use Rattle.std.specs.Prelude.{◌≡◌, ℕ, ◌<◌, ◌⊎◌, Bool, true, false, List, [], ◌++◌, length, take}
 use Rattle.std.specs.List.{concat}
 use Rattle.http_text.specs.Taken.{Takes, WaitsFor}
@@ -10,8 +10,8 @@ use Rattle.wire_session.specs.Walks.{Walks}
 use Rattle.wire_session.specs.declared.phase.Phase.{Phase}
 use Rattle.wire_session.specs.declared.phase.Phase.TheVariants.{Open, Ended, Spent}
 
--- what a session has: the bytes that are to be sent, the number of its replies, whether it goes on, the bytes of less than a whole
--- request, and how many of these there have to be before it is worth looking at them again
+-- What a session has: the bytes that are to be sent, the number of its replies, and whether it goes on. The bytes of less than a whole
+-- request, and how many of these there have to be before it is worth looking at them again.
 pub record Held : Type 0 where
   pub pending : List ℕ
   pub requests : ℕ
@@ -32,7 +32,7 @@ pub record HasAnswered (start : Side) (fed text : List ℕ) (count : ℕ) (side 
   pub count_is : count ≡ length replies
   pub fewer : count < 100
 
--- and the rest is less than a whole request, at least until so many bytes of it have come
+-- the rest is less than a whole request, at least until so many bytes of it have come
 pub record IsWaiting (start : Side) (fed text : List ℕ) (count : ℕ) (side : Side) (rest : List ℕ) (most : ℕ) : Type 0 where
   pub answered : HasAnswered start fed text count side rest
   pub waits : Takes rest NotYet
@@ -51,7 +51,7 @@ pub record IsOutput (start : Side) (fed text : List ℕ) (count : ℕ) (side : S
 abbrev pub IsLeftByFirst : Side → List ℕ → Side → Type 0
 IsLeftByFirst side bytes next = (count : ℕ) × Takes bytes (Whole count) × IsNextSide side (take count bytes) next
 
--- Memory ran out after so many replies of this text: the side is the one that their requests left, or the one that the next
+-- Memory ran out after so many replies of this text. The side is the one that their requests left, or the one that the next
 -- request left after them.
 pub record IsCutShort (start : Side) (fed text : List ℕ) (count : ℕ) (side : Side) : Type 0 where
   pub before : Side
@@ -59,13 +59,13 @@ pub record IsCutShort (start : Side) (fed text : List ℕ) (count : ℕ) (side :
   pub answered : HasAnswered start fed text count before rest
   pub left : (side ≡ before) ⊎ IsLeftByFirst before rest side
 
--- for what it stands, by whether it goes on
+-- what it stands for, by whether it goes on
 abbrev pub StandsIn : Phase → Held → Side → List ℕ → List ℕ → Side → Type 0
 StandsIn Open held start fed text side = IsWaiting start fed text held.requests side held.waiting held.waits_for
 StandsIn Ended held start fed text side = IsOutput start fed text held.requests side true
 StandsIn Spent held start fed text side = IsCutShort start fed text held.requests side
 
--- The session was fed these bytes from the start on, and of its replies this was sent and the rest is pending; this side is left.
+-- The session was fed these bytes from the start on. Of its replies this was sent and the rest is pending. This side is left.
 unfoldable pub Stands : Held → Side → List ℕ → List ℕ → Side → Type 0
 Stands held start fed sent side = StandsIn held.phase held start fed (sent ++ held.pending) side
 

@@ -22,7 +22,7 @@ pub record IsReplied (side : Side) (request output : List ℕ) (next : Side) (cl
   pub answered : IsAnswered side request reply next closes
   pub after_is : after ≡ output ++ reply
 
--- a request that was answered lies within the bytes
+-- a request that was answered is within the bytes
 abbrev pub IsWithin : ℕ → Next → Type 0
 IsWithin all (Answered long) = long ≤ all
 IsWithin all Waits = Unit {0}
@@ -45,7 +45,7 @@ abbrev pub IsHeard : Option ℕ → Side → List ℕ → List ℕ → ℕ → S
 IsHeard (Some used) start fed text count side bytes most = IsWaiting start fed text count side (drop used bytes) most
 IsHeard None start fed text count side bytes most = IsOutput start fed text count side true
 
--- the requests that were answered lie within the bytes, and there are fewer than 100 replies
+-- the requests that were answered are within the bytes, and there are fewer than 100 replies
 abbrev pub IsOpenWithin : ℕ → ℕ → Option ℕ → Type 0
 IsOpenWithin all count (Some used) = (used ≤ all) × (count < 100)
 IsOpenWithin all count None = Unit {0}

@@ -12,7 +12,7 @@ pub record GoesOn (side : Side) (bytes reply : List ℕ) (next : Side) (rest : L
   pub answered : IsAnswered side (take count bytes) reply next false
   pub rest_is : rest ≡ drop count bytes
 
--- so do as many as there are replies, one after the other
+-- as many whole requests as there are replies are answered, one after the other
 abbrev pub Walks : List (List ℕ) → Side → List ℕ → Side → List ℕ → Type 0
 Walks [] side bytes next rest = (next ≡ side) × (rest ≡ bytes)
 Walks (reply ∷ replies) side bytes next rest =

@@ -3,6 +3,6 @@
 pub enum Fed {
     /// It waits for more bytes.
     More,
-    /// Its last reply was given: no bytes that follow have one.
+    /// It gave its last reply: no bytes that follow have one.
     Ended,
 }

@@ -1,7 +1,7 @@
 ghost use Rattle.wire_session.specs.Laws.{AtMostHundred, CutShortIsFront, EndsStay, NoneTooEarly, NoneTooLong, NoneTwice, OneOutput, OutputGrows};
 ghost use Rattle.wire_session.specs.Stands.{StandsMeans};
 
-/// What a session says to bytes is one; to more bytes it says that and perhaps more; and once it has ended, that and no more.
+/// What a session says to bytes is one. To more bytes it says that and perhaps more. Once it has ended, it says that and no more.
 /// Where memory runs out, the replies before are the first ones of it.
 pub fn one_output()
     ensures one { OneOutput }
@@ -10,8 +10,8 @@ pub fn one_output()
     ensures cut_short { CutShortIsFront }
 {}
 
-/// Near values are refused: a reply once more, a hundred and first one, a reply to a request of which the last bytes are missing, and a reply to a whole
-/// request that its body is too long (413), since its head is refused before.
+/// Near values are refused: a reply once more, a hundred and first one, and a reply to a request whose last bytes are missing. A reply to a whole
+/// request that its body is too long (413) is, too, since its head is refused before.
 pub fn near_outputs()
     ensures twice { NoneTwice }
     ensures most { AtMostHundred }

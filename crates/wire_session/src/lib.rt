@@ -1,5 +1,5 @@
 //! The session of one HTTP connection: it is fed bytes in pieces, however they were cut, and gives the replies to the requests in
-//! them. It stands on `publisher`, which answers each request, and on `http_text`, which takes the requests from the bytes.
+//! them. It builds on `publisher`, which answers each request, and on `http_text`, which takes the requests from the bytes.
 #![tactic(auto)]
 
 mod answering;

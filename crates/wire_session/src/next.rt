@@ -1,7 +1,7 @@
 ghost use Rattle.std.specs.Prelude.{◌≡◌};
 ghost use Rattle.wire_session.specs.Steps.{next_after};
 
-/// How many replies a connection is given.
+/// How many replies a connection gets.
 const MOST_REPLIES: u32 = 100;
 
 /// What becomes of a session by what is at the front of its bytes.
@@ -11,7 +11,7 @@ pub enum Next {
     Answered { length: usize },
     /// Less than a whole request is there.
     Waits,
-    /// The last reply was given.
+    /// It gave the last reply.
     Ends,
 }
 

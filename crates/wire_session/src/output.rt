@@ -51,7 +51,7 @@ impl Output {
         Ok(())
     }
 
-    /// So many of the bytes were sent. Once all were, none are kept.
+    /// This many of the bytes were sent. Once all were, none are held.
     pub fn take(&mut self, count: usize)
         requires { count ≤ length self.old }
         ensures { self.new ≡ drop count self.old }

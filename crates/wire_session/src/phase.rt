@@ -3,7 +3,7 @@
 pub enum Phase {
     /// It waits for more bytes.
     Open,
-    /// Its last reply was given: to a request that closes, to a refused head, or the hundredth.
+    /// It gave its last reply: to a request that closes, to a refused head, or the hundredth.
     Ended,
     /// Memory ran out.
     Spent,

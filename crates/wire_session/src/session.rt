@@ -20,7 +20,7 @@ use std::alloc::Global;
 use std::marker::Model;
 
 /// The session of one connection: what was fed of requests and is not answered, and what is to be sent of their replies. A contract
-/// sees these, the number of replies, and whether it goes on; and it stands for all bytes that it was fed and all replies to them.
+/// sees these, the number of replies, and whether it goes on. It stands for all bytes that it was fed and all replies to them.
 #[derive(Drop)]
 pub struct Session {
     room: HeadRoom,
@@ -59,7 +59,7 @@ impl Session {
     }
 
     /// Takes the next piece of what comes on the connection, and answers each request that is whole now. Once it has ended, or memory
-    /// has run out, it drops what comes. A body that is awaited is not looked at before it is whole; of an open head each piece costs
+    /// has run out, it drops what comes. A body that is awaited is not looked at before it is whole. Of an open head each piece costs
     /// one more look at its at most 16,384 bytes.
     pub fn feed<G: Fragmenter + Drop>(
         &mut self,
@@ -123,7 +123,7 @@ impl Session {
         self.replies.output.left()
     }
 
-    /// So many of the pending bytes were sent.
+    /// This many of the pending bytes were sent.
     pub fn sent(&mut self, count: usize)
         requires { count ≤ length self.old.pending }
         ensures stands { (start : Side) (fed sent : List ℕ) (side : Side) → Stands self.old start fed sent side
@@ -133,7 +133,7 @@ impl Session {
         self.replies.output.take(count);
     }
 
-    /// Whether the last reply was given, or memory has run out. Before that a session was fed less than 100 requests with heads and
+    /// Whether it gave the last reply, or memory has run out. Before that a session was fed less than 100 requests with heads and
     /// bodies at their limits have.
     pub fn ended(&self) -> bool
         ensures value { result ≡ is_ended self.now.phase }

@@ -1,4 +1,4 @@
--- So far there are the files that were passed.
+-- There are the files that were passed.
 use Rattle.std.proofs.Common.{◌≡◌, map, take}
 use Rattle.tiny_feed.specs.Files.{name_and_text, recorded}
 use Rattle.tiny_feed.proofs.files_of.Given as goal

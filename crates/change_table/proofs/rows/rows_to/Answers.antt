@@ -1,4 +1,4 @@
--- Between the two places stand exactly the rows to the stop.
+-- Between the two places are exactly the rows to the stop.
 use Rattle.std.proofs.Common.{sym, rules}
 use Rattle.std.proofs.lemmas.List.Sorted.{IsPartitionPoint-from_clause}
 use Rattle.lc_model.proofs.RangesLemmas.{is_before, is_not_after, AreBounds-found, bounds_rise, filter_is_between}

@@ -1,4 +1,4 @@
--- The pieces of the format, one behind the other.
+-- The pieces of the format, one after the other.
 use Rattle.std.proofs.Common.{◌≡◌, ◌∙◌, ◌++◌, ℕ, List, ap, append_assoc, codes}
 use Rattle.std.specs.Prelude.{decimal}
 use Rattle.cli_ask.proofs.admission.admitted_line.Goals as goal

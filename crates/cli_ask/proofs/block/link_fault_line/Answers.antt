@@ -1,4 +1,4 @@
--- The pieces of the format, one behind the other.
+-- The pieces of the format, one after the other.
 use Rattle.std.proofs.Common.{◌∙◌, ap, append_assoc}
 use Rattle.cli_ask.proofs.block.link_fault_line.Goals as goal
 

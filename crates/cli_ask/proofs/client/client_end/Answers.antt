@@ -14,7 +14,7 @@ use Rattle.cli_ask.proofs.client.client_end.Goals as goal
 adds : (g : _) (c : goal.In-Some g) → Adds (begun c.args.base c.args.cache) c.args.query c.ask.new.self
 adds g c = subst (λ (s : ConvoyState). Adds s c.args.query c.ask.new.self) c.in_ok-convoy.ensures c.in_ok-client.ensures.asks
 
--- so it is the first one
+-- it is the first client
 first : (g : _) (c : goal.In-Some g) → c.in_ok-client.client ≡ 1
 first g c = c.in_ok-client.ensures.number ∙ ap (λ (s : ConvoyState). length s.members + 1) c.in_ok-convoy.ensures
 

@@ -2,7 +2,7 @@ use Rattle.std.proofs.Common.{◌≡◌, ◌⊎◌, ◌++◌, [], ◌∷◌, ari
 use Rattle.gtfs_fields.specs.Table.{IsRowFault}
 use Rattle.gtfs_fields.specs.declared.fault.FileFault.TheVariants.{NoMemory}
 use Rattle.gtfs_fields.proofs.ExitFacts.{passed_on, wants_memory}
-use Rattle.gtfs_fields.proofs.SaidFacts.{read_more, recorded_first}
+use Rattle.gtfs_fields.proofs.SaidFacts.{read_more, reported_first}
 use Rattle.gtfs_calendars.specs.CalendarDates.{calendar_dates_rule, date_row_said}
 use Rattle.gtfs_calendars.proofs.calendar_dates_file.date_rows_by.Goals as goal
 
@@ -11,7 +11,7 @@ returns-in_err-date_row-clause-fault c =
     let rule = calendar_dates_rule c.args.rows.now in
     let count = length c.args.rows.now.rows in
     passed_on (λ fault. (fault ≡ NoMemory) ⊎ IsRowFault rule count fault) c.from_residual.result c.in_err-date_row.field-0.0 c.from_residual.ensures.1
-    (recorded_first rule count c.rows.place c.in_err-date_row.field-0.0 (omega arith) c.rows.invariant.unbroken c.in_err-date_row.ensures)
+    (reported_first rule count c.rows.place c.in_err-date_row.field-0.0 (omega arith) c.rows.invariant.unbroken c.in_err-date_row.ensures)
 
 pub returns-in_err-push-clause-fault : goal.returns-in_err-push-clause-fault
 returns-in_err-push-clause-fault c =

@@ -4,7 +4,7 @@ use Rattle.gtfs_fields.specs.declared.trip_rows.TripRow.{TripRow}
 use Rattle.gtfs_fields.specs.Table.{IsRowFault}
 use Rattle.gtfs_fields.specs.declared.fault.FileFault.TheVariants.{NoMemory}
 use Rattle.gtfs_fields.proofs.ExitFacts.{passed_on, wants_memory}
-use Rattle.gtfs_fields.proofs.SaidFacts.{read_more, recorded_first}
+use Rattle.gtfs_fields.proofs.SaidFacts.{read_more, reported_first}
 use Rattle.gtfs_calendars.specs.Frequencies.{frequencies_rule, frequency_said, ids_of_trips}
 use Rattle.gtfs_calendars.proofs.frequencies_file.frequency_rows.Goals as goal
 
@@ -13,7 +13,7 @@ returns-in_err-frequency-clause-fault c =
     let rule = frequencies_rule c.args.trips.now c.args.rows.now in
     let count = length c.args.rows.now.rows in
     passed_on (λ fault. (fault ≡ NoMemory) ⊎ IsRowFault rule count fault) c.from_residual-in_err-frequency.result c.in_err-frequency.field-0.0 c.from_residual-in_err-frequency.ensures.1
-    (recorded_first rule count c.rows.place c.in_err-frequency.field-0.0 (omega arith) c.rows.invariant.unbroken (c.in_err-frequency.ensures c.args.trips.now (subst (λ (xs : List TripRow). HavePlaces (ids_of_trips xs) c.in_ok-places.places) c.as_slice.ensures.value c.in_ok-places.ensures)))
+    (reported_first rule count c.rows.place c.in_err-frequency.field-0.0 (omega arith) c.rows.invariant.unbroken (c.in_err-frequency.ensures c.args.trips.now (subst (λ (xs : List TripRow). HavePlaces (ids_of_trips xs) c.in_ok-places.places) c.as_slice.ensures.value c.in_ok-places.ensures)))
 
 pub returns-in_err-push-clause-fault : goal.returns-in_err-push-clause-fault
 returns-in_err-push-clause-fault c =

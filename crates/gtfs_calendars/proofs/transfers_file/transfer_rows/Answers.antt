@@ -6,7 +6,7 @@ use Rattle.lc_model.specs.declared.stop.Stop.{Stop}
 use Rattle.gtfs_fields.specs.Table.{IsRowFault}
 use Rattle.gtfs_fields.specs.declared.fault.FileFault.TheVariants.{NoMemory}
 use Rattle.gtfs_fields.proofs.ExitFacts.{passed_on, wants_memory}
-use Rattle.gtfs_fields.proofs.SaidFacts.{recorded_first}
+use Rattle.gtfs_fields.proofs.SaidFacts.{reported_first}
 use Rattle.gtfs_calendars.proofs.TransferFacts.{kept_more}
 use Rattle.gtfs_calendars.proofs.transfers_file.transfer_rows.Goals as goal
 
@@ -15,7 +15,7 @@ returns-in_err-transfer-clause-fault c =
     let rule = transfers_rule c.args.stops.now c.args.rows.now in
     let count = length c.args.rows.now.rows in
     passed_on (λ fault. (fault ≡ NoMemory) ⊎ IsRowFault rule count fault) c.from_residual-in_err-transfer.result c.in_err-transfer.field-0.0 c.from_residual-in_err-transfer.ensures.1
-    (recorded_first rule count c.rows.place c.in_err-transfer.field-0.0 (omega arith) c.rows.invariant.unbroken (c.in_err-transfer.ensures c.args.stops.now (subst (λ (xs : List Stop). HavePlaces (ids_of_stops xs) c.in_ok-places.places) c.as_slice.ensures.value c.in_ok-places.ensures)))
+    (reported_first rule count c.rows.place c.in_err-transfer.field-0.0 (omega arith) c.rows.invariant.unbroken (c.in_err-transfer.ensures c.args.stops.now (subst (λ (xs : List Stop). HavePlaces (ids_of_stops xs) c.in_ok-places.places) c.as_slice.ensures.value c.in_ok-places.ensures)))
 
 pub returns-in_err-push_one-clause-fault : goal.returns-in_err-push_one-clause-fault
 returns-in_err-push_one-clause-fault c =

@@ -1,4 +1,4 @@
--- No two visits up to this place that stand side by side tie.
+-- No two visits up to this place that are side by side tie.
 use Rattle.std.proofs.Common.{◌≢◌, ℕ, ◌+◌, ◌<◌, get_or}
 use Rattle.std.specs.declared.cmp.Ordering.TheVariants.{Equal}
 use Rattle.gtfs_trips.specs.Visits.{visit_cmp}

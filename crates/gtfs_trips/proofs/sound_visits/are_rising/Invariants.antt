@@ -1,4 +1,4 @@
--- No two visits up to this place that stand side by side are out of order.
+-- No two visits up to this place that are side by side are out of order.
 use Rattle.std.proofs.Common.{◌≡◌, ℕ, ◌+◌, ◌<◌, get_or}
 use Rattle.std.specs.declared.cmp.Ordering.TheVariants.{Less}
 use Rattle.gtfs_trips.specs.Visits.{visit_cmp}

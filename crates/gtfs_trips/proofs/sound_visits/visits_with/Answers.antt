@@ -2,14 +2,14 @@ use Rattle.std.proofs.Common.{◌≡◌, ◌∙◌, ◌++◌, [], ◌∷◌, ap�
 use Rattle.std.proofs.lemmas.List.FromFn.{map-range_with_len_more}
 use Rattle.gtfs_trips.specs.SoundRows.{IsSoundAlone, SaysVisit}
 use Rattle.gtfs_trips.specs.Visits.{visit_at}
-use Rattle.gtfs_trips.specs.declared.sound_visits.Recorded.{Recorded}
+use Rattle.gtfs_trips.specs.declared.sound_visits.Reported.{Reported}
 use Rattle.gtfs_trips.proofs.SoundLemmas.{at_some}
 use Rattle.gtfs_trips.proofs.sound_visits.visits_with.Goals as goal
 
 pub rows-preserved : goal.rows-preserved
 rows-preserved c =
     let sheet = c.args.rows.now in
-    let says = at_some (λ (t : Recorded). SaysVisit c.args.stops.now c.args.trips.now sheet c.rows.place t.visit) c.in_ok-recorded.field-0 c.in-Some.recorded c.in-Some.is c.in_ok-recorded.ensures in
+    let says = at_some (λ (t : Reported). SaysVisit c.args.stops.now c.args.trips.now sheet c.rows.place t.visit) c.in_ok-recorded.field-0 c.in-Some.recorded c.in-Some.is c.in_ok-recorded.ensures in
     let pushed : c.push.new.self.items ≡ c.rows.visits.items ++ c.in-Some.recorded.visit ∷ [] = search rules in
     record {
       said = pushed ∙ ap₂ (λ xs x. xs ++ x ∷ []) c.rows.invariant.said says.said ∙ sym (map-range_with_len_more (visit_at sheet) 0 c.rows.place c.rows.place (omega arith));

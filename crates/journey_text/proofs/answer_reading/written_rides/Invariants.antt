@@ -1,4 +1,4 @@
--- So far the first rides were taken, and the words behind say the rest of them.
+-- The first rides were taken, and the words after them say the rest.
 use Rattle.std.proofs.Common.{◌-◌, ◌≤◌, length}
 use Rattle.journey_text.proofs.ReadingLemmas.{GoesOn}
 use Rattle.journey_text.proofs.answer_reading.written_rides.Given as goal

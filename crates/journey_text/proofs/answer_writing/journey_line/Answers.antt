@@ -1,4 +1,4 @@
--- The words stand one behind the other.
+-- The words come one after the other.
 use Rattle.std.proofs.Common.{[]}
 use Rattle.journey_text.proofs.TextLemmas.{appended}
 use Rattle.journey_text.proofs.answer_writing.journey_line.Goals as goal

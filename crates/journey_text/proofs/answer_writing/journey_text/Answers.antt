@@ -1,4 +1,4 @@
--- The lines stand one behind the other.
+-- The lines come one after the other.
 use Rattle.std.proofs.Common.{[]}
 use Rattle.journey_text.proofs.TextLemmas.{appended}
 use Rattle.journey_text.proofs.answer_writing.journey_text.Goals as goal

@@ -1,4 +1,4 @@
--- The last ride stands at the end.
+-- The last ride is at the end.
 use Rattle.std.proofs.Common.{◌∙◌, ap, arith, sym}
 use Rattle.lc_model.specs.declared.ride.Ride.{Ride}
 use Rattle.journey_text.proofs.TextLemmas.{arrives_last, some_long}

@@ -1,4 +1,4 @@
--- The words stand one behind the other.
+-- The words come one after the other.
 use Rattle.journey_text.proofs.TextLemmas.{appended}
 use Rattle.journey_text.proofs.answer_writing.push_places.Goals as goal
 

@@ -1,4 +1,4 @@
--- So far there is a line for each ride that was passed.
+-- There is a line for each ride that was passed.
 use Rattle.std.proofs.Common.{◌≡◌, ◌++◌, take}
 use Rattle.std.specs.List.{flat_map}
 use Rattle.journey_text.specs.AnswerText.{ride_line_of}

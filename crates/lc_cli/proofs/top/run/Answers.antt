@@ -7,7 +7,7 @@ use Rattle.lc_cli.proofs.ServingLemmas.{no_door_fell}
 use Rattle.lc_cli.proofs.TopLemmas.{not_early, not_memory, usage_only}
 use Rattle.lc_cli.proofs.top.run.Goals as goal
 
--- the run that came to a block, the one that served, and the one that was refused
+-- the run that printed a block, the one that served, and the one that was refused
 abbrev printed : (g : _) (c : goal.After-write_block g) → Past g.row.L.Denot
 printed g c = record {
   words = texts_of c.args.words.now;

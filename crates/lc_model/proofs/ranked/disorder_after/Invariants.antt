@@ -1,4 +1,4 @@
--- Up to this place the items stand in order: the first disorder is that of what is left.
+-- Up to this place the items are in order: the first disorder is that of what is left.
 use Rattle.std.proofs.Common.{◌≡◌, suc, drop}
 use Rattle.lc_model.specs.Disorder.{disorder_after}
 use Rattle.lc_model.proofs.ranked.disorder_after.Given as goal

@@ -1,4 +1,4 @@
--- The place tells whether there is a disorder.
+-- The place says whether there is a disorder.
 use Rattle.std.proofs.Common.{rules}
 use Rattle.lc_model.proofs.DisordersLemmas.{disorder_tells}
 use Rattle.lc_model.proofs.ranked.first_disorder.Goals as goal

@@ -1,4 +1,4 @@
--- The members follow each other. The lists of a document stand in order, and it names its stops.
+-- The members follow each other. The lists of a document are in order, and it names its stops.
 use Rattle.std.proofs.Common.{subst}
 use Rattle.lc_model.specs.Change.{InChangeOrder}
 use Rattle.lc_model.specs.Stop.{InStopOrder}

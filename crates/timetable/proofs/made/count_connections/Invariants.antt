@@ -1,4 +1,4 @@
--- So far the connections of the runs that were passed are counted.
+-- The connections of the runs that were passed are counted.
 use Rattle.std.proofs.Common.{◌≡◌, length, take}
 use Rattle.lc_model.specs.Connection.{connections_of}
 use Rattle.timetable.proofs.made.count_connections.Given as goal

@@ -1,4 +1,4 @@
--- As many bytes are given back as there is room for.
+-- It gives back as many bytes as there is room for.
 use Rattle.std.proofs.Common.{◌≡◌, ◌++◌, ◌+◌, ◌==◌, ◌||◌, false, length, sym, subst, arith, length-take}
 use Rattle.lc_doors.specs.EchoTalk.{EchoTalkState, HasEchoed}
 use Rattle.lc_doors.proofs.EchoLemmas.{all_given, echoes_more}

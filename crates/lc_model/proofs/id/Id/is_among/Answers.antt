@@ -1,4 +1,4 @@
--- The search tells whether the id is there.
+-- The search says whether the id is there.
 use Rattle.std.proofs.Common.{Bor, ℕ, List, subst}
 use Rattle.lc_model.proofs.SearchLemmas.{Tells, search_tells}
 use Rattle.lc_model.proofs.id.Id.is_among.Goals as goal

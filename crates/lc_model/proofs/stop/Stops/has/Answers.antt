@@ -1,4 +1,4 @@
--- The search tells whether the stop is there.
+-- The search says whether the stop is there.
 use Rattle.std.proofs.Common.{ℕ, List, subst, rules}
 use Rattle.std.proofs.lemmas.Cmp.{nat_list_cmp_total, on_total}
 use Rattle.std.proofs.lemmas.Fn.{always_returns_same}

@@ -1,4 +1,4 @@
--- How the end of the walk is recorded as a fault of the feed.
+-- How the end of the walk is reported as a fault of the feed.
 use Rattle.std.proofs.Common.{◌≡◌, ◌∙◌, ℕ, Bool, true, false, cond, inl, inr, List, Option, Some, None, IsSome, Err, ap, ap₂, refl, subst, sym}
 use Rattle.std.specs.Prelude.{is_none, MatchOption}
 use Rattle.lc_io.specs.Counts.{Rose}
@@ -13,7 +13,7 @@ use Rattle.lc_model.specs.declared.stop.Stop.{Stop}
 use Rattle.gtfs_tables.specs.Feed.{Holds, IsAbsence, IsFaultAt, IsFirstBroken, named_at, what_of}
 use Rattle.gtfs_tables.specs.Files.{Found}
 use Rattle.gtfs_tables.specs.Reading.{EndsSo}
-use Rattle.gtfs_tables.specs.Steps.{IsFaultOf, IsTellable, WalkEnds}
+use Rattle.gtfs_tables.specs.Steps.{IsFaultOf, IsReportable, WalkEnds}
 use Rattle.gtfs_tables.specs.declared.end.End.{End}
 use Rattle.gtfs_tables.specs.declared.end.End.TheVariants.{Failed, NoMemory, Wrong}
 use Rattle.gtfs_tables.specs.declared.fault.FeedFault.{FeedFault}
@@ -91,23 +91,23 @@ what_of_named found file.CalendarDates = what_of_either (is_none (found file.Cal
 what_of_named found file.Frequencies = refl
 what_of_named found file.Transfers = refl
 
--- the counts that are recorded are those of the folder
-rose_recorded : (first last before after : ℕ) → first ≡ before → last ≡ after → Rose before after → Rose first last
-rose_recorded first last before after b a rose = subst (λ (n : ℕ). Rose n last) (sym b) (subst (Rose before) (sym a) rose)
+-- the counts that are reported are those of the directory
+rose_reported : (first last before after : ℕ) → first ≡ before → last ≡ after → Rose before after → Rose first last
+rose_reported first last before after b a rose = subst (λ (n : ℕ). Rose n last) (sym b) (subst (Rose before) (sym a) rose)
 
--- the end of a walk can be recorded
-pub tellable : (old new : FolderSeen) (feed : List ℕ) (end : End) → WalkEnds old new feed (Err end) → IsTellable end
-tellable old new feed (Wrong named (wrong.Broken rule row)) ends = tt
-tellable old new feed (Wrong named (wrong.TooMany count)) (found, place, at, reads, first, names) =
+-- the end of a walk can be reported
+pub reportable : (old new : FolderSeen) (feed : List ℕ) (end : End) → WalkEnds old new feed (Err end) → IsReportable end
+reportable old new feed (Wrong named (wrong.Broken rule row)) ends = tt
+reportable old new feed (Wrong named (wrong.TooMany count)) (found, place, at, reads, first, names) =
     subst (λ (f : FeedFile). IsSome (what_of f)) (sym names) (subst (λ (o : Option What). IsSome o) (sym (what_of_named found at)) (limited found at count first.broken))
-tellable old new feed (Wrong named wrong.NoMemory) (found, place, at, reads, first, names) = never_memory found at first.broken
-tellable old new feed Failed ends = tt
-tellable old new feed NoMemory ends = tt
+reportable old new feed (Wrong named wrong.NoMemory) (found, place, at, reads, first, names) = never_memory found at first.broken
+reportable old new feed Failed ends = tt
+reportable old new feed NoMemory ends = tt
 
--- and so it is recorded
-pub recorded_so : (old new : FolderSeen) (feed : List ℕ) (end : End) (before after : ℕ) (recorded : FeedFault) → WalkEnds old new feed (Err end)
+-- the end of a walk is reported as its fault
+pub reported_so : (old new : FolderSeen) (feed : List ℕ) (end : End) (before after : ℕ) (recorded : FeedFault) → WalkEnds old new feed (Err end)
     → before ≡ old.faults → after ≡ new.faults → IsFaultOf end before after recorded → EndsSo old new feed (Err recorded)
-recorded_so old new feed (Wrong named (wrong.Broken broken place)) before after (fault.Broken rule file row) (found, at_place, at, reads, first, names) b a is = (
+reported_so old new feed (Wrong named (wrong.Broken broken place)) before after (fault.Broken rule file row) (found, at_place, at, reads, first, names) b a is = (
   found,
   at_place,
   at,
@@ -115,7 +115,7 @@ recorded_so old new feed (Wrong named (wrong.Broken broken place)) before after 
   subst (IsFirstBroken found at_place at) (ap₂ (λ (r : ℕ) (p : ℕ). wrong.Broken r p) (sym is.0) (sym is.2)) first,
   is.1 ∙ names,
 )
-recorded_so old new feed (Wrong named (wrong.TooMany rows)) before after (fault.TooLarge what count) (found, place, at, reads, first, names) b a is = (
+reported_so old new feed (Wrong named (wrong.TooMany rows)) before after (fault.TooLarge what count) (found, place, at, reads, first, names) b a is = (
   found,
   place,
   at,
@@ -123,7 +123,7 @@ recorded_so old new feed (Wrong named (wrong.TooMany rows)) before after (fault.
   subst (IsFirstBroken found place at) (ap (λ (n : ℕ). wrong.TooMany n) (sym is.1)) first,
   sym (what_of_named found at) ∙ ap (λ (f : FeedFile). what_of f) (sym names) ∙ is.0,
 )
-recorded_so old new feed Failed before after (fault.Folder first last) ends b a is =
-    (is.0 ∙ b, is.1 ∙ a, rose_recorded first last old.faults new.faults (is.0 ∙ b) (is.1 ∙ a) ends.0, ends.1)
-recorded_so old new feed NoMemory before after fault.NoMemory ends b a is = ends
-recorded_so old new feed end before after recorded ends b a is = absurd is
+reported_so old new feed Failed before after (fault.Folder first last) ends b a is =
+    (is.0 ∙ b, is.1 ∙ a, rose_reported first last old.faults new.faults (is.0 ∙ b) (is.1 ∙ a) ends.0, ends.1)
+reported_so old new feed NoMemory before after fault.NoMemory ends b a is = ends
+reported_so old new feed end before after recorded ends b a is = absurd is

@@ -35,7 +35,7 @@ use Rattle.publisher_spec.specs.PageAt.{named}
 use Rattle.publisher_spec.specs.Response.{IsPageOf}
 use Rattle.publisher_spec.specs.Side.{IsValidSide, Side}
 use Rattle.laws_clients.specs.Answered.{answer_of, names_at}
-use Rattle.laws_clients.specs.Fits.{FitsAt, FitsSide, HasAnswered, HasEnded, IsOfSide, IsUnderWay}
+use Rattle.laws_clients.specs.Fits.{FitsAt, FitsSide, HasAnswered, HasEnded, IsOfSide, WaitsForPage}
 use Rattle.laws_clients.specs.Published.{IsOwnPage, between}
 use Rattle.laws_clients.specs.Steps.{KeepsVersion}
 use Rattle.laws_clients.specs.Wants.{HasEnds, wants_of}
@@ -53,7 +53,7 @@ not_behind : (front : List CutPage) (taken : CutPage) (more : List CutPage) → 
 not_behind [] taken more e = cc
 not_behind (q ∷ front) taken more e = cc
 
--- a page that is not the last one stands before it
+-- a page that is not the last one is before it
 stands_before : (before front : List CutPage) (p taken next : CutPage) (more : List CutPage) → before ++ p ∷ [] ≡ front ++ taken ∷ next ∷ more → (back : List CutPage) × (before ≡ front ++ taken ∷ back)
 stands_before [] [] p taken next more e = (let nothing : [] ≡ next ∷ more = cc in absurd (cc))
 stands_before [] (x ∷ front) p taken next more e =
@@ -68,7 +68,7 @@ stands_before (b ∷ before) (x ∷ front) p taken next more e =
     let onward = stands_before before front p taken next more rest in
     (onward.0, ap₂ (λ (y : CutPage) (l : List CutPage). y ∷ l) same onward.1)
 
--- the last one stands behind all others
+-- the last one is after all others
 stands_last : (before front : List CutPage) (p taken : CutPage) → before ++ p ∷ [] ≡ front ++ taken ∷ [] → (before ≡ front) × (p ≡ taken)
 stands_last [] [] p taken e = let same : p ≡ taken = cc in (refl, same)
 stands_last [] (x ∷ front) p taken e =
@@ -115,7 +115,7 @@ module _ (query : Query) (doc : StopsDoc) (before : List CutPage) (p : CutPage) 
     by_last = bound_by query over.best over.last over.by_last;
   }
 
--- the page that is linked to is the one behind
+-- the page that is linked to is the one after
 record IsNext (version : ℕ) (behind : List CutPage) (next : PageName) : Type 0 where
   page : CutPage
   more : List CutPage
@@ -151,7 +151,7 @@ answered_so : (side : Side) (s : Shown) (wanted : List Want) (journey : Option J
 answered_so side s wanted None has = has
 answered_so side s wanted (Some journey) has = has
 
-module _ (side : Side) (valid : IsValidSide side) (old new : Client) (wanted : List Want) (page : Page) (own : IsOfSide side old.version) (u : IsUnderWay side old wanted page.name) (is_own : IsOwnPage side page) where
+module _ (side : Side) (valid : IsValidSide side) (old new : Client) (wanted : List Want) (page : Page) (own : IsOfSide side old.version) (u : WaitsForPage side old wanted page.name) (is_own : IsOwnPage side page) where
   is_between : page ≡ between page.name.version (reverse (along_previous u.published.first u.published.rest old.query.leave) ++ u.before) u.page u.behind
   is_between =
       own_is_between side page.name.version u.published valid u.is_published
@@ -200,7 +200,7 @@ module _ (side : Side) (valid : IsValidSide side) (old new : Client) (wanted : L
       let same_version : new.version ≡ old.version = ap (λ (t : Shown). t.version) is in
       let phase : new.phase ≡ phases.Page next = ap (λ (t : Shown). t.phase) is in
       let sound : IsSoundName next = subst (λ (o : Option PageName). IfSome o IsSoundName) links is_own.sound.next in
-      let there : IsUnderWay side new (wanted ++ wants.Page page.name ∷ []) (named page.name.version onto.page.departs) = record {
+      let there : WaitsForPage side new (wanted ++ wants.Page page.name ∷ []) (named page.name.version onto.page.departs) = record {
         accepted = subst (λ (q : Query). IsRefusal q None) (sym same_query) u.accepted;
         at_version = same_version ∙ u.at_version;
         no_outcome = ap (λ (t : Shown). t.outcome) is ∙ u.no_outcome;
@@ -224,7 +224,7 @@ module _ (side : Side) (valid : IsValidSide side) (old new : Client) (wanted : L
       } in
       record {
         of_side = subst (IsOfSide side) (sym same_version) own;
-        fits = subst (FitsAt side new (wanted ++ wants.Page page.name ∷ [])) (sym phase) (subst (IsUnderWay side new (wanted ++ wants.Page page.name ∷ [])) (sym onto.is) there);
+        fits = subst (FitsAt side new (wanted ++ wants.Page page.name ∷ [])) (sym phase) (subst (WaitsForPage side new (wanted ++ wants.Page page.name ∷ [])) (sym onto.is) there);
       }
 
   until : (page.next ≡ None) ⊎ IsOverThen old.query side.doc (connections_along u.before ++ page.list) page → IsTakenUntilOver old.query side.doc (pages_on u.published.first u.published.rest old.query) (u.before ++ u.page ∷ [])

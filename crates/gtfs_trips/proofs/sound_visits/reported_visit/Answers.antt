@@ -10,7 +10,7 @@ use Rattle.gtfs_trips.specs.Trips.{trip_id_of}
 use Rattle.gtfs_trips.specs.Visits.{allows}
 use Rattle.gtfs_trips.specs.declared.sound_visits.SaidStop.{SaidStop}
 use Rattle.gtfs_trips.proofs.SoundLemmas.{at_some, key_is_known, visit_is}
-use Rattle.gtfs_trips.proofs.sound_visits.recorded_visit.Goals as goal
+use Rattle.gtfs_trips.proofs.sound_visits.reported_visit.Goals as goal
 
 pub returns : goal.returns
 returns c =
