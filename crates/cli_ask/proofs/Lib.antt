@@ -1,5 +1,6 @@
 pub mod AdmissionLemmas
 pub mod ClientLemmas
+mod HomeLemmas
 pub mod OneAnswerLemmas
 pub mod OneOutputLemmas
 pub mod OnePublisherLemmas
