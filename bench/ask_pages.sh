@@ -1,6 +1,6 @@
 #!/bin/sh
 # What `ask` takes beside the reading of the feed, that of publishing and of following pages, for each connection of the version and each
-# reply that is made of them, those with a page and the gate's. Prints a table, and fails where that grows more than twofold from 10,000
+# reply that is made of them, those with a page and the time gate's. Prints a table, and fails where that grows more than twofold from 10,000
 # connections to 1,000,000. See docs/PERFORMANCE.md.
 #
 #   bench/ask_pages.sh

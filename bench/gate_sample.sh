@@ -28,7 +28,7 @@ def read(path):
 
 
 def children():
-    """What runs below the gate: (number, start, processor seconds, crate, whether it tries a mutant)."""
+    """What runs below the merge gate: (number, start, processor seconds, crate, whether it tries a mutant)."""
     stats = {}
     for number in filter(str.isdigit, os.listdir("/proc")):
         try:
