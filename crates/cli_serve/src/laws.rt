@@ -23,8 +23,8 @@ pub fn near_servings()
     one_output();
 }
 
-/// From sides that are one, but for how their zone is written down, the same bytes are answered with the same replies. So servings over doors
-/// where the same bytes waited, and where no read or write failed, send the same on each connection and write one text.
+/// From sides that are one, but for how their zone is written down, the same bytes are answered with the same replies. Servings over doors
+/// where the same bytes waited send the same on each connection and write one text, if no read or write failed.
 pub fn one_over_bytes()
     ensures session { OneSession }
     ensures bytes { OneOverBytes }

@@ -30,9 +30,9 @@ impl Model for Base {
 }
 
 impl Base {
-    /// The base that a text says. None exactly where the text is not UTF-8, is refused by the URL Standard, or has another
-    /// scheme than http, a user name, a password, a query or a fragment. None too where its path does not end with a slash or has
-    /// another character than letters, digits, `-`, `.`, `_`, `~`, `%` and `/`, or more than 4,096 bytes as it is written.
+    /// The base that a text says, if it is one. A base is UTF-8 and a URL by the URL Standard, of the scheme http. It has no user
+    /// name, password, query or fragment, and as it is written at most 4,096 bytes. Its path ends with a slash. There a path has
+    /// letters, digits, `-`, `.`, `_`, `~`, `%` and `/` alone.
     pub fn read(alloc: Global, text: &[u8]) -> Result<Option<Base>, NoMemory>
         ensures said { IfOk result (λ read. IfSome read (λ base. (url : Parts) × ReadsAsBase text.now url × (base ≡ base_of url))) }
         ensures exact { IfOk result (λ read. (url : Parts) → ReadsAsBase text.now url → read ≡ Some (base_of url)) }

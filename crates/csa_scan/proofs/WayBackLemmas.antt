@@ -22,7 +22,7 @@ use Rattle.std.proofs.lemmas.List.{reverse-append}
 use Rattle.csa_scan.specs.declared.trace.Arrival.{Arrival}
 use Rattle.csa_scan.proofs.ListPlacesLemmas.{to_some_and}
 
--- The rides are the end of a journey up to the last arrival, and go on after the arrival at this place, or from the begin.
+-- The rides are the end of a journey up to the last arrival. They go on after the arrival at this place, or from the begin.
 -- Without rides the arrival at the place is the last one.
 abbrev pub IsTail : Query → StopsDoc → List Connection → List Arrival → Arrival → Option ℕ → List Ride → Type 0
 IsTail query doc list arrivals last after [] = (place : ℕ) × (after ≡ Some place) × (slice_get arrivals place ≡ Some last)

@@ -11,19 +11,19 @@ const FNV_FACTOR: u64 = 0x0100_0000_01b3;
 
 /// Where runs and stops were found last. A guess may be wrong, and counts only once it is tested.
 #[derive(Drop)]
-pub struct Guesses {
+pub(crate) struct Guesses {
     places: Vec<usize>,
 }
 
 impl Guesses {
-    pub fn new(alloc: Global) -> Result<Guesses, NoMemory> {
+    pub(crate) fn new(alloc: Global) -> Result<Guesses, NoMemory> {
         Ok(Guesses {
             places: vec![in alloc; 0; GUESSES as usize]?,
         })
     }
 
     /// Where that of the slot may be.
-    pub fn at(&self, slot: usize) -> usize {
+    pub(crate) fn at(&self, slot: usize) -> usize {
         match self.places.get(slot) {
             Some(place) => *place,
             None => 0,
@@ -31,19 +31,19 @@ impl Guesses {
     }
 
     /// That of the slot was found there.
-    pub fn put(&mut self, slot: usize, place: usize) {
+    pub(crate) fn put(&mut self, slot: usize, place: usize) {
         if let Some(guess) = self.places.get_mut(slot) {
             *guess = place;
         }
     }
 }
 
-pub fn slot_of_stop(id: &Id) -> usize {
+pub(crate) fn slot_of_stop(id: &Id) -> usize {
     slot_of(mixed(FNV_START, id.bytes()))
 }
 
 /// Runs of a trip on several dates, or by a headway, have slots of their own.
-pub fn slot_of_run(key: &RunKey) -> usize {
+pub(crate) fn slot_of_run(key: &RunKey) -> usize {
     let date = u64::from(key.date.month) << 8 | u64::from(key.date.day);
     let start = u64::from(key.start.unwrap_or(0)) << 16;
     slot_of(mixed(FNV_START ^ date ^ start, key.trip.bytes()))

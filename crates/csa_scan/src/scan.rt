@@ -100,8 +100,8 @@ impl Scan {
     }
 
     /// Takes the connections that come after those taken before. Departures before the question leaves are not boarded, and
-    /// what arrives after its horizon is left out. A connection takes a constant time where a guess finds its run and its stops, and
-    /// else the logarithm of the runs and of the stops.
+    /// what arrives after its horizon is left out. A connection takes a constant time where a guess finds its run and its stops. Else
+    /// it takes the logarithm of the runs and of the stops.
     pub fn take_all(&mut self, alloc: Global, list: &Connections) -> Result<(), NoMemory>
         ensures ok { OnOk result (GoesOnBy self.old self.new list.now) }
         ensures err { OnErr result (StaysAsItWas self.old self.new) }

@@ -20,8 +20,8 @@ use std::alloc::Global;
 use std::collections::BTreeMap;
 
 /// The rows of a calendar_dates.txt, in the order of the file (GTFS Schedule Reference, calendar_dates.txt), or the first
-/// broken rule: 2 to 5 are of the file. In a row 6 is of an absent service, 7 of a service and a date that are there
-/// before, 11 of an exception_type that is neither 1 nor 2, 12 of an unreadable date. Of n rows: n log n.
+/// broken rule. Rules 2 to 5 are of the file. In a row 6 is of an absent service, 7 of a service and a date that are there
+/// before. 11 is of an exception_type that is neither 1 nor 2, 12 of an unreadable date. Of n rows: n log n.
 pub fn read_calendar_dates(alloc: Global, bytes: &[u8]) -> Result<DateRows, FileFault>
     ensures ok { IfOk result (AreDates bytes.now) }
     ensures fault { IfErr result (λ fault. (fault ≡ FileFault.NoMemory) ⊎ IsCalendarDatesFault bytes.now fault) }

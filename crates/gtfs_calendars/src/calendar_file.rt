@@ -20,8 +20,8 @@ use std::alloc::Global;
 use std::collections::BTreeMap;
 
 /// The rows of a calendar.txt, in the order of the file (GTFS Schedule Reference, calendar.txt), or the first rule that
-/// is broken: 2 to 5 are of the file. In a row 6 is of an absent service, 7 of a service that is there before, 11 of a weekday
-/// that is neither 0 nor 1, 12 of an unreadable date. Of n rows: n log n.
+/// is broken. Rules 2 to 5 are of the file. In a row 6 is of an absent service, 7 of a service that is there before. 11 is of a
+/// weekday that is neither 0 nor 1, 12 of an unreadable date. Of n rows: n log n.
 pub fn read_calendar(alloc: Global, bytes: &[u8]) -> Result<WeeklyList, FileFault>
     ensures ok { IfOk result (AreWeekly bytes.now) }
     ensures fault { IfErr result (λ fault. (fault ≡ FileFault.NoMemory) ⊎ IsCalendarFault bytes.now fault) }

@@ -23,8 +23,8 @@ use std::alloc::Global;
 use std::collections::BTreeMap;
 
 /// The rows of a frequencies.txt of these trips, in the order of the file (GTFS Schedule Reference, frequencies.txt), or
-/// the first broken rule: 2 to 5 are of the file. In a row 6 is of an absent trip, 9 of a trip that is not among the
-/// trips, 11 of a headway that is no number from 1 on, 12 of an unreadable time. Of n rows and m trips: (n + m) log m.
+/// the first broken rule. Rules 2 to 5 are of the file. In a row 6 is of an absent trip, 9 of a trip that is not among the
+/// trips. 11 is of a headway that is no number from 1 on, 12 of an unreadable time. Of n rows and m trips: (n + m) log m.
 pub fn read_frequencies(
     alloc: Global,
     bytes: &[u8],

@@ -24,9 +24,9 @@ use std::alloc::Global;
 use std::collections::BTreeMap;
 
 /// The rows of a transfers.txt of these stops, in the order of the file (GTFS Schedule Reference, transfers.txt), or the
-/// first broken rule: 2 to 5 are of the file. In a row 8 is of a stop that is not among the stops, 11 of an
-/// unreadable number. A row is passed over where its transfer_type is none of 0 to 3, a stop is empty, or it is of some
-/// routes or trips alone; rule 8 is not tested for it. Of n rows and m stops: (n + m) log m.
+/// first broken rule. Rules 2 to 5 are of the file. In a row 8 is of a stop that is not among the stops, 11 of an
+/// unreadable number. A row is passed over where its transfer_type is none of 0 to 3, or a stop is empty. One of some
+/// routes or trips alone is passed over too, and rule 8 is not tested for either. Of n rows and m stops: (n + m) log m.
 pub fn read_transfers(alloc: Global, bytes: &[u8], stops: &Stops) -> Result<Transfers, FileFault>
     ensures ok { IfOk result (AreTransfers stops.now bytes.now) }
     ensures fault { IfErr result (λ fault. (fault ≡ FileFault.NoMemory) ⊎ IsTransfersFault stops.now bytes.now fault) }

@@ -12,8 +12,8 @@ pub record Sheet : Type 0 where
   pub names : List (List ℕ)
   pub rows : List (List (List ℕ))
 
--- The records of the bytes, as `csv` has them with its default settings: fields are parted by commas and may be quoted, and
--- records end with CR, LF or CRLF. Empty lines are passed over. A byte-order mark at the start is dropped.
+-- The records of the bytes, as `csv` has them with its default settings. Fields are parted by commas and may be quoted.
+-- Records end with CR, LF or CRLF. Empty lines are passed over. A byte-order mark at the start is dropped.
 abbrev pub AreRecordsOf : List ℕ → List (List (List ℕ)) → Type 0
 AreRecordsOf bytes records = AreRecords default_config st.StartRecord (strip_bom bytes) records
 

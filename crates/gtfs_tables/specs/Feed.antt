@@ -130,8 +130,8 @@ abbrev pub AreTransfersWrong : Found → FileFault → Type 0
 AreTransfersWrong found fault =
     (stops : List Stop) × StopsAre found stops × Holds (found file.Transfers) (λ bytes. IsTransfersFault stops bytes fault)
 
--- What is wrong first with a file. It is absent though it has to be there, or breaks a rule, in a row or as a whole, or
--- it has too many rows.
+-- What is wrong first with a file: it is absent though it has to be there, or breaks a rule, or has too many rows. A rule is of
+-- a row or of the whole file.
 abbrev pub IsFaultAt : Found → FeedFile → FileFault → Type 0
 IsFaultAt found file.Stops fault = MatchOption (found file.Stops) (IsAbsence fault) (λ bytes. IsStopsFault bytes fault)
 IsFaultAt found file.Trips fault = MatchOption (found file.Trips) (IsAbsence fault) (λ bytes. IsTripsFault bytes fault)

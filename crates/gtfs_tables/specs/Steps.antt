@@ -53,7 +53,7 @@ Judges at found Says IsWrong (Err (Wrong named fault)) = IsWrong found fault × 
 Judges at found Says IsWrong (Err Failed) = ⊥
 Judges at found Says IsWrong (Err NoMemory) = Unit {0}
 
--- How the step of a file ends: with what is made of what was found, at a failed read, or out of memory before the
+-- How the step of a file ends: with what is made of what was found, at a failed read, or out of memory. Memory runs out before the
 -- directory was asked for the file or after.
 abbrev pub StepEnds : {T : Type 0} → FolderSeen → FolderSeen → List ℕ → FeedFile → (Option (List ℕ) → T → Type 0) → (Option (List ℕ) → FileFault → Type 0) → Result T End → Type 0
 StepEnds old new feed at Says IsWrong (Ok value) = (found : Option (List ℕ)) × Finds old new feed at found × Says found value

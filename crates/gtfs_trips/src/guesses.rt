@@ -33,8 +33,8 @@ impl Guesses {
         })
     }
 
-    /// The trip of the row before, and the stop with this id that last followed its stop, or else one whose id has the same
-    /// hash. Linear in the id.
+    /// The trip of the row before, and the stop with this id that last followed its stop. Where there is none, a stop whose id has
+    /// the same hash. Linear in the id.
     pub(crate) fn next(&self, stops: &[Stop], id: &[u8]) -> Guess {
         let follower = place_in(&self.followers, self.stop);
         let stop = if has_key(stops, follower, id) {

@@ -149,7 +149,7 @@ fn reported_visits<'a>(
     visits_with(alloc, rows, columns, stops, trips, &places, &mut guesses)
 }
 
-// The visits of the rows, in their order, by this map of the ids of trips, if none of the rows breaks a rule by itself.
+// The visits of the rows, in their order, by this map of the ids of trips. None where a row breaks a rule by itself.
 fn visits_with<'a>(
     alloc: Global,
     rows: &'a Rows,

@@ -15,8 +15,8 @@ has_field name fields = nat_lt 0 (length (values_of name fields))
 abbrev pub is_hostless : ℕ → List FieldText → Bool
 is_hostless minor fields = (minor == 1) && not (length (values_of (codes "host") fields) == 1)
 
--- The status with which a head is refused, by the first test that it fails. The tests: too many fields, a body in chunks, a wrong
--- length, too long a body, no one host, a target of another form (RFC 9110, section 15.5; RFC 6585, section 5).
+-- The status with which a head is refused, by the first test that it fails (RFC 9110, section 15.5; RFC 6585, section 5). The
+-- tests: too many fields, a body in chunks, a wrong length, too long a body, no one host, a target of another form.
 abbrev pub refusal_of : ℕ → List ℕ → List FieldText → Option ℕ
 refusal_of minor target fields =
     if nat_lt 100 (length fields) then Some 431

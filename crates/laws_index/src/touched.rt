@@ -17,8 +17,8 @@ pub fn touch_few_keys()
     ensures { TouchFewKeys }
 {}
 
-/// The runs by the old news, where the keys without a run end and the runs that are others by the new news begin, are the runs
-/// by the new news, as they are worked out anew.
+/// An update of the runs by the old news gives the runs by the new news, as they are worked out anew. In it the keys without a run
+/// end, and the runs that are others by the new news begin.
 pub fn update_holds()
     ensures { UpdateHolds }
 {}

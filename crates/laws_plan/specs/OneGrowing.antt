@@ -22,7 +22,7 @@ pub record IsGrowingPlan (base : BaseParts) (first last : Side) (all : List Even
 abbrev pub NameTheSame : List ClientEnd → List ClientEnd → Type 0
 NameTheSame ends others = AllZip (λ (a b : ClientEnd). a.version ≡ b.version) ends others
 
--- Two such plans of the same events have one end for each client, where the time gates named equal versions and both last sides grew, or
+-- Two such plans of the same events have one end for each client, where the time gates named equal versions. Both last sides grew, or
 -- may grow, into one valid side. Their outcomes say the same, and exchanges are as many. X and Y are the types of the links.
 abbrev pub OneGrowingPlan : {X Y : Type 0} → (X → LinkSeen) → (Y → LinkSeen) → Type 0
 OneGrowingPlan {X} {Y} seen saw =

@@ -86,7 +86,7 @@ pub record ArePlanned (base : BaseParts) (first : Side) (all : List Event) (cach
       → EndsAt last query (rounds_of (place + 1) (order_of all) rounds) (sides_of (place + 1) (order_of all) sides) end
 
 -- The text is the clients' blocks. Over any link each client ended by the replies to its own exchanges. Over an honest link, also one whose
--- side grows, each ended rightly, and each reply that is recorded is that of the publisher's side at its exchange.
+-- side grows, each ended rightly. There each reply that is recorded is that of the publisher's side at its exchange.
 pub record IsPlanned (base : BaseParts) (all : List Event) (cache : ℕ) (before after : LinkSeen) (text : List ℕ) (ends : List ClientEnd) : Type 0 where
   pub text_is : text ≡ clients_text_of 1 ends
   pub one_each : length ends ≡ length (questions_in all)

@@ -5,7 +5,7 @@ use Rattle.lc_world.specs.Link.{LinkSeen}
 use Rattle.lc_world.specs.declared.entry.Entry.{Entry}
 use Rattle.publisher_spec.specs.Side.{IsLater, Side}
 
--- From the first side on to the last, each exchange was replied to by a side, each of which is a later one of the one before.
+-- From the first side on to the last, each exchange was replied to by a side. Each of them is a later one of the one before.
 abbrev pub AreRepliedAlong : Side → List Entry → Side → Type 0
 AreRepliedAlong first [] last = IsLater first last
 AreRepliedAlong first (entry ∷ more) last = (side : Side) × IsLater first side × IsRepliedBy side entry × AreRepliedAlong side more last

@@ -35,7 +35,7 @@ pub fn one_plan<L: Link, M: Link>()
     one_answer();
 }
 
-/// Two plans of the same events over links whose sides grow into one side result in the same, where the time gates named equal versions and no
+/// Two plans of the same events over links whose sides grow into one side result in the same. The time gates named equal versions, and no
 /// exchange failed.
 pub fn one_growing_plan<L: Link, M: Link>()
     ensures { OneGrowingPlan L.seen M.seen }

@@ -40,7 +40,7 @@ pub record PlanTheSame {X Y : Type 0} (p : Past X) (q : Past Y) (plan : Plan) (r
   pub tells : p.folder_before.files ≡ Some recorded
   pub tell : q.folder_before.files ≡ Some recorded
 
--- Runs of `plan` with the same words over the same files, whose links were quiet with one side, print one output where they have one to print. X
+-- Runs of `plan` with the same words over the same files, over quiet links with one side, print one output where they have one. X
 -- and Y are the types of the links, and `seen` and `saw` what is promised of them.
 abbrev pub OneQuietPlan : {X Y : Type 0} → (X → LinkSeen) → (Y → LinkSeen) → Type 0
 OneQuietPlan {X} {Y} seen saw =

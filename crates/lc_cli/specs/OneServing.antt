@@ -1,4 +1,4 @@
--- That a command begins from one side by its files, and that two runs of `serve` over the same files and the same bytes answer the same.
+-- A command begins from one side by its files. Two runs of `serve` over the same files and the same bytes answer the same.
 use Rattle.std.specs.Prelude.{◌≡◌, ◌≢◌, [], List, None, Some}
 use Rattle.cli_serve.specs.SameBytes.{AreOneSide, RecordsWell, ServeAlike}
 use Rattle.cli_words.specs.declared.command.Ask.{Ask}
@@ -27,7 +27,7 @@ BeginsFromIt {X} seen =
     (p : Past X) (recorded : List File) (status : Status) → p.folder_before.files ≡ Some recorded → (x : HasServed p status)
     → IsServedSide recorded x.right.serve (asked_of x.server).first
 
--- Runs of `serve` with equal arguments over equal files, which are done, are alike where equal bytes waited at their doors and no read or
+-- Runs of `serve` with equal arguments over equal files, which are done, are alike. Equal bytes waited at their doors, and no read or
 -- write failed. They sent the same on each connection, and wrote one text. X and Y are the types of their links.
 abbrev pub OneServing : {X Y : Type 0} → (X → LinkSeen) → (Y → LinkSeen) → Type 0
 OneServing {X} {Y} seen saw =

@@ -27,8 +27,8 @@ pub record Past (X : Type 0) : Type 0 where
   pub sink_after : SinkSeen
 
 -- The command has something to print: the counts of the feed's timetable, or the lines of messages and of the clients that asked. It was
--- written whole. The status is Done, or that of the first client without an answer: a refused question, a failed exchange,
--- or a reply that failed a test. Or the sink failed or ran out of memory, which it counted, and a front of it was written.
+-- written whole. The status is Done, or that of the first client without an answer. Such a client has a refused question, a failed
+-- exchange, or a reply that failed a test. Or the sink failed or ran out of memory, which it counted, and a front of it was written.
 pub record HasPrinted {X : Type 0} (seen : X → LinkSeen) (p : Past X) (status : Status) : Type 0 where
   pub block : Block
   pub right : IsRightBlock p.words p.folder_before p.folder_after (seen p.link_before) (seen p.link_after) block

@@ -53,8 +53,8 @@ pub fn worked_end()
     one_arrival();
 }
 
-/// Of publishers of the small feed, a client of `plan` with the worked journey ends best, as the headline of `plan` has it, and one whose end is only
-/// near does not.
+/// Of publishers of the small feed, a client of `plan` with the worked journey ends best, as the headline of `plan` has it. One whose end is
+/// only near does not.
 pub fn worked_plan()
     ensures takes { (journey : JourneyValue) → IsMadeOf None worked None journey → IsBestPlan from_a_to_d (answers.Journey journey) }
 

@@ -1,5 +1,5 @@
 //! Directories to read and sinks to write as traits, with the meanings that contracts cite and counts of
-//! their faults, and forms of them in memory. It builds on `lc_model`.
+//! their faults. It has forms of both in memory, and builds on `lc_model`.
 #![tactic(auto)]
 
 mod file;

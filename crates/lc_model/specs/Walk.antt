@@ -1,5 +1,5 @@
--- Walks at the ends of a journey: from a stop where the question may begin to the first ride, or from the last ride
--- to a stop where it may end. Each is by a change between the two stops.
+-- Walks at the ends of a journey: from a stop where the question may begin to the first ride, or from the last ride.
+-- The latter leads to a stop where the question may end. Each is by a change between the two stops.
 use Rattle.std.specs.Prelude.{◌≡◌, ◌≢◌, ℕ, ◌<◌, ◌⊎◌, List, Option, Some, None}
 use Rattle.std.specs.declared.cmp.Ordering.TheVariants.{Greater}
 use Rattle.lc_model.specs.Change.{change_between}

@@ -4,7 +4,7 @@ use crate::{NoMemory, PlainData, Rides, Walk};
 use std::alloc::Global;
 
 /// A journey: at least one ride, one after the other. A walk is before them where the first does not
-/// board at an end of the question, and after them where the last does not alight at one.
+/// board at an end of the question. One is after them where the last does not alight at one.
 #[derive(Drop)]
 pub struct Journey {
     pub before: Option<Walk>,

@@ -14,7 +14,7 @@ pub record StopSaid : Type 0 where
   pub arr : Option Event
   pub dep : Option Event
 
--- The news of one trip: its id, the date and the start of the run as far as they are said, and what the news are. The
+-- The news of one trip: its id, the date and the start of the run as far as they are said. What the news are, and the
 -- news of its stops in the order of the message.
 pub record TripSaid : Type 0 where
   pub trip : List ℕ

@@ -1,4 +1,4 @@
-//! Links to a publisher as a trait with the meanings that contracts cite and a count of its faults, and a form of them in memory. It hands on
+//! Links to a publisher as a trait with the meanings that contracts cite and a count of its faults, with a form in memory. It hands on
 //! the rest of the outside: directories and sinks of `lc_io`, doors and talks of `lc_doors`. It builds on these two, on `http_text` for
 //! requests, and on `publisher_spec` for what a link may have at its other end.
 #![tactic(auto)]

@@ -4,36 +4,36 @@ use memchr::{memchr, memmem};
 
 /// What is left of a text.
 #[derive(Drop)]
-pub struct Cursor<'a> {
+pub(crate) struct Cursor<'a> {
     rest: &'a [u8],
 }
 
 impl<'a> Cursor<'a> {
-    pub fn new(text: &'a [u8]) -> Cursor<'a> {
+    pub(crate) fn new(text: &'a [u8]) -> Cursor<'a> {
         Cursor { rest: text }
     }
 
     /// How many bytes are left.
-    pub fn left(&self) -> usize {
+    pub(crate) fn left(&self) -> usize {
         self.rest.len()
     }
 
     /// Moves past these bytes, if they come next.
     #[inline(always)]
-    pub fn skip(&mut self, bytes: &[u8]) -> Option<()> {
+    pub(crate) fn skip(&mut self, bytes: &[u8]) -> Option<()> {
         self.rest = self.rest.strip_prefix(bytes)?;
         Some(())
     }
 
     /// Moves past the first place where these bytes are, if they are there.
-    pub fn find(&mut self, bytes: &[u8]) -> Option<()> {
+    pub(crate) fn find(&mut self, bytes: &[u8]) -> Option<()> {
         let place = memmem::find(self.rest, bytes)?;
         self.rest = self.rest.get(place..)?;
         self.skip(bytes)
     }
 
     /// The bytes before the next one that is this mark. Moves past the mark.
-    pub fn before(&mut self, mark: u8) -> Option<&'a [u8]> {
+    pub(crate) fn before(&mut self, mark: u8) -> Option<&'a [u8]> {
         let place = memchr(mark, self.rest)?;
         let (front, rest) = self.rest.split_at(place);
         self.rest = rest.get(1..)?;
@@ -42,13 +42,13 @@ impl<'a> Cursor<'a> {
 
     /// The bytes between these, which come next, and the next quote. Moves past the quote.
     #[inline(always)]
-    pub fn text_after(&mut self, front: &[u8]) -> Option<&'a [u8]> {
+    pub(crate) fn text_after(&mut self, front: &[u8]) -> Option<&'a [u8]> {
         self.skip(front)?;
         self.before(b'"')
     }
 
     /// The whole number between these bytes, which come next, and the next comma. Moves past the comma.
-    pub fn number_after(&mut self, front: &[u8]) -> Option<i64> {
+    pub(crate) fn number_after(&mut self, front: &[u8]) -> Option<i64> {
         self.skip(front)?;
         let digits = std::str::from_utf8(self.before(b',')?).ok()?;
         digits.parse::<i64>().ok()

@@ -1,5 +1,5 @@
-//! The pages of connections and the stops document as JSON, each with its exact text, read back, and with the first fault
-//! of every other text. It hands on the fault of `json_members`, and builds on it, on `lc_model`, on `lc_time`, on
+//! The pages of connections and the stops document as JSON, each with its exact text, which is read back. Every other text has
+//! its first fault. It hands on the fault of `json_members`, and builds on it, on `lc_model`, on `lc_time`, on
 //! `connection_uri`, on `json` and on `serde_json`.
 #![tactic(auto)]
 

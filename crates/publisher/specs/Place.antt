@@ -7,8 +7,8 @@ use Rattle.publisher.specs.declared.place.Place.{Place}
 abbrev pub AreRising : List ℕ → Type 0
 AreRising cuts = AllPairs (λ (x y : ℕ). x < y) cuts
 
--- After these two cuts, of which the first may be missing: the last cut at or before the moment, or else the second one, with its
--- neighbours.
+-- After these two cuts, of which the first may be missing: the last cut at or before the moment, with its neighbours. Where there is
+-- none, the second one.
 abbrev pub place_behind : Option ℕ → ℕ → List ℕ → ℕ → Place
 place_behind previous cut [] moment = record { previous = previous; cut = cut; next = None }
 place_behind previous cut (next ∷ rest) moment =

@@ -41,7 +41,7 @@ impl CutCache {
         })
     }
 
-    /// The place of the page for a moment of departure, if the cuts of the version are cached: they are the most recently used ones then.
+    /// The place of the page for a moment of departure, if the cuts of the version are cached. Those are the most recently used ones then.
     /// Takes the logarithm of the cuts.
     pub fn place(&mut self, version: Moment, departs: Moment) -> Option<Place>
         requires { AllRise self.old }

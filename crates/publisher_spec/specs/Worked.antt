@@ -58,7 +58,7 @@ pub record WorkedPages (key : RunKey) : Type 0 where
       ≡ record { name = named 7 (at 10 0); next = None; previous = Some (named 7 (at 9 0)); list = connections_at key (at 10 0 ∷ []) }
   pub empty : page_at 7 [] [] (at 8 0) ≡ record { name = named 7 0; next = None; previous = None; list = [] }
 
--- The reply at the time gate for 2024-05-01T08:00:00Z at the version of 07:00:00, a status, one that closes, an unknown method, and a
+-- The reply at the time gate for 2024-05-01T08:00:00Z at the version of 07:00:00. A status, one that closes, an unknown method, and a
 -- reply to a HEAD.
 pub record WorkedReplies (doc : StopsDoc) : Type 0 where
   pub found :

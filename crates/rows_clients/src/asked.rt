@@ -132,7 +132,7 @@ pub static REQUESTS: [Case; 3] = [
 /// The replies after which an exchange fails.
 pub static CUT_OFF: [Case; 1] = [("A", "D", 28_800, 86_400, "gate/08:00:00")];
 
-/// Replies by one word: what a publisher of the small feed replies, with its pages cut each half hour, or with a page for each
+/// Replies by one word: what a publisher of the small feed replies. Its pages are cut each half hour, or it has a page for each
 /// connection. Of the latter the time gate names the first from its path on. There is a page a second, too.
 pub fn replies_of(words: &str) -> &str {
     match words {

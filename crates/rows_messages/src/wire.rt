@@ -62,8 +62,8 @@ const LONG: &[u8] = b"\x88\x80\x00\x85\x80\x80\x00";
 
 /// Bytes, and the place in them at which the field begins.
 static FIELDS: [(&str, &[u8], usize); 31] = [
-    // Written by protoc 3.21 from a schema of the fields 1 a (uint64), 2 b (fixed64), 3 c (bytes), 5 d (fixed32) and 536870911 e
-    // (int32): printf '%s' TEXT | protoc --encode=M m.proto, of the text before each row, where '=' stands for its colon.
+    // Written by protoc 3.21 from a schema of the fields 1 a (uint64), 2 b (fixed64), 3 c (bytes), 5 d (fixed32), 536870911 e (int32).
+    // The command is printf '%s' TEXT | protoc --encode=M m.proto, of the text before each row. There '=' stands for its colon.
     ("a=150", b"\x08\x96\x01", 0),
     (
         "a=18446744073709551615",

@@ -22,7 +22,7 @@ Found = RunKey → Option (Option ℕ)
 abbrev pub HasPlaces : ℕ → State → List Place → Type 0
 HasPlaces number state places = (p : Place) → IsOf number state p → Contains places p
 
--- the run is ready to begin: its state is at the number and holds in no version, its places are there, and so is its key
+-- The run is ready to begin: its state is at the number and holds in no version. Its places are there, and so is its key.
 pub record IsReady (states : List State) (places : List Place) (found : Found) (ready : Ready) (run : Run) : Type 0 where
   pub stands : slice_get states ready.number ≡ Some (closed_state run)
   pub same_key : ready.key ≡ run.key

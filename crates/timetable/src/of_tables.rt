@@ -1,5 +1,5 @@
 //! What is made of the tables of a feed: the dates of its services, its runs, and the changes between its stops. Each call hands on to the
-//! crate that makes it, which knows nothing of a feed as a whole and so need not wait for `gtfs_tables`.
+//! crate that makes it. That crate knows nothing of a feed as a whole, and need not wait for `gtfs_tables`.
 
 ghost use Rattle.std.specs.Prelude.{◌≡◌, ◌≤◌, ℕ, IfErr, IfOk, List, OnOk, length};
 ghost use Rattle.change_table.specs.ChangeRule.{change_of};

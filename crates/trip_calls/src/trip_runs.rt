@@ -177,8 +177,8 @@ fn push_runs(
     Ok(())
 }
 
-/// Adds the runs of a trip of the feed. It takes the time of its runs and their calls, of four binary searches, and of a sort
-/// of the starts that its rows of frequencies.txt give. These are sorted by their trips.
+/// Adds the runs of a trip of the feed, by rows of frequencies.txt that are sorted by their trips. It takes the time of its runs and
+/// their calls, of four binary searches, and of a sort of the starts that its rows give.
 pub(crate) fn push_trip(
     alloc: Global,
     runs: &mut Vec<Run>,

@@ -16,8 +16,8 @@ pub data Message : Type 0 where
   stop_time_update : Message
   stop_time_event : Message
 
--- What a field is read as: not at all, as a varint, as a text, as a message that is there at most once, or as one of several
--- messages.
+-- What a field is read as: not at all, as a varint, as a text, or as a message. A message is there at most once, or is one of
+-- several.
 pub data Kind : Type 0 where
   skipped : Kind
   a_varint : Kind

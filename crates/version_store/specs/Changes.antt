@@ -28,7 +28,7 @@ pub record AreBegunOf (old new begun : List Run) : Type 0 where
   pub begins : (run : Run) → Contains begun run → Contains new run
   pub all : (run : Run) → Contains new run → Contains begun run ⊎ (Contains old run × NoneHas begun run.key)
 
--- these keys of the old runs end: no new run has one of them, and each other old run has a new one of its key
+-- These keys of the old runs end: no new run has one of them. Each other old run has a new one of its key.
 pub record AreEndedOf (old new : List Run) (ended : List RunKey) : Type 0 where
   pub ends : (run : Run) → Contains ended run.key → Contains new run → ⊥
   pub gone : (run : Run) → Contains old run → Contains ended run.key ⊎ SomeHas new run.key

@@ -16,7 +16,7 @@ stored_of store = record {
   history = map (λ (a : Admission). entry_of a.update a.bytes) store.admitted.items;
 }
 
--- The list of versions and the sum of bytes are those of the messages, which have no more bytes than may be, and the index has the runs of
+-- The list of versions and the sum of bytes are those of the messages, which have no more bytes than may be. The index has the runs of
 -- each version.
 pub record IsKept (store : Inside) : Type 0 where
   pub versions : store.versions.items ≡ store.base ∷ moments_of (stored_of store).history

@@ -43,7 +43,7 @@ impl Store {
     }
 
     /// The connections of a version that depart from a moment on, and before the other one where there is one, in departure
-    /// order. It takes the time of a walk over the connections that depart then in any version, and of a sort of those of this one, which
+    /// order. It takes the time of a walk over the connections that depart then in any version, and of a sort of those of this one. The sort
     /// is one walk where runs were neither added nor changed.
     pub fn rows(
         &self,

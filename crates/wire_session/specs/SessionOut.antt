@@ -1,4 +1,4 @@
--- What a session says to the bytes of one connection: the replies to the whole requests at their front, each from the side
+-- What a session says to the bytes of one connection: the replies to the whole requests at their front. Each is from the side
 -- that the one before left. The last is to a request that closes (RFC 9112, section 9.6), to a refused head, or the hundredth.
 use Rattle.std.specs.Prelude.{◌≡◌, ℕ, zero, suc, Bool, true, false, List, [], ◌∷◌, take, drop}
 use Rattle.http_text.specs.ReplyText.{reply_text_of}
