@@ -14,6 +14,6 @@ pub use admission::give;
 pub use block::push_client;
 pub use end::ClientEnd;
 pub use laws::{one_output, one_publisher, some_wants};
-pub use publishing::{copy_of, publisher_of, serving_publisher};
+pub use publishing::{publisher_of, serving_publisher};
 pub use question::{Asked, ask};
 pub use version_store::MessageFault;

@@ -1,11 +1,9 @@
 ghost use Rattle.std.specs.Prelude.{◌≡◌, IfErr, IfOk};
 ghost use Rattle.cli_ask.specs.Admission.{IsFaulty};
 ghost use Rattle.cli_ask.specs.Publishing.{PublishesAfter, held_for, held_with, store_of};
-ghost use Rattle.connection_uri.specs.Base.{BaseParts};
 
 use crate::admission::admit;
 use cli_words::Publishing;
-use connection_uri::{Base, bases_are_read};
 use fragmenter::Cutting;
 use lc_model::NoMemory;
 use lc_world::File;
@@ -67,15 +65,4 @@ fn publisher_for(
         accept_updates,
     };
     Publisher::new(alloc, runs, doc, zone, base_moment, cutting, options)
-}
-
-/// A copy of the base.
-pub fn copy_of(alloc: Global, base: &Base) -> Result<Base, NoMemory>
-    ensures { IfOk result (λ copy. copy ≡ base.now) }
-{
-    bases_are_read();
-    match Base::read(alloc, base.text().as_bytes())? {
-        Some(copy) => Ok(copy),
-        None => unreachable!(),
-    }
 }

@@ -7,12 +7,12 @@ ghost use Rattle.version_store.specs.declared.message_fault.MessageFault.TheVari
 use crate::ClientEnd;
 use crate::block::push_client;
 use crate::client::client_end;
-use crate::publishing::{copy_of, serving_publisher};
+use crate::publishing::serving_publisher;
 use cli_words::Publishing;
 use connection_uri::Base;
 use fragmenter::Cutting;
 use lc_links::{HomeLink, LocalLink};
-use lc_model::{NoMemory, Query};
+use lc_model::{NoMemory, PlainData, Query};
 use lc_world::{File, Link};
 use publisher::Publisher;
 use std::alloc::Global;
@@ -67,7 +67,7 @@ fn prepare(
     ensures prepared { IfOk result (λ prepared. IsPrepared made publishing file.now prepared.publisher prepared.base prepared.line.items) }
     ensures faulty { IfErr result (IsFaulty file.now) }
 {
-    let base = copy_of(alloc, &publishing.base)?;
+    let base = publishing.base.copy(alloc)?;
     prepare_under(alloc, base, made, publishing, file)
 }
 

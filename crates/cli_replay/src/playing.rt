@@ -5,13 +5,13 @@ ghost use Rattle.laws_replay.specs.Events.{TurnsAreOfClients};
 ghost use Rattle.laws_replay.specs.Replayed.{IsReplayed};
 
 use crate::course::play_out;
-use cli_ask::{ClientEnd, copy_of, publisher_of};
+use cli_ask::{ClientEnd, publisher_of};
 use cli_words::Publishing;
 use connection_uri::Base;
 use fragmenter::Cutting;
 use laws_replay::{Event, courses_are_caused, courses_are_heard, courses_are_right};
 use lc_links::{HomeLink, LocalLink};
-use lc_model::NoMemory;
+use lc_model::{NoMemory, PlainData};
 use lc_world::Link;
 use std::alloc::Global;
 use timetable::Timetable;
@@ -66,7 +66,7 @@ fn prepare(alloc: Global, made: Timetable, publishing: Publishing) -> Result<Pre
     ensures held { IfOk result (λ prepared. prepared.local.publisher ≡ held_with made publishing (store_of made publishing.base_moment)) }
     ensures valid { OnOk result (IsValidSide (side_with made publishing (store_of made publishing.base_moment))) }
 {
-    let base = copy_of(alloc, &publishing.base)?;
+    let base = publishing.base.copy(alloc)?;
     let publisher = publisher_of(alloc, made, publishing)?;
     publisher.side_is_valid();
     let local = LocalLink::new(alloc, publisher)?;

@@ -5,7 +5,7 @@ ghost use Rattle.url.specs.Parts.{Parts, IsValid};
 ghost use Rattle.connection_uri.specs.Base.{is_path_byte, base_of, IsPlainPath, IsBareHttp, IsPlain, IsBase, ReadsAsBase, BasesAreWritten, BasesAreRead, OneBase};
 
 use crate::encoding::is_unreserved;
-use lc_model::NoMemory;
+use lc_model::{NoMemory, PlainData};
 use std::alloc::Global;
 use std::marker::Model;
 use url::{ParseError, Url};
@@ -72,10 +72,10 @@ impl Base {
     {
         self.url.path()
     }
+}
 
-    pub fn copy(&self) -> Result<Base, NoMemory>
-        ensures { IfOk result (λ base. base ≡ self.now) }
-    {
+impl PlainData for Base {
+    fn copy(&self, _alloc: Global) -> Result<Base, NoMemory> {
         Ok(Base {
             url: self.url.clone()?,
         })

@@ -2,8 +2,8 @@ ghost use Rattle.std.specs.Prelude.{◌≡◌, Some};
 ghost use Rattle.gtfs_rows.specs.Texts.{fault_text};
 ghost use Rattle.gtfs_rows.specs.declared.fault.RowFault.TheVariants.{NoMemory as OutOfMemory};
 
-use lc_model::{NoMemory, Text};
-use std::alloc::AllocError;
+use lc_model::{NoMemory, PlainData, Text};
+use std::alloc::{AllocError, Global};
 use std::error::Error;
 use std::fmt;
 
@@ -20,6 +20,20 @@ pub enum RowFault {
     Ragged { row: u64 },
     /// There was not enough memory.
     NoMemory,
+}
+
+impl PlainData for RowFault {
+    fn copy(&self, alloc: Global) -> Result<RowFault, NoMemory> {
+        Ok(match self {
+            RowFault::NotUtf8 => RowFault::NotUtf8,
+            RowFault::NoHeader => RowFault::NoHeader,
+            RowFault::NoColumn { name } => RowFault::NoColumn {
+                name: name.copy(alloc)?,
+            },
+            RowFault::Ragged { row } => RowFault::Ragged { row: *row },
+            RowFault::NoMemory => RowFault::NoMemory,
+        })
+    }
 }
 
 impl fmt::Display for RowFault {

@@ -2,8 +2,8 @@ ghost use Rattle.std.specs.Prelude.{◌≡◌, Some};
 ghost use Rattle.json_members.specs.declared.fault.PageFault.TheVariants.{NoMemory as OutOfMemory};
 ghost use Rattle.json_members.specs.Texts.{fault_text};
 
-use lc_model::{NoMemory, Text};
-use std::alloc::{AllocError, AllocFailed};
+use lc_model::{NoMemory, PlainData, Text};
+use std::alloc::{AllocError, AllocFailed, Global};
 use std::error::Error;
 use std::fmt;
 
@@ -20,6 +20,22 @@ pub enum PageFault {
     NotOrdered { place: usize },
     /// There was not enough memory.
     NoMemory,
+}
+
+impl PlainData for PageFault {
+    fn copy(&self, alloc: Global) -> Result<PageFault, NoMemory> {
+        Ok(match self {
+            PageFault::NotJson => PageFault::NotJson,
+            PageFault::NoMember { name } => PageFault::NoMember {
+                name: name.copy(alloc)?,
+            },
+            PageFault::BadMember { name } => PageFault::BadMember {
+                name: name.copy(alloc)?,
+            },
+            PageFault::NotOrdered { place } => PageFault::NotOrdered { place: *place },
+            PageFault::NoMemory => PageFault::NoMemory,
+        })
+    }
 }
 
 impl fmt::Display for PageFault {

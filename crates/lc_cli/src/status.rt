@@ -2,8 +2,9 @@ ghost use Rattle.std.specs.Prelude.{◌≡◌};
 ghost use Rattle.lc_cli.specs.Status.{code_of};
 
 use gtfs_tables::What;
-use lc_model::{Bytes, Text};
+use lc_model::{Bytes, NoMemory, PlainData, Text};
 use page_client::{PeerFault, QueryFault};
+use std::alloc::Global;
 use trip_updates::RtFault;
 
 /// How a run ended.
@@ -66,6 +67,64 @@ pub enum Status {
         what: What,
         count: u64,
     },
+}
+
+impl PlainData for Status {
+    fn copy(&self, alloc: Global) -> Result<Status, NoMemory> {
+        Ok(match self {
+            Status::Done => Status::Done,
+            Status::Usage => Status::Usage,
+            Status::FeedBroken { rule, file, row } => Status::FeedBroken {
+                rule: *rule,
+                file: file.copy(alloc)?,
+                row: *row,
+            },
+            Status::UpdateBroken { name, fault } => Status::UpdateBroken {
+                name: name.copy(alloc)?,
+                fault: *fault,
+            },
+            Status::PeerWrong {
+                client,
+                reply,
+                fault,
+            } => Status::PeerWrong {
+                client: *client,
+                reply: reply.copy(alloc)?,
+                fault: fault.copy(alloc)?,
+            },
+            Status::FolderFault { before, after } => Status::FolderFault {
+                before: *before,
+                after: *after,
+            },
+            Status::SinkFault { before, after } => Status::SinkFault {
+                before: *before,
+                after: *after,
+            },
+            Status::LinkFault {
+                client,
+                before,
+                after,
+            } => Status::LinkFault {
+                client: *client,
+                before: *before,
+                after: *after,
+            },
+            Status::QueryRefused { client, fault } => Status::QueryRefused {
+                client: *client,
+                fault: *fault,
+            },
+            Status::DoorFault { before, after } => Status::DoorFault {
+                before: *before,
+                after: *after,
+            },
+            Status::ScriptWrong { row } => Status::ScriptWrong { row: *row },
+            Status::NoMemory => Status::NoMemory,
+            Status::TooLarge { what, count } => Status::TooLarge {
+                what: *what,
+                count: *count,
+            },
+        })
+    }
 }
 
 /// The exit status of the program.

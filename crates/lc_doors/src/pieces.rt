@@ -1,7 +1,8 @@
 ghost use Rattle.std.specs.Prelude.{◌≡◌};
 ghost use Rattle.lc_doors.specs.Pieces.{NoneIsEmpty};
 
-use lc_model::Bytes;
+use lc_model::{Bytes, NoMemory, PlainData, copy_each};
+use std::alloc::Global;
 use std::marker::Model;
 
 /// The bytes that come on one connection, in the pieces in which they come. No piece is empty.
@@ -41,5 +42,13 @@ impl Pieces {
         ensures { result.now ≡ self.now }
     {
         self.items.as_slice()
+    }
+}
+
+impl PlainData for Pieces {
+    fn copy(&self, alloc: Global) -> Result<Pieces, NoMemory> {
+        Ok(Pieces {
+            items: copy_each(alloc, &self.items)?,
+        })
     }
 }

@@ -3,7 +3,9 @@ ghost use Rattle.page_client.specs.Fault.{IsWant};
 ghost use Rattle.page_client.specs.Texts.{peer_fault_text, query_fault_text};
 
 use http_text::ReplyFault;
+use lc_model::{NoMemory, PlainData};
 use page_json::{Page, PageFault};
+use std::alloc::Global;
 use std::error::Error;
 use std::fmt;
 
@@ -52,6 +54,22 @@ pub enum PeerFault {
     Advance,
     /// The time gate sent to this page, though another is for the moment when the question leaves.
     GateWrong { page: Page },
+}
+
+impl PlainData for PeerFault {
+    fn copy(&self, alloc: Global) -> Result<PeerFault, NoMemory> {
+        Ok(match self {
+            PeerFault::Reply(fault) => PeerFault::Reply(*fault),
+            PeerFault::Status { got } => PeerFault::Status { got: *got },
+            PeerFault::Location => PeerFault::Location,
+            PeerFault::Body(fault) => PeerFault::Body(fault.copy(alloc)?),
+            PeerFault::Identity => PeerFault::Identity,
+            PeerFault::Advance => PeerFault::Advance,
+            PeerFault::GateWrong { page } => PeerFault::GateWrong {
+                page: page.copy(alloc)?,
+            },
+        })
+    }
 }
 
 impl fmt::Display for PeerFault {

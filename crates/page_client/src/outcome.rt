@@ -22,6 +22,24 @@ pub enum Outcome {
     PeerWrong { reply: Bytes, fault: PeerFault },
 }
 
+impl PlainData for Outcome {
+    fn copy(&self, alloc: Global) -> Result<Outcome, NoMemory> {
+        Ok(match self {
+            Outcome::Found(journey) => Outcome::Found(journey.copy(alloc)?),
+            Outcome::NoJourney => Outcome::NoJourney,
+            Outcome::Refused(fault) => Outcome::Refused(*fault),
+            Outcome::LinkFault { before, after } => Outcome::LinkFault {
+                before: *before,
+                after: *after,
+            },
+            Outcome::PeerWrong { reply, fault } => Outcome::PeerWrong {
+                reply: reply.copy(alloc)?,
+                fault: fault.copy(alloc)?,
+            },
+        })
+    }
+}
+
 /// A reply that fails a test.
 pub fn wrong(reply: Vec<u8>, fault: PeerFault) -> Outcome
     ensures { result ≡ outcomes.PeerWrong reply.items fault }

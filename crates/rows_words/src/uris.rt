@@ -1,7 +1,7 @@
 //! Values from outside: the URL Standard, RFC 3986, and names written by hand.
 use crate::lines::{moment, put_flag, put_input, put_number, put_read};
 use connection_uri::{Base, decode, encode, name, page_url, read_name, read_page_url};
-use lc_model::{Id, PageName, RunKey};
+use lc_model::{Id, PageName, PlainData, RunKey};
 use lc_time::read_date;
 use rows_common::{Unmade, put_line};
 use std::alloc::Global;
@@ -60,14 +60,14 @@ fn put_read_base(alloc: Global, text: &mut String, name: &str, input: &[u8]) -> 
 
 fn put_base(alloc: Global, text: &mut String, input: &[u8]) -> Result<(), Unmade> {
     match Base::read(alloc, input) {
-        Ok(Some(base)) => put_copied_base(text, &base),
+        Ok(Some(base)) => put_copied_base(alloc, text, &base),
         Ok(None) => put_line(text, "base", "none"),
         Err(_) => Err(Unmade),
     }
 }
 
-fn put_copied_base(text: &mut String, base: &Base) -> Result<(), Unmade> {
-    match base.copy() {
+fn put_copied_base(alloc: Global, text: &mut String, base: &Base) -> Result<(), Unmade> {
+    match base.copy(alloc) {
         Ok(copy) => put_parts(text, &copy),
         Err(_) => Err(Unmade),
     }
