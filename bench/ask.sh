@@ -5,7 +5,7 @@
 #   bench/ask.sh
 #
 # LC is the program, ROUNDS the number of rounds, RUNS how often a round runs the program on each feed. BESIDE is perhaps another
-# program, say an earlier one: it runs in turn with LC, and two more columns say what LC takes of its time and of its memory, by
+# program, say an earlier one, which runs in turn with LC. Two more columns then say what LC takes of its time and of its memory, by
 # /usr/bin/time of GNU.
 . "$(dirname "$0")/begin.sh"
 

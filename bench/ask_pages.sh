@@ -1,7 +1,7 @@
 #!/bin/sh
-# What `ask` takes beside the reading of the feed, that of publishing and of following pages, for each connection of the version and each
-# reply that is made of them, those with a page and the time gate's. Prints a table, and fails where that grows more than twofold from 10,000
-# connections to 1,000,000. See docs/PERFORMANCE.md.
+# What `ask` takes beside the reading of the feed: for publishing pages and for following them. That is divided by the connections of the
+# version, and by the replies that are made of them. Those are the pages and the time gate's replies. Prints a table, and fails where the
+# quotient grows more than twofold from 10,000 connections to 1,000,000. See docs/PERFORMANCE.md.
 #
 #   bench/ask_pages.sh
 #

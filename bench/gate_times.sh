@@ -1,6 +1,6 @@
 #!/bin/sh
-# What each crate costs the merge gate where nothing is kept, in processor seconds: its proof; its mutants, of which the first proves the crate
-# once more; and of a program what its first build and its run take. Prints the table of docs/GATE.md.
+# What each crate costs the merge gate where nothing is kept, in processor seconds: its proof and its mutants. The first mutant proves the crate
+# once more. A program also costs its first build and its run. Prints the table of docs/GATE.md.
 #
 #   bench/gate_times.sh [--write] [CRATE..]
 #

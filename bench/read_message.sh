@@ -1,7 +1,7 @@
 #!/bin/sh
-# How the processor time of `read_message` grows with the bytes of a message, up to the longest that is admitted, and how much
-# memory it takes. Prints two tables, and fails where doubling the bytes takes more than 2.3 times, or where the memory is more
-# than 8 times the bytes of a usual message or 30 times those of a hostile one. See docs/PERFORMANCE.md.
+# How the processor time of `read_message` grows with the bytes of a message, up to the longest that is admitted. Also how much
+# memory it takes. Prints two tables. It fails where doubling the bytes takes more than 2.3 times. It also fails where the memory
+# is more than 8 times the bytes of a usual message, or 30 times those of a hostile one. See docs/PERFORMANCE.md.
 #
 #   bench/read_message.sh
 #

@@ -1,6 +1,7 @@
 #!/bin/sh
-# What `replay` ends with where one request for memory is refused, each number in turn: with its whole output, or with status 12 after a prefix of its
-# output or of the line `error no memory`. Prints how many runs ended in each way, and fails where one ends otherwise. It needs a C compiler.
+# What `replay` ends with where one request for memory is refused, each number in turn. It may end with its whole output, or with status 12 after a
+# prefix of its output or of the line `error no memory`. Prints how many runs ended in each way, and fails where one ends otherwise. It needs a C
+# compiler.
 #
 #   bench/refused_memory.sh [ARGUMENT...]
 #

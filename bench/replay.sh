@@ -1,6 +1,6 @@
 #!/bin/sh
-# What `replay` takes beside the reading of the feed: how that grows with the clients and with the messages of a script, and beside the same
-# questions put by `ask`, one by one. Prints a table, and fails where twice the clients or twice the messages take more than 2.3 times.
+# What `replay` takes beside the reading of the feed, and how that grows with the clients and with the messages of a script. Beside it, what
+# `ask` takes for the same questions, one by one. Prints a table, and fails where twice the clients or twice the messages take more than 2.3 times.
 # See docs/PERFORMANCE.md.
 #
 #   bench/replay.sh

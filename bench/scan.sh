@@ -1,6 +1,6 @@
 #!/bin/sh
 # How long a scan takes a connection where no walk is possible: no stop has a change to another one. Beside it, where there is
-# another checkout of this repository, how long the scan there takes; fails where this one takes more than four thirds of that.
+# another checkout of this repository, how long the scan there takes. Fails where this one takes more than four thirds of that.
 #
 #   bench/scan.sh [CHECKOUT]
 #

@@ -1,14 +1,14 @@
 #!/usr/bin/env node
-// A planner over published pages, which shares no code with `lc`. It needs nothing but `fetch`, so it runs in node from 18 on, and its functions
+// A planner over published pages, which shares no code with `lc`. It needs nothing but `fetch`. So it runs in node from 18 on, and its functions
 // run in a browser.
 //
 //   node planner.mjs BASE FROM TO MOMENT [HORIZON]
 //
-// BASE ends with a slash, FROM and TO are ids of stops, MOMENT is in UTC, as 2024-05-01T08:00:00Z, and HORIZON is in seconds, 86400 if it is not
+// BASE ends with a slash, and FROM and TO are ids of stops. MOMENT is in UTC, as 2024-05-01T08:00:00Z. HORIZON is in seconds, 86400 if it is not
 // given. It prints the best arrival, or `no journey`, and how many pages it took.
 //
-// What it follows is docs/PROTOCOL.md: it asks the time gate once, reads the stops once, and goes from page to page by `hydra:next` until a later
-// page cannot help.
+// What it follows is docs/PROTOCOL.md. It asks the time gate once, and reads the stops once. Then it goes from page to page by `hydra:next`, until
+// a later page cannot help.
 
 const DAY = 86400;
 
