@@ -1,4 +1,4 @@
-# How every script here begins that measures: it ends at the first failure. `bench` is the folder of the scripts, and `work` a new one,
+# How every script here begins that measures: it ends at the first failure. `bench` is the directory of the scripts, and `work` a new one,
 # which goes when the script ends.
 set -eu
 

@@ -1,9 +1,9 @@
 #!/bin/sh
-# Builds a program that times calls of this repository's crates, in a repository of its own, and prints where it stands.
+# Builds a program that times calls of this repository's crates, in a repository of its own, and prints where it is.
 #
-#   bench/build.sh FOLDER MAIN CRATE..
+#   bench/build.sh DIR MAIN CRATE..
 #
-# FOLDER is an empty folder to build in, MAIN the text of the program, and each CRATE one that it names.
+# DIR is an empty directory to build in, MAIN the text of the program, and each CRATE one that it names.
 set -eu
 
 folder=$1 main=$2
@@ -21,7 +21,7 @@ for crate in "$top"/crates/*/; do
     done
 done
 echo 'build.sh: proving and building the program; the first time takes minutes' >&2
-# Without its words the program may fail: only that it is there counts.
+# Without its arguments the program may fail: only that it is there counts.
 (cd "$folder/crates/timed" && rt run) > "$folder/log" 2>&1 < /dev/null || true
 [ -x "$folder/crates/timed/out/timed" ] || { tail -n 40 "$folder/log" >&2; echo 'build.sh: the program could not be built' >&2; exit 1; }
 echo "$folder/crates/timed/out/timed"

@@ -74,7 +74,7 @@ def cell(taken, else_says):
 def row(name):
     """The row of a crate: the processor seconds of each part, or why there are none."""
     folder = f"{copy}/crates/{name}"
-    # What stands below is not counted, so what is kept of it serves.
+    # What is below is not counted, so what was kept of it serves.
     for below in named[name]:
         if below in named:
             seconds(rt, ["lib"], f"{copy}/crates/{below}")

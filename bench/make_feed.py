@@ -3,9 +3,10 @@
 
     make_feed.py ROWS DIR [DAYS]
 
-The trips run on DAYS days from 2024-05-01 on, one where it is not given, and at most 31. DIR gets stops.txt, trips.txt, stop_times.txt and calendar_dates.txt. stop_times.txt has ROWS rows behind its header:
-trips of 10 calls each, the last one of what is left. There are about sqrt(ROWS) stops. With 0 rows, each file is its
-header line. The same ROWS gives the same feed: it is drawn at random from a fixed seed.
+The trips run on DAYS days from 2024-05-01 on, one where it is not given, and at most 31. DIR gets stops.txt, trips.txt,
+stop_times.txt and calendar_dates.txt. stop_times.txt has ROWS rows after its header: trips of 10 calls each, the last
+one of what is left. There are about sqrt(ROWS) stops. With 0 rows, each file is its header line. Equal ROWS give equal
+feeds, which are drawn at random from a fixed seed.
 
 The ids are as wide in a small feed as in a large one, so a row has as many bytes in each.
 """

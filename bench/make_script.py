@@ -3,9 +3,9 @@
 
     make_script.py ROWS CLIENTS UPDATES DIR
 
-DIR is the folder of the feed of so many ROWS. It gets script.csv and UPDATES messages, u000.pb and so on, each of ten delayed trips and a
-minute newer than the one before. In the script CLIENTS ask one after the other, each between two stops drawn at random, at 06:00 UTC or
-up to four hours later, and each has a turn at once; the messages come between them, evenly. The same numbers give the same script.
+DIR is the directory of the feed of so many ROWS. It gets script.csv and UPDATES messages, u000.pb and so on. Each is of ten delayed trips
+and a minute newer than the one before. In the script CLIENTS ask one after the other, each between two stops drawn at random. They leave at
+06:00 UTC or up to four hours later, and each has a turn at once. The messages come between them, evenly. Equal numbers give equal scripts.
 """
 
 import random

@@ -47,7 +47,7 @@ def replay(script):
 
 
 def questions(script):
-    """The questions of a script as words of `ask`, without messages."""
+    """The questions of a script as arguments of `ask`, without messages."""
     with open(f"{feeds}/{script}/script.csv", encoding="ascii") as file:
         rows = [line.rstrip("\n").split(",") for line in file]
     return [[lc, "ask", f"{feeds}/{script}", *row[1:4], "--days", "2"] for row in rows if row[0] == "ask"]

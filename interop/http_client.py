@@ -99,7 +99,7 @@ def half_closed():
 
 
 def old_version():
-    """HTTP/1.0 needs no Host, and its connection ends behind the reply."""
+    """HTTP/1.0 needs no Host, and its connection ends after the reply."""
     peer, stream = connection()
     peer.sendall(b"GET /stops HTTP/1.0\r\n\r\n" + STOPS)
     say(reply(stream)[0] == 200 and reply(stream) is None, "socket: HTTP/1.0")
