@@ -238,9 +238,9 @@ load() {
   [ "$count" -ge 20000 ] || echo "only $count requests"
 }
 
-# What the publisher after nginx is to get: the stops (1), and a time gate and its first page (2). Of a plan of the same question it gets the time
-# gate and the other pages. That is its exchanges - 2, since the stops and one page are cached. Of that plan again it gets the time gate (1). Then a message
-# (1) and a last time gate (1) come. That is four connections more than a plan makes exchanges, and the publisher ends after them.
+# What the publisher after nginx is to get: the stops (1), and a time gate and its first page (2). Of a plan of the same question it gets
+# the time gate and the other pages. That is its exchanges - 2, since the stops and one page are cached. Of that plan again it gets the time gate
+# (1). Then a message (1) and a last time gate (1) come. That is four connections more than a plan makes exchanges, and the publisher ends after them.
 nginx_checks() {
   local front first second base gate page made head own
   front=$(free_port)
