@@ -1,5 +1,6 @@
 -- What a session has answered on a connection is a visit.
 use Rattle.std.proofs.Common.{◌≡◌, ◌∙◌, ℕ, Bool, true, false, List, [], ◌++◌, Option, None, Some, Result, Ok, Err, IfOk, OnErr, IsTrue, refl, sym, ap, append-nil, arith}
+use Rattle.std.specs.List.{concat}
 use Rattle.std.specs.Result.{IsOkAnd}
 use Rattle.fragmenter.specs.Cutting.{chosen_cuts}
 use Rattle.fragmenter.specs.declared.cutting.Cutting.{Cutting}
@@ -20,21 +21,21 @@ use Rattle.wire_session.specs.declared.phase.Phase.TheVariants.{Open}
 use Rattle.cli_serve.specs.Visit.{IsLost, IsServed, Visit}
 use Rattle.cli_serve.specs.Visiting.{Answers}
 
-no_exchange : (a : Wire) → Exchanges [] [] false a a
-no_exchange a = record { came = refl; read_more = sym (append-nil a.read); sent_more = sym (append-nil a.sent); failed_too = refl }
+no_exchange : (a : Wire) → Exchanges [] [] false false a a
+no_exchange a = record { came = refl; read_more = sym (append-nil a.read); sent_more = sym (append-nil a.sent); failed_too = refl; read_failed_too = refl }
 
-none_current : (a : Option Wire) → GoesOn (Exchanges [] [] false) a a
+none_current : (a : Option Wire) → GoesOn (Exchanges [] [] false false) a a
 none_current None = refl
 none_current (Some a) = no_exchange a
 
 -- nothing was exchanged
-none_recorded : (a : Option DoorRecorded) → GoesOn (OnCurrent (Exchanges [] [] false)) a a
+none_recorded : (a : Option DoorRecorded) → GoesOn (OnCurrent (Exchanges [] [] false false)) a a
 none_recorded None = refl
 none_recorded (Some a) = record { others = refl; current = none_current a.current }
 
 -- a visit on which memory ran out
 abbrev lost_visit : List ℕ → List ℕ → Visit
-lost_visit read sent = record { read = read; sent = sent; requests = 0; ended = false; failed = false; lost = true }
+lost_visit read sent = record { read = read; sent = sent; requests = 0; ended = false; failed = false; read_failed = false; lost = true }
 
 is_lost : (side : Side) (read sent : List ℕ) → SendsFront (SaysOut side) read sent → IsLost side (lost_visit read sent)
 is_lost side read sent front = record {
@@ -46,10 +47,11 @@ is_lost side read sent front = record {
   requests_are = refl;
   ended_is = refl;
   failed_is = refl;
+  read_failed_is = refl;
 }
 
 loses : (side next : Side) (read sent : List ℕ) (before after : DoorSeen) (fault : NoMemory) → SendsFront (SaysOut side) read sent
-    → GoesOn (OnCurrent (Exchanges read sent false)) before.recorded after.recorded → HasCause before.broken after.broken ⊥ → after ≡ record before { recorded = after.recorded; broken = after.broken }
+    → GoesOn (OnCurrent (Exchanges read sent false false)) before.recorded after.recorded → HasCause before.broken after.broken ⊥ → after ≡ record before { recorded = after.recorded; broken = after.broken }
     → Answers (lost_visit read sent) (Err fault) side next before after
 loses side next read sent before after fault front recorded broken others = record {
   visit_is = is_lost side read sent front;
@@ -81,16 +83,21 @@ abbrev stands_out : ServingState Cutting → Side → List ℕ → List ℕ → 
 stands_out serving start fed sent = StandsOut chosen_cuts serving start fed sent
 
 -- a visit on which all was answered
-abbrev served_visit : List ℕ → List ℕ → ℕ → Bool → Bool → Visit
-served_visit read sent requests ended failed = record { read = read; sent = sent; requests = requests; ended = ended; failed = failed; lost = false }
+abbrev served_visit : List ℕ → List ℕ → ℕ → Bool → Bool → Bool → Visit
+served_visit read sent requests ended failed read_failed =
+    record { read = read; sent = sent; requests = requests; ended = ended; failed = failed; read_failed = read_failed; lost = false }
 
-is_served : (side next : Side) (fed sent pending : List ℕ) (requests : ℕ) (ended failed : Bool) → IsOutput side fed (sent ++ pending) requests next ended
-    → (failed ≡ false → pending ≡ []) → IsServed side (served_visit fed sent requests ended failed) next
-is_served side next fed sent pending requests ended failed out none = record {
+whole : (sent pending text : List ℕ) → pending ≡ [] → sent ++ pending ≡ text → sent ≡ text
+whole sent pending text none is = sym (append-nil sent) ∙ (ap (λ (l : List ℕ). sent ++ l) (sym none) ∙ is)
+
+is_served : (side next : Side) (fed sent pending : List ℕ) (requests : ℕ) (ended failed read_failed : Bool) → IsOutput side fed (sent ++ pending) requests next ended
+    → (failed ≡ false → pending ≡ []) → (read_failed ≡ true → pending ≡ []) → IsServed side (served_visit fed sent requests ended failed read_failed) next
+is_served side next fed sent pending requests ended failed read_failed out none in_turn = record {
   said = out.said;
   said_is = out.says;
   sent_is = record { rest = pending; is = sym out.text_is };
-  all_sent = λ well. sym (append-nil sent) ∙ (ap (λ (l : List ℕ). sent ++ l) (sym (none well)) ∙ out.text_is);
+  all_sent = λ well. whole sent pending (concat out.said.replies) (none well) out.text_is;
+  in_turn = λ read. whole sent pending (concat out.said.replies) (in_turn read) out.text_is;
   requests_are = out.count_is;
   ended_is = sym out.ended_is;
   next_is = out.side_is;
@@ -117,9 +124,10 @@ all_answered (Ok s) side next talk after door door_after start left call =
     let fed : List ℕ = call.serves.fed in
     let sent : List ℕ = call.serves.sent in
     let out = left side fed sent (call.serves.talk side [] [] start) in (
-      served_visit fed sent after.session.requests (is_ended after.session.phase) s.fault,
+      served_visit fed sent after.session.requests (is_ended after.session.phase) s.fault call.serves.read_failed,
       record {
-        visit_is = is_served side next fed sent after.session.pending after.session.requests (is_ended after.session.phase) s.fault out (λ well. (call.whole (not_true s.fault well)).all_sent);
+        visit_is = is_served side next fed sent after.session.pending after.session.requests (is_ended after.session.phase) s.fault call.serves.read_failed out
+            (λ well. (call.whole (not_true s.fault well)).all_sent) call.serves.in_turn;
         came_out = (refl, sym call.requests, refl);
         recorded = call.serves.door;
         heard = λ well kept. (call.whole (not_true s.fault well)).ended;

@@ -1,5 +1,5 @@
 -- What comes of serving is one, and near values are refused.
-use Rattle.std.proofs.Common.{◌≡◌, ◌≢◌, ◌∙◌, ℕ, suc, ◌+◌, Bool, false, List, [], ◌∷◌, ◌++◌, length, length-append, Option, None, Some, inl, inr, refl, sym, ap, subst, append_assoc, append-nil, arith}
+use Rattle.std.proofs.Common.{◌≡◌, ◌≢◌, ◌∙◌, ℕ, suc, ◌+◌, ◌⊎◌, Bool, true, false, List, [], ◌∷◌, ◌++◌, length, length-append, Option, None, Some, inl, inr, refl, sym, ap, subst, append_assoc, append-nil, arith}
 use Rattle.std.specs.List.{concat}
 use Rattle.std.proofs.lemmas.List.{append_cancel_left}
 use Rattle.lc_doors.specs.Door.{DoorRecorded, GoesOn, Wire}
@@ -14,20 +14,21 @@ use Rattle.cli_serve.specs.Visit.{AreVisits, IsServed, IsVisit, NoneLost, Visit}
 pub kept : (visit : Visit) (side next : Side) → visit.lost ≡ false → IsVisit visit.lost side visit next → IsServed side visit next
 kept visit side next is visits = subst (λ (b : Bool). IsVisit b side visit next) is visits
 
-same_visit : (a b : Visit) → a.read ≡ b.read → a.sent ≡ b.sent → a.requests ≡ b.requests → a.ended ≡ b.ended → a.failed ≡ b.failed → a.lost ≡ b.lost → a ≡ b
-same_visit a b read sent requests ended failed lost =
+same_visit : (a b : Visit) → a.read ≡ b.read → a.sent ≡ b.sent → a.requests ≡ b.requests → a.ended ≡ b.ended → a.failed ≡ b.failed
+    → a.read_failed ≡ b.read_failed → a.lost ≡ b.lost → a ≡ b
+same_visit a b read sent requests ended failed read_failed lost =
     let Same : Visit → Type 0 = λ v. v ≡ b in
-    rw (read, sent, requests, ended, failed, lost) refl
+    rw (read, sent, requests, ended, failed, read_failed, lost) refl
 
 -- visits from one side with equal bytes read and sent are one, and lead to one side
-one_served : OneOutput → (side next other : Side) (a b : Visit) → a.read ≡ b.read → a.sent ≡ b.sent → a.failed ≡ b.failed → a.lost ≡ b.lost → IsServed side a next
-    → IsServed side b other → (a ≡ b) × (next ≡ other)
-one_served one side next other a b read sent failed lost p q =
+one_served : OneOutput → (side next other : Side) (a b : Visit) → a.read ≡ b.read → a.sent ≡ b.sent → a.failed ≡ b.failed → a.read_failed ≡ b.read_failed → a.lost ≡ b.lost
+    → IsServed side a next → IsServed side b other → (a ≡ b) × (next ≡ other)
+one_served one side next other a b read sent failed read_failed lost p q =
     let said : SessionOut side b.read p.said = subst (λ (l : List ℕ). SessionOut side l p.said) read p.said_is in
     let same : p.said ≡ q.said = one side b.read p.said q.said said q.said_is in (
       same_visit a b read sent
           (p.requests_are ∙ (ap (λ (s : Said). length s.replies) same ∙ sym q.requests_are))
-          (p.ended_is ∙ (ap (λ (s : Said). s.ended) same ∙ sym q.ended_is)) failed lost,
+          (p.ended_is ∙ (ap (λ (s : Said). s.ended) same ∙ sym q.ended_is)) failed read_failed lost,
       p.next_is ∙ (ap (λ (s : Said). s.side) same ∙ sym q.next_is),
     )
 
@@ -50,7 +51,8 @@ one_list one (v ∷ visits) (o ∷ other) (w ∷ wires) first last end wa wb la 
     let v_kept : v.lost ≡ false = none_lost_first v visits la in
     let o_kept : o.lost ≡ false = none_lost_first o other lb in
     let both : (v ≡ o) × (va.0 ≡ vb.0) =
-    one_served one first va.0 vb.0 v o (sym wa.0.read_is ∙ wb.0.read_is) (sym wa.0.sent_is ∙ wb.0.sent_is) (sym wa.0.failed_is ∙ wb.0.failed_is) (v_kept ∙ sym o_kept)
+    one_served one first va.0 vb.0 v o (sym wa.0.read_is ∙ wb.0.read_is) (sym wa.0.sent_is ∙ wb.0.sent_is) (sym wa.0.failed_is ∙ wb.0.failed_is)
+    (sym wa.0.read_failed_is ∙ wb.0.read_failed_is) (v_kept ∙ sym o_kept)
     (kept v first va.0 v_kept va.1) (kept o first vb.0 o_kept vb.1) in
     let From : Side → Type 0 = λ s. AreVisits s other end in
     let rest : visits ≡ other =
@@ -78,12 +80,16 @@ one_serving one asked before after recorded_before recorded_after is now a b =
     one_list one a.visits b.visits q.wires asked.first a.served.visited.last b.served.visited.last
     (subst (λ (w : List Wire). AreWiresOf a.visits w) wires p.wires_are) q.wires_are a.served.none_lost b.served.none_lost a.served.visited.visits_are b.served.visited.visits_are
 
-pub one_visit : OneOutput → (side next : Side) (visit : Visit) (said : Said) → SessionOut side visit.read said → visit.lost ≡ false → visit.failed ≡ false
+all_sent : (side next : Side) (visit : Visit) (served : IsServed side visit next) → (visit.failed ≡ false) ⊎ (visit.read_failed ≡ true) → visit.sent ≡ concat served.said.replies
+all_sent side next visit served (inl well) = served.all_sent well
+all_sent side next visit served (inr read) = served.in_turn read
+
+pub one_visit : OneOutput → (side next : Side) (visit : Visit) (said : Said) → SessionOut side visit.read said → visit.lost ≡ false → (visit.failed ≡ false) ⊎ (visit.read_failed ≡ true)
     → IsVisit visit.lost side visit next → (visit.sent ≡ concat said.replies) × (next ≡ said.side)
 one_visit one side next visit said says is well visits =
     let served : IsServed side visit next = kept visit side next is visits in
     let same : served.said ≡ said = one side visit.read served.said said served.said_is says in
-    (served.all_sent well ∙ ap (λ (s : Said). concat s.replies) same, served.next_is ∙ ap (λ (s : Said). s.side) same)
+    (all_sent side next visit served well ∙ ap (λ (s : Said). concat s.replies) same, served.next_is ∙ ap (λ (s : Said). s.side) same)
 
 left_by : OneOutput → (side next : Side) (visit : Visit) (said : Said) → SessionOut side visit.read said → visit.lost ≡ false
     → IsVisit visit.lost side visit next → next ≡ said.side
@@ -96,7 +102,7 @@ pub none_forgotten : OneOutput → (first last : Side) (one two : Visit) (said a
 none_forgotten law first last one two said after says then one_kept two_kept well other visits =
     let left : visits.0 ≡ said.side = left_by law first visits.0 one said says one_kept visits.1 in
     let From : Side → Type 0 = λ s. IsVisit two.lost s two visits.2.0 in
-    other (one_visit law said.side visits.2.0 two after then two_kept well (subst From left visits.2.1)).0
+    other (one_visit law said.side visits.2.0 two after then two_kept (inl well) (subst From left visits.2.1)).0
 
 more_is_other : (sent : List ℕ) (byte : ℕ) (rest : List ℕ) → sent ≢ sent ++ byte ∷ rest
 more_is_other sent byte rest same =
@@ -107,7 +113,12 @@ more_is_other sent byte rest same =
 pub none_unsent : OneOutput → (side next : Side) (visit : Visit) (said : Said) (byte : ℕ) (rest : List ℕ) → SessionOut side visit.read said → visit.lost ≡ false → visit.failed ≡ false
     → concat said.replies ≡ visit.sent ++ byte ∷ rest → ¬ IsVisit visit.lost side visit next
 none_unsent one side next visit said byte rest says is well more visits =
-    more_is_other visit.sent byte rest ((one_visit one side next visit said says is well visits).0 ∙ more)
+    more_is_other visit.sent byte rest ((one_visit one side next visit said says is (inl well) visits).0 ∙ more)
+
+pub none_held_back : OneOutput → (side next : Side) (visit : Visit) (said : Said) (byte : ℕ) (rest : List ℕ) → SessionOut side visit.read said → visit.lost ≡ false → visit.read_failed ≡ true
+    → concat said.replies ≡ visit.sent ++ byte ∷ rest → ¬ IsVisit visit.lost side visit next
+none_held_back one side next visit said byte rest says is read more visits =
+    more_is_other visit.sent byte rest ((one_visit one side next visit said says is (inr read) visits).0 ∙ more)
 
 pub none_unread : (visit : Visit) (wire : Wire) (byte : ℕ) (rest : List ℕ) → visit.lost ≡ false → visit.failed ≡ false → visit.ended ≡ false
     → wire.to_come ≡ byte ∷ rest → ¬ IsWireOf visit wire

@@ -55,7 +55,7 @@ no_fault true = refl
 no_fault false = refl
 
 wire_at : (visit : Visit) (bytes : List ℕ) (at_end : DoorRecorded) (wire : Wire) → at_end.current ≡ Some wire
-    → Exchanges visit.read visit.sent visit.failed (door.fresh bytes) wire → WasHeard visit (Some at_end) → AtEnd visit bytes at_end
+    → Exchanges visit.read visit.sent visit.failed visit.read_failed (door.fresh bytes) wire → WasHeard visit (Some at_end) → AtEnd visit bytes at_end
 wire_at visit bytes at_end wire current exchanged was_heard = record {
   wire = wire;
   current_is = current;
@@ -63,18 +63,19 @@ wire_at visit bytes at_end wire current exchanged was_heard = record {
     read_is = exchanged.read_more;
     sent_is = exchanged.sent_more;
     failed_is = exchanged.failed_too ∙ no_fault visit.failed;
+    read_failed_is = exchanged.read_failed_too ∙ no_fault visit.read_failed;
     heard = λ well kept. elim (was_heard well kept) [ inl none ↦ inl (subst (λ (o : Option Wire). IfSome o (λ (w : Wire). w.to_come ≡ [])) current none) | inr ended ↦ inr ended ];
   };
   bytes_are = exchanged.came ∙ ap (λ (l : List ℕ). l ++ wire.to_come) (sym exchanged.read_more);
 }
 
 found : (visit : Visit) (bytes : List ℕ) (at_end : DoorRecorded) (before after : Option Wire) → before ≡ Some (door.fresh bytes) → at_end.current ≡ after
-    → GoesOn (Exchanges visit.read visit.sent visit.failed) before after → WasHeard visit (Some at_end) → AtEnd visit bytes at_end
+    → GoesOn (Exchanges visit.read visit.sent visit.failed visit.read_failed) before after → WasHeard visit (Some at_end) → AtEnd visit bytes at_end
 found visit bytes at_end None after is current exchanged heard = absurd (cc)
 found visit bytes at_end (Some wire) None is current exchanged heard = absurd exchanged
 found visit bytes at_end (Some wire) (Some later) is current exchanged heard =
     let same : wire ≡ door.fresh bytes = cc in
-    wire_at visit bytes at_end later current (subst (λ (w : Wire). Exchanges visit.read visit.sent visit.failed w later) same exchanged) heard
+    wire_at visit bytes at_end later current (subst (λ (w : Wire). Exchanges visit.read visit.sent visit.failed visit.read_failed w later) same exchanged) heard
 
 -- one more came, and its visit is over
 pub recorded_one_more : (visits : List Visit) (visit : Visit) (a b c d : DoorRecorded) → AreRecorded visits a b → Opens b c → IsOver visit c d → AreRecorded (visits ++ visit ∷ []) a d

@@ -1,5 +1,5 @@
 -- The laws of serving: what comes of it is one where the door records, and near values are refused.
-use Rattle.std.specs.Prelude.{◌≡◌, ◌≢◌, ℕ, false, List, [], ◌∷◌, ◌++◌, Some}
+use Rattle.std.specs.Prelude.{◌≡◌, ◌≢◌, ◌⊎◌, ℕ, true, false, List, [], ◌∷◌, ◌++◌, Some}
 use Rattle.std.specs.List.{concat}
 use Rattle.lc_doors.specs.Door.{DoorRecorded, Wire}
 use Rattle.publisher_spec.specs.Side.{Side}
@@ -14,10 +14,10 @@ OneServing =
     (asked : Asked) (before after : Outside) (recorded_before recorded_after : DoorRecorded) → before.door.recorded ≡ Some recorded_before → after.door.recorded ≡ Some recorded_after
     → (a b : IsServedWhole asked before after) → a.visits ≡ b.visits
 
--- the bytes sent on a visit without a fault, on which memory did not run out, are the replies from its side
+-- The bytes sent on a visit without a fault, or on one whose read failed, are the replies from its side, if memory did not run out.
 abbrev pub OneVisit : Type 0
-OneVisit = (side next : Side) (visit : Visit) (said : Said) → SessionOut side visit.read said → visit.lost ≡ false → visit.failed ≡ false → IsVisit visit.lost side visit next
-    → (visit.sent ≡ concat said.replies) × (next ≡ said.side)
+OneVisit = (side next : Side) (visit : Visit) (said : Said) → SessionOut side visit.read said → visit.lost ≡ false → (visit.failed ≡ false) ⊎ (visit.read_failed ≡ true)
+    → IsVisit visit.lost side visit next → (visit.sent ≡ concat said.replies) × (next ≡ said.side)
 
 -- a second visit that is not answered from the side that the first one has left
 abbrev pub NoneForgotten : Type 0
@@ -29,6 +29,12 @@ NoneForgotten =
 abbrev pub NoneUnsent : Type 0
 NoneUnsent =
     (side next : Side) (visit : Visit) (said : Said) (byte : ℕ) (rest : List ℕ) → SessionOut side visit.read said → visit.lost ≡ false → visit.failed ≡ false
+    → concat said.replies ≡ visit.sent ++ byte ∷ rest → ¬ IsVisit visit.lost side visit next
+
+-- a visit whose read failed before all was sent
+abbrev pub NoneHeldBack : Type 0
+NoneHeldBack =
+    (side next : Side) (visit : Visit) (said : Said) (byte : ℕ) (rest : List ℕ) → SessionOut side visit.read said → visit.lost ≡ false → visit.read_failed ≡ true
     → concat said.replies ≡ visit.sent ++ byte ∷ rest → ¬ IsVisit visit.lost side visit next
 
 -- a visit that was hung up without a fault before all was read, while the session went on

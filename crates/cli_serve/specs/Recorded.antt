@@ -17,6 +17,7 @@ pub record IsWireOf (visit : Visit) (wire : Wire) : Type 0 where
   pub read_is : wire.read ≡ visit.read
   pub sent_is : wire.sent ≡ visit.sent
   pub failed_is : wire.failed ≡ visit.failed
+  pub read_failed_is : wire.read_failed ≡ visit.read_failed
   pub heard : visit.failed ≡ false → visit.lost ≡ false → (wire.to_come ≡ []) ⊎ (visit.ended ≡ true)
 
 -- the connections of the visits, one of each, in their order

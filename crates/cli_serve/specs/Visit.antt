@@ -6,21 +6,24 @@ use Rattle.publisher_spec.specs.Side.{Side}
 use Rattle.wire_session.specs.SessionOut.{Said, SessionOut}
 
 -- What was read on a connection and what was sent. How many requests were answered, and whether the session ended. Whether a read or a
--- write failed, and whether memory ran out.
+-- write failed, whether a read did, and whether memory ran out.
 pub record Visit : Type 0 where
   pub read : List ℕ
   pub sent : List ℕ
   pub requests : ℕ
   pub ended : Bool
   pub failed : Bool
+  pub read_failed : Bool
   pub lost : Bool
 
--- The replies to what was read are sent, or a front of them where a read or a write failed. The next side is the one that they leave.
+-- The replies to what was read are sent, or a front of them where a write failed. Where a read failed all of them are sent, since each was
+-- sent before more was read. The next side is the one that they leave.
 pub record IsServed (side : Side) (visit : Visit) (next : Side) : Type 0 where
   pub said : Said
   pub said_is : SessionOut side visit.read said
   pub sent_is : IsFront visit.sent (concat said.replies)
   pub all_sent : visit.failed ≡ false → visit.sent ≡ concat said.replies
+  pub in_turn : visit.read_failed ≡ true → visit.sent ≡ concat said.replies
   pub requests_are : visit.requests ≡ length said.replies
   pub ended_is : visit.ended ≡ said.ended
   pub next_is : next ≡ said.side
@@ -35,6 +38,7 @@ pub record IsLost (side : Side) (visit : Visit) : Type 0 where
   pub requests_are : visit.requests ≡ 0
   pub ended_is : visit.ended ≡ false
   pub failed_is : visit.failed ≡ false
+  pub read_failed_is : visit.read_failed ≡ false
 
 -- A visit from a side to the next, by whether memory ran out. Where it did, nothing is said of the next side.
 abbrev pub IsVisit : Bool → Side → Visit → Side → Type 0

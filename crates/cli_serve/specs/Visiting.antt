@@ -21,7 +21,7 @@ WasHeard visit recorded = visit.failed ≡ false → visit.lost ≡ false → No
 pub record Answers (visit : Visit) (outcome : Result Served NoMemory) (side next : Side) (before after : DoorSeen) : Type 0 where
   pub visit_is : IsVisit visit.lost side visit next
   pub came_out : CameOut outcome visit
-  pub recorded : GoesOn (OnCurrent (Exchanges visit.read visit.sent visit.failed)) before.recorded after.recorded
+  pub recorded : GoesOn (OnCurrent (Exchanges visit.read visit.sent visit.failed visit.read_failed)) before.recorded after.recorded
   pub heard : WasHeard visit after.recorded
   pub broken : HasCause before.broken after.broken (visit.failed ≡ true)
   pub others : after ≡ record before { recorded = after.recorded; broken = after.broken }
@@ -29,7 +29,7 @@ pub record Answers (visit : Visit) (outcome : Result Served NoMemory) (side next
 -- the bytes of a visit were exchanged on the current connection, and it was hung up
 pub record IsOver (visit : Visit) (before after : DoorRecorded) : Type 0 where
   pub at_end : DoorRecorded
-  pub exchanged : OnCurrent (Exchanges visit.read visit.sent visit.failed) before at_end
+  pub exchanged : OnCurrent (Exchanges visit.read visit.sent visit.failed visit.read_failed) before at_end
   pub heard : WasHeard visit (Some at_end)
   pub over : after ≡ hung_up at_end
 

@@ -1,10 +1,10 @@
-ghost use Rattle.cli_serve.specs.Laws.{NoneForgotten, NoneTwice, NoneUnread, NoneUnsent, OneServing, OneVisit};
+ghost use Rattle.cli_serve.specs.Laws.{NoneForgotten, NoneHeldBack, NoneTwice, NoneUnread, NoneUnsent, OneServing, OneVisit};
 ghost use Rattle.cli_serve.specs.SameBytes.{NotOneMore, NotOneTaker, NotOtherBase, OneOverBytes, OneSession};
 
 use wire_session::one_output;
 
-/// Where the door records, the visits of a serving that is Ok are one, and so is the line at its end. What is sent on a visit without a fault, and
-/// the side that it leaves, are one too.
+/// Where the door records, the visits of a serving that is Ok are one, and so is the line at its end. What is sent on a visit without a fault,
+/// or on one whose read failed, and the side that it leaves, are one too.
 pub fn one_serving()
     ensures serving { OneServing }
     ensures visit { OneVisit }
@@ -13,10 +13,11 @@ pub fn one_serving()
 }
 
 /// Near values are refused. Such a visit is not answered from the side that the one before left, or is hung up before all was sent
-/// or read. Or a reply is sent twice.
+/// or read. Or a reply is sent twice, or held back while more is read.
 pub fn near_servings()
     ensures forgotten { NoneForgotten }
     ensures unsent { NoneUnsent }
+    ensures held_back { NoneHeldBack }
     ensures unread { NoneUnread }
     ensures twice { NoneTwice }
 {

@@ -1,8 +1,9 @@
 -- Near values, refused.
-use Rattle.std.proofs.Common.{◌≡◌, ◌⊎◌, ◌∙◌, ℕ, ◌<◌, Bool, false, true, List, [], ◌∷◌, ◌++◌, length, take, Some, inl, inr, sym, ap}
-use Rattle.lc_doors.specs.Door.{DoorRecorded, Opens, Takes, Wire}
-use Rattle.lc_doors.specs.Serving.{Exchanges, IsServed, NothingToCome}
-use Rattle.lc_doors.specs.Talk.{TalkSeen}
+use Rattle.std.proofs.Common.{◌≡◌, ◌⊎◌, ◌∙◌, ℕ, ◌<◌, ◌≤◌, ◌||◌, Bool, false, true, List, [], ◌∷◌, ◌++◌, length, take, Option, None, Some, inl, inr, refl, sym, ap, subst, arith, length-append, length-take}
+use Rattle.lc_doors.specs.Door.{DoorRecorded, GoesOn, Opens, Takes, Wire, fresh}
+use Rattle.lc_doors.specs.EchoTalk.{EchoTalkState, Echoes, HasEchoed, echo_seen}
+use Rattle.lc_doors.specs.Serving.{Exchanges, IsServed, NothingToCome, Serves}
+use Rattle.lc_doors.specs.Talk.{Said, TalkSeen}
 
 some_is_none : (byte : ℕ) (rest list : List ℕ) → list ≡ byte ∷ rest → list ≡ [] → ⊥
 some_is_none byte rest list some none = absurd (cc)
@@ -42,7 +43,48 @@ one_next before a b p q =
     let waiting : a.waiting ≡ b.waiting = cc in
     p.opened ∙ (rw (bytes, waiting) (sym q.opened))
 
-pub one_exchange : (read sent other_read other_sent : List ℕ) (failed other_failed : Bool) (before after : Wire) → Exchanges read sent failed before after
-    → Exchanges other_read other_sent other_failed before after → (read ≡ other_read) × (sent ≡ other_sent)
-one_exchange read sent other_read other_sent failed other_failed before after p q =
-    (same_rest before.read read other_read (sym p.read_more ∙ q.read_more), same_rest before.sent sent other_sent (sym p.sent_more ∙ q.sent_more))
+same_flag : (a b before : Bool) → before ≡ false → (a || before) ≡ (b || before) → a ≡ b
+same_flag true true before none same = refl
+same_flag true false before none same = absurd (cc)
+same_flag false true before none same = absurd (cc)
+same_flag false false before none same = refl
+
+pub one_exchange : (read sent other_read other_sent : List ℕ) (failed other_failed read_failed other_read_failed : Bool) (before after : Wire) → Exchanges read sent failed read_failed before after
+    → Exchanges other_read other_sent other_failed other_read_failed before after
+    → (read ≡ other_read) × (sent ≡ other_sent) × (before.read_failed ≡ false → read_failed ≡ other_read_failed)
+one_exchange read sent other_read other_sent failed other_failed read_failed other_read_failed before after p q = (
+  same_rest before.read read other_read (sym p.read_more ∙ q.read_more),
+  same_rest before.sent sent other_sent (sym p.sent_more ∙ q.sent_more),
+  λ none. same_flag read_failed other_read_failed before.read_failed none (sym p.read_failed_too ∙ q.read_failed_too),
+)
+
+-- a step of a connection that is recorded before and after it
+step_of : (P : Wire → Wire → Type 0) (a b : Option Wire) (before after : Wire) → a ≡ Some before → b ≡ Some after → GoesOn P a b → P before after
+step_of P None b before after was is step = absurd (cc)
+step_of P (Some a) None before after was is step = absurd step
+step_of P (Some a) (Some b) before after was is step =
+    let first : a ≡ before = cc in
+    let last : b ≡ after = cc in
+    subst (λ (w : Wire). P before w) last (subst (λ (w : Wire). P w b) first step)
+
+pub none_held_back : (failed : Bool) (limit : ℕ) (talk after : EchoTalkState) (bytes : List ℕ) (recorded_before recorded_after : DoorRecorded) (wire : Wire) (byte : ℕ) (rest : List ℕ)
+    → HasEchoed talk limit [] [] → length wire.read ≤ limit → recorded_before.current ≡ Some (fresh bytes) → recorded_after.current ≡ Some wire
+    → wire.read_failed ≡ true → wire.read ≡ wire.sent ++ byte ∷ rest
+    → Serves HasEchoed Echoes failed talk after (echo_seen after) (Some recorded_before) (Some recorded_after) → ⊥
+none_held_back failed limit talk after bytes recorded_before recorded_after wire byte rest starts few was is read more serves =
+    let exchanged : Exchanges serves.fed serves.sent failed serves.read_failed (fresh bytes) wire =
+    step_of (Exchanges serves.fed serves.sent failed serves.read_failed) recorded_before.current recorded_after.current (fresh bytes) wire was is serves.door.current in
+    let none : after.pending ≡ [] = serves.in_turn (same_flag serves.read_failed true false refl (sym exchanged.read_failed_too ∙ read)) in
+    let given : serves.sent ++ after.pending ≡ take limit serves.fed = ap (λ (s : Said). s.output) (serves.output limit starts).is in
+    let long : length (take limit serves.fed) ≡ length serves.fed = omega (arith, length-take limit serves.fed, ap length exchanged.read_more) in
+    absurd (omega (
+      arith,
+      ap length given,
+      length-append serves.sent after.pending,
+      ap length none,
+      long,
+      ap length exchanged.read_more,
+      ap length exchanged.sent_more,
+      ap length more,
+      length-append wire.sent (byte ∷ rest),
+    ))

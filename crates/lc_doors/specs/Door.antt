@@ -7,12 +7,14 @@ use Rattle.lc_doors.specs.declared.door.DoorFail.TheVariants.{Failed, NoMemory}
 use Rattle.lc_doors.specs.declared.door.Next.{Next}
 use Rattle.lc_doors.specs.declared.door.Next.TheVariants.{Connection, Closed}
 
--- The bytes of one connection that are still to come, those that were read, and those that were sent. Whether a read or a write failed.
+-- The bytes of one connection that are still to come, those that were read, and those that were sent. Whether a read or a write failed,
+-- and whether a read did.
 pub record Wire : Type 0 where
   pub to_come : List ℕ
   pub read : List ℕ
   pub sent : List ℕ
   pub failed : Bool
+  pub read_failed : Bool
 
 -- What a door records: the port where it listens, the bytes of each connection that waits, the past connections and the current one.
 pub record DoorRecorded : Type 0 where
@@ -43,7 +45,7 @@ GoesOn step (Some before) (Some after) = step before after
 
 -- a connection on which nothing was read or sent yet
 abbrev pub fresh : List ℕ → Wire
-fresh bytes = record { to_come = bytes; read = []; sent = []; failed = false }
+fresh bytes = record { to_come = bytes; read = []; sent = []; failed = false; read_failed = false }
 
 -- the current connection, if there is one, has become a past one
 abbrev pub hung_up : DoorRecorded → DoorRecorded
@@ -95,7 +97,7 @@ pub record Takes (piece : List ℕ) (count : ℕ) (before after : Wire) : Type 0
 -- what `read` makes of a connection, where the piece is this afterwards
 abbrev pub Reads : List ℕ → Result ℕ DoorFail → Wire → Wire → Type 0
 Reads piece (Ok count) before after = Takes piece count before after
-Reads piece (Err Failed) before after = after ≡ record before { failed = true }
+Reads piece (Err Failed) before after = after ≡ record before { failed = true; read_failed = true }
 Reads piece (Err NoMemory) before after = after ≡ before
 
 -- what `write` of a piece makes of a connection

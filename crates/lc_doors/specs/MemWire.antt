@@ -3,20 +3,22 @@ use Rattle.std.specs.Prelude.{◌≡◌, ℕ, ◌<◌, ◌==◌, Bool, false, Li
 use Rattle.std.specs.List.{concat}
 use Rattle.lc_doors.specs.Door.{Wire}
 
--- the pieces that are still to come, the bytes that were read, those that were sent, and whether a read or a write failed
+-- The pieces that are still to come, the bytes that were read, and those that were sent. Whether a read or a write failed, and whether a
+-- read did.
 pub record MemWireState : Type 0 where
   pub to_come : List (List ℕ)
   pub read : List ℕ
   pub sent : List ℕ
   pub failed : Bool
+  pub read_failed : Bool
 
 -- the connection as a door records it, where pieces are not seen
 abbrev pub wire_of : MemWireState → Wire
-wire_of wire = record { to_come = concat wire.to_come; read = wire.read; sent = wire.sent; failed = wire.failed }
+wire_of wire = record { to_come = concat wire.to_come; read = wire.read; sent = wire.sent; failed = wire.failed; read_failed = wire.read_failed }
 
 -- a connection on which nothing was read or sent yet
 abbrev pub fresh_pieces : List (List ℕ) → MemWireState
-fresh_pieces pieces = record { to_come = pieces; read = []; sent = []; failed = false }
+fresh_pieces pieces = record { to_come = pieces; read = []; sent = []; failed = false; read_failed = false }
 
 -- the pieces without the first bytes of the first one
 abbrev pub without_front : ℕ → List (List ℕ) → List (List ℕ)

@@ -1,7 +1,8 @@
 -- Near values that the definitions of doors and of serving refuse.
-use Rattle.std.specs.Prelude.{◌≡◌, ℕ, ◌<◌, false, List, [], ◌∷◌, length, Option, Some, Ok}
-use Rattle.lc_doors.specs.Door.{Comes, DoorRecorded, Opens, Takes, Wire}
-use Rattle.lc_doors.specs.Serving.{IsServed}
+use Rattle.std.specs.Prelude.{◌≡◌, ℕ, ◌<◌, ◌≤◌, Bool, true, false, List, [], ◌∷◌, ◌++◌, length, Option, Some, Ok}
+use Rattle.lc_doors.specs.Door.{Comes, DoorRecorded, Opens, Takes, Wire, fresh}
+use Rattle.lc_doors.specs.EchoTalk.{EchoTalkState, Echoes, HasEchoed, echo_seen}
+use Rattle.lc_doors.specs.Serving.{IsServed, Serves}
 use Rattle.lc_doors.specs.Talk.{TalkSeen}
 use Rattle.lc_doors.specs.declared.door.Next.TheVariants.{Closed}
 
@@ -25,3 +26,11 @@ NoneCutOff = (talk : TalkSeen) (recorded : DoorRecorded) (wire : Wire) (byte : �
 -- a connection that is served, while something is not sent
 abbrev pub NoneUnsent : Type 0
 NoneUnsent = (talk : TalkSeen) (recorded : Option DoorRecorded) (byte : ℕ) (rest : List ℕ) → talk.pending ≡ byte ∷ rest → IsServed talk recorded → ⊥
+
+-- a talk that gives back what it is fed, where a read failed while something was not given back
+abbrev pub NoneHeldBack : Type 0
+NoneHeldBack =
+    (failed : Bool) (limit : ℕ) (talk after : EchoTalkState) (bytes : List ℕ) (recorded_before recorded_after : DoorRecorded) (wire : Wire) (byte : ℕ) (rest : List ℕ)
+    → HasEchoed talk limit [] [] → length wire.read ≤ limit → recorded_before.current ≡ Some (fresh bytes) → recorded_after.current ≡ Some wire
+    → wire.read_failed ≡ true → wire.read ≡ wire.sent ++ byte ∷ rest
+    → Serves HasEchoed Echoes failed talk after (echo_seen after) (Some recorded_before) (Some recorded_after) → ⊥

@@ -91,16 +91,12 @@ impl MemDoor {
         DoorFail::Failed
     }
 
-    /// Counts a failed `read` or `write`, which the current connection records too.
+    /// Counts a failed `read` or `write`.
     fn break_off(&mut self) -> DoorFail
-        ensures counted { self.new ≡ record self.old {
-          wires = record self.old.wires { current = option_map (λ (wire : MemWireState). record wire { failed = true }) self.old.wires.current };
-          broken = one_more self.old.broken;
-        } }
+        ensures counted { self.new ≡ record self.old { broken = one_more self.old.broken } }
         ensures not_fallen { self.old.broken ≤ self.new.broken }
         ensures failed { result ≡ Failed }
     {
-        self.wires.fail();
         self.broken = self.broken.saturating_add(1);
         DoorFail::Failed
     }
@@ -152,7 +148,7 @@ impl Door for MemDoor {
         ensures listed { IsErrOf result Failed ↔ (FailsNext self.old × IsSome self.old.wires.current) }
         ensures never { OnErr result (result ≡ Err DoorFail.Failed) }
         ensures current { IfOk result (λ n. GoesOn (λ before after. ReadsPiece before after piece.old piece.new n) self.old.wires.current self.new.wires.current) }
-        ensures fails { OnErr result (self.new.wires ≡ record self.old.wires { current = option_map (λ (wire : MemWireState). record wire { failed = true }) self.old.wires.current }) }
+        ensures fails { OnErr result (self.new.wires ≡ record self.old.wires { current = option_map (λ (wire : MemWireState). record wire { failed = true; read_failed = true }) self.old.wires.current }) }
         ensures unchanged { self.new ≡ record self.old {
           wires = record self.old.wires { current = self.new.wires.current };
           calls = one_more self.old.calls;
@@ -165,6 +161,7 @@ impl Door for MemDoor {
         ensures broken { HasCause self.old.broken self.new.broken (IsErrOf result Failed) }
     {
         if self.fails_now() && self.wires.is_connected() {
+            self.wires.fail_read();
             return Err(self.break_off());
         }
         Ok(self.wires.read(piece))
@@ -184,6 +181,7 @@ impl Door for MemDoor {
         ensures broken { HasCause self.old.broken self.new.broken (IsErrOf result Failed) }
     {
         if self.fails_now() {
+            self.wires.fail_write();
             return Err(self.break_off());
         }
         self.wires.write(piece)

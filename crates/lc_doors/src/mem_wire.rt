@@ -14,6 +14,7 @@ pub(crate) struct MemWire {
     part: usize,
     sent: Vec<u8>,
     failed: bool,
+    read_failed: bool,
 }
 
 impl Model for MemWire {
@@ -27,6 +28,7 @@ impl Model for MemWire {
       read = read_of w.pieces.items w.whole w.part;
       sent = w.sent.items;
       failed = w.failed;
+      read_failed = w.read_failed;
     } };
 
     ghost invariant = { λ w. NoneIsEmpty (left_of w.pieces.items w.whole w.part) };
@@ -63,6 +65,7 @@ impl MemWire {
             part: 0,
             sent: Vec::new(alloc),
             failed: false,
+            read_failed: false,
         }
     }
 
@@ -92,11 +95,19 @@ impl MemWire {
         Ok(())
     }
 
-    /// Takes note that a read or a write has failed.
-    pub(crate) fn fail(&mut self)
+    /// Takes note that a write has failed.
+    pub(crate) fn fail_write(&mut self)
         ensures { self.new ≡ record self.old { failed = true } }
     {
         self.failed = true;
+    }
+
+    /// Takes note that a read has failed.
+    pub(crate) fn fail_read(&mut self)
+        ensures { self.new ≡ record self.old { failed = true; read_failed = true } }
+    {
+        self.failed = true;
+        self.read_failed = true;
     }
 
     /// The bytes sent.

@@ -106,12 +106,21 @@ impl MemWires {
         Ok(piece.len())
     }
 
-    /// Takes note that a read or a write on the current connection has failed.
-    pub(crate) fn fail(&mut self)
+    /// Takes note that a write on the current connection has failed.
+    pub(crate) fn fail_write(&mut self)
         ensures { self.new ≡ record self.old { current = option_map (λ (wire : MemWireState). record wire { failed = true }) self.old.current } }
     {
         if let Some(wire) = &mut self.current {
-            wire.fail();
+            wire.fail_write();
+        }
+    }
+
+    /// Takes note that a read on the current connection has failed.
+    pub(crate) fn fail_read(&mut self)
+        ensures { self.new ≡ record self.old { current = option_map (λ (wire : MemWireState). record wire { failed = true; read_failed = true }) self.old.current } }
+    {
+        if let Some(wire) = &mut self.current {
+            wire.fail_read();
         }
     }
 

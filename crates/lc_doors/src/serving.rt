@@ -22,7 +22,7 @@ const PIECE: usize = 65_536;
 /// Sends all that is pending.
 fn send_all<T: Talk, D: Door>(talk: &mut T, door: &mut D) -> Result<(), DoorFail>
     requires { IsTrue (D.seen door.old).connected }
-    ensures talks { Talks T.stands T.says result talk.old talk.new (D.seen door.old).recorded (D.seen door.new).recorded }
+    ensures talks { Talks T.stands T.says result talk.old talk.new (T.seen talk.new) (D.seen door.old).recorded (D.seen door.new).recorded }
     ensures all { OnOk result ((T.seen talk.new).pending ≡ []) }
     ensures same { T.seen talk.new ≡ record (T.seen talk.old) { pending = (T.seen talk.new).pending } }
     ensures broken { HasCause (D.seen door.old).broken (D.seen door.new).broken (IsErrOf result Failed) }
@@ -44,7 +44,7 @@ fn hear<T: Talk, D: Door>(
 ) -> Result<bool, DoorFail>
     requires none_pending { (T.seen talk.old).pending ≡ [] }
     requires room { 0 < length piece.old }
-    ensures talks { Talks T.stands T.says result talk.old talk.new (D.seen door.old).recorded (D.seen door.new).recorded }
+    ensures talks { Talks T.stands T.says result talk.old talk.new (T.seen talk.new) (D.seen door.old).recorded (D.seen door.new).recorded }
     ensures fed { IfOk result (λ more. IsTrue more → (T.seen talk.new).ended ≡ false → (T.seen talk.old).count < (T.seen talk.new).count) }
     ensures ended { IfOk result (λ more. ¬ IsTrue more → NothingToCome (D.seen door.new).recorded × (T.seen talk.new ≡ T.seen talk.old)) }
     ensures broken { HasCause (D.seen door.old).broken (D.seen door.new).broken (IsErrOf result Failed) }
@@ -67,7 +67,7 @@ fn converse<T: Talk, D: Door>(
 ) -> Result<(), DoorFail>
     requires connected { IsTrue (D.seen door.old).connected }
     requires room { 0 < length piece.old }
-    ensures talks { Talks T.stands T.says result talk.old talk.new (D.seen door.old).recorded (D.seen door.new).recorded }
+    ensures talks { Talks T.stands T.says result talk.old talk.new (T.seen talk.new) (D.seen door.old).recorded (D.seen door.new).recorded }
     ensures served { OnOk result (IsServed (T.seen talk.new) (D.seen door.new).recorded) }
     ensures broken { HasCause (D.seen door.old).broken (D.seen door.new).broken (IsErrOf result Failed) }
     ensures others { D.seen door.new ≡ record (D.seen door.old) { recorded = (D.seen door.new).recorded; broken = (D.seen door.new).broken } }
@@ -90,7 +90,7 @@ fn converse_in_pieces<T: Talk, D: Door>(
     door: &mut D,
 ) -> Result<(), DoorFail>
     requires { IsTrue (D.seen door.old).connected }
-    ensures talks { Talks T.stands T.says result talk.old talk.new (D.seen door.old).recorded (D.seen door.new).recorded }
+    ensures talks { Talks T.stands T.says result talk.old talk.new (T.seen talk.new) (D.seen door.old).recorded (D.seen door.new).recorded }
     ensures served { OnOk result (IsServed (T.seen talk.new) (D.seen door.new).recorded) }
     ensures broken { HasCause (D.seen door.old).broken (D.seen door.new).broken (IsErrOf result Failed) }
     ensures others { D.seen door.new ≡ record (D.seen door.old) { recorded = (D.seen door.new).recorded; broken = (D.seen door.new).broken } }
@@ -110,7 +110,7 @@ pub fn serve_one<T: Talk, D: Door>(
 ) -> Result<Served, NoMemory>
     requires { IsTrue (D.seen door.old).connected }
 
-    // What was read was fed to the talk, and what was sent is a front of what it says.
+    // What was read was fed to the talk, and what was sent is a front of what it says: all of it, where a read failed.
     ensures serves { IfOk result (λ served. Serves T.stands T.says served.fault talk.old talk.new (T.seen talk.new) (D.seen door.old).recorded (D.seen door.new).recorded) }
 
     // Without a fault all of it is sent, and the input or the talk has ended.

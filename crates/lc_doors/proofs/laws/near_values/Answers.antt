@@ -1,5 +1,5 @@
 -- Each near value is refused.
-use Rattle.lc_doors.proofs.NearLemmas.{none_cut_off, none_skipped, none_unread}
+use Rattle.lc_doors.proofs.NearLemmas.{none_cut_off, none_held_back, none_skipped, none_unread}
 use Rattle.lc_doors.proofs.laws.near_values.Goals as goal
 
 pub returns-clause-unread : goal.returns-clause-unread
@@ -10,3 +10,6 @@ returns-clause-skipped c = none_skipped
 
 pub returns-clause-cut_off : goal.returns-clause-cut_off
 returns-clause-cut_off c = none_cut_off
+
+pub returns-clause-held_back : goal.returns-clause-held_back
+returns-clause-held_back c = none_held_back

@@ -5,7 +5,7 @@ use Rattle.lc_doors.proofs.serving.converse.Given as goal
 
 abbrev pub invariant-turns : goal.invariant-turns
 invariant-turns g l = record {
-  agrees : Agrees g.T.Talk.stands false l.initial.talk l.talk (g.D.Door.seen l.initial.door).recorded (g.D.Door.seen l.door).recorded;
+  agrees : Agrees g.T.Talk.stands false false l.initial.talk l.talk (g.D.Door.seen l.initial.door).recorded (g.D.Door.seen l.door).recorded;
   broken : (g.D.Door.seen l.initial.door).broken ≤ (g.D.Door.seen l.door).broken;
   others : g.D.Door.seen l.door ≡ record (g.D.Door.seen l.initial.door) { recorded = (g.D.Door.seen l.door).recorded; broken = (g.D.Door.seen l.door).broken };
 }
