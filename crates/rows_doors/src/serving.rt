@@ -1,4 +1,4 @@
-//! Connections that are served by a talk which gives back what it is fed, over a door of which a call fails or none.
+//! Connections that are served by a talk which gives back what it is fed, over a door of which some calls fail or none.
 ghost use Rattle.std.specs.Prelude.{◌≤◌, IsTrue};
 ghost use Rattle.std.specs.Option.{is_some};
 
@@ -9,12 +9,19 @@ use std::alloc::Global;
 
 /// Of the calls of a door the first is `listen`, the second `next`, the third reads a piece of six bytes, and the fourth writes.
 pub fn put_servings(alloc: Global, text: &mut String) -> Result<(), Unmade> {
-    put_serving(alloc, text, "all is served", 100, 0)?;
-    put_serving(alloc, text, "the talk ends after three bytes", 3, 0)?;
-    put_serving(alloc, text, "the first write fails", 100, 4)?;
-    put_serving(alloc, text, "the second read fails", 100, 5)?;
-    put_serving(alloc, text, "the door does not open", 100, 1)?;
-    put_serving(alloc, text, "no client can be taken", 100, 2)
+    put_serving(alloc, text, "all is served", 100, &[])?;
+    put_serving(alloc, text, "the talk ends after three bytes", 3, &[])?;
+    put_serving(alloc, text, "the first write fails", 100, &[4])?;
+    put_serving(alloc, text, "the second read fails", 100, &[5])?;
+    put_serving(
+        alloc,
+        text,
+        "each call from the second read on fails",
+        100,
+        &[5, 6, 7, 8],
+    )?;
+    put_serving(alloc, text, "the door does not open", 100, &[1])?;
+    put_serving(alloc, text, "no client can be taken", 100, &[2])
 }
 
 fn put_serving(
@@ -22,7 +29,7 @@ fn put_serving(
     text: &mut String,
     case: &str,
     limit: u32,
-    fails: u64,
+    fails: &[u64],
 ) -> Result<(), Unmade>
     requires { limit ≤ 1679360000 }
 {
@@ -31,10 +38,10 @@ fn put_serving(
     put_door(alloc, text, limit, &mut door)
 }
 
-/// A door to one client, of which the call of this number fails.
-fn door(alloc: Global, fails: u64) -> Result<MemDoor, Unmade> {
+/// A door to one client, of which the calls of these numbers fail.
+fn door(alloc: Global, fails: &[u64]) -> Result<MemDoor, Unmade> {
     let connections = connections(alloc)?;
-    Ok(MemDoor::new(alloc, connections, vec![in alloc; fails]?)?)
+    Ok(MemDoor::new(alloc, connections, fails.to_vec(alloc)?)?)
 }
 
 fn put_door(alloc: Global, text: &mut String, limit: u32, door: &mut MemDoor) -> Result<(), Unmade>
