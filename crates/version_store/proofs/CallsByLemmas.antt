@@ -1,13 +1,14 @@
 -- The run of a key, and the calls that it has by the news.
-use Rattle.std.proofs.Common.{◌≡◌, ◌∙◌, inl, inr, ℕ, ◌<◌, ◌≤◌, List, [], ◌∷◌, filter, get_or, length, Bool, true, false, cond, Option, Some, None, Result, Ok, Err, option_map, refl, sym, ap, subst, arith, ⊎_elim}
-use Rattle.std.specs.BTreeMap.{get}
-use Rattle.std.specs.List.{Any, Contains, last_or}
+use Rattle.std.proofs.Common.{◌≡◌, ◌∙◌, inl, inr, ℕ, ◌<◌, ◌≤◌, List, [], ◌∷◌, filter, get_or, length, Bool, true, cond, Option, Some, None, Err, sym, ap, subst, arith, ⊎_elim}
+use Rattle.std.specs.List.{last_or}
 use Rattle.std.specs.List.Sorted.{IsBinarySearchResult}
+use Rattle.std.specs.Option.{ForSome}
 use Rattle.std.specs.Ordering.{on}
 use Rattle.std.specs.declared.cmp.Ordering.TheVariants.{Less, Equal, Greater}
 use Rattle.std.proofs.lemmas.Bool.{cases_lt}
 use Rattle.std.proofs.lemmas.Cmp.{tied_itself}
 use Rattle.std.proofs.lemmas.List.Sorted.{searchable_from_sorted}
+use Rattle.lc_model.specs.Call.{GoesForward}
 use Rattle.lc_model.specs.Run.{InKeyOrder}
 use Rattle.lc_model.specs.RunKey.{key_cmp}
 use Rattle.lc_model.specs.Text.{IsIdText}
@@ -20,16 +21,14 @@ use Rattle.lc_model.proofs.KeyLemmas.{same_keys}
 use Rattle.lc_model.proofs.SearchLemmas.{sorted_from_strict}
 use Rattle.lc_versions.specs.Added.{IsFurtherRun, has_key, news_of_key}
 use Rattle.lc_versions.specs.Live.{live_calls_of}
-use Rattle.lc_versions.specs.Naming.{news_for}
 use Rattle.lc_versions.specs.News.{TripSaid}
 use Rattle.laws_index.specs.Held.{IsRunBy}
 use Rattle.version_store.specs.CallsBy.{AreCallsBy, AreFurtherCalls, IsRunOfKey, run_with}
 use Rattle.version_store.specs.Further.{IsFurther, calls_of}
-use Rattle.version_store.specs.Kept.{news_said}
 use Rattle.version_store.specs.LastNews.{HasLast}
 use Rattle.version_store.specs.Named.{said_at}
 use Rattle.version_store.specs.declared.last_news.LastNews.{LastNews}
-use Rattle.version_store.proofs.FurtherLemmas.{at_its_key, by_bool}
+use Rattle.version_store.proofs.FurtherLemmas.{at_its_key, by_bool, made_forward}
 
 -- a search finds the run of the key
 pub run_found : (runs : List Run) (key : RunKey) (i : ℕ) (run : Run) → i < length runs → run ≡ get_or runs i run → ((d : Run) → key_cmp (get_or runs i d).key key ≡ Equal) → IsRunOfKey runs key (Some run)
@@ -107,3 +106,8 @@ further_calls_by runs stops list key None calls none last are = subst (AreCallsB
     let further = only_further runs stops list key calls none by in
     let f : None ≡ Some further.news = sym last ∙ further.last in cc)
 further_calls_by runs stops list key (Some news) calls none last (made, is, e) = made_calls runs stops list key news made calls none last is e
+
+-- the calls that news make go forward
+pub further_calls_forward : (stops : List Stop) (news : Option TripSaid) (calls : Option (List Call)) → AreFurtherCalls stops news calls → ForSome calls GoesForward
+further_calls_forward stops None calls e = λ x f. absurd (let g : None ≡ Some x = sym e ∙ f in cc)
+further_calls_forward stops (Some news) calls (made, is, e) = λ x f. made_forward stops news made x is (sym e ∙ f)

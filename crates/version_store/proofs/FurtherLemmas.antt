@@ -249,7 +249,7 @@ runs_exactly live runs ordered e run =
 pub no_forward : (live : BTreeMap RunKey (List Call)) → live.entries ≡ [] → GoForward live
 no_forward live e key calls f = absurd (let g : None ≡ Some calls = sym (ap (lookup (λ (k : RunKey). tie key k)) e) ∙ f in cc)
 
-made_forward : (stops : List Stop) (news : TripSaid) (made : Option Run) (calls : List Call) → IsFurther stops news made → calls_of made ≡ Some calls → GoesForward calls
+pub made_forward : (stops : List Stop) (news : TripSaid) (made : Option Run) (calls : List Call) → IsFurther stops news made → calls_of made ≡ Some calls → GoesForward calls
 made_forward stops news None calls is e = absurd (let g : None ≡ Some calls = e in cc)
 made_forward stops news (Some run) calls is e = subst GoesForward (sym is.1.calls ∙ some_is_one run.calls calls e) (added_go_forward stops news.stops)
 

@@ -22,7 +22,7 @@ use Rattle.live_calls.proofs.LawLemmas.{keys_are_one, no_key_names_none}
 use Rattle.version_store.specs.Kept.{news_said}
 use Rattle.version_store.specs.LastNews.{HasOwn, PutsOwn}
 use Rattle.version_store.specs.Named.{said_at}
-use Rattle.version_store.specs.TouchedKeys.{Has, IsPlainKey, PutsAllTouched, PutsOwnKey, PutsPlainKey, PutsTouched}
+use Rattle.version_store.specs.TouchedKeys.{Has, PutsAllTouched, PutsOwnKey, PutsPlainKey, PutsTouched}
 use Rattle.version_store.specs.declared.dated.DatedNews.{DatedNews}
 use Rattle.version_store.proofs.FurtherLemmas.{by_bool, said_taken, same_from_tie, tie, tie_from_same}
 use Rattle.version_store.proofs.NamedLemmas.{key_of}

@@ -1,45 +1,83 @@
--- What changes from one list of runs to the next one: the runs that begin, and the keys that end.
-use Rattle.std.specs.Prelude.{◌≡◌, ◌⊎◌, ◌∷◌, ◌++◌, List, []}
-use Rattle.std.specs.List.{Any, Contains}
-use Rattle.lc_model.specs.Run.{InKeyOrder}
+-- What changes from one list of news to the next one: the keys that end, and the runs that begin.
+use Rattle.std.specs.Prelude.{◌≡◌, ◌⊎◌, ◌↔◌, ◌∷◌, ◌++◌, List, [], Option, Some, None, if◌then◌else◌}
+use Rattle.std.specs.BTreeMap.{BTreeMap, get}
+use Rattle.std.specs.BTreeSet.{BTreeSet}
+use Rattle.std.specs.List.{Contains}
+use Rattle.std.specs.Option.{ForSome}
+use Rattle.std.specs.Ordering.{is_eq}
+use Rattle.lc_model.specs.Call.{GoesForward}
+use Rattle.lc_model.specs.RunKey.{key_cmp}
+use Rattle.lc_model.specs.declared.call.Call.{Call}
 use Rattle.lc_model.specs.declared.key.RunKey.{RunKey}
 use Rattle.lc_model.specs.declared.run.Run.{Run}
 use Rattle.lc_model.specs.declared.stop.Stop.{Stop}
 use Rattle.lc_versions.specs.News.{TripSaid}
-use Rattle.laws_index.specs.Touched.{AreChanges, NoneHas}
+use Rattle.laws_index.specs.Held.{IsRunBy}
+use Rattle.laws_index.specs.Touched.{AreChanges}
 use Rattle.span_index.specs.Spans.{Indexed}
 use Rattle.span_index.specs.Updates.{IsUpdated}
+use Rattle.version_store.specs.CallsBy.{AreCallsBy, run_with}
+use Rattle.version_store.specs.Further.{GoForward}
+use Rattle.version_store.specs.TouchedKeys.{Has}
+use Rattle.version_store.specs.declared.changes.Changes.{Changes}
 
--- one of the runs has the key
-abbrev pub SomeHas : List Run → RunKey → Type 0
-SomeHas runs key = Any (λ (r : Run). r.key ≡ key) runs
+-- the key ends, if it had a run
+abbrev pub PutsEnded : RunKey → Option (List Call) → List RunKey → List RunKey → Type 0
+PutsEnded key None old new = new ≡ old
+PutsEnded key (Some was) old new = new ≡ old ++ key ∷ []
 
--- the run begins, or it was there
-abbrev pub PushesBegun : List Run → Run → List Run → List Run → Type 0
-PushesBegun old run before after = (Contains old run × (after ≡ before)) ⊎ (after ≡ before ++ run ∷ [])
+-- the map has the calls at the key, and what it had at all others
+abbrev pub PutsCalls : RunKey → List Call → BTreeMap RunKey (List Call) → BTreeMap RunKey (List Call) → Type 0
+PutsCalls key calls old new = (other : RunKey) → get key_cmp new other ≡ (if is_eq (key_cmp key other) then Some calls else get key_cmp old other)
 
--- a run of the key is there still, or the key ends
-abbrev pub PushesEnded : List Run → RunKey → List RunKey → List RunKey → Type 0
-PushesEnded new key before after = (SomeHas new key × (after ≡ before)) ⊎ ((SomeHas new key → ⊥) × (after ≡ before ++ key ∷ []))
+-- the run of the key begins with the calls, or it had them
+abbrev pub PutsBegun : RunKey → Option (List Call) → List Call → BTreeMap RunKey (List Call) → BTreeMap RunKey (List Call) → Type 0
+PutsBegun key was calls old new = ((was ≡ Some calls) × (new ≡ old)) ⊎ PutsCalls key calls old new
 
--- of the new runs these begin: each of the others was there
-pub record AreBegunOf (old new begun : List Run) : Type 0 where
-  pub in_order : InKeyOrder begun
-  pub begins : (run : Run) → Contains begun run → Contains new run
-  pub all : (run : Run) → Contains new run → Contains begun run ⊎ (Contains old run × NoneHas begun run.key)
+-- a key that has no run ends, and the run of one that has others than it had begins
+abbrev pub PutsChange : RunKey → Option (List Call) → Option (List Call) → Changes → Changes → Type 0
+PutsChange key was None old new = PutsEnded key was old.ended.items new.ended.items × (new.begun ≡ old.begun)
+PutsChange key was (Some calls) old new = (new.ended.items ≡ old.ended.items) × PutsBegun key was calls old.begun new.begun
 
--- These keys of the old runs end: no new run has one of them. Each other old run has a new one of its key.
-pub record AreEndedOf (old new : List Run) (ended : List RunKey) : Type 0 where
-  pub ends : (run : Run) → Contains ended run.key → Contains new run → ⊥
-  pub gone : (run : Run) → Contains old run → Contains ended run.key ⊎ SomeHas new run.key
+-- the calls of a key by the news of before and after, and what changes by them
+pub record TurnsKey (runs : List Run) (stops : List Stop) (before after : List TripSaid) (key : RunKey) (old new : Changes) : Type 0 where
+  pub was : Option (List Call)
+  pub is_now : Option (List Call)
+  pub by_before : AreCallsBy runs stops before key was
+  pub by_after : AreCallsBy runs stops after key is_now
+  pub forward : ForSome is_now GoesForward
+  pub puts : PutsChange key was is_now old new
 
--- the index is updated by what changes from the old runs to the new
-pub record IsTurned (old new : List Run) (before after : Indexed) : Type 0 where
-  pub ended : List RunKey
+-- a run by the news of after begins, or was there before
+abbrev pub Stands : List Run → List Stop → List TripSaid → List TripSaid → BTreeMap RunKey (List Call) → Run → Type 0
+Stands runs stops before after begun run = IsRunBy runs stops after run → (get key_cmp begun run.key ≡ Some run.calls) ⊎ IsRunBy runs stops before run
+
+-- the key of a run by the news of before ends, or it has a run after
+abbrev pub Leaves : List Run → List Stop → List TripSaid → List TripSaid → List RunKey → Run → Type 0
+Leaves runs stops before after ended run =
+    IsRunBy runs stops before run → Contains ended run.key ⊎ ((other : Run) × (other.key ≡ run.key) × IsRunBy runs stops after other)
+
+-- No key ends that has a run after, and each run that begins is there after. Of the keys of the set the changes have all, but for those that are left.
+pub record AreChangesAt (runs : List Run) (stops : List Stop) (before after : List TripSaid) (keys : BTreeSet RunKey) (left : List RunKey) (changes : Changes) : Type 0 where
+  pub begins : (key : RunKey) (calls : List Call) → get key_cmp changes.begun key ≡ Some calls → IsRunBy runs stops after (run_with key calls)
+  pub forward : GoForward changes.begun
+  pub ends : (run : Run) → Contains changes.ended.items run.key → IsRunBy runs stops after run → ⊥
+  pub all : (run : Run) → Has keys run.key → Contains left run.key ⊎ Stands runs stops before after changes.begun run
+  pub gone : (run : Run) → Has keys run.key → Contains left run.key ⊎ Leaves runs stops before after changes.ended.items run
+
+-- these are the changes of all keys
+pub record AreChangesBy (runs : List Run) (stops : List Stop) (before after : List TripSaid) (changes : Changes) : Type 0 where
+  pub begins : (key : RunKey) (calls : List Call) → get key_cmp changes.begun key ≡ Some calls → IsRunBy runs stops after (run_with key calls)
+  pub forward : GoForward changes.begun
+  pub ends : (run : Run) → Contains changes.ended.items run.key → IsRunBy runs stops after run → ⊥
+  pub all : (run : Run) → Stands runs stops before after changes.begun run
+  pub gone : (run : Run) → Leaves runs stops before after changes.ended.items run
+
+-- the index is updated by the changes
+pub record IsUpdatedBy (changes : Changes) (before after : Indexed) : Type 0 where
   pub begun : List Run
-  pub are_ended : AreEndedOf old new ended
-  pub are_begun : AreBegunOf old new begun
-  pub updated : IsUpdated ended begun before after
+  pub exactly : (run : Run) → Contains begun run ↔ (get key_cmp changes.begun run.key ≡ Some run.calls)
+  pub updated : IsUpdated changes.ended.items begun before after
 
 -- the index is updated by what changes from the old news to the new
 pub record HasTurned (runs : List Run) (stops : List Stop) (old new : List TripSaid) (before after : Indexed) : Type 0 where

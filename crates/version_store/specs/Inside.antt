@@ -1,5 +1,7 @@
 -- What the fields of a store stand for, and what holds of them.
-use Rattle.std.specs.Prelude.{◌≡◌, ◌≤◌, ◌∷◌, map}
+use Rattle.std.specs.Prelude.{◌≡◌, ◌≤◌, ◌∷◌, All, map}
+use Rattle.lc_model.specs.Text.{IsIdText}
+use Rattle.lc_model.specs.declared.run.Run.{Run}
 use Rattle.lc_versions.specs.History.{IsRising, moments_of}
 use Rattle.version_store.specs.Indexed.{AreIndexed}
 use Rattle.version_store.specs.Store.{Stored, bytes_of, entry_of}
@@ -16,9 +18,10 @@ stored_of store = record {
   history = map (λ (a : Admission). entry_of a.update a.bytes) store.admitted.items;
 }
 
--- The list of versions and the sum of bytes are those of the messages, which have no more bytes than may be. The index has the runs of
--- each version.
+-- The trips of the runs are ids. The list of versions and the sum of bytes are those of the messages, which have no more bytes than may be.
+-- The index has the runs of each version.
 pub record IsKept (store : Inside) : Type 0 where
+  pub trips : All (λ (r : Run). IsIdText r.key.trip) store.runs
   pub versions : store.versions.items ≡ store.base ∷ moments_of (stored_of store).history
   pub rising : IsRising store.base (moments_of (stored_of store).history)
   pub bytes : store.bytes ≡ bytes_of (stored_of store).history

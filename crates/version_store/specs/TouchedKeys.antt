@@ -33,3 +33,7 @@ PutsTouched news old new = (key : RunKey) → IsIdText key.trip → Has old key 
 -- the set has what it had, and the keys that some of the news touch
 abbrev pub PutsAllTouched : List TripSaid → BTreeSet RunKey → BTreeSet RunKey → Type 0
 PutsAllTouched list old new = (key : RunKey) → IsIdText key.trip → Has old key ⊎ (is_touched key list ≡ true) → Has new key
+
+-- the set has each key that a run may have and some of the news touch
+abbrev pub HasTouched : List TripSaid → BTreeSet RunKey → Type 0
+HasTouched list keys = (key : RunKey) → IsIdText key.trip → is_touched key list ≡ true → Has keys key

@@ -131,7 +131,8 @@ impl Store {
     }
 
     /// Admits a message (GTFS Realtime): after it there is a version of its moment. Of the causes of a refusal the first one
-    /// in the order of `AdmitFault` counts. Linear in the bytes.
+    /// in the order of `AdmitFault` counts. It takes the time of a sort of the entities of all messages from the last full one on. For each key that the
+    /// news before or after it touch it takes the logarithm of the runs, and the time of the calls.
     pub fn admit(&mut self, alloc: Global, bytes: &[u8]) -> Result<Admitted, AdmitFault>
         ensures taken { IfOk result (Admits self.old self.new bytes.now) }
         ensures refused { IfErr result (λ fault. (fault ≡ OutOfMemory) ⊎ IsRefused self.old bytes.now fault) }

@@ -1,5 +1,6 @@
 ghost use Rattle.std.specs.Prelude.{IfOk, List, option_map};
-ghost use Rattle.std.specs.Option.{option_copied};
+ghost use Rattle.std.specs.Option.{ForSome, option_copied};
+ghost use Rattle.lc_model.specs.Call.{GoesForward};
 ghost use Rattle.lc_model.specs.Run.{InKeyOrder};
 ghost use Rattle.lc_model.specs.Text.{IsIdText};
 ghost use Rattle.lc_versions.specs.News.{TripSaid};
@@ -56,7 +57,8 @@ pub(crate) fn calls_by(
     last: &LastNews<'_>,
     key: &RunKey,
 ) -> Result<Option<Calls>, NoMemory>
-    ensures { IfOk result (λ calls. (list : List TripSaid) → HasLast list last.now → AreCallsBy runs.now stops.now list key.now calls) }
+    ensures calls { IfOk result (λ calls. (list : List TripSaid) → HasLast list last.now → AreCallsBy runs.now stops.now list key.now calls) }
+    ensures forward { IfOk result (λ calls. ForSome calls GoesForward) }
 {
     trip_is_id(key);
     match run_of_key(runs.as_slice(), key) {

@@ -1,11 +1,27 @@
-ghost use Rattle.std.specs.Prelude.{◌≡◌, IfOk, OnOk, true};
-ghost use Rattle.std.specs.List.{Contains};
+ghost use Rattle.std.specs.Prelude.{◌≡◌, ◌⊎◌, All, IfOk, List, OnOk, Some, [], map, true};
 ghost use Rattle.lc_model.specs.Run.{InKeyOrder};
-ghost use Rattle.version_store.specs.Changes.{AreBegunOf, AreEndedOf, PushesBegun, PushesEnded};
+ghost use Rattle.lc_model.specs.Text.{IsIdText};
+ghost use Rattle.lc_model.specs.declared.run.Run.{Run as StatedRun};
+ghost use Rattle.lc_versions.specs.News.{TripSaid};
+ghost use Rattle.version_store.specs.Changes.{AreChangesAt, AreChangesBy, PutsBegun, PutsChange, PutsEnded, TurnsKey};
+ghost use Rattle.version_store.specs.Kept.{news_said};
+ghost use Rattle.version_store.specs.LastNews.{HasLast};
+ghost use Rattle.version_store.specs.TouchedKeys.{HasTouched};
 
-use crate::calls_by::run_of_key;
-use lc_model::{Call, NoMemory, PlainData, Run, RunKey};
+use crate::calls_by::calls_by;
+use crate::dated::DatedNews;
+use crate::last_news::{LastNews, last_news};
+use crate::touched_keys::put_all_touched;
+use lc_model::{Call, Calls, NoMemory, PlainData, RunKey, Runs, Stops};
 use std::alloc::Global;
+use std::collections::{BTreeMap, BTreeSet};
+
+/// What changes from one list of news to the next: the keys that end, and by their keys the calls of the runs that begin.
+#[derive(Drop)]
+pub(crate) struct Changes {
+    pub(crate) ended: Vec<RunKey>,
+    pub(crate) begun: BTreeMap<RunKey, Calls>,
+}
 
 fn are_same(a: &[Call], b: &[Call]) -> bool
     ensures { result ≡ true → a.now ≡ b.now }
@@ -13,69 +29,138 @@ fn are_same(a: &[Call], b: &[Call]) -> bool
     a == b
 }
 
-/// Whether the run is one of these. Takes the logarithm of the runs.
-fn is_among(runs: &[Run], run: &Run) -> bool
-    requires { InKeyOrder runs.now }
-    ensures { result ≡ true → Contains runs.now run.now }
+/// Whether there was a run with these calls.
+fn were(was: &Option<Calls>, calls: &Calls) -> bool
+    ensures { result ≡ true → was.now ≡ Some calls.now }
 {
-    match run_of_key(runs, &run.key) {
-        Some(was) => are_same(was.calls.as_slice(), run.calls.as_slice()),
+    match was {
+        Some(was) => are_same(was.as_slice(), calls.as_slice()),
         None => false,
     }
 }
 
-/// Adds a run, if it was not there.
-fn push_begun(alloc: Global, begun: &mut Vec<Run>, old: &[Run], run: &Run) -> Result<(), NoMemory>
-    requires { InKeyOrder old.now }
-    ensures { OnOk result (PushesBegun old.now run.now begun.old.items begun.new.items) }
-{
-    if is_among(old, run) {
-        return Ok(());
-    }
-    begun.push(run.copy(alloc)?)?;
-    Ok(())
-}
-
-/// The new runs that were not there. Takes the time of a search for each.
-pub(crate) fn begun_runs(alloc: Global, old: &[Run], new: &[Run]) -> Result<Vec<Run>, NoMemory>
-    requires old { InKeyOrder old.now }
-    requires new { InKeyOrder new.now }
-    ensures { IfOk result (λ begun. AreBegunOf old.now new.now begun.items) }
-{
-    let mut begun = Vec::new(alloc);
-    'runs: for run in new {
-        push_begun(alloc, &mut begun, old, run)?;
-    }
-    Ok(begun)
-}
-
-/// Adds a key, if no new run has it.
-fn push_ended(
+/// Ends a key, if it had a run.
+fn put_ended(
     alloc: Global,
     ended: &mut Vec<RunKey>,
-    new: &[Run],
     key: &RunKey,
+    was: &Option<Calls>,
 ) -> Result<(), NoMemory>
-    requires { InKeyOrder new.now }
-    ensures { OnOk result (PushesEnded new.now key.now ended.old.items ended.new.items) }
+    ensures { OnOk result (PutsEnded key.now was.now ended.old.items ended.new.items) }
 {
-    match run_of_key(new, key) {
-        Some(_) => Ok(()),
-        None => {
+    match was {
+        Some(_) => {
             ended.push(key.copy(alloc)?)?;
             Ok(())
         }
+        None => Ok(()),
     }
 }
 
-/// The keys of old runs that no new run has. Takes the time of a search for each.
-pub(crate) fn ended_keys(alloc: Global, old: &[Run], new: &[Run]) -> Result<Vec<RunKey>, NoMemory>
-    requires { InKeyOrder new.now }
-    ensures { IfOk result (λ ended. AreEndedOf old.now new.now ended.items) }
+/// Begins the run of a key, if it did not have these calls.
+fn put_begun(
+    alloc: Global,
+    begun: &mut BTreeMap<RunKey, Calls>,
+    key: &RunKey,
+    was: &Option<Calls>,
+    calls: Calls,
+) -> Result<(), NoMemory>
+    ensures { OnOk result (PutsBegun key.now was.now calls begun.old begun.new) }
 {
-    let mut ended = Vec::new(alloc);
-    'runs: for run in old {
-        push_ended(alloc, &mut ended, new, &run.key)?;
+    if were(was, &calls) {
+        return Ok(());
     }
-    Ok(ended)
+    begun.insert(key.copy(alloc)?, calls)?;
+    Ok(())
+}
+
+/// Puts what changes at a key, by the calls that it had and those that it has.
+fn put_change(
+    alloc: Global,
+    changes: &mut Changes,
+    key: &RunKey,
+    was: &Option<Calls>,
+    is_now: Option<Calls>,
+) -> Result<(), NoMemory>
+    ensures { OnOk result (PutsChange key.now was.now is_now changes.old changes.new) }
+{
+    match is_now {
+        Some(calls) => put_begun(alloc, &mut changes.begun, key, was, calls),
+        None => put_ended(alloc, &mut changes.ended, key, was),
+    }
+}
+
+/// Puts what changes at a key from the old news to the new. Takes the logarithm of the runs and of the news, and the time of the calls.
+fn put_turn(
+    alloc: Global,
+    changes: &mut Changes,
+    runs: &Runs,
+    stops: &Stops,
+    old: &LastNews<'_>,
+    new: &LastNews<'_>,
+    key: &RunKey,
+) -> Result<(), NoMemory>
+    ensures { OnOk result ((before after : List TripSaid) → HasLast before old.now → HasLast after new.now →
+        TurnsKey runs.now stops.now before after key.now changes.old changes.new) }
+{
+    let was = calls_by(alloc, runs, stops, old, key)?;
+    let is_now = calls_by(alloc, runs, stops, new, key)?;
+    put_change(alloc, changes, key, &was, is_now)
+}
+
+/// What changes at the keys of a set. Takes the time of `put_turn` for each.
+fn changes_at(
+    alloc: Global,
+    runs: &Runs,
+    stops: &Stops,
+    old: &LastNews<'_>,
+    new: &LastNews<'_>,
+    keys: &BTreeSet<RunKey>,
+) -> Result<Changes, NoMemory>
+    requires { InKeyOrder runs.now }
+    ensures { IfOk result (λ changes. (before after : List TripSaid) → HasLast before old.now → HasLast after new.now →
+        AreChangesAt runs.now stops.now before after keys.now [] changes) }
+{
+    let mut changes = Changes {
+        ended: Vec::new(alloc),
+        begun: BTreeMap::new(alloc),
+    };
+    for key in keys {
+        put_turn(alloc, &mut changes, runs, stops, old, new, key)?;
+    }
+    Ok(changes)
+}
+
+/// The keys that the old or the new news touch. Takes the time of a sort of the news.
+fn touched_keys(
+    alloc: Global,
+    old: &[DatedNews<'_>],
+    new: &[DatedNews<'_>],
+) -> Result<BTreeSet<RunKey>, NoMemory>
+    ensures old { IfOk result (HasTouched (map news_said old.now)) }
+    ensures new { IfOk result (HasTouched (map news_said new.now)) }
+{
+    let mut keys = BTreeSet::new(alloc);
+    put_all_touched(alloc, &mut keys, old)?;
+    put_all_touched(alloc, &mut keys, new)?;
+    Ok(keys)
+}
+
+/// What changes from the old news to the new. Takes the time of a sort of both lists, the logarithm of the runs for each key that they
+/// touch, and the time of its calls.
+pub(crate) fn changes_of(
+    alloc: Global,
+    runs: &Runs,
+    stops: &Stops,
+    old: &[DatedNews<'_>],
+    new: &[DatedNews<'_>],
+) -> Result<Changes, NoMemory>
+    requires in_order { InKeyOrder runs.now }
+    requires trips { All (λ (r : StatedRun). IsIdText r.key.trip) runs.now }
+    ensures { IfOk result (AreChangesBy runs.now stops.now (map news_said old.now) (map news_said new.now)) }
+{
+    let keys = touched_keys(alloc, old, new)?;
+    let last_old = last_news(alloc, old)?;
+    let last_new = last_news(alloc, new)?;
+    changes_at(alloc, runs, stops, &last_old, &last_new, &keys)
 }

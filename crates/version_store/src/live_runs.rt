@@ -114,6 +114,15 @@ fn trip_is_id(run: &Run)
     let _trip = run.key.trip.bytes();
 }
 
+/// The trips of runs are ids, as their type says. The call does nothing but walk over them.
+pub(crate) fn trips_are_ids(runs: &[Run])
+    ensures { All (λ (r : StatedRun). IsIdText r.key.trip) runs.now }
+{
+    'runs: for run in runs {
+        trip_is_id(run);
+    }
+}
+
 /// Puts the live calls of a run of the timetable.
 fn put_live(
     alloc: Global,
@@ -151,7 +160,7 @@ fn all_runs(
 }
 
 /// The runs in the order of their keys.
-fn runs_in(alloc: Global, live: BTreeMap<RunKey, Calls>) -> Result<Vec<Run>, NoMemory>
+pub(crate) fn runs_in(alloc: Global, live: BTreeMap<RunKey, Calls>) -> Result<Vec<Run>, NoMemory>
     ensures in_order { IfOk result (λ runs. InKeyOrder runs.items) }
     ensures exactly { IfOk result (λ runs. (run : StatedRun) → Contains runs.items run ↔ (get key_cmp live run.key ≡ Some run.calls)) }
 {

@@ -5,6 +5,7 @@ ghost use Rattle.lc_versions.specs.Named.{is_by, version_named};
 ghost use Rattle.version_store.specs.Store.{newest_of, versions_of};
 
 use crate::indexed::base_index;
+use crate::live_runs::trips_are_ids;
 use lc_model::{Moment, NoMemory, Runs, Stops};
 use lc_time::Zone;
 use lc_versions::Update;
@@ -57,6 +58,7 @@ impl Store {
     ) -> Result<Store, NoMemory>
         ensures { IfOk result (λ store. store ≡ record { runs = runs; stops = stops; zone = zone; base = base; history = [] }) }
     {
+        trips_are_ids(runs.as_slice());
         let index = base_index(alloc, &runs, &stops)?;
         let versions = vec![in alloc; base]?;
         Ok(Store {

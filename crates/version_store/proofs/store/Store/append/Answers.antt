@@ -36,6 +36,7 @@ invariant_of-self-2 c =
     let by_history = subst (λ (h : List Entry). HasTurned inside.runs inside.stops (news_at (date_in inside.zone) h c.newest-before.result) (news_at (date_in inside.zone) h c.args.update.moment) inside.index c.turn_to-turned.new.index) history turned in
     let by_newest = subst (λ (n : ℕ). HasTurned inside.runs inside.stops (news_at (date_in inside.zone) (old.history ++ entry_of c.args.update c.args.bytes ∷ []) n) (news_at (date_in inside.zone) (old.history ++ entry_of c.args.update c.args.bytes ∷ []) c.args.update.moment) inside.index c.turn_to-turned.new.index) before by_history in
     record {
+      trips = inv.trips;
       versions = kept.versions_are;
       rising = kept.rising;
       bytes = kept.bytes_are;
@@ -53,9 +54,13 @@ invariant_of-self-then-is_err c =
     let history : map entry_said c.pop_message.new.admitted.items ≡ old.history = ap (map entry_said) (c.pop_message.ensures.messages _ _ c.in_ok-push_message.ensures.message) in
     let same = when_err c.turn_to-turned.result (sym c.is_err.ensures.value ∙ c.if-is_err.true) c.turn_to-turned.ensures.err in
     record {
+      trips = inv.trips;
       versions = versions ∙ inv.versions ∙ ap (λ (h : List Entry). inside.base ∷ moments_of h) (sym history);
       rising = subst (λ (h : List Entry). IsRising inside.base (moments_of h)) (sym history) inv.rising;
       bytes = inv.bytes ∙ ap bytes_of (sym history);
       within = inv.within;
       indexed = subst (λ (h : List Entry). AreIndexed (record old { history = h }) c.turn_to-turned.new.index) (sym history) (indexed_still old inside.index c.turn_to-turned.new.index inv.indexed same);
     }
+
+pub turn_to-turned-requires-clause-trips : goal.turn_to-turned-requires-clause-trips
+turn_to-turned-requires-clause-trips c = c.self.invariant.trips

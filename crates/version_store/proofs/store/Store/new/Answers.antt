@@ -1,4 +1,6 @@
-use Rattle.std.proofs.Common.{ap, map, refl, rules}
+use Rattle.std.proofs.Common.{All, ap, map, refl, rules, subst}
+use Rattle.lc_model.specs.Text.{IsIdText}
+use Rattle.lc_model.specs.declared.run.Run.{Run}
 use Rattle.version_store.specs.Store.{entry_of}
 use Rattle.version_store.specs.declared.store.Admission.{Admission}
 use Rattle.version_store.proofs.IndexedLemmas.{indexed_base}
@@ -6,6 +8,7 @@ use Rattle.version_store.proofs.store.Store.new.Goals as goal
 
 pub invariant_of-result : goal.invariant_of-result
 invariant_of-result c = record {
+  trips = subst (All (λ (r : Run). IsIdText r.key.trip)) c.as_slice.ensures.value c.trips_are_ids.ensures;
   versions = search rules;
   rising = search rules;
   bytes = search rules;
