@@ -1,5 +1,5 @@
 -- What an index gives of a number is what the store promises of the version of that number.
-use Rattle.std.proofs.Common.{◌≡◌, ◌∙◌, ◌⊎◌, inl, inr, ℕ, ◌+◌, ◌<◌, ◌≤◌, List, [], ◌∷◌, ◌++◌, get_or, length, Option, refl, ap, sym, subst, subst₂, arith, ⊎_elim, take_all}
+use Rattle.std.proofs.Common.{◌≡◌, ◌∙◌, ◌⊎◌, inl, inr, ℕ, ◌+◌, ◌<◌, ◌≤◌, List, [], ◌∷◌, ◌++◌, get_or, length, Option, ap, sym, subst, subst₂, arith, ⊎_elim, take_all}
 use Rattle.std.specs.List.{Contains}
 use Rattle.std.proofs.lemmas.Bool.{cases_lt}
 use Rattle.std.proofs.lemmas.List.{get_or_default, length-map, length_push, take-append-le}
@@ -8,14 +8,13 @@ use Rattle.lc_model.specs.Run.{InKeyOrder}
 use Rattle.lc_model.specs.declared.key.RunKey.{RunKey}
 use Rattle.lc_model.specs.declared.run.Run.{Run}
 use Rattle.lc_versions.specs.History.{Entry, IsRising, moments_of, news_at}
-use Rattle.lc_versions.specs.Named.{last_of}
 use Rattle.lc_versions.specs.News.{TripSaid}
 use Rattle.lc_versions.specs.Timetable.{AreLiveRuns}
 use Rattle.laws_index.specs.Held.{AreRunsBy}
 use Rattle.laws_index.specs.Kept.{entities_after, news_in}
 use Rattle.laws_index.specs.Touched.{AreChanges, IsLeft}
 use Rattle.laws_index.proofs.HeldLemmas.{ordered_are_live}
-use Rattle.laws_index.proofs.KeptLemmas.{newest, of_number, older}
+use Rattle.laws_index.proofs.KeptLemmas.{newest, of_number}
 use Rattle.laws_index.proofs.TouchedLemmas.{update_holds}
 use Rattle.span_index.specs.Rows as index
 use Rattle.span_index.specs.Spans.{Indexed, runs_at}
@@ -24,9 +23,7 @@ use Rattle.version_store.specs.Changes.{HasTurned}
 use Rattle.version_store.specs.Dates.{date_in}
 use Rattle.version_store.specs.Indexed.{AreIndexed, IsNumberOf, news_after}
 use Rattle.version_store.specs.Rows.{AreConnectionsAt, AreDepartures, AreRows}
-use Rattle.version_store.specs.Store.{Stored, news_of, newest_of, versions_of}
-use Rattle.version_store.proofs.StoreLemmas.{moments_more}
-use Rattle.version_store.proofs.VersionLemmas.{rising_more}
+use Rattle.version_store.specs.Store.{Stored, news_of, versions_of}
 
 -- the news of a version are those in force after as many messages as its number says
 news_of_number : (store : Stored) (version number : ℕ) → IsRising store.base (moments_of store.history) → IsNumberOf store version number → news_after store number ≡ news_of store version
@@ -127,30 +124,18 @@ number_found store versions version number are inside is =
       is = get_or_default (versions_of store) number store.base 0 there ∙ ap (λ (v : List ℕ). get_or v number 0) (sym are) ∙ is;
     }
 
-last_pushed : (base : ℕ) (moments : List ℕ) (next : ℕ) → last_of base (moments ++ next ∷ []) ≡ next
-last_pushed base [] next = refl
-last_pushed base (first ∷ rest) next = last_pushed first rest next
-
--- the news after all messages are those of the newest version
-news_of_all : (store : Stored) → IsRising store.base (moments_of store.history) → news_at (date_in store.zone) store.history (last_of store.base (moments_of store.history)) ≡ news_after store (length store.history)
-news_of_all store rising =
-    newest (date_in store.zone) store.base store.history rising
-    ∙ ap (λ (es : List Entry). news_in (entities_after (date_in store.zone) es)) (sym (take_all (length store.history) store.history (omega arith)))
+-- the news after all messages are those that are in force
+news_of_all : (store : Stored) → news_in (entities_after (date_in store.zone) store.history) ≡ news_after store (length store.history)
+news_of_all store = ap (λ (es : List Entry). news_in (entities_after (date_in store.zone) es)) (sym (take_all (length store.history) store.history (omega arith)))
 
 -- a message at the end of the history, by which the index has turned
-pub indexed_appended : (old : Stored) (entry : Entry) (before after : Indexed) → InKeyOrder old.runs → IsRising old.base (moments_of old.history) → newest_of old < entry.update.moment → AreIndexed old before
-    → HasTurned old.runs old.stops (news_at (date_in old.zone) (old.history ++ entry ∷ []) (newest_of old)) (news_at (date_in old.zone) (old.history ++ entry ∷ []) entry.update.moment) before after
+pub indexed_appended : (old : Stored) (entry : Entry) (before after : Indexed) → InKeyOrder old.runs → AreIndexed old before
+    → HasTurned old.runs old.stops (news_in (entities_after (date_in old.zone) old.history)) (news_in (entities_after (date_in old.zone) (old.history ++ entry ∷ []))) before after
     → AreIndexed (record old { history = old.history ++ entry ∷ [] }) after
-indexed_appended old entry before after up rising newer indexed turned =
+indexed_appended old entry before after up indexed turned =
     let new : Stored = record old { history = old.history ++ entry ∷ [] } in
-    let date_of = date_in old.zone in
-    let moments = moments_more old.history entry in
-    let rises : IsRising old.base (moments_of new.history) = subst (IsRising old.base) (sym moments) (rising_more old.base (moments_of old.history) entry.update.moment rising newer) in
-    let first : news_at date_of (old.history ++ entry ∷ []) (newest_of old) ≡ news_after old (length old.history) = older date_of old.history entry (newest_of old) newer ∙ news_of_all old rising in
-    let now : last_of old.base (moments_of new.history) ≡ entry.update.moment = ap (last_of old.base) moments ∙ last_pushed old.base (moments_of old.history) entry.update.moment in
-    let second : news_at date_of (old.history ++ entry ∷ []) entry.update.moment ≡ news_after new (length new.history) = ap (news_at date_of new.history) (sym now) ∙ news_of_all new rises in
     indexed_more old entry before after indexed turned.ended turned.begun up
-    (subst₂ (λ (a b : List TripSaid). AreChanges old.runs old.stops a b turned.ended turned.begun) first second turned.changes)
+    (subst₂ (λ (a b : List TripSaid). AreChanges old.runs old.stops a b turned.ended turned.begun) (news_of_all old) (news_of_all new) turned.changes)
     turned.updated
 
 -- an index that is the same for all versions

@@ -1,16 +1,16 @@
 -- What is in force after messages is what a walk from the last entity to the first one finds.
-use Rattle.std.proofs.Common.{◌≡◌, ℕ, ◌+◌, ◌<◌, drop, get_or, length, leb, List, [], ◌∷◌, ◌++◌, map, filter, reverse, Bool, true, false, cond, Option, Some, None, refl, sym, ap, ap₂, ◌∙◌}
+use Rattle.std.proofs.Common.{◌≡◌, inr, ℕ, ◌+◌, ◌-◌, ◌<◌, ◌≤◌, arith, drop, get_or, length, List, [], ◌∷◌, ◌++◌, map, filter, reverse, Bool, true, false, cond, Option, Some, None, inl, refl, sym, ap, ap₂, ◌∙◌, subst}
 use Rattle.std.specs.Prelude.{if◌then◌else◌, not, ◌&&◌, ◌||◌, is_some}
-use Rattle.std.specs.List.{filter_map}
+use Rattle.std.specs.List.{Contains}
 use Rattle.std.specs.Cmp.Lexicographic.{slice_cmp, texts_ties}
 use Rattle.std.specs.Ordering.{is_eq, nat_cmp}
 use Rattle.std.proofs.lemmas.List.{drop_more, append-nil, append_assoc, map-append, reverse-append}
-use Rattle.std.proofs.lemmas.List.Elements.{filter-append, filter_map-append}
+use Rattle.std.proofs.lemmas.List.Elements.{Contains-append_right, Contains-push_cases, filter-append}
 use Rattle.std.proofs.lemmas.Slice.Eq.{bytes_eq-Decides}
 use Rattle.lc_model.specs.Change.{is_same_id}
-use Rattle.lc_versions.specs.History.{Entry, up_to, put, put_all, with_news}
+use Rattle.lc_versions.specs.History.{put, put_all, with_news}
 use Rattle.lc_versions.specs.News.{EntitySaid, TripSaid}
-use Rattle.version_store.specs.Kept.{entity_said, is_replaced, kept_of, survivors, then_all, then_entities, then_marked}
+use Rattle.version_store.specs.Kept.{PushesKept, entity_said, is_replaced, kept_of, survivors, then_all, then_entities, then_marked}
 use Rattle.version_store.specs.declared.kept.Marked.{Marked}
 
 -- one entity more at the end
@@ -52,60 +52,68 @@ filter_twice p q r both (x ∷ xs) = one_test p q r x xs (filter_twice p q r bot
 abbrev Stays : List Marked → EntitySaid → Bool
 Stays later e = not (is_replaced e.id later)
 
--- the news of one entity after others
-one_kept : (later : List Marked) (e : EntitySaid) (news : Option TripSaid) (replaced : Bool) → e.news ≡ news → is_replaced e.id later ≡ replaced →
-    filter_map (λ (e : EntitySaid). e.news) (filter (Stays later) (if is_some news then e ∷ [] else [])) ≡ kept_of replaced news
-one_kept later e None true f g = refl
-one_kept later e None false f g = refl
-one_kept later e (Some news) true f g = rw g refl
-one_kept later e (Some news) false f g = rw (g, f) refl
+-- one entity after others
+one_kept : (later : List Marked) (e : EntitySaid) (some replaced : Bool) → is_replaced e.id later ≡ replaced →
+    filter (Stays later) (if some then e ∷ [] else []) ≡ (if replaced then [] else (if some then e ∷ [] else []))
+one_kept later e false true f = refl
+one_kept later e false false f = refl
+one_kept later e true true f = rw f refl
+one_kept later e true false f = rw f refl
 
 not_either : (a b : Bool) → not (a || b) ≡ (not a && not b)
 not_either true b = refl
 not_either false b = refl
 
 kept_then : (b : Bool) (kept : List EntitySaid) (e : EntitySaid) (later : List Marked) →
-    filter_map (λ (e : EntitySaid). e.news) (filter (Stays later) (if b then put kept e else kept ++ with_news (e ∷ [])))
-    ≡ filter_map (λ (e : EntitySaid). e.news) (filter (λ (x : EntitySaid). not ((b && is_same_id x.id e.id) || is_replaced x.id later)) kept) ++ kept_of (is_replaced e.id later) e.news
+    filter (Stays later) (if b then put kept e else kept ++ with_news (e ∷ []))
+    ≡ filter (λ (x : EntitySaid). not ((b && is_same_id x.id e.id) || is_replaced x.id later)) kept ++ kept_of (is_replaced e.id later) e
 kept_then true kept e later =
     let others = filter (λ (x : EntitySaid). not (is_same_id x.id e.id)) kept in
-    let N : EntitySaid → Option TripSaid = λ e. e.news in
-    ap (filter_map N) (filter-append (Stays later) others (with_news (e ∷ [])))
-    ∙ filter_map-append N (filter (Stays later) others) (filter (Stays later) (with_news (e ∷ [])))
+    filter-append (Stays later) others (with_news (e ∷ []))
     ∙ ap₂ (λ a b. a ++ b)
-    (ap (filter_map N) (filter_twice (Stays later) (λ (x : EntitySaid). not (is_same_id x.id e.id)) (λ (x : EntitySaid). not (is_same_id x.id e.id || is_replaced x.id later)) (λ x. not_either (is_same_id x.id e.id) (is_replaced x.id later)) kept))
-    (one_kept later e e.news (is_replaced e.id later) refl refl)
+    (filter_twice (Stays later) (λ (x : EntitySaid). not (is_same_id x.id e.id)) (λ (x : EntitySaid). not (is_same_id x.id e.id || is_replaced x.id later)) (λ x. not_either (is_same_id x.id e.id) (is_replaced x.id later)) kept)
+    (one_kept later e (is_some e.news) (is_replaced e.id later) refl)
 kept_then false kept e later =
-    let N : EntitySaid → Option TripSaid = λ e. e.news in
-    ap (filter_map N) (filter-append (Stays later) kept (with_news (e ∷ [])))
-    ∙ filter_map-append N (filter (Stays later) kept) (filter (Stays later) (with_news (e ∷ [])))
-    ∙ ap (λ b. filter_map N (filter (Stays later) kept) ++ b) (one_kept later e e.news (is_replaced e.id later) refl refl)
+    filter-append (Stays later) kept (with_news (e ∷ []))
+    ∙ ap (λ b. filter (Stays later) kept ++ b) (one_kept later e (is_some e.news) (is_replaced e.id later) refl)
 
-news_behind : (kept : List EntitySaid) (marks : List Marked) → filter_map (λ (e : EntitySaid). e.news) (then_all kept marks) ≡ filter_map (λ (e : EntitySaid). e.news) (filter (Stays marks) kept) ++ survivors marks
-news_behind kept [] = ap (filter_map (λ (e : EntitySaid). e.news)) (sym (all_stay kept)) ∙ sym (append-nil _) where
+all_behind : (kept : List EntitySaid) (marks : List Marked) → then_all kept marks ≡ filter (Stays marks) kept ++ survivors marks
+all_behind kept [] = sym (all_stay kept) ∙ sym (append-nil _) where
   all_stay : (kept : List EntitySaid) → filter (Stays []) kept ≡ kept
   all_stay [] = refl
   all_stay (e ∷ rest) = ap (λ v. e ∷ v) (all_stay rest)
-news_behind kept (marked ∷ later) =
+all_behind kept (marked ∷ later) =
     let e = entity_said marked in
-    let N : EntitySaid → Option TripSaid = λ e. e.news in
-    news_behind (then_marked kept marked) later
+    all_behind (then_marked kept marked) later
     ∙ ap (λ v. v ++ survivors later) (kept_then marked.replaces kept e later)
-    ∙ append_assoc (filter_map N (filter (Stays (marked ∷ later)) kept)) (kept_of (is_replaced e.id later) e.news) (survivors later)
+    ∙ append_assoc (filter (Stays (marked ∷ later)) kept) (kept_of (is_replaced e.id later) e) (survivors later)
 
--- the news in force are those of the entities that no later one takes out
-pub survivors_are_kept : (marks : List Marked) → survivors marks ≡ filter_map (λ (e : EntitySaid). e.news) (then_all [] marks)
-survivors_are_kept marks = sym (news_behind [] marks)
+-- what is in force are the entities that no later one takes out
+pub survivors_are_kept : (marks : List Marked) → survivors marks ≡ then_all [] marks
+survivors_are_kept marks = sym (all_behind [] marks)
 
-reverse_one : (replaced : Bool) (news : Option TripSaid) → reverse (kept_of replaced news) ≡ kept_of replaced news
-reverse_one true news = refl
-reverse_one false None = refl
-reverse_one false (Some news) = refl
+one_with_news : (e : EntitySaid) (some replaced : Bool) → is_some e.news ≡ some → with_news (if replaced then [] else (if some then e ∷ [] else [])) ≡ (if replaced then [] else (if some then e ∷ [] else []))
+one_with_news e some true f = refl
+one_with_news e false false f = refl
+one_with_news e true false f = rw f refl
+
+-- each of them has news
+pub survivors_have_news : (marks : List Marked) → with_news (survivors marks) ≡ survivors marks
+survivors_have_news [] = refl
+survivors_have_news (marked ∷ later) =
+    let e = entity_said marked in
+    filter-append (λ (e : EntitySaid). is_some e.news) (kept_of (is_replaced e.id later) e) (survivors later)
+    ∙ ap₂ (λ a b. a ++ b) (one_with_news e (is_some e.news) (is_replaced e.id later) refl) (survivors_have_news later)
+
+reverse_one : (e : EntitySaid) (some replaced : Bool) → reverse (if replaced then [] else (if some then e ∷ [] else [])) ≡ (if replaced then [] else (if some then e ∷ [] else []))
+reverse_one e some true = refl
+reverse_one e false false = refl
+reverse_one e true false = refl
 
 -- one entity more, from the last one on
-pub survivors_more : (kept more : List TripSaid) (replaced : Bool) (news : Option TripSaid) (later : List TripSaid) → more ≡ kept ++ kept_of replaced news → reverse kept ≡ later → reverse more ≡ kept_of replaced news ++ later
-survivors_more kept more replaced news later e f =
-    ap reverse e ∙ reverse-append kept (kept_of replaced news) ∙ ap₂ (λ a b. a ++ b) (reverse_one replaced news) f
+pub survivors_more : (kept more : List EntitySaid) (replaced : Bool) (e : EntitySaid) (later : List EntitySaid) → more ≡ kept ++ kept_of replaced e → reverse kept ≡ later → reverse more ≡ kept_of replaced e ++ later
+survivors_more kept more replaced e later is f =
+    ap reverse is ∙ reverse-append kept (kept_of replaced e) ∙ ap₂ (λ a b. a ++ b) (reverse_one e (is_some e.news) replaced) f
 
 decided : (x y : List ℕ) (a b : Bool) → is_same_id x y ≡ a → is_same_id y x ≡ b → a ≡ b
 decided x y true b e f = sym ((bytes_eq-Decides y x).1 (sym ((bytes_eq-Decides x y).0 e))) ∙ f
@@ -129,13 +137,6 @@ marks_more replaces f entities i entity old new marked whole inside is pushed sa
     ∙ ap (λ v. then_entities replaces (then_all [] old) (map f v)) (sym (drop_more entities i entity inside))
     ∙ e
 
--- a message after the version is not of it
-pub up_to-later : (version : ℕ) (entry : Entry) (rest : List Entry) → leb entry.update.moment version ≡ false → up_to version (entry ∷ rest) ≡ up_to version rest
-up_to-later version entry rest e = rw e refl
-
-pub up_to-now : (version : ℕ) (entry : Entry) (rest : List Entry) → leb entry.update.moment version ≡ true → up_to version (entry ∷ rest) ≡ entry ∷ up_to version rest
-up_to-now version entry rest e = rw e refl
-
 pub map_reverse : {X Y : Type 0} (f : X → Y) (xs : List X) → map f (reverse xs) ≡ reverse (map f xs)
 map_reverse f [] = refl
 map_reverse f (x ∷ xs) =
@@ -152,3 +153,26 @@ put_among replaces key id entity t e f =
     or_else (is_eq (slice_cmp nat_cmp key id)) t
     ∙ ap (λ b. b || t) (sym (texts_ties key id) ∙ same_id_back key id ∙ ap (is_same_id id) f)
     ∙ ap (λ b. (b && is_same_id id entity) || t) (sym e)
+
+-- an entity with news is kept where it is not replaced, and nothing else is
+pub kept_pushed : (marked : Marked) (old new : List Marked) → new ≡ old ++ marked ∷ [] → is_some (entity_said marked).news ≡ true → PushesKept false marked old new
+kept_pushed marked old new pushed some = record {
+  said = ap (map entity_said) pushed ∙ map-append entity_said old (marked ∷ []) ∙ ap (λ b. map entity_said old ++ (if b then entity_said marked ∷ [] else [])) (sym some);
+  of = λ m there. Contains-push_cases old marked m (subst (λ (v : List Marked). Contains v m) pushed there);
+}
+
+pub none_kept : (replaced : Bool) (marked : Marked) (old : List Marked) → kept_of replaced (entity_said marked) ≡ [] → PushesKept replaced marked old old
+none_kept replaced marked old none = record { said = sym (append-nil (map entity_said old)) ∙ ap (λ v. map entity_said old ++ v) (sym none); of = λ m there. inl there }
+
+-- one entity more, from the last one on
+pub dropped_one : (marks : List Marked) (place : ℕ) (marked : Marked) → 0 < place → place ≤ length marks → marked ≡ get_or marks (place - 1) marked → drop (place - 1) marks ≡ marked ∷ drop place marks
+dropped_one marks place marked some inside is =
+    let next : place - 1 + 1 ≡ place = omega (arith, some) in
+    drop_more marks (place - 1) marked (omega (arith, some, inside)) ∙ ap₂ (λ (m : Marked) (n : ℕ). m ∷ drop n marks) (sym is) next
+
+pub reversed_in : {X : Type 0} (xs : List X) (y : X) → Contains (reverse xs) y → Contains xs y
+reversed_in [] y there = there
+reversed_in (x ∷ xs) y there = elim (Contains-push_cases (reverse xs) x y (subst (λ v. Contains v y) (reverse-append (x ∷ []) xs) there)) [
+  | inl behind ↦ Contains-append_right (x ∷ []) xs y (reversed_in xs y behind)
+  | inr is ↦ (0, omega arith, is)
+]

@@ -12,6 +12,7 @@ pub mod OutcomeLemmas
 pub mod PlacedLemmas
 pub mod SameCallsLemmas
 pub mod SomeRowsLemmas
+pub mod SpotsLemmas
 pub mod StoreLemmas
 pub mod VersionLemmas
 pub mod WorkedLemmas

@@ -1,6 +1,6 @@
 -- The news in force after the messages, as a walk from the last entity to the first one finds them.
-use Rattle.std.specs.Prelude.{ℕ, List, [], ◌∷◌, ◌++◌, Bool, true, false, ◌&&◌, if◌then◌else◌, Option, option_to_list}
-use Rattle.std.specs.List.{list_any}
+use Rattle.std.specs.Prelude.{◌≡◌, ◌⊎◌, ℕ, List, [], ◌∷◌, ◌++◌, map, Bool, true, false, ◌&&◌, if◌then◌else◌}
+use Rattle.std.specs.List.{Contains, list_any}
 use Rattle.lc_model.specs.Change.{is_same_id}
 use Rattle.lc_versions.specs.History.{Entry, filled, put, put_all, with_news}
 use Rattle.lc_versions.specs.News.{EntitySaid, TripSaid}
@@ -20,7 +20,7 @@ entry_said admission = entry_of admission.update admission.bytes
 
 -- the entity, whose news have a date
 abbrev pub entity_said : Marked → EntitySaid
-entity_said marked = filled marked.date marked.entity.now
+entity_said marked = filled marked.spot.date marked.entity.now
 
 -- an entity more: of a full message beside the others, of another one in the place of those of its id
 abbrev pub then_marked : List EntitySaid → Marked → List EntitySaid
@@ -40,11 +40,16 @@ then_all kept (marked ∷ rest) = then_all (then_marked kept marked) rest
 abbrev pub is_replaced : List ℕ → List Marked → Bool
 is_replaced id later = list_any (λ (m : Marked). m.replaces && is_same_id id m.entity.now.id) later
 
--- the news of an entity, if it has some and no later one takes it out
-abbrev pub kept_of : Bool → Option TripSaid → List TripSaid
-kept_of replaced news = if replaced then [] else option_to_list news
+-- an entity, if it has news and no later one takes it out
+abbrev pub kept_of : Bool → EntitySaid → List EntitySaid
+kept_of replaced entity = if replaced then [] else with_news (entity ∷ [])
 
--- the news of the entities that no later one takes out
-abbrev pub survivors : List Marked → List TripSaid
+-- the entities with news that no later one takes out
+abbrev pub survivors : List Marked → List EntitySaid
 survivors [] = []
-survivors (marked ∷ later) = kept_of (is_replaced marked.entity.now.id later) (entity_said marked).news ++ survivors later
+survivors (marked ∷ later) = kept_of (is_replaced marked.entity.now.id later) (entity_said marked) ++ survivors later
+
+-- the entity is added if it has news and is not replaced, and nothing else
+pub record PushesKept (replaced : Bool) (marked : Marked) (old new : List Marked) : Type 0 where
+  pub said : map entity_said new ≡ map entity_said old ++ kept_of replaced (entity_said marked)
+  pub of : (m : Marked) → Contains new m → Contains old m ⊎ (marked ≡ m)

@@ -11,6 +11,7 @@ pub mod Laws
 pub mod Named
 pub mod Near
 pub mod Rows
+pub mod Spots
 pub mod Store
 pub mod Texts
 pub mod Worked

@@ -109,8 +109,7 @@ impl Store {
         ensures err { OnErr result (self.new ≡ self.old) }
     {
         in_order(&self.runs);
-        let before = self.newest();
-        let now = update.moment;
+        let message = self.admitted.len();
         push_message(&mut self.versions, &mut self.admitted, update, bytes)?;
         let turned = turn_to(
             alloc,
@@ -119,20 +118,25 @@ impl Store {
             &self.stops,
             &self.zone,
             self.admitted.as_slice(),
-            before,
-            now,
+            self.force.as_slice(),
+            message,
         );
-        if turned.is_err() {
-            pop_message(&mut self.versions, &mut self.admitted);
-            return Err(NoMemory);
+        match turned {
+            Ok(force) => {
+                self.force = force;
+                self.bytes += bytes;
+                Ok(())
+            }
+            Err(_) => {
+                pop_message(&mut self.versions, &mut self.admitted);
+                Err(NoMemory)
+            }
         }
-        self.bytes += bytes;
-        Ok(())
     }
 
     /// Admits a message (GTFS Realtime): after it there is a version of its moment. Of the causes of a refusal the first one
-    /// in the order of `AdmitFault` counts. It takes the time of a sort of the entities of all messages from the last full one on. For each key that the
-    /// news before or after it touch it takes the logarithm of the runs, and the time of the calls.
+    /// in the order of `AdmitFault` counts. It takes the time of a sort of the entities in force before it and of its own. For each key that
+    /// the news of these touch it takes the logarithm of the runs, and the time of the calls. Memory grows with the runs that change.
     pub fn admit(&mut self, alloc: Global, bytes: &[u8]) -> Result<Admitted, AdmitFault>
         ensures taken { IfOk result (Admits self.old self.new bytes.now) }
         ensures refused { IfErr result (λ fault. (fault ≡ OutOfMemory) ⊎ IsRefused self.old bytes.now fault) }

@@ -1,22 +1,27 @@
-ghost use Rattle.std.specs.Prelude.{◌≡◌, ◌<◌, [], All, IfOk, OnErr, OnOk, map};
+ghost use Rattle.std.specs.Prelude.{◌≡◌, ◌<◌, [], All, IfOk, List, OnErr, OnOk, Some, map};
+ghost use Rattle.std.specs.List.{slice_get};
+ghost use Rattle.laws_index.specs.Kept.{news_in};
 ghost use Rattle.lc_model.specs.Run.{InKeyOrder};
 ghost use Rattle.lc_model.specs.Text.{IsIdText};
 ghost use Rattle.lc_model.specs.declared.run.Run.{Run as StatedRun};
-ghost use Rattle.lc_versions.specs.History.{news_at};
+ghost use Rattle.lc_versions.specs.News.{EntitySaid};
 ghost use Rattle.lc_versions.specs.Timetable.{AreLiveRuns};
 ghost use Rattle.span_index.specs.Spans.{runs_at};
 ghost use Rattle.span_index.specs.Updates.{IsSame};
-ghost use Rattle.version_store.specs.Changes.{HasTurned, IsUpdatedBy};
+ghost use Rattle.version_store.specs.Changes.{GoesOn, HasTurned, IsUpdatedBy};
 ghost use Rattle.version_store.specs.Dates.{date_in};
 ghost use Rattle.version_store.specs.Further.{GoForward};
-ghost use Rattle.version_store.specs.Kept.{entry_said, news_said};
+ghost use Rattle.version_store.specs.Kept.{entity_said, news_said};
+ghost use Rattle.version_store.specs.Spots.{AreInForce};
+ghost use Rattle.version_store.specs.declared.store.Admission.{Admission as StatedAdmission};
 
 use crate::changes::{Changes, changes_of};
 use crate::dated::DatedNews;
-use crate::kept::kept_news;
+use crate::kept::{Marked, force_after};
 use crate::live_runs::{live_list, runs_in};
+use crate::spots::{Spot, marks_in_force, news_of, spots_of};
 use crate::store::Admission;
-use lc_model::{Moment, NoMemory, Runs, Stops};
+use lc_model::{NoMemory, Runs, Stops};
 use lc_time::Zone;
 use span_index::Index;
 use std::alloc::Global;
@@ -62,7 +67,29 @@ fn turn(
     update_by(alloc, index, changes)
 }
 
-/// Adds the version of the last message to an index of those before it. After a refusal each version is as it was.
+/// Adds a version to an index: what changes from the entities in force in one version to those in another. After a refusal each version
+/// is as it was.
+fn turn_marks(
+    alloc: Global,
+    index: &mut Index,
+    runs: &Runs,
+    stops: &Stops,
+    was: &[Marked<'_>],
+    kept: &[Marked<'_>],
+) -> Result<(), NoMemory>
+    requires room { index.old.newest < 4_294_967_295 }
+    requires in_order { InKeyOrder runs.now }
+    requires trips { All (λ (r : StatedRun). IsIdText r.key.trip) runs.now }
+    ensures ok { OnOk result (HasTurned runs.now stops.now (news_in (map entity_said was.now)) (news_in (map entity_said kept.now)) index.old index.new) }
+    ensures err { OnErr result (IsSame index.old index.new) }
+{
+    let old = news_of(alloc, was)?;
+    let new = news_of(alloc, kept)?;
+    turn(alloc, index, runs, stops, old.as_slice(), new.as_slice())
+}
+
+/// Adds the version of the message of this number to an index of those before it, and gives what is in force then. After a refusal each
+/// version is as it was.
 pub(crate) fn turn_to(
     alloc: Global,
     index: &mut Index,
@@ -70,17 +97,20 @@ pub(crate) fn turn_to(
     stops: &Stops,
     zone: &Zone,
     admitted: &[Admission],
-    before: Moment,
-    now: Moment,
-) -> Result<(), NoMemory>
+    force: &[Spot],
+    message: usize,
+) -> Result<Vec<Spot>, NoMemory>
     requires room { index.old.newest < 4_294_967_295 }
     requires in_order { InKeyOrder runs.now }
     requires trips { All (λ (r : StatedRun). IsIdText r.key.trip) runs.now }
-    ensures ok { OnOk result (HasTurned runs.now stops.now (news_at (date_in zone.now) (map entry_said admitted.now) before)
-        (news_at (date_in zone.now) (map entry_said admitted.now) now) index.old index.new) }
+    ensures ok { IfOk result (λ spots. (entities : List EntitySaid) (a : StatedAdmission) → AreInForce admitted.now force.now entities
+        → slice_get admitted.now message ≡ Some a
+        → GoesOn runs.now stops.now (date_in zone.now) admitted.now a.update entities spots.items index.old index.new) }
     ensures err { OnErr result (IsSame index.old index.new) }
 {
-    let old = kept_news(alloc, zone, before, admitted)?;
-    let new = kept_news(alloc, zone, now, admitted)?;
-    turn(alloc, index, runs, stops, old.as_slice(), new.as_slice())
+    let was = marks_in_force(alloc, admitted, force)?;
+    let kept = force_after(alloc, zone, admitted, force, message)?;
+    let spots = spots_of(alloc, kept.as_slice())?;
+    turn_marks(alloc, index, runs, stops, was.as_slice(), kept.as_slice())?;
+    Ok(spots)
 }

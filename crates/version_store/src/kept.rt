@@ -1,16 +1,20 @@
-ghost use Rattle.std.specs.Prelude.{◌≡◌, ◌∷◌, ◌++◌, ◌&&◌, ◌||◌, [], ℕ, IfOk, List, OnOk, Some, if◌then◌else◌, map, not};
+ghost use Rattle.std.specs.Prelude.{◌≡◌, ◌&&◌, ◌||◌, [], ℕ, IfOk, List, OnOk, Some, if◌then◌else◌, map, not};
 ghost use Rattle.lc_time.specs.Zone.{date_shown};
 ghost use Rattle.std.specs.Borrow.{Bor};
 ghost use Rattle.std.specs.BTreeSet.{contains};
 ghost use Rattle.std.specs.Cmp.Lexicographic.{slice_cmp};
+ghost use Rattle.std.specs.List.{Contains, slice_get};
 ghost use Rattle.std.specs.Ordering.{nat_cmp};
 ghost use Rattle.lc_model.specs.Change.{is_same_id};
-ghost use Rattle.lc_versions.specs.History.{Entry, filled, kept_behind, news_at, up_to};
+ghost use Rattle.lc_versions.specs.History.{filled, kept_after};
+ghost use Rattle.lc_versions.specs.News.{EntitySaid};
 ghost use Rattle.version_store.specs.Dates.{date_in};
-ghost use Rattle.version_store.specs.Kept.{entity_said, entry_said, kept_of, news_said, survivors, then_all, then_entities};
+ghost use Rattle.version_store.specs.Kept.{PushesKept, entity_said, survivors, then_all, then_entities};
+ghost use Rattle.version_store.specs.Spots.{AreInForce, AreKept, PushesMessage, StayAt};
+ghost use Rattle.version_store.specs.declared.kept.Marked.{Marked as StatedMarked};
 ghost use Rattle.version_store.specs.declared.store.Admission.{Admission as StatedAdmission};
 
-use crate::dated::{DatedNews, dated_news};
+use crate::spots::{Spot, marks_in_force};
 use crate::store::Admission;
 use lc_clock::civil_date;
 use lc_model::{Moment, NoMemory, ServiceDate};
@@ -19,11 +23,11 @@ use lc_versions::{EntityNews, Update};
 use std::alloc::Global;
 use std::collections::BTreeSet;
 
-/// An entity of a message, the date of the message, and whether the entity takes the place of those of its id.
+/// An entity of a message, where it is, and whether it takes the place of those of its id.
 #[derive(Clone, Copy)]
 pub(crate) struct Marked<'a> {
     pub(crate) entity: &'a EntityNews,
-    pub(crate) date: ServiceDate,
+    pub(crate) spot: Spot,
     pub(crate) replaces: bool,
 }
 
@@ -35,73 +39,65 @@ pub fn message_date(zone: &Zone, moment: Moment) -> ServiceDate
     civil_date(zone, moment)
 }
 
-/// Adds the entities of a message.
+/// Adds the entities of the message of this number.
 fn push_entities<'a>(
     marks: &mut Vec<Marked<'a>>,
     entities: &'a [EntityNews],
+    message: usize,
     date: ServiceDate,
     replaces: bool,
 ) -> Result<(), NoMemory>
-    ensures { OnOk result (then_all [] marks.new.items ≡ then_entities replaces (then_all [] marks.old.items) (map (filled date) entities.now)) }
+    ensures all { OnOk result (then_all [] marks.new.items ≡ then_entities replaces (then_all [] marks.old.items) (map (filled date) entities.now)) }
+    ensures at { OnOk result (StayAt message entities.now marks.old.items marks.new.items) }
 {
-    'entities: for entity in entities {
-        marks.push(Marked {
-            entity,
+    'entities: for number in 0..entities.len() {
+        let spot = Spot {
+            message,
+            entity: number,
             date,
+        };
+        marks.push(Marked {
+            entity: &entities[number],
+            spot,
             replaces,
         })?;
     }
     Ok(())
 }
 
-/// Adds a message, of which a full one leaves nothing of those before.
+/// Adds the message of this number, of which a full one leaves nothing of those before.
 fn push_update<'a>(
     marks: &mut Vec<Marked<'a>>,
     update: &'a Update,
+    message: usize,
     date: ServiceDate,
 ) -> Result<(), NoMemory>
-    ensures { OnOk result (then_all [] marks.new.items ≡
+    ensures all { OnOk result (then_all [] marks.new.items ≡
         then_entities (not update.now.full) (if update.now.full then [] else then_all [] marks.old.items) (map (filled date) update.now.entities)) }
+    ensures at { OnOk result (StayAt message update.now.entities marks.old.items marks.new.items) }
 {
     if update.full {
         marks.clear();
-        return push_entities(marks, update.entities.as_slice(), date, false);
+        return push_entities(marks, update.entities.as_slice(), message, date, false);
     }
-    push_entities(marks, update.entities.as_slice(), date, true)
+    push_entities(marks, update.entities.as_slice(), message, date, true)
 }
 
-/// Adds a message if it is of the version or an earlier one.
+/// Adds the message of this number, if there is one.
 fn push_admission<'a>(
     marks: &mut Vec<Marked<'a>>,
     zone: &Zone,
-    version: Moment,
-    admission: &'a Admission,
-) -> Result<(), NoMemory>
-    ensures { OnOk result ((rest : List Entry) →
-        kept_behind (date_in zone.now) (then_all [] marks.new.items) (up_to version rest)
-        ≡ kept_behind (date_in zone.now) (then_all [] marks.old.items) (up_to version (entry_said admission.now ∷ rest))) }
-{
-    if version < admission.update.moment {
-        return Ok(());
-    }
-    let update = &admission.update;
-    push_update(marks, update, message_date(zone, update.moment))
-}
-
-/// The entities of the messages up to a version, from the last full one on.
-fn marks_until<'a>(
-    alloc: Global,
-    zone: &Zone,
-    version: Moment,
     admitted: &'a [Admission],
-) -> Result<Vec<Marked<'a>>, NoMemory>
-    ensures { IfOk result (λ marks. then_all [] marks.items ≡ kept_behind (date_in zone.now) [] (up_to version (map entry_said admitted.now))) }
+    message: usize,
+) -> Result<(), NoMemory>
+    ensures { OnOk result ((a : StatedAdmission) → slice_get admitted.now message ≡ Some a
+        → PushesMessage (date_in zone.now) admitted.now a.update marks.old.items marks.new.items) }
 {
-    let mut marks = Vec::new(alloc);
-    'admitted: for admission in admitted {
-        push_admission(&mut marks, zone, version, admission)?;
-    }
-    Ok(marks)
+    let Some(admission) = admitted.get(message) else {
+        return Ok(());
+    };
+    let update = &admission.update;
+    push_update(marks, update, message, message_date(zone, update.moment))
 }
 
 /// Whether one of these is the id. Takes the logarithm of their number.
@@ -122,26 +118,30 @@ fn put_later<'a>(later: &mut BTreeSet<&'a [u8]>, marked: Marked<'a>) -> Result<(
     Ok(())
 }
 
-/// Adds the news of an entity, if it has some and is not replaced.
+/// Adds an entity, if it has news and is not replaced.
 fn push_kept<'a>(
-    kept: &mut Vec<DatedNews<'a>>,
+    kept: &mut Vec<Marked<'a>>,
     marked: Marked<'a>,
     replaced: bool,
 ) -> Result<(), NoMemory>
-    ensures { OnOk result (map news_said kept.new.items ≡ map news_said kept.old.items ++ kept_of replaced (entity_said marked.entry).news) }
+    ensures { OnOk result (PushesKept replaced marked.entry kept.old.items kept.new.items) }
 {
     if replaced {
         return Ok(());
     }
-    if let Some(news) = marked.entity.news() {
-        kept.push(dated_news(news, marked.date))?;
+    match marked.entity.news() {
+        Some(_) => {
+            kept.push(marked)?;
+            Ok(())
+        }
+        None => Ok(()),
     }
-    Ok(())
 }
 
-/// The news of the entities that no later one takes out. Takes the time of a sort of the entities.
-fn survivors_of<'a>(alloc: Global, marks: &[Marked<'a>]) -> Result<Vec<DatedNews<'a>>, NoMemory>
-    ensures { IfOk result (λ news. map news_said news.items ≡ survivors marks.now) }
+/// The entities with news that no later one takes out. Takes the time of a sort of the entities.
+fn survivors_of<'a>(alloc: Global, marks: &[Marked<'a>]) -> Result<Vec<Marked<'a>>, NoMemory>
+    ensures said { IfOk result (λ kept. map entity_said kept.items ≡ survivors marks.now) }
+    ensures of { IfOk result (λ kept. (m : StatedMarked) → Contains kept.items m → Contains marks.now m) }
 {
     let mut kept = Vec::with_capacity(alloc, marks.len())?;
     let mut later = BTreeSet::new(alloc);
@@ -155,15 +155,19 @@ fn survivors_of<'a>(alloc: Global, marks: &[Marked<'a>]) -> Result<Vec<DatedNews
     Ok(kept)
 }
 
-/// The news of a version. Takes the time of a sort of the entities of the messages up to the version.
-pub(crate) fn kept_news<'a>(
+/// What is in force after the message of this number, by what was in force before it. Takes the time of a sort of the entities in force
+/// and of the message.
+pub(crate) fn force_after<'a>(
     alloc: Global,
     zone: &Zone,
-    version: Moment,
     admitted: &'a [Admission],
-) -> Result<Vec<DatedNews<'a>>, NoMemory>
-    ensures { IfOk result (λ news. map news_said news.items ≡ news_at (date_in zone.now) (map entry_said admitted.now) version) }
+    force: &[Spot],
+    message: usize,
+) -> Result<Vec<Marked<'a>>, NoMemory>
+    ensures { IfOk result (λ kept. (entities : List EntitySaid) (a : StatedAdmission) → AreInForce admitted.now force.now entities
+        → slice_get admitted.now message ≡ Some a → AreKept admitted.now (kept_after (date_in zone.now) entities a.update) kept.items) }
 {
-    let marks = marks_until(alloc, zone, version, admitted)?;
+    let mut marks = marks_in_force(alloc, admitted, force)?;
+    push_admission(&mut marks, zone, admitted, message)?;
     survivors_of(alloc, marks.as_slice())
 }

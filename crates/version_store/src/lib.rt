@@ -15,6 +15,7 @@ mod live_runs;
 mod message_fault;
 mod named;
 mod rows;
+mod spots;
 mod store;
 mod touched_keys;
 

@@ -6,6 +6,7 @@ ghost use Rattle.version_store.specs.Store.{newest_of, versions_of};
 
 use crate::indexed::base_index;
 use crate::live_runs::trips_are_ids;
+use crate::spots::Spot;
 use lc_model::{Moment, NoMemory, Runs, Stops};
 use lc_time::Zone;
 use lc_versions::Update;
@@ -31,6 +32,8 @@ pub struct Store {
     pub(crate) versions: Vec<Moment>,
     pub(crate) admitted: Vec<Admission>,
     pub(crate) bytes: usize,
+    /// Where the entities in force in the newest version are.
+    pub(crate) force: Vec<Spot>,
     /// The runs of each version, by its place in `versions`.
     pub(crate) index: Index,
 }
@@ -69,6 +72,7 @@ impl Store {
             versions,
             admitted: Vec::new(alloc),
             bytes: 0,
+            force: Vec::new(alloc),
             index,
         })
     }

@@ -1,17 +1,21 @@
-use Rattle.std.proofs.Common.{Err, List, Ok, OnOk, Result, ap, map, subst₂, ◌∙◌}
-use Rattle.lc_versions.specs.News.{TripSaid}
+use Rattle.std.proofs.Common.{List, ap, map, subst₂, ◌∙◌}
+use Rattle.lc_versions.specs.History.{kept_after}
+use Rattle.lc_versions.specs.News.{EntitySaid}
+use Rattle.laws_index.specs.Kept.{news_in}
 use Rattle.version_store.specs.Changes.{HasTurned}
-use Rattle.version_store.specs.Kept.{news_said}
+use Rattle.version_store.specs.Dates.{date_in}
+use Rattle.version_store.specs.Kept.{entity_said}
+use Rattle.version_store.specs.declared.kept.Marked.{Marked}
+use Rattle.version_store.proofs.SpotsLemmas.{kept_in_force}
 use Rattle.version_store.proofs.indexed.turn_to.Goals as goal
 
-on_ok : {T E P Q : Type 0} (r : Result T E) → (P → Q) → OnOk r P → OnOk r Q
-on_ok (Ok x) f p = f p
-on_ok (Err e) f p = p
-
 pub returns-clause-ok : goal.returns-clause-ok
-returns-clause-ok c =
-    let old = ap (map news_said) c.as_slice.ensures.value ∙ c.in_ok-old.ensures in
-    let new = ap (map news_said) c.as_slice-2.ensures.value ∙ c.in_ok-new.ensures in
-    on_ok c.turn.result
-    (λ turned. subst₂ (λ (a b : List TripSaid). HasTurned c.args.runs.now c.args.stops.now a b c.args.index.now c.turn.new.index) old new turned)
-    c.turn.ensures.ok
+returns-clause-ok c = λ entities a force there.
+    let after = kept_after (date_in c.args.zone.now) entities a.update in
+    let was = c.in_ok-was.ensures entities force in
+    let kept = c.in_ok-kept.ensures entities a force there in
+    record {
+      turned = subst₂ (λ (x y : List EntitySaid). HasTurned c.args.runs.now c.args.stops.now (news_in x) (news_in y) c.args.index.now c.turn_marks.new.index)
+          (ap (map entity_said) c.as_slice-2.ensures.value ∙ was.said) (ap (map entity_said) c.as_slice-3.ensures.value ∙ kept.said) c.in_ok-turn_marks.ensures.ok;
+      force = kept_in_force c.args.admitted.now after c.in_ok-kept.kept.items c.in_ok-spots.spots.items kept (c.in_ok-spots.ensures ∙ ap (map (λ (m : Marked). m.spot)) c.as_slice.ensures.value);
+    }
