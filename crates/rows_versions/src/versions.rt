@@ -15,7 +15,7 @@ static TRIPS: [&str; 3] = ["T1", "T2", "T3"];
 /// The words of messages in their order, and the second of the day at which the version is known, or the newest.
 type History = (&'static str, &'static str, Option<u32>);
 
-static HISTORIES: [History; 14] = [
+static HISTORIES: [History; 19] = [
     ("none", "", None),
     ("late twice", "late late", None),
     ("late, known before it", "late", Some(25_199)),
@@ -37,6 +37,23 @@ static HISTORIES: [History; 14] = [
     ("X1 directly", "direct", None),
     ("X1, known before it", "direct", Some(26_999)),
     ("T1 added, which is known", "known", None),
+    (
+        "T1 late, T2 canceled, X1 beside",
+        "late canceled beside",
+        None,
+    ),
+    ("then X1 deleted", "late canceled beside gone", None),
+    ("then T2 back", "late canceled beside gone back", None),
+    (
+        "all of these, known while X1 was there",
+        "late canceled beside gone back",
+        Some(27_100),
+    ),
+    (
+        "the late one deleted first",
+        "late deleted canceled beside gone back",
+        None,
+    ),
     ("no bytes", "no_bytes", None),
 ];
 
