@@ -50,7 +50,10 @@ impl<'a, R: Net> TcpLink<'a, R> {
 }
 
 impl<R: Net> Link for TcpLink<'_, R> {
+    ghost use Rattle.std.specs.Prelude.{None};
     ghost use Rattle.lc_edge.specs.TcpLink.{seen_of};
+
+    ghost behind = { λ _. None };
 
     ghost seen = { seen_of };
 

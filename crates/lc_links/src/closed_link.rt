@@ -33,6 +33,8 @@ impl ClosedLink {
 impl Link for ClosedLink {
     ghost use Rattle.std.specs.Prelude.{None};
 
+    ghost behind = { λ _. None };
+
     /// It records no side and no exchanges.
     ghost seen = { λ c. record {
       side = None;

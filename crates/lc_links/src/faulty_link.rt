@@ -64,6 +64,8 @@ fn fail(faults: &mut u64, reply: &mut Vec<u8>)
 impl<L: Link> Link for FaultyLink<L> {
     ghost use Rattle.std.specs.Prelude.{None};
 
+    ghost behind = { λ f. L.behind f.inner };
+
     /// It records the side of the other link, and no exchanges.
     ghost seen = { λ f. record {
       side = (L.seen f.inner).side;
@@ -93,6 +95,7 @@ impl<L: Link> Link for FaultyLink<L> {
         ensures clear { (L.seen self.old.inner).clear → (L.seen self.new.inner).clear }
         ensures still { (L.seen self.old.inner).still → (L.seen self.new.inner).still }
         ensures side { (L.seen self.old.inner).still → IsGet request.now → (L.seen self.new.inner).side ≡ (L.seen self.old.inner).side }
+        ensures behind { L.behind self.new.inner ≡ L.behind self.old.inner }
         ensures recorded { Tells None None authority.now request.now reply.new.items result }
         ensures empty { OnErr result (reply.new.items ≡ []) }
         ensures faults { HasCause self.old.faults self.new.faults (IsErrOf result Failed) }
@@ -125,6 +128,7 @@ impl<L: Link> Link for FaultyLink<L> {
         ensures reaches { ¬ Contains self.old.fails (one_more self.old.calls) → Reaches (L.seen self.old.inner) (L.seen self.new.inner)
             authority.now request.now reply.new.items result }
         ensures side { (L.seen self.new.inner).side ≡ (L.seen self.old.inner).side }
+        ensures behind { L.behind self.new.inner ≡ L.behind self.old.inner }
         ensures honest { (base : BaseParts) → (L.seen self.old.inner).honest base → (L.seen self.new.inner).honest base }
         ensures quiet { (base : BaseParts) → (L.seen self.old.inner).quiet base → (L.seen self.new.inner).quiet base }
         ensures answer { OnOk result ((L.seen self.old.inner).clear → reply.new.items ≡ reply.old.items) }

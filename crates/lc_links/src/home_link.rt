@@ -56,6 +56,8 @@ impl<G: Fragmenter + Drop, L: Link> Link for HomeLink<G, L> {
     ghost use Rattle.std.specs.Prelude.{Some};
     ghost use Rattle.publisher.specs.Held.{side_of};
 
+    ghost behind = { λ h. (L.seen h.outer).side };
+
     /// It records the side of its publisher, and the outer link's record of exchanges. It is honest where the outer link is clear, and its
     /// side stays at a GET whatever the outer link does.
     ghost seen = { λ h. record {

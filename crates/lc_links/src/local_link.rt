@@ -99,8 +99,10 @@ impl<G: Fragmenter + Drop> LocalLink<G> {
 }
 
 impl<G: Fragmenter + Drop> Link for LocalLink<G> {
-    ghost use Rattle.std.specs.Prelude.{Some};
+    ghost use Rattle.std.specs.Prelude.{None, Some};
     ghost use Rattle.publisher.specs.Held.{side_of};
+
+    ghost behind = { λ _. None };
 
     /// It records its side, and the exchanges without their replies. Its count is always 0.
     ghost seen = { λ l. record {

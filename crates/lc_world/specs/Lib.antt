@@ -1,2 +1,3 @@
+pub mod GoneOn
 pub mod Link
 pub mod ListLink

@@ -1,4 +1,4 @@
-ghost use Rattle.std.specs.Prelude.{◌≡◌, [], OnErr, OnOk, IsErrOf};
+ghost use Rattle.std.specs.Prelude.{◌≡◌, [], Option, OnErr, OnOk, IsErrOf};
 ghost use Rattle.connection_uri.specs.Base.{BaseParts};
 ghost use Rattle.lc_io.specs.Counts.{HasCause};
 ghost use Rattle.lc_world.specs.Link.{Exchanges, IsGet, IsHonestWith, LinkSeen, Tells};
@@ -29,6 +29,9 @@ pub trait Link {
     /// What is known of the link.
     ghost seen: { Self → LinkSeen };
 
+    /// The side of the link to which it hands answers on, if there is one with a side.
+    ghost behind: { Self → Option Side };
+
     /// Asks the authority, as `host:port`, the request, and leaves the reply's bytes in `reply`.
     fn exchange(
         &mut self,
@@ -44,6 +47,7 @@ pub trait Link {
         ensures still { (seen self.old).still → (seen self.new).still }
         // Also where the link is not honest, and so whatever is replied.
         ensures side { (seen self.old).still → IsGet request.now → (seen self.new).side ≡ (seen self.old).side }
+        ensures behind { behind self.new ≡ behind self.old }
         ensures recorded { Tells (seen self.old).recorded (seen self.new).recorded authority.now request.now reply.new.items result }
         ensures empty { OnErr result (reply.new.items ≡ []) }
         ensures faults { HasCause (seen self.old).faults (seen self.new).faults (IsErrOf result Failed) };
@@ -58,6 +62,7 @@ pub trait Link {
     ) -> Result<(), LinkFail>
         // The side stays, and so does what the link is.
         ensures side { (seen self.new).side ≡ (seen self.old).side }
+        ensures behind { behind self.new ≡ behind self.old }
         ensures honest { (base : BaseParts) → (seen self.old).honest base → (seen self.new).honest base }
         ensures quiet { (base : BaseParts) → (seen self.old).quiet base → (seen self.new).quiet base }
         ensures clear { (seen self.old).clear → (seen self.new).clear }

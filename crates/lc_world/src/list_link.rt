@@ -226,6 +226,8 @@ impl Link for ListLink {
     ghost use Rattle.std.specs.Prelude.{◌≡◌, Some, None};
     ghost use Rattle.lc_world.specs.ListLink.{IsUsedUp};
 
+    ghost behind = { λ _. None };
+
     /// It records its exchanges with their replies, and no side.
     ghost seen = { λ l. record {
       side = None;
