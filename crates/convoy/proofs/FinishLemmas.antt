@@ -1,5 +1,5 @@
 -- The turns of one client: what they leave of the others, and how many exchanges are left to it.
-use Rattle.std.proofs.Common.{◌≡◌, ◌≢◌, ℕ, ◌≤◌, ◌-◌, true, List, ◌∷◌, Option, Some, None, is_some, IfSome, Bor, length, refl, ap, ◌∙◌, subst, arith}
+use Rattle.std.proofs.Common.{◌≡◌, ◌≢◌, ℕ, ◌≤◌, ◌-◌, true, List, [], ◌∷◌, Option, Some, None, is_some, IfSome, Bor, length, refl, ap, ◌∙◌, subst, arith}
 use Rattle.std.specs.List.{slice_get, slice_index_or}
 use Rattle.std.specs.Option.{option_copied}
 use Rattle.std.proofs.lemmas.List.{get_or-set_other, length-set}
@@ -19,6 +19,15 @@ pub record SoFar {X : Type 0} (seen : X → LinkSeen) (k : ℕ) (old new : Convo
   pub turns : TurnsOf seen k steps old new before after
   pub others : (j : ℕ) (d : Member) → j ≢ k - 1 → slice_index_or new.members j d ≡ slice_index_or old.members j d
   pub keeps : Keeps old new
+
+-- it had none yet
+pub no_turns : {X : Type 0} (seen : X → LinkSeen) (k : ℕ) (convoy : ConvoyState) (link : X) → SoFar seen k convoy convoy link link
+no_turns seen k convoy link = record {
+  steps = [];
+  turns = (refl, refl);
+  others = λ j d other. refl;
+  keeps = record { clients = refl; base = refl; spent = refl };
+}
 
 -- and has one more
 pub one_more :

@@ -1,5 +1,5 @@
 -- Round after round, each client reaches its outcome.
-use Rattle.std.proofs.Common.{◌≡◌, ◌≢◌, ℕ, suc, ◌<◌, ◌+◌, ◌-◌, inl, inr, sym, ap, ◌∙◌, subst, arith}
+use Rattle.std.proofs.Common.{◌≡◌, ◌≢◌, ℕ, suc, ◌<◌, ◌+◌, ◌-◌, inl, inr, sym, ap, ◌∙◌, subst, refl, arith}
 use Rattle.std.specs.List.{AllWithin, slice_index_or}
 use Rattle.std.proofs.lemmas.Option.{get_or_from_slice_get}
 use Rattle.csa_scan.proofs.ListPlacesLemmas.{same_place}
@@ -13,6 +13,14 @@ pub record AfterRounds {X : Type 0} (seen : X → LinkSeen) (n : ℕ) (old new :
   pub rounds : Rounds seen n old new before after
   pub ended : AllWithin HasOutcome new.members 0 n
   pub keeps : Keeps old new
+
+-- no client has had its round yet
+pub no_rounds : {X : Type 0} (seen : X → LinkSeen) (convoy : ConvoyState) (link : X) → AfterRounds seen 0 convoy convoy link link
+no_rounds seen convoy link = record {
+  rounds = (refl, refl);
+  ended = λ j d low high. absurd (omega arith);
+  keeps = record { clients = refl; base = refl; spent = refl };
+}
 
 minus : (n : ℕ) → n + 1 - 1 ≡ n
 minus n = omega arith

@@ -1,6 +1,7 @@
 ghost use Rattle.std.specs.Prelude.{◌≡◌, ◌≢◌, ℕ, ◌≤◌, ◌+◌, ◌-◌, true, length, slice_get, slice_index_or, IfOk, IfSome, IsErr, OnErr, OnOk};
 ghost use Rattle.std.specs.List.{All};
 ghost use Rattle.std.specs.Option.{option_copied};
+ghost use Rattle.lc_world.specs.GoneOn.{IsLeftByGets};
 ghost use Rattle.convoy.specs.declared.turn.Turn.TheVariants as turns;
 
 use crate::Turn;
@@ -76,6 +77,8 @@ impl Convoy {
         ensures idle { IfOk result (λ turn. turn ≢ turns.Exchanged → link.new ≡ link.old) }
         ensures spent { OnErr result (self.new.spent ≡ true) }
         ensures stays_spent { self.old.spent ≡ true → IsErr result × (self.new ≡ self.old) × (link.new ≡ link.old) }
+        ensures left { IsLeftByGets (L.seen link.old) (L.seen link.new) }
+        ensures behind { L.behind link.new ≡ L.behind link.old }
     {
         if self.spent {
             return Err(NoMemory);
@@ -102,6 +105,8 @@ impl Convoy {
         ensures keeps { OnOk result (Keeps self.old self.new) }
         ensures spent { OnErr result (self.new.spent ≡ true) }
         ensures stays_spent { self.old.spent ≡ true → IsErr result × (self.new ≡ self.old) × (link.new ≡ link.old) }
+        ensures left { IsLeftByGets (L.seen link.old) (L.seen link.new) }
+        ensures behind { L.behind link.new ≡ L.behind link.old }
     {
         if self.is_spent() {
             return Err(NoMemory);
@@ -125,6 +130,8 @@ impl Convoy {
         ensures others { OnOk result ((j : ℕ) (d : Member) → j ≢ k - 1 → slice_index_or self.new.members j d ≡ slice_index_or self.old.members j d) }
         ensures keeps { OnOk result (Keeps self.old self.new) }
         ensures spent { OnErr result (self.new.spent ≡ true) }
+        ensures left { IsLeftByGets (L.seen link.old) (L.seen link.new) }
+        ensures behind { L.behind link.new ≡ L.behind link.old }
     {
         while self.outcome(k).is_none() {
             self.turn(alloc, k, link)?;

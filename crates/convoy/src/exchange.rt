@@ -1,4 +1,5 @@
 ghost use Rattle.std.specs.Prelude.{◌≡◌, ◌≢◌, Some, None, IfOk, IfNone, IfSome, OnErr};
+ghost use Rattle.lc_world.specs.GoneOn.{IsLeftByGets};
 ghost use Rattle.page_client.specs.Client.{shown};
 ghost use Rattle.page_client.specs.Shown.{want_of};
 ghost use Rattle.page_client.specs.declared.want.Want.TheVariants.{Finished};
@@ -21,6 +22,8 @@ pub fn exchanged<L: Link>(
     ensures replied { IfOk result (λ got. IfSome got (λ reply. IsAsked base.now client.old client.new (L.seen link.old) (L.seen link.new) (Some reply.items))) }
     ensures failed { IfOk result (λ got. IfNone got (IsAsked base.now client.old client.new (L.seen link.old) (L.seen link.new) None)) }
     ensures err { OnErr result (client.new ≡ client.old) }
+    ensures left { IsLeftByGets (L.seen link.old) (L.seen link.new) }
+    ensures behind { L.behind link.new ≡ L.behind link.old }
 {
     let request = client.request(alloc, base)?;
     let before = link.faults();

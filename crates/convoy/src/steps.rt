@@ -1,5 +1,6 @@
 ghost use Rattle.std.specs.Prelude.{◌≡◌, ◌<◌, true, None, OnOk};
 ghost use Rattle.std.specs.List.{All};
+ghost use Rattle.lc_world.specs.GoneOn.{IsLeftByGets};
 ghost use Rattle.page_json.specs.Valid.{IsValidPage};
 ghost use Rattle.page_cache.specs.Kept.{page_named};
 ghost use Rattle.page_client.specs.Client.{TakesPage, shown};
@@ -36,6 +37,8 @@ pub fn ask<L: Link>(
     ensures down { GoesDown (shown client.old) (shown client.new) }
     ensures fewer { OnOk result (exchanges_left (shown client.new) < exchanges_left (shown client.old)) }
     ensures sound { All MayBeTaken cache.new.pages }
+    ensures left { IsLeftByGets (L.seen link.old) (L.seen link.new) }
+    ensures behind { L.behind link.new ≡ L.behind link.old }
 {
     match want {
         Want::Gate => ask_gate(alloc, base, client, link),
@@ -58,6 +61,8 @@ fn ask_gate<L: Link>(
     ensures decided { OnOk result (IsDecided (shown client.new)) }
     ensures down { GoesDown (shown client.old) (shown client.new) }
     ensures fewer { OnOk result (exchanges_left (shown client.new) < exchanges_left (shown client.old)) }
+    ensures left { IsLeftByGets (L.seen link.old) (L.seen link.new) }
+    ensures behind { L.behind link.new ≡ L.behind link.old }
 {
     match exchanged(alloc, base, client, link) {
         Ok(Some(reply)) => client.give_gate(alloc, base, reply),
@@ -79,6 +84,8 @@ fn ask_stops<L: Link>(
     ensures decided { OnOk result (IsDecided (shown client.new)) }
     ensures down { GoesDown (shown client.old) (shown client.new) }
     ensures fewer { OnOk result (exchanges_left (shown client.new) < exchanges_left (shown client.old)) }
+    ensures left { IsLeftByGets (L.seen link.old) (L.seen link.new) }
+    ensures behind { L.behind link.new ≡ L.behind link.old }
 {
     match exchanged(alloc, base, client, link) {
         Ok(Some(reply)) => client.give_stops(alloc, reply),
@@ -105,6 +112,8 @@ fn ask_page<L: Link>(
     ensures down { GoesDown (shown client.old) (shown client.new) }
     ensures fewer { OnOk result (exchanges_left (shown client.new) < exchanges_left (shown client.old)) }
     ensures sound { All MayBeTaken cache.new.pages }
+    ensures left { IsLeftByGets (L.seen link.old) (L.seen link.new) }
+    ensures behind { L.behind link.new ≡ L.behind link.old }
 {
     match exchanged(alloc, base, client, link) {
         Ok(Some(reply)) => take_reply(alloc, base, client, name, cache, reply),

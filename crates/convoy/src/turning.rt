@@ -1,5 +1,6 @@
 ghost use Rattle.std.specs.Prelude.{◌≡◌, ◌≢◌, ◌<◌, ◌+◌, IfOk, OnOk};
 ghost use Rattle.std.specs.List.{All};
+ghost use Rattle.lc_world.specs.GoneOn.{IsLeftByGets};
 ghost use Rattle.page_client.specs.Client.{TakesPage, shown};
 ghost use Rattle.page_client.specs.Shown.{exchanges_left, want_of};
 ghost use Rattle.page_client.specs.declared.want.Want.TheVariants as wants;
@@ -33,6 +34,8 @@ pub fn turned<L: Link>(
     ensures fewer { IfOk result (λ turn. turn ≢ turns.Finished → exchanges_left (shown member.new.client) < exchanges_left (shown member.old.client)) }
     ensures decided { OnOk result (IsDecided (shown member.new.client)) }
     ensures sound { All MayBeTaken cache.new.pages }
+    ensures left { IsLeftByGets (L.seen link.old) (L.seen link.new) }
+    ensures behind { L.behind link.new ≡ L.behind link.old }
 {
     match member.client.want() {
         Want::Gate => asked_turn(alloc, base, member, Want::Gate, cache, link),
@@ -59,6 +62,8 @@ fn page_turn<L: Link>(
     ensures fewer { OnOk result (exchanges_left (shown member.new.client) < exchanges_left (shown member.old.client)) }
     ensures decided { OnOk result (IsDecided (shown member.new.client)) }
     ensures sound { All MayBeTaken cache.new.pages }
+    ensures left { IsLeftByGets (L.seen link.old) (L.seen link.new) }
+    ensures behind { L.behind link.new ≡ L.behind link.old }
 {
     // Taken apart, as a value that is passed to `get` stays lent as long as the page.
     let PageName { version, departs } = name;
@@ -111,6 +116,8 @@ fn asked_turn<L: Link>(
     ensures fewer { OnOk result (exchanges_left (shown member.new.client) < exchanges_left (shown member.old.client)) }
     ensures decided { OnOk result (IsDecided (shown member.new.client)) }
     ensures sound { All MayBeTaken cache.new.pages }
+    ensures left { IsLeftByGets (L.seen link.old) (L.seen link.new) }
+    ensures behind { L.behind link.new ≡ L.behind link.old }
 {
     match ask(alloc, base, &mut member.client, want, cache, link) {
         Ok(()) => {

@@ -1,5 +1,6 @@
 use Rattle.std.proofs.Common.{sym, ap, ◌∙◌, subst}
 use Rattle.std.specs.List.{All}
+use Rattle.lc_world.proofs.GoneOnLemmas.{no_gets}
 use Rattle.page_cache.specs.Kept.{Kept, has_name}
 use Rattle.page_cache.proofs.KeptLemmas.{All-with_used, found, named}
 use Rattle.page_client.specs.declared.want.Want.TheVariants as wants
@@ -17,3 +18,6 @@ held_turn-requires-clause-sound g c =
 pub returns-in-Some-clause-sound : goal.returns-in-Some-clause-sound
 returns-in-Some-clause-sound g c =
     subst (λ (kept : Kept). All MayBeTaken kept.pages) (sym c.get.follows.holds-at-none) (All-with_used MayBeTaken c.args.cache.now.pages c.args.name c.requires.sound)
+
+pub returns-in-Some-clause-left : goal.returns-in-Some-clause-left
+returns-in-Some-clause-left g c = no_gets _

@@ -1,6 +1,7 @@
 use Rattle.std.proofs.Common.{refl, ◌-◌, arith}
 use Rattle.std.proofs.lemmas.List.Elements.{All-set}
 use Rattle.std.proofs.lemmas.Option.{slice_get_read}
+use Rattle.lc_world.proofs.GoneOnLemmas.{no_gets}
 use Rattle.page_client.specs.Client.{shown}
 use Rattle.convoy.specs.Steps.{IsDecided}
 use Rattle.convoy.specs.declared.member.Member.{Member}
@@ -27,3 +28,6 @@ returns-in-Ok-clause-turned g c =
       base = refl;
       spent = refl;
     })
+
+pub returns-then-self-clause-left : goal.returns-then-self-clause-left
+returns-then-self-clause-left g c = no_gets _
