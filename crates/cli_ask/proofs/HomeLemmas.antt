@@ -5,6 +5,7 @@ use Rattle.fragmenter.specs.Cutting.{chosen_cuts}
 use Rattle.fragmenter.specs.declared.cutting.Cutting.{Cutting}
 use Rattle.lc_links.specs.HomeLink.{HomeLinkState}
 use Rattle.lc_model.specs.declared.query.Query.{Query}
+use Rattle.lc_world.specs.GoneOn.{IsLeftByGets, IsLeftByPasses}
 use Rattle.lc_world.specs.Link.{IsQuietWith, LinkSeen}
 use Rattle.publisher.specs.Held.{Held, side_of}
 use Rattle.publisher_spec.specs.Short.{StandsUnder}
@@ -69,3 +70,10 @@ module _ {L : Type 0} (seen : L → LinkSeen) (publisher : Held Cutting) (base :
       subst (λ (l : L). AsksPublisher publisher base line query (seen l) (seen back) text end) was
       (subst (λ (l : L). AsksPublisher publisher base line query (seen home.outer) (seen l) text end) (sym is)
       (asks_outer held valid asks right said))
+
+-- what GETs leave of a link at home is what passes leave of the outer link
+pub left_outside : {L : Type 0} (seen : L → LinkSeen) (home left : HomeLinkState Cutting L) (link back : L) → home.outer ≡ link → back ≡ left.outer
+    → IsLeftByGets (home_seen seen home) (home_seen seen left) → (seen left.outer).side ≡ (seen home.outer).side → IsLeftByPasses (seen link) (seen back)
+left_outside {L} seen home left link back was is gets side =
+    subst (λ (l : L). IsLeftByPasses (seen l) (seen back)) was
+    (subst (λ (l : L). IsLeftByPasses (seen home.outer) (seen l)) (sym is) (record { gone_on = gets.gone_on; side = side }))

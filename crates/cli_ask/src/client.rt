@@ -1,6 +1,7 @@
-ghost use Rattle.std.specs.Prelude.{◌≤◌, IfOk};
+ghost use Rattle.std.specs.Prelude.{◌≡◌, ◌≤◌, IfOk};
 ghost use Rattle.cli_ask.specs.Block.{IsPrintable};
 ghost use Rattle.cli_ask.specs.Client.{Asks, EndsRight};
+ghost use Rattle.lc_world.specs.GoneOn.{IsLeftByGets};
 ghost use Rattle.lc_world.specs.Link.{IsQuietWith};
 ghost use Rattle.publisher_spec.specs.Side.{Side};
 
@@ -27,6 +28,8 @@ pub(crate) fn client_end<L: Link>(
     ensures printable { IfOk result (λ end. IsPrintable end.outcome) }
     ensures right { IfOk result (λ end. (side : Side) → IsQuietWith (L.seen link.old) base side
         → EndsRight side base query (L.seen link.old).recorded (L.seen link.new).recorded end) }
+    ensures left { IsLeftByGets (L.seen link.old) (L.seen link.new) }
+    ensures behind { L.behind link.new ≡ L.behind link.old }
 {
     alone_over_any_link::<L>();
     one_client::<L>();

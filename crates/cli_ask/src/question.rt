@@ -2,6 +2,7 @@ ghost use Rattle.std.specs.Prelude.{◌≡◌, ◌≢◌, ◌≤◌, ◌++◌, I
 ghost use Rattle.cli_ask.specs.Admission.{IsFaulty};
 ghost use Rattle.cli_ask.specs.Asked.{AsksPublisher, IsAsked, IsPrepared};
 ghost use Rattle.cli_ask.specs.Block.{IsPrintable, client_text_of};
+ghost use Rattle.lc_world.specs.GoneOn.{IsLeftByPasses};
 ghost use Rattle.version_store.specs.declared.message_fault.MessageFault.TheVariants.{NoMemory as OutOfMemory};
 
 use crate::ClientEnd;
@@ -50,6 +51,7 @@ pub fn ask<L: Link>(
     ensures asked { IfOk result.0 (λ asked. IsAsked made publishing file.now query (L.seen link) (L.seen result.1) asked.text.items asked.end) }
     ensures faulty { IfErr result.0 (IsFaulty file.now) }
     ensures unasked { IfErr result.0 (λ fault. fault ≢ OutOfMemory → result.1 ≡ link) }
+    ensures left { IsLeftByPasses (L.seen link) (L.seen result.1) }
 {
     match prepare(alloc, made, publishing, file) {
         Ok(prepared) => ask_publisher(alloc, prepared, query, cache, link),
@@ -103,6 +105,7 @@ fn ask_publisher<L: Link>(
     requires most_pages { cache ≤ 10_000 }
     ensures memory { IfErr result.0 (λ fault. fault ≡ OutOfMemory) }
     ensures asks { IfOk result.0 (λ asked. AsksPublisher prepared.publisher prepared.base prepared.line.items query (L.seen link) (L.seen result.1) asked.text.items asked.end) }
+    ensures left { IsLeftByPasses (L.seen link) (L.seen result.1) }
 {
     let Prepared {
         publisher,

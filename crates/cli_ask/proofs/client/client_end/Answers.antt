@@ -8,6 +8,7 @@ use Rattle.convoy.specs.declared.member.Member.{Member}
 use Rattle.page_client.specs.Client.{shown}
 use Rattle.cli_ask.proofs.ClientLemmas.{IsSaid, asks, printable, right}
 use Rattle.cli_ask.specs.declared.end.ClientEnd.{ClientEnd}
+use Rattle.lc_world.proofs.GoneOnLemmas.{no_gets}
 use Rattle.cli_ask.proofs.client.client_end.Goals as goal
 
 -- the client was added to a convoy without clients
@@ -43,3 +44,9 @@ pub returns-clause-right : goal.returns-clause-right
 returns-clause-right g c = λ side quiet.
     right c.args.base c.args.query c.finish.new.self (g.L.Link.seen c.args.link.now) (g.L.Link.seen c.finish.new.link) c.in_ok-client.client (first g c) (ended g c) (said g c) side
     (c.one_client.ensures side c.args.base c.args.cache c.args.query c.ask.new.self c.finish.new.self c.args.link.now c.finish.new.link quiet (adds g c) c.in_ok-finish.ensures.rounds)
+
+pub returns-in_err-convoy-clause-left : goal.returns-in_err-convoy-clause-left
+returns-in_err-convoy-clause-left g c = no_gets _
+
+pub returns-in_err-client-clause-left : goal.returns-in_err-client-clause-left
+returns-in_err-client-clause-left g c = no_gets _
