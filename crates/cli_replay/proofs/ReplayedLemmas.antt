@@ -6,6 +6,7 @@ use Rattle.cli_words.specs.declared.command.Publishing.{Publishing}
 use Rattle.fragmenter.specs.Cutting.{chosen_cuts}
 use Rattle.fragmenter.specs.declared.cutting.Cutting.{Cutting}
 use Rattle.lc_links.specs.HomeLink.{HomeLinkState}
+use Rattle.lc_world.specs.GoneOn.{IsLeftByPasses}
 use Rattle.lc_world.specs.Link.{LinkSeen}
 use Rattle.publisher.specs.Held.{Held, side_of}
 use Rattle.publisher_spec.specs.Side.{IsValidSide}
@@ -54,3 +55,8 @@ module _ {L : Type 0} (seen : L → LinkSeen) (plays_heard : PlaysHeard (home_se
   replayed_over link back was is =
       subst (λ (l : L). IsReplayed made publishing all cache (seen l) (seen back) text ends) was
       (subst (λ (l : L). IsReplayed made publishing all cache (seen before.outer) (seen l) text ends) (sym is) replayed)
+
+-- what is left of the outer link is left of the one that was handed in
+pub left_outside : {L : Type 0} (seen : L → LinkSeen) (outer left link back : L) → outer ≡ link → back ≡ left → IsLeftByPasses (seen outer) (seen left) → IsLeftByPasses (seen link) (seen back)
+left_outside {L} seen outer left link back was is passes =
+    subst (λ (l : L). IsLeftByPasses (seen l) (seen back)) was (subst (λ (l : L). IsLeftByPasses (seen outer) (seen l)) (sym is) passes)

@@ -1,5 +1,6 @@
 ghost use Rattle.std.specs.Prelude.{◌≤◌, IfOk};
 ghost use Rattle.laws_replay.specs.Events.{TurnsAreOfClients};
+ghost use Rattle.lc_world.specs.GoneOn.{IsLeftByPasses};
 ghost use Rattle.cli_replay.specs.Course.{IsPlayed};
 ghost use Rattle.cli_replay.specs.Home.{home_seen};
 
@@ -27,7 +28,8 @@ pub fn play_out<L: Link>(
     requires some_pages { 1 ≤ cache }
     requires most_pages { cache ≤ 10_000 }
     requires turns { TurnsAreOfClients events.items }
-    ensures { IfOk result (λ replayed. IsPlayed (home_seen L.seen) base events.items cache home.old home.new replayed.text.items replayed.ends.items) }
+    ensures played { IfOk result (λ replayed. IsPlayed (home_seen L.seen) base events.items cache home.old home.new replayed.text.items replayed.ends.items) }
+    ensures outer { IsLeftByPasses (L.seen home.old.outer) (L.seen home.new.outer) }
 {
     courses_are_caused::<HomeLink<Cutting, L>>();
     let mut convoy = Convoy::new(alloc, base, cache)?;

@@ -1,4 +1,5 @@
 ghost use Rattle.std.specs.Prelude.{◌≡◌, [], ◌∷◌, length, IfOk};
+ghost use Rattle.lc_world.specs.GoneOn.{IsLeftByPasses};
 ghost use Rattle.laws_replay.specs.Events.{TurnsAreOfClients};
 ghost use Rattle.laws_replay.specs.Played.{Plays};
 ghost use Rattle.cli_replay.specs.Home.{home_seen};
@@ -22,7 +23,8 @@ pub fn play<L: Link>(
 ) -> Result<Vec<u8>, NoMemory>
     requires none_yet { convoy.old.members ≡ [] }
     requires turns { TurnsAreOfClients events.items }
-    ensures { IfOk result (λ lines. Plays (home_seen L.seen) events.items convoy.old convoy.new home.old home.new lines.items) }
+    ensures plays { IfOk result (λ lines. Plays (home_seen L.seen) events.items convoy.old convoy.new home.old home.new lines.items) }
+    ensures outer { IsLeftByPasses (L.seen home.old.outer) (L.seen home.new.outer) }
 {
     let mut lines = Vec::new(alloc);
     'events: for event in events {
@@ -40,7 +42,8 @@ fn play_one<L: Link>(
     home: &mut HomeLink<Cutting, L>,
 ) -> Result<Vec<u8>, NoMemory>
     requires { MayHappen (length convoy.old.members) event }
-    ensures { IfOk result (λ line. Plays (home_seen L.seen) (event ∷ []) convoy.old convoy.new home.old home.new line.items) }
+    ensures plays { IfOk result (λ line. Plays (home_seen L.seen) (event ∷ []) convoy.old convoy.new home.old home.new line.items) }
+    ensures outer { IsLeftByPasses (L.seen home.old.outer) (L.seen home.new.outer) }
 {
     match event {
         Event::Ask(query) => {

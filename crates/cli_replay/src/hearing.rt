@@ -1,6 +1,7 @@
 ghost use Rattle.std.specs.Prelude.{◌≡◌, Some, IfOk, OnOk};
 ghost use Rattle.cli_ask.specs.Admission.{IsBehind};
 ghost use Rattle.fragmenter.specs.Cutting.{chosen_cuts};
+ghost use Rattle.lc_world.specs.GoneOn.{IsLeftByPasses};
 ghost use Rattle.publisher.specs.Held.{side_of};
 ghost use Rattle.publisher_spec.specs.Side.{IsValidSide};
 ghost use Rattle.laws_replay.specs.Played.{IsGiven};
@@ -21,7 +22,8 @@ pub fn hear<L: Link>(
     message: &Message,
     home: &mut HomeLink<Cutting, L>,
 ) -> Result<Vec<u8>, NoMemory>
-    ensures { IfOk result (λ line. IsGiven (home_seen L.seen home.old) (home_seen L.seen home.new) message.now.file line.items) }
+    ensures given { IfOk result (λ line. IsGiven (home_seen L.seen home.old) (home_seen L.seen home.new) message.now.file line.items) }
+    ensures outer { IsLeftByPasses (L.seen home.old.outer) (L.seen home.new.outer) }
 {
     heard(alloc, message, home.publisher())
 }

@@ -1,5 +1,6 @@
 ghost use Rattle.std.specs.Prelude.{◌≡◌, [], ◌≤◌, IfOk, OnOk};
 ghost use Rattle.cli_ask.specs.Publishing.{held_with, side_with, store_of};
+ghost use Rattle.lc_world.specs.GoneOn.{IsLeftByPasses};
 ghost use Rattle.publisher_spec.specs.Side.{IsValidSide};
 ghost use Rattle.laws_replay.specs.Events.{TurnsAreOfClients};
 ghost use Rattle.laws_replay.specs.Replayed.{IsReplayed};
@@ -44,7 +45,8 @@ pub fn replay<L: Link>(
     requires some_pages { 1 ≤ cache }
     requires most_pages { cache ≤ 10_000 }
     requires turns { TurnsAreOfClients events.items }
-    ensures { IfOk result.0 (λ replayed. IsReplayed made publishing events.items cache (L.seen link) (L.seen result.1) replayed.text.items replayed.ends.items) }
+    ensures replayed { IfOk result.0 (λ replayed. IsReplayed made publishing events.items cache (L.seen link) (L.seen result.1) replayed.text.items replayed.ends.items) }
+    ensures left { IsLeftByPasses (L.seen link) (L.seen result.1) }
 {
     courses_are_heard::<HomeLink<Cutting, L>>();
     courses_are_right::<HomeLink<Cutting, L>>();
