@@ -1,4 +1,8 @@
 pub mod JourneysLemmas
+mod LeadsOnLemmas
+mod LeastLemmas
+mod ListedLemmas
+mod NearestLemmas
 mod OrderedLemmas
 mod PairsLemmas
 pub mod PlacesLemmas

@@ -7,6 +7,7 @@ ghost use Rattle.lc_model.specs.Leg.{IsChain};
 ghost use Rattle.lc_model.specs.Ride.{IsRideAt};
 ghost use Rattle.lc_model.specs.declared.journey.Journey.{Journey as JourneyValue};
 ghost use Rattle.lc_model.specs.declared.run.Run.{Run as RunValue};
+ghost use Rattle.laws_journeys.specs.Least.{SomeLeastArrival};
 
 use lc_model::{Connections, Query, Runs, StopsDoc};
 
@@ -19,3 +20,8 @@ pub fn chains_are_journeys(runs: &Runs, list: &Connections, query: &Query, doc: 
 {
     let _runs = runs.as_slice();
 }
+
+/// A question has a least arrival of its journeys, or there is no journey. What is said of a least arrival is thus said of something.
+pub fn some_least_arrival()
+    ensures { SomeLeastArrival }
+{}
