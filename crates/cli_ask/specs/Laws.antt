@@ -71,9 +71,9 @@ OnePublisher =
     → PublishesAfter made publishing accepts file held line → PublishesAfter made publishing accepts file other later
     → (held ≡ other) × (line ≡ later)
 
--- A valid side does not fail to have a list of wants for each question, at each of its versions. This is said by a double negation.
-abbrev pub NoWantsAreLacking : Type 0
-NoWantsAreLacking = (side : Side) (version : ℕ) (query : Query) → IsValidSide side → ((all : List Want) → AreWants side version query all → ⊥) → ⊥
+-- a valid side has a list of wants for each question, at each of its versions
+abbrev pub SomeWants : Type 0
+SomeWants = (side : Side) (version : ℕ) (query : Query) → IsValidSide side → (all : List Want) × AreWants side version query all
 
 -- these wants are those of a question: first what a client received, then what it asked for in vain, then the rest
 pub record StandsInFront (side : Side) (version : ℕ) (query : Query) (given all : List Want) : Type 0 where
@@ -82,11 +82,11 @@ pub record StandsInFront (side : Side) (version : ℕ) (query : Query) (given al
   pub more : List Want
   pub is : all ≡ given ++ asked ∷ more
 
--- for a client that failed after the time gate it never holds that no wants begin with what it received
-abbrev pub NoFrontIsLacking : Type 0
-NoFrontIsLacking =
+-- what a client received that failed after the time gate is in front of a list of wants
+abbrev pub SomeFront : Type 0
+SomeFront =
     (side : Side) (s : Shown) (given : List Want) (version : ℕ) → IsValidSide side → IsCutShort side s given version
-    → ((all : List Want) → StandsInFront side version s.query given all → ⊥) → ⊥
+    → (all : List Want) × StandsInFront side version s.query given all
 
 -- By that the wants are in order: the time gate alone, or it and the stops document and then pages. Any other list is near and refused.
 abbrev pub AreGivenInOrder : Type 0

@@ -1,6 +1,7 @@
-ghost use Rattle.cli_ask.specs.Laws.{AreGivenInOrder, NoFrontIsLacking, NoWantsAreLacking, OneOutput, OnePublisher};
+ghost use Rattle.cli_ask.specs.Laws.{AreGivenInOrder, OneOutput, OnePublisher, SomeFront, SomeWants};
 
 use laws_clients::one_answer;
+use laws_journeys::some_least_arrival;
 use lc_world::Link;
 use publisher::some_timetable;
 use version_store::one_outcome;
@@ -20,12 +21,13 @@ pub fn one_publisher()
     one_outcome();
 }
 
-/// A valid side does not lack a list of wants for each question. What is said of all wants of a client that failed is thus said of something.
+/// A valid side has a list of wants for each question. What is said of all wants of a client that failed is thus said of something.
 /// The client received a front of such a list, in the order of the time gate, the stops document and pages.
 pub fn some_wants()
-    ensures wants { NoWantsAreLacking }
-    ensures front { NoFrontIsLacking }
+    ensures wants { SomeWants }
+    ensures front { SomeFront }
     ensures in_order { AreGivenInOrder }
 {
     some_timetable();
+    some_least_arrival();
 }
