@@ -31,7 +31,7 @@ both (Err e) P Q R join p q = tt
 
 module _ {L : Type 0} (seen : L → LinkSeen) (plays_caused : PlaysCaused seen) (base : BaseParts) (all : List Event) (cache : ℕ) (before after : L) (ends : List ClientEnd) (turns : TurnsAreOfClients all)
     (x : HaveHappened seen base all cache before after ends) where
-  caused : ArePlayedCaused base all (seen before) (seen after) ends (all_rounds seen all (begun base cache) x.turned x.ended before x.between after [] x.plays x.rounds)
+  caused : ArePlayedCaused base all cache (seen before) (seen after) ends (all_rounds seen all (begun base cache) x.turned x.ended before x.between after [] x.plays x.rounds)
   caused = plays_caused base all cache x.turned x.ended before x.between after [] ends turns x.plays x.rounds x.have_ended
 
   -- how the clients ended can be printed

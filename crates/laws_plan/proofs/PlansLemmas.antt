@@ -79,7 +79,7 @@ module _ {X : Type 0} (seen : X → LinkSeen) (added : AddedAgrees) (wants_stay 
 -- all clients have ended
 module _ (base : BaseParts) (first : Side) (all : List Event) (cache n : ℕ) (ended : ConvoyState) (start after : LinkSeen) (ends : List ClientEnd) (rounds : List Round) (sides : List Side)
     (p : IsPlannedTo (HaveFinished n) base first cache (questions_in all) (order_of all) ended start after rounds sides) (count : n ≡ length (questions_in all))
-    (have_ended : HaveEndedSo ended.members ends) (caused : AreCaused base all start.recorded after.recorded start.faults after.faults ends) (met_in : AreMetIn (order_of all) rounds caused.met) where
+    (have_ended : HaveEndedSo ended.members ends) (caused : AreCaused base all cache start.recorded after.recorded start.faults after.faults ends) (met_in : AreMetIn (order_of all) rounds caused.met) where
   within : (place n count : ℕ) → n ≡ count → place < count → place < n
   within place n count same lt = omega (arith, same)
 

@@ -26,7 +26,7 @@ PlansRight {X} seen =
     (base : BaseParts) (first : Side) (all : List Event) (cache : ℕ) (played ended : ConvoyState) (start behind after : X) (lines : List ℕ) (ends : List ClientEnd)
     → TurnsAreOfClients all → NoneIsMessage all → IsHonestWith (seen start) base first
     → (plays : Plays seen all (begun base cache) played start behind lines) → (rounds : Rounds seen (length played.members) played ended behind after) → HaveEndedSo ended.members ends
-    → (caused : AreCaused base all (seen start).recorded (seen after).recorded (seen start).faults (seen after).faults ends)
+    → (caused : AreCaused base all cache (seen start).recorded (seen after).recorded (seen start).faults (seen after).faults ends)
     → AreMetIn (order_of all) (all_rounds seen all (begun base cache) played ended start behind after lines plays rounds) caused.met
     → ArePlanned base first all cache (seen start) (seen after) ends caused.met
 
@@ -34,7 +34,7 @@ PlansRight {X} seen =
 abbrev pub PlanFaultsAreOwn : {X : Type 0} → (X → LinkSeen) → Type 0
 PlanFaultsAreOwn {X} seen =
     (base : BaseParts) (first : Side) (all : List Event) (cache : ℕ) (start after : X) (ends : List ClientEnd)
-    → (caused : AreCaused base all (seen start).recorded (seen after).recorded (seen start).faults (seen after).faults ends)
+    → (caused : AreCaused base all cache (seen start).recorded (seen after).recorded (seen start).faults (seen after).faults ends)
     → ArePlanned base first all cache (seen start) (seen after) ends caused.met
     → (place : ℕ) (query : Query) (end : ClientEnd) → slice_get (questions_in all) place ≡ Some query → slice_get ends place ≡ Some end
     → (low high : ℕ) → HasFailedBetween (place + 1) low high caused.met → end.outcome ≡ LinkFault low high

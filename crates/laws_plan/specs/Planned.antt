@@ -90,7 +90,7 @@ pub record ArePlanned (base : BaseParts) (first : Side) (all : List Event) (cach
 pub record IsPlanned (base : BaseParts) (all : List Event) (cache : ℕ) (before after : LinkSeen) (text : List ℕ) (ends : List ClientEnd) : Type 0 where
   pub text_is : text ≡ clients_text_of 1 ends
   pub one_each : length ends ≡ length (questions_in all)
-  pub caused : AreCaused base all before.recorded after.recorded before.faults after.faults ends
+  pub caused : AreCaused base all cache before.recorded after.recorded before.faults after.faults ends
   pub clear : before.clear → after.clear
   pub not_fallen : before.faults ≤ after.faults
   pub right : (first : Side) → IsHonestWith before base first → ArePlanned base first all cache before after ends caused.met

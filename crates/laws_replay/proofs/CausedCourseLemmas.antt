@@ -77,8 +77,8 @@ one_member : (members : List Member) (place : ℕ) (a b : Member) → slice_get 
 one_member members place a b is_a is_b = (let both : Some a ≡ Some b = sym is_a ∙ is_b in cc)
 
 -- client k had its turn
-module _ {X : Type 0} (seen : X → LinkSeen) (base : BaseParts) (questions : List Query) (first : LinkSeen) (k : ℕ) (from_one : 1 ≤ k) (old new : ConvoyState) (link after : X) (turn : Turn) (all : List Met)
-    (step : IsStep seen k old new link after turn) (m : Meets base questions first (seen after) new k step.turned.was step.turned.is all turn) where
+module _ {X : Type 0} (seen : X → LinkSeen) (base : BaseParts) (cache : ℕ) (questions : List Query) (first : LinkSeen) (k : ℕ) (from_one : 1 ≤ k) (old new : ConvoyState) (link after : X) (turn : Turn) (all : List Met)
+    (step : IsStep seen k old new link after turn) (m : Meets base cache questions first (seen after) new k step.turned.was step.turned.is all turn) where
   -- what it has become is at its place
   it_is : slice_get new.members (k - 1) ≡ Some step.turned.is
   it_is =
@@ -127,9 +127,9 @@ abbrev pub NoneIsOfEnded : ConvoyState → List Met → Type 0
 NoneIsOfEnded convoy tail = (place : ℕ) (member : Member) → slice_get convoy.members place ≡ Some member → HasOutcome member → NoneIsOf (suc place) tail
 
 -- what clients received in turns, which are these rounds, before whatever they receive after them
-pub record Played (base : BaseParts) (questions : List Query) (first now : LinkSeen) (turns : List ℕ) (rounds : List Round) (old new : ConvoyState) (all : List Met) : Type 0 where
+pub record Played (base : BaseParts) (cache : ℕ) (questions : List Query) (first now : LinkSeen) (turns : List ℕ) (rounds : List Round) (old new : ConvoyState) (all : List Met) : Type 0 where
   pub more : List Met
-  pub so : AreSo base questions first now new (all ++ more)
+  pub so : AreSo base cache questions first now new (all ++ more)
   goes : Goes old new more
   pub in_turns : (tail : List Met) → AreByNumber tail → NoneIsOfEnded new tail → AreMetInTurns turns (more ++ tail)
   pub met_in : AreMetIn turns rounds more
@@ -138,16 +138,16 @@ pub record Played (base : BaseParts) (questions : List Query) (first now : LinkS
 abbrev pub AreFromOne : List ℕ → Type 0
 AreFromOne turns = All (λ (client : ℕ). 1 ≤ client) turns
 
-module _ {X : Type 0} (seen : X → LinkSeen) (base : BaseParts) (first : LinkSeen) where
+module _ {X : Type 0} (seen : X → LinkSeen) (base : BaseParts) (cache : ℕ) (first : LinkSeen) where
   -- what has not changed is so still
-  are_same : (questions : List Query) (old new : ConvoyState) (link after : X) (all : List Met) → AreSo base questions first (seen link) old all → new ≡ old → after ≡ link → AreSo base questions first (seen after) new all
+  are_same : (questions : List Query) (old new : ConvoyState) (link after : X) (all : List Met) → AreSo base cache questions first (seen link) old all → new ≡ old → after ≡ link → AreSo base cache questions first (seen after) new all
   are_same questions old new link after all so same same_link =
-      subst (λ (x : X). AreSo base questions first (seen x) new all) (sym same_link)
-      (subst (λ (c : ConvoyState). AreSo base questions first (seen link) c all) (sym same) so)
+      subst (λ (x : X). AreSo base cache questions first (seen x) new all) (sym same_link)
+      (subst (λ (c : ConvoyState). AreSo base cache questions first (seen link) c all) (sym same) so)
 
   -- a turn, and then the rest
   module _ (questions now_questions : List Query) (k : ℕ) (from_one : 1 ≤ k) (turns : List ℕ) (rounds : List Round) (old between new : ConvoyState) (link behind after : X) (turn : Turn) (all : List Met) (step : IsStep seen k old between link behind turn)
-      (m : Meets base questions first (seen behind) between k step.turned.was step.turned.is all turn) (rest : Played base now_questions first (seen after) turns rounds between new (all ++ m.more)) where
+      (m : Meets base cache questions first (seen behind) between k step.turned.was step.turned.is all turn) (rest : Played base cache now_questions first (seen after) turns rounds between new (all ++ m.more)) where
     abbrev all_met : List Met
     all_met = m.more ++ rest.more
 
@@ -155,7 +155,7 @@ module _ {X : Type 0} (seen : X → LinkSeen) (base : BaseParts) (first : LinkSe
     in_turn tail by_number none (inl one) =
         inl (rest.more ++ tail, record { first = one.one; is = ap (λ (l : List Met). (l ++ rest.more) ++ tail) one.is; own = one.client }, rest.in_turns tail by_number none)
     in_turn tail by_number none (inr idle) =
-        let there : slice_get between.members (k - 1) ≡ Some step.turned.is = it_is seen base questions first k from_one old between link behind turn all step m in
+        let there : slice_get between.members (k - 1) ≡ Some step.turned.is = it_is seen base cache questions first k from_one old between link behind turn all step m in
         let behind_it : HasEndedAt new (k - 1) = rest.goes.keeps (k - 1) step.turned.is there idle.has in
         let number : suc (k - 1) ≡ k = omega arith in
         let none_more : NoneIsOf k rest.more = subst (λ (n : ℕ). NoneIsOf n rest.more) number (rest.goes.none (k - 1) step.turned.is there idle.has) in
@@ -163,49 +163,49 @@ module _ {X : Type 0} (seen : X → LinkSeen) (base : BaseParts) (first : LinkSe
         let same : all_met ++ tail ≡ rest.more ++ tail = ap (λ (l : List Met). (l ++ rest.more) ++ tail) idle.none in
         inr (subst (NoneIsOf k) (sym same) (none_of_both k rest.more tail none_more none_behind), subst (AreMetInTurns turns) (sym same) (rest.in_turns tail by_number none))
 
-    pub turn_played : Played base now_questions first (seen after) (k ∷ turns) (round_at turn (shown step.turned.was.client) (shown step.turned.is.client) ∷ rounds) old new all
+    pub turn_played : Played base cache now_questions first (seen after) (k ∷ turns) (round_at turn (shown step.turned.was.client) (shown step.turned.is.client) ∷ rounds) old new all
     turn_played = record {
       more = all_met;
-      so = subst (AreSo base now_questions first (seen after) new) (append_assoc all m.more rest.more) rest.so;
-      goes = goes_then old between new m.more rest.more (goes_turned seen base questions first k from_one old between link behind turn all step m) rest.goes;
+      so = subst (AreSo base cache now_questions first (seen after) new) (append_assoc all m.more rest.more) rest.so;
+      goes = goes_then old between new m.more rest.more (goes_turned seen base cache questions first k from_one old between link behind turn all step m) rest.goes;
       in_turns = λ tail by_number none. in_turn tail by_number none m.how;
       met_in = (m.more, rest.more, refl, met_in_turn turn k step.turned.was step.turned.is m.more m.met, rest.met_in);
     }
 
   -- all happened that is left of an event sequence
-  pub are_played : (rest : List Event) (questions : List Query) (old new : ConvoyState) (link after : X) (lines : List ℕ) (all : List Met) → AreFromOne (turns_in rest) → AreSo base questions first (seen link) old all →
-      (plays : Plays seen rest old new link after lines) → Played base (questions ++ questions_in rest) first (seen after) (turns_in rest) (rounds_along seen rest old new link after lines plays) old new all
+  pub are_played : (rest : List Event) (questions : List Query) (old new : ConvoyState) (link after : X) (lines : List ℕ) (all : List Met) → AreFromOne (turns_in rest) → AreSo base cache questions first (seen link) old all →
+      (plays : Plays seen rest old new link after lines) → Played base cache (questions ++ questions_in rest) first (seen after) (turns_in rest) (rounds_along seen rest old new link after lines plays) old new all
   are_played [] questions old new link after lines all from_one so (same, same_link, none) =
       record {
         more = [];
-        so = subst (AreSo base (questions ++ []) first (seen after) new) (sym (append-nil all))
-            (subst (λ (l : List Query). AreSo base l first (seen after) new all) (sym (append-nil questions)) (are_same questions old new link after all so same same_link));
+        so = subst (AreSo base cache (questions ++ []) first (seen after) new) (sym (append-nil all))
+            (subst (λ (l : List Query). AreSo base cache l first (seen after) new all) (sym (append-nil questions)) (are_same questions old new link after all so same same_link));
         goes = subst (λ (c : ConvoyState). Goes old c []) (sym same) (goes_not old);
         in_turns = λ tail by_number none. by_number;
         met_in = refl;
       }
   are_played (events.Ask query ∷ more) questions old new link after lines all from_one so (between, adds, plays) =
-      let rest = are_played more (questions ++ query ∷ []) between new link after lines all from_one (are_asked base questions first (seen link) old between query all so adds) plays in
+      let rest = are_played more (questions ++ query ∷ []) between new link after lines all from_one (are_asked base cache questions first (seen link) old between query all so adds) plays in
       record {
         more = rest.more;
-        so = subst (λ (l : List Query). AreSo base l first (seen after) new (all ++ rest.more)) (append_assoc questions (query ∷ []) (questions_in more)) rest.so;
+        so = subst (λ (l : List Query). AreSo base cache l first (seen after) new (all ++ rest.more)) (append_assoc questions (query ∷ []) (questions_in more)) rest.so;
         goes = goes_then old between new [] rest.more (goes_asked old between query adds) rest.goes;
         in_turns = rest.in_turns;
         met_in = rest.met_in;
       }
   are_played (events.Message message ∷ more) questions old new link after lines all from_one so (behind, line, rest, given, plays, is) =
       are_played more questions old new behind after rest all from_one
-      (are_later base questions first (seen link) (seen behind) old all so (given_grows (seen link) (seen behind) message.file line given) given.recorded given.faults) plays
+      (are_later base cache questions first (seen link) (seen behind) old all so (given_grows (seen link) (seen behind) message.file line given) given.recorded given.faults) plays
   are_played (events.Turn client ∷ more) questions old new link after lines all from_one so (between, behind, turn, step, plays) =
       let own : 1 ≤ client = All-head (λ (c : ℕ). 1 ≤ c) client (turns_in more) from_one in
-      let m = turn_meets seen base questions first client own old between link behind all so turn step in
+      let m = turn_meets seen base cache questions first client own old between link behind all so turn step in
       turn_played questions (questions ++ questions_in more) client own (turns_in more) (rounds_along seen more between new behind after lines plays) old between new link behind after turn all step m
       (are_played more questions between new behind after lines (all ++ m.more) (All-tail (λ (c : ℕ). 1 ≤ c) client (turns_in more) from_one) m.so plays)
 
   -- client k had turns, which are this round, and has ended where an exchange failed in it
   record HadTurns (questions : List Query) (k : ℕ) (round : Round) (old new : ConvoyState) (now : LinkSeen) (all : List Met) : Type 0 where
     more : List Met
-    so : AreSo base questions first now new (all ++ more)
+    so : AreSo base cache questions first now new (all ++ more)
     goes : Goes old new more
     met_in : IsMetIn k round more
     over : (member : Member) → slice_get new.members (k - 1) ≡ Some member → (round.failed ≡ []) ⊎ HasOutcome member
@@ -213,7 +213,7 @@ module _ {X : Type 0} (seen : X → LinkSeen) (base : BaseParts) (first : LinkSe
   -- a turn more, after others
   module _ (questions : List Query) (k : ℕ) (from_one : 1 ≤ k) (round : Round) (start old new : ConvoyState) (link after : X) (turn : Turn) (all : List Met)
       (before : HadTurns questions k round start old (seen link) all) (step : IsStep seen k old new link after turn)
-      (m : Meets base questions first (seen after) new k step.turned.was step.turned.is (all ++ before.more) turn) where
+      (m : Meets base cache questions first (seen after) new k step.turned.was step.turned.is (all ++ before.more) turn) where
     abbrev next : Round
     next = round_at turn (shown step.turned.was.client) (shown step.turned.is.client)
 
@@ -236,21 +236,21 @@ module _ {X : Type 0} (seen : X → LinkSeen) (base : BaseParts) (first : LinkSe
         let so_far = before.over step.turned.was step.turned.had in
         record {
           more = before.more ++ m.more;
-          so = subst (AreSo base questions first (seen after) new) (append_assoc all before.more m.more) m.so;
-          goes = goes_then start old new before.more m.more before.goes (goes_turned seen base questions first k from_one old new link after turn (all ++ before.more) step m);
+          so = subst (AreSo base cache questions first (seen after) new) (append_assoc all before.more m.more) m.so;
+          goes = goes_then start old new before.more m.more before.goes (goes_turned seen base cache questions first k from_one old new link after turn (all ++ before.more) step m);
           met_in = met_then k round next before.more m.more before.met_in (met_in_turn turn k step.turned.was step.turned.is m.more m.met) (alone so_far);
           over = λ member is.
               subst (λ (one : Member). (round.failed ++ next.failed ≡ []) ⊎ HasOutcome one)
-              (one_member new.members (k - 1) step.turned.is member (it_is seen base questions first k from_one old new link after turn (all ++ before.more) step m) is)
+              (one_member new.members (k - 1) step.turned.is member (it_is seen base cache questions first k from_one old new link after turn (all ++ before.more) step m) is)
               (over_then so_far (turn_over turn k step.turned.was step.turned.is m.more m.met));
         }
 
-  had_turns : (questions : List Query) (k : ℕ) → 1 ≤ k → (steps : List (Step X)) (old new : ConvoyState) (link after : X) (all : List Met) → AreSo base questions first (seen link) old all →
+  had_turns : (questions : List Query) (k : ℕ) → 1 ≤ k → (steps : List (Step X)) (old new : ConvoyState) (link after : X) (all : List Met) → AreSo base cache questions first (seen link) old all →
       (turns : TurnsOf seen k steps old new link after) → HadTurns questions k (round_in seen k steps old new link after turns) old new (seen after) all
   had_turns questions k from_one [] old new link after all so (same, same_link) =
       record {
         more = [];
-        so = subst (AreSo base questions first (seen after) new) (sym (append-nil all)) (are_same questions old new link after all so same same_link);
+        so = subst (AreSo base cache questions first (seen after) new) (sym (append-nil all)) (are_same questions old new link after all so same same_link);
         goes = subst (λ (c : ConvoyState). Goes old c []) (sym same) (goes_not old);
         met_in = met_nothing k;
         over = λ member is. inl refl;
@@ -258,12 +258,12 @@ module _ {X : Type 0} (seen : X → LinkSeen) (base : BaseParts) (first : LinkSe
   had_turns questions k from_one (step ∷ earlier) old new link after all so (last, turns) =
       let before = had_turns questions k from_one earlier old step.convoy link step.link all so turns in
       had_turn_more questions k from_one (round_in seen k earlier old step.convoy link step.link turns) old step.convoy new step.link after step.turn all before last
-      (turn_meets seen base questions first k from_one step.convoy new step.link after (all ++ before.more) before.so step.turn last)
+      (turn_meets seen base cache questions first k from_one step.convoy new step.link after (all ++ before.more) before.so step.turn last)
 
   -- one client after the other, up to this one
   pub record HadRounds (questions : List Query) (n : ℕ) (rounds : List Round) (old new : ConvoyState) (now : LinkSeen) (all : List Met) : Type 0 where
     pub more : List Met
-    pub so : AreSo base questions first now new (all ++ more)
+    pub so : AreSo base cache questions first now new (all ++ more)
     pub goes : Goes old new more
     up_to : All (λ (met : Met). met.client ≤ n) more
     pub by_number : AreByNumber more
@@ -285,12 +285,12 @@ module _ {X : Type 0} (seen : X → LinkSeen) (base : BaseParts) (first : LinkSe
         by_number_then n more own by_number (All-tail (λ (m : Met). m.client ≤ n) met more up_to) are,
       )
 
-  pub had_rounds : (questions : List Query) (n : ℕ) (old new : ConvoyState) (link after : X) (all : List Met) → AreSo base questions first (seen link) old all → (rounds : Rounds seen n old new link after) →
+  pub had_rounds : (questions : List Query) (n : ℕ) (old new : ConvoyState) (link after : X) (all : List Met) → AreSo base cache questions first (seen link) old all → (rounds : Rounds seen n old new link after) →
       HadRounds questions n (rounds_up_to seen n old new link after rounds) old new (seen after) all
   had_rounds questions zero old new link after all so (same, same_link) =
       record {
         more = [];
-        so = subst (AreSo base questions first (seen after) new) (sym (append-nil all)) (are_same questions old new link after all so same same_link);
+        so = subst (AreSo base cache questions first (seen after) new) (sym (append-nil all)) (are_same questions old new link after all so same same_link);
         goes = subst (λ (c : ConvoyState). Goes old c []) (sym same) (goes_not old);
         up_to = All-nil (λ (met : Met). met.client ≤ 0);
         by_number = tt;
@@ -301,7 +301,7 @@ module _ {X : Type 0} (seen : X → LinkSeen) (base : BaseParts) (first : LinkSe
       let last = had_turns questions (suc n) (let one : 1 ≤ suc n = omega arith in one) ends.steps convoy new mid after (all ++ before.more) before.so ends.turns in
       record {
         more = before.more ++ last.more;
-        so = subst (AreSo base questions first (seen after) new) (append_assoc all before.more last.more) last.so;
+        so = subst (AreSo base cache questions first (seen after) new) (append_assoc all before.more last.more) last.so;
         goes = goes_then old convoy new before.more last.more before.goes last.goes;
         up_to = All-append (λ (met : Met). met.client ≤ suc n) before.more last.more
             (All-weaker (λ (met : Met). met.client ≤ n) (λ (met : Met). met.client ≤ suc n) (λ met le. omega arith) before.more before.up_to)

@@ -80,7 +80,7 @@ all_places P (x ∷ xs) each = All-cons P x xs (each zero x refl) (all_places P 
 one_outcome : (outcome : Option Outcome) (a b : Outcome) → outcome ≡ Some a → outcome ≡ Some b → a ≡ b
 one_outcome outcome a b is_a is_b = (let both : Some a ≡ Some b = sym is_a ∙ is_b in cc)
 
-module _ (base : BaseParts) (questions : List Query) (first now : LinkSeen) (convoy : ConvoyState) (met : List Met) (ends : List ClientEnd) (so : AreSo base questions first now convoy met)
+module _ (base : BaseParts) (cache : ℕ) (questions : List Query) (first now : LinkSeen) (convoy : ConvoyState) (met : List Met) (ends : List ClientEnd) (so : AreSo base cache questions first now convoy met)
     (have : HaveEndedSo convoy.members ends) where
   one_each : length ends ≡ length questions
   one_each = one_end_each convoy.members ends have ∙ so.clients
@@ -119,23 +119,24 @@ pub courses_caused : {X : Type 0} (seen : X → LinkSeen) → PlaysCaused seen
 courses_caused seen base all cache played ended start behind after lines ends turns plays rounds have =
     let front = rounds_along seen all (begun base cache) played start behind lines plays in
     let rest = rounds_up_to seen (length played.members) played ended behind after rounds in
-    let p : Played base (questions_in all) (seen start) (seen behind) (turns_in all) front (begun base cache) played [] =
-    are_played seen base (seen start) all [] (begun base cache) played start behind lines [] (from_one (length (questions_in all)) (turns_in all) (turns_of_clients all turns)) (are_begun base cache (seen start)) plays in
-    let r : HadRounds seen base (seen start) (questions_in all) (length played.members) rest played ended (seen after) p.more =
-    had_rounds seen base (seen start) (questions_in all) (length played.members) played ended behind after p.more p.so rounds in
+    let p : Played base cache (questions_in all) (seen start) (seen behind) (turns_in all) front (begun base cache) played [] =
+    are_played seen base cache (seen start) all [] (begun base cache) played start behind lines [] (from_one (length (questions_in all)) (turns_in all) (turns_of_clients all turns)) (are_begun base cache (seen start)) plays in
+    let r : HadRounds seen base cache (seen start) (questions_in all) (length played.members) rest played ended (seen after) p.more =
+    had_rounds seen base cache (seen start) (questions_in all) (length played.members) played ended behind after p.more p.so rounds in
     let met : List Met = p.more ++ r.more in
     record {
-      one_each = one_each base (questions_in all) (seen start) (seen after) ended met ends r.so have;
+      one_each = one_each base cache (questions_in all) (seen start) (seen after) ended met ends r.so have;
       caused = record {
         met = met;
         in_turns = p.in_turns r.more r.by_number r.goes.none;
         by_replies = r.so.met;
-        clients = ends_at base (questions_in all) (seen start) (seen after) ended met ends r.so have;
+        cached = record { now = ended.kept; along = r.so.cached };
+        clients = ends_at base cache (questions_in all) (seen start) (seen after) ended met ends r.so have;
       };
       met_in =
           met_in-append (turns_in all) (counted (length (questions_in all))) front rest p.more r.more p.met_in
           (subst (λ (n : ℕ). AreMetIn (counted n) rest r.more) p.so.clients r.met_in);
-      printable = all_places (λ (end : ClientEnd). IsPrintable end.outcome) ends (printable_at base (questions_in all) (seen start) (seen after) ended met ends r.so have);
+      printable = all_places (λ (end : ClientEnd). IsPrintable end.outcome) ends (printable_at base cache (questions_in all) (seen start) (seen after) ended met ends r.so have);
       clear = r.so.grown.clear;
       not_fallen = r.so.grown.not_fallen;
     }

@@ -2,6 +2,7 @@
 use Rattle.std.specs.Prelude.{◌≡◌, ◌≢◌, ◌⊎◌, ◌≤◌, ℕ, ◌+◌, List, [], ◌∷◌, Option, Some, slice_get}
 use Rattle.std.specs.List.{All}
 use Rattle.cli_ask.specs.declared.end.ClientEnd.{ClientEnd}
+use Rattle.laws_replies.specs.Cached.{AreCached}
 use Rattle.laws_replies.specs.Ends.{EndsBy}
 use Rattle.laws_replies.specs.Met.{AreMet, HasFailedBetween, Met, exchanges_by, met_by}
 use Rattle.connection_uri.specs.Base.{BaseParts}
@@ -39,10 +40,12 @@ pub record EndsByMet (base : BaseParts) (query : Query) (faults now_faults : ℕ
   pub exchanges : end.exchanges ≡ exchanges_by number met
   pub fault : (low high : ℕ) → end.outcome ≡ LinkFault low high → HasFailedBetween number low high met
 
--- The clients of an event sequence ended with these ends over a link that recorded these exchanges, and had these counts of faults.
-pub record AreCaused (base : BaseParts) (all : List Event) (recorded now_recorded : Option (List Entry)) (faults now_faults : ℕ) (ends : List ClientEnd) : Type 0 where
+-- The clients of an event sequence ended with these ends over a link that recorded these exchanges, and had these counts of faults. They shared
+-- a cache of so many pages, which was empty at first.
+pub record AreCaused (base : BaseParts) (all : List Event) (cache : ℕ) (recorded now_recorded : Option (List Entry)) (faults now_faults : ℕ) (ends : List ClientEnd) : Type 0 where
   pub met : List Met
   pub in_turns : AreMetInTurns (turns_in all) met
   pub by_replies : AreMet base (questions_in all) recorded now_recorded faults now_faults met
+  pub cached : AreCached cache base (questions_in all) met
   pub clients : (place : ℕ) (query : Query) (end : ClientEnd) → slice_get (questions_in all) place ≡ Some query → slice_get ends place ≡ Some end
       → EndsByMet base query faults now_faults (place + 1) met end

@@ -44,9 +44,9 @@ PlaysRight {X} seen =
 
 -- There is one end for each question, which has its cause, by what was received in these rounds, and can be printed. A clear link is clear still,
 -- and its count has not fallen.
-pub record ArePlayedCaused (base : BaseParts) (all : List Event) (before after : LinkSeen) (ends : List ClientEnd) (rounds : List Round) : Type 0 where
+pub record ArePlayedCaused (base : BaseParts) (all : List Event) (cache : ℕ) (before after : LinkSeen) (ends : List ClientEnd) (rounds : List Round) : Type 0 where
   pub one_each : length ends ≡ length (questions_in all)
-  pub caused : AreCaused base all before.recorded after.recorded before.faults after.faults ends
+  pub caused : AreCaused base all cache before.recorded after.recorded before.faults after.faults ends
   pub met_in : AreMetIn (order_of all) rounds caused.met
   pub printable : All (λ (end : ClientEnd). IsPrintable end.outcome) ends
   pub clear : before.clear → after.clear
@@ -58,7 +58,7 @@ PlaysCaused {X} seen =
     (base : BaseParts) (all : List Event) (cache : ℕ) (played ended : ConvoyState) (start behind after : X) (lines : List ℕ) (ends : List ClientEnd)
     → TurnsAreOfClients all → (plays : Plays seen all (begun base cache) played start behind lines) → (rounds : Rounds seen (length played.members) played ended behind after)
     → HaveEndedSo ended.members ends
-    → ArePlayedCaused base all (seen start) (seen after) ends (all_rounds seen all (begun base cache) played ended start behind after lines plays rounds)
+    → ArePlayedCaused base all cache (seen start) (seen after) ends (all_rounds seen all (begun base cache) played ended start behind after lines plays rounds)
 
 -- the link has that publisher at its other end, whose side stays when a client asks it
 pub record IsStillAt (made : Timetable) (publishing : Publishing) (link : LinkSeen) : Type 0 where
@@ -79,7 +79,7 @@ OneHearing = (made : Timetable) (publishing : Publishing) (all : List Event) (li
 abbrev pub FaultsAreOwn : Type 0
 FaultsAreOwn =
     (made : Timetable) (publishing : Publishing) (all : List Event) (cache : ℕ) (recorded now_recorded : Option (List Entry)) (faults now_faults : ℕ) (lines : List ℕ) (ends : List ClientEnd)
-    → (caused : AreCaused publishing.base all recorded now_recorded faults now_faults ends)
+    → (caused : AreCaused publishing.base all cache recorded now_recorded faults now_faults ends)
     → ArePlayedRight made publishing all cache recorded now_recorded faults now_faults lines ends caused.met
     → (place : ℕ) (query : Query) (end : ClientEnd) → slice_get (questions_in all) place ≡ Some query → slice_get ends place ≡ Some end
     → (low high : ℕ) → HasFailedBetween (place + 1) low high caused.met → end.outcome ≡ LinkFault low high

@@ -24,7 +24,7 @@ pub record IsReplayed (made : Timetable) (publishing : Publishing) (all : List E
   pub heard : AreHeard made publishing all lines
   pub text_is : text ≡ lines ++ clients_text_of 1 ends
   pub one_each : length ends ≡ length (questions_in all)
-  pub caused : AreCaused publishing.base all before.recorded after.recorded before.faults after.faults ends
+  pub caused : AreCaused publishing.base all cache before.recorded after.recorded before.faults after.faults ends
   pub clear : before.clear → after.clear
   pub not_fallen : before.faults ≤ after.faults
   pub right : before.clear → AreShort made publishing all → ArePlayedRight made publishing all cache before.recorded after.recorded before.faults after.faults lines ends caused.met

@@ -38,9 +38,11 @@ use Rattle.page_client.specs.declared.phase.Phase.TheVariants as phases
 use Rattle.page_client.specs.declared.want.Want.{Want}
 use Rattle.page_client.specs.declared.want.Want.TheVariants as wants
 use Rattle.page_json.specs.declared.page.Page.{Page}
+use Rattle.laws_replies.specs.Cached.{CacheAlong, empty_cache}
 use Rattle.laws_replies.specs.Ends.{EndsBy}
 use Rattle.laws_replies.specs.Made.{Made, failure_of, reply_to}
 use Rattle.laws_replies.specs.Met.{AreMet, CountAlong, HasFailedBetween, IsByOneOf, Met, TellsMet, WasKept, asked_in, exchanges_by, failures_in, is_by, met_by}
+use Rattle.laws_replies.proofs.CachedLemmas.{cache_along_with_more, with_cached, with_gate, with_page, with_stops}
 use Rattle.laws_replies.proofs.CourseLemmas.{is_taken, stands_last}
 use Rattle.laws_replies.proofs.MetLemmas.{along_more, asked_more, by_other, exchange_more, exchanges_none_by, exchanges_of_other, met_by_other, met_by_own, met_none_by, no_exchange_more, not_asked_more, take_kept_more, tells_met_more, tells_met_none, tells_with_more}
 use Rattle.laws_replies.proofs.StepLemmas.{At, AtEnd, AtGate, AtPage, AtStops, Moves, Spans, exchange_of, gate_asked, page_asked, page_taken, stops_asked}
@@ -78,12 +80,13 @@ pub record IsSaid (base : BaseParts) (all : List Met) (page : Page) : Type 0 whe
   pub made : exchange.made ≡ reply_to (wants.Page page.name) reply
 
 -- The clients of a convoy are those of these questions, one for each. They received all this over a link that was this one at first.
-pub record AreSo (base : BaseParts) (questions : List Query) (first now : LinkSeen) (convoy : ConvoyState) (all : List Met) : Type 0 where
+pub record AreSo (base : BaseParts) (cache : ℕ) (questions : List Query) (first now : LinkSeen) (convoy : ConvoyState) (all : List Met) : Type 0 where
   pub base_is : convoy.base ≡ base
   pub clients : length convoy.members ≡ length questions
   pub members : (place : ℕ) (query : Query) (member : Member) → slice_get questions place ≡ Some query → slice_get convoy.members place ≡ Some member
       → IsClientSo base query first.faults now.faults member (suc place) all
   pub said : All (IsSaid base all) convoy.kept.pages
+  pub cached : CacheAlong base questions [] (empty_cache cache) all convoy.kept
   pub met : AreMet base questions first.recorded now.recorded first.faults now.faults all
   pub grown : HasGrown first now
 
@@ -165,12 +168,13 @@ none_at : (place : ℕ) (query : Query) → slice_get {X = Query} [] place ≡ S
 none_at place query is = cc
 
 -- none have asked yet
-pub are_begun : (base : BaseParts) (cache : ℕ) (link : LinkSeen) → AreSo base [] link link (begun base cache) []
+pub are_begun : (base : BaseParts) (cache : ℕ) (link : LinkSeen) → AreSo base cache [] link link (begun base cache) []
 are_begun base cache link = record {
   base_is = refl;
   clients = refl;
   members = λ place query member asks is. absurd (none_at place query asks);
   said = All-nil (IsSaid base []);
+  cached = refl;
   met = record {
     by_clients = All-nil (IsByOneOf 0);
     kept = tt;
@@ -210,7 +214,7 @@ not_behind : {X Y : Type 0} (xs : List X) (ys : List Y) (place : ℕ) (x : X) �
 not_behind xs ys place x same is at = let within : place < length xs = slice_get_within xs place x is in omega arith
 
 -- a client more asks
-module _ (base : BaseParts) (questions : List Query) (first now : LinkSeen) (old new : ConvoyState) (query : Query) (all : List Met) (so : AreSo base questions first now old all) (adds : Adds old query new) where
+module _ (base : BaseParts) (cache : ℕ) (questions : List Query) (first now : LinkSeen) (old new : ConvoyState) (query : Query) (all : List Met) (so : AreSo base cache questions first now old all) (adds : Adds old query new) where
   one_question_more : length (questions ++ query ∷ []) ≡ length questions + 1
   one_question_more = length-append questions (query ∷ [])
 
@@ -236,7 +240,7 @@ module _ (base : BaseParts) (questions : List Query) (first now : LinkSeen) (old
       (subst (λ (x : Query). IsClientSo base x first.faults now.faults member (suc (length questions)) all) (sym asks)
       (subst (λ (m : Member). IsClientSo base query first.faults now.faults m (suc (length questions)) all) (sym is) new_one))
 
-  pub are_asked : AreSo base (questions ++ query ∷ []) first now new all
+  pub are_asked : AreSo base cache (questions ++ query ∷ []) first now new all
   are_asked = record {
     base_is = ap (λ (c : ConvoyState). c.base) adds.is ∙ so.base_is;
     clients = one_longer;
@@ -244,6 +248,8 @@ module _ (base : BaseParts) (questions : List Query) (first now : LinkSeen) (old
         by_place place q member (push_cases questions query place q asks)
         (push_cases old.members adds.member place member (sym (ap (λ (c : ConvoyState). slice_get c.members place) adds.is) ∙ is));
     said = subst (λ (c : ConvoyState). All (IsSaid base all) c.kept.pages) (sym adds.is) so.said;
+    cached = subst (λ (c : ConvoyState). CacheAlong base (questions ++ query ∷ []) [] (empty_cache cache) all c.kept) (sym adds.is)
+        (cache_along_with_more base questions (query ∷ []) [] all (empty_cache cache) old.kept so.cached);
     met = record {
       by_clients = All-weaker (IsByOneOf (length questions)) (IsByOneOf (length (questions ++ query ∷ [])))
           (λ met one. record { from_one = one.from_one; at_most = (let at_most = one.at_most in omega (arith, one_question_more)) }) all so.met.by_clients;
@@ -255,13 +261,14 @@ module _ (base : BaseParts) (questions : List Query) (first now : LinkSeen) (old
   }
 
 -- the link has grown, recorded nothing more, and counted no fault more
-pub are_later : (base : BaseParts) (questions : List Query) (first now later : LinkSeen) (convoy : ConvoyState) (all : List Met) → AreSo base questions first now convoy all → HasGrown now later → later.recorded ≡ now.recorded → later.faults ≡ now.faults →
-    AreSo base questions first later convoy all
-are_later base questions first now later convoy all so grown recorded same_faults = record {
+pub are_later : (base : BaseParts) (cache : ℕ) (questions : List Query) (first now later : LinkSeen) (convoy : ConvoyState) (all : List Met) → AreSo base cache questions first now convoy all → HasGrown now later → later.recorded ≡ now.recorded → later.faults ≡ now.faults →
+    AreSo base cache questions first later convoy all
+are_later base cache questions first now later convoy all so grown recorded same_faults = record {
   base_is = so.base_is;
   clients = so.clients;
   members = λ place query member asks is. so_later base query first.faults now.faults later.faults member (suc place) all grown.not_fallen (so.members place query member asks is);
   said = so.said;
+  cached = so.cached;
   met = record {
     by_clients = so.met.by_clients;
     kept = so.met.kept;
@@ -363,9 +370,9 @@ MeetsIn Cached k was is more = (met : MeetsWant k was false more) × GotReply is
 MeetsIn Exchanged k was is more = (met : MeetsWant k was true more) × (GotReply is met.one ⊎ GotNone is met.one)
 
 -- what a turn of client k results in, by which it has become another
-pub record Meets (base : BaseParts) (questions : List Query) (first after : LinkSeen) (new : ConvoyState) (k : ℕ) (was is : Member) (all : List Met) (turn : Turn) : Type 0 where
+pub record Meets (base : BaseParts) (cache : ℕ) (questions : List Query) (first after : LinkSeen) (new : ConvoyState) (k : ℕ) (was is : Member) (all : List Met) (turn : Turn) : Type 0 where
   pub more : List Met
-  pub so : AreSo base questions first after new (all ++ more)
+  pub so : AreSo base cache questions first after new (all ++ more)
   pub how : MeetsOne k was more ⊎ MeetsNone was is more
   pub met : MeetsIn turn k was is more
 
@@ -377,14 +384,18 @@ one_member : (members : List Member) (place : ℕ) (a b : Member) → slice_get 
 one_member members place a b is_a is_b = (let both : Some a ≡ Some b = sym is_a ∙ is_b in cc)
 
 -- client k has become this one in its turn
-module _ (base : BaseParts) (questions : List Query) (query : Query) (first link after : LinkSeen) (old new : ConvoyState) (k : ℕ) (from_one : 1 ≤ k) (was is : Member) (all : List Met)
-    (so : AreSo base questions first link old all) (asks : slice_get questions (k - 1) ≡ Some query) (had : slice_get old.members (k - 1) ≡ Some was)
+module _ (base : BaseParts) (cache : ℕ) (questions : List Query) (query : Query) (first link after : LinkSeen) (old new : ConvoyState) (k : ℕ) (from_one : 1 ≤ k) (was is : Member) (all : List Met)
+    (so : AreSo base cache questions first link old all) (asks : slice_get questions (k - 1) ≡ Some query) (had : slice_get old.members (k - 1) ≡ Some was)
     (members : new.members ≡ slice_set old.members (k - 1) is) (same_base : new.base ≡ old.base) (grown : HasGrown link after) where
   its_number : suc (k - 1) ≡ k
   its_number = omega arith
 
   it_was : IsClientSo base query first.faults link.faults was k all
   it_was = subst (λ (n : ℕ). IsClientSo base query first.faults link.faults was n all) its_number (so.members (k - 1) query was asks had)
+
+  -- its question, as it has it
+  asks_so : slice_get questions (k - 1) ≡ Some (shown was.client).query
+  asks_so = asks ∙ ap Some (sym it_was.question)
 
   it_waited : (phase : Phase) → (shown was.client).phase ≡ phase → At base first.faults link.faults was.client (met_by k all) (shown was.client) phase
   it_waited phase is = subst (At base first.faults link.faults was.client (met_by k all) (shown was.client)) is it_was.at
@@ -411,12 +422,14 @@ module _ (base : BaseParts) (questions : List Query) (query : Query) (first link
   -- the convoy with more that was received
   with_more : (more : List Met) → IsClientSo base query first.faults after.faults is k (all ++ more)
       → ((number : ℕ) (q : Query) (m : Member) → (k ≡ number → ⊥) → IsClientSo base q first.faults link.faults m number all → IsClientSo base q first.faults link.faults m number (all ++ more))
-      → All (IsSaid base (all ++ more)) new.kept.pages → AreMet base questions first.recorded after.recorded first.faults after.faults (all ++ more) → AreSo base questions first after new (all ++ more)
-  with_more more now others said met = record {
+      → All (IsSaid base (all ++ more)) new.kept.pages → CacheAlong base questions [] (empty_cache cache) (all ++ more) new.kept
+      → AreMet base questions first.recorded after.recorded first.faults after.faults (all ++ more) → AreSo base cache questions first after new (all ++ more)
+  with_more more now others said cached met = record {
     base_is = same_base ∙ so.base_is;
     clients = ap (λ (l : List Member). length l) members ∙ length-set old.members (k - 1) is ∙ so.clients;
     members = λ place q member asked there. at_place more place q member now others asked there (same_place place (k - 1));
     said = said;
+    cached = cached;
     met = met;
     grown = grown_then first link after so.grown grown;
   }
@@ -425,8 +438,9 @@ module _ (base : BaseParts) (questions : List Query) (query : Query) (first link
   module _ (turn : Turn) (one : Met) (own : one.client ≡ k) (met_in : MeetsIn turn k was is (one ∷ [])) (waited : (shown was.client).outcome ≡ None)
       (moves : Moves base first.faults after.faults was.client is.client (met_by k all ++ one.made ∷ [])) (counted : is.exchanges ≡ exchanges_by k (all ++ one ∷ []))
       (fault : (low high : ℕ) → (shown is.client).outcome ≡ Some (outcomes.LinkFault low high) → HasFailedBetween k low high (all ++ one ∷ []))
-      (said : All (IsSaid base (all ++ one ∷ [])) new.kept.pages) (met : AreMet base questions first.recorded after.recorded first.faults after.faults (all ++ one ∷ [])) where
-    meets_one : Meets base questions first after new k was is all turn
+      (said : All (IsSaid base (all ++ one ∷ [])) new.kept.pages) (cached : CacheAlong base questions [] (empty_cache cache) (all ++ one ∷ []) new.kept)
+      (met : AreMet base questions first.recorded after.recorded first.faults after.faults (all ++ one ∷ [])) where
+    meets_one : Meets base cache questions first after new k was is all turn
     meets_one =
         let now : IsClientSo base query first.faults after.faults is k (all ++ one ∷ []) = record {
           question = moves.query ∙ it_was.question;
@@ -436,7 +450,7 @@ module _ (base : BaseParts) (questions : List Query) (query : Query) (first link
         } in
         record {
           more = one ∷ [];
-          so = with_more (one ∷ []) now (λ number q m other before. so_beside base q first.faults link.faults m number all one (λ same. other (sym own ∙ same)) before) said met;
+          so = with_more (one ∷ []) now (λ number q m other before. so_beside base q first.faults link.faults m number all one (λ same. other (sym own ∙ same)) before) said cached met;
           how = inl (record { one = one; is = refl; client = own; waited = waited });
           met = met_in;
         }
@@ -500,11 +514,12 @@ module _ (base : BaseParts) (questions : List Query) (query : Query) (first link
     exchange_counted : is.exchanges ≡ exchanges_by k (all ++ one ∷ [])
     exchange_counted = one_more ∙ ap (λ (n : ℕ). n + 1) it_was.counted ∙ sym (exchange_more k all one refl refl)
 
-    pub exchanged : All (IsSaid base (all ++ one ∷ [])) new.kept.pages → Meets base questions first after new k was is all Exchanged
-    exchanged said = meets_one Exchanged one refl (record { one = one; is = refl; client = refl; want = sym wanted; asked_is = refl }, exchange_how got refl) waited moves exchange_counted failed_now said exchange_met
+    pub exchanged : All (IsSaid base (all ++ one ∷ [])) new.kept.pages → CacheAlong base questions [] (empty_cache cache) (all ++ one ∷ []) new.kept
+        → Meets base cache questions first after new k was is all Exchanged
+    exchanged said cached = meets_one Exchanged one refl (record { one = one; is = refl; client = refl; want = sym wanted; asked_is = refl }, exchange_how got refl) waited moves exchange_counted failed_now said cached exchange_met
 
     -- where the cache is as it was
-    pub exchanged_beside : new.kept ≡ old.kept → Meets base questions first after new k was is all Exchanged
+    pub exchanged_beside : new.kept ≡ old.kept → CacheAlong base questions [] (empty_cache cache) (all ++ one ∷ []) new.kept → Meets base cache questions first after new k was is all Exchanged
     exchanged_beside same = exchanged (subst (λ (kept : Kept). All (IsSaid base (all ++ one ∷ [])) kept.pages) (sym same) (said_more base all (one ∷ []) old.kept.pages so.said))
 
   -- the cache after a page that was asked for
@@ -558,26 +573,29 @@ module _ (base : BaseParts) (questions : List Query) (query : Query) (first link
   spans : (got : Got) → IsExchange base (shown was.client) link after got → Spans first.faults link.faults after.faults got
   spans got x = record { from = so.grown.not_fallen; cause = x.faults }
 
-  pub asked_one : IsExchanged base was is old.kept new.kept link after → Meets base questions first after new k was is all Exchanged
+  pub asked_one : IsExchanged base was is old.kept new.kept link after → Meets base cache questions first after new k was is all Exchanged
   asked_one t = by t.asks where
-    by : AsksOne base was.client is.client old.kept new.kept link after → Meets base questions first after new k was is all Exchanged
+    by : AsksOne base was.client is.client old.kept new.kept link after → Meets base cache questions first after new k was is all Exchanged
     by (inl (asks, same)) =
         let at : AtGate base (shown was.client) (met_by k all) = it_waited phases.Gate (waits_at_gate (shown was.client).phase asks.wants) in
         exchanged_beside wants.Gate asks.got asks.wants asks.exchange t.had_none t.one_more (ends_by (TakesGate base was.client is.client) asks.got asks.takes)
         (gate_asked base first.faults link.faults after.faults was.client is.client (met_by k all) at asks.got (spans asks.got asks.exchange) asks.takes) same
+        (with_gate base questions was.client k asks_so (empty_cache cache) old.kept new.kept all so.cached asks.got link.faults after.faults same)
     by (inr (inl (asks, same))) =
         let phase = waits_for_stops (shown was.client).phase asks.wants in
         let at : AtStops base (shown was.client) (met_by k all) phase.first = it_waited (phases.Stops phase.first) phase.is in
         exchanged_beside wants.Stops asks.got asks.wants asks.exchange t.had_none t.one_more (ends_by (TakesStops was.client is.client) asks.got asks.takes)
         (stops_asked base first.faults link.faults after.faults was.client is.client (met_by k all) phase.first phase.is at asks.got (spans asks.got asks.exchange) asks.takes) same
+        (with_stops base questions was.client k asks_so (empty_cache cache) old.kept new.kept all so.cached asks.got link.faults after.faults same)
     by (inr (inr asks)) =
         let at : AtPage base (shown was.client) was.client (met_by k all) asks.name = it_waited (phases.Page asks.name) (waits_for (shown was.client).phase asks.name asks.wants) in
         exchanged (wants.Page asks.name) asks.got asks.wants asks.exchange t.had_none t.one_more (ends_by_page asks.name asks.got asks.takes)
         (page_asked base first.faults link.faults after.faults was.client is.client old.kept new.kept (met_by k all) asks.name at asks.got (spans asks.got asks.exchange) asks.takes)
         (page_said asks.name asks.got asks.got refl asks.takes)
+        (with_page base questions was.client k asks_so (empty_cache cache) old.kept new.kept all so.cached is.client asks.name asks.got link.faults after.faults asks.lacks at asks.takes)
 
   -- nothing was wanted any more
-  pub met_none : IsFinished was is old.kept new.kept → after.faults ≡ link.faults → after.recorded ≡ link.recorded → Meets base questions first after new k was is all Finished
+  pub met_none : IsFinished was is old.kept new.kept → after.faults ≡ link.faults → after.recorded ≡ link.recorded → Meets base cache questions first after new k was is all Finished
   met_none t faults recorded =
       let now : IsClientSo base query first.faults after.faults is k (all ++ []) =
       subst (λ (l : List Met). IsClientSo base query first.faults after.faults is k l) (sym (append-nil all))
@@ -587,6 +605,8 @@ module _ (base : BaseParts) (questions : List Query) (query : Query) (first link
         more = [];
         so = with_more [] now (λ number q m other before. subst (λ (l : List Met). IsClientSo base q first.faults link.faults m number l) (sym (append-nil all)) before)
             (subst (λ (l : List Met). All (IsSaid base l) new.kept.pages) (sym (append-nil all)) (subst (λ (kept : Kept). All (IsSaid base all) kept.pages) (sym t.cache) so.said))
+            (subst (λ (l : List Met). CacheAlong base questions [] (empty_cache cache) l new.kept) (sym (append-nil all))
+            (subst (CacheAlong base questions [] (empty_cache cache) all) (sym t.cache) so.cached))
             (subst (AreMet base questions first.recorded after.recorded first.faults after.faults) (sym (append-nil all))
             (subst (λ (n : ℕ). AreMet base questions first.recorded after.recorded first.faults n all) (sym faults)
             (subst (λ (entries : Option (List Entry)). AreMet base questions first.recorded entries first.faults link.faults all) (sym recorded) so.met)));
@@ -595,7 +615,7 @@ module _ (base : BaseParts) (questions : List Query) (query : Query) (first link
       }
 
   -- a page of the cache was taken
-  pub took_kept : IsCached was is old.kept new.kept → after.faults ≡ link.faults → after.recorded ≡ link.recorded → Meets base questions first after new k was is all Cached
+  pub took_kept : IsCached was is old.kept new.kept → after.faults ≡ link.faults → after.recorded ≡ link.recorded → Meets base cache questions first after new k was is all Cached
   took_kept t faults recorded =
       let h = t.holds in
       let at : AtPage base (shown was.client) was.client (met_by k all) h.name = it_waited (phases.Page h.name) (waits_for (shown was.client).phase h.name h.wants) in
@@ -632,6 +652,7 @@ module _ (base : BaseParts) (questions : List Query) (query : Query) (first link
       (λ low high some. absurd (no_fault low high some))
       (subst (λ (kept : Kept). All (IsSaid base (all ++ one ∷ [])) kept.pages) (sym h.used)
       (All-with_used (IsSaid base (all ++ one ∷ [])) old.kept.pages h.name (said_more base all (one ∷ []) old.kept.pages so.said)))
+      (with_cached base questions was.client k asks_so (empty_cache cache) old.kept new.kept all so.cached is.client said.reply link.faults link.faults h says)
       (subst (λ (n : ℕ). AreMet base questions first.recorded after.recorded first.faults n (all ++ one ∷ [])) (sym faults)
       (subst (λ (entries : Option (List Entry)). AreMet base questions first.recorded entries first.faults link.faults (all ++ one ∷ [])) (sym recorded) met))
 
@@ -642,33 +663,33 @@ exchange_grows base old new kept after_kept link after (inr (inl (asks, same))) 
 exchange_grows base old new kept after_kept link after (inr (inr asks)) = record { clear = asks.exchange.clear; not_fallen = asks.exchange.faults.not_fallen }
 
 -- client k had its turn
-module _ {X : Type 0} (seen : X → LinkSeen) (base : BaseParts) (questions : List Query) (first : LinkSeen) (k : ℕ) (from_one : 1 ≤ k) (old new : ConvoyState) (link after : X) (all : List Met)
-    (so : AreSo base questions first (seen link) old all) where
+module _ {X : Type 0} (seen : X → LinkSeen) (base : BaseParts) (cache : ℕ) (questions : List Query) (first : LinkSeen) (k : ℕ) (from_one : 1 ≤ k) (old new : ConvoyState) (link after : X) (all : List Met)
+    (so : AreSo base cache questions first (seen link) old all) where
   -- its question
   asks_it : (was : Member) → slice_get old.members (k - 1) ≡ Some was → (query : Query) × (slice_get questions (k - 1) ≡ Some query)
   asks_it was had = item_within questions (k - 1) (let within : k - 1 < length old.members = slice_get_within old.members (k - 1) was had in let same = so.clients in omega arith)
 
   by_turn : (turn : Turn) (step : IsStep seen k old new link after turn) → Turned base step.turned.was step.turned.is old.kept new.kept (seen link) (seen after) turn →
-      Meets base questions first (seen after) new k step.turned.was step.turned.is all turn
+      Meets base cache questions first (seen after) new k step.turned.was step.turned.is all turn
   by_turn Finished step t =
       let s = step.turned in
       let still : after ≡ link = step.idle (λ e. cc) in
       let query = asks_it s.was s.had in
-      met_none base questions query.0 first (seen link) (seen after) old new k from_one s.was s.is all so query.1 s.had s.members s.base
+      met_none base cache questions query.0 first (seen link) (seen after) old new k from_one s.was s.is all so query.1 s.had s.members s.base
       (subst (λ (x : X). HasGrown (seen link) (seen x)) (sym still) (grown_not (seen link))) t (ap (λ (x : X). (seen x).faults) still) (ap (λ (x : X). (seen x).recorded) still)
   by_turn Cached step t =
       let s = step.turned in
       let still : after ≡ link = step.idle (λ e. cc) in
       let query = asks_it s.was s.had in
-      took_kept base questions query.0 first (seen link) (seen after) old new k from_one s.was s.is all so query.1 s.had s.members s.base
+      took_kept base cache questions query.0 first (seen link) (seen after) old new k from_one s.was s.is all so query.1 s.had s.members s.base
       (subst (λ (x : X). HasGrown (seen link) (seen x)) (sym still) (grown_not (seen link))) t (ap (λ (x : X). (seen x).faults) still) (ap (λ (x : X). (seen x).recorded) still)
   by_turn Exchanged step t =
       let s = step.turned in
       let query = asks_it s.was s.had in
-      asked_one base questions query.0 first (seen link) (seen after) old new k from_one s.was s.is all so query.1 s.had s.members s.base
+      asked_one base cache questions query.0 first (seen link) (seen after) old new k from_one s.was s.is all so query.1 s.had s.members s.base
       (exchange_grows base s.was.client s.is.client old.kept new.kept (seen link) (seen after) t.asks) t
 
-  pub turn_meets : (turn : Turn) (step : IsStep seen k old new link after turn) → Meets base questions first (seen after) new k step.turned.was step.turned.is all turn
+  pub turn_meets : (turn : Turn) (step : IsStep seen k old new link after turn) → Meets base cache questions first (seen after) new k step.turned.was step.turned.is all turn
   turn_meets turn step =
       let s = step.turned in
       by_turn turn step (subst (λ (b : BaseParts). Turned b s.was s.is old.kept new.kept (seen link) (seen after) turn) so.base_is s.turned)

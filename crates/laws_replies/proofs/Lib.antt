@@ -1,5 +1,7 @@
 pub mod AloneLemmas
 mod AroundLemmas
+pub mod CachedLawsLemmas
+pub mod CachedLemmas
 pub mod ClientsLemmas
 pub mod CourseLemmas
 pub mod MadeLemmas

@@ -19,18 +19,18 @@ use Rattle.laws_replies.proofs.ClientsLemmas.{AreSo, IsClientSo, are_asked, are_
 use Rattle.laws_replies.proofs.StepLemmas.{AtEnd}
 
 -- the convoy has this client alone
-record Stands {X : Type 0} (seen : X → LinkSeen) (base : BaseParts) (query : Query) (first : X) (convoy : ConvoyState) (link : X) : Type 0 where
+record Stands {X : Type 0} (seen : X → LinkSeen) (base : BaseParts) (cache : ℕ) (query : Query) (first : X) (convoy : ConvoyState) (link : X) : Type 0 where
   all : List Met
-  so : AreSo base (query ∷ []) (seen first) (seen link) convoy all
+  so : AreSo base cache (query ∷ []) (seen first) (seen link) convoy all
 
-module _ {X : Type 0} (seen : X → LinkSeen) (base : BaseParts) (query : Query) (first : X) where
-  turned : (old new : ConvoyState) (link after : X) (turn : Turn) → Stands seen base query first old link → IsStep seen 1 old new link after turn → Stands seen base query first new after
+module _ {X : Type 0} (seen : X → LinkSeen) (base : BaseParts) (cache : ℕ) (query : Query) (first : X) where
+  turned : (old new : ConvoyState) (link after : X) (turn : Turn) → Stands seen base cache query first old link → IsStep seen 1 old new link after turn → Stands seen base cache query first new after
   turned old new link after turn s step =
-      let meets = turn_meets seen base (query ∷ []) (seen first) 1 (let one : 1 ≤ 1 = omega arith in one) old new link after s.all s.so turn step in
+      let meets = turn_meets seen base cache (query ∷ []) (seen first) 1 (let one : 1 ≤ 1 = omega arith in one) old new link after s.all s.so turn step in
       record { all = s.all ++ meets.more; so = meets.so }
 
-  all_turned : (steps : List (Step X)) (old new : ConvoyState) (before after : X) → TurnsOf seen 1 steps old new before after → Stands seen base query first old before → Stands seen base query first new after
-  all_turned [] old new before after (same, link) s = subst (λ (x : X). Stands seen base query first new x) (sym link) (subst (λ (c : ConvoyState). Stands seen base query first c before) (sym same) s)
+  all_turned : (steps : List (Step X)) (old new : ConvoyState) (before after : X) → TurnsOf seen 1 steps old new before after → Stands seen base cache query first old before → Stands seen base cache query first new after
+  all_turned [] old new before after (same, link) s = subst (λ (x : X). Stands seen base cache query first new x) (sym link) (subst (λ (c : ConvoyState). Stands seen base cache query first c before) (sym same) s)
   all_turned (step ∷ earlier) old new before after (last, turns) s =
       turned step.convoy new step.link after step.turn (all_turned earlier old step.convoy before step.link turns s) last
 
@@ -40,9 +40,9 @@ one_alone [] member one is = absurd (cc)
 one_alone (m ∷ []) member one is = (let same : m ≡ member = cc in ap (λ (x : Member). x ∷ []) same)
 one_alone (m ∷ other ∷ members) member one is = absurd (omega (arith, one))
 
-has_run : (base : BaseParts) (query : Query) (before after : LinkSeen) (end : ConvoyState) (all : List Met) (member : Member) → AreSo base (query ∷ []) before after end all →
+has_run : (base : BaseParts) (cache : ℕ) (query : Query) (before after : LinkSeen) (end : ConvoyState) (all : List Met) (member : Member) → AreSo base cache (query ∷ []) before after end all →
     slice_get end.members 0 ≡ Some member → IsSome (shown member.client).outcome → HasRun base query before after end
-has_run base query before after end all member so is some =
+has_run base cache query before after end all member so is some =
     let client : IsClientSo base query before.faults after.faults member 1 all = so.members 0 query member refl is in
     let e : AtEnd base before.faults after.faults (shown member.client) (met_by 1 all) =
     has_ended base before.faults after.faults member.client (met_by 1 all) (shown member.client) (shown member.client).phase client.at some in
@@ -72,17 +72,17 @@ has_run base query before after end all member so is some =
     }
 
 module _ {X : Type 0} (seen : X → LinkSeen) (base : BaseParts) (capacity : ℕ) (query : Query) (asked end : ConvoyState) (before after : X) (adds : Adds (begun base capacity) query asked) where
-  at_first : Stands seen base query before asked before
+  at_first : Stands seen base capacity query before asked before
   at_first = record {
     all = [];
-    so = are_asked base [] (seen before) (seen before) (begun base capacity) asked query [] (are_begun base capacity (seen before)) adds;
+    so = are_asked base capacity [] (seen before) (seen before) (begun base capacity) asked query [] (are_begun base capacity (seen before)) adds;
   }
 
   by_ends : (convoy : ConvoyState) (link : X) → convoy ≡ asked → link ≡ before → Ends seen 1 convoy end link after → HasRun base query (seen before) (seen after) end
   by_ends convoy link same same_link e =
-      let s : Stands seen base query before convoy link = subst (λ (x : X). Stands seen base query before convoy x) (sym same_link) (subst (λ (c : ConvoyState). Stands seen base query before c before) (sym same) at_first) in
-      let now : Stands seen base query before end after = all_turned seen base query before e.steps convoy end link after e.turns s in
-      has_run base query (seen before) (seen after) end now.all e.member now.so e.is e.ended
+      let s : Stands seen base capacity query before convoy link = subst (λ (x : X). Stands seen base capacity query before convoy x) (sym same_link) (subst (λ (c : ConvoyState). Stands seen base capacity query before c before) (sym same) at_first) in
+      let now : Stands seen base capacity query before end after = all_turned seen base capacity query before e.steps convoy end link after e.turns s in
+      has_run base capacity query (seen before) (seen after) end now.all e.member now.so e.is e.ended
 
 pub ends_by_its_replies : {X : Type 0} (seen : X → LinkSeen) → EndsByItsReplies seen
 ends_by_its_replies seen base capacity query asked end before after adds rounds =

@@ -1,3 +1,5 @@
+pub mod Cached
+pub mod CachedLaws
 pub mod Course
 pub mod Ends
 pub mod Laws

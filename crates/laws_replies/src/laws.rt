@@ -1,3 +1,4 @@
+ghost use Rattle.laws_replies.specs.CachedLaws.{CacheIsOne, CapacityIsBound, WrongPageIsNotPut};
 ghost use Rattle.laws_replies.specs.Laws.{AloneAsksAll, FaultsAreAroundLast, GotIsRecorded, NoFaultIsShrunken, OneEnd, OneRecordedEnd};
 ghost use Rattle.laws_replies.specs.Run.{EndsByItsReplies};
 
@@ -34,4 +35,12 @@ pub fn alone_asks_all()
 pub fn faults_are_around_last<L: Link>()
     ensures around { FaultsAreAroundLast L.seen }
     ensures shrunken { NoFaultIsShrunken L.seen }
+{}
+
+/// What clients received determines the cached pages, with one capacity of the cache. Where a page is asked for again with room for
+/// one page, it is not with room for two. Each is refused with the other capacity. A page to which the time gate was wrong to send is not cached.
+pub fn cached_pages()
+    ensures one { CacheIsOne }
+    ensures bound { CapacityIsBound }
+    ensures wrong { WrongPageIsNotPut }
 {}
