@@ -3,6 +3,7 @@ ghost use Rattle.cli_replay.specs.Turns.{MayHappen};
 ghost use Rattle.laws_plan.specs.Planned.{IsNoMessage, NoneIsMessage};
 ghost use Rattle.laws_replay.specs.Events.{TurnsAreOfClients};
 ghost use Rattle.laws_replay.specs.Played.{Plays};
+ghost use Rattle.lc_world.specs.GoneOn.{IsLeftByGets};
 
 use convoy::Convoy;
 use laws_replay::Event;
@@ -20,7 +21,8 @@ pub fn happen<L: Link>(
     requires none_yet { convoy.old.members ≡ [] }
     requires turns { TurnsAreOfClients events.items }
     requires no_messages { NoneIsMessage events.items }
-    ensures { OnOk result (Plays L.seen events.items convoy.old convoy.new link.old link.new []) }
+    ensures plays { OnOk result (Plays L.seen events.items convoy.old convoy.new link.old link.new []) }
+    ensures left { IsLeftByGets (L.seen link.old) (L.seen link.new) }
 {
     'events: for event in events {
         happen_one(alloc, convoy, event, link)?;
@@ -37,7 +39,8 @@ fn happen_one<L: Link>(
 ) -> Result<(), NoMemory>
     requires may_happen { MayHappen (length convoy.old.members) event }
     requires no_message { IsNoMessage event }
-    ensures { OnOk result (Plays L.seen (event ∷ []) convoy.old convoy.new link.old link.new []) }
+    ensures plays { OnOk result (Plays L.seen (event ∷ []) convoy.old convoy.new link.old link.new []) }
+    ensures left { IsLeftByGets (L.seen link.old) (L.seen link.new) }
 {
     match event {
         Event::Ask(query) => {

@@ -6,6 +6,7 @@ ghost use Rattle.cli_plan.specs.Planning.{HaveHappened};
 ghost use Rattle.laws_plan.specs.Planned.{IsPlanned, NoneIsMessage};
 ghost use Rattle.laws_replay.specs.Events.{TurnsAreOfClients};
 ghost use Rattle.laws_replay.specs.Replayed.{clients_text_of};
+ghost use Rattle.lc_world.specs.GoneOn.{IsLeftByGets};
 
 use crate::events::happen;
 use cli_ask::ClientEnd;
@@ -39,7 +40,8 @@ pub fn plan<L: Link>(
     requires most_pages { cache ≤ 10_000 }
     requires turns { TurnsAreOfClients events.items }
     requires no_messages { NoneIsMessage events.items }
-    ensures { IfOk result.0 (λ planned. IsPlanned base events.items cache (L.seen link) (L.seen result.1) planned.text.items planned.ends.items) }
+    ensures planned { IfOk result.0 (λ planned. IsPlanned base events.items cache (L.seen link) (L.seen result.1) planned.text.items planned.ends.items) }
+    ensures left { IsLeftByGets (L.seen link) (L.seen result.1) }
 {
     plans_are_right::<L>();
     plan_records_replies::<L>();
@@ -63,7 +65,8 @@ fn ends_over<L: Link>(
     requires most_pages { cache ≤ 10_000 }
     requires turns { TurnsAreOfClients events.items }
     requires no_messages { NoneIsMessage events.items }
-    ensures { IfOk result (λ ends. HaveHappened L.seen base events.items cache link.old link.new ends.items) }
+    ensures happened { IfOk result (λ ends. HaveHappened L.seen base events.items cache link.old link.new ends.items) }
+    ensures left { IsLeftByGets (L.seen link.old) (L.seen link.new) }
 {
     let mut convoy = Convoy::new(alloc, base, cache)?;
     happen(alloc, &mut convoy, events, link)?;

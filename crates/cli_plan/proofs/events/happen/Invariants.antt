@@ -1,6 +1,10 @@
 use Rattle.std.proofs.Common.{[]}
 use Rattle.laws_replay.specs.Played.{Plays}
+use Rattle.lc_world.specs.GoneOn.{IsLeftByGets}
 use Rattle.cli_plan.proofs.events.happen.Given as goal
 
 abbrev pub invariant-events : goal.invariant-events
-invariant-events g l = Plays g.L.Link.seen l.yielded l.initial.convoy l.convoy l.initial.link l.link []
+invariant-events g l = record {
+  plays : Plays g.L.Link.seen l.yielded l.initial.convoy l.convoy l.initial.link l.link [];
+  left : IsLeftByGets (g.L.Link.seen l.initial.link) (g.L.Link.seen l.link);
+}
