@@ -3,17 +3,18 @@ use Rattle.std.proofs.Common.{◌≡◌, ◌∙◌, ℕ, ◌+◌, ◌<◌, ◌�
 use Rattle.std.proofs.lemmas.List.Sums.{sum_by-append}
 use Rattle.lc_doors.specs.Door.{Closes, Comes, DoorSeen, DoorRecorded, GoesOn, Opens, connected_after, hung_up}
 use Rattle.lc_doors.specs.declared.door.DoorFail.{DoorFail}
+use Rattle.lc_doors.specs.declared.door.DoorFail.TheVariants.{Failed, NoMemory}
 use Rattle.lc_doors.specs.declared.door.Next.{Next}
 use Rattle.lc_doors.specs.declared.door.Next.TheVariants.{Connection, Closed}
 use Rattle.lc_doors.specs.declared.serving.Served.{Served}
 use Rattle.lc_io.proofs.CountLemmas.{RoseBy-none, RoseBy-then}
 use Rattle.lc_io.specs.Counts.{Rose, RoseBy}
-use Rattle.lc_model.specs.declared.memory.NoMemory.{NoMemory}
+use Rattle.lc_model.specs.declared.memory.NoMemory.{NoMemory as OutOfMemory}
 use Rattle.publisher_spec.specs.Side.{Side}
-use Rattle.cli_serve.specs.Clients.{HasGone, HasTaken, HasServedSoFar}
-use Rattle.cli_serve.specs.Tally.{Fits, IsTallyOf}
+use Rattle.cli_serve.specs.Clients.{AreAll, HasGone, HasTaken, HasServedSoFar}
+use Rattle.cli_serve.specs.Tally.{Fits, IsTallyOf, ended_so}
 use Rattle.cli_serve.specs.Recorded.{AreRecorded, NoneWaits}
-use Rattle.cli_serve.specs.Visit.{AreVisits, IsVisit, Visit, faults_of}
+use Rattle.cli_serve.specs.Visit.{AreVisits, IsVisit, NoneLost, Visit, faults_of}
 use Rattle.cli_serve.specs.Visiting.{CameOut, IsOver, Visits}
 use Rattle.cli_serve.specs.declared.tally.Tally.{Tally}
 use Rattle.cli_serve.proofs.RecordedLemmas.{goes_then, none_recorded, over_recorded, recorded_one_more}
@@ -69,7 +70,7 @@ recorded_then visits visit a b c d recorded opens over =
     (goes_then Opens (IsOver visit) (λ (x y : DoorRecorded). (m : DoorRecorded) × Opens x m × IsOver visit m y) (λ x y z p q. (y, p, q)) b c d opens over)
 
 -- one more came, and was served
-pub one_gone : (visits : List Visit) (visit : Visit) (outcome : Result Served NoMemory) (first side next : Side) (before middle opened after : DoorSeen)
+pub one_gone : (visits : List Visit) (visit : Visit) (outcome : Result Served OutOfMemory) (first side next : Side) (before middle opened after : DoorSeen)
     → HasGone visits first side before middle → GoesOn Opens middle.recorded opened.recorded → middle.faults ≤ opened.faults → opened.listens ≡ middle.listens → opened.broken ≡ middle.broken
     → Visits visit outcome side next opened after → HasGone (visits ++ visit ∷ []) first next before after
 one_gone visits visit outcome first side next before middle opened after gone opens faults listens broken is =
@@ -137,15 +138,28 @@ starts_out side connections tally door is fits = record {
   nobody = λ some. let none : tally.connections ≡ 0 = is.connections_are in absurd (omega arith);
 }
 
+-- why no client was taken, by whether memory had run out on one before
+all_but : (lost : Bool) (fail : DoorFail) (visits : List Visit) (connections : ℕ) (recorded : Option DoorRecorded) → length visits < connections → (lost ≡ false → NoneLost visits)
+    → AreAll visits connections (Err (ended_so lost fail)) recorded
+all_but true fail visits connections recorded fewer none = fewer
+all_but false Failed visits connections recorded fewer none = (fewer, none refl)
+all_but false NoMemory visits connections recorded fewer none = fewer
+
+-- a fault of the door is one that it had
+pub failed_alone : (lost : Bool) (fail : DoorFail) → ended_so lost fail ≡ Failed → fail ≡ Failed
+failed_alone true fail is = absurd (cc)
+failed_alone false fail is = is
+
 -- the door failed
 pub fails_next : (first side : Side) (connections : ℕ) (tally : Tally) (fail : DoorFail) (before middle after : DoorSeen) → HasServedSoFar first side connections tally before middle
-    → tally.connections < connections → NextSaid (Err fail) middle after → HasTaken first connections (Err fail) before after
+    → tally.connections < connections → NextSaid (Err fail) middle after → HasTaken first connections (Err (ended_so tally.lost fail)) before after
 fails_next first side connections tally fail before middle after way fewer asked = record {
   visits = way.visits;
   last = side;
   gone = gone_over way.visits first side before middle after way.gone asked.recorded asked.faults asked.listens asked.broken;
   at_most = let long : tally.connections ≡ length way.visits = way.tally_is.connections_are in omega arith;
-  all = let long : tally.connections ≡ length way.visits = way.tally_is.connections_are in omega arith;
+  all = let long : tally.connections ≡ length way.visits = way.tally_is.connections_are in
+      all_but tally.lost fail way.visits connections after.recorded (omega arith) way.tally_is.lost_is;
   nobody = asked.connected;
 }
 
@@ -176,7 +190,7 @@ all_came first side connections tally before after way all some = record {
 }
 
 -- one more came
-pub one_next : (visit : Visit) (outcome : Result Served NoMemory) (first side next : Side) (connections : ℕ) (tally counted : Tally) (before middle opened after : DoorSeen)
+pub one_next : (visit : Visit) (outcome : Result Served OutOfMemory) (first side next : Side) (connections : ℕ) (tally counted : Tally) (before middle opened after : DoorSeen)
     → HasServedSoFar first side connections tally before middle → tally.connections < connections → NextSaid (Ok Connection) middle opened
     → Visits visit outcome side next opened after
     → ((visits : List Visit) (visit : Visit) → IsTallyOf visits tally → CameOut outcome visit → IsTallyOf (visits ++ visit ∷ []) counted)

@@ -67,7 +67,7 @@ door_failed asked doors.Failed before middle after announced broken faults taken
   count_is = refl;
   now_is = refl;
   rose = rose_before (2 ^ 64 - 1) before.door.faults middle.door.faults after.faults faults (rose refl);
-  so_far = inr (taken.visits, taken.all, stopped asked (Err doors.Failed) before middle after announced broken taken);
+  so_far = inr (taken.visits, taken.all.0, taken.all.1, stopped asked (Err doors.Failed) before middle after announced broken taken);
 }
 door_failed asked doors.NoMemory before middle after announced broken faults taken rose =
     out_of_memory asked (Err doors.NoMemory) before middle after announced broken taken

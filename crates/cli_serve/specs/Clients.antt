@@ -2,11 +2,12 @@
 use Rattle.std.specs.Prelude.{◌≡◌, ◌⊎◌, ℕ, ◌<◌, ◌≤◌, false, List, length, Option, Result, Ok, Err}
 use Rattle.lc_doors.specs.Door.{DoorSeen, DoorRecorded, GoesOn}
 use Rattle.lc_doors.specs.declared.door.DoorFail.{DoorFail}
+use Rattle.lc_doors.specs.declared.door.DoorFail.TheVariants.{Failed, NoMemory}
 use Rattle.lc_io.specs.Counts.{RoseBy}
 use Rattle.publisher_spec.specs.Side.{Side}
 use Rattle.cli_serve.specs.Tally.{Fits, IsTallyOf}
 use Rattle.cli_serve.specs.Recorded.{AreRecorded, NoneWaits}
-use Rattle.cli_serve.specs.Visit.{AreVisits, Visit, faults_of}
+use Rattle.cli_serve.specs.Visit.{AreVisits, NoneLost, Visit, faults_of}
 use Rattle.cli_serve.specs.declared.tally.Tally.{Tally}
 
 -- visits from a side to another, one after the other
@@ -27,10 +28,12 @@ pub record HasServedSoFar (first side : Side) (connections : ℕ) (tally : Tally
   pub few : tally.connections ≤ connections
   pub nobody : 0 < tally.connections → now.connected ≡ false
 
--- All were served that were asked for, or no further client waits; or the door failed before that.
+-- All were served that were asked for, or no further client waits. Or the door failed before that, and memory had run out on no visit. Or
+-- memory ran out.
 abbrev pub AreAll : List Visit → ℕ → Result Tally DoorFail → Option DoorRecorded → Type 0
 AreAll visits connections (Ok tally) recorded = IsTallyOf visits tally × ((length visits ≡ connections) ⊎ NoneWaits recorded)
-AreAll visits connections (Err fail) recorded = length visits < connections
+AreAll visits connections (Err Failed) recorded = (length visits < connections) × NoneLost visits
+AreAll visits connections (Err NoMemory) recorded = length visits < connections
 
 -- clients were served, one after the other, so many at most
 pub record HasTaken (first : Side) (connections : ℕ) (result : Result Tally DoorFail) (before after : DoorSeen) : Type 0 where

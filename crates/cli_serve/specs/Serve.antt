@@ -75,13 +75,13 @@ pub record IsNotClosed (asked : Asked) (before after : Outside) : Type 0 where
   pub served : WasServed asked visits before.door after.door
   pub wrote : WroteThenFront before.sink after.sink (opening_of asked) (line_of visits)
 
--- The door failed, which it counted: it did not begin to listen, or it failed where one client more was asked for. The fault has its
--- count before and now.
+-- The door failed, which it counted: it did not begin to listen, or it failed where one client more was asked for. Memory had run out on no
+-- visit. The fault has its count before and now.
 pub record IsEndedByDoor (asked : Asked) (count now : ℕ) (before after : Outside) : Type 0 where
   pub count_is : count ≡ before.door.faults
   pub now_is : now ≡ after.door.faults
   pub rose : Rose before.door.faults after.door.faults
-  pub so_far : IsNotOpened before after ⊎ ((visits : List Visit) × (length visits < asked.connections) × IsStopped asked visits before after)
+  pub so_far : IsNotOpened before after ⊎ ((visits : List Visit) × (length visits < asked.connections) × NoneLost visits × IsStopped asked visits before after)
 
 -- The sink failed, which it counted, in the opening or in the line at the end. The fault has its count before and now.
 pub record IsEndedBySink (asked : Asked) (count now : ℕ) (before after : Outside) : Type 0 where

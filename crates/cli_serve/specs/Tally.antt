@@ -1,5 +1,7 @@
 -- How visits are counted.
-use Rattle.std.specs.Prelude.{◌≡◌, ◌*◌, ◌≤◌, false, List, length}
+use Rattle.std.specs.Prelude.{◌≡◌, ◌*◌, ◌≤◌, Bool, true, false, List, length}
+use Rattle.lc_doors.specs.declared.door.DoorFail.{DoorFail}
+use Rattle.lc_doors.specs.declared.door.DoorFail.TheVariants.{NoMemory}
 use Rattle.cli_serve.specs.Visit.{NoneLost, Visit, faults_of, requests_of}
 use Rattle.cli_serve.specs.declared.tally.Tally.{Tally}
 
@@ -14,3 +16,8 @@ pub record IsTallyOf (visits : List Visit) (tally : Tally) : Type 0 where
 pub record Fits (tally : Tally) : Type 0 where
   pub requests : tally.requests ≤ 4294967295 * tally.connections
   pub faults : tally.faults ≤ tally.connections
+
+-- why no further client is taken where the door fails so: memory that ran out on a visit comes first
+abbrev pub ended_so : Bool → DoorFail → DoorFail
+ended_so true fail = NoMemory
+ended_so false fail = fail

@@ -32,7 +32,7 @@ pub fn take_clients<D: Door>(
         match door.next() {
             Ok(Next::Connection) => {}
             Ok(Next::Closed) => return (publisher, Ok(tally)),
-            Err(fail) => return (publisher, Err(fail)),
+            Err(fail) => return (publisher, Err(tally.ended_by(fail))),
         }
         let (left, outcome) = visit(alloc, publisher, door);
         publisher = left;

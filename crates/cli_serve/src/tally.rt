@@ -1,9 +1,9 @@
 ghost use Rattle.std.specs.Prelude.{◌≡◌, ◌+◌, ◌<◌, ◌++◌, ◌∷◌, [], List};
-ghost use Rattle.cli_serve.specs.Tally.{Fits, IsTallyOf};
+ghost use Rattle.cli_serve.specs.Tally.{Fits, IsTallyOf, ended_so};
 ghost use Rattle.cli_serve.specs.Visit.{Visit};
 ghost use Rattle.cli_serve.specs.Visiting.{CameOut};
 
-use lc_doors::Served;
+use lc_doors::{DoorFail, Served};
 use lc_model::NoMemory;
 
 /// What is counted of the connections so far.
@@ -31,6 +31,13 @@ impl Tally {
             faults: 0,
             lost: false,
         }
+    }
+
+    /// Why no further client is taken where the door fails so. Memory that ran out on a connection comes first.
+    pub fn ended_by(self, fail: DoorFail) -> DoorFail
+        ensures { result ≡ ended_so self.lost fail }
+    {
+        if self.lost { DoorFail::NoMemory } else { fail }
     }
 
     /// Counts a connection.

@@ -1,8 +1,10 @@
 -- What was taken so far goes on by what `next` answers.
-use Rattle.std.proofs.Common.{Ok, subst}
+use Rattle.std.proofs.Common.{Err, Ok, subst, sym}
 use Rattle.fragmenter.specs.Cutting.{chosen_cuts}
+use Rattle.lc_doors.specs.declared.door.DoorFail.{DoorFail}
 use Rattle.lc_doors.specs.declared.door.Next.{Next}
 use Rattle.publisher.specs.Held.{side_of}
+use Rattle.cli_serve.specs.Clients.{HasTaken}
 use Rattle.cli_serve.proofs.ClientLemmas.{NextSaid, all_came, fails_next, none_next, one_next}
 use Rattle.cli_serve.proofs.clients.take_clients.Goals as goal
 
@@ -22,15 +24,19 @@ returns-in-Ok-Closed-clause-taken g c =
 
 pub returns-in-Err-clause-taken : goal.returns-in-Err-clause-taken
 returns-in-Err-clause-taken g c =
-    fails_next (side_of chosen_cuts c.args.publisher) (side_of chosen_cuts c.clients.publisher) c.args.connections c.clients.tally c.in-Err.fail (g.D.Door.seen c.args.door.now)
-    (g.D.Door.seen c.clients.door) (g.D.Door.seen c.next.new.self) c.clients.invariant c.clients-test.true
-    (record {
+    let first = side_of chosen_cuts c.args.publisher in
+    let before = g.D.Door.seen c.args.door.now in
+    let after = g.D.Door.seen c.next.new.self in
+    let Goal : DoorFail → Type 0 = λ (fail : DoorFail). HasTaken first c.args.connections (Err fail) before after in
+    subst Goal (sym c.ended_by.ensures)
+    (fails_next first (side_of chosen_cuts c.clients.publisher) c.args.connections c.clients.tally c.in-Err.fail before (g.D.Door.seen c.clients.door) after c.clients.invariant
+    c.clients-test.true (record {
       connected = c.in-Err.ensures.connected;
       recorded = c.in-Err.ensures.recorded;
       faults = c.next.ensures.faults.not_fallen;
       listens = c.next.ensures.listens;
       broken = c.next.ensures.broken;
-    })
+    }))
 
 pub clients-preserved : goal.clients-preserved
 clients-preserved g c =
