@@ -15,7 +15,11 @@ const LEAST_BYTES: usize = 330;
 const ALLOWED: &[u8] = b"gtfs:Regular";
 
 /// A guess of the page that the text says, or none. Linear in the text.
-pub(crate) fn guessed_page(alloc: Global, base: &Base, text: &[u8]) -> Result<Option<Page>, NoMemory> {
+pub(crate) fn guessed_page(
+    alloc: Global,
+    base: &Base,
+    text: &[u8],
+) -> Result<Option<Page>, NoMemory> {
     let mut cursor = Cursor::new(text);
     if cursor.find(b"\"@graph\":[").is_none() {
         return Ok(None);
