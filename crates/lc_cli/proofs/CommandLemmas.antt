@@ -12,11 +12,13 @@ use Rattle.cli_words.specs.declared.command.Command.TheVariants as commands
 use Rattle.cli_words.specs.declared.command.Replay.{Replay}
 use Rattle.lc_io.specs.Folder.{FolderSeen}
 use Rattle.lc_io.specs.declared.file.File.{File}
+use Rattle.lc_world.proofs.GoneOnLemmas.{no_gets, no_passes}
+use Rattle.lc_world.specs.GoneOn.{HasGoneOn}
 use Rattle.lc_world.specs.Link.{LinkSeen}
 use Rattle.laws_replay.specs.Replayed.{IsReplayed}
 use Rattle.laws_replay.specs.declared.event.Event.{Event}
 use Rattle.timetable.specs.declared.timetable.Timetable.{Timetable}
-use Rattle.lc_cli.specs.Command.{IsAskBlock, IsRefusedAs, IsReplayBlock, IsRightRefusal, IsRightWork, Prints, ResultsIn, ask_scope, replay_scope}
+use Rattle.lc_cli.specs.Command.{IsAskBlock, IsRefusedAs, IsReplayBlock, IsRightRefusal, IsRightWork, LeavesLink, Prints, ResultsIn, ask_scope, replay_scope}
 use Rattle.lc_cli.specs.declared.block.Block.{Block}
 use Rattle.lc_cli.specs.declared.work.Work.{Work}
 use Rattle.lc_cli.specs.declared.work.Work.TheVariants as works
@@ -73,3 +75,19 @@ pub said_refusals : (words : List (List ℕ)) (old new : FolderSeen) (command : 
     → IfErr result (IsRefusedAs command old new) → IfErr result (IsRightRefusal words old new)
 said_refusals words old new command (Ok work) says is = tt
 said_refusals words old new command (Err refusal) says is = inr (inr (record { command = command; says = says; refused = is }))
+
+-- a command that does nothing with the link leaves it so
+pub leaves_alone : (command : Command) (link : LinkSeen) → LeavesLink command link link
+leaves_alone (commands.Check check) link = no_passes link
+leaves_alone (commands.Ask ask) link = no_passes link
+leaves_alone (commands.Replay replay) link = no_passes link
+leaves_alone (commands.Serve serve) link = no_passes link
+leaves_alone (commands.Plan plan) link = no_gets link
+
+-- the link has gone on, whatever the command
+pub has_gone_on : (command : Command) (before after : LinkSeen) → LeavesLink command before after → HasGoneOn before after
+has_gone_on (commands.Check check) before after left = left.gone_on
+has_gone_on (commands.Ask ask) before after left = left.gone_on
+has_gone_on (commands.Replay replay) before after left = left.gone_on
+has_gone_on (commands.Serve serve) before after left = left.gone_on
+has_gone_on (commands.Plan plan) before after left = left.gone_on

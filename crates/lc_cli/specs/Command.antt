@@ -13,6 +13,7 @@ use Rattle.cli_words.specs.declared.command.Command.{Command}
 use Rattle.cli_words.specs.declared.command.Command.TheVariants as commands
 use Rattle.lc_io.specs.Folder.{FolderSeen}
 use Rattle.lc_io.specs.declared.file.File.{File}
+use Rattle.lc_world.specs.GoneOn.{IsLeftByGets, IsLeftByPasses}
 use Rattle.lc_world.specs.Link.{LinkSeen}
 use Rattle.laws_plan.specs.Planned.{IsPlanned}
 use Rattle.laws_replay.specs.Replayed.{IsReplayed}
@@ -126,6 +127,15 @@ pub record IsRightServer (words : List (List ℕ)) (old new : FolderSeen) (serve
 abbrev pub IsRightWork : List (List ℕ) → FolderSeen → FolderSeen → LinkSeen → LinkSeen → Work → Type 0
 IsRightWork words old new before after (works.Print block) = IsRightBlock words old new before after block
 IsRightWork words old new before after (works.Serve server) = IsRightServer words old new server
+
+-- What a command leaves of the link, however it ends. The clients of `plan` ask over it by GETs, and no other command does more than to hand
+-- answers on.
+abbrev pub LeavesLink : Command → LinkSeen → LinkSeen → Type 0
+LeavesLink (commands.Check check) before after = IsLeftByPasses before after
+LeavesLink (commands.Ask ask) before after = IsLeftByPasses before after
+LeavesLink (commands.Replay replay) before after = IsLeftByPasses before after
+LeavesLink (commands.Serve serve) before after = IsLeftByPasses before after
+LeavesLink (commands.Plan plan) before after = IsLeftByGets before after
 
 -- why a command is refused
 abbrev pub IsRefusedAs : Command → FolderSeen → FolderSeen → Refusal → Type 0

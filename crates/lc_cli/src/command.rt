@@ -4,10 +4,12 @@ ghost use Rattle.version_store.specs.declared.message_fault.MessageFault.TheVari
 ghost use Rattle.cli_words.specs.Line.{texts_of};
 ghost use Rattle.cli_words.specs.Words.{SaysCommand};
 ghost use Rattle.cli_words.specs.declared.command.Check.{Check as Said};
+ghost use Rattle.cli_words.specs.declared.command.Command.{Command as SaidCommand};
 ghost use Rattle.cli_words.specs.declared.command.Command.TheVariants as commands;
 ghost use Rattle.cli_words.specs.declared.command.Serve.{Serve as Served};
+ghost use Rattle.lc_world.specs.GoneOn.{HasGoneOn, IsLeftByGets, IsLeftByPasses};
 ghost use Rattle.gtfs_tables.specs.Reading.{Keeps};
-ghost use Rattle.lc_cli.specs.Command.{IsAskBlock, IsCheckBlock, IsPlanBlock, IsRefusedAs, IsReplayBlock, IsRightRefusal, IsRightWork, IsServer, ResultsIn, ask_scope, check_scope, replay_scope, serve_scope};
+ghost use Rattle.lc_cli.specs.Command.{IsAskBlock, IsCheckBlock, IsPlanBlock, IsRefusedAs, IsReplayBlock, IsRightRefusal, IsRightWork, IsServer, LeavesLink, ResultsIn, ask_scope, check_scope, replay_scope, serve_scope};
 ghost use Rattle.lc_cli.specs.declared.work.Work.TheVariants as works;
 ghost use Rattle.cli_inputs.specs.Inputs.{IsMessageRefusal, IsRefusedFor};
 ghost use Rattle.cli_inputs.specs.Script.{IsReplayRefused, IsScriptRefused};
@@ -42,6 +44,8 @@ pub(crate) fn outcome<F: Folder, L: Link>(
     ensures check_leaves_link { (check : Said) → SaysCommand (texts_of words.now) (commands.Check check) → result.1 ≡ link }
     ensures serve_leaves_link { (serve : Served) → SaysCommand (texts_of words.now) (commands.Serve serve) → result.1 ≡ link }
     ensures refusal_leaves_link { IfErr result.0 (λ refusal. refusal ≢ Load OutOfMemory → result.1 ≡ link) }
+    ensures link { (command : SaidCommand) → SaysCommand (texts_of words.now) command → LeavesLink command (L.seen link) (L.seen result.1) }
+    ensures gone_on { HasGoneOn (L.seen link) (L.seen result.1) }
 {
     one_command();
     match read_words(alloc, words) {
@@ -64,6 +68,7 @@ fn result_of<F: Folder, L: Link>(
     ensures check_leaves_link { (check : Said) → command ≡ commands.Check check → result.1 ≡ link }
     ensures serve_leaves_link { (serve : Served) → command ≡ commands.Serve serve → result.1 ≡ link }
     ensures refusal_leaves_link { IfErr result.0 (λ refusal. refusal ≢ Load OutOfMemory → result.1 ≡ link) }
+    ensures link { LeavesLink command (L.seen link) (L.seen result.1) }
 {
     match command {
         Command::Check(check) => match check_block(alloc, folder, check) {
@@ -144,6 +149,7 @@ fn ask_block<F: Folder, L: Link>(
     ensures refused { IfErr result.0 (IsRefusedFor (ask_scope ask) ask.update (F.seen folder.old) (F.seen folder.new)) }
     ensures kept { Keeps (F.seen folder.old) (F.seen folder.new) }
     ensures refusal_leaves_link { IfErr result.0 (λ refusal. refusal ≢ Load OutOfMemory → result.1 ≡ link) }
+    ensures left { IsLeftByPasses (L.seen link) (L.seen result.1) }
 {
     let Ask {
         feed,
@@ -211,6 +217,7 @@ fn replay_block<F: Folder, L: Link>(
     ensures refused { IfErr result.0 (IsReplayRefused (replay_scope replay) replay.script (F.seen folder.old) (F.seen folder.new)) }
     ensures kept { Keeps (F.seen folder.old) (F.seen folder.new) }
     ensures refusal_leaves_link { IfErr result.0 (λ refusal. refusal ≢ Load OutOfMemory → result.1 ≡ link) }
+    ensures left { IsLeftByPasses (L.seen link) (L.seen result.1) }
 {
     let Replay {
         feed,
@@ -311,6 +318,7 @@ fn plan_block<F: Folder, L: Link>(
     ensures refused { IfErr result.0 (IsScriptRefused false plan.asks (F.seen folder.old) (F.seen folder.new)) }
     ensures kept { Keeps (F.seen folder.old) (F.seen folder.new) }
     ensures refusal_leaves_link { IfErr result.0 (λ refusal. refusal ≢ Load OutOfMemory → result.1 ≡ link) }
+    ensures left { IsLeftByGets (L.seen link) (L.seen result.1) }
 {
     let Plan {
         base,

@@ -7,7 +7,9 @@ ghost use Rattle.cli_words.specs.declared.command.Command.TheVariants as command
 ghost use Rattle.cli_words.specs.declared.command.Serve.{Serve as Served};
 ghost use Rattle.cli_serve.specs.Serve.{DoorNeverFell};
 ghost use Rattle.gtfs_tables.specs.Reading.{Keeps};
+ghost use Rattle.lc_world.specs.GoneOn.{HasGoneOn};
 ghost use Rattle.lc_cli.specs.Clear.{IsAnswered, IsClear};
+ghost use Rattle.lc_cli.specs.Command.{LeavesLink};
 ghost use Rattle.lc_cli.specs.Top.{IsEarlyRefusal, IsRight};
 ghost use Rattle.cli_serve.specs.Written.{SinkNeverFell};
 
@@ -78,6 +80,11 @@ pub fn run<F: Folder, L: Link, D: Door, S: Sink>(
     ensures sink { SinkNeverFell (S.seen out.old) (S.seen out.new) }
     ensures door { ((serve : Served) → SaysCommand (texts_of words.now) (commands.Serve serve) → ⊥) → door.new ≡ door.old }
     ensures door_counts { DoorNeverFell (D.seen door.old) (D.seen door.new) }
+
+    // However it ended, the count of the link has not fallen, and nothing is lost of what it recorded. `ask` and `replay` hand answers on
+    // over it, and its side stays. `plan` leaves an honest link honest.
+    ensures link { HasGoneOn (L.seen link) (L.seen result.1) }
+    ensures command_leaves_link { (command : Command) → SaysCommand (texts_of words.now) command → LeavesLink command (L.seen link) (L.seen result.1) }
 
     // `check` and `serve` ask nothing of the link, and nor does what is refused before its client asks.
     ensures check_leaves_link { (check : Check) → SaysCommand (texts_of words.now) (commands.Check check) → result.1 ≡ link }

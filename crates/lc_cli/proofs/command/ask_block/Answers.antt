@@ -3,6 +3,7 @@ use Rattle.cli_inputs.specs.Inputs.{IsRefusedFor}
 use Rattle.cli_inputs.proofs.InputsLemmas.{message_refused, runs_out}
 use Rattle.lc_cli.proofs.CommandLemmas.{ask_block_of}
 use Rattle.lc_cli.proofs.WindowLemmas.{window_said}
+use Rattle.lc_world.proofs.GoneOnLemmas.{no_passes}
 use Rattle.lc_cli.proofs.command.ask_block.Goals as goal
 
 pub read_inputs-requires : goal.read_inputs-requires
@@ -23,3 +24,6 @@ pub returns-in-Ok-clause-refused : goal.returns-in-Ok-clause-refused
 returns-in-Ok-clause-refused g c =
     message_refused _ c.args.ask.update (g.F.Folder.seen c.args.folder.now) (g.F.Folder.seen c.read_inputs.new.folder) c.in-Ok.field-0.made c.in-Ok.field-0.file c.message_refusal.result
     c.in-Ok.ensures.read c.message_refusal.ensures.refusal
+
+pub returns-clause-left : goal.returns-clause-left
+returns-clause-left g c = no_passes (g.L.Link.seen c.args.link)

@@ -1,5 +1,5 @@
 use Rattle.cli_words.specs.declared.command.Command.TheVariants as commands
-use Rattle.lc_cli.proofs.CommandLemmas.{refused_printed, results_printed}
+use Rattle.lc_cli.proofs.CommandLemmas.{leaves_alone, refused_printed, results_printed}
 use Rattle.lc_cli.proofs.command.result_of.Goals as goal
 
 pub returns-in-Ask-clause-work : goal.returns-in-Ask-clause-work
@@ -31,3 +31,24 @@ pub returns-in-Plan-clause-refused : goal.returns-in-Plan-clause-refused
 returns-in-Plan-clause-refused g c =
     rw c.in-Plan.is
     (refused_printed _ _ (commands.Plan c.in-Plan.plan) c.plan_block-block.result.0 c.printed-in-Plan.result c.plan_block-block.ensures.refused c.printed-in-Plan.ensures.work c.printed-in-Plan.ensures.refused)
+
+pub returns-in-Ask-clause-link : goal.returns-in-Ask-clause-link
+returns-in-Ask-clause-link g c = rw c.in-Ask.is c.ask_block-block.ensures.left
+
+pub returns-in-Replay-clause-link : goal.returns-in-Replay-clause-link
+returns-in-Replay-clause-link g c = rw c.in-Replay.is c.replay_block-block.ensures.left
+
+pub returns-in-Plan-clause-link : goal.returns-in-Plan-clause-link
+returns-in-Plan-clause-link g c = rw c.in-Plan.is c.plan_block-block.ensures.left
+
+pub returns-in-Ok-clause-link : goal.returns-in-Ok-clause-link
+returns-in-Ok-clause-link g c = leaves_alone c.args.command (g.L.Link.seen c.args.link)
+
+pub returns-in-Err-clause-link : goal.returns-in-Err-clause-link
+returns-in-Err-clause-link g c = leaves_alone c.args.command (g.L.Link.seen c.args.link)
+
+pub returns-in-Ok-server-clause-link : goal.returns-in-Ok-server-clause-link
+returns-in-Ok-server-clause-link g c = leaves_alone c.args.command (g.L.Link.seen c.args.link)
+
+pub returns-in-Err-server-clause-link : goal.returns-in-Err-server-clause-link
+returns-in-Err-server-clause-link g c = leaves_alone c.args.command (g.L.Link.seen c.args.link)
