@@ -31,6 +31,7 @@ pub fn page_text(alloc: Global, base: &Base, page: &Page) -> Result<Vec<u8>, NoM
     ensures text { IfOk result (λ text. text.items ≡ page_text_of base.now page.now) }
     ensures utf8 { IfOk result (λ text. IsUtf8 text.items) }
     ensures read { IfOk result (λ text. page_of_bytes base.now text.items (Ok page.now)) }
+    ensures sound { OnOk result (IsSoundPage page.now) }
 {
     page_text_in(alloc, base, page, text_room(base, page))
 }
@@ -46,6 +47,7 @@ pub fn page_text_in(
     ensures text { IfOk result (λ text. text.items ≡ page_text_of base.now page.now) }
     ensures utf8 { IfOk result (λ text. IsUtf8 text.items) }
     ensures read { IfOk result (λ text. page_of_bytes base.now text.items (Ok page.now)) }
+    ensures sound { OnOk result (IsSoundPage page.now) }
 {
     let mut out = Writer::new(Vec::with_capacity(alloc, room)?);
     let mut text = String::new(alloc);

@@ -27,6 +27,7 @@ pub fn stops_text(alloc: Global, base: &Base, doc: &StopsDoc) -> Result<Vec<u8>,
     ensures text { IfOk result (λ text. text.items ≡ stops_text_of base.now doc.now) }
     ensures utf8 { IfOk result (λ text. IsUtf8 text.items) }
     ensures read { IfOk result (λ text. doc_of_bytes text.items (Ok doc.now)) }
+    ensures sound { OnOk result (IsSoundDoc doc.now) }
 {
     let mut out = Writer::new(Vec::with_capacity(alloc, text_room(doc))?);
     write_doc(&mut out, alloc, base, doc)?;

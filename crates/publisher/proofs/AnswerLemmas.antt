@@ -4,6 +4,7 @@ use Rattle.std.specs.Prelude.{IfOk, OnOk}
 use Rattle.http_text.specs.Request.{IsWholeRequest}
 use Rattle.http_text.specs.declared.request.Request.{Request}
 use Rattle.publisher.specs.Updated.{IsUpdated}
+use Rattle.publisher.specs.Writable.{IsSoundResponse}
 use Rattle.publisher_spec.specs.Reply.{IsBehind, IsNextSide, IsReply, text_said}
 use Rattle.publisher_spec.specs.Response.{IsResponseTo, asked_at}
 use Rattle.publisher_spec.specs.Side.{Side}
@@ -46,18 +47,19 @@ module _ (side : Side) (bytes : List ℕ) (request : Request) (whole : IsWholeRe
 
   -- the reply to any other request
   pub plain_reply_if : {E : Type 0} (asked : Asked) (response : Response) (reply : Result (Vec ℕ Global) E) → asked ≡ asked_at side request
-      → ((body : List ℕ) → IsResponseTo side request body asked response)
+      → ((body : List ℕ) → IsSoundResponse response → IsResponseTo side request body asked response)
+      → OnOk reply (IsSoundResponse response)
       → IfOk reply (λ text. text.items ≡ text_said side request response) → IfOk reply (λ text. IsReply side bytes text.items)
-  plain_reply_if asked response (Ok text) is said text_is = (
+  plain_reply_if asked response (Ok text) is said sound text_is = (
     response,
     record {
       request = request;
       whole = whole;
-      said = subst (λ (a : Asked). IsResponseTo side request (drop request.body_from bytes) a response) is (said (drop request.body_from bytes));
+      said = subst (λ (a : Asked). IsResponseTo side request (drop request.body_from bytes) a response) is (said (drop request.body_from bytes) sound);
       text_is = text_is;
     },
   )
-  plain_reply_if asked response (Err e) is said text_is = tt
+  plain_reply_if asked response (Err e) is said sound text_is = tt
 
   stays : (body : List ℕ) (asked : Asked) → (asked ≡ kinds.Update → ⊥) → IsBehind side request body asked side
   stays body kinds.Gate not = refl

@@ -1,5 +1,6 @@
--- Which responses can be written as replies.
+-- Which responses can be written as replies, and what is known of those that were.
 use Rattle.http_text.specs.ReplyText.{HasReason}
+use Rattle.page_json.specs.Sound.{IsSoundPage}
 use Rattle.page_json.specs.Valid.{IsValidPage}
 use Rattle.publisher_spec.specs.declared.response.Response.{Response}
 use Rattle.publisher_spec.specs.declared.response.Response.TheVariants as responses
@@ -11,3 +12,11 @@ IsWritable (responses.OtherMethod allow) = Unit {0}
 IsWritable (responses.Found page departs) = Unit {0}
 IsWritable (responses.Page page) = IsValidPage page
 IsWritable responses.Stops = Unit {0}
+
+-- a page is as its type has it, which is known once its text is written
+abbrev pub IsSoundResponse : Response → Type 0
+IsSoundResponse (responses.Status status) = Unit {0}
+IsSoundResponse (responses.OtherMethod allow) = Unit {0}
+IsSoundResponse (responses.Found page departs) = Unit {0}
+IsSoundResponse (responses.Page page) = IsSoundPage page
+IsSoundResponse responses.Stops = Unit {0}

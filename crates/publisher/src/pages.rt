@@ -1,7 +1,6 @@
 ghost use Rattle.std.specs.Prelude.{◌≡◌, IfOk, IfSome, option_map};
 ghost use Rattle.publisher_spec.specs.PageAt.{named as named_there};
 ghost use Rattle.std.specs.List.{Contains};
-ghost use Rattle.page_json.specs.Sound.{IsSoundPage};
 ghost use Rattle.page_json.specs.Valid.{IsValidPage};
 ghost use Rattle.publisher.specs.Cuts.{HasCuts};
 ghost use Rattle.publisher.specs.Held.{side_of};

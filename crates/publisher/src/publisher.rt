@@ -1,11 +1,12 @@
-ghost use Rattle.std.specs.Prelude.{◌≡◌, [], IfOk};
+ghost use Rattle.std.specs.Prelude.{◌≡◌, [], IfOk, OnOk};
+ghost use Rattle.page_json.specs.Sound.{IsSoundDoc};
 ghost use Rattle.page_json.specs.Tree.{stops_text_of};
 ghost use Rattle.publisher.specs.Held.{side_of};
 ghost use Rattle.publisher_spec.specs.Side.{IsValidSide, newest_of};
 
 use crate::Options;
 use crate::cut_cache::CutCache;
-use crate::kept::{doc_is_sound, doc_is_valid, runs_are_in_order};
+use crate::kept::{doc_is_valid, runs_are_in_order};
 use connection_uri::Base;
 use fragmenter::Fragmenter;
 use lc_model::{Moment, NoMemory, PlainData, Runs, StopsDoc};
@@ -65,6 +66,7 @@ struct Made {
 fn made_of(alloc: Global, base: &Base, doc: &StopsDoc) -> Result<Made, NoMemory>
     ensures cuts { IfOk result (λ made. made.cuts ≡ []) }
     ensures text { IfOk result (λ made. made.stops_text.items ≡ stops_text_of base.now doc.now) }
+    ensures sound { OnOk result (IsSoundDoc doc.now) }
 {
     let stops_text = stops_text(alloc, base, doc)?;
     let cuts = CutCache::new(alloc)?;
@@ -107,6 +109,7 @@ impl<G: Fragmenter + Drop> Publisher<G> {
     ) -> Result<Publisher<G>, NoMemory>
         requires cuts { made.cuts ≡ [] }
         requires text { made.stops_text.items ≡ stops_text_of options.base doc }
+        requires sound { IsSoundDoc doc }
         ensures { IfOk result (λ publisher. publisher ≡ record {
           cutting = cutting;
           store = record { runs = runs; stops = doc.stops; zone = zone; base = base_moment; history = [] };
@@ -116,7 +119,6 @@ impl<G: Fragmenter + Drop> Publisher<G> {
         }) }
     {
         runs_are_in_order(&runs);
-        doc_is_sound(&doc);
         let store = store_of(alloc, runs, &doc, zone, base_moment)?;
         let Made { cuts, stops_text } = made;
         Ok(Publisher {

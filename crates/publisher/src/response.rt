@@ -1,11 +1,12 @@
-ghost use Rattle.std.specs.Prelude.{◌≡◌, IfOk};
+ghost use Rattle.std.specs.Prelude.{◌≡◌, IfOk, OnOk};
 ghost use Rattle.connection_uri.specs.Base.{BaseParts};
 ghost use Rattle.http_text.specs.ReplyText.{reply_text_of};
 ghost use Rattle.lc_model.specs.declared.doc.StopsDoc.{StopsDoc as Doc};
 ghost use Rattle.page_json.specs.Tree.{stops_text_of};
 ghost use Rattle.publisher.specs.Held.{side_of};
+ghost use Rattle.page_json.specs.Sound.{IsSoundPage};
 ghost use Rattle.page_json.specs.Valid.{IsValidPage};
-ghost use Rattle.publisher.specs.Writable.{IsWritable};
+ghost use Rattle.publisher.specs.Writable.{IsSoundResponse, IsWritable};
 ghost use Rattle.publisher_spec.specs.Reply.{bare_parts, found_parts, method_parts, page_parts, parts_of, sent_parts, stops_parts, text_said};
 
 use crate::Publisher;
@@ -64,7 +65,8 @@ fn found_parts(
 /// Linear in the page.
 fn page_parts(alloc: Global, base: &Base, close: bool, page: &Page) -> Result<ReplyParts, NoMemory>
     requires { IsValidPage page.now }
-    ensures { IfOk result (λ parts. parts ≡ page_parts base.now close page.now) }
+    ensures parts { IfOk result (λ parts. parts ≡ page_parts base.now close page.now) }
+    ensures sound { OnOk result (IsSoundPage page.now) }
 {
     let original = gate_url(alloc, base, page.name.departs)?;
     let body = page_text(alloc, base, page)?;
@@ -102,7 +104,8 @@ fn sent_parts(alloc: Global, head: bool, mut parts: ReplyParts) -> ReplyParts
 impl<G: Fragmenter + Drop> Publisher<G> {
     fn parts(&self, alloc: Global, close: bool, response: &Response) -> Result<ReplyParts, NoMemory>
         requires { IsWritable response.now }
-        ensures { IfOk result (λ parts. parts ≡ parts_of self.now.base self.now.doc close response.now) }
+        ensures parts { IfOk result (λ parts. parts ≡ parts_of self.now.base self.now.doc close response.now) }
+        ensures sound { OnOk result (IsSoundResponse response.now) }
     {
         let base = &self.options.base;
         match response {
@@ -122,8 +125,9 @@ impl<G: Fragmenter + Drop> Publisher<G> {
         response: &Response,
     ) -> Result<Vec<u8>, NoMemory>
         requires { IsWritable response.now }
-        ensures { IfOk result
+        ensures text { IfOk result
             (λ text. text.items ≡ text_said (side_of G.cuts_of self.now) request.now response.now) }
+        ensures sound { OnOk result (IsSoundResponse response.now) }
     {
         let parts = self.parts(alloc, request.close, response)?;
         let sent = sent_parts(alloc, is_head(request.method.as_slice()), parts);

@@ -1,7 +1,7 @@
 ghost use Rattle.std.specs.Prelude.{◌≡◌, ◌++◌, ◌≤◌, ℕ, List, IfOk, IfSome, IsSomeAnd, OnErr, OnOk, drop, length, true};
 ghost use Rattle.http_text.specs.Request.{IsWhole, IsWholeRequest};
 ghost use Rattle.publisher.specs.Held.{side_of};
-ghost use Rattle.publisher.specs.Writable.{IsWritable};
+ghost use Rattle.publisher.specs.Writable.{IsSoundResponse, IsWritable};
 ghost use Rattle.publisher_spec.specs.Asked.{asked_by_posting, asked_by_reading, asked_of, is_head, is_reading, is_under};
 ghost use Rattle.publisher_spec.specs.Reply.{IsNextSide, IsReply};
 ghost use Rattle.publisher_spec.specs.Response.{IsGateResponse, IsMovedTo, IsNegotiated, IsPageResponse, IsResponseTo, IsSentOf, IsStopsSent, asked_at};
@@ -10,7 +10,6 @@ ghost use Rattle.publisher_spec.specs.declared.asked.Asked.{Asked as AskedFor};
 ghost use Rattle.publisher_spec.specs.declared.asked.Asked.TheVariants.{Gate as TheGate, Page as ThePage, Update as AnUpdate};
 
 use crate::Publisher;
-use crate::kept::page_is_sound;
 use crate::parameters::{departure, field_value, is_same, version_said};
 use connection_uri::Base;
 use fragmenter::Fragmenter;
@@ -153,7 +152,8 @@ impl<G: Fragmenter + Drop> Publisher<G> {
         asked: Asked,
     ) -> Result<Response, NoMemory>
         requires { asked ≡ AnUpdate → ⊥ }
-        ensures said { (body : List ℕ) → IfOk result (IsResponseTo (side_of G.cuts_of self.old) request.now body asked) }
+        ensures said { (body : List ℕ) → IfOk result
+            (λ response. IsSoundResponse response → IsResponseTo (side_of G.cuts_of self.old) request.now body asked response) }
         ensures writable { IfOk result IsWritable }
         ensures same { self.new ≡ self.old }
     {
@@ -237,7 +237,8 @@ impl<G: Fragmenter + Drop> Publisher<G> {
     }
 
     fn at_page(&mut self, alloc: Global, request: &Request) -> Result<Response, NoMemory>
-        ensures said { (body : List ℕ) → IfOk result (IsResponseTo (side_of G.cuts_of self.old) request.now body ThePage) }
+        ensures said { (body : List ℕ) → IfOk result
+            (λ response. IsSoundResponse response → IsResponseTo (side_of G.cuts_of self.old) request.now body ThePage response) }
         ensures writable { IfOk result IsWritable }
         ensures same { self.new ≡ self.old }
     {
@@ -252,7 +253,7 @@ impl<G: Fragmenter + Drop> Publisher<G> {
         version: Option<Moment>,
         departs: Option<Moment>,
     ) -> Result<Response, NoMemory>
-        ensures said { IfOk result (IsPageResponse (side_of G.cuts_of self.old) version departs) }
+        ensures said { IfOk result (λ response. IsSoundResponse response → IsPageResponse (side_of G.cuts_of self.old) version departs response) }
         ensures writable { IfOk result IsWritable }
         ensures same { self.new ≡ self.old }
     {
@@ -268,8 +269,8 @@ impl<G: Fragmenter + Drop> Publisher<G> {
         version: Moment,
         departs: Moment,
     ) -> Result<Response, NoMemory>
-        ensures said { IfOk result
-            (IsSentOf (side_of G.cuts_of self.old) (has_version (side_of G.cuts_of self.old) version) version departs) }
+        ensures said { IfOk result (λ response. IsSoundResponse response
+            → IsSentOf (side_of G.cuts_of self.old) (has_version (side_of G.cuts_of self.old) version) version departs response) }
         ensures writable { IfOk result IsWritable }
         ensures same { self.new ≡ self.old }
     {
@@ -277,7 +278,6 @@ impl<G: Fragmenter + Drop> Publisher<G> {
             return Ok(Response::Status(404));
         }
         let page = self.page(alloc, version, departs)?;
-        page_is_sound(&page);
         Ok(Response::Page(page))
     }
 }

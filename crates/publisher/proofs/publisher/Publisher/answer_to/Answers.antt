@@ -30,9 +30,9 @@ returns-in_ok-response-in_default g c =
     let request = c.args.request.now in
     let response = c.in_ok-response-in_default.response in
     let same = c.in_ok-response-in_default.ensures.same in
-    let said = subst (λ held. IfOk c.reply.result (λ text. text.items ≡ text_said (side_of cuts_of held) request response)) same c.reply.ensures in
+    let said = subst (λ held. IfOk c.reply.result (λ text. text.items ≡ text_said (side_of cuts_of held) request response)) same c.reply.ensures.text in
     record {
-      reply = plain_reply_if side c.args.bytes.now request c.requires asked response c.reply.result is c.in_ok-response-in_default.ensures.said said;
+      reply = plain_reply_if side c.args.bytes.now request c.requires asked response c.reply.result is c.in_ok-response-in_default.ensures.said c.reply.ensures.sound said;
       next =
           subst (λ held. OnOk c.reply.result (IsNextSide side c.args.bytes.now (side_of cuts_of held))) (sym same)
           (plain_next_if side c.args.bytes.now request c.requires asked c.reply.result is c.in_default.not-Update);

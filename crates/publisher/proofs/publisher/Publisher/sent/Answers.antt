@@ -15,4 +15,4 @@ returns-then-not-has-clause-said g c =
     not_there (versions_of side) c.args.version (λ contains.
     let found : IsTrue c.has.result = c.has.ensures.1 (subst (λ held. Contains (versions_of (side_of g.G.Fragmenter.cuts_of held)) c.args.version) (sym c.self.view_is) contains) in
     absurd (let clash : true ≡ false = sym found ∙ c.if-not-has.true in cc)) in
-    subst (λ (there : Bool). IsSentOf side there c.args.version c.args.departs (Status 404)) (sym none) refl
+    λ _. subst (λ (there : Bool). IsSentOf side there c.args.version c.args.departs (Status 404)) (sym none) refl

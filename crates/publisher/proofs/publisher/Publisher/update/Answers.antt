@@ -10,7 +10,7 @@ pub returns-then-not-says_length-clause-updated : goal.returns-then-not-says_len
 returns-then-not-says_length-clause-updated g c =
     let side = side_of g.G.Fragmenter.cuts_of c.args.self.now in
     updated_if side side c.args.request.now c.args.body.now 411 c.reply.result
-    (without_length side c.args.request.now c.args.body.now (sym c.says_length.ensures ∙ c.if-not-says_length.true)) c.reply.ensures
+    (without_length side c.args.request.now c.args.body.now (sym c.says_length.ensures ∙ c.if-not-says_length.true)) c.reply.ensures.text
 
 pub returns-in-Ok-clause-updated : goal.returns-in-Ok-clause-updated
 returns-in-Ok-clause-updated g c =
@@ -24,7 +24,7 @@ returns-in-Ok-clause-updated g c =
       becomes =
           subst (Becomes (side_of cuts_of old) c.args.request.now c.args.body.now 204) (sym next)
           (taken cuts_of old c.args.request.now c.args.body.now admits.update (sym c.says_length.ensures ∙ c.if-not-says_length.false) admits.taken);
-      text_is = c.in_ok-admitted.ensures;
+      text_is = c.in_ok-admitted.ensures.text;
     }
 
 pub returns-in-Err-clause-updated : goal.returns-in-Err-clause-updated

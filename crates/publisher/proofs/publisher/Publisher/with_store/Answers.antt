@@ -18,5 +18,5 @@ invariant_of-result g c =
       cuts = keeps_none _ c.args.made.cuts c.requires.cuts;
       few = let none : length c.args.made.cuts ≡ 0 = ap length c.requires.cuts in omega arith;
       text = c.requires.text;
-      sound = c.doc_is_sound.ensures;
+      sound = c.requires.sound;
     }
