@@ -1,4 +1,6 @@
-ghost use Rattle.std.specs.Prelude.{◌≡◌, [], IfOk, OnOk};
+ghost use Rattle.std.specs.Prelude.{◌≡◌, [], All, IfOk, OnOk};
+ghost use Rattle.lc_model.specs.Call.{InSequence};
+ghost use Rattle.lc_model.specs.declared.run.Run.{Run as RunSaid};
 ghost use Rattle.page_json.specs.Sound.{IsSoundDoc};
 ghost use Rattle.page_json.specs.Tree.{stops_text_of};
 ghost use Rattle.publisher.specs.Held.{side_of};
@@ -48,7 +50,8 @@ fn store_of(
     zone: Zone,
     base_moment: Moment,
 ) -> Result<Store, NoMemory>
-    ensures { IfOk result (λ store. store ≡ record { runs = runs; stops = doc.now.stops; zone = zone; base = base_moment; history = [] }) }
+    ensures store { IfOk result (λ store. store ≡ record { runs = runs; stops = doc.now.stops; zone = zone; base = base_moment; history = [] }) }
+    ensures calls { OnOk result (All (λ (run : RunSaid). InSequence run.calls) runs) }
 {
     let stops = doc.stops.copy(alloc)?;
     let store = Store::new(alloc, runs, stops, zone, base_moment)?;

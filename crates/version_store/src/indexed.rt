@@ -1,6 +1,7 @@
 ghost use Rattle.std.specs.Prelude.{◌≡◌, ◌<◌, [], All, IfOk, List, OnErr, OnOk, Some, map};
 ghost use Rattle.std.specs.List.{slice_get};
 ghost use Rattle.laws_index.specs.Kept.{news_in};
+ghost use Rattle.lc_model.specs.Call.{InSequence};
 ghost use Rattle.lc_model.specs.Run.{InKeyOrder};
 ghost use Rattle.lc_model.specs.Text.{IsIdText};
 ghost use Rattle.lc_model.specs.declared.run.Run.{Run as StatedRun};
@@ -30,6 +31,8 @@ use std::alloc::Global;
 pub(crate) fn base_index(alloc: Global, runs: &Runs, stops: &Stops) -> Result<Index, NoMemory>
     ensures newest { IfOk result (λ index. index.newest ≡ 0) }
     ensures runs { IfOk result (λ index. AreLiveRuns runs.now stops.now [] (runs_at index 0)) }
+    ensures trips { OnOk result (All (λ (r : StatedRun). IsIdText r.key.trip) runs.now) }
+    ensures calls { OnOk result (All (λ (r : StatedRun). InSequence r.calls) runs.now) }
 {
     let news = Vec::new(alloc);
     let live = live_list(alloc, runs, stops, news.as_slice())?;

@@ -2,7 +2,7 @@ ghost use Rattle.std.specs.Prelude.{◌≡◌, ◌↔◌, [], All, IfOk, OnOk, S
 ghost use Rattle.std.specs.List.{Contains};
 ghost use Rattle.std.specs.Ordering.{is_eq};
 ghost use Rattle.std.specs.BTreeMap.{get};
-ghost use Rattle.lc_model.specs.Call.{GoesForward};
+ghost use Rattle.lc_model.specs.Call.{GoesForward, InSequence};
 ghost use Rattle.lc_model.specs.RunKey.{key_cmp};
 ghost use Rattle.lc_model.specs.Run.{InKeyOrder};
 ghost use Rattle.lc_model.specs.Text.{IsIdText};
@@ -107,20 +107,13 @@ fn further_runs(
     Ok(further)
 }
 
-/// The trip of a run is an id, as its type says. The call does nothing.
-fn trip_is_id(run: &Run)
-    ensures { IsIdText run.now.key.trip }
+/// The trip of a run is an id, and its calls are in sequence, as their types say. The call does nothing.
+fn run_is_sound(run: &Run)
+    ensures trip { IsIdText run.now.key.trip }
+    ensures calls { InSequence run.now.calls }
 {
     let _trip = run.key.trip.bytes();
-}
-
-/// The trips of runs are ids, as their type says. The call does nothing but walk over them.
-pub(crate) fn trips_are_ids(runs: &[Run])
-    ensures { All (λ (r : StatedRun). IsIdText r.key.trip) runs.now }
-{
-    'runs: for run in runs {
-        trip_is_id(run);
-    }
+    let _calls = run.calls.as_slice();
 }
 
 /// Puts the live calls of a run of the timetable.
@@ -149,11 +142,13 @@ fn all_runs(
     requires { InKeyOrder runs.now }
     ensures exactly { IfOk result (λ live. HasExactly live (IsOfEither runs.now stops.now (map news_said news.now))) }
     ensures forward { IfOk result GoForward }
+    ensures trips { OnOk result (All (λ (r : StatedRun). IsIdText r.key.trip) runs.now) }
+    ensures calls { OnOk result (All (λ (r : StatedRun). InSequence r.calls) runs.now) }
 {
     let named = named_news(alloc, news)?;
     let mut live = further_runs(alloc, stops, news)?;
     'runs: for run in runs {
-        trip_is_id(run);
+        run_is_sound(run);
         put_live(alloc, &mut live, run, &named)?;
     }
     Ok(live)
@@ -181,6 +176,8 @@ pub(crate) fn live_list(
 ) -> Result<Vec<Run>, NoMemory>
     ensures live { IfOk result (λ list. AreLiveRuns runs.now stops.now (map news_said news.now) list.items) }
     ensures forward { IfOk result (λ list. All (λ (r : StatedRun). GoesForward r.calls) list.items) }
+    ensures trips { OnOk result (All (λ (r : StatedRun). IsIdText r.key.trip) runs.now) }
+    ensures calls { OnOk result (All (λ (r : StatedRun). InSequence r.calls) runs.now) }
 {
     let live = all_runs(alloc, runs.as_slice(), stops, news)?;
     let list = runs_in(alloc, live)?;

@@ -1,11 +1,12 @@
-ghost use Rattle.std.specs.Prelude.{◌≡◌, ◌↔◌, [], IfOk, IsTrue, if◌then◌else◌};
+ghost use Rattle.std.specs.Prelude.{◌≡◌, ◌↔◌, [], All, IfOk, IsTrue, OnOk, if◌then◌else◌};
 ghost use Rattle.std.specs.List.{Contains};
+ghost use Rattle.lc_model.specs.Call.{InSequence};
+ghost use Rattle.lc_model.specs.declared.run.Run.{Run as StatedRun};
 ghost use Rattle.lc_versions.specs.History.{IsRising, moments_of};
 ghost use Rattle.lc_versions.specs.Named.{is_by, version_named};
 ghost use Rattle.version_store.specs.Store.{newest_of, versions_of};
 
 use crate::indexed::base_index;
-use crate::live_runs::trips_are_ids;
 use crate::spots::Spot;
 use lc_model::{Moment, NoMemory, Runs, Stops};
 use lc_time::Zone;
@@ -59,9 +60,9 @@ impl Store {
         zone: Zone,
         base: Moment,
     ) -> Result<Store, NoMemory>
-        ensures { IfOk result (λ store. store ≡ record { runs = runs; stops = stops; zone = zone; base = base; history = [] }) }
+        ensures store { IfOk result (λ store. store ≡ record { runs = runs; stops = stops; zone = zone; base = base; history = [] }) }
+        ensures calls { OnOk result (All (λ (run : StatedRun). InSequence run.calls) runs) }
     {
-        trips_are_ids(runs.as_slice());
         let index = base_index(alloc, &runs, &stops)?;
         let versions = vec![in alloc; base]?;
         Ok(Store {

@@ -1,4 +1,6 @@
-use Rattle.std.proofs.Common.{List, map, subst}
+use Rattle.std.proofs.Common.{All, List, map, subst}
+use Rattle.lc_model.specs.Call.{InSequence}
+use Rattle.lc_model.specs.Text.{IsIdText}
 use Rattle.lc_model.specs.declared.run.Run.{Run}
 use Rattle.version_store.specs.Further.{HasExactly, IsOfEither}
 use Rattle.version_store.specs.Kept.{news_said}
@@ -15,3 +17,9 @@ returns-clause-live c =
 
 pub returns-clause-forward : goal.returns-clause-forward
 returns-clause-forward c = runs_forward c.in_ok-live.live c.in_ok-list.list.items c.in_ok-live.ensures.forward c.in_ok-list.ensures.exactly
+
+pub returns-clause-trips : goal.returns-clause-trips
+returns-clause-trips c = subst (All (λ (r : Run). IsIdText r.key.trip)) c.as_slice.ensures.value c.in_ok-live.ensures.trips
+
+pub returns-clause-calls : goal.returns-clause-calls
+returns-clause-calls c = subst (All (λ (r : Run). InSequence r.calls)) c.as_slice.ensures.value c.in_ok-live.ensures.calls

@@ -1,6 +1,4 @@
-use Rattle.std.proofs.Common.{All, List, ap, map, refl, rules, subst}
-use Rattle.lc_model.specs.Text.{IsIdText}
-use Rattle.lc_model.specs.declared.run.Run.{Run}
+use Rattle.std.proofs.Common.{List, ap, map, refl, rules}
 use Rattle.laws_index.specs.Kept.{entities_after}
 use Rattle.version_store.specs.Dates.{date_in}
 use Rattle.version_store.specs.Store.{entry_of}
@@ -11,7 +9,7 @@ use Rattle.version_store.proofs.store.Store.new.Goals as goal
 
 pub invariant_of-result : goal.invariant_of-result
 invariant_of-result c = record {
-  trips = subst (All (λ (r : Run). IsIdText r.key.trip)) c.as_slice.ensures.value c.trips_are_ids.ensures;
+  trips = c.in_ok-index.ensures.trips;
   versions = search rules;
   rising = search rules;
   bytes = search rules;
