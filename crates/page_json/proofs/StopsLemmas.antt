@@ -1,5 +1,5 @@
 -- A stops document that is written is read as that document.
-use Rattle.std.proofs.Common.{◌≡◌, ℕ, ◌<◌, ◌≤◌, List, [], ◌∷◌, Bool, true, get_or, Option, Some, None, Ok, codes, map, ◌^◌, refl, ap, ap₂, subst, ◌∙◌, arith, le-leb, lt-ltb}
+use Rattle.std.proofs.Common.{◌≡◌, ℕ, ◌<◌, ◌≤◌, List, [], ◌∷◌, ◌++◌, Bool, true, get_or, Option, Some, None, Ok, codes, map, ◌^◌, refl, ap, ap₂, subst, ◌∙◌, arith, le-leb, lt-ltb}
 use Rattle.std.proofs.Math.Logic.{∥∥₁_elim}
 use Rattle.std.proofs.Props.{props}
 use Rattle.std.proofs.lemmas.List.Folds.{Any-from_list_any, list_any-from_Any}
@@ -21,13 +21,14 @@ use Rattle.serde_json.specs.Data.{Data, depth, items_depth}
 use Rattle.serde_json.specs.Find.{get}
 use Rattle.serde_json.specs.Read.{read}
 use Rattle.serde_json.specs.View.{items_of}
+use Rattle.serde_json.specs.Written.{compact_text}
 use Rattle.lc_model.specs.Disorder.{first_disorder}
 use Rattle.json_members.specs.Disorder.{unless_disorder}
 use Rattle.json_members.specs.Members.{formed, needed}
 use Rattle.page_json.specs.Sound.{IsSoundChange, IsSoundDoc, IsSoundStop}
 use Rattle.json_members.specs.Values.{as_id, id_from, seconds_from}
 use Rattle.page_json.specs.StopsReading.{AreParents, change_in, changes_in, doc_in, doc_of_bytes, if_stop, is_change, is_doc, stop_at, stop_in, stops_in, with_parents}
-use Rattle.page_json.specs.Tree.{change_tree, stop_tree, stops_text_of, stops_tree}
+use Rattle.page_json.specs.Tree.{change_tree, doc_tree, stop_tree, stops_text_of}
 use Rattle.page_json.specs.Valid.{IsValidDoc}
 use Rattle.json_members.proofs.JsonLemmas.{AreWritable, IsWritable, read_compact}
 use Rattle.lc_model.specs.Totals.{change_cmp_total, stop_cmp_total}
@@ -149,27 +150,27 @@ stops_ordered stops h = ap (λ (place : Option ℕ). unless_disorder place stops
 changes_ordered : (changes : List Change) → InChangeOrder changes → unless_disorder (first_disorder change_cmp changes) changes ≡ Ok changes
 changes_ordered changes h = ap (λ (place : Option ℕ). unless_disorder place changes) (no_disorder change_cmp change_cmp_total changes h)
 
-reads_stops : (base : BaseParts) (d : StopsDoc) → IsValidDoc d → IsSoundDoc d → Reads (stops_in (stops_tree base d)) d.stops
+reads_stops : (url : List ℕ) (d : StopsDoc) → IsValidDoc d → IsSoundDoc d → Reads (stops_in (doc_tree url d)) d.stops
 unfolding stops_in
-reads_stops base d valid sound =
+reads_stops url d valid sound =
     reads_then _ (items_of (map stop_tree d.stops)) _ d.stops (reads_exactly _)
     (reads_then _ d.stops _ d.stops (reads_each stop_in stop_tree IsSoundStop reads_stop d.stops sound.stops)
     (reads_then _ d.stops _ d.stops (reads_parents d.stops valid.closed.parents)
     (reads_exactly_by _ d.stops (stops_ordered d.stops valid.stops))))
 
-reads_changes : (base : BaseParts) (d : StopsDoc) → IsValidDoc d → IsSoundDoc d → Reads (changes_in d.stops (stops_tree base d)) d.changes
+reads_changes : (url : List ℕ) (d : StopsDoc) → IsValidDoc d → IsSoundDoc d → Reads (changes_in d.stops (doc_tree url d)) d.changes
 unfolding changes_in
-reads_changes base d valid sound =
+reads_changes url d valid sound =
     reads_then _ (items_of (map change_tree d.changes)) _ d.changes (reads_exactly _)
     (reads_then _ d.changes _ d.changes (reads_each (change_in d.stops) change_tree (IsGoodChange d.stops) (reads_change d.stops) d.changes (good_changes d.stops d.changes sound.changes valid.closed))
     (reads_exactly_by _ d.changes (changes_ordered d.changes valid.changes)))
 
-reads_doc : (base : BaseParts) (d : StopsDoc) → IsValidDoc d → IsSoundDoc d → Reads (doc_in (stops_tree base d)) d
+reads_doc : (url : List ℕ) (d : StopsDoc) → IsValidDoc d → IsSoundDoc d → Reads (doc_in (doc_tree url d)) d
 unfolding doc_in
-reads_doc base d valid sound =
+reads_doc url d valid sound =
     reads_then _ _ _ d (reads_exactly _)
-    (reads_then _ d.stops _ d (reads_stops base d valid sound)
-    (reads_then _ d.changes _ d (reads_changes base d valid sound) (reads_doc_of d)))
+    (reads_then _ d.stops _ d (reads_stops url d valid sound)
+    (reads_then _ d.changes _ d (reads_changes url d valid sound) (reads_doc_of d)))
 
 parent_writable : (id name : List ℕ) (parent : Option (List ℕ)) → IsWritable (stop_tree (stop_of id name parent))
 unfolding stop_tree stop_of
@@ -207,16 +208,21 @@ changes_depth : (changes : List Change) → items_depth (items_of (map change_tr
 changes_depth [] = omega arith
 changes_depth (c ∷ rest) = omega (arith, change_depth c, changes_depth rest)
 
-doc_writable : (base : BaseParts) (d : StopsDoc) → IsSoundDoc d → IsWritable (stops_tree base d)
-doc_writable base d sound = ((tt, (changes_writable d.changes sound.changes, (stops_writable d.stops, tt))), refl)
+doc_writable : (url : List ℕ) (d : StopsDoc) → IsSoundDoc d → IsWritable (doc_tree url d)
+doc_writable url d sound = ((tt, (changes_writable d.changes sound.changes, (stops_writable d.stops, tt))), refl)
 
-doc_depth : (base : BaseParts) (d : StopsDoc) → depth (stops_tree base d) ≤ 127
-doc_depth base d = omega (arith, changes_depth d.changes, stops_depth d.stops)
+doc_depth : (url : List ℕ) (d : StopsDoc) → depth (doc_tree url d) ≤ 127
+doc_depth url d = omega (arith, changes_depth d.changes, stops_depth d.stops)
+
+-- the text of a stops document of any URL is read as that document
+pub reads_doc_text : (url : List ℕ) (d : StopsDoc) (bytes : List ℕ) → IsValidDoc d → IsSoundDoc d → IsUtf8 bytes → bytes ≡ compact_text (doc_tree url d) → Reads (doc_of_bytes bytes) d
+unfolding doc_of_bytes
+reads_doc_text url d bytes valid sound utf8 e =
+    let tree = doc_tree url d in
+    reads_then _ tree _ d (reads_json bytes tree utf8 (ap read e ∙ read_compact tree (doc_writable url d sound) (doc_depth url d)))
+    (reads_doc url d valid sound)
 
 -- the text of a stops document is read as that document
 pub reads_stops_text : (base : BaseParts) (d : StopsDoc) (bytes : List ℕ) → IsValidDoc d → IsSoundDoc d → IsUtf8 bytes → bytes ≡ stops_text_of base d → Reads (doc_of_bytes bytes) d
-unfolding doc_of_bytes stops_text_of
-reads_stops_text base d bytes valid sound utf8 e =
-    let tree = stops_tree base d in
-    reads_then _ tree _ d (reads_json bytes tree utf8 (ap read e ∙ read_compact tree (doc_writable base d sound) (doc_depth base d)))
-    (reads_doc base d valid sound)
+unfolding stops_text_of
+reads_stops_text base d bytes valid sound utf8 e = reads_doc_text (base.text ++ codes "stops") d bytes valid sound utf8 e

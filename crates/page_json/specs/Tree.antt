@@ -126,13 +126,17 @@ unfoldable pub stop_tree : Stop → Data
 stop_tree stop =
     object (text_at (codes "id") stop.id (text_at (codes "name") stop.name (parent_at stop.parent)))
 
--- the stops document
-abbrev pub stops_tree : BaseParts → StopsDoc → Data
-stops_tree base doc =
+-- a stops document that has this URL
+abbrev pub doc_tree : List ℕ → StopsDoc → Data
+doc_tree url doc =
     object
-    (text_at (codes "@id") (base.text ++ codes "stops")
+    (text_at (codes "@id") url
     (member (codes "changes") (array (items_from change_tree doc.changes))
     (member (codes "stops") (array (items_from stop_tree doc.stops)) no_members)))
+
+-- the stops document under a base
+abbrev pub stops_tree : BaseParts → StopsDoc → Data
+stops_tree base doc = doc_tree (base.text ++ codes "stops") doc
 
 -- the text of the stops document
 unfoldable pub stops_text_of : BaseParts → StopsDoc → List ℕ

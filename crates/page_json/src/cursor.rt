@@ -1,6 +1,8 @@
-//! A text of JSON that is gone through from its front, as `page_text` writes it.
+//! A text of JSON that is gone through from its front, as `page_text` and `stops_text` write it.
 
-use memchr::{memchr, memmem};
+ghost use Rattle.std.specs.Prelude.{◌<◌, IfSome, length};
+
+use memchr::{memchr, memchr2, memmem};
 
 /// What is left of a text.
 #[derive(Drop)]
@@ -47,10 +49,44 @@ impl<'a> Cursor<'a> {
         self.before(b'"')
     }
 
+    /// The bytes between the quote that comes next and the one that ends its text, with their escapes. Moves past the latter.
+    pub(crate) fn quoted(&mut self) -> Option<&'a [u8]> {
+        self.skip(b"\"")?;
+        let (front, rest) = self.rest.split_at(end_of_text(self.rest)?);
+        self.rest = rest.get(1..)?;
+        Some(front)
+    }
+
     /// The whole number between these bytes, which come next, and the next comma. Moves past the comma.
     pub(crate) fn number_after(&mut self, front: &[u8]) -> Option<i64> {
         self.skip(front)?;
         let digits = std::str::from_utf8(self.before(b',')?).ok()?;
         digits.parse::<i64>().ok()
     }
+}
+
+/// Where a text ends: at the first quote that is not escaped. Linear in the text.
+fn end_of_text(bytes: &[u8]) -> Option<usize>
+    ensures { IfSome result (λ place. place < length bytes.now) }
+{
+    let mark = memchr2(b'"', b'\\', bytes)?;
+    if bytes[mark] == b'"' {
+        Some(mark)
+    } else {
+        end_behind_escapes(bytes)
+    }
+}
+
+fn end_behind_escapes(bytes: &[u8]) -> Option<usize>
+    ensures { IfSome result (λ place. place < length bytes.now) }
+{
+    let mut escaped = false;
+    for place in 0..bytes.len() {
+        let byte = bytes[place];
+        if byte == b'"' && !escaped {
+            return Some(place);
+        }
+        escaped = byte == b'\\' && !escaped;
+    }
+    None
 }

@@ -15,10 +15,12 @@ mod page_reading;
 mod page_writing;
 mod sound;
 mod stop_reading;
+mod stops_guess;
 mod stops_reading;
 mod stops_writing;
 mod urls;
 mod written_page;
+mod written_stops;
 
 pub use json_members::PageFault;
 pub use laws::{one_reading, readings_are_valid, some_reading};

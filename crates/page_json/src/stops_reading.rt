@@ -17,19 +17,31 @@ ghost use Rattle.json_members.specs.declared.fault.PageFault.TheVariants.{BadMem
 use crate::change_reading::each_change;
 use crate::known::have_parents;
 use crate::stop_reading::each_stop;
+use crate::written_stops::written_stops;
 use json_members::{PageFault, bad_member, json_in, needed_list, object_under};
 use lc_model::{Change, Changes, Stop, Stops, StopsDoc};
 use serde_json::Value;
 use std::alloc::Global;
 
 /// The stops document that a text of JSON says, or the first fault of the text: first of its stops, then of its changes.
-/// It takes the time of a sort of the stops, and of two binary searches for each change.
+/// Linear in the text, with two binary searches for each change and one for each parent; a text that others wrote takes a sort of
+/// the stops too. What `stops_text` wrote is read by a guess that is written again.
 pub fn read_stops(alloc: Global, bytes: &[u8]) -> Result<StopsDoc, PageFault>
     ensures said { Meets (doc_of_bytes bytes.now) result }
     ensures valid { IfOk result IsValidDoc }
 
     // Where the bytes say a document, as those of `stops_text` do, that document is read.
     ensures exact { (doc : Stated) → doc_of_bytes bytes.now (Ok doc) → Meets (gives doc) result }
+{
+    match written_stops(alloc, bytes)? {
+        Some(doc) => Ok(doc),
+        None => read_tree(alloc, bytes),
+    }
+}
+
+/// The stops document that a text of JSON says, whoever wrote it, or the first fault of the text.
+fn read_tree(alloc: Global, bytes: &[u8]) -> Result<StopsDoc, PageFault>
+    ensures { Meets (doc_of_bytes bytes.now) result }
 {
     let value = json_in(alloc, bytes)?;
     doc_in(alloc, &value)

@@ -1,11 +1,13 @@
 ghost use Rattle.std.specs.Prelude.{◌≡◌, ◌++◌, All, codes, IfOk, OnOk};
 ghost use Rattle.std.specs.Str.{IsUtf8};
-ghost use Rattle.serde_json.specs.Data.{array, no_members};
+ghost use Rattle.std.specs.String.{string_bytes};
+ghost use Rattle.serde_json.specs.Data.{array};
+ghost use Rattle.serde_json.specs.Written.{compact_text};
 ghost use Rattle.page_json.specs.Sound.{IsSoundChange, IsSoundDoc, IsSoundStop};
 ghost use Rattle.page_json.specs.StopsReading.{doc_of_bytes};
 ghost use Rattle.json_members.specs.Tokens.{Appends, member_tokens, tokens_of};
-ghost use Rattle.json_members.specs.MemberWriting.{items_from, text_at};
-ghost use Rattle.page_json.specs.Tree.{change_tree, parent_at, stop_tree, stops_text_of, stops_tree};
+ghost use Rattle.json_members.specs.MemberWriting.{items_from};
+ghost use Rattle.page_json.specs.Tree.{change_tree, doc_tree, parent_at, stop_tree, stops_text_of};
 ghost use Rattle.page_json.specs.Valid.{IsValidDoc};
 ghost use Rattle.page_json.specs.Writing.{closed_tokens, list_members};
 
@@ -29,8 +31,28 @@ pub fn stops_text(alloc: Global, base: &Base, doc: &StopsDoc) -> Result<Vec<u8>,
     ensures read { IfOk result (λ text. doc_of_bytes text.items (Ok doc.now)) }
     ensures sound { OnOk result (IsSoundDoc doc.now) }
 {
-    let mut out = Writer::new(Vec::with_capacity(alloc, text_room(doc))?);
-    write_doc(&mut out, alloc, base, doc)?;
+    let url = doc_url(alloc, base)?;
+    doc_text(alloc, url.as_str(), doc, text_room(doc))
+}
+
+/// The URL of the document.
+fn doc_url(alloc: Global, base: &Base) -> Result<String, NoMemory>
+    ensures { IfOk result (λ url. string_bytes url ≡ base.now.text ++ codes "stops") }
+{
+    let mut url = String::from_str(alloc, base.text())?;
+    url.push_str("stops")?;
+    Ok(url)
+}
+
+/// The text of a document that has this URL, for which room for so many bytes is made at once.
+pub fn doc_text(alloc: Global, url: &str, doc: &StopsDoc, room: usize) -> Result<Vec<u8>, NoMemory>
+    ensures text { IfOk result (λ text. text.items ≡ compact_text (doc_tree url.now doc.now)) }
+    ensures utf8 { IfOk result (λ text. IsUtf8 text.items) }
+    ensures read { IfOk result (λ text. doc_of_bytes text.items (Ok doc.now)) }
+    ensures sound { OnOk result (IsSoundDoc doc.now) }
+{
+    let mut out = Writer::new(Vec::with_capacity(alloc, room)?);
+    write_doc(&mut out, url, doc)?;
     Ok(out.into_inner())
 }
 
@@ -44,25 +66,14 @@ fn text_room(doc: &StopsDoc) -> usize {
     items.saturating_mul(ITEM_BYTES).saturating_add(DOC_BYTES)
 }
 
-fn write_doc(out: &mut Writer, alloc: Global, base: &Base, doc: &StopsDoc) -> Result<(), NoMemory>
-    ensures tokens { OnOk result (Appends out.old out.new (tokens_of (stops_tree base.now doc.now))) }
+fn write_doc(out: &mut Writer, url: &str, doc: &StopsDoc) -> Result<(), NoMemory>
+    ensures tokens { OnOk result (Appends out.old out.new (tokens_of (doc_tree url.now doc.now))) }
     ensures sound { OnOk result (IsSoundDoc doc.now) }
     ensures valid { OnOk result (IsValidDoc doc.now) }
 {
     out.begin_object()?;
-    write_doc_url(out, alloc, base)?;
+    write_text(out, "@id", url)?;
     write_lists(out, doc.changes.as_slice(), doc.stops.as_slice())?;
-    Ok(())
-}
-
-/// Writes the URL of the document.
-fn write_doc_url(out: &mut Writer, alloc: Global, base: &Base) -> Result<(), NoMemory>
-    ensures { OnOk result
-        (Appends out.old out.new (member_tokens (text_at (codes "@id") (base.now.text ++ codes "stops") no_members))) }
-{
-    let mut url = String::from_str(alloc, base.text())?;
-    url.push_str("stops")?;
-    write_text(out, "@id", url.as_str())?;
     Ok(())
 }
 

@@ -1,21 +1,11 @@
--- What was written is the text of the document's tree.
-use Rattle.std.proofs.Common.{sym, subst, ◌∙◌}
-use Rattle.std.specs.Str.{IsUtf8}
-use Rattle.json_members.specs.Tokens.{tokens_of}
-use Rattle.page_json.specs.Tree.{stops_text_of, stops_tree}
-use Rattle.page_json.proofs.StopsLemmas.{reads_stops_text}
-use Rattle.json_members.proofs.TokensLemmas.{behind_nothing, text_is}
+-- The URL of the document is that under the base.
+use Rattle.std.proofs.Common.{ℕ, List, ◌≡◌, ◌∙◌, subst}
+use Rattle.std.specs.Prelude.{IfOk}
+use Rattle.serde_json.specs.Written.{compact_text}
+use Rattle.page_json.specs.Tree.{doc_tree, stops_text_of}
 use Rattle.page_json.proofs.stops_writing.stops_text.Goals as goal
 
 pub returns-clause-text : goal.returns-clause-text
 unfolding stops_text_of
 returns-clause-text c =
-    c.into_inner.ensures.items ∙ text_is _ _ (stops_tree c.args.base.now c.args.doc.now) (c.new-out.ensures.before ∙ c.in_ok-with_capacity.ensures.items) c.new-out.ensures.tokens c.in_ok-write_doc.ensures.tokens
-
-pub returns-clause-utf8 : goal.returns-clause-utf8
-returns-clause-utf8 c =
-    subst IsUtf8 (sym (c.into_inner.ensures.items ∙ behind_nothing _ _ (tokens_of (stops_tree c.args.base.now c.args.doc.now)) (c.new-out.ensures.before ∙ c.in_ok-with_capacity.ensures.items) c.in_ok-write_doc.ensures.tokens)) c.into_inner.ensures.utf8
-
-pub returns-clause-read : goal.returns-clause-read
-returns-clause-read c =
-    (reads_stops_text c.args.base.now c.args.doc.now c.into_inner.result.items c.in_ok-write_doc.ensures.valid c.in_ok-write_doc.ensures.sound (returns-clause-utf8 c) (returns-clause-text c)).is
+    subst (λ (url : List ℕ). IfOk c.doc_text.result (λ text. text.items ≡ compact_text (doc_tree url c.args.doc.now))) (c.as_str.ensures.value ∙ c.in_ok-url.ensures) c.doc_text.ensures.text

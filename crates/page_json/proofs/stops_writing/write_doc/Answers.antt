@@ -8,7 +8,7 @@ use Rattle.page_json.proofs.stops_writing.write_doc.Goals as goal
 
 pub returns-clause-tokens : goal.returns-clause-tokens
 returns-clause-tokens c =
-    let whole = one c.in_ok-begin_object.ensures >> c.in_ok-write_doc_url.ensures >> c.in_ok-write_lists.ensures.tokens in
+    let whole = one c.in_ok-begin_object.ensures >> c.in_ok-write_text.ensures >> c.in_ok-write_lists.ensures.tokens in
     rw (← c.as_slice.ensures.value, ← c.as_slice-2.ensures.value) whole
 
 pub returns-clause-valid : goal.returns-clause-valid
