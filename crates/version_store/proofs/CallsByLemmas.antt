@@ -21,11 +21,12 @@ use Rattle.lc_model.proofs.KeyLemmas.{same_keys}
 use Rattle.lc_model.proofs.SearchLemmas.{sorted_from_strict}
 use Rattle.lc_versions.specs.Added.{IsFurtherRun, has_key, news_of_key}
 use Rattle.lc_versions.specs.Live.{live_calls_of}
+use Rattle.lc_versions.specs.Naming.{news_for}
 use Rattle.lc_versions.specs.News.{TripSaid}
 use Rattle.laws_index.specs.Held.{IsRunBy}
 use Rattle.version_store.specs.CallsBy.{AreCallsBy, AreFurtherCalls, IsRunOfKey, run_with}
 use Rattle.version_store.specs.Further.{IsFurther, calls_of}
-use Rattle.version_store.specs.LastNews.{HasLast}
+use Rattle.version_store.specs.LastNews.{HasLastAt}
 use Rattle.version_store.specs.Named.{said_at}
 use Rattle.version_store.specs.declared.last_news.LastNews.{LastNews}
 use Rattle.version_store.proofs.FurtherLemmas.{at_its_key, by_bool, made_forward}
@@ -55,11 +56,11 @@ last_passes p o (x ∷ list) news before e =
     (λ fails. last_passes p o list news before (sym (ap (λ b. last_or o (cond b (x ∷ filter p list) (filter p list))) fails) ∙ e))
 
 -- the run of the timetable with the key has its live calls
-pub calls_of_run : (runs : List Run) (stops : List Stop) (list : List TripSaid) (last : LastNews) (key : RunKey) (run : Run) (calls : List Call) → IsIdText key.trip → HasLast list last → IsRunOfKey runs key (Some run)
+pub calls_of_run : (runs : List Run) (stops : List Stop) (list : List TripSaid) (last : LastNews) (key : RunKey) (run : Run) (calls : List Call) → IsIdText key.trip → HasLastAt key list last → IsRunOfKey runs key (Some run)
     → calls ≡ live_calls_of run.calls (said_at last.named run.key) → AreCallsBy runs stops list key (Some calls)
 calls_of_run runs stops list last key run calls named has of_key are =
-    let trip : IsIdText run.key.trip = subst (λ (k : RunKey). IsIdText k.trip) (sym of_key.1) named in
-    inl (record { run = run; of_timetable = of_key.0; same_key = sym of_key.1; calls = are ∙ ap (live_calls_of run.calls) (has.named run.key trip) })
+    let said : said_at last.named run.key ≡ news_for run.key list = subst (λ (k : RunKey). said_at last.named k ≡ news_for k list) (sym of_key.1) (has.named named) in
+    inl (record { run = run; of_timetable = of_key.0; same_key = sym of_key.1; calls = are ∙ ap (live_calls_of run.calls) said })
 
 -- a further run of one news alone is one of the list in which these are the last of its key
 one_of_list : (runs : List Run) (stops : List Stop) (list : List TripSaid) (news : TripSaid) (run : Run) → IsRunOfKey runs run.key None → news_of_key run.key list ≡ news_of_key run.key (news ∷ [])

@@ -22,12 +22,16 @@ use Rattle.lc_versions.specs.News.{TripSaid}
 use Rattle.laws_index.specs.Held.{IsRunBy}
 use Rattle.laws_index.specs.Touched.{NoneHas, is_touched}
 use Rattle.laws_index.proofs.HeldLemmas.{one_run}
-use Rattle.laws_index.proofs.TouchedLemmas.{others_stay}
+use Rattle.laws_index.proofs.TouchedLemmas.{same_news}
 use Rattle.span_index.specs.Spans.{Indexed}
 use Rattle.version_store.specs.CallsBy.{AreCallsBy, run_with}
-use Rattle.version_store.specs.Changes.{AreChangesAt, AreChangesBy, HasTurned, IsUpdatedBy, Leaves, PutsCalls, PutsChange, Stands, TurnsKey}
+use Rattle.version_store.specs.Changes.{AreChangesAt, AreChangesBy, AreNearAt, HasTurned, IsUpdatedBy, Leaves, PutsCalls, PutsChange, Stands, TurnsKey}
+use Rattle.version_store.specs.Differing.{DifferBy}
+use Rattle.version_store.specs.LastNews.{HasLast, HasLastOf}
 use Rattle.version_store.specs.TouchedKeys.{Has, HasTouched}
+use Rattle.version_store.specs.declared.last_news.LastNews.{LastNews}
 use Rattle.version_store.specs.declared.changes.Changes.{Changes}
+use Rattle.version_store.proofs.DifferingLemmas.{alike_last}
 use Rattle.version_store.proofs.FurtherLemmas.{by_bool, same_from_tie, tie, tie_from_same}
 
 same_run : (a b : Run) → a.key ≡ b.key → a.calls ≡ b.calls → a ≡ b
@@ -43,6 +47,12 @@ by_option G (Some x) some none = some x refl
 -- calls at the key itself, and at another one
 put_here : (key other : RunKey) (calls : List Call) (old new : BTreeMap RunKey (List Call)) → PutsCalls key calls old new → key ≡ other → get key_cmp new other ≡ Some calls
 put_here key other calls old new puts same = puts other ∙ ap (λ b. if b then Some calls else get key_cmp old other) (tie_from_same key other same)
+
+-- maps of news that are all news of some keys have the last of all news at these keys
+pub last_near : (keys : BTreeSet RunKey) (near list : List TripSaid) (last : LastNews) → HasLast near last → AreNearAt keys near list → HasLastOf keys list last
+last_near keys near list last has are = λ key there.
+    let same = alike_last key near list (are key there) in
+    record { named = λ id. has.named key id ∙ same.named; own = λ id. has.own key id ∙ same.of_key }
 
 module _ (runs : List Run) (stops : List Stop) (before after : List TripSaid) (up : InKeyOrder runs) where
   -- by the news of after a key has one list of calls
@@ -156,29 +166,21 @@ module _ (runs : List Run) (stops : List Stop) (before after : List TripSaid) (u
   none_left key (inl there) = absurd (Contains-nil key there)
   none_left key (inr p) = p
 
-  -- a key that the news touch is in the set, and at all others nothing changes
-  pub changes_by : (keys : BTreeSet RunKey) (changes : Changes) → All (λ (r : Run). IsIdText r.key.trip) runs → HasTouched before keys → HasTouched after keys → AreChangesAt runs stops before after keys [] changes
+  -- a key that the differing news touch is in the set, and at all others nothing changes
+  pub changes_by : (keys : BTreeSet RunKey) (list : List TripSaid) (changes : Changes) → All (λ (r : Run). IsIdText r.key.trip) runs → HasTouched list keys → DifferBy list before after → AreChangesAt runs stops before after keys [] changes
       → AreChangesBy runs stops before after changes
-  changes_by keys changes trips in_before in_after are = record {
+  changes_by keys list changes trips in_list differ are = record {
     begins = are.begins;
     forward = are.forward;
     ends = are.ends;
     all = λ run is.
-        let id = named trips after run is in
-        by_bool _ (is_touched run.key before)
-        (λ t. none_left run.key (are.all run (in_before run.key id t)) is)
-        (λ f.
-        by_bool _ (is_touched run.key after)
-        (λ t. none_left run.key (are.all run (in_after run.key id t)) is)
-        (λ g. inr ((others_stay runs stops before after run f g).1 is)));
+        by_bool _ (is_touched run.key list)
+        (λ t. none_left run.key (are.all run (in_list run.key (named trips after run is) t)) is)
+        (λ f. inr ((same_news runs stops before after run (alike_last run.key before after (differ run.key f))).1 is));
     gone = λ run was.
-        let id = named trips before run was in
-        by_bool _ (is_touched run.key before)
-        (λ t. none_left run.key (are.gone run (in_before run.key id t)) was)
-        (λ f.
-        by_bool _ (is_touched run.key after)
-        (λ t. none_left run.key (are.gone run (in_after run.key id t)) was)
-        (λ g. inr (run, refl, (others_stay runs stops before after run f g).0 was)));
+        by_bool _ (is_touched run.key list)
+        (λ t. none_left run.key (are.gone run (in_list run.key (named trips before run was) t)) was)
+        (λ f. inr (run, refl, (same_news runs stops before after run (alike_last run.key before after (differ run.key f))).0 was));
   }
 
   -- the index is updated by what changes from the news of before to those of after

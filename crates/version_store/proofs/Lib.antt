@@ -1,6 +1,7 @@
 pub mod CallsByLemmas
 pub mod ChangesLemmas
 pub mod CutLemmas
+pub mod DifferingLemmas
 pub mod FurtherLemmas
 pub mod IndexedLemmas
 pub mod KeptLemmas
@@ -14,5 +15,6 @@ pub mod SameCallsLemmas
 pub mod SomeRowsLemmas
 pub mod SpotsLemmas
 pub mod StoreLemmas
+pub mod TripsLemmas
 pub mod VersionLemmas
 pub mod WorkedLemmas

@@ -3,7 +3,7 @@ use Rattle.std.proofs.Common.{◌≡◌, ◌∙◌, ℕ, suc, ◌+◌, ◌<◌, 
 use Rattle.std.specs.Prelude.{if◌then◌else◌, is_some, option_to_list}
 use Rattle.std.specs.List.{All, Contains, filter_map, slice_get}
 use Rattle.std.specs.Option.{option_and_then}
-use Rattle.std.proofs.lemmas.List.{map-append, take_more}
+use Rattle.std.proofs.lemmas.List.{append_assoc, map-append, take_more}
 use Rattle.std.proofs.lemmas.List.Elements.{All-contains, All-push, filter-append, filter_map-append}
 use Rattle.std.proofs.lemmas.Option.{slice_get-get_or}
 use Rattle.lc_model.proofs.ListLemmas.{All-from_contains}
@@ -32,7 +32,7 @@ found_all f (x ∷ xs) (y ∷ ys) e =
     let tail : map f xs ≡ map Some ys = cc in
     rw head (ap (λ v. y ∷ v) (found_all f xs ys tail))
 
-one_found : {X Y : Type 0} (f : X → Option Y) (x : X) (o : Option Y) → f x ≡ o → filter_map f (x ∷ []) ≡ option_to_list o
+pub one_found : {X Y : Type 0} (f : X → Option Y) (x : X) (o : Option Y) → f x ≡ o → filter_map f (x ∷ []) ≡ option_to_list o
 one_found f x None e = rw e refl
 one_found f x (Some y) e = rw e refl
 
@@ -140,15 +140,18 @@ pub force_appended : (date_of : ℕ → ServiceDate) (history : List Entry) (ent
 force_appended date_of history entry = sym (goes_on date_of history entry)
 
 -- the news of one more
-pub news_more : (marks : List Marked) (i : ℕ) (marked : Marked) (old new : List TripSaid) → i < length marks → marked ≡ get_or marks i marked → old ≡ news_in (map entity_said (take i marks)) → new ≡ old ++ option_to_list (entity_said marked).news
-    → new ≡ news_in (map entity_said (take (i + 1) marks))
-news_more marks i marked old new inside is are pushed =
+pub news_more : (marks : List Marked) (i : ℕ) (marked : Marked) (first old new : List TripSaid) → i < length marks → marked ≡ get_or marks i marked → old ≡ first ++ news_in (map entity_said (take i marks))
+    → new ≡ old ++ option_to_list (entity_said marked).news → new ≡ first ++ news_in (map entity_said (take (i + 1) marks))
+news_more marks i marked first old new inside is are pushed =
     let N : EntitySaid → Option TripSaid = λ e. e.news in
-    pushed ∙ ap (λ v. v ++ option_to_list (entity_said marked).news) are
-    ∙ ap (λ v. news_in (map entity_said (take i marks)) ++ v) (sym (one_found N (entity_said marked) (entity_said marked).news refl))
+    let so_far = news_in (map entity_said (take i marks)) in
+    let said = option_to_list (entity_said marked).news in
+    let taken : so_far ++ said ≡ news_in (map entity_said (take (i + 1) marks)) =
+    ap (λ v. so_far ++ v) (sym (one_found N (entity_said marked) (entity_said marked).news refl))
     ∙ sym (filter_map-append N (map entity_said (take i marks)) (entity_said marked ∷ []))
     ∙ ap news_in (sym (map-append entity_said (take i marks) (marked ∷ [])))
-    ∙ ap (λ v. news_in (map entity_said v)) (sym (take_more marks i marked inside ∙ ap (λ y. take i marks ++ y ∷ []) (sym is)))
+    ∙ ap (λ v. news_in (map entity_said v)) (sym (take_more marks i marked inside ∙ ap (λ y. take i marks ++ y ∷ []) (sym is))) in
+    pushed ∙ ap (λ v. v ++ said) are ∙ append_assoc first so_far said ∙ ap (λ v. first ++ v) taken
 
 -- before any message nothing is in force
 pub none_in_force : (admitted : List Admission) (spots : List Spot) (entities : List EntitySaid) → spots ≡ [] → entities ≡ [] → AreInForce admitted spots entities

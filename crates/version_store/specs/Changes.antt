@@ -21,6 +21,7 @@ use Rattle.laws_index.specs.Touched.{AreChanges}
 use Rattle.span_index.specs.Spans.{Indexed}
 use Rattle.span_index.specs.Updates.{IsUpdated}
 use Rattle.version_store.specs.CallsBy.{AreCallsBy, run_with}
+use Rattle.version_store.specs.Differing.{AreAlikeAt}
 use Rattle.version_store.specs.Further.{GoForward}
 use Rattle.version_store.specs.Spots.{AreInForce}
 use Rattle.version_store.specs.TouchedKeys.{Has}
@@ -71,6 +72,10 @@ pub record AreChangesAt (runs : List Run) (stops : List Stop) (before after : Li
   pub ends : (run : Run) → Contains changes.ended.items run.key → IsRunBy runs stops after run → ⊥
   pub all : (run : Run) → Has keys run.key → Contains left run.key ⊎ Stands runs stops before after changes.begun run
   pub gone : (run : Run) → Has keys run.key → Contains left run.key ⊎ Leaves runs stops before after changes.ended.items run
+
+-- at each key of the set the lists are alike
+abbrev pub AreNearAt : BTreeSet RunKey → List TripSaid → List TripSaid → Type 0
+AreNearAt keys near list = (key : RunKey) → Contains keys.keys key → AreAlikeAt key near list
 
 -- these are the changes of all keys
 pub record AreChangesBy (runs : List Run) (stops : List Stop) (before after : List TripSaid) (changes : Changes) : Type 0 where

@@ -3,7 +3,10 @@ use Rattle.std.specs.Prelude.{◌≡◌, List, Some, if◌then◌else◌}
 use Rattle.std.specs.BTreeMap.{BTreeMap}
 use Rattle.lc_model.specs.Text.{IsIdText}
 use Rattle.lc_model.specs.declared.key.RunKey.{RunKey}
+use Rattle.std.specs.BTreeSet.{BTreeSet}
+use Rattle.std.specs.List.{Contains}
 use Rattle.lc_versions.specs.Added.{has_key, news_of_key}
+use Rattle.lc_versions.specs.Naming.{news_for}
 use Rattle.lc_versions.specs.News.{TripSaid}
 use Rattle.version_store.specs.Kept.{news_said}
 use Rattle.version_store.specs.Named.{HasNamed, said_at}
@@ -23,3 +26,12 @@ HasOwn list own = (key : RunKey) → IsIdText key.trip → said_at own key ≡ n
 pub record HasLast (list : List TripSaid) (last : LastNews) : Type 0 where
   pub named : HasNamed list last.named
   pub own : HasOwn list last.own
+
+-- at the key both maps have the last of these news, where a run may have it
+pub record HasLastAt (key : RunKey) (list : List TripSaid) (last : LastNews) : Type 0 where
+  pub named : IsIdText key.trip → said_at last.named key ≡ news_for key list
+  pub own : IsIdText key.trip → said_at last.own key ≡ news_of_key key list
+
+-- so at each key of a set
+abbrev pub HasLastOf : BTreeSet RunKey → List TripSaid → LastNews → Type 0
+HasLastOf keys list last = (key : RunKey) → Contains keys.keys key → HasLastAt key list last

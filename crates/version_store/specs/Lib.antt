@@ -2,6 +2,7 @@ pub mod Admission
 pub mod CallsBy
 pub mod Changes
 pub mod Dates
+pub mod Differing
 pub mod Further
 pub mod Indexed
 pub mod Inside
@@ -16,3 +17,4 @@ pub mod Store
 pub mod Texts
 pub mod Worked
 pub mod TouchedKeys
+pub mod Trips

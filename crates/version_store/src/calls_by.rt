@@ -6,7 +6,7 @@ ghost use Rattle.lc_model.specs.Text.{IsIdText};
 ghost use Rattle.lc_versions.specs.News.{TripSaid};
 ghost use Rattle.version_store.specs.CallsBy.{AreCallsBy, AreFurtherCalls, IsRunOfKey};
 ghost use Rattle.version_store.specs.Kept.{news_said};
-ghost use Rattle.version_store.specs.LastNews.{HasLast};
+ghost use Rattle.version_store.specs.LastNews.{HasLastAt};
 
 use crate::dated::DatedNews;
 use crate::last_news::LastNews;
@@ -57,7 +57,7 @@ pub(crate) fn calls_by(
     last: &LastNews<'_>,
     key: &RunKey,
 ) -> Result<Option<Calls>, NoMemory>
-    ensures calls { IfOk result (λ calls. (list : List TripSaid) → HasLast list last.now → AreCallsBy runs.now stops.now list key.now calls) }
+    ensures calls { IfOk result (λ calls. (list : List TripSaid) → HasLastAt key.now list last.now → AreCallsBy runs.now stops.now list key.now calls) }
     ensures forward { IfOk result (λ calls. ForSome calls GoesForward) }
 {
     trip_is_id(key);

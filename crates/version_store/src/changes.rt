@@ -3,15 +3,17 @@ ghost use Rattle.lc_model.specs.Run.{InKeyOrder};
 ghost use Rattle.lc_model.specs.Text.{IsIdText};
 ghost use Rattle.lc_model.specs.declared.run.Run.{Run as StatedRun};
 ghost use Rattle.lc_versions.specs.News.{TripSaid};
-ghost use Rattle.version_store.specs.Changes.{AreChangesAt, AreChangesBy, PutsBegun, PutsChange, PutsEnded, TurnsKey};
+ghost use Rattle.version_store.specs.Changes.{AreChangesAt, AreChangesBy, AreNearAt, PutsBegun, PutsChange, PutsEnded, TurnsKey};
+ghost use Rattle.version_store.specs.Differing.{DifferBy};
+ghost use Rattle.version_store.specs.Further.{GoForward};
 ghost use Rattle.version_store.specs.Kept.{news_said};
-ghost use Rattle.version_store.specs.LastNews.{HasLast};
-ghost use Rattle.version_store.specs.TouchedKeys.{HasTouched};
+ghost use Rattle.version_store.specs.LastNews.{HasLastAt, HasLastOf};
 
 use crate::calls_by::calls_by;
 use crate::dated::DatedNews;
 use crate::last_news::{LastNews, last_news};
-use crate::touched_keys::put_all_touched;
+use crate::touched_keys::touched_keys;
+use crate::trips::{news_of_trips, trips_of};
 use lc_model::{Call, Calls, NoMemory, PlainData, RunKey, Runs, Stops};
 use std::alloc::Global;
 use std::collections::{BTreeMap, BTreeSet};
@@ -100,7 +102,7 @@ fn put_turn(
     new: &LastNews<'_>,
     key: &RunKey,
 ) -> Result<(), NoMemory>
-    ensures { OnOk result ((before after : List TripSaid) → HasLast before old.now → HasLast after new.now →
+    ensures { OnOk result ((before after : List TripSaid) → HasLastAt key.now before old.now → HasLastAt key.now after new.now →
         TurnsKey runs.now stops.now before after key.now changes.old changes.new) }
 {
     let was = calls_by(alloc, runs, stops, old, key)?;
@@ -118,7 +120,7 @@ fn changes_at(
     keys: &BTreeSet<RunKey>,
 ) -> Result<Changes, NoMemory>
     requires { InKeyOrder runs.now }
-    ensures { IfOk result (λ changes. (before after : List TripSaid) → HasLast before old.now → HasLast after new.now →
+    ensures { IfOk result (λ changes. (before after : List TripSaid) → HasLastOf keys.now before old.now → HasLastOf keys.now after new.now →
         AreChangesAt runs.now stops.now before after keys.now [] changes) }
 {
     let mut changes = Changes {
@@ -131,36 +133,60 @@ fn changes_at(
     Ok(changes)
 }
 
-/// The keys that the old or the new news touch. Takes the time of a sort of the news.
-fn touched_keys(
-    alloc: Global,
-    old: &[DatedNews<'_>],
-    new: &[DatedNews<'_>],
-) -> Result<BTreeSet<RunKey>, NoMemory>
-    ensures old { IfOk result (HasTouched (map news_said old.now)) }
-    ensures new { IfOk result (HasTouched (map news_said new.now)) }
-{
-    let mut keys = BTreeSet::new(alloc);
-    put_all_touched(alloc, &mut keys, old)?;
-    put_all_touched(alloc, &mut keys, new)?;
-    Ok(keys)
-}
-
-/// What changes from the old news to the new. Takes the time of a sort of both lists, the logarithm of the runs for each key that they
-/// touch, and the time of its calls.
-pub(crate) fn changes_of(
+/// What changes at the keys of a set, by news that are all news of these keys. Takes the time of a sort of the news, and that of
+/// `changes_at`.
+fn changes_by(
     alloc: Global,
     runs: &Runs,
     stops: &Stops,
     old: &[DatedNews<'_>],
     new: &[DatedNews<'_>],
+    keys: &BTreeSet<RunKey>,
+) -> Result<Changes, NoMemory>
+    requires { InKeyOrder runs.now }
+    ensures { IfOk result (λ changes. (before after : List TripSaid) → AreNearAt keys.now (map news_said old.now) before → AreNearAt keys.now (map news_said new.now) after →
+        AreChangesAt runs.now stops.now before after keys.now [] changes) }
+{
+    let last_old = last_news(alloc, old)?;
+    let last_new = last_news(alloc, new)?;
+    changes_at(alloc, runs, stops, &last_old, &last_new, keys)
+}
+
+/// What changes from the old news to the new at the keys of a set. The news of other trips are passed over. It takes the logarithm of the
+/// keys for each news, and for each key the logarithm of the runs and the time of its calls.
+fn near_changes(
+    alloc: Global,
+    runs: &Runs,
+    stops: &Stops,
+    old: &[DatedNews<'_>],
+    new: &[DatedNews<'_>],
+    keys: &BTreeSet<RunKey>,
+) -> Result<Changes, NoMemory>
+    requires { InKeyOrder runs.now }
+    ensures { IfOk result (AreChangesAt runs.now stops.now (map news_said old.now) (map news_said new.now) keys.now []) }
+{
+    let trips = trips_of(alloc, keys)?;
+    let old = news_of_trips(alloc, old, &trips)?;
+    let new = news_of_trips(alloc, new, &trips)?;
+    changes_by(alloc, runs, stops, old.as_slice(), new.as_slice(), keys)
+}
+
+/// What changes from the old news to the new, by those that differ. It takes the time of a sort of these, and the logarithm of their number
+/// for each of the old and the new. For each key that they touch it takes the logarithm of the runs, and the time of its calls.
+pub(crate) fn changes_of(
+    alloc: Global,
+    runs: &Runs,
+    stops: &Stops,
+    differing: &[DatedNews<'_>],
+    old: &[DatedNews<'_>],
+    new: &[DatedNews<'_>],
 ) -> Result<Changes, NoMemory>
     requires in_order { InKeyOrder runs.now }
     requires trips { All (λ (r : StatedRun). IsIdText r.key.trip) runs.now }
-    ensures { IfOk result (AreChangesBy runs.now stops.now (map news_said old.now) (map news_said new.now)) }
+    ensures forward { IfOk result (λ changes. GoForward changes.begun) }
+    ensures changes { IfOk result (λ changes. DifferBy (map news_said differing.now) (map news_said old.now) (map news_said new.now)
+        → AreChangesBy runs.now stops.now (map news_said old.now) (map news_said new.now) changes) }
 {
-    let keys = touched_keys(alloc, old, new)?;
-    let last_old = last_news(alloc, old)?;
-    let last_new = last_news(alloc, new)?;
-    changes_at(alloc, runs, stops, &last_old, &last_new, &keys)
+    let keys = touched_keys(alloc, differing)?;
+    near_changes(alloc, runs, stops, old, new, &keys)
 }

@@ -13,11 +13,13 @@ ghost use Rattle.version_store.specs.Changes.{GoesOn, HasTurned, IsUpdatedBy};
 ghost use Rattle.version_store.specs.Dates.{date_in};
 ghost use Rattle.version_store.specs.Further.{GoForward};
 ghost use Rattle.version_store.specs.Kept.{entity_said, news_said};
-ghost use Rattle.version_store.specs.Spots.{AreInForce};
+ghost use Rattle.version_store.specs.Differing.{DifferBy};
+ghost use Rattle.version_store.specs.Spots.{AreInForce, IsAtSpot};
 ghost use Rattle.version_store.specs.declared.store.Admission.{Admission as StatedAdmission};
 
 use crate::changes::{Changes, changes_of};
 use crate::dated::DatedNews;
+use crate::differing::differing;
 use crate::kept::{Marked, force_after};
 use crate::live_runs::{live_list, runs_in};
 use crate::spots::{Spot, marks_in_force, news_of, spots_of};
@@ -51,22 +53,25 @@ fn update_by(alloc: Global, index: &mut Index, changes: Changes) -> Result<(), N
     index.update(alloc, ended, begun)
 }
 
-/// Adds a version to an index: what changes from the news of one version to those of another. After a refusal each version is as it was.
+/// Adds a version to an index: what changes from the news of one version to those of another, by those that differ. After a refusal each
+/// version is as it was.
 fn turn(
     alloc: Global,
     index: &mut Index,
     runs: &Runs,
     stops: &Stops,
+    differing: &[DatedNews<'_>],
     old: &[DatedNews<'_>],
     new: &[DatedNews<'_>],
 ) -> Result<(), NoMemory>
     requires room { index.old.newest < 4_294_967_295 }
     requires in_order { InKeyOrder runs.now }
     requires trips { All (λ (r : StatedRun). IsIdText r.key.trip) runs.now }
-    ensures ok { OnOk result (HasTurned runs.now stops.now (map news_said old.now) (map news_said new.now) index.old index.new) }
+    ensures ok { OnOk result (DifferBy (map news_said differing.now) (map news_said old.now) (map news_said new.now)
+        → HasTurned runs.now stops.now (map news_said old.now) (map news_said new.now) index.old index.new) }
     ensures err { OnErr result (IsSame index.old index.new) }
 {
-    let changes = changes_of(alloc, runs, stops, old, new)?;
+    let changes = changes_of(alloc, runs, stops, differing, old, new)?;
     update_by(alloc, index, changes)
 }
 
@@ -83,12 +88,22 @@ fn turn_marks(
     requires room { index.old.newest < 4_294_967_295 }
     requires in_order { InKeyOrder runs.now }
     requires trips { All (λ (r : StatedRun). IsIdText r.key.trip) runs.now }
-    ensures ok { OnOk result (HasTurned runs.now stops.now (news_in (map entity_said was.now)) (news_in (map entity_said kept.now)) index.old index.new) }
+    ensures ok { OnOk result ((stored : List StatedAdmission) → All (IsAtSpot stored) was.now → All (IsAtSpot stored) kept.now
+        → HasTurned runs.now stops.now (news_in (map entity_said was.now)) (news_in (map entity_said kept.now)) index.old index.new) }
     ensures err { OnErr result (IsSame index.old index.new) }
 {
+    let differing = differing(alloc, was, kept)?;
     let old = news_of(alloc, was)?;
     let new = news_of(alloc, kept)?;
-    turn(alloc, index, runs, stops, old.as_slice(), new.as_slice())
+    turn(
+        alloc,
+        index,
+        runs,
+        stops,
+        differing.as_slice(),
+        old.as_slice(),
+        new.as_slice(),
+    )
 }
 
 /// Adds the version of the message of this number to an index of those before it, and gives what is in force then. After a refusal each
@@ -112,7 +127,7 @@ pub(crate) fn turn_to(
     ensures err { OnErr result (IsSame index.old index.new) }
 {
     let was = marks_in_force(alloc, admitted, force)?;
-    let kept = force_after(alloc, zone, admitted, force, message)?;
+    let kept = force_after(alloc, zone, admitted, was.as_slice(), message)?;
     let spots = spots_of(alloc, kept.as_slice())?;
     turn_marks(alloc, index, runs, stops, was.as_slice(), kept.as_slice())?;
     Ok(spots)

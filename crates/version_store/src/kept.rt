@@ -6,15 +6,15 @@ ghost use Rattle.std.specs.Cmp.Lexicographic.{slice_cmp};
 ghost use Rattle.std.specs.List.{Contains, slice_get};
 ghost use Rattle.std.specs.Ordering.{nat_cmp};
 ghost use Rattle.lc_model.specs.Change.{is_same_id};
-ghost use Rattle.lc_versions.specs.History.{filled, kept_after};
+ghost use Rattle.lc_versions.specs.History.{filled, kept_after, with_news};
 ghost use Rattle.lc_versions.specs.News.{EntitySaid};
 ghost use Rattle.version_store.specs.Dates.{date_in};
 ghost use Rattle.version_store.specs.Kept.{PushesKept, entity_said, survivors, then_all, then_entities};
-ghost use Rattle.version_store.specs.Spots.{AreInForce, AreKept, PushesMessage, StayAt};
+ghost use Rattle.version_store.specs.Spots.{AreBeside, AreKept, PushesMessage, StayAt};
 ghost use Rattle.version_store.specs.declared.kept.Marked.{Marked as StatedMarked};
 ghost use Rattle.version_store.specs.declared.store.Admission.{Admission as StatedAdmission};
 
-use crate::spots::{Spot, marks_in_force};
+use crate::spots::Spot;
 use crate::store::Admission;
 use lc_clock::civil_date;
 use lc_model::{Moment, NoMemory, ServiceDate};
@@ -155,19 +155,19 @@ fn survivors_of<'a>(alloc: Global, marks: &[Marked<'a>]) -> Result<Vec<Marked<'a
     Ok(kept)
 }
 
-/// What is in force after the message of this number, by what was in force before it. Takes the time of a sort of the entities in force
-/// and of the message.
+/// What is in force after the message of this number, by what was in force before it. Takes the time of a sort of the message, and for
+/// each entity in force the logarithm of the message.
 pub(crate) fn force_after<'a>(
     alloc: Global,
     zone: &Zone,
     admitted: &'a [Admission],
-    force: &[Spot],
+    was: &[Marked<'a>],
     message: usize,
 ) -> Result<Vec<Marked<'a>>, NoMemory>
-    ensures { IfOk result (λ kept. (entities : List EntitySaid) (a : StatedAdmission) → AreInForce admitted.now force.now entities
+    ensures { IfOk result (λ kept. (entities : List EntitySaid) (a : StatedAdmission) → with_news entities ≡ entities → AreBeside admitted.now entities was.now
         → slice_get admitted.now message ≡ Some a → AreKept admitted.now (kept_after (date_in zone.now) entities a.update) kept.items) }
 {
-    let mut marks = marks_in_force(alloc, admitted, force)?;
+    let mut marks = Vec::from_slice(alloc, was)?;
     push_admission(&mut marks, zone, admitted, message)?;
     survivors_of(alloc, marks.as_slice())
 }

@@ -7,6 +7,7 @@ mod admit;
 mod calls_by;
 mod changes;
 mod dated;
+mod differing;
 mod indexed;
 mod kept;
 mod last_news;
@@ -18,6 +19,7 @@ mod rows;
 mod spots;
 mod store;
 mod touched_keys;
+mod trips;
 
 pub use admission::{AdmitFault, Admitted, MOST_BYTES, MOST_MESSAGE_BYTES, MOST_MESSAGES};
 pub use kept::message_date;

@@ -80,11 +80,27 @@ pub(crate) fn spots_of(alloc: Global, marks: &[Marked<'_>]) -> Result<Vec<Spot>,
 }
 
 /// Adds the news of an entity, if it has some.
-fn push_news<'a>(news: &mut Vec<DatedNews<'a>>, marked: Marked<'a>) -> Result<(), NoMemory>
+pub(crate) fn push_news<'a>(
+    news: &mut Vec<DatedNews<'a>>,
+    marked: Marked<'a>,
+) -> Result<(), NoMemory>
     ensures { OnOk result (map news_said news.new.items ≡ map news_said news.old.items ++ option_to_list (entity_said marked.entry).news) }
 {
     if let Some(said) = marked.entity.news() {
         news.push(dated_news(said, marked.spot.date))?;
+    }
+    Ok(())
+}
+
+/// Adds the news of these. Linear in them.
+pub(crate) fn push_all_news<'a>(
+    news: &mut Vec<DatedNews<'a>>,
+    marks: &[Marked<'a>],
+) -> Result<(), NoMemory>
+    ensures { OnOk result (map news_said news.new.items ≡ map news_said news.old.items ++ news_in (map entity_said marks.now)) }
+{
+    'marks: for marked in marks {
+        push_news(news, *marked)?;
     }
     Ok(())
 }
@@ -97,8 +113,6 @@ pub(crate) fn news_of<'a>(
     ensures { IfOk result (λ news. map news_said news.items ≡ news_in (map entity_said marks.now)) }
 {
     let mut news = Vec::with_capacity(alloc, marks.len())?;
-    'marks: for marked in marks {
-        push_news(&mut news, *marked)?;
-    }
+    push_all_news(&mut news, marks)?;
     Ok(news)
 }

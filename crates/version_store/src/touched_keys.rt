@@ -1,6 +1,6 @@
-ghost use Rattle.std.specs.Prelude.{OnOk, map};
+ghost use Rattle.std.specs.Prelude.{IfOk, OnOk, map};
 ghost use Rattle.version_store.specs.Kept.{news_said};
-ghost use Rattle.version_store.specs.TouchedKeys.{PutsAllTouched, PutsOwnKey, PutsPlainKey, PutsTouched};
+ghost use Rattle.version_store.specs.TouchedKeys.{HasTouched, PutsAllTouched, PutsOwnKey, PutsPlainKey, PutsTouched};
 
 use crate::dated::DatedNews;
 use lc_model::{Id, NoMemory, RunKey};
@@ -57,7 +57,7 @@ fn put_touched(
 }
 
 /// Puts the keys that some of the news touch. Takes the time of a sort of the news.
-pub(crate) fn put_all_touched(
+fn put_all_touched(
     alloc: Global,
     keys: &mut BTreeSet<RunKey>,
     news: &[DatedNews<'_>],
@@ -68,4 +68,16 @@ pub(crate) fn put_all_touched(
         put_touched(alloc, keys, *dated)?;
     }
     Ok(())
+}
+
+/// The keys that some of the news touch. Takes the time of a sort of the news.
+pub(crate) fn touched_keys(
+    alloc: Global,
+    news: &[DatedNews<'_>],
+) -> Result<BTreeSet<RunKey>, NoMemory>
+    ensures { IfOk result (HasTouched (map news_said news.now)) }
+{
+    let mut keys = BTreeSet::new(alloc);
+    put_all_touched(alloc, &mut keys, news)?;
+    Ok(keys)
 }

@@ -18,7 +18,7 @@ returns-in-None-clause-calls c =
     let said : option_map news_said c.copied.result ≡ said_at c.args.last.now.own c.args.key.now = ap (option_map news_said) (c.copied.ensures ∙ c.get.ensures.value) in
     IfOk-weaker c.further_calls.result _ _
     (λ calls are list has.
-    further_calls_by c.args.runs.now c.args.stops.now list c.args.key.now (option_map news_said c.copied.result) calls none (sym (has.own c.args.key.now c.trip_is_id.ensures) ∙ sym said) are)
+    further_calls_by c.args.runs.now c.args.stops.now list c.args.key.now (option_map news_said c.copied.result) calls none (sym (has.own c.trip_is_id.ensures) ∙ sym said) are)
     c.further_calls.ensures
 
 pub returns-in-None-clause-forward : goal.returns-in-None-clause-forward

@@ -1,5 +1,7 @@
-use Rattle.std.proofs.Common.{◌≡◌, List, rules, subst}
-use Rattle.std.proofs.lemmas.Map.Iter.{rest_all, rest_more}
+use Rattle.std.proofs.Common.{◌≡◌, ◌∙◌, ◌∷◌, List, arith, map, refl, rules, subst, sym}
+use Rattle.std.specs.List.{Contains}
+use Rattle.std.proofs.lemmas.Map.Iter.{rest_all, rest_more, rest_so_far}
+use Rattle.std.proofs.lemmas.List.Elements.{Contains-append_right}
 use Rattle.std.specs.Map.Iter.{deref}
 use Rattle.lc_model.specs.declared.key.RunKey.{RunKey}
 use Rattle.version_store.specs.Changes.{AreChangesAt}
@@ -14,10 +16,17 @@ loop-key-init c = λ before after in_old in_new.
 
 pub loop-key-preserved : goal.loop-key-preserved
 loop-key-preserved c = λ before after in_old in_new.
-    changes_more c.args.runs.now c.args.stops.now before after c.requires c.args.keys.now c.in-Some.key.now c.loop-key.key-iterator c.next.new.self c.loop-key.changes c.put_turn.new.changes
-    (rest_more deref _ _ _ c.in-Some.key c.in-Some.is c.next.ensures.steps)
+    let key = c.in-Some.key.now in
+    let all : c.into_iter-key-iterator.result ≡ c.args.keys.now.keys = search rules in
+    let first = rest_more deref _ _ _ c.in-Some.key c.in-Some.is c.next.ensures.steps in
+    let so_far = rest_so_far deref c.loop-key.yielded c.into_iter-key-iterator.result c.loop-key.key-iterator c.loop-key.yielded_by in
+    let head : Contains (key ∷ c.next.new.self) key = (0, omega arith, refl) in
+    let left : Contains c.loop-key.key-iterator key = subst (λ (v : List RunKey). Contains v key) (sym first) head in
+    let here : Contains c.args.keys.now.keys key =
+    subst (λ (v : List RunKey). Contains v key) (sym so_far ∙ all) (Contains-append_right (map deref c.loop-key.yielded) c.loop-key.key-iterator key left) in
+    changes_more c.args.runs.now c.args.stops.now before after c.requires c.args.keys.now key c.loop-key.key-iterator c.next.new.self c.loop-key.changes c.put_turn.new.changes first
     (c.loop-key.invariant before after in_old in_new)
-    (c.in_ok-put_turn.ensures before after in_old in_new)
+    (c.in_ok-put_turn.ensures before after (in_old key here) (in_new key here))
 
 pub returns : goal.returns
 returns c = λ before after in_old in_new.

@@ -13,7 +13,7 @@ update_by-requires-clause-forward c = c.in_ok-changes.ensures.forward
 pub returns-clause-ok : goal.returns-clause-ok
 returns-clause-ok c =
     on_ok c.update_by.result
-    (λ updated.
-    turned_by c.args.runs.now c.args.stops.now (map news_said c.args.old.now) (map news_said c.args.new.now) c.requires.in_order c.in_ok-changes.changes c.args.index.now c.update_by.new.index c.in_ok-changes.ensures
-    updated)
+    (λ updated differ.
+    turned_by c.args.runs.now c.args.stops.now (map news_said c.args.old.now) (map news_said c.args.new.now) c.requires.in_order c.in_ok-changes.changes c.args.index.now c.update_by.new.index
+    (c.in_ok-changes.ensures.changes differ) updated)
     c.update_by.ensures.ok

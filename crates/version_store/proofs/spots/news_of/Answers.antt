@@ -1,5 +1,0 @@
-use Rattle.version_store.proofs.SpotsLemmas.{news_more}
-use Rattle.version_store.proofs.spots.news_of.Goals as goal
-
-pub marks-preserved : goal.marks-preserved
-marks-preserved c = news_more c.args.marks.now c.marks.marked-index c.marked-item.result _ _ c.marks-test.true c.marked-item.is c.marks.invariant c.in_ok-push_news.ensures
