@@ -5,3 +5,4 @@ pub mod FaultsLemmas
 pub mod FieldsLemmas
 pub mod OneWayLemmas
 pub mod PlacesLemmas
+pub mod WritingLemmas

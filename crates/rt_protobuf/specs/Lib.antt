@@ -4,3 +4,4 @@ pub mod Parts
 pub mod Reading
 pub mod Held
 pub mod Message
+pub mod Writing
