@@ -11,12 +11,12 @@ const FNV_FACTOR: u64 = 0x0100_0000_01b3;
 
 /// Where runs and stops were found last. A guess may be wrong, and counts only once it is tested.
 #[derive(Drop)]
-pub(crate) struct Guesses {
+pub struct Guesses {
     places: Vec<usize>,
 }
 
 impl Guesses {
-    pub(crate) fn new(alloc: Global) -> Result<Guesses, NoMemory> {
+    pub fn new(alloc: Global) -> Result<Guesses, NoMemory> {
         Ok(Guesses {
             places: vec![in alloc; 0; GUESSES as usize]?,
         })

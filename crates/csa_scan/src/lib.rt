@@ -1,6 +1,6 @@
 //! Earliest arrivals over connections in departure order, by the Connection Scan Algorithm (Dibbelt et al.). A scan is
-//! begun for a question, takes lists of connections, and says the best arrival and a journey that has it. It builds on
-//! the words of `lc_model`.
+//! begun for a question, takes lists of connections, and says the best arrival and a journey that has it. Its places of
+//! stops, numbers of runs and walks serve other scans too. It builds on the words of `lc_model`.
 #![tactic(auto)]
 
 mod board;
@@ -17,5 +17,11 @@ mod side;
 mod trace;
 mod walks;
 
+pub use board::is_late;
 pub use fault::BeginFault;
+pub use guesses::Guesses;
+pub use places::{guessed_place, place_of};
+pub use run_numbers::{RunNumbers, number_each};
 pub use scan::Scan;
+pub use trace::Near;
+pub use walks::Walks;
