@@ -1,0 +1,11 @@
+pub mod GrowingLemmas
+pub mod KeepingLemmas
+pub mod DepartingLemmas
+pub mod TakingLemmas
+pub mod RidesLemmas
+pub mod LatestLemmas
+pub mod LinkingLemmas
+pub mod RoomLemmas
+pub mod OrderLemmas
+pub mod CatchingLemmas
+pub mod OneLatestLemmas

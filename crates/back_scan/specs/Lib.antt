@@ -1,0 +1,13 @@
+pub mod Alights
+pub mod Before
+pub mod Departs
+pub mod Forward
+pub mod Kept
+pub mod Latest
+pub mod Laws
+pub mod Linked
+pub mod Onward
+pub mod Over
+pub mod RidesFrom
+pub mod Stands
+pub mod StandsFor
