@@ -151,7 +151,7 @@ pub best-grown : (query : Query) (doc : StopsDoc) (ends : List (Option Near)) �
 best-grown query doc ends near arrivals a l old new h picks = best_picked query doc ends near arrivals a l old new picks.goal h picks.is_goal picks.picks
 
 -- what was reached after one arrival more
-reached_after : (stops : List Stop) (arrivals : List Arrival) (a : Arrival) (reached : List (Option ℕ)) →
+pub reached_after : (stops : List Stop) (arrivals : List Arrival) (a : Arrival) (reached : List (Option ℕ)) →
     ((stop by : ℕ) → slice_get reached stop ≡ Some (Some by) → IsReachedBy stops arrivals (id_at stops stop) by) →
     (stop by : ℕ) → slice_get (set reached a.stop (Some a.arr)) stop ≡ Some (Some by) → IsReachedBy stops (arrivals ++ a ∷ []) (id_at stops stop) by
 reached_after stops arrivals a reached h stop by e = elim (set_cases reached a.stop (Some a.arr) stop (Some by) e) [

@@ -31,7 +31,7 @@ use Rattle.csa_scan.proofs.NearWalksLemmas.{made_after, made_before, place_of_en
 use Rattle.csa_scan.proofs.WayBackLemmas.{IsTail, tail_back, tail_begins, tail_ends, tail_not_empty, tail_to, tail_whole}
 
 -- a stop with a change from it is one of the document
-has_stop : (doc : StopsDoc) (from to : List ℕ) (seconds : ℕ) → change_between doc.changes from to ≡ Some seconds → HasStop doc.stops from
+pub has_stop : (doc : StopsDoc) (from to : List ℕ) (seconds : ℕ) → change_between doc.changes from to ≡ Some seconds → HasStop doc.stops from
 has_stop doc from to seconds e =
     let p = place_from_change doc from to seconds e in
     let P : List ℕ → Type 0 = λ id. HasStop doc.stops id in
@@ -70,7 +70,7 @@ no_earlier query doc asked runs kept list s ride (next ∷ rest) leg after m goe
     no_earlier query doc asked runs kept list s next rest goes.0 (Some r.place) (changed doc query kept.arrivals ride next r goes.1 known) goes.2 walk is by
 
 -- the walk before is over when the first ride departs: it began no earlier than the question leaves, which is not at 0
-walk_over : (query : Query) (dep seconds : ℕ) → query.leave ≤ dep - seconds → query.leave + seconds ≤ dep
+pub walk_over : (query : Query) (dep seconds : ℕ) → query.leave ≤ dep - seconds → query.leave + seconds ≤ dep
 walk_over query dep seconds h = let not_before = query.not_before in omega arith
 
 rides_no_earlier : (query : Query) (doc : StopsDoc) → IsAsked query doc → (runs : List RunKey) (kept : Kept) (list : List Connection) → Stands query doc runs kept list →

@@ -18,7 +18,7 @@ use Rattle.csa_scan.specs.declared.trace.Ready.{Ready}
 use Rattle.csa_scan.proofs.ListPlacesLemmas.{push_cases, set_cases}
 
 -- who is at a stop came by one of the arrivals
-after_there : (query : Query) (starts : List (Option Near)) (ready : List (Option Ready)) (n stop at : ℕ) → ((stop : ℕ) (r : Ready) → slice_get ready stop ≡ Some (Some r) → r.after < n) →
+pub after_there : (query : Query) (starts : List (Option Near)) (ready : List (Option Ready)) (n stop at : ℕ) → ((stop : ℕ) (r : Ready) → slice_get ready stop ≡ Some (Some r) → r.after < n) →
     (after : Option ℕ) → IsThere query starts ready stop at after → (k : ℕ) → after ≡ Some k → k < n
 after_there query starts ready n stop at h None t k e = absurd (cc)
 after_there query starts ready n stop at h (Some place) t k e = let l = h stop t.0 t.1 in let m = t.2 in let same : place ≡ k = cc in omega arith

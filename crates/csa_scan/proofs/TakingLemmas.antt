@@ -30,7 +30,7 @@ use Rattle.std.proofs.lemmas.Bool.{false≢true}
 use Rattle.csa_scan.proofs.StepsLemmas.{gets_on, follows-boarded, stands-passed, complete-boarded}
 
 -- a connection that is not late is taken
-in_time-taken : (query : Query) (list : List Connection) (c : Connection) → c.arr ≤ latest_of query → in_time query (list ++ c ∷ []) ≡ in_time query list ++ c ∷ []
+pub in_time-taken : (query : Query) (list : List Connection) (c : Connection) → c.arr ≤ latest_of query → in_time query (list ++ c ∷ []) ≡ in_time query list ++ c ∷ []
 in_time-taken query list c early =
     let yes : nat_le c.arr (latest_of query) ≡ true = grind (arith, nat_tests) in
     filter-append (λ (x : Connection). nat_le x.arr (latest_of query)) list (c ∷ [])

@@ -17,11 +17,13 @@ mod side;
 mod trace;
 mod walks;
 
-pub use board::is_late;
+pub use board::{boarding, is_late, new_arrival};
 pub use fault::BeginFault;
 pub use guesses::Guesses;
+pub use journey::rides_to;
 pub use places::{guessed_place, place_of};
+pub use progress::Progress;
 pub use run_numbers::{RunNumbers, number_each};
 pub use scan::Scan;
-pub use trace::Near;
+pub use trace::{Arrival, Boarding, Goal, Near, Ready};
 pub use walks::Walks;

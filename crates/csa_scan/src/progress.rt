@@ -54,7 +54,7 @@ impl Progress {
     }
 
     /// Keeps the arrival, with what it makes ready. There is room for it.
-    fn arrive(&mut self, query: &Query, doc: &StopsDoc, ends: &[Option<Near>], arrival: Arrival)
+    pub fn arrive(&mut self, query: &Query, doc: &StopsDoc, ends: &[Option<Near>], arrival: Arrival)
         requires one_each { length self.old.ready.items ≡ length doc.now.stops }
         requires each_end { length ends.now ≡ length doc.now.stops }
         requires up_to_a_week { query.now.horizon ≤ 604_800 }

@@ -132,6 +132,13 @@ impl Scan {
         Ok(numbers)
     }
 
+    /// The stops document over which the scan was begun.
+    pub fn doc(&self) -> &StopsDoc
+        ensures { (query : Query) (doc : StopsDoc) (taken : List Connection) → StandsFor self.now query doc taken → result.now ≡ doc }
+    {
+        &self.doc
+    }
+
     /// The least arrival of a chain of the connections taken, or none where there is no chain.
     pub fn best(&self) -> Option<Moment>
         ensures { (query : Query) (doc : StopsDoc) (taken : List Connection) → StandsFor self.now query doc taken → IsListBest query doc taken result }
