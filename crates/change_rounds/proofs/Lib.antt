@@ -1,0 +1,7 @@
+pub mod AfterLemmas
+pub mod BeginsLemmas
+pub mod BoardingLemmas
+pub mod EndsLemmas
+pub mod OrderLemmas
+pub mod TakesLemmas
+pub mod WayLemmas
