@@ -9,5 +9,6 @@ mod turn;
 mod turning;
 
 pub use convoy::Convoy;
+pub use exchange::exchanged;
 pub use member::Member;
 pub use turn::Turn;

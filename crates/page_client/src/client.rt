@@ -29,12 +29,13 @@ pub struct Client {
 }
 
 impl Client {
-    ghost use Rattle.std.specs.Prelude.{◌≡◌, ◌≢◌, ◌<◌, ◌≤◌, ◌+◌, true, None, is_some, Result, Ok, IfOk, OnOk, OnErr};
+    ghost use Rattle.std.specs.Prelude.{◌≡◌, ◌≢◌, ◌<◌, ◌≤◌, ◌+◌, true, List, None, Some, is_some, Result, Ok, IfOk, OnOk, OnErr};
     ghost use Rattle.std.specs.Option.{option_copied};
+    ghost use Rattle.lc_model.specs.declared.connection.Connection.{Connection as Listed};
     ghost use Rattle.lc_model.specs.declared.doc.StopsDoc.{StopsDoc as Recorded};
     ghost use Rattle.lc_model.specs.declared.page.PageName.{PageName as Named};
     ghost use Rattle.page_json.specs.Valid.{IsValidPage};
-    ghost use Rattle.page_client.specs.Client.{AfterDoc, AfterStops, TakesPage, shown};
+    ghost use Rattle.page_client.specs.Client.{AfterDoc, AfterStops, StandsFor, TakesPage, shown};
     ghost use Rattle.page_client.specs.Fault.{IsWant};
     ghost use Rattle.page_client.specs.Gate.{IsGateReply};
     ghost use Rattle.page_client.specs.Page.{advances};
@@ -85,6 +86,16 @@ impl Client {
         ensures { result ≡ (shown self).outcome }
     {
         self.outcome
+    }
+
+    /// The stops document that the client took, while it reads pages.
+    pub fn doc(&self) -> Option<&StopsDoc>
+        ensures { (doc : Recorded) (taken : List Listed) → StandsFor self.now doc taken → option_copied result ≡ Some doc }
+    {
+        match &self.scan {
+            Some(scan) => Some(scan.doc()),
+            None => None,
+        }
     }
 
     /// The version that the time gate named; none before its reply is taken.
