@@ -34,7 +34,7 @@ last_of_rest (c ∷ []) (d ∷ rest) last is = is
 last_of_rest (c ∷ d ∷ front) rest last is = last_of_rest (d ∷ front) rest last is
 
 -- the last departure of what was taken is that of the page that was taken last
-last_taken : (before : List CutPage) (page : CutPage) (last : ℕ) → last_departure page.connections ≡ Some last → last_departure (connections_along (before ++ page ∷ [])) ≡ Some last
+pub last_taken : (before : List CutPage) (page : CutPage) (last : ℕ) → last_departure page.connections ≡ Some last → last_departure (connections_along (before ++ page ∷ [])) ≡ Some last
 last_taken before page last is =
     ap last_departure (flat_map-append (λ (p : CutPage). p.connections) before (page ∷ []))
     ∙ last_of_rest (connections_along before) (page.connections ++ []) last (ap last_departure (append-nil page.connections) ∙ is)

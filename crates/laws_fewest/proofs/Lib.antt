@@ -1,0 +1,2 @@
+pub mod NeededLemmas
+pub mod PartLemmas
