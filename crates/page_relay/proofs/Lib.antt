@@ -1,0 +1,7 @@
+mod DocumentLemmas
+mod ExchangeLemmas
+mod FitsLemmas
+mod HonestLemmas
+mod KeepableLemmas
+mod MemoryLemmas
+mod NearLemmas

@@ -1,0 +1,31 @@
+-- A relay is as honest as before where it answers itself, or does not, and as the link below where it hands on.
+use Rattle.std.proofs.Common.{IsTrue}
+use Rattle.page_relay.specs.Kept.{sent_to}
+use Rattle.page_relay.proofs.HonestLemmas.{by_memory, not_asked}
+use Rattle.page_relay.proofs.relay.Relay.relay.Goals as goal
+
+pub returns-in_err-tell-clause-honest : goal.returns-in_err-tell-clause-honest
+returns-in_err-tell-clause-honest g c =
+    rw (← c.self.view_is) (λ base side get is. not_asked _ _ _ base side _ _ c.from_residual.result c.from_residual.ensures.0 is)
+
+pub returns-in_err-sent-clause-honest : goal.returns-in_err-sent-clause-honest
+returns-in_err-sent-clause-honest g c =
+    rw (← c.self.view_is) (λ base side get is. not_asked _ _ _ base side _ _ c.from_residual-in_err-sent.result c.from_residual-in_err-sent.ensures.0 is)
+
+pub returns-in_err-answer-clause-honest : goal.returns-in_err-answer-clause-honest
+returns-in_err-answer-clause-honest g c =
+    let same = c.in_err-answer.ensures.unchanged in
+    rw (← c.self.view_is, same) (λ base side get is. not_asked _ _ _ base side _ _ c.from_residual-in_err-answer.result c.from_residual-in_err-answer.ensures.0 is)
+
+pub returns-then-branch-clause-honest : goal.returns-then-branch-clause-honest
+returns-then-branch-clause-honest g c =
+    let hit : IsTrue c.in_ok-answer.field-0 = c.if-branch.true in
+    let found = rw c.in_ok-sent.ensures at c.in_ok-answer.ensures.answered hit in
+    let used = rw c.in_ok-sent.ensures at c.in_ok-answer.ensures.used hit in
+    rw (← c.self.view_is, used) (λ base side get is. by_memory _ base _ _ _ _ side (sent_to c.args.authority.now c.args.request.now) _ tt found is)
+
+pub returns-clause-honest : goal.returns-clause-honest
+returns-clause-honest g c =
+    let not_hit : IsTrue c.in_ok-answer.field-0 → ⊥ = λ hit. cc in
+    let same = c.in_ok-answer.ensures.not_used not_hit in
+    rw (← c.self.view_is) (rw (same, c.in_ok-sent.ensures) at c.hand_on.ensures.honest)
