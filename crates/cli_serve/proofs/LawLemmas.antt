@@ -2,11 +2,11 @@
 use Rattle.std.proofs.Common.{◌≡◌, ◌≢◌, ◌∙◌, ℕ, suc, ◌+◌, ◌⊎◌, Bool, true, false, List, [], ◌∷◌, ◌++◌, length, length-append, Option, None, Some, inl, inr, refl, sym, ap, subst, append_assoc, append-nil, arith}
 use Rattle.std.specs.List.{concat}
 use Rattle.std.proofs.lemmas.List.{append_cancel_left}
-use Rattle.lc_doors.specs.Door.{DoorRecorded, GoesOn, Wire}
+use Rattle.lc_doors.specs.Door.{DoorRecorded, DoorSeen, GoesOn, Wire}
 use Rattle.publisher_spec.specs.Side.{Side}
 use Rattle.wire_session.specs.Laws.{OneOutput}
 use Rattle.wire_session.specs.SessionOut.{Said, SessionOut}
-use Rattle.cli_serve.specs.Serve.{Asked, IsServedWhole, Outside}
+use Rattle.cli_serve.specs.Serve.{Asked, IsServedWhole, Outside, WasVisited}
 use Rattle.cli_serve.specs.Recorded.{AreRecorded, AreWiresOf, IsWireOf, came, opened_at}
 use Rattle.cli_serve.specs.Visit.{AreVisits, IsServed, IsVisit, NoneLost, Visit}
 
@@ -68,17 +68,25 @@ recorded_at visits port (Some s) (Some t) x y is now recorded =
     let after : t ≡ y = cc in
     subst (λ (d : DoorRecorded). AreRecorded visits (opened_at port x) d) after (subst (λ (d : DoorRecorded). AreRecorded visits (opened_at port d) t) before recorded)
 
--- what a door has recorded says what the visits were
+-- what a door has recorded says what the visits were, if memory ran out on none of them
+pub one_visiting : OneOutput → (asked : Asked) (before after : DoorSeen) (recorded_before recorded_after : DoorRecorded) → before.recorded ≡ Some recorded_before
+    → after.recorded ≡ Some recorded_after → (visits others : List Visit) → WasVisited asked visits before after → WasVisited asked others before after → NoneLost visits → NoneLost others
+    → visits ≡ others
+one_visiting one asked before after recorded_before recorded_after is now visits others a b a_kept b_kept =
+    let p : AreRecorded visits (opened_at asked.port recorded_before) recorded_after =
+    recorded_at visits asked.port before.recorded after.recorded recorded_before recorded_after is now a.recorded in
+    let q : AreRecorded others (opened_at asked.port recorded_before) recorded_after =
+    recorded_at others asked.port before.recorded after.recorded recorded_before recorded_after is now b.recorded in
+    let wires : p.wires ≡ q.wires = append_cancel_left (came recorded_before) p.wires q.wires (sym p.came_more ∙ q.came_more) in
+    one_list one visits others q.wires asked.first a.last b.last
+    (subst (λ (w : List Wire). AreWiresOf visits w) wires p.wires_are) q.wires_are a_kept b_kept a.visits_are b.visits_are
+
+-- those of a serving that is Ok too
 pub one_serving : OneOutput → (asked : Asked) (before after : Outside) (recorded_before recorded_after : DoorRecorded) → before.door.recorded ≡ Some recorded_before
     → after.door.recorded ≡ Some recorded_after → (a b : IsServedWhole asked before after) → a.visits ≡ b.visits
 one_serving one asked before after recorded_before recorded_after is now a b =
-    let p : AreRecorded a.visits (opened_at asked.port recorded_before) recorded_after =
-    recorded_at a.visits asked.port before.door.recorded after.door.recorded recorded_before recorded_after is now a.served.visited.recorded in
-    let q : AreRecorded b.visits (opened_at asked.port recorded_before) recorded_after =
-    recorded_at b.visits asked.port before.door.recorded after.door.recorded recorded_before recorded_after is now b.served.visited.recorded in
-    let wires : p.wires ≡ q.wires = append_cancel_left (came recorded_before) p.wires q.wires (sym p.came_more ∙ q.came_more) in
-    one_list one a.visits b.visits q.wires asked.first a.served.visited.last b.served.visited.last
-    (subst (λ (w : List Wire). AreWiresOf a.visits w) wires p.wires_are) q.wires_are a.served.none_lost b.served.none_lost a.served.visited.visits_are b.served.visited.visits_are
+    one_visiting one asked before.door after.door recorded_before recorded_after is now a.visits b.visits
+    a.served.visited b.served.visited a.served.none_lost b.served.none_lost
 
 all_sent : (side next : Side) (visit : Visit) (served : IsServed side visit next) → (visit.failed ≡ false) ⊎ (visit.read_failed ≡ true) → visit.sent ≡ concat served.said.replies
 all_sent side next visit served (inl well) = served.all_sent well

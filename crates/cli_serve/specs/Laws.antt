@@ -1,12 +1,18 @@
 -- The laws of serving: what comes of it is one where the door records, and near values are refused.
 use Rattle.std.specs.Prelude.{◌≡◌, ◌≢◌, ◌⊎◌, ℕ, true, false, List, [], ◌∷◌, ◌++◌, Some}
 use Rattle.std.specs.List.{concat}
-use Rattle.lc_doors.specs.Door.{DoorRecorded, Wire}
+use Rattle.lc_doors.specs.Door.{DoorRecorded, DoorSeen, Wire}
 use Rattle.publisher_spec.specs.Side.{Side}
 use Rattle.wire_session.specs.SessionOut.{Said, SessionOut}
-use Rattle.cli_serve.specs.Serve.{Asked, IsServedWhole, Outside}
+use Rattle.cli_serve.specs.Serve.{Asked, IsServedWhole, Outside, WasVisited}
 use Rattle.cli_serve.specs.Recorded.{IsWireOf}
-use Rattle.cli_serve.specs.Visit.{AreVisits, IsVisit, Visit}
+use Rattle.cli_serve.specs.Visit.{AreVisits, IsVisit, NoneLost, Visit}
+
+-- Where the door records, visits are one on none of which memory ran out, however serving ended after them.
+abbrev pub OneVisiting : Type 0
+OneVisiting =
+    (asked : Asked) (before after : DoorSeen) (recorded_before recorded_after : DoorRecorded) → before.recorded ≡ Some recorded_before → after.recorded ≡ Some recorded_after
+    → (visits others : List Visit) → WasVisited asked visits before after → WasVisited asked others before after → NoneLost visits → NoneLost others → visits ≡ others
 
 -- where the door records, the visits are one, and so is the line that counts them
 abbrev pub OneServing : Type 0
