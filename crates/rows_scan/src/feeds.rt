@@ -72,3 +72,16 @@ pub const CHANGING: &[Row] = &[
     ("T6", 1, "X", 32_400, "Y", 32_400),
     ("T6", 2, "Y", 32_400, "Z", 32_700),
 ];
+
+/// T7 leaves B before T4 leaves E, and later than a walk there.
+pub const BESIDE: &[Row] = &[
+    ("T7", 1, "B", 32_200, "F", 32_900),
+    ("T4", 1, "E", 32_400, "F", 33_000),
+];
+
+/// T1 comes to B a second too late for T3.
+pub const MISSED: &[Row] = &[
+    ("T1", 1, "A", 28_801, "B", 29_401),
+    ("T3", 1, "B", 29_520, "D", 30_660),
+    ("T2", 1, "B", 30_000, "D", 31_200),
+];

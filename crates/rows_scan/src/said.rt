@@ -1,5 +1,6 @@
 //! What a scan answers, as a piece of a line each.
 use crate::scans::{MIDNIGHT, moment};
+use back_scan::BackScan;
 use csa_scan::Scan;
 use lc_model::{Journey, Moment, Ride, Walk};
 use rows_common::Unmade;
@@ -28,10 +29,29 @@ pub fn put_done(text: &mut String, scan: &Scan, last: u32) -> Result<(), Unmade>
     Ok(())
 }
 
+/// The second of the latest departure, or that there is none.
+pub fn put_latest(text: &mut String, scan: &BackScan) -> Result<(), Unmade> {
+    match scan.latest() {
+        Some(latest) => {
+            let latest = second(latest);
+            write!(text, "latest {latest}")?;
+        }
+        None => text.push_str("latest none")?,
+    }
+    Ok(())
+}
+
+/// Whether departures before the second change nothing any more.
+pub fn put_over(text: &mut String, scan: &BackScan, first: u32) -> Result<(), Unmade> {
+    let is_done = scan.done(moment(first)?);
+    write!(text, ", done at {first} {is_done}")?;
+    Ok(())
+}
+
 /// The journey, or that there is none, up to the end of the line.
-pub fn put_journey(alloc: Global, text: &mut String, scan: &Scan) -> Result<(), Unmade> {
-    match scan.journey(alloc)? {
-        Some(journey) => put_parts(text, &journey),
+pub fn put_journey(text: &mut String, journey: Option<&Journey>) -> Result<(), Unmade> {
+    match journey {
+        Some(journey) => put_parts(text, journey),
         None => Ok(text.push_str(", no journey\n")?),
     }
 }

@@ -138,7 +138,8 @@ fn put_scan(
     put_best(text, scan)?;
     put_done(text, scan, over.saturating_sub(1))?;
     put_done(text, scan, over)?;
-    put_journey(alloc, text, scan)
+    let journey = scan.journey(alloc)?;
+    put_journey(text, journey.as_ref())
 }
 
 fn take(alloc: Global, scan: &mut Scan, rows: &[Row]) -> Result<(), Unmade> {
@@ -146,7 +147,7 @@ fn take(alloc: Global, scan: &mut Scan, rows: &[Row]) -> Result<(), Unmade> {
     Ok(scan.take_all(alloc, &list)?)
 }
 
-fn id(alloc: Global, text: &str) -> Result<Id, Unmade> {
+pub fn id(alloc: Global, text: &str) -> Result<Id, Unmade> {
     Ok(Id::new(alloc, text.as_bytes())?.ok_or("an id")?)
 }
 
@@ -179,7 +180,7 @@ fn is_forward(list: &[Connection]) -> bool
     list.iter().all(|c| c.dep <= c.arr)
 }
 
-fn connections(alloc: Global, rows: &[Row]) -> Result<Connections, Unmade> {
+pub fn connections(alloc: Global, rows: &[Row]) -> Result<Connections, Unmade> {
     let mut list = Vec::new(alloc);
     for row in rows {
         push(alloc, &mut list, row)?;
