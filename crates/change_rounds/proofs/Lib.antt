@@ -1,4 +1,5 @@
 pub mod AfterLemmas
+pub mod AlikeLemmas
 pub mod BeginsLemmas
 pub mod BoardingLemmas
 pub mod EndsLemmas

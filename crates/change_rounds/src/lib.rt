@@ -3,7 +3,9 @@
 #![tactic(auto)]
 
 mod fewest;
+mod laws;
 mod round;
 mod rounds;
 
 pub use fewest::fewest_of;
+pub use laws::one_fewest;
