@@ -1,0 +1,4 @@
+pub mod DrawsLemmas
+pub mod RowsLemmas
+pub mod MessagesLemmas
+pub mod EntriesLemmas
