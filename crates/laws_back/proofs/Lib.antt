@@ -1,0 +1,4 @@
+pub mod EarlyLemmas
+pub mod BackLemmas
+pub mod TakenLemmas
+pub mod JourneyLemmas
