@@ -1,2 +1,3 @@
 pub mod NeededLemmas
 pub mod PartLemmas
+pub mod VersionLemmas

@@ -14,8 +14,8 @@ use Rattle.lc_model.specs.declared.ride.Ride.{Ride}
 use Rattle.lc_versions.specs.Pages.{CutPage}
 use Rattle.change_rounds.specs.Fewest.{IsFewestAnswer, IsFewestChain}
 use Rattle.laws_pages.specs.Chain.{ArePagesOf, connections_along}
-use Rattle.laws_pages.specs.Needed.{IsOver, IsTakenUntilOver, needed_pages}
-use Rattle.laws_pages.specs.Rides.{connections_on, pages_on}
+use Rattle.laws_pages.specs.Needed.{IsTakenUntilOver, needed_pages}
+use Rattle.laws_pages.specs.Rides.{pages_on}
 use Rattle.laws_pages.specs.Stop.{bound_of}
 use Rattle.laws_pages.proofs.AlongLemmas.{chains_are_there}
 use Rattle.laws_pages.proofs.NeededLemmas.{always_stops, last_taken, same_best}

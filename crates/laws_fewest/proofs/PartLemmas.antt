@@ -1,12 +1,12 @@
 -- Journeys of the fewest rides over two kinds of ride, of which the one has the best journeys of the other.
-use Rattle.std.proofs.Common.{◌≡◌, ℕ, ◌≤◌, Option, Some, None, length, arith}
+use Rattle.std.proofs.Common.{ℕ, ◌≤◌, Option, Some, None, arith}
 use Rattle.std.specs.Prelude.{◌↔◌}
 use Rattle.lc_model.specs.Journey.{IsBest, IsJourney, IsLeastArrival, arrives_at}
 use Rattle.lc_model.specs.declared.doc.StopsDoc.{StopsDoc}
 use Rattle.lc_model.specs.declared.journey.Journey.{Journey}
 use Rattle.lc_model.specs.declared.query.Query.{Query}
 use Rattle.lc_model.specs.declared.ride.Ride.{Ride}
-use Rattle.change_rounds.specs.Fewest.{IsFewest, IsFewestAnswer}
+use Rattle.change_rounds.specs.Fewest.{IsFewestAnswer}
 
 module _ (A B : Ride → Type 0) (query : Query) (doc : StopsDoc) (part : (journey : Journey) → IsJourney A query doc journey → IsJourney B query doc journey)
     (best_stays : (journey : Journey) → IsBest B query doc journey → IsJourney A query doc journey) where
