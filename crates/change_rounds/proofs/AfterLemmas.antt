@@ -1,10 +1,8 @@
 -- One round more.
-use Rattle.std.proofs.Common.{◌≡◌, ℕ, ◌+◌, ◌-◌, ◌<◌, ◌≤◌, zero, suc, List, [], ◌∷◌, Option, Some, None, length, refl, sym, ◌∙◌, ap, subst, inl, inr, arith}
-use Rattle.std.specs.List.{slice_get}
+use Rattle.std.proofs.Common.{◌≡◌, ℕ, ◌+◌, ◌-◌, ◌≤◌, zero, suc, List, [], ◌∷◌, Option, Some, length, refl, sym, ◌∙◌, subst, inl, inr, arith}
 use Rattle.lc_model.specs.Change.{change_between}
 use Rattle.lc_model.specs.Journey.{AreRides, GoesOn, IsJourney, alight_of, arrival_of_rides, arrives_at, board_of, departure_of}
 use Rattle.lc_model.specs.Leg.{IsLegOf}
-use Rattle.lc_model.specs.Question.{latest_of}
 use Rattle.lc_model.specs.Walk.{IsWalkAfter, IsWalkBefore, seconds_of}
 use Rattle.lc_model.specs.declared.connection.Connection.{Connection}
 use Rattle.lc_model.specs.declared.doc.StopsDoc.{StopsDoc}
@@ -15,7 +13,6 @@ use Rattle.lc_model.specs.declared.ride.Ride.{Ride}
 use Rattle.lc_model.specs.declared.walk.Walk.{Walk}
 use Rattle.csa_scan.specs.Kept.{Kept}
 use Rattle.csa_scan.specs.Stands.{IsAsked}
-use Rattle.csa_scan.specs.declared.trace.Arrival.{Arrival}
 use Rattle.csa_scan.specs.declared.trace.Goal.{Goal}
 use Rattle.csa_scan.proofs.LeastLemmas.{has_stop, walk_over}
 use Rattle.csa_scan.proofs.ListPlacesLemmas.{some_and}

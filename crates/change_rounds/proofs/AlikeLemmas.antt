@@ -1,5 +1,5 @@
 -- Journeys of the fewest rides are alike.
-use Rattle.std.proofs.Common.{◌≡◌, Option, Some, None, length, arith}
+use Rattle.std.proofs.Common.{Option, Some, None, arith}
 use Rattle.lc_model.specs.Leg.{IsLegOf, in_time}
 use Rattle.lc_model.specs.Ride.{IsRideAt}
 use Rattle.lc_model.specs.declared.doc.StopsDoc.{StopsDoc}

@@ -1,6 +1,6 @@
 -- What is known before the first round, and when a round begins.
-use Rattle.std.proofs.Common.{◌≡◌, ℕ, ◌≤◌, List, [], ◌∷◌, Option, Some, None, length, replicate, sym, subst, inl, arith}
-use Rattle.lc_model.specs.Journey.{AreRides, IsJourney}
+use Rattle.std.proofs.Common.{◌≡◌, ℕ, ◌≤◌, List, [], ◌∷◌, None, length, sym, subst, inl, arith}
+use Rattle.lc_model.specs.Journey.{AreRides}
 use Rattle.lc_model.specs.Leg.{IsLegOf}
 use Rattle.lc_model.specs.declared.connection.Connection.{Connection}
 use Rattle.lc_model.specs.declared.doc.StopsDoc.{StopsDoc}

@@ -5,7 +5,7 @@ use Rattle.std.proofs.lemmas.List.{length-replicate}
 use Rattle.lc_model.specs.declared.connection.Connection.{Connection}
 use Rattle.lc_model.specs.declared.doc.StopsDoc.{StopsDoc}
 use Rattle.lc_model.specs.declared.query.Query.{Query}
-use Rattle.csa_scan.specs.Linked.{IsArrivalIn, IsBoardingIn, IsLinked}
+use Rattle.csa_scan.specs.Linked.{IsBoardingIn, IsLinked}
 use Rattle.csa_scan.specs.declared.trace.Arrival.{Arrival}
 use Rattle.csa_scan.specs.declared.trace.Boarding.{Boarding}
 use Rattle.csa_scan.specs.declared.trace.Goal.{Goal}

@@ -1,8 +1,7 @@
 -- What rounds answer.
-use Rattle.std.proofs.Common.{◌≡◌, ℕ, ◌<◌, ◌≤◌, suc, List, Option, Some, None, length, sym, ◌∙◌, ap, subst, inl, inr, arith}
-use Rattle.std.specs.List.{slice_get}
-use Rattle.lc_model.specs.Journey.{IsBest, IsJourney, alight_of, arrives_at, board_of}
-use Rattle.lc_model.specs.Leg.{IsChain, IsLegOf, in_time}
+use Rattle.std.proofs.Common.{◌≡◌, ℕ, ◌<◌, ◌≤◌, suc, List, Some, None, length, sym, subst, inl, inr, arith}
+use Rattle.lc_model.specs.Journey.{IsBest, alight_of, arrives_at, board_of}
+use Rattle.lc_model.specs.Leg.{IsLegOf, in_time}
 use Rattle.lc_model.specs.Walk.{IsWalkAfter}
 use Rattle.lc_model.specs.declared.connection.Connection.{Connection}
 use Rattle.lc_model.specs.declared.doc.StopsDoc.{StopsDoc}
@@ -20,7 +19,7 @@ use Rattle.csa_scan.specs.declared.walks.Walks.{Walks}
 use Rattle.csa_scan.proofs.NearWalksLemmas.{made_after, made_before}
 use Rattle.csa_scan.proofs.SoughtLemmas.{below}
 use Rattle.csa_scan.proofs.WayBackLemmas.{tail_begins, tail_ends, tail_to, tail_whole}
-use Rattle.change_rounds.specs.Fewest.{IsFewest, IsFewestChain}
+use Rattle.change_rounds.specs.Fewest.{IsFewestChain}
 use Rattle.change_rounds.specs.Round.{AfterRounds}
 use Rattle.change_rounds.specs.Rounds.{HaveAtLeast, IsChainWithin, IsFewestBelow}
 use Rattle.change_rounds.proofs.BeginsLemmas.{some_rides}

@@ -2,8 +2,8 @@
 use Rattle.std.proofs.Common.{◌≡◌, ℕ, ◌<◌, ◌≤◌, ◌⊎◌, List, [], ◌∷◌, ◌++◌, Option, Some, None, true, length, set, refl, sym, ◌∙◌, ap, subst, inl, inr, arith}
 use Rattle.std.specs.List.{slice_get}
 use Rattle.std.proofs.lemmas.Option.{slice_get_within}
-use Rattle.lc_model.specs.Change.{InChangeOrder, changes_from}
-use Rattle.lc_model.specs.Leg.{IsLegOf, in_time}
+use Rattle.lc_model.specs.Change.{changes_from}
+use Rattle.lc_model.specs.Leg.{in_time}
 use Rattle.lc_model.specs.Question.{latest_of}
 use Rattle.lc_model.specs.Stop.{HasStop}
 use Rattle.lc_model.specs.declared.connection.Connection.{Connection}
@@ -21,7 +21,6 @@ use Rattle.csa_scan.specs.Takes.{Arrives, IsArrivalOf, IsReachedAlready}
 use Rattle.csa_scan.specs.declared.side.Side.TheVariants.{After, Before}
 use Rattle.csa_scan.specs.declared.trace.Arrival.{Arrival}
 use Rattle.csa_scan.specs.declared.trace.Boarding.{Boarding}
-use Rattle.csa_scan.specs.declared.trace.Goal.{Goal}
 use Rattle.csa_scan.specs.declared.trace.Near.{Near}
 use Rattle.csa_scan.specs.declared.trace.Ready.{Ready}
 use Rattle.csa_scan.proofs.ArrivingLemmas.{best-grown, leg_end, reached_after, ready-grown, same_kept}

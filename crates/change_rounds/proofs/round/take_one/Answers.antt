@@ -1,15 +1,14 @@
-use Rattle.std.proofs.Common.{◌≡◌, ◌⊎◌, ℕ, List, Option, None, Some, true, length, set, sym, subst, arith}
+use Rattle.std.proofs.Common.{◌≡◌, ℕ, List, Option, None, Some, true, length, set, sym, subst, arith}
 use Rattle.std.specs.List.{slice_get}
 use Rattle.std.proofs.lemmas.List.{length-set}
 use Rattle.std.proofs.lemmas.Option.{slice_get_read}
 use Rattle.lc_model.specs.Question.{latest_of}
-use Rattle.csa_scan.specs.Boards.{CannotBoard, IsFirstBoarding}
+use Rattle.csa_scan.specs.Boards.{CannotBoard}
 use Rattle.csa_scan.specs.Kept.{kept_of}
 use Rattle.csa_scan.specs.Linked.{IsBoardingIn}
 use Rattle.csa_scan.specs.Takes.{Arrives, IsReachedAlready}
 use Rattle.csa_scan.specs.declared.trace.Boarding.{Boarding}
 use Rattle.csa_scan.specs.declared.trace.Near.{Near}
-use Rattle.csa_scan.specs.declared.trace.Ready.{Ready}
 use Rattle.csa_scan.proofs.LinkingLemmas.{linked-boarded}
 use Rattle.csa_scan.proofs.TakingLemmas.{in_time_by}
 use Rattle.change_rounds.proofs.BoardingLemmas.{boarding_in}

@@ -1,4 +1,4 @@
-use Rattle.std.proofs.Common.{List, ℕ, ◌≤◌, sym, subst, arith}
+use Rattle.std.proofs.Common.{List, ◌≤◌, sym, subst, arith}
 use Rattle.lc_model.specs.Journey.{alight_of, board_of}
 use Rattle.lc_model.specs.declared.key.RunKey.{RunKey}
 use Rattle.lc_model.specs.declared.ride.Ride.{Ride}
