@@ -5,6 +5,7 @@ mod broken;
 mod messages;
 mod putting;
 mod wire;
+mod written;
 
 use rows_common::{Unmade, exit_code};
 use std::alloc::Global;
@@ -18,6 +19,7 @@ fn main(rt: HostRuntime) -> ExitCode {
 
 fn put_cases(alloc: Global, text: &mut String) -> Result<(), Unmade> {
     wire::put_wire(text)?;
+    written::put_written(alloc, text)?;
     messages::put_messages(alloc, text)?;
     broken::put_faults(alloc, text)
 }
