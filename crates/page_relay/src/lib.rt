@@ -9,7 +9,7 @@ mod memory;
 mod near;
 mod relay;
 mod sent;
-mod told;
+mod transcript;
 mod worked;
 
 pub use laws::{clients_are_kept, kept_replies_stay, new_relays_are_honest, one_memory};

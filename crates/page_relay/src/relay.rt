@@ -10,7 +10,7 @@ ghost use Rattle.publisher_spec.specs.Side.{Side};
 
 use crate::SentRequest;
 use crate::keeper::Keeper;
-use crate::told::tell;
+use crate::transcript::push_entry;
 use connection_uri::Base;
 use lc_model::NoMemory;
 use lc_world::{Entry, Link, LinkFail};
@@ -130,7 +130,7 @@ impl<L: Link> Relay<L> {
         ensures faults { HasCause (L.seen self.old.inner).faults (L.seen self.new.inner).faults (IsErrOf result Failed) }
     {
         self.relayed = self.relayed.saturating_add(1);
-        tell(alloc, &mut self.recorded, authority, request)?;
+        push_entry(alloc, &mut self.recorded, authority, request)?;
         let sent = SentRequest::new(alloc, authority, request)?;
         if self.keeper.answer(&sent, reply)? {
             return Ok(());
@@ -187,6 +187,7 @@ impl<L: Link> Link for Relay<L> {
     /// It has the side and the count of the link below, and its own exchanges without their replies.
     ghost seen = { relay_seen L.seen };
 
+    /// Linear in the request and in the reply, whatever is kept, besides what the link below takes.
     fn exchange(
         &mut self,
         alloc: Global,
@@ -246,7 +247,7 @@ impl<L: Link> Link for Relay<L> {
         ensures empty { OnErr result (reply.new.items ≡ []) }
         ensures faults { HasCause (L.seen self.old.inner).faults (L.seen self.new.inner).faults (IsErrOf result Failed) }
     {
-        match tell(alloc, &mut self.recorded, authority, request) {
+        match push_entry(alloc, &mut self.recorded, authority, request) {
             Ok(()) => self.inner.pass(alloc, authority, request, reply),
             Err(NoMemory) => {
                 reply.clear();

@@ -4,8 +4,8 @@ use Rattle.page_relay.specs.Kept.{sent_to}
 use Rattle.page_relay.proofs.HonestLemmas.{by_memory, not_asked}
 use Rattle.page_relay.proofs.relay.Relay.relay.Goals as goal
 
-pub returns-in_err-tell-clause-honest : goal.returns-in_err-tell-clause-honest
-returns-in_err-tell-clause-honest g c =
+pub returns-in_err-push_entry-clause-honest : goal.returns-in_err-push_entry-clause-honest
+returns-in_err-push_entry-clause-honest g c =
     rw (← c.self.view_is) (λ base side get is. not_asked _ _ _ base side _ _ c.from_residual.result c.from_residual.ensures.0 is)
 
 pub returns-in_err-sent-clause-honest : goal.returns-in_err-sent-clause-honest

@@ -7,7 +7,7 @@ use lc_world::{Entry, RecordedReply};
 use std::alloc::Global;
 
 /// Records an exchange without its reply. Linear in the request.
-pub(crate) fn tell(
+pub(crate) fn push_entry(
     alloc: Global,
     recorded: &mut Vec<Entry>,
     authority: &str,
