@@ -1,6 +1,6 @@
 -- Of the replies of a side to requests that are kept only documents have the status 200.
 use Rattle.std.proofs.Common.{◌≡◌, ◌≤◌, ℕ, List, ◌++◌, drop, length, codes, Bool, true, false, Option, Some, None, Result, Ok, Err, inl, inr, refl, sym, ap, subst, ◌∙◌, arith}
-use Rattle.std.specs.Prelude.{◌⊎◌, ◌&&◌, if◌then◌else◌}
+use Rattle.std.specs.Prelude.{◌&&◌, if◌then◌else◌}
 use Rattle.std.specs.Fmt.{digits}
 use Rattle.connection_uri.specs.Base.{BaseParts}
 use Rattle.http_text.specs.Reply.{IsReply}
@@ -11,7 +11,7 @@ use Rattle.http_text.specs.declared.request.Request.{Request}
 use Rattle.http_text.proofs.AnswerLemmas.{answers}
 use Rattle.http_text.proofs.MessageLemmas.{one_read, one_request}
 use Rattle.publisher_spec.specs.Asked.{asked_by_posting, asked_by_reading, asked_of, is_head, is_under}
-use Rattle.publisher_spec.specs.Reply.{HasReply, bare_parts, sent_parts, text_said}
+use Rattle.publisher_spec.specs.Reply.{bare_parts, sent_parts, text_said}
 use Rattle.publisher_spec.specs.Response.{IsDocument, IsPageResponse, IsResponseTo, IsSentOf, asked_at}
 use Rattle.publisher_spec.specs.Side.{Side, has_version}
 use Rattle.publisher_spec.specs.declared.asked.Asked.{Asked}
@@ -19,7 +19,7 @@ use Rattle.publisher_spec.specs.declared.asked.Asked.TheVariants as kinds
 use Rattle.publisher_spec.specs.declared.response.Response.{Response}
 use Rattle.publisher_spec.specs.declared.response.Response.TheVariants as responses
 use Rattle.publisher_spec.proofs.AskedLemmas.{same_behind}
-use Rattle.page_relay.specs.Keeping.{IsKeepable, IsLastingPath, IsLastingReply, IsToKeep}
+use Rattle.page_relay.specs.Keeping.{IsLastingPath, IsLastingReply}
 use Rattle.page_relay.specs.Laws.{OnlyDocuments}
 
 -- WHAT IS READ OF A STATUS

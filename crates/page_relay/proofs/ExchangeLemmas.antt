@@ -1,7 +1,7 @@
 -- What is kept after exchanges is one.
 use Rattle.std.proofs.Common.{◌≡◌, ℕ, List, [], ◌∷◌, Option, Some, None, inl, inr, sym, subst, ◌∙◌}
 use Rattle.connection_uri.specs.Base.{BaseParts}
-use Rattle.page_relay.specs.Exchanges.{AreKeptAfter, Exchanged, GoesOn, IsKeptAfter, KeepsReply}
+use Rattle.page_relay.specs.Exchanges.{AreKeptAfter, GoesOn, KeepsReply}
 use Rattle.page_relay.specs.Kept.{Kept, reply_for}
 use Rattle.page_relay.specs.Laws.{OneMemory}
 use Rattle.page_relay.specs.declared.sent.SentRequest.{SentRequest}

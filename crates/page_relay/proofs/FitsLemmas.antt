@@ -1,16 +1,14 @@
 -- What a relay keeps agrees with the sides of its link.
-use Rattle.std.proofs.Common.{◌≡◌, ℕ, List, [], Option, Some, sym, subst, inl, inr}
-use Rattle.std.specs.Option.{IfSome}
-use Rattle.std.specs.List.{All}
+use Rattle.std.proofs.Common.{◌≡◌, ℕ, List, Some, sym, subst, inl, inr}
 use Rattle.std.proofs.lemmas.List.Elements.{All-contains, All-weaker}
 use Rattle.connection_uri.specs.Base.{BaseParts}
-use Rattle.publisher_spec.specs.Reply.{HasReply, IsReply}
+use Rattle.publisher_spec.specs.Reply.{IsReply}
 use Rattle.publisher_spec.specs.Side.{IsLater, IsValidSide, Side}
 use Rattle.publisher_spec.proofs.LaterLemmas.{mementos_stay}
 use Rattle.page_relay.specs.Exchanges.{KeepsReply}
 use Rattle.page_relay.specs.Fits.{IsReplyOf, RelayFits}
 use Rattle.page_relay.specs.Keeping.{IsToKeep}
-use Rattle.page_relay.specs.Kept.{Kept, reply_for, with_kept, with_used}
+use Rattle.page_relay.specs.Kept.{Kept, reply_for, with_used}
 use Rattle.page_relay.specs.Laws.{FitsLater}
 use Rattle.page_relay.specs.declared.sent.SentRequest.{SentRequest}
 use Rattle.page_relay.proofs.DocumentLemmas.{only_documents}

@@ -1,5 +1,5 @@
 -- Relays over honest links stay honest, whatever becomes of an exchange.
-use Rattle.std.proofs.Common.{◌≡◌, ℕ, List, [], Option, Some, None, Result, Ok, Err, refl, sym, subst}
+use Rattle.std.proofs.Common.{◌≡◌, ℕ, List, [], Option, Some, Result, Ok, Err, refl, sym, subst}
 use Rattle.std.specs.Option.{IfSome}
 use Rattle.std.specs.Prelude.{IsErr, OnOk}
 use Rattle.connection_uri.specs.Base.{BaseParts}

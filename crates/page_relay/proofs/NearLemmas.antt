@@ -1,7 +1,6 @@
 -- Near values that the definitions of relays refuse.
-use Rattle.std.proofs.Common.{◌≡◌, ℕ, List, [], ◌∷◌, ◌++◌, codes, get_or, Bool, true, false, Option, Some, inl, inr, refl, sym, ap, ◌∙◌, arith}
+use Rattle.std.proofs.Common.{◌≡◌, ℕ, List, [], ◌∷◌, get_or, Bool, true, false, inl, inr, refl, sym, ap, ◌∙◌, arith}
 use Rattle.std.specs.Fmt.{digits}
-use Rattle.std.specs.List.{Contains}
 use Rattle.std.proofs.lemmas.List.Elements.{All-contains}
 use Rattle.connection_uri.specs.Base.{BaseParts}
 use Rattle.http_text.specs.ReplyText.{reply_text_of}
@@ -9,14 +8,13 @@ use Rattle.lc_model.specs.declared.doc.StopsDoc.{StopsDoc}
 use Rattle.lc_model.specs.declared.page.PageName.{PageName}
 use Rattle.lc_model.proofs.ListLemmas.{Contains-cases, Contains-nil}
 use Rattle.publisher_spec.specs.Asked.{is_head}
-use Rattle.publisher_spec.specs.Reply.{found_parts, page_parts, parts_of, sent_parts, stops_parts}
+use Rattle.publisher_spec.specs.Reply.{found_parts, parts_of, sent_parts}
 use Rattle.publisher_spec.specs.Response.{IsDocument}
 use Rattle.publisher_spec.specs.declared.response.Response.{Response}
 use Rattle.publisher_spec.specs.declared.response.Response.TheVariants as responses
 use Rattle.page_relay.specs.Fits.{IsReplyOf}
 use Rattle.page_relay.specs.Kept.{Kept}
 use Rattle.page_relay.specs.Near.{FoundIsItsOwn, NoOtherStatusIsKept, NoTimeGateFits, NoTimeGateIsKept, OthersAreNotFound}
-use Rattle.page_relay.specs.declared.sent.SentRequest.{SentRequest}
 use Rattle.page_relay.proofs.DocumentLemmas.{one_status}
 use Rattle.page_relay.proofs.KeepableLemmas.{no_time_gate}
 use Rattle.page_relay.proofs.MemoryLemmas.{found_is_own}
