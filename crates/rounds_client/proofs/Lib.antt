@@ -1,0 +1,3 @@
+pub mod CourseLemmas
+pub mod StartLemmas
+pub mod StopsLemmas

@@ -1,0 +1,26 @@
+-- How a client that asks for the fewest rides ends.
+use Rattle.std.specs.Prelude.{◌≡◌, List, [], Some, None, length}
+use Rattle.lc_model.specs.declared.query.Query.{Query}
+use Rattle.connection_uri.specs.Base.{BaseParts}
+use Rattle.lc_world.specs.Link.{LinkSeen}
+use Rattle.page_client.specs.Client.{shown}
+use Rattle.page_client.specs.Shown.{Begins}
+use Rattle.page_client.specs.declared.client.Client.{Client}
+use Rattle.page_client.specs.declared.outcome.Outcome.{Outcome}
+use Rattle.rounds_client.specs.Course.{AnswersFewest, LeadsTo, Point}
+use Rattle.rounds_client.specs.declared.ending.FewestEnd.{FewestEnd}
+
+-- A client of the question began, and made exchange after exchange up to its outcome, without a cache. The version is its own, and each
+-- exchange is counted. Where it found a best journey, one of the fewest rides over what it was given is answered, and else its own outcome.
+pub record EndsSo {X : Type 0} (seen : X → LinkSeen) (base : BaseParts) (query : Query) (before after : X) (end : FewestEnd) : Type 0 where
+  pub start : Client
+  pub begins : Begins query (shown start)
+  pub points : List (Point X)
+  pub last : Point X
+  pub leads : LeadsTo seen base points (record { client = start; given = record { doc = None; pages = [] }; link = before }) last
+  pub link : last.link ≡ after
+  pub outcome : Outcome
+  pub ended : (shown last.client).outcome ≡ Some outcome
+  pub version : end.version ≡ (shown last.client).version
+  pub exchanges : end.exchanges ≡ length points
+  pub answer : AnswersFewest query last.given outcome end.outcome
