@@ -2,8 +2,8 @@
 //! compares.
 use crate::Page;
 use crate::cursor::Cursor;
-use crate::urls::read_stop_url;
-use connection_uri::{Base, read_name, read_page_url};
+use crate::named::Named;
+use connection_uri::{Base, read_page_url};
 use lc_model::{Connection, Connections, Id, NoMemory, PageName};
 use lc_time::read_iso;
 use std::alloc::Global;
@@ -14,7 +14,8 @@ const LEAST_BYTES: usize = 330;
 /// How a text says that one may board or alight.
 const ALLOWED: &[u8] = b"gtfs:Regular";
 
-/// A guess of the page that the text says, or none. Linear in the text.
+/// A guess of the page that the text says, or none. Linear in the text, and it takes the logarithm of the runs and stops that the page names
+/// for each connection.
 pub(crate) fn guessed_page(
     alloc: Global,
     base: &Base,
@@ -39,7 +40,8 @@ fn guessed_list(
     let bases = base.text().len().saturating_mul(4);
     let most = cursor.left() / LEAST_BYTES.saturating_add(bases);
     let mut list = Vec::with_capacity(alloc, most)?;
-    if push_all(alloc, base, cursor, &mut list)? {
+    let mut named = Named::new(alloc);
+    if push_all(alloc, base, cursor, &mut named, &mut list)? {
         Ok(forward_list(list))
     } else {
         Ok(None)
@@ -47,10 +49,11 @@ fn guessed_list(
 }
 
 /// Pushes the connections up to the end of their list. Whether there is a guess of each.
-fn push_all(
+fn push_all<'a>(
     alloc: Global,
     base: &Base,
-    cursor: &mut Cursor<'_>,
+    cursor: &mut Cursor<'a>,
+    named: &mut Named<'a>,
     list: &mut Vec<Connection>,
 ) -> Result<bool, NoMemory> {
     // Each takes a byte at least.
@@ -58,7 +61,7 @@ fn push_all(
         if cursor.skip(b"{\"@id\":\"").is_none() {
             break;
         }
-        match guessed_connection(alloc, base, cursor)? {
+        match guessed_connection(alloc, base, cursor, named)? {
             Some(connection) => list.push(connection)?,
             None => return Ok(false),
         }
@@ -80,22 +83,24 @@ fn forward_list(list: Vec<Connection>) -> Option<Connections> {
 }
 
 /// The connection whose name comes next.
-fn guessed_connection(
+fn guessed_connection<'a>(
     alloc: Global,
     base: &Base,
-    cursor: &mut Cursor<'_>,
+    cursor: &mut Cursor<'a>,
+    named: &mut Named<'a>,
 ) -> Result<Option<Connection>, NoMemory> {
     match connection_parts(cursor) {
-        Some(parts) => made_connection(alloc, base, &parts),
+        Some(parts) => made_connection(alloc, base, named, &parts),
         None => Ok(None),
     }
 }
 
 /// The connection of these parts.
-fn made_connection(
+fn made_connection<'a>(
     alloc: Global,
     base: &Base,
-    parts: &ConnectionParts<'_>,
+    named: &mut Named<'a>,
+    parts: &ConnectionParts<'a>,
 ) -> Result<Option<Connection>, NoMemory> {
     let (Some(dep), Some(arr)) = (
         read_iso(parts.departure.moment),
@@ -103,10 +108,10 @@ fn made_connection(
     ) else {
         return Ok(None);
     };
-    let Some((key, seq)) = read_name(alloc, base, parts.name)? else {
+    let Some((key, seq)) = named.connection(alloc, base, parts.name)? else {
         return Ok(None);
     };
-    let Some((dep_stop, arr_stop)) = made_stops(alloc, base, parts)? else {
+    let Some((dep_stop, arr_stop)) = made_stops(alloc, base, named, parts)? else {
         return Ok(None);
     };
     Ok(Some(Connection {
@@ -124,15 +129,16 @@ fn made_connection(
 }
 
 /// The stops of departure and of arrival.
-fn made_stops(
+fn made_stops<'a>(
     alloc: Global,
     base: &Base,
-    parts: &ConnectionParts<'_>,
+    named: &mut Named<'a>,
+    parts: &ConnectionParts<'a>,
 ) -> Result<Option<(Id, Id)>, NoMemory> {
-    let Some(departure) = read_stop_url(alloc, base, parts.departure.stop)? else {
+    let Some(departure) = named.stop(alloc, base, parts.departure.stop)? else {
         return Ok(None);
     };
-    let Some(arrival) = read_stop_url(alloc, base, parts.arrival.stop)? else {
+    let Some(arrival) = named.stop(alloc, base, parts.arrival.stop)? else {
         return Ok(None);
     };
     Ok(Some((departure, arrival)))

@@ -10,6 +10,7 @@ mod cursor;
 mod guess;
 mod known;
 mod laws;
+mod named;
 mod page;
 mod page_reading;
 mod page_writing;
