@@ -1,8 +1,9 @@
 -- Near values that the definitions of a side refuse.
-use Rattle.std.proofs.Common.{◌≡◌, ◌<◌, ◌≤◌, List, [], ◌∷◌, ◌++◌, length, ap, sym, ◌∙◌, arith, length-append}
+use Rattle.std.proofs.Common.{◌≡◌, ◌<◌, ◌≤◌, List, [], ◌∷◌, ◌++◌, length, take, ap, refl, sym, ◌∙◌, arith, length-take}
 use Rattle.std.specs.List.{Contains}
 use Rattle.std.specs.declared.cmp.Ordering.TheVariants.{Less, Equal}
 use Rattle.std.proofs.lemmas.Cmp.{tied_itself}
+use Rattle.std.proofs.lemmas.List.{take_at}
 use Rattle.std.proofs.lemmas.List.Elements.{All-contains, All-head, Contains-append_right}
 use Rattle.std.proofs.lemmas.List.Sorted.{Contains-permutation, IsPermutation-sym}
 use Rattle.lc_model.specs.Connection.{InDepartureOrder, connections_of, connections_of_calls, departure_cmp}
@@ -13,6 +14,7 @@ use Rattle.lc_model.specs.declared.key.RunKey.{RunKey}
 use Rattle.lc_model.specs.declared.run.Run.{Run}
 use Rattle.lc_model.proofs.ConnectionLemmas.{departs_by}
 use Rattle.lc_model.proofs.ListLemmas.{AllPairs-head, AllPairs-tail, Contains-flat_map, Contains-here, Contains-nil, StandsIn-flat_map}
+use Rattle.lc_versions.specs.History.{Entry}
 use Rattle.page_json.specs.declared.page.Page.{Page}
 use Rattle.publisher_spec.specs.Near.{NoneForgets, NoneIsLeftOut, NoneIsMadeUp, NoneTooEarly, NoneTwice, NotEmpty, NothingIsLost, PagesAreOne}
 use Rattle.publisher_spec.specs.Side.{Side}
@@ -78,9 +80,7 @@ pages_are_one side version departs page is = record {
 
 pub nothing_is_lost : NothingIsLost
 nothing_is_lost before after later = record {
-  history =
-      (let long : length after.history ≡ length (before.history ++ later.more) = ap (λ (s : Side). length s.history) later.is in
-      let sum = length-append before.history later.more in omega (arith, long, sum));
+  history = ap (λ (s : Side). take (length before.history) s.history) later.is ∙ take_at before.history later.more (length before.history) refl;
   runs = ap (λ (s : Side). s.runs) later.is;
   doc = ap (λ (s : Side). s.doc) later.is;
   base = ap (λ (s : Side). s.base) later.is;
@@ -93,4 +93,5 @@ nothing_is_lost before after later = record {
 pub none_forgets : NoneForgets
 none_forgets side bytes some next =
     let kept = (nothing_is_lost side (record side { history = [] }) (next_is_later side bytes (record side { history = [] }) next)).history in
-    omega (arith, some, kept)
+    let none : length (take (length side.history) []) ≡ length side.history = ap length kept in
+    omega (arith, some, none, length-take {A = Entry} (length side.history) [])

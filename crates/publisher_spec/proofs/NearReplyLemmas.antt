@@ -1,5 +1,5 @@
 -- Near replies and near versions that the definitions of a side refuse.
-use Rattle.std.proofs.Common.{◌≡◌, ◌⊎◌, inl, inr, ℕ, ◌+◌, ◌<◌, ◌≤◌, List, [], ◌∷◌, ◌++◌, length, drop, filter, Bool, true, false, Option, Some, None, refl, ap, sym, subst, ◌∙◌, arith, length-append}
+use Rattle.std.proofs.Common.{◌≡◌, ◌⊎◌, inl, inr, ℕ, ◌<◌, ◌≤◌, List, [], ◌∷◌, ◌++◌, length, drop, filter, Bool, true, false, Option, Some, None, refl, ap, sym, subst, ◌∙◌, arith}
 use Rattle.std.specs.Prelude.{nat_le, nat_lt, ◌==◌, if◌then◌else◌}
 use Rattle.std.specs.List.{All, AllPairs, Contains}
 use Rattle.std.proofs.lemmas.Bool.Decides.{nat_tests}
@@ -16,7 +16,7 @@ use Rattle.http_text.proofs.MessageLemmas.{one_request}
 use Rattle.trip_updates.specs.Message.{IsMessage}
 use Rattle.trip_updates.proofs.TreesLemmas.{same_meaning}
 use Rattle.page_json.specs.declared.page.Page.{Page}
-use Rattle.publisher_spec.specs.Near.{AdmittedOnce, AtMostOneMore, NoneLaterIsMeant, NoneOlderIsMeant, SentOfItsVersions}
+use Rattle.publisher_spec.specs.Near.{AdmittedOnce, AtMostOneMore, HasOneMore, NoneLaterIsMeant, NoneOlderIsMeant, SentOfItsVersions}
 use Rattle.publisher_spec.specs.Reply.{IsBehind, side_behind}
 use Rattle.publisher_spec.specs.Response.{IsGateResponse, IsMessageIn, IsPageResponse, IsResponseTo, IsSentOf, asked_at, is_full, says_length, status_of_update}
 use Rattle.publisher_spec.specs.Side.{Side, has_version, newest_of, with_message}
@@ -30,27 +30,28 @@ use Rattle.publisher_spec.proofs.VersionLemmas.{last_is_greatest}
 
 -- AT MOST ONE MESSAGE MORE
 
-more_or_not : (side next : Side) (update : Update) (bytes : ℕ) (admitted : Bool) → next ≡ (if admitted then with_message side update bytes else side) → length next.history ≤ length side.history + 1
-more_or_not side next update bytes true is =
-    let long : length next.history ≡ length (side.history ++ record { update = update; bytes = bytes; cuts = [] } ∷ []) = ap (λ (s : Side). length s.history) is in
-    let sum = length-append side.history (record { update = update; bytes = bytes; cuts = [] } ∷ []) in
-    omega (arith, long, sum)
-more_or_not side next update bytes false is = let long : length next.history ≡ length side.history = ap (λ (s : Side). length s.history) is in omega (arith, long)
+-- the messages stayed, or there is one more
+abbrev Grows : Side → Side → Type 0
+Grows side next = (next.history ≡ side.history) ⊎ HasOneMore side next
 
-same_is_no_more : (side next : Side) → next ≡ side → length next.history ≤ length side.history + 1
-same_is_no_more side next is = let long : length next.history ≡ length side.history = ap (λ (s : Side). length s.history) is in omega (arith, long)
+stays : (side next : Side) → next ≡ side → Grows side next
+stays side next is = inl (ap (λ (s : Side). s.history) is)
 
-one_more : (side : Side) (request : Request) (body : List ℕ) (update : Option Update) (next : Side) → next ≡ side_behind side request body update → length next.history ≤ length side.history + 1
-one_more side request body None next is = same_is_no_more side next is
+more_or_not : (side next : Side) (update : Update) (bytes : ℕ) (admitted : Bool) → next ≡ (if admitted then with_message side update bytes else side) → Grows side next
+more_or_not side next update bytes true is = inr (record { entry = record { update = update; bytes = bytes; cuts = [] }; history = ap (λ (s : Side). s.history) is })
+more_or_not side next update bytes false is = stays side next is
+
+one_more : (side : Side) (request : Request) (body : List ℕ) (update : Option Update) (next : Side) → next ≡ side_behind side request body update → Grows side next
+one_more side request body None next is = stays side next is
 one_more side request body (Some update) next is = more_or_not side next update (length body) (status_of_update side request body (Some update) == 204) is
 
-one_more_behind : (side : Side) (request : Request) (body : List ℕ) (asked : Asked) (next : Side) → IsBehind side request body asked next → length next.history ≤ length side.history + 1
-one_more_behind side request body kinds.Gate next is = same_is_no_more side next is
-one_more_behind side request body kinds.Page next is = same_is_no_more side next is
-one_more_behind side request body kinds.Stops next is = same_is_no_more side next is
+one_more_behind : (side : Side) (request : Request) (body : List ℕ) (asked : Asked) (next : Side) → IsBehind side request body asked next → Grows side next
+one_more_behind side request body kinds.Gate next is = stays side next is
+one_more_behind side request body kinds.Page next is = stays side next is
+one_more_behind side request body kinds.Stops next is = stays side next is
 one_more_behind side request body kinds.Update next (update, is_update, is) = one_more side request body update next is
-one_more_behind side request body (kinds.OtherMethod allow) next is = same_is_no_more side next is
-one_more_behind side request body kinds.Nothing next is = same_is_no_more side next is
+one_more_behind side request body (kinds.OtherMethod allow) next is = stays side next is
+one_more_behind side request body kinds.Nothing next is = stays side next is
 
 pub at_most_one_more : AtMostOneMore
 at_most_one_more side next bytes step = one_more_behind side step.request (drop step.request.body_from bytes) (asked_at side step.request) next step.behind

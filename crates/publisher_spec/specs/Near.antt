@@ -1,12 +1,12 @@
 -- Near values that the definitions of a side refuse: wrong timetables, wrong sides, wrong versions and wrong replies.
-use Rattle.std.specs.Prelude.{◌≡◌, ◌≢◌, ◌⊎◌, ℕ, ◌<◌, ◌≤◌, ◌+◌, true, false, codes, List, [], ◌∷◌, ◌++◌, length, Some, None}
+use Rattle.std.specs.Prelude.{◌≡◌, ◌≢◌, ◌⊎◌, ℕ, ◌<◌, ◌≤◌, true, false, codes, List, [], ◌∷◌, ◌++◌, length, take, Some, None}
 use Rattle.std.specs.List.{Contains}
 use Rattle.lc_model.specs.Connection.{connections_of_calls}
 use Rattle.lc_model.specs.declared.connection.Connection.{Connection}
 use Rattle.lc_model.specs.declared.run.Run.{Run}
 use Rattle.lc_time.specs.Http.{SaysHttpDate}
 use Rattle.lc_versions.specs.Added.{IsFurtherRun}
-use Rattle.lc_versions.specs.History.{IsRising, news_at}
+use Rattle.lc_versions.specs.History.{Entry, IsRising, news_at}
 use Rattle.lc_versions.specs.Timetable.{IsLiveRun}
 use Rattle.memento.specs.Negotiation.{Negotiates}
 use Rattle.page_json.specs.declared.page.Page.{Page}
@@ -67,9 +67,9 @@ pub record OnePage (side : Side) (version departs : ℕ) (page : Page) : Type 0 
 abbrev pub PagesAreOne : Type 0
 PagesAreOne = (side : Side) (version departs : ℕ) (page : Page) → IsPageOf side version departs page → OnePage side version departs page
 
--- no message of a side is lost at a later one, and what was published of it before stays
+-- the messages of a side are the first ones of a later side, in their order, and what was published beside them stays
 pub record KeepsAll (before after : Side) : Type 0 where
-  pub history : length before.history ≤ length after.history
+  pub history : take (length before.history) after.history ≡ before.history
   pub runs : after.runs ≡ before.runs
   pub doc : after.doc ≡ before.doc
   pub base : after.base ≡ before.base
@@ -86,9 +86,14 @@ NothingIsLost = (before after : Side) → IsLater before after → KeepsAll befo
 abbrev pub NoneForgets : Type 0
 NoneForgets = (side : Side) (bytes : List ℕ) → 1 ≤ length side.history → IsNextSide side bytes (record side { history = [] }) → ⊥
 
+-- the messages of the second side are those of the first, with one after them
+pub record HasOneMore (side next : Side) : Type 0 where
+  pub entry : Entry
+  pub history : next.history ≡ side.history ++ entry ∷ []
+
 -- a request brings at most one message
 abbrev pub AtMostOneMore : Type 0
-AtMostOneMore = (side next : Side) (bytes : List ℕ) → IsNextSide side bytes next → length next.history ≤ length side.history + 1
+AtMostOneMore = (side next : Side) (bytes : List ℕ) → IsNextSide side bytes next → (next.history ≡ side.history) ⊎ HasOneMore side next
 
 -- the bytes that were admitted are not admitted a second time
 abbrev pub AdmittedOnce : Type 0
