@@ -1,16 +1,26 @@
 -- Near values are refused.
-use Rattle.std.proofs.Common.{◌≡◌, ◌∙◌, ◌<◌, ◌+◌, ℕ, List, [], ◌∷◌, ◌++◌, Option, Some, None, length, refl, ap, subst, arith, length-append}
+use Rattle.std.proofs.Common.{◌≡◌, ◌∙◌, ◌<◌, ◌+◌, ℕ, List, [], ◌∷◌, ◌++◌, Option, Some, None, length, refl, ap, inl, inr, subst, sym, arith, length-append}
 use Rattle.std.specs.List.{filter}
+use Rattle.cli_ask.specs.Client.{shown_of}
 use Rattle.cli_ask.specs.declared.end.ClientEnd.{ClientEnd}
+use Rattle.laws_clients.specs.Fits.{HasAnswered, HasEnded, IsDenied}
+use Rattle.laws_clients.specs.Wants.{AreWants, IsItsVersion, IsNoFault}
+use Rattle.laws_clients.proofs.WantsLemmas.{one_list_of_wants}
 use Rattle.laws_convoys.specs.Names.{Round}
-use Rattle.laws_plan.specs.Near.{NoVersionAtGate, NoneIsLost, NotAnothersVersion, NotNewer, NotOneMore, SomeVersionElse}
+use Rattle.laws_plan.specs.Near.{NoVersionAtGate, NoneIsCountedTwice, NoneIsLost, NotAnothersVersion, NotNewer, NotOneMore, SomeVersionElse}
 use Rattle.laws_plan.specs.Planned.{EndsAt, VersionFitsFault}
 use Rattle.laws_plan.specs.Sides.{version_with}
-use Rattle.laws_replay.specs.Turns.{failed_in}
+use Rattle.laws_replay.specs.Turns.{failed_in, given_in}
 use Rattle.laws_sides.specs.Stated.{version_at}
+use Rattle.lc_model.specs.declared.answer.Answer.{Answer}
 use Rattle.lc_model.specs.declared.query.Query.{Query}
 use Rattle.lc_versions.specs.History.{Entry, moments_of}
 use Rattle.lc_versions.specs.Named.{is_by, last_of}
+use Rattle.page_client.specs.Shown.{Shown}
+use Rattle.page_client.specs.declared.fault.QueryFault.{QueryFault}
+use Rattle.page_client.specs.declared.fault.QueryFault.TheVariants.{HorizonRange, SameStop, UnknownFrom, UnknownTo}
+use Rattle.page_client.specs.declared.outcome.Outcome.{Outcome}
+use Rattle.page_client.specs.declared.outcome.Outcome.TheVariants as outcomes
 use Rattle.page_client.specs.declared.want.Want.{Want}
 use Rattle.page_client.specs.declared.want.Want.TheVariants as wants
 use Rattle.publisher_spec.specs.Side.{Side}
@@ -47,8 +57,44 @@ none_is_lost side last update bytes more later =
       longer : (history : List Entry) (entry : Entry) (more : List Entry) → history ≡ (history ++ entry ∷ []) ++ more → ⊥
       longer history entry more is = omega (arith, ap length is, length-append (history ++ entry ∷ []) more, length-append history (entry ∷ []))
 
+-- a client that ended so received its wants
+answered_wants : (side : Side) (s : Shown) (given : List Want) (answer : Answer) (version : ℕ) → HasAnswered side s given answer → IsItsVersion s.version version → AreWants side version s.query given
+answered_wants side s given answer version has is =
+    let same : has.version ≡ version = subst (λ (own : Option ℕ). IsItsVersion own version) has.at_version is in
+    subst (λ (v : ℕ). AreWants side v s.query given) same (inr (inr (record { accepted = has.accepted; ends = has.ends; names = has.names; are_needed = has.are_needed; are = has.given })))
+
+denied_wants : (side : Side) (s : Shown) (given : List Want) (fault : QueryFault) (version : ℕ) → IsDenied side s given fault → AreWants side version s.query given
+denied_wants side s given HorizonRange version is = inl (record { fault = HorizonRange; is_refusal = is.deserved; are = is.given })
+denied_wants side s given SameStop version is = inl (record { fault = SameStop; is_refusal = is.deserved; are = is.given })
+denied_wants side s given UnknownFrom version is = inr (inl (record { accepted = is.accepted; lacks = λ ends. is.no_from ends.from; are = is.given }))
+denied_wants side s given UnknownTo version is = inr (inl (record { accepted = is.accepted; lacks = λ ends. is.no_to ends.to; are = is.given }))
+
+wants_given : (side : Side) (s : Shown) (given : List Want) (version : ℕ) (outcome : Outcome) → HasEnded side s given (Some outcome) → IsItsVersion s.version version → IsNoFault (Some outcome)
+    → AreWants side version s.query given
+wants_given side s given version (outcomes.Found journey) has is no_fault = answered_wants side s given _ version has is
+wants_given side s given version outcomes.NoJourney has is no_fault = answered_wants side s given _ version has is
+wants_given side s given version (outcomes.Refused fault) has is no_fault = denied_wants side s given fault version has
+wants_given side s given version (outcomes.LinkFault before after) has is no_fault = absurd no_fault
+wants_given side s given version (outcomes.PeerWrong reply fault) has is no_fault = absurd no_fault
+
+-- the version that a client has, or any
+some_version : (own : Option ℕ) → (version : ℕ) × IsItsVersion own version
+some_version None = (0, tt)
+some_version (Some version) = (version, refl)
+
+no_more : (given : List Want) (want : Want) (more : List Want) → given ≡ given ++ want ∷ more → ⊥
+no_more given want more is = let long = length-append given (want ∷ more) in omega (arith, ap length is, long)
+
 pub not_one_more : NotOneMore
-not_one_more last query rounds sides end ends is = differ end.exchanges _ ends.exchanges is where
+not_one_more last query rounds longer sides others end other want more no_fault other_no_fault one ends other_ends is =
+    let version = some_version end.version in
+    let are = wants_given last (shown_of query end) (given_in rounds) version.0 end.outcome ends.ended version.1 no_fault in
+    let its = subst (λ (own : Option ℕ). IsItsVersion own version.0) (sym one) version.1 in
+    let other_are = wants_given last (shown_of query other) (given_in longer) version.0 other.outcome other_ends.ended its other_no_fault in
+    no_more (given_in rounds) want more (one_list_of_wants last version.0 query (given_in rounds) (given_in longer) are other_are ∙ is)
+
+pub none_is_counted_twice : NoneIsCountedTwice
+none_is_counted_twice last query rounds sides end ends is = differ end.exchanges _ ends.exchanges is where
   differ : (n m : ℕ) → n ≡ m → n ≡ m + 1 → ⊥
   differ n m one two = omega arith
 

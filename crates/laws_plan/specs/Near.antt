@@ -1,10 +1,11 @@
 -- Near values that the definitions of a plan refuse: wrong versions, wrong sides and wrong counts.
-use Rattle.std.specs.Prelude.{◌≡◌, ◌<◌, ℕ, ◌+◌, List, [], ◌∷◌, Some, None, length}
+use Rattle.std.specs.Prelude.{◌≡◌, ◌<◌, ℕ, ◌+◌, List, [], ◌∷◌, ◌++◌, Some, None, length}
 use Rattle.cli_ask.specs.declared.end.ClientEnd.{ClientEnd}
+use Rattle.laws_clients.specs.Wants.{IsNoFault}
 use Rattle.laws_convoys.specs.Names.{Round}
 use Rattle.laws_plan.specs.Planned.{EndsAt}
 use Rattle.laws_plan.specs.Sides.{AreLater, sides_of}
-use Rattle.laws_replay.specs.Turns.{asked_in, failed_in}
+use Rattle.laws_replay.specs.Turns.{asked_in, failed_in, given_in}
 use Rattle.laws_sides.specs.Stated.{version_at}
 use Rattle.lc_model.specs.declared.query.Query.{Query}
 use Rattle.lc_versions.specs.declared.update.Update.{Update}
@@ -30,9 +31,16 @@ NotNewer =
 abbrev pub NoneIsLost : Type 0
 NoneIsLost = (side last : Side) (update : Update) (bytes : ℕ) (more : List Side) → AreLater (with_message side update bytes) (side ∷ more) last → ⊥
 
--- no client counts one exchange more, as one would that follows the time gate in place of the next link
+-- Of two that ended at a version, by no fault, neither received one want more, as one would that follows the time gate in place of the next link.
 abbrev pub NotOneMore : Type 0
 NotOneMore =
+    (last : Side) (query : Query) (rounds longer : List Round) (sides others : List Side) (end other : ClientEnd) (want : Want) (more : List Want)
+    → IsNoFault (Some end.outcome) → IsNoFault (Some other.outcome) → other.version ≡ end.version → EndsAt last query rounds sides end → EndsAt last query longer others other
+    → given_in longer ≡ given_in rounds ++ want ∷ more → ⊥
+
+-- and no client counts one exchange more than it asked for
+abbrev pub NoneIsCountedTwice : Type 0
+NoneIsCountedTwice =
     (last : Side) (query : Query) (rounds : List Round) (sides : List Side) (end : ClientEnd) → EndsAt last query rounds sides end → end.exchanges ≡ length (asked_in rounds) + 1 → ⊥
 
 -- a client whose exchange with the time gate failed has no version

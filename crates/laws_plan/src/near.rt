@@ -1,15 +1,17 @@
 ghost use Rattle.std.specs.Prelude.{ℕ, Option};
-ghost use Rattle.laws_plan.specs.Near.{NoVersionAtGate, NoneIsLost, NotAnothersVersion, NotNewer, NotOneMore, SomeVersionElse};
+ghost use Rattle.laws_plan.specs.Near.{NoVersionAtGate, NoneIsCountedTwice, NoneIsLost, NotAnothersVersion, NotNewer, NotOneMore, SomeVersionElse};
 ghost use Rattle.laws_plan.specs.Worked.{WorkedSides};
 ghost use Rattle.publisher_spec.specs.Side.{Side};
 
-/// Near values are refused: the version of another client's time gate, or a newer one; a side that lost a message; one exchange more.
+/// Near values are refused: the version of another client's time gate, or a newer one; a side that lost a message; one want more, or
+/// one exchange more.
 /// A version after a failure at the time gate is refused, and none after another failure.
 pub fn near_plans()
     ensures anothers { NotAnothersVersion }
     ensures newer { NotNewer }
     ensures lost { NoneIsLost }
     ensures one_more { NotOneMore }
+    ensures counted { NoneIsCountedTwice }
     ensures at_gate { NoVersionAtGate }
     ensures elsewhere { SomeVersionElse }
 {}
