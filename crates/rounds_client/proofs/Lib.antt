@@ -1,3 +1,4 @@
 pub mod CourseLemmas
+mod MomentLemmas
 pub mod StartLemmas
 pub mod StopsLemmas

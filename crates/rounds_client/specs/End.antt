@@ -1,5 +1,7 @@
 -- How a client that asks for the fewest rides ends.
-use Rattle.std.specs.Prelude.{◌≡◌, List, [], Some, None, length}
+use Rattle.std.specs.Prelude.{◌≡◌, ◌<◌, List, [], Some, None, length}
+use Rattle.lc_model.specs.Journey.{arrives_at}
+use Rattle.lc_model.specs.declared.moment.TheConstants.{MOMENTS_END}
 use Rattle.lc_model.specs.declared.query.Query.{Query}
 use Rattle.connection_uri.specs.Base.{BaseParts}
 use Rattle.lc_world.specs.Link.{LinkSeen}
@@ -7,6 +9,7 @@ use Rattle.page_client.specs.Client.{shown}
 use Rattle.page_client.specs.Shown.{Begins}
 use Rattle.page_client.specs.declared.client.Client.{Client}
 use Rattle.page_client.specs.declared.outcome.Outcome.{Outcome}
+use Rattle.page_client.specs.declared.outcome.Outcome.TheVariants as outcomes
 use Rattle.rounds_client.specs.Course.{AnswersFewest, LeadsTo, Point}
 use Rattle.rounds_client.specs.declared.ending.FewestEnd.{FewestEnd}
 
@@ -24,3 +27,11 @@ pub record EndsSo {X : Type 0} (seen : X → LinkSeen) (base : BaseParts) (query
   pub version : end.version ≡ (shown last.client).version
   pub exchanges : end.exchanges ≡ length points
   pub answer : AnswersFewest query last.given outcome end.outcome
+
+-- a journey that was found arrives at a moment, which has a text
+abbrev pub ArrivesAtAMoment : Outcome → Type 0
+ArrivesAtAMoment (outcomes.Found journey) = arrives_at journey < MOMENTS_END
+ArrivesAtAMoment outcomes.NoJourney = Unit {0}
+ArrivesAtAMoment (outcomes.Refused fault) = Unit {0}
+ArrivesAtAMoment (outcomes.LinkFault before after) = Unit {0}
+ArrivesAtAMoment (outcomes.PeerWrong reply fault) = Unit {0}

@@ -6,7 +6,7 @@ ghost use Rattle.page_client.specs.Shown.{exchanges_left};
 ghost use Rattle.page_client.specs.declared.outcome.Outcome.TheVariants as outcomes;
 ghost use Rattle.convoy.specs.Steps.{IsDecided};
 ghost use Rattle.rounds_client.specs.Course.{AnswersFewest, HasEnded, HasFound, HasRead, Reads};
-ghost use Rattle.rounds_client.specs.End.{EndsSo};
+ghost use Rattle.rounds_client.specs.End.{ArrivesAtAMoment, EndsSo};
 ghost use Rattle.rounds_client.specs.Given.{connections_of_pages, was_given};
 
 use crate::asking::ask;
@@ -85,7 +85,8 @@ fn found(
     journey: &Journey,
 ) -> Result<Outcome, NoMemory>
     requires { HasFound query.now (was_given given.now) journey.now }
-    ensures { IfOk result (AnswersFewest query.now (was_given given.now) (outcomes.Found journey.now)) }
+    ensures answers { IfOk result (AnswersFewest query.now (was_given given.now) (outcomes.Found journey.now)) }
+    ensures moment { IfOk result ArrivesAtAMoment }
 {
     let Some(doc) = &given.doc else {
         return Ok(Outcome::NoJourney);
@@ -105,7 +106,8 @@ fn answer(
     outcome: Outcome,
 ) -> Result<Outcome, NoMemory>
     requires { HasRead query.now (was_given given.now) (Some outcome) }
-    ensures { IfOk result (AnswersFewest query.now (was_given given.now) outcome) }
+    ensures answers { IfOk result (AnswersFewest query.now (was_given given.now) outcome) }
+    ensures moment { IfOk result ArrivesAtAMoment }
 {
     match outcome {
         Outcome::Found(journey) => found(alloc, query, given, &journey),
@@ -122,6 +124,7 @@ pub fn fewest<L: Link>(
     link: &mut L,
 ) -> Result<FewestEnd, NoMemory>
     ensures ends { IfOk result (EndsSo L.seen base.now query link.old link.new) }
+    ensures moment { IfOk result (λ end. ArrivesAtAMoment end.outcome) }
     ensures left { IsLeftByGets (L.seen link.old) (L.seen link.new) }
     ensures behind { L.behind link.new ≡ L.behind link.old }
 {

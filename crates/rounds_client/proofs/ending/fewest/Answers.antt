@@ -38,5 +38,5 @@ returns-in-Some-clause-ends g c =
       ended = sym c.into_outcome.ensures ∙ c.in-Some.is;
       version = c.version-version.ensures;
       exchanges = done.ended.count;
-      answer = c.in_ok-answer-in-Some.ensures;
+      answer = c.in_ok-answer-in-Some.ensures.answers;
     }
