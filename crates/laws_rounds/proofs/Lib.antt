@@ -1,0 +1,7 @@
+pub mod CourseLemmas
+pub mod EndLemmas
+pub mod ExchangeLemmas
+pub mod GivenLemmas
+pub mod NearLemmas
+pub mod NoFaultLemmas
+pub mod RecordedLemmas
