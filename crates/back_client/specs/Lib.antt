@@ -1,0 +1,4 @@
+pub mod Arrives
+pub mod Exchange
+pub mod Steps
+pub mod Wrong
