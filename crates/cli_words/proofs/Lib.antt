@@ -1,5 +1,6 @@
 mod AddressLemmas
 mod DefaultLemmas
+mod DrilledLemmas
 mod EndLemmas
 mod GrammarLemmas
 mod GrammarReadsLemmas

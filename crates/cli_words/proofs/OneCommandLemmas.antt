@@ -8,6 +8,7 @@ use Rattle.lc_model.specs.declared.query.Query.{Query}
 use Rattle.lc_time.proofs.OneTextLemmas.{one_date}
 use Rattle.cli_words.specs.Ask.{SaysAsk}
 use Rattle.cli_words.specs.Check.{SaysCheck}
+use Rattle.cli_words.specs.Drill.{SaysDrill}
 use Rattle.cli_words.specs.FeedWindow.{SaysFeedWindow}
 use Rattle.cli_words.specs.Laws.{OneCommand}
 use Rattle.cli_words.specs.Line.{ask_line, check_line, replay_line, serve_line}
@@ -19,6 +20,7 @@ use Rattle.cli_words.specs.Window.{IsWindow}
 use Rattle.cli_words.specs.declared.command.Ask.{Ask}
 use Rattle.cli_words.specs.declared.command.Check.{Check}
 use Rattle.cli_words.specs.declared.command.Command.TheVariants as command
+use Rattle.cli_words.specs.declared.command.Drill.{Drill}
 use Rattle.cli_words.specs.declared.command.Plan.{Plan}
 use Rattle.cli_words.specs.declared.command.Publishing.{Publishing}
 use Rattle.cli_words.specs.declared.command.Replay.{Replay}
@@ -152,6 +154,25 @@ one_plan words a b x y =
     same_plan a b (one_base_said y.url a.base b.base (subst (λ (text : List ℕ). SaysBase text a.base) url x.base_said) y.base_said)
     (same_text a.asks b.asks (sym x.asks_is ∙ y.asks_is)) (same_number a.cache b.cache (sym x.cache_is ∙ y.cache_is))
 
+-- what holds of the seed and the days of a drill
+abbrev DrillRanges : ℕ × ℕ → Type 0
+DrillRanges s = (1 ≤ s.0) × (s.0 ≤ 1_000_000) × (1 ≤ s.1) × (s.1 ≤ 7)
+
+drill_ranges_prop : (s : ℕ × ℕ) → IsProp (DrillRanges s)
+drill_ranges_prop s = hlevel props
+
+abbrev drill_of : (s : ℕ × ℕ) → DrillRanges s → Drill
+drill_of s r = record { seed = s.0; days = s.1; some_seed = r.0; most_seed = r.1; some_days = r.2; one_week = r.3 }
+
+same_drill : (a b : Drill) → a.seed ≡ b.seed → a.days ≡ b.days → a ≡ b
+same_drill a b seed days =
+    same_made DrillRanges drill_ranges_prop drill_of (a.seed, a.days) (b.seed, b.days) (a.some_seed, a.most_seed, a.some_days, a.one_week) (b.some_seed, b.most_seed, b.some_days, b.one_week)
+    (λ i. (seed i, days i))
+
+one_drill : (words : List (List ℕ)) (a b : Drill) → SaysDrill words a → SaysDrill words b → a ≡ b
+one_drill words a b x y =
+    same_drill a b (same_number a.seed b.seed (sym x.seed_is ∙ y.seed_is)) (same_number a.days b.days (sym x.days_are ∙ y.days_are))
+
 pub only_command : OneCommand
 only_command [] a b x y = absurd x
 only_command (name ∷ words) (command.Check a) (command.Check b) x y = ap (λ (check : Check). command.Check check) (one_check words a b x.1 y.1)
@@ -179,3 +200,14 @@ only_command (name ∷ words) (command.Plan a) (command.Check b) x y = absurd (a
 only_command (name ∷ words) (command.Plan a) (command.Ask b) x y = absurd (apart name _ _ refl x.0 y.0)
 only_command (name ∷ words) (command.Plan a) (command.Replay b) x y = absurd (apart name _ _ refl x.0 y.0)
 only_command (name ∷ words) (command.Plan a) (command.Serve b) x y = absurd (apart name _ _ refl x.0 y.0)
+only_command (name ∷ words) (command.Drill a) (command.Drill b) x y = ap (λ (drill : Drill). command.Drill drill) (one_drill words a b x.1 y.1)
+only_command (name ∷ words) (command.Drill a) (command.Check b) x y = absurd (apart name _ _ refl x.0 y.0)
+only_command (name ∷ words) (command.Check a) (command.Drill b) x y = absurd (apart name _ _ refl x.0 y.0)
+only_command (name ∷ words) (command.Drill a) (command.Ask b) x y = absurd (apart name _ _ refl x.0 y.0)
+only_command (name ∷ words) (command.Ask a) (command.Drill b) x y = absurd (apart name _ _ refl x.0 y.0)
+only_command (name ∷ words) (command.Drill a) (command.Replay b) x y = absurd (apart name _ _ refl x.0 y.0)
+only_command (name ∷ words) (command.Replay a) (command.Drill b) x y = absurd (apart name _ _ refl x.0 y.0)
+only_command (name ∷ words) (command.Drill a) (command.Serve b) x y = absurd (apart name _ _ refl x.0 y.0)
+only_command (name ∷ words) (command.Serve a) (command.Drill b) x y = absurd (apart name _ _ refl x.0 y.0)
+only_command (name ∷ words) (command.Drill a) (command.Plan b) x y = absurd (apart name _ _ refl x.0 y.0)
+only_command (name ∷ words) (command.Plan a) (command.Drill b) x y = absurd (apart name _ _ refl x.0 y.0)

@@ -10,12 +10,14 @@ use Rattle.lc_model.specs.declared.date.ServiceDate.{ServiceDate}
 use Rattle.cli_words.specs.Line.{line, texts_of}
 use Rattle.lc_time.proofs.DateLemmas.{same_date}
 use Rattle.cli_words.specs.Ask.{SaysAsk}
+use Rattle.cli_words.specs.Drill.{SaysDrill}
 use Rattle.cli_words.specs.Options.{AreOptions}
 use Rattle.cli_words.specs.Plan.{SaysPlan}
 use Rattle.cli_words.specs.Window.{IsDateAt}
 use Rattle.cli_words.specs.Words.{SaysCommand}
 use Rattle.cli_words.specs.declared.command.Ask.{Ask}
 use Rattle.cli_words.specs.declared.command.Command.{Command}
+use Rattle.cli_words.specs.declared.command.Drill.{Drill}
 use Rattle.cli_words.specs.declared.command.Plan.{Plan}
 use Rattle.cli_words.specs.declared.command.Command.TheVariants as command
 
@@ -39,6 +41,10 @@ serve_is_simple = refl
 pub plan_is_simple : is_simple_and_free (line (codes "plan") (codes "url" ∷ codes "asks" ∷ []) (codes "cache" ∷ []) []) ≡ true
 unfolding line
 plan_is_simple = refl
+
+pub drill_is_simple : is_simple_and_free (line (codes "drill") (codes "n" ∷ []) (codes "days" ∷ []) []) ≡ true
+unfolding line
+drill_is_simple = refl
 
 -- two texts that are one value are one
 pub same_text : (a b : List ℕ) → Some a ≡ Some b → a ≡ b
@@ -85,6 +91,7 @@ no_ask texts rest name parts is none said says = asked rest name is none said (s
     asked rest name is none (command.Replay replay) says = apart name _ _ refl is says.0
     asked rest name is none (command.Serve serve) says = apart name _ _ refl is says.0
     asked rest name is none (command.Plan plan) says = apart name _ _ refl is says.0
+    asked rest name is none (command.Drill drill) says = apart name _ _ refl is says.0
 
 -- and those that begin with `plan` and say no plan
 pub no_plan : (texts rest : List (List ℕ)) (name : List ℕ) → texts ≡ name ∷ rest → name ≡ codes "plan" → ((plan : Plan) → SaysPlan rest plan → ⊥) → (said : Command) → SaysCommand texts said → ⊥
@@ -96,3 +103,16 @@ no_plan texts rest name parts is none said says = planned rest name is none said
     planned rest name is none (command.Replay replay) says = apart name _ _ refl is says.0
     planned rest name is none (command.Serve serve) says = apart name _ _ refl is says.0
     planned rest name is none (command.Plan plan) says = none plan says.1
+    planned rest name is none (command.Drill drill) says = apart name _ _ refl is says.0
+
+-- and those that begin with `drill` and say no drill
+pub no_drill : (texts rest : List (List ℕ)) (name : List ℕ) → texts ≡ name ∷ rest → name ≡ codes "drill" → ((drill : Drill) → SaysDrill rest drill → ⊥) → (said : Command) → SaysCommand texts said → ⊥
+no_drill texts rest name parts is none said says = drilled rest name is none said (subst (λ (t : List (List ℕ)). SaysCommand t said) parts says)
+  where
+    drilled : (rest : List (List ℕ)) (name : List ℕ) → name ≡ codes "drill" → ((drill : Drill) → SaysDrill rest drill → ⊥) → (said : Command) → SaysCommand (name ∷ rest) said → ⊥
+    drilled rest name is none (command.Check check) says = apart name _ _ refl is says.0
+    drilled rest name is none (command.Ask ask) says = apart name _ _ refl is says.0
+    drilled rest name is none (command.Replay replay) says = apart name _ _ refl is says.0
+    drilled rest name is none (command.Serve serve) says = apart name _ _ refl is says.0
+    drilled rest name is none (command.Plan plan) says = apart name _ _ refl is says.0
+    drilled rest name is none (command.Drill drill) says = none drill says.1

@@ -7,6 +7,7 @@ pub mod Laws
 pub mod Line
 pub mod Options
 pub mod Plan
+pub mod Drill
 pub mod Publishing
 pub mod Question
 pub mod Replay

@@ -85,3 +85,7 @@ serve_line =
 -- the line of `plan URL ASKS` with its option
 unfoldable pub plan_line : App
 plan_line = line (codes "plan") (codes "url" ∷ codes "asks" ∷ []) (codes "cache" ∷ []) []
+
+-- the line of `drill N` with its option
+unfoldable pub drill_line : App
+drill_line = line (codes "drill") (codes "n" ∷ []) (codes "days" ∷ []) []

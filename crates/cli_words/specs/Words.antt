@@ -2,6 +2,7 @@
 use Rattle.std.specs.Prelude.{◌≡◌, ℕ, List, [], ◌∷◌, codes}
 use Rattle.cli_words.specs.Ask.{SaysAsk}
 use Rattle.cli_words.specs.Check.{SaysCheck}
+use Rattle.cli_words.specs.Drill.{SaysDrill}
 use Rattle.cli_words.specs.Plan.{SaysPlan}
 use Rattle.cli_words.specs.Replay.{SaysReplay}
 use Rattle.cli_words.specs.Serve.{SaysServe}
@@ -16,3 +17,4 @@ SaysCommand (name ∷ words) (command.Ask ask) = (name ≡ codes "ask") × SaysA
 SaysCommand (name ∷ words) (command.Replay replay) = (name ≡ codes "replay") × SaysReplay words replay
 SaysCommand (name ∷ words) (command.Serve serve) = (name ≡ codes "serve") × SaysServe words serve
 SaysCommand (name ∷ words) (command.Plan plan) = (name ≡ codes "plan") × SaysPlan words plan
+SaysCommand (name ∷ words) (command.Drill drill) = (name ≡ codes "drill") × SaysDrill words drill

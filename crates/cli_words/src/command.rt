@@ -13,6 +13,7 @@ pub enum Command {
     Replay(Replay),
     Serve(Serve),
     Plan(Plan),
+    Drill(Drill),
 }
 
 /// `check`: the timetable of a feed in a window of dates.
@@ -116,6 +117,18 @@ pub struct Plan {
     pub cache: u32,
     pub ghost some_pages: { 1 ≤ cache },
     pub ghost most_pages: { cache ≤ 10_000 },
+}
+
+/// `drill`: a replay over an input that is generated from a number.
+#[derive(Drop)]
+pub struct Drill {
+    /// The number, from which the draws begin.
+    pub seed: u32,
+    pub days: u32,
+    pub ghost some_seed: { 1 ≤ seed },
+    pub ghost most_seed: { seed ≤ 1_000_000 },
+    pub ghost some_days: { 1 ≤ days },
+    pub ghost one_week: { days ≤ 7 },
 }
 
 /// How a timetable is published.

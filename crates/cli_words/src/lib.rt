@@ -7,6 +7,7 @@ mod cache;
 mod check;
 mod command;
 mod door;
+mod drill;
 mod feed_window;
 mod laws;
 mod line;
@@ -21,6 +22,7 @@ mod update;
 mod window;
 mod words;
 
-pub use command::{Ask, Check, Command, Plan, Publishing, Replay, Serve};
+pub use command::{Ask, Check, Command, Drill, Plan, Publishing, Replay, Serve};
+pub use drill::drilled_replay;
 pub use laws::{default_address, default_publishing, one_command, words_are_lines};
 pub use words::read_words;

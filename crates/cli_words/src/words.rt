@@ -6,6 +6,7 @@ ghost use Rattle.cli_words.specs.declared.command.Command.{Command as Said};
 use crate::Command;
 use crate::ask::read_ask;
 use crate::check::read_check;
+use crate::drill::read_drill;
 use crate::plan::read_plan;
 use crate::replay::read_replay;
 use crate::serve::read_serve;
@@ -40,6 +41,10 @@ pub fn read_words(alloc: Global, words: &[String]) -> Result<Option<Command>, No
         },
         "plan" => match read_plan(alloc, rest)? {
             Some(plan) => Ok(Some(Command::Plan(plan))),
+            None => Ok(None),
+        },
+        "drill" => match read_drill(alloc, rest)? {
+            Some(drill) => Ok(Some(Command::Drill(drill))),
             None => Ok(None),
         },
         _ => Ok(None),

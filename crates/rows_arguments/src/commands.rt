@@ -1,4 +1,5 @@
 //! What the arguments of each command say.
+use crate::drills::{DRILLS, put_drill};
 use crate::network::{PLANS, SERVES, put_plan, put_serve};
 use crate::words::{Side, command_of, put_publishing, put_read};
 use cli_words::{Ask, Check, Command, Replay, read_words};
@@ -112,6 +113,7 @@ pub fn put_commands(alloc: Global, draft: &mut Draft) {
     put_table(alloc, draft, &REPLAYS);
     put_table(alloc, draft, &SERVES);
     put_table(alloc, draft, &PLANS);
+    put_table(alloc, draft, &DRILLS);
     draft.put("no word: ");
     put_read(draft, read_words(alloc, &[]), Side::Words);
 }
@@ -137,6 +139,7 @@ pub fn put_said(draft: &mut Draft, read: &Result<Option<Command>, NoMemory>) {
         Ok(Some(Command::Replay(replay))) => put_replay(draft, replay),
         Ok(Some(Command::Serve(serve))) => put_serve(draft, serve),
         Ok(Some(Command::Plan(plan))) => put_plan(draft, plan),
+        Ok(Some(Command::Drill(drill))) => put_drill(draft, drill),
         Ok(None) => draft.put("none"),
         Err(_) => draft.lose(),
     }

@@ -3,6 +3,7 @@
 #![tactic(auto)]
 
 mod commands;
+mod drills;
 mod network;
 mod options;
 mod words;
@@ -20,5 +21,6 @@ fn main(rt: HostRuntime) -> ExitCode {
 
 fn put_cases(alloc: Global, draft: &mut Draft) {
     commands::put_commands(alloc, draft);
+    drills::put_drilled(alloc, draft);
     options::put_options(alloc, draft);
 }

@@ -102,6 +102,7 @@ fn put_other(draft: &mut Draft, read: &Result<Option<Command>, NoMemory>) {
         Ok(Some(Command::Replay(_))) => draft.put("replay"),
         Ok(Some(Command::Serve(_))) => draft.put("serve"),
         Ok(Some(Command::Plan(_))) => draft.put("plan"),
+        Ok(Some(Command::Drill(_))) => draft.put("drill"),
         Ok(None) => draft.put("none"),
         Err(_) => draft.lose(),
     }
