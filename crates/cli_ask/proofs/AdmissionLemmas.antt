@@ -1,13 +1,15 @@
 -- What follows on a message is one.
-use Rattle.std.proofs.Common.{◌≡◌, ◌∙◌, ◌⊎◌, ◌<◌, ◌≤◌, ℕ, inl, inr, List, [], ◌∷◌, ◌++◌, None, Some, Option, ap, ap₂, length, refl, subst, sym}
+use Rattle.std.proofs.Common.{◌≡◌, ◌∙◌, ◌⊎◌, ◌+◌, ◌<◌, ◌≤◌, ℕ, inl, inr, List, [], ◌∷◌, ◌++◌, None, Some, Option, ap, ap₂, length, refl, subst, sym}
+use Rattle.std.proofs.lemmas.List.{length_push}
 use Rattle.lc_io.specs.declared.file.File.{File}
 use Rattle.lc_versions.specs.History.{Entry, moments_of}
 use Rattle.lc_versions.specs.Named.{last_of}
 use Rattle.lc_versions.specs.declared.update.Update.{Update}
 use Rattle.timetable.specs.declared.timetable.Timetable.{Timetable}
-use Rattle.version_store.specs.Admission.{HasRoom, IsFullFor, IsRefused, IsTaken}
+use Rattle.version_store.specs.Admission.{Admits, HasRoom, IsFullFor, IsRefused, IsTaken}
 use Rattle.version_store.specs.Laws.{OneOutcome}
 use Rattle.version_store.specs.Store.{Stored, bytes_of, entry_of, newest_of}
+use Rattle.version_store.specs.declared.admission.Admitted.{Admitted}
 use Rattle.version_store.specs.declared.admission.AdmitFault.{AdmitFault}
 use Rattle.version_store.specs.declared.admission.AdmitFault.TheVariants as faults
 use Rattle.cli_ask.specs.Admission.{IsAdmitted, IsBehind, IsFaultBy, IsFaulty, IsIgnored, IsPassedOver, admitted_line_of, ignored_line_of}
@@ -23,6 +25,10 @@ pub of_history : (file : Option File) (old new : Stored) (line : List ℕ) → I
 of_history None old new line (same, none) = subst (λ (s : Stored). s ≡ record old { history = s.history }) (sym same) refl
 of_history (Some file) old new line (inl x) = subst (λ (s : Stored). s ≡ record old { history = s.history }) (sym x.admits.appended) refl
 of_history (Some file) old new line (inr x) = subst (λ (s : Stored). s ≡ record old { history = s.history }) (sym x.same) refl
+
+-- an admitted message makes the history longer by one
+pub one_longer : (old new : Stored) (bytes : List ℕ) (admitted : Admitted) → Admits old new bytes admitted → length new.history ≡ length old.history + 1
+one_longer old new bytes admitted x = ap (λ (s : Stored). length s.history) x.appended ∙ length_push old.history (entry_of x.update (length bytes))
 
 -- the stores have heard the same: one history from one moment on
 pub record HaveHeardOne (s t : Stored) : Type 0 where

@@ -1,4 +1,4 @@
-ghost use Rattle.std.specs.Prelude.{◌≡◌, IfErr, IfOk, OnOk, Some};
+ghost use Rattle.std.specs.Prelude.{◌≡◌, ◌+◌, IfErr, IfOk, OnOk, Some, length};
 ghost use Rattle.cli_ask.specs.Admission.{IsBehind, IsFaultBy, IsFaulty, IsIgnored, admitted_line_of, ignored_line_of};
 
 use fragmenter::Cutting;
@@ -9,6 +9,13 @@ use percent_encoding::ascii_str;
 use publisher::{AdmitFault, Admitted, Publisher};
 use std::alloc::Global;
 use version_store::MessageFault;
+
+/// What became of messages that a publisher received: a line for each, and how many of them were admitted.
+#[derive(Drop)]
+pub struct Heard {
+    pub lines: Vec<u8>,
+    pub admitted: usize,
+}
 
 /// Gives the message of a file to a publisher, if there is one, and says in a line what became of it. One that is not newer, or for
 /// which there is no room, is ignored.
@@ -23,24 +30,35 @@ pub(crate) fn admit(
 {
     match file {
         None => Ok(Vec::new(alloc)),
-        Some(file) => give(alloc, publisher, file),
+        Some(file) => match give(alloc, publisher, file) {
+            Ok(Heard { lines, .. }) => Ok(lines),
+            Err(fault) => Err(fault),
+        },
     }
 }
 
-/// Gives the message of a file that is there to the publisher, and says in a line what became of it.
+/// Gives the message of a file that is there to the publisher. It says in a line what became of it, and counts it where it is admitted.
+#[tactic(auto, using(crate::proofs::AdmissionLemmas::one_longer))]
 pub fn give(
     alloc: Global,
     publisher: &mut Publisher<Cutting>,
     file: &File,
-) -> Result<Vec<u8>, MessageFault>
+) -> Result<Heard, MessageFault>
     ensures same { publisher.new ≡ record publisher.old { store = publisher.new.store } }
-    ensures line { IfOk result (λ line. IsBehind (Some file.now) publisher.old.store publisher.new.store line.items) }
+    ensures line { IfOk result (λ heard. IsBehind (Some file.now) publisher.old.store publisher.new.store heard.lines.items) }
+    ensures admitted { IfOk result (λ heard. length publisher.new.store.history ≡ length publisher.old.store.history + heard.admitted) }
     ensures faulty { IfErr result (IsFaulty (Some file.now)) }
 {
     let name = file.name.as_str();
     match publisher.admit(alloc, file.bytes.as_slice()) {
-        Ok(admitted) => Ok(admitted_line(alloc, name, admitted)?),
-        Err(fault) => passed_over(alloc, name, fault),
+        Ok(admitted) => Ok(Heard {
+            lines: admitted_line(alloc, name, admitted)?,
+            admitted: 1,
+        }),
+        Err(fault) => match passed_over(alloc, name, fault) {
+            Ok(lines) => Ok(Heard { lines, admitted: 0 }),
+            Err(fault) => Err(fault),
+        },
     }
 }
 

@@ -10,7 +10,7 @@ mod laws;
 mod publishing;
 mod question;
 
-pub use admission::give;
+pub use admission::{Heard, give};
 pub use block::push_client;
 pub use end::ClientEnd;
 pub use laws::{one_output, one_publisher, some_wants};
