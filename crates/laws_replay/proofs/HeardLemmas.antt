@@ -38,7 +38,7 @@ asks_stays base was is old new before after (inr (inl (asks, same))) still = exc
 asks_stays base was is old new before after (inr (inr asks)) still = exchange_stays base (shown was) before after asks.got asks.exchange still
 
 -- a turn leaves it too
-turn_stays : {X : Type 0} (seen : X → LinkSeen) (k : ℕ) (turn : Turn) (old new : ConvoyState) (before after : X) → IsStep seen k old new before after turn → (seen before).still →
+pub turn_stays : {X : Type 0} (seen : X → LinkSeen) (k : ℕ) (turn : Turn) (old new : ConvoyState) (before after : X) → IsStep seen k old new before after turn → (seen before).still →
     ((seen after).side ≡ (seen before).side) × (seen after).still
 turn_stays {X} seen k Finished old new before after step still = subst (λ (x : X). ((seen x).side ≡ (seen before).side) × (seen x).still) (sym (step.idle (λ e. cc))) (refl, still)
 turn_stays {X} seen k Cached old new before after step still = subst (λ (x : X). ((seen x).side ≡ (seen before).side) × (seen x).still) (sym (step.idle (λ e. cc))) (refl, still)
@@ -65,28 +65,30 @@ module _ (made : Timetable) (publishing : Publishing) (file : File) (store : Sto
   pub stops_then : given.store.stops ≡ made.doc.stops
   stops_then = stops_behind file store given.store line behind ∙ stops
 
--- what is heard from a store on
-record HeardOn (all : List Event) (old : Stored) (lines : List ℕ) : Type 0 where
+-- what is heard from a store on, and what the link has then
+record HeardOn (made : Timetable) (publishing : Publishing) (all : List Event) (old : Stored) (lines : List ℕ) (link : LinkSeen) : Type 0 where
   store : Stored
   heard : HasHeard all old store lines
+  tells : link.side ≡ Some (side_with made publishing store)
 
 heard_on :
     {X : Type 0} (seen : X → LinkSeen) (made : Timetable) (publishing : Publishing) (all : List Event) (store : Stored) (old new : ConvoyState) (before after : X) (lines : List ℕ) → store.stops ≡ made.doc.stops →
-    (seen before).side ≡ Some (side_with made publishing store) → (seen before).still → Plays seen all old new before after lines → HeardOn all store lines
-heard_on seen made publishing [] store old new before after lines stops tells still (_, _, none) = record { store = store; heard = (refl, none) }
+    (seen before).side ≡ Some (side_with made publishing store) → (seen before).still → Plays seen all old new before after lines → HeardOn made publishing all store lines (seen after)
+heard_on {X} seen made publishing [] store old new before after lines stops tells still (_, same, none) =
+    record { store = store; heard = (refl, none); tells = ap (λ (x : X). (seen x).side) same ∙ tells }
 heard_on seen made publishing (events.Ask query ∷ more) store old new before after lines stops tells still (between, adds, plays) =
     let rest = heard_on seen made publishing more store between new before after lines stops tells still plays in
-    record { store = rest.store; heard = rest.heard }
+    record { store = rest.store; heard = rest.heard; tells = rest.tells }
 heard_on seen made publishing (events.Message message ∷ more) store old new before after lines stops tells still (link, line, others, given, plays, is) =
     let rest = heard_on seen made publishing more given.store old new link after others (stops_then made publishing message.file store stops (seen before) (seen link) line tells given)
     (tells_then made publishing message.file store stops (seen before) (seen link) line tells given) (given.still still) plays in
-    record { store = rest.store; heard = (given.store, line, others, behind made publishing message.file store stops (seen before) (seen link) line tells given, rest.heard, is) }
+    record { store = rest.store; heard = (given.store, line, others, behind made publishing message.file store stops (seen before) (seen link) line tells given, rest.heard, is); tells = rest.tells }
 heard_on seen made publishing (events.Turn client ∷ more) store old new before after lines stops tells still (between, link, turn, step, plays) =
     let stays = turn_stays seen client turn old between before link step still in
     let rest = heard_on seen made publishing more store between new link after lines stops (stays.0 ∙ tells) stays.1 plays in
-    record { store = rest.store; heard = rest.heard }
+    record { store = rest.store; heard = rest.heard; tells = rest.tells }
 
 pub plays_heard : {X : Type 0} (seen : X → LinkSeen) → PlaysHeard seen
 plays_heard seen made publishing all cache played start behind lines at plays =
     let on = heard_on seen made publishing all (store_of made publishing.base_moment) (begun publishing.base cache) played start behind lines refl at.tells at.still plays in
-    record { store = on.store; heard = on.heard }
+    record { heard = record { store = on.store; heard = on.heard }; tells = on.tells }

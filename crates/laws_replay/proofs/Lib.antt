@@ -7,7 +7,7 @@ pub mod FaultLemmas
 mod FinishesClientLemmas
 pub mod FinishesLemmas
 pub mod FinishesListLemmas
-mod HeardLemmas
+pub mod HeardLemmas
 pub mod HearsLemmas
 mod HistoryLemmas
 pub mod OneCourseLemmas

@@ -1,5 +1,5 @@
 -- What an event sequence has: its questions, its turns, and what comes before a turn.
-use Rattle.std.specs.Prelude.{◌≡◌, ◌==◌, ℕ, List, [], ◌∷◌, ◌++◌, length, if◌then◌else◌}
+use Rattle.std.specs.Prelude.{◌≡◌, ◌==◌, ◌+◌, ℕ, List, [], ◌∷◌, ◌++◌, length, if◌then◌else◌}
 use Rattle.lc_model.specs.declared.query.Query.{Query}
 use Rattle.script_text.specs.Script.{IsClient}
 use Rattle.laws_replay.specs.declared.event.Event.{Event}
@@ -11,6 +11,13 @@ questions_in [] = []
 questions_in (events.Ask query ∷ more) = query ∷ questions_in more
 questions_in (events.Message message ∷ more) = questions_in more
 questions_in (events.Turn client ∷ more) = questions_in more
+
+-- how many messages there are
+abbrev pub messages_in : List Event → ℕ
+messages_in [] = 0
+messages_in (events.Ask query ∷ more) = messages_in more
+messages_in (events.Message message ∷ more) = 1 + messages_in more
+messages_in (events.Turn client ∷ more) = messages_in more
 
 -- the numbers of the clients that have turns, in the order of these
 abbrev pub turns_in : List Event → List ℕ

@@ -65,11 +65,16 @@ pub record IsStillAt (made : Timetable) (publishing : Publishing) (link : LinkSe
   pub tells : link.side ≡ Some (side_with made publishing (store_of made publishing.base_moment))
   pub still : link.still
 
+-- the publisher heard the messages, and is left at the other end of the link with what it heard
+pub record AreHeardAt (made : Timetable) (publishing : Publishing) (all : List Event) (lines : List ℕ) (link : LinkSeen) : Type 0 where
+  pub heard : AreHeard made publishing all lines
+  pub tells : link.side ≡ Some (side_with made publishing heard.store)
+
 -- whatever replies came over such a link, the publisher heard the messages of the sequence one after the other, and these are their lines
 abbrev pub PlaysHeard : {X : Type 0} → (X → LinkSeen) → Type 0
 PlaysHeard {X} seen =
     (made : Timetable) (publishing : Publishing) (all : List Event) (cache : ℕ) (played : ConvoyState) (start behind : X) (lines : List ℕ)
-    → IsStillAt made publishing (seen start) → Plays seen all (begun publishing.base cache) played start behind lines → AreHeard made publishing all lines
+    → IsStillAt made publishing (seen start) → Plays seen all (begun publishing.base cache) played start behind lines → AreHeardAt made publishing all lines (seen behind)
 
 -- the lines of the messages are one text
 abbrev pub OneHearing : Type 0

@@ -1,5 +1,5 @@
 -- Which messages are heard in an event sequence, and which version each client means.
-use Rattle.std.specs.Prelude.{◌≡◌, ℕ, List, [], ◌∷◌, ◌++◌, Option, Some, take}
+use Rattle.std.specs.Prelude.{◌≡◌, ℕ, List, [], ◌∷◌, ◌++◌, length, Option, Some, take}
 use Rattle.cli_words.specs.declared.command.Publishing.{Publishing}
 use Rattle.laws_convoys.specs.OneClient.{version_of}
 use Rattle.lc_model.specs.declared.query.Query.{Query}
@@ -25,6 +25,13 @@ HasHeard (events.Turn client ∷ more) old new lines = HasHeard more old new lin
 pub record AreHeard (made : Timetable) (publishing : Publishing) (all : List Event) (lines : List ℕ) : Type 0 where
   pub store : Stored
   pub heard : HasHeard all (store_of made publishing.base_moment) store lines
+
+-- a publisher of the timetable that had heard nothing admitted so many messages of an event sequence
+pub record HaveAdmitted (made : Timetable) (publishing : Publishing) (all : List Event) (admitted : ℕ) : Type 0 where
+  pub store : Stored
+  pub lines : List ℕ
+  pub heard : HasHeard all (store_of made publishing.base_moment) store lines
+  pub is : admitted ≡ length store.history
 
 -- The version of a client of the question that received this. The client means it by what was heard before its first turn, or by all
 -- messages where it has none. It has no version where it received nothing.
