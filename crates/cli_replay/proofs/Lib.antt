@@ -3,3 +3,4 @@ mod HearingLemmas
 pub mod PlayedLemmas
 mod ReplayedLemmas
 mod TextLemmas
+mod SummaryLemmas

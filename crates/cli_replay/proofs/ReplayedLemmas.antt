@@ -1,5 +1,5 @@
 -- What an event sequence results in that was played to a publisher at home.
-use Rattle.std.proofs.Common.{◌≡◌, ℕ, List, Some, ap, subst, sym}
+use Rattle.std.proofs.Common.{◌≡◌, ℕ, List, Some, ap, arith, subst, sym}
 use Rattle.cli_ask.specs.Publishing.{held_with, side_with, store_of}
 use Rattle.cli_ask.specs.declared.end.ClientEnd.{ClientEnd}
 use Rattle.cli_words.specs.declared.command.Publishing.{Publishing}
@@ -10,18 +10,19 @@ use Rattle.lc_world.specs.GoneOn.{IsLeftByPasses}
 use Rattle.lc_world.specs.Link.{LinkSeen}
 use Rattle.publisher.specs.Held.{Held, side_of}
 use Rattle.publisher_spec.specs.Side.{IsValidSide}
-use Rattle.laws_replay.specs.Laws.{IsQuietAt, IsStillAt, PlaysCaused, PlaysHeard, PlaysRight}
+use Rattle.laws_replay.specs.Laws.{AreHeardAt, IsQuietAt, IsStillAt, PlaysCaused, PlaysHeard, PlaysRight}
 use Rattle.laws_replay.specs.Events.{TurnsAreOfClients}
 use Rattle.laws_replay.specs.Replayed.{IsReplayed}
+use Rattle.laws_replay.specs.Versions.{HaveAdmitted}
 use Rattle.laws_replay.specs.declared.event.Event.{Event}
 use Rattle.timetable.specs.declared.timetable.Timetable.{Timetable}
 use Rattle.cli_replay.specs.Course.{IsPlayed}
 use Rattle.cli_replay.specs.Home.{home_seen}
 
 module _ {L : Type 0} (seen : L → LinkSeen) (plays_heard : PlaysHeard (home_seen seen)) (plays_right : PlaysRight (home_seen seen)) (plays_caused : PlaysCaused (home_seen seen)) (made : Timetable) (publishing : Publishing)
-    (all : List Event) (cache : ℕ) (before after : HomeLinkState Cutting L) (text : List ℕ) (ends : List ClientEnd) (turns : TurnsAreOfClients all)
+    (all : List Event) (cache : ℕ) (before after : HomeLinkState Cutting L) (admitted : ℕ) (text : List ℕ) (ends : List ClientEnd) (turns : TurnsAreOfClients all)
     (held : before.local.publisher ≡ held_with made publishing (store_of made publishing.base_moment)) (valid : IsValidSide (side_with made publishing (store_of made publishing.base_moment)))
-    (x : IsPlayed (home_seen seen) publishing.base all cache before after text ends) where
+    (x : IsPlayed (home_seen seen) publishing.base all cache before after admitted text ends) where
   -- a link at home keeps its side whatever the outer one is
   still_at : IsStillAt made publishing (home_seen seen before)
   still_at = record { tells = ap (λ (h : Held Cutting). Some (side_of chosen_cuts h)) held; still = tt }
@@ -35,12 +36,25 @@ module _ {L : Type 0} (seen : L → LinkSeen) (plays_heard : PlaysHeard (home_se
     quiet = clear;
   }
 
+  heard_at : AreHeardAt made publishing all x.lines (home_seen seen x.behind)
+  heard_at = plays_heard made publishing all cache x.played before x.behind x.lines still_at x.plays
+
+  pub admits : HaveAdmitted made publishing all admitted
+  admits = record {
+    store = heard_at.heard.store;
+    lines = x.lines;
+    heard = heard_at.heard.heard;
+    is =
+        let grown = x.admits (side_with made publishing (store_of made publishing.base_moment)) (side_with made publishing heard_at.heard.store) still_at.tells heard_at.tells in
+        omega (arith, grown);
+  }
+
   replayed : IsReplayed made publishing all cache (seen before.outer) (seen after.outer) text ends
   replayed =
       let caused = plays_caused publishing.base all cache x.played x.ended before x.behind after x.lines ends turns x.plays x.rounds x.have_ended in
       record {
         lines = x.lines;
-        heard = plays_heard made publishing all cache x.played before x.behind x.lines still_at x.plays;
+        heard = heard_at.heard;
         text_is = x.text_is;
         one_each = caused.one_each;
         caused = caused.caused;

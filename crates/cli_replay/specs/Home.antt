@@ -1,5 +1,5 @@
 -- Links to a publisher of a timetable, at home.
-use Rattle.std.specs.Prelude.{Some}
+use Rattle.std.specs.Prelude.{ℕ, Some, length}
 use Rattle.connection_uri.specs.Base.{BaseParts}
 use Rattle.fragmenter.specs.Cutting.{chosen_cuts}
 use Rattle.fragmenter.specs.declared.cutting.Cutting.{Cutting}
@@ -19,3 +19,7 @@ home_seen {L} seen home = record {
   still = Unit {0};
   faults = (seen home.outer).faults;
 }
+
+-- how many messages the publisher at home has admitted
+abbrev pub admitted_at : {L : Type 0} → HomeLinkState Cutting L → ℕ
+admitted_at home = length home.local.publisher.store.history

@@ -1,3 +1,4 @@
 pub mod Course
 pub mod Home
 pub mod Turns
+pub mod Summary

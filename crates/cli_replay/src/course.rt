@@ -8,6 +8,7 @@ use crate::Replayed;
 use crate::ends::ends_of;
 use crate::events::play;
 use crate::text::text_of;
+use cli_ask::Heard;
 use connection_uri::Base;
 use convoy::Convoy;
 use fragmenter::Cutting;
@@ -28,14 +29,19 @@ pub fn play_out<L: Link>(
     requires some_pages { 1 ≤ cache }
     requires most_pages { cache ≤ 10_000 }
     requires turns { TurnsAreOfClients events.items }
-    ensures played { IfOk result (λ replayed. IsPlayed (home_seen L.seen) base events.items cache home.old home.new replayed.text.items replayed.ends.items) }
+    ensures played { IfOk result (λ replayed. IsPlayed (home_seen L.seen) base events.items cache home.old home.new replayed.admitted replayed.text.items replayed.ends.items) }
     ensures outer { IsLeftByPasses (L.seen home.old.outer) (L.seen home.new.outer) }
 {
     courses_are_caused::<HomeLink<Cutting, L>>();
     let mut convoy = Convoy::new(alloc, base, cache)?;
-    let lines = play(alloc, &mut convoy, events, home)?;
+    let heard = play(alloc, &mut convoy, events, home)?;
+    let Heard { lines, admitted } = heard;
     convoy.finish(alloc, home)?;
     let ends = ends_of(alloc, convoy)?;
     let text = text_of(alloc, lines, ends.as_slice())?;
-    Ok(Replayed { text, ends })
+    Ok(Replayed {
+        text,
+        ends,
+        admitted,
+    })
 }

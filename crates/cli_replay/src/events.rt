@@ -1,11 +1,12 @@
-ghost use Rattle.std.specs.Prelude.{◌≡◌, [], ◌∷◌, length, IfOk};
+ghost use Rattle.std.specs.Prelude.{◌≡◌, ◌+◌, [], ◌∷◌, ◌++◌, length, IfOk, OnOk};
 ghost use Rattle.lc_world.specs.GoneOn.{IsLeftByPasses};
 ghost use Rattle.laws_replay.specs.Events.{TurnsAreOfClients};
 ghost use Rattle.laws_replay.specs.Played.{Plays};
-ghost use Rattle.cli_replay.specs.Home.{home_seen};
+ghost use Rattle.cli_replay.specs.Home.{admitted_at, home_seen};
 ghost use Rattle.cli_replay.specs.Turns.{MayHappen};
 
 use crate::hearing::hear;
+use cli_ask::Heard;
 use convoy::Convoy;
 use fragmenter::Cutting;
 use laws_replay::Event;
@@ -14,49 +15,71 @@ use lc_model::NoMemory;
 use lc_world::Link;
 use std::alloc::Global;
 
-/// Plays the events, one after the other, and gives the lines of the messages.
+/// Plays the events, one after the other. It gives the lines of the messages, and counts those that are admitted.
 pub fn play<L: Link>(
     alloc: Global,
     convoy: &mut Convoy,
     events: Vec<Event>,
     home: &mut HomeLink<Cutting, L>,
-) -> Result<Vec<u8>, NoMemory>
+) -> Result<Heard, NoMemory>
     requires none_yet { convoy.old.members ≡ [] }
     requires turns { TurnsAreOfClients events.items }
-    ensures plays { IfOk result (λ lines. Plays (home_seen L.seen) events.items convoy.old convoy.new home.old home.new lines.items) }
+    ensures plays { IfOk result (λ heard. Plays (home_seen L.seen) events.items convoy.old convoy.new home.old home.new heard.lines.items) }
+    ensures admitted { IfOk result (λ heard. admitted_at home.new ≡ admitted_at home.old + heard.admitted) }
     ensures outer { IsLeftByPasses (L.seen home.old.outer) (L.seen home.new.outer) }
 {
-    let mut lines = Vec::new(alloc);
+    let lines = Vec::new(alloc);
+    let mut heard = Heard { lines, admitted: 0 };
     'events: for event in events {
-        let line = play_one(alloc, convoy, event, home)?;
-        lines.extend_from_slice(line.as_slice())?;
+        let one = play_one(alloc, convoy, event, home)?;
+        add(&mut heard, &one)?;
     }
-    Ok(lines)
+    Ok(heard)
 }
 
-/// Plays one event, and gives the line of the message, if it is one.
+/// Adds what became of one event more. A count that the machine does not hold is taken for running out of memory.
+fn add(heard: &mut Heard, one: &Heard) -> Result<(), NoMemory>
+    ensures lines { OnOk result (heard.new.lines.items ≡ heard.old.lines.items ++ one.now.lines.items) }
+    ensures admitted { OnOk result (heard.new.admitted ≡ heard.old.admitted + one.now.admitted) }
+{
+    let Some(admitted) = heard.admitted.checked_add(one.admitted) else {
+        return Err(NoMemory);
+    };
+    heard.admitted = admitted;
+    heard.lines.extend_from_slice(one.lines.as_slice())?;
+    Ok(())
+}
+
+/// Plays one event. If it is a message it gives its line, and counts it where it is admitted.
 fn play_one<L: Link>(
     alloc: Global,
     convoy: &mut Convoy,
     event: Event,
     home: &mut HomeLink<Cutting, L>,
-) -> Result<Vec<u8>, NoMemory>
+) -> Result<Heard, NoMemory>
     requires { MayHappen (length convoy.old.members) event }
-    ensures plays { IfOk result (λ line. Plays (home_seen L.seen) (event ∷ []) convoy.old convoy.new home.old home.new line.items) }
+    ensures plays { IfOk result (λ heard. Plays (home_seen L.seen) (event ∷ []) convoy.old convoy.new home.old home.new heard.lines.items) }
+    ensures admitted { IfOk result (λ heard. admitted_at home.new ≡ admitted_at home.old + heard.admitted) }
     ensures outer { IsLeftByPasses (L.seen home.old.outer) (L.seen home.new.outer) }
 {
     match event {
         Event::Ask(query) => {
             convoy.ask(query)?;
-            Ok(Vec::new(alloc))
+            Ok(Heard {
+                lines: Vec::new(alloc),
+                admitted: 0,
+            })
         }
         Event::Message(message) => {
-            let line = hear(alloc, &message, home)?;
-            Ok(line)
+            let heard = hear(alloc, &message, home)?;
+            Ok(heard)
         }
         Event::Turn(client) => {
             convoy.turn(alloc, client as usize, home)?;
-            Ok(Vec::new(alloc))
+            Ok(Heard {
+                lines: Vec::new(alloc),
+                admitted: 0,
+            })
         }
     }
 }

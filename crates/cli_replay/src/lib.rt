@@ -7,8 +7,10 @@ mod ends;
 mod events;
 mod hearing;
 mod playing;
+mod summary;
 mod text;
 
 pub use ends::ends_of;
 pub use playing::{Replayed, replay};
+pub use summary::{Measures, measures_of, summary_text};
 pub use text::text_of;

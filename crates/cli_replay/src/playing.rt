@@ -4,6 +4,7 @@ ghost use Rattle.lc_world.specs.GoneOn.{IsLeftByPasses};
 ghost use Rattle.publisher_spec.specs.Side.{IsValidSide};
 ghost use Rattle.laws_replay.specs.Events.{TurnsAreOfClients};
 ghost use Rattle.laws_replay.specs.Replayed.{IsReplayed};
+ghost use Rattle.laws_replay.specs.Versions.{HaveAdmitted};
 
 use crate::course::play_out;
 use cli_ask::{ClientEnd, publisher_of};
@@ -17,11 +18,13 @@ use lc_world::Link;
 use std::alloc::Global;
 use timetable::Timetable;
 
-/// What is printed of an event sequence, and how its clients ended, in the order in which they asked.
+/// What is printed of an event sequence, and how its clients ended, in the order in which they asked. How many of its messages were
+/// admitted.
 #[derive(Drop)]
 pub struct Replayed {
     pub text: Vec<u8>,
     pub ends: Vec<ClientEnd>,
+    pub admitted: usize,
 }
 
 /// A link to a publisher, and its base again.
@@ -46,6 +49,7 @@ pub fn replay<L: Link>(
     requires most_pages { cache ≤ 10_000 }
     requires turns { TurnsAreOfClients events.items }
     ensures replayed { IfOk result.0 (λ replayed. IsReplayed made publishing events.items cache (L.seen link) (L.seen result.1) replayed.text.items replayed.ends.items) }
+    ensures admitted { IfOk result.0 (λ replayed. HaveAdmitted made publishing events.items replayed.admitted) }
     ensures left { IsLeftByPasses (L.seen link) (L.seen result.1) }
 {
     courses_are_heard::<HomeLink<Cutting, L>>();

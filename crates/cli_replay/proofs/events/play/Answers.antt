@@ -16,34 +16,41 @@ play_one-requires g c =
     let so_far = YieldsList-so_far yields c.events.yielded c.events.event-iterator c.events.yielded_by in
     let turn = YieldsList-turn yields c.events.yielded c.events.event-iterator c.events.yielded_by c.next.result c.next.new.self c.in-Some.event c.in-Some.is c.next.ensures.steps in
     let none : length c.args.convoy.now.members ≡ 0 = ap (λ (members : List Member). length members) c.requires.none_yet in
-    let more = clients (home_seen g.L.Link.seen) c.events.yielded c.args.convoy.now c.events.convoy c.args.home.now c.events.home c.events.lines.items c.events.invariant.plays in
+    let more = clients (home_seen g.L.Link.seen) c.events.yielded c.args.convoy.now c.events.convoy c.args.home.now c.events.home c.events.heard.lines.items c.events.invariant.plays in
     let count : length c.events.convoy.members ≡ length (questions_in c.events.yielded) = omega arith in
     may_happen c.args.events.items c.events.yielded _ c.in-Some.event (length c.events.convoy.members) c.requires.turns
     (parts {A = Event} c.args.events.items c.events.yielded c.in-Some.event (sym (map-id c.events.yielded) ∙ so_far) turn.0 turn.1) count
 
 pub events-init : goal.events-init
-events-init g c = record { plays = (refl, refl, c.new-lines.ensures.items); outer = no_passes _ }
+events-init g c = record {
+  plays = (refl, refl, c.new-lines.ensures.items);
+  admitted = omega arith;
+  outer = no_passes _;
+}
 
 pub events-preserved : goal.events-preserved
 events-preserved g c =
-    let lines : c.extend_from_slice.new.self.items ≡ c.events.lines.items ++ c.in_ok-line.line.items = c.in_ok-extend_from_slice.ensures.items ∙ ap (λ (l : List ℕ). c.events.lines.items ++ l) c.as_slice.ensures.value in
+    let before = c.events.invariant.admitted in
+    let one = c.in_ok-one.ensures.admitted in
+    let more = c.in_ok-add.ensures.admitted in
     record {
       plays =
-          subst (λ (l : List ℕ). Plays (home_seen g.L.Link.seen) (c.events.yielded ++ c.in-Some.event ∷ []) c.args.convoy.now c.play_one.new.convoy c.args.home.now c.play_one.new.home l) (sym lines)
+          subst (λ (l : List ℕ). Plays (home_seen g.L.Link.seen) (c.events.yielded ++ c.in-Some.event ∷ []) c.args.convoy.now c.play_one.new.convoy c.args.home.now c.play_one.new.home l) (sym c.in_ok-add.ensures.lines)
           (plays_on (home_seen g.L.Link.seen) c.events.yielded (c.in-Some.event ∷ []) c.args.convoy.now c.events.convoy c.play_one.new.convoy c.args.home.now c.events.home c.play_one.new.home
-          c.events.lines.items c.in_ok-line.line.items c.events.invariant.plays c.in_ok-line.ensures.plays);
+          c.events.heard.lines.items c.in_ok-one.one.lines.items c.events.invariant.plays c.in_ok-one.ensures.plays);
+      admitted = omega (arith, before, one, more);
       outer = passes_then _ _ _ c.events.invariant.outer c.play_one.ensures.outer;
     }
 
-pub returns-in_err-line-clause-outer : goal.returns-in_err-line-clause-outer
-returns-in_err-line-clause-outer g c = passes_then _ _ _ c.events.invariant.outer c.play_one.ensures.outer
+pub returns-in_err-one-clause-outer : goal.returns-in_err-one-clause-outer
+returns-in_err-one-clause-outer g c = passes_then _ _ _ c.events.invariant.outer c.play_one.ensures.outer
 
-pub returns-in_err-extend_from_slice-clause-outer : goal.returns-in_err-extend_from_slice-clause-outer
-returns-in_err-extend_from_slice-clause-outer g c = passes_then _ _ _ c.events.invariant.outer c.play_one.ensures.outer
+pub returns-in_err-add-clause-outer : goal.returns-in_err-add-clause-outer
+returns-in_err-add-clause-outer g c = passes_then _ _ _ c.events.invariant.outer c.play_one.ensures.outer
 
 pub returns-clause-plays : goal.returns-clause-plays
 returns-clause-plays g c =
     let yields = YieldsList-from_vec {s = c.into_iter-event-iterator.result} c.args.events.items (search rules) (search rules) in
     let end = YieldsList-end yields c.events.yielded c.events.event-iterator c.events.yielded_by c.next.result c.next.new.self c.in-None.is c.next.ensures.steps in
-    subst (λ (all : List Event). Plays (home_seen g.L.Link.seen) all c.args.convoy.now c.events.convoy c.args.home.now c.events.home c.events.lines.items)
+    subst (λ (all : List Event). Plays (home_seen g.L.Link.seen) all c.args.convoy.now c.events.convoy c.args.home.now c.events.home c.events.heard.lines.items)
     (sym (map-id c.events.yielded) ∙ end.0) c.events.invariant.plays
