@@ -3,22 +3,18 @@ use Rattle.std.proofs.Common.{◌≡◌, ◌∷◌, inr, ℕ, List, [], Option, 
 use Rattle.cli_ask.specs.Asked.{IsAsked}
 use Rattle.cli_ask.specs.declared.end.ClientEnd.{ClientEnd}
 use Rattle.cli_inputs.specs.Inputs.{ReadsInputs}
-use Rattle.cli_inputs.specs.Script.{ReadsReplay}
 use Rattle.cli_inputs.specs.declared.refusal.Refusal.{Refusal}
 use Rattle.cli_words.specs.Words.{SaysCommand}
 use Rattle.cli_words.specs.declared.command.Ask.{Ask}
 use Rattle.cli_words.specs.declared.command.Command.{Command}
 use Rattle.cli_words.specs.declared.command.Command.TheVariants as commands
-use Rattle.cli_words.specs.declared.command.Replay.{Replay}
 use Rattle.lc_io.specs.Folder.{FolderSeen}
 use Rattle.lc_io.specs.declared.file.File.{File}
 use Rattle.lc_world.proofs.GoneOnLemmas.{no_gets, no_passes}
 use Rattle.lc_world.specs.GoneOn.{HasGoneOn}
 use Rattle.lc_world.specs.Link.{LinkSeen}
-use Rattle.laws_replay.specs.Replayed.{IsReplayed}
-use Rattle.laws_replay.specs.declared.event.Event.{Event}
 use Rattle.timetable.specs.declared.timetable.Timetable.{Timetable}
-use Rattle.lc_cli.specs.Command.{IsAskBlock, IsRefusedAs, IsReplayBlock, IsRightRefusal, IsRightWork, LeavesLink, Prints, ResultsIn, ask_scope, replay_scope}
+use Rattle.lc_cli.specs.Command.{IsAskBlock, IsRefusedAs, IsRightRefusal, IsRightWork, LeavesLink, Prints, ResultsIn, ask_scope}
 use Rattle.lc_cli.specs.declared.block.Block.{Block}
 use Rattle.lc_cli.specs.declared.work.Work.{Work}
 use Rattle.lc_cli.specs.declared.work.Work.TheVariants as works
@@ -33,18 +29,6 @@ ask_block_of ask old new before after made file inputs text end block is client 
   end = end;
   asked = subst (λ t. IsAsked made ask.publishing file ask.query before after t.items end) (sym is) asked;
   client = client;
-}
-
--- the output of an event sequence that was played
-pub replay_block_of : (replay : Replay) (old new : FolderSeen) (before after : LinkSeen) (made : Timetable) (all : List Event) → ReadsReplay (replay_scope replay) replay.script old new made all
-    → (text ends : _) (block : Block) → block.text ≡ text → block.ends ≡ ends → IsReplayed made replay.publishing all replay.cache before after text.items ends.items → IsReplayBlock replay old new before after block
-replay_block_of replay old new before after made all inputs text ends block text_is ends_is replayed = record {
-  made = made;
-  all = all;
-  inputs = inputs;
-  replayed =
-      subst (λ t. IsReplayed made replay.publishing all replay.cache before after t.items block.ends.items) (sym text_is)
-      (subst (λ e. IsReplayed made replay.publishing all replay.cache before after text.items e.items) (sym ends_is) replayed);
 }
 
 -- a block that a command prints, and a refusal of it, as what it results in
@@ -69,6 +53,7 @@ said_works words old new before after (commands.Ask ask) (Ok (works.Serve server
 said_works words old new before after (commands.Replay replay) (Ok (works.Serve server)) says is = absurd is
 said_works words old new before after (commands.Serve serve) (Ok (works.Serve server)) says is = record { serve = serve; says = says; is = is }
 said_works words old new before after (commands.Plan plan) (Ok (works.Serve server)) says is = absurd is
+said_works words old new before after (commands.Drill drill) (Ok (works.Serve server)) says is = absurd is
 said_works words old new before after command (Err refusal) says is = tt
 
 pub said_refusals : (words : List (List ℕ)) (old new : FolderSeen) (command : Command) (result : Result Work Refusal) → SaysCommand words command
@@ -83,6 +68,7 @@ leaves_alone (commands.Ask ask) link = no_passes link
 leaves_alone (commands.Replay replay) link = no_passes link
 leaves_alone (commands.Serve serve) link = no_passes link
 leaves_alone (commands.Plan plan) link = no_gets link
+leaves_alone (commands.Drill drill) link = no_passes link
 
 -- the link has gone on, whatever the command
 pub has_gone_on : (command : Command) (before after : LinkSeen) → LeavesLink command before after → HasGoneOn before after
@@ -91,3 +77,4 @@ has_gone_on (commands.Ask ask) before after left = left.gone_on
 has_gone_on (commands.Replay replay) before after left = left.gone_on
 has_gone_on (commands.Serve serve) before after left = left.gone_on
 has_gone_on (commands.Plan plan) before after left = left.gone_on
+has_gone_on (commands.Drill drill) before after left = left.gone_on

@@ -1,13 +1,17 @@
 -- Nothing but memory keeps the output from being printed, where nothing hinders a command.
-use Rattle.std.proofs.Common.{◌≡◌, ◌∙◌, ◌⊎◌, ℕ, inl, inr, List, None, Option, Some, ap, refl, subst, sym}
+use Rattle.std.proofs.Common.{◌≡◌, ◌∙◌, ◌⊎◌, ◌∷◌, ℕ, inl, inr, List, None, Option, Some, ap, arith, codes, refl, subst, sym}
 use Rattle.cli_ask.specs.Publishing.{store_of}
+use Rattle.cli_drill.specs.Files.{drill_files}
 use Rattle.cli_inputs.specs.Inputs.{IsRefusedFor}
+use Rattle.cli_inputs.specs.Script.{IsReplayRefused}
 use Rattle.cli_inputs.specs.declared.refusal.Refusal.{Refusal}
 use Rattle.cli_inputs.specs.declared.refusal.Refusal.TheVariants as refused
+use Rattle.cli_words.specs.Drill.{drilled_words}
 use Rattle.cli_words.specs.Laws.{OneCommand}
 use Rattle.cli_words.specs.Words.{SaysCommand}
 use Rattle.cli_words.specs.declared.command.Command.{Command}
 use Rattle.cli_words.specs.declared.command.Command.TheVariants as commands
+use Rattle.cli_words.specs.declared.command.Replay.{Replay}
 use Rattle.lc_io.specs.Counts.{Rose}
 use Rattle.lc_io.specs.Folder.{FolderSeen}
 use Rattle.lc_io.specs.declared.file.File.{File}
@@ -21,7 +25,8 @@ use Rattle.timetable.specs.declared.timetable.Timetable.{Timetable}
 use Rattle.version_store.specs.Laws.{OneOutcome}
 use Rattle.lc_cli.specs.Block.{IsBlockEnd, client_status_of}
 use Rattle.lc_cli.specs.Clear.{IsAnswered, IsClear, IsFed, IsHeard}
-use Rattle.lc_cli.specs.Command.{IsRefusedAs, IsRightRefusal, Prints, ask_scope, check_scope, serve_scope}
+use Rattle.lc_cli.specs.Command.{IsRefusedAs, IsRightRefusal, Prints, ask_scope, check_scope, replay_scope, serve_scope}
+use Rattle.lc_cli.specs.Drill.{IsDrillRefused, drill_folder, sure_seen}
 use Rattle.lc_cli.specs.Refusal.{IsRefusalEnd, status_of}
 use Rattle.lc_cli.specs.Top.{IsRight, Past}
 use Rattle.lc_cli.specs.declared.status.Status.{Status}
@@ -62,9 +67,13 @@ module _ (one_command : OneCommand) (loads_recorded : LoadsRecorded) (not_broken
     fine (commands.Ask ask) says prints =
         no_fault loads_recorded clear.recorded ask p.folder_before p.folder_after (seen p.link_before) (seen p.link_after) x.block prints clear.unhindered.tells (clear.unhindered.fair ask says)
     fine (commands.Replay replay) says prints =
-        course_fine loads_recorded clear.recorded replay p.folder_before p.folder_after (seen p.link_before) (seen p.link_after) x.block prints clear.unhindered.tells
+        course_fine loads_recorded clear.recorded replay p.folder_before p.folder_after (seen p.link_before) (seen p.link_after) x.block.text.items x.block.ends.items prints clear.unhindered.tells
         (clear.unhindered.fair_course replay says)
     fine (commands.Serve serve) says prints = absurd prints
+    fine (commands.Drill drill) says prints =
+        let x = prints.1 in
+        course_fine loads_recorded (drill_files drill.seed drill.days) x.replay (sure_seen (drill_folder drill)) (sure_seen x.read) (seen p.link_before) (seen p.link_after) x.text _ x.played refl
+        (clear.unhindered.fair_drill drill says x.replay x.drilled)
     fine (commands.Plan plan) says prints =
         plan_fine plan p.folder_before p.folder_after (seen p.link_before) (seen p.link_after) x.block prints (clear.unhindered.fair_plan plan says)
 
@@ -96,6 +105,16 @@ module _ (one_command : OneCommand) (loads_recorded : LoadsRecorded) (not_broken
         (heard_served clear.recorded serve is) clear.unhindered.no_folder_fault x.refusal refused_is
     never_as (commands.Plan plan) fed (all, asks) refused_is =
         plan_never_refused never_both clear.recorded plan.asks p.folder_before p.folder_after clear.unhindered.tells all asks clear.unhindered.no_folder_fault x.refusal refused_is
+    never_as (commands.Drill drill) fed (replay, made, all, drilled, course) refused_is = by_cause refused_is.1 where
+      by_cause : IsDrillRefused drill x.refusal → (status_of x.refusal ≡ NoMemory) ⊎ ⊥
+      by_cause (inl memory) = inl (ap status_of memory)
+      by_cause (inr is) =
+          let other : commands.Replay is.replay ≡ commands.Replay replay =
+          one_command (codes "replay" ∷ drilled_words drill.days) (commands.Replay is.replay) (commands.Replay replay) is.drilled drilled in
+          let same : is.replay ≡ replay = cc in
+          let refused_so = subst (λ (r : Replay). IsReplayRefused (replay_scope r) r.script (sure_seen (drill_folder drill)) (sure_seen is.read) x.refusal) same is.refused in
+          never_refused one_script never_both not_broken not_too_large (drill_files drill.seed drill.days) replay (sure_seen (drill_folder drill)) (sure_seen is.read) refl made all course
+          (λ rose. omega (arith, rose)) x.refusal refused_so
 
     by : IsRightRefusal p.words p.folder_before p.folder_after x.refusal → IsRefusalEnd x.refusal p.sink_before p.sink_after status → IsAnswered status
     by (inl usage) end = absurd (usage.says_none clear.command clear.says)

@@ -5,6 +5,8 @@ pub mod EarlierSideLemmas
 pub mod HeadlineLemmas
 pub mod HeadlineOfPlanLemmas
 pub mod HeadlineOfReplayLemmas
+mod HeadlineOfDrillLemmas
+mod DrillLemmas
 pub mod InputsLemmas
 pub mod NearHeadlineLemmas
 pub mod NearPlanLemmas

@@ -147,7 +147,7 @@ module _ (loads_recorded : LoadsRecorded) (one_timetable : OneTimetable) (one_sc
     met = x.replayed.caused.met;
     right = x.replayed.right fair.link.was_clear (fair.short x.made x.all (course_recorded loads_recorded recorded replay old new x.made x.all tells x.inputs));
     one_each = x.replayed.one_each;
-    no_fault = no_link_faults block.ends.items (course_fine loads_recorded recorded replay old new before after block x tells fair);
+    no_fault = no_link_faults block.ends.items (course_fine loads_recorded recorded replay old new before after block.text.items block.ends.items x tells fair);
   }
 
   -- the output of one event sequence over the same files is one

@@ -35,6 +35,8 @@ use Rattle.version_store.specs.declared.admission.AdmitFault.TheVariants as faul
 use Rattle.lc_cli.specs.Block.{IsBlockEnd, client_status_of, failed_status_of}
 use Rattle.lc_cli.specs.Clear.{HasTimetable, IsClear, IsRecordedCourse, IsRecordedFile, IsUnhindered}
 use Rattle.lc_cli.specs.Command.{IsRefusedAs, IsRightBlock, IsRightRefusal, Prints, ask_scope, check_scope, serve_scope}
+use Rattle.lc_cli.specs.Drill.{drill_folder, sure_seen}
+use Rattle.cli_drill.specs.Files.{drill_files}
 use Rattle.cli_inputs.specs.Inputs.{AsksForUpdate, IsRefusedFor}
 use Rattle.lc_cli.specs.Laws.{AreInProcess, DoneIsClear, DoneIsPrinted, IsInProcess, OneStatus}
 use Rattle.lc_cli.specs.Refusal.{IsRefusalEnd, status_of}
@@ -92,6 +94,7 @@ IsRefusedSo recorded p s (commands.Ask ask) = Fails (ask_scope ask) ask.update r
 IsRefusedSo recorded p s (commands.Replay replay) = IsCourseRefused recorded replay s
 IsRefusedSo recorded p s (commands.Serve serve) = Unit {0}
 IsRefusedSo recorded p s (commands.Plan plan) = Unit {0}
+IsRefusedSo recorded p s (commands.Drill drill) = Unit {0}
 
 -- a command is refused by its files
 record IsRefusedByFiles {X : Type 0} (recorded : List File) (p : Past X) (s : Status) : Type 0 where
@@ -149,6 +152,7 @@ module _ {X : Type 0} (seen : X → LinkSeen) (p : Past X) (recorded : List File
   refused_so (commands.Replay replay) refusal status is = course_refused recorded replay p.folder_before p.folder_after at.tells at.no_folder_fault s refusal is status
   refused_so (commands.Serve serve) refusal status is = inr tt
   refused_so (commands.Plan plan) refusal status is = inr tt
+  refused_so (commands.Drill drill) refusal status is = inr tt
 
   by_command : (command : Command) → SaysCommand p.words command → (s ≡ NoMemory) ⊎ IsRefusedSo recorded p s command → (s ≡ NoMemory) ⊎ Ended seen recorded p s
   by_command command says (inl memory) = inl memory
@@ -229,6 +233,7 @@ module _ {X Y : Type 0} (seen : X → LinkSeen) (saw : Y → LinkSeen) (one_comm
   LoadedSo r (commands.Replay replay) = PlayedRecorded replay
   LoadedSo r (commands.Serve serve) = Unit {0}
   LoadedSo r (commands.Plan plan) = Unit {0}
+  LoadedSo r (commands.Drill drill) = Unit {0}
 
   loaded : {Z : Type 0} (look : Z → LinkSeen) (r : Past Z) (block : Block) → r.folder_before.files ≡ Some recorded → (command : Command)
       → Prints command r.folder_before r.folder_after (look r.link_before) (look r.link_after) block → LoadedSo r command
@@ -246,6 +251,7 @@ module _ {X Y : Type 0} (seen : X → LinkSeen) (saw : Y → LinkSeen) (one_comm
   }
   loaded look r block tells (commands.Serve serve) prints = tt
   loaded look r block tells (commands.Plan plan) prints = tt
+  loaded look r block tells (commands.Drill drill) prints = tt
   loaded look r block tells (commands.Check check) prints =
       record { between = r.folder_after; made = prints.made; loads = prints.loaded; heard = heard_nothing recorded (record { runs = prints.made.runs; stops = prints.made.doc.stops; zone = prints.made.zone; base = 0; history = [] }) }
   loaded look r block tells (commands.Ask ask) prints = record {
@@ -281,12 +287,13 @@ module _ {X Y : Type 0} (seen : X → LinkSeen) (saw : Y → LinkSeen) (one_comm
     by (commands.Check check) says a b = ap (client_status_of 1) (a.no_client ∙ sym b.no_client)
     by (commands.Serve serve) says a b = absurd a
     by (commands.Plan plan) says a b = absurd (home (commands.Plan plan) says)
+    by (commands.Drill drill) says a b = absurd (home (commands.Drill drill) says)
     by (commands.Replay replay) says a b =
         let fair = at.fair_course replay says in
         let one = one_replay loads_recorded one_timetable one_script one_course recorded replay p.folder_before p.folder_after q.folder_before q.folder_after (seen p.link_before) (seen p.link_after)
         (saw q.link_before) (saw q.link_after) x.block y.block a b at.tells to.tells fair (to.fair_course replay (subst (λ w. SaysCommand w (commands.Replay replay)) words says)) in
         one_clients_status 1 x.block.ends.items y.block.ends.items one.one_each
-        (course_fine loads_recorded recorded replay p.folder_before p.folder_after (seen p.link_before) (seen p.link_after) x.block a at.tells fair)
+        (course_fine loads_recorded recorded replay p.folder_before p.folder_after (seen p.link_before) (seen p.link_after) x.block.text.items x.block.ends.items a at.tells fair)
     by (commands.Ask ask) says a b =
         let one = one_client seen saw one_timetable loads_recorded one_output recorded ask p.folder_before p.folder_after q.folder_before q.folder_after p.link_before p.link_after q.link_before q.link_after x.block y.block a b
         at.tells to.tells (at.fair ask says) (to.fair ask (subst (λ w. SaysCommand w (commands.Ask ask)) words says)) in
@@ -308,6 +315,7 @@ module _ {X Y : Type 0} (seen : X → LinkSeen) (saw : Y → LinkSeen) (one_comm
       not_refused one_outcome one_end one_script one_fault never_both recorded replay x.made x.all v x.course x.loaded y
   clash r u v tells tell (commands.Serve serve) here x y = here
   clash r u v tells tell (commands.Plan plan) here x y = here
+  clash r u v tells tell (commands.Drill drill) here x y = here
 
   whole_refused : (x : Whole seen p s) → IsRefusedByFiles recorded q t → ⊥
   whole_refused x y =
@@ -340,6 +348,7 @@ module _ {X Y : Type 0} (seen : X → LinkSeen) (saw : Y → LinkSeen) (one_comm
   both_refused (commands.Replay replay) here x y = one_course_refusal one_outcome one_end one_script one_fault never_both recorded replay s t x y
   both_refused (commands.Serve serve) here x y = absurd here
   both_refused (commands.Plan plan) here x y = absurd here
+  both_refused (commands.Drill drill) here x y = absurd here
 
   one_ended : Ended seen recorded p s → Ended saw recorded q t → s ≡ t
   one_ended (inl x) (inl y) = both_whole x y
@@ -430,6 +439,22 @@ done_is_clear seen loads_recorded p recorded at right = by (done_is_printed seen
     fed = tt;
     heard = (prints.all, asks_recorded recorded plan.asks p.folder_before p.folder_after prints.all at.tells prints.inputs);
   }
+  of (commands.Drill drill) block says prints =
+      let x = prints.1 in
+      record {
+        command = commands.Drill drill;
+        says = says;
+        recorded = recorded;
+        unhindered = at;
+        fed = tt;
+        heard = (
+          x.replay,
+          x.played.made,
+          x.played.all,
+          x.drilled,
+          course_recorded loads_recorded (drill_files drill.seed drill.days) x.replay (sure_seen (drill_folder drill)) (sure_seen x.read) x.played.made x.played.all refl x.played.inputs,
+        );
+      }
 
   by : HasPrinted seen p Done ⊎ HasServed p Done → IsClear seen p
   by (inl x) = of x.right.command x.block x.right.says x.right.prints

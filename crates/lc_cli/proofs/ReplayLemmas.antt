@@ -35,7 +35,7 @@ use Rattle.timetable.specs.declared.timetable.Timetable.{Timetable}
 use Rattle.trip_updates.specs.Faults.{fault_of}
 use Rattle.trip_updates.specs.declared.fault.RtFault.{RtFault}
 use Rattle.lc_cli.specs.Clear.{AreRecordedEvents, HasFairCourse, IsRecordedCourse, IsRecordedEvent}
-use Rattle.lc_cli.specs.Command.{IsReplayBlock, replay_scope}
+use Rattle.lc_cli.specs.Command.{IsPlayedBy, replay_scope}
 use Rattle.lc_cli.specs.Refusal.{status_of}
 use Rattle.lc_cli.specs.declared.block.Block.{Block}
 use Rattle.lc_cli.specs.declared.status.Status.TheVariants.{NoMemory}
@@ -116,14 +116,14 @@ module _ (loads_recorded : LoadsRecorded) where
       }
 
   -- over a fair link no exchange failed and no reply
-  pub course_fine : (recorded : List File) (replay : Replay) (old new : FolderSeen) (before after : LinkSeen) (block : Block) → IsReplayBlock replay old new before after block → old.files ≡ Some recorded
-      → HasFairCourse recorded replay before.clear before.faults after.faults → AreNoFaults block.ends.items
-  course_fine recorded replay old new before after block x tells fair =
+  pub course_fine : (recorded : List File) (replay : Replay) (old new : FolderSeen) (before after : LinkSeen) (text : List ℕ) (ends : List ClientEnd) → IsPlayedBy replay old new before after text ends
+      → old.files ≡ Some recorded → HasFairCourse recorded replay before.clear before.faults after.faults → AreNoFaults ends
+  course_fine recorded replay old new before after text ends x tells fair =
       let right = x.replayed.right fair.link.was_clear (fair.short x.made x.all (course_recorded recorded replay old new x.made x.all tells x.inputs)) in
-      no_faults_at block.ends.items (λ place end is.
-      let query = some_at block.ends.items (questions_in x.all) place end x.replayed.one_each is in
-      let ends = right.clients place query.0 end query.1 is in
-      no_fault_of _ _ query.0 end replay.publishing.base before.faults after.faults end.version _ end.outcome (x.replayed.caused.clients place query.0 end query.1 is).ends ends.ended fair.link.no_fault)
+      no_faults_at ends (λ place end is.
+      let query = some_at ends (questions_in x.all) place end x.replayed.one_each is in
+      let rightly = right.clients place query.0 end query.1 is in
+      no_fault_of _ _ query.0 end replay.publishing.base before.faults after.faults end.version _ end.outcome (x.replayed.caused.clients place query.0 end query.1 is).ends rightly.ended fair.link.no_fault)
 
 module _ (one_script : OneScript) (never_both : NeverBoth) (not_broken : NotBroken) (not_too_large : NotTooLarge) (recorded : List File) (replay : Replay) (old new : FolderSeen)
     (tells : old.files ≡ Some recorded) (made : Timetable) (all : List Event) (course : IsRecordedCourse recorded replay made all) (no_fault : Rose old.faults new.faults → ⊥) where

@@ -2,9 +2,11 @@
 use Rattle.std.specs.Prelude.{◌≡◌, ℕ, Bool, false, true, List, [], ◌∷◌, Option, Some, None}
 use Rattle.cli_ask.specs.Admission.{IsBehind}
 use Rattle.cli_ask.specs.Publishing.{side_for, side_with, store_of}
+use Rattle.cli_drill.specs.Files.{drill_files}
 use Rattle.cli_inputs.specs.Plan.{SayEvents}
 use Rattle.cli_words.specs.Words.{SaysCommand}
 use Rattle.cli_words.specs.declared.command.Ask.{Ask}
+use Rattle.cli_words.specs.declared.command.Drill.{Drill}
 use Rattle.cli_words.specs.declared.command.Plan.{Plan}
 use Rattle.cli_words.specs.declared.command.Replay.{Replay}
 use Rattle.cli_words.specs.declared.command.Serve.{Serve}
@@ -27,6 +29,7 @@ use Rattle.timetable.specs.declared.scope.Scope.{Scope}
 use Rattle.timetable.specs.declared.timetable.Timetable.{Timetable}
 use Rattle.version_store.specs.Store.{Stored}
 use Rattle.lc_cli.specs.Command.{ask_scope, check_scope, replay_scope, serve_scope}
+use Rattle.lc_cli.specs.Drill.{IsDrilled}
 use Rattle.lc_cli.specs.Top.{Past}
 use Rattle.lc_cli.specs.declared.status.Status.{Status}
 use Rattle.lc_cli.specs.declared.status.Status.TheVariants.{Done, Usage, FeedBroken, UpdateBroken, FolderFault, SinkFault, LinkFault, PeerWrong, QueryRefused, DoorFault, ScriptWrong, TooLarge, NoMemory}
@@ -130,6 +133,8 @@ pub record IsUnhindered {X : Type 0} (seen : X → LinkSeen) (p : Past X) (recor
   pub fair : (ask : Ask) → SaysCommand p.words (commands.Ask ask) → HasFairLink recorded ask (seen p.link_before).clear (seen p.link_before).faults (seen p.link_after).faults
   pub fair_course : (replay : Replay) → SaysCommand p.words (commands.Replay replay)
       → HasFairCourse recorded replay (seen p.link_before).clear (seen p.link_before).faults (seen p.link_after).faults
+  pub fair_drill : (drill : Drill) → SaysCommand p.words (commands.Drill drill) → (replay : Replay) → IsDrilled drill replay
+      → HasFairCourse (drill_files drill.seed drill.days) replay (seen p.link_before).clear (seen p.link_before).faults (seen p.link_after).faults
   pub fair_plan : (plan : Plan) → SaysCommand p.words (commands.Plan plan) → HasHonestLink plan (seen p.link_before) (seen p.link_after)
 
 -- by the files that are recorded, a feed has a timetable
@@ -144,6 +149,7 @@ IsFed recorded (commands.Ask ask) = HasTimetable recorded (ask_scope ask)
 IsFed recorded (commands.Replay replay) = HasTimetable recorded (replay_scope replay)
 IsFed recorded (commands.Serve serve) = HasTimetable recorded (serve_scope serve)
 IsFed recorded (commands.Plan plan) = Unit {0}
+IsFed recorded (commands.Drill drill) = Unit {0}
 
 -- The message of a question or of a server, if it has one, reads as a message. There is a publisher to ask or to serve. The messages
 -- of an event sequence do too. Its script reads as a script, and the questions and turns of `plan` as such.
@@ -153,6 +159,8 @@ IsHeard recorded (commands.Ask ask) = (side : Side) × IsAskedSide recorded ask 
 IsHeard recorded (commands.Replay replay) = (made : Timetable) × (all : List Event) × IsRecordedCourse recorded replay made all
 IsHeard recorded (commands.Serve serve) = (side : Side) × IsServedSide recorded serve side
 IsHeard recorded (commands.Plan plan) = (all : List Event) × AreRecordedAsks recorded plan.asks all
+IsHeard recorded (commands.Drill drill) =
+    (replay : Replay) × (made : Timetable) × (all : List Event) × IsDrilled drill replay × IsRecordedCourse (drill_files drill.seed drill.days) replay made all
 
 -- The arguments say a command, nothing hinders it, and by the recorded files no rule and no limit refuses what it reads.
 pub record IsClear {X : Type 0} (seen : X → LinkSeen) (p : Past X) : Type 0 where

@@ -16,16 +16,17 @@ use Rattle.lc_io.specs.declared.file.File.{File}
 use Rattle.lc_world.specs.GoneOn.{IsLeftByGets, IsLeftByPasses}
 use Rattle.lc_world.specs.Link.{LinkSeen}
 use Rattle.laws_plan.specs.Planned.{IsPlanned}
-use Rattle.laws_replay.specs.Replayed.{IsReplayed}
 use Rattle.laws_replay.specs.declared.event.Event.{Event}
 use Rattle.timetable.specs.Loading.{Loads}
 use Rattle.timetable.specs.declared.fault.LoadFault.TheVariants as fault
 use Rattle.timetable.specs.declared.scope.Scope.{Scope}
 use Rattle.timetable.specs.declared.timetable.Timetable.{Timetable}
 use Rattle.lc_cli.specs.CheckText.{check_text_of}
+use Rattle.lc_cli.specs.Drill.{IsDrillBlock, IsDrillRefused}
+pub use Rattle.lc_cli.specs.Replay.{IsPlayedBy, IsReplayBlock, replay_scope}
 use Rattle.cli_inputs.specs.Inputs.{IsRefusedFor, ReadsInputs}
 use Rattle.cli_inputs.specs.Plan.{ReadsPlan}
-use Rattle.cli_inputs.specs.Script.{IsReplayRefused, IsScriptRefused, ReadsReplay}
+use Rattle.cli_inputs.specs.Script.{IsReplayRefused, IsScriptRefused}
 use Rattle.lc_cli.specs.declared.block.Block.{Block}
 use Rattle.lc_cli.specs.declared.server.Server.{Server}
 use Rattle.lc_cli.specs.declared.work.Work.{Work}
@@ -40,10 +41,6 @@ check_scope check = record { feed = check.feed; zone = check.zone; first = check
 -- what `ask` asks of its feed
 abbrev pub ask_scope : Ask → Scope
 ask_scope ask = record { feed = ask.feed; zone = ask.zone; first = ask.first; days = ask.days; change = ask.change }
-
--- what `replay` asks of its feed
-abbrev pub replay_scope : Replay → Scope
-replay_scope replay = record { feed = replay.feed; zone = replay.zone; first = replay.first; days = replay.days; change = replay.change }
 
 -- what `serve` asks of its feed
 abbrev pub serve_scope : Serve → Scope
@@ -66,14 +63,6 @@ pub record IsAskBlock (ask : Ask) (old new : FolderSeen) (before after : LinkSee
   pub asked : IsAsked made ask.publishing file ask.query before after block.text.items end
   pub client : block.ends.items ≡ end ∷ []
 
--- A publisher of the timetable received the messages of the script, and clients asked it their questions over the link. The block has the
--- lines of the messages and those of the clients.
-pub record IsReplayBlock (replay : Replay) (old new : FolderSeen) (before after : LinkSeen) (block : Block) : Type 0 where
-  pub made : Timetable
-  pub all : List Event
-  pub inputs : ReadsReplay (replay_scope replay) replay.script old new made all
-  pub replayed : IsReplayed made replay.publishing all replay.cache before after block.text.items block.ends.items
-
 -- The questions and turns were read, and happened over the link. What is printed are the lines of the clients.
 pub record IsPlanBlock (plan : Plan) (old new : FolderSeen) (before after : LinkSeen) (block : Block) : Type 0 where
   pub all : List Event
@@ -87,6 +76,7 @@ Prints (commands.Ask ask) old new before after block = IsAskBlock ask old new be
 Prints (commands.Replay replay) old new before after block = IsReplayBlock replay old new before after block
 Prints (commands.Serve serve) old new before after block = ⊥
 Prints (commands.Plan plan) old new before after block = IsPlanBlock plan old new before after block
+Prints (commands.Drill drill) old new before after block = (new ≡ old) × IsDrillBlock drill before after block
 
 -- the arguments say a command, and the block is what it prints
 pub record IsRightBlock (words : List (List ℕ)) (old new : FolderSeen) (before after : LinkSeen) (block : Block) : Type 0 where
@@ -111,6 +101,7 @@ Serves (commands.Ask ask) old new server = ⊥
 Serves (commands.Replay replay) old new server = ⊥
 Serves (commands.Serve serve) old new server = IsServer serve old new server
 Serves (commands.Plan plan) old new server = ⊥
+Serves (commands.Drill drill) old new server = ⊥
 
 -- what the command results in
 abbrev pub ResultsIn : Command → FolderSeen → FolderSeen → LinkSeen → LinkSeen → Work → Type 0
@@ -136,6 +127,7 @@ LeavesLink (commands.Ask ask) before after = IsLeftByPasses before after
 LeavesLink (commands.Replay replay) before after = IsLeftByPasses before after
 LeavesLink (commands.Serve serve) before after = IsLeftByPasses before after
 LeavesLink (commands.Plan plan) before after = IsLeftByGets before after
+LeavesLink (commands.Drill drill) before after = IsLeftByPasses before after
 
 -- why a command is refused
 abbrev pub IsRefusedAs : Command → FolderSeen → FolderSeen → Refusal → Type 0
@@ -144,6 +136,7 @@ IsRefusedAs (commands.Ask ask) old new refusal = IsRefusedFor (ask_scope ask) as
 IsRefusedAs (commands.Replay replay) old new refusal = IsReplayRefused (replay_scope replay) replay.script old new refusal
 IsRefusedAs (commands.Serve serve) old new refusal = IsRefusedFor (serve_scope serve) serve.update old new refusal
 IsRefusedAs (commands.Plan plan) old new refusal = IsScriptRefused false plan.asks old new refusal
+IsRefusedAs (commands.Drill drill) old new refusal = (new ≡ old) × IsDrillRefused drill refusal
 
 -- the arguments say a command, which is refused for this
 pub record IsRefusedCommand (words : List (List ℕ)) (old new : FolderSeen) (refusal : Refusal) : Type 0 where

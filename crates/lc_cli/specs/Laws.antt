@@ -22,13 +22,14 @@ pub record PrintOneCourse (x y : Block) : Type 0 where
   pub second_is : y.text.items ≡ lines ++ clients_text_of 1 y.ends.items
   pub one_each : AllZip AreOneEnd x.ends.items y.ends.items
 
--- the command asks an in-process publisher, or none
+-- the command asks an in-process publisher, or none, and prints what each client found
 abbrev pub IsInProcess : Command → Type 0
 IsInProcess (commands.Check check) = Unit {0}
 IsInProcess (commands.Ask ask) = Unit {0}
 IsInProcess (commands.Replay replay) = Unit {0}
 IsInProcess (commands.Serve serve) = ⊥
 IsInProcess (commands.Plan plan) = ⊥
+IsInProcess (commands.Drill drill) = ⊥
 
 -- the arguments say no other command
 abbrev pub AreInProcess : List (List ℕ) → Type 0
@@ -38,6 +39,7 @@ AreInProcess words = (command : Command) → SaysCommand words command → IsInP
 abbrev pub PrintOne : Command → Block → Block → Type 0
 PrintOne (commands.Serve serve) x y = ⊥
 PrintOne (commands.Plan plan) x y = ⊥
+PrintOne (commands.Drill drill) x y = ⊥
 PrintOne (commands.Check check) x y = x.text.items ≡ y.text.items
 PrintOne (commands.Replay replay) x y = PrintOneCourse x y
 PrintOne (commands.Ask ask) x y = (first : ClientEnd) × (second : ClientEnd) × PrintOneClient x.text.items y.text.items first second

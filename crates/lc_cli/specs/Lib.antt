@@ -1,8 +1,11 @@
 pub mod Block
 pub mod CheckText
 pub mod Clear
+pub mod Replay
+pub mod Drill
 pub mod Command
 pub mod Headline
+pub mod HeadlineOfDrill
 pub mod Laws
 pub mod NearHeadline
 pub mod NearPlan

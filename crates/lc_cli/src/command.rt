@@ -19,10 +19,12 @@ ghost use Rattle.timetable.specs.declared.fault.LoadFault.TheVariants.{NoMemory 
 
 use crate::block::Block;
 use crate::check_text::check_text;
+use crate::drill::drill_block;
+use crate::replay::{play_course, read_course};
 use crate::server::Server;
 use crate::work::Work;
 use cli_ask::{Asked, MessageFault, serving_publisher};
-use cli_inputs::{Inputs, Refusal, ReplayInputs, read_inputs, read_plan, read_replay};
+use cli_inputs::{Inputs, Refusal, read_inputs, read_plan};
 use cli_plan::Planned;
 use cli_replay::Replayed;
 use cli_words::{Ask, Check, Command, Plan, Replay, Serve, one_command, read_words};
@@ -89,6 +91,10 @@ fn result_of<F: Folder, L: Link>(
         },
         Command::Plan(plan) => {
             let (block, link) = plan_block(alloc, folder, plan, link);
+            (printed(block), link)
+        }
+        Command::Drill(drill) => {
+            let (block, link) = drill_block(alloc, drill, link);
             (printed(block), link)
         }
     }
@@ -219,34 +225,9 @@ fn replay_block<F: Folder, L: Link>(
     ensures refusal_leaves_link { IfErr result.0 (λ refusal. refusal ≢ Load OutOfMemory → result.1 ≡ link) }
     ensures left { IsLeftByPasses (L.seen link) (L.seen result.1) }
 {
-    let Replay {
-        feed,
-        first,
-        days,
-        zone,
-        change,
-        publishing,
-        cache,
-        script,
-        ..
-    } = replay;
-    let scope = Scope {
-        feed,
-        zone,
-        first,
-        days,
-        change,
-    };
-    match read_replay(alloc, folder, &scope, script) {
-        Ok(ReplayInputs { made, events }) => {
-            let (played, link) = cli_replay::replay(
-                alloc,
-                made,
-                publishing,
-                events,
-                cache as usize,
-                link,
-            );
+    match read_course(alloc, folder, replay) {
+        Ok(course) => {
+            let (played, link) = play_course(alloc, course, link);
             match played {
                 Ok(replayed) => (Ok(course_block(replayed)), link),
                 Err(NoMemory) => (Err(Refusal::from(NoMemory)), link),
@@ -261,7 +242,7 @@ fn course_block(replayed: Replayed) -> Block
     ensures text { result.text ≡ replayed.text }
     ensures ends { result.ends ≡ replayed.ends }
 {
-    let Replayed { text, ends } = replayed;
+    let Replayed { text, ends, .. } = replayed;
     Block { text, ends }
 }
 

@@ -1,4 +1,5 @@
 ghost use Rattle.lc_cli.specs.Headline.{Headline, HeadlineOfPlan, HeadlineOfReplay};
+ghost use Rattle.lc_cli.specs.HeadlineOfDrill.{HeadlineOfDrill};
 ghost use Rattle.lc_cli.specs.Laws.{DoneIsClear, DoneIsPrinted, OneRun, OneStatus};
 ghost use Rattle.lc_cli.specs.OnePlan.{OneNamedPlan, OneQuietPlan};
 ghost use Rattle.lc_cli.specs.OneServing.{BeginsFromIt, NotAnotherBase, NotMadeUp, NotUnasked, OneAskedSide, OneServedSide, OneServing};
@@ -15,11 +16,12 @@ use version_store::one_outcome;
 
 /// A run of `ask` with status Done wrote a best journey at the version that its question means, or that there is none. A run of `replay` did so for
 /// each client that asked, at the version that its question meant before its first turn. A run of `plan` over an honest link did so for each
-/// client, at the version that its own time gate exchange named.
+/// client, at the version that its own time gate exchange named. The sums of `drill` are over such journeys.
 pub fn headline<L: Link>()
     ensures ask { Headline L.seen }
     ensures replay { HeadlineOfReplay L.seen }
     ensures plan { HeadlineOfPlan L.seen }
+    ensures drill { HeadlineOfDrill L.seen }
 {
     one_command();
     one_timetable();

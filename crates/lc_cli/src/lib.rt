@@ -1,12 +1,15 @@
 //! The commands of `lc`: they check feeds, publish them, and plan journeys over pages that a publisher gives. It builds on the
-//! arguments, the timetable of a feed, `cli_ask`, `cli_replay`, `cli_serve` and `cli_plan`.
+//! arguments, the timetable of a feed, `cli_ask`, `cli_replay`, `cli_drill`, `cli_serve` and `cli_plan`.
 #![tactic(auto)]
 
 mod block;
 mod check_text;
 mod command;
+mod course;
+mod drill;
 mod laws;
 mod refusal;
+mod replay;
 mod serve;
 mod server;
 mod status;

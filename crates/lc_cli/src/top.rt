@@ -37,6 +37,7 @@ use version_store::one_outcome;
 /// `serve FEED FIRST --port P --connections N` publishes a timetable at the door. It answers the requests of this many connections, one
 /// after the other, and prints how many there were. With `--accept-updates` clients may post messages.
 /// `plan URL ASKS` lets the clients of a script ask the publisher under the URL, over the link handed in, and prints their answers.
+/// `drill N` is `replay` over files that are generated from the number, and prints sums over the clients.
 pub fn run<F: Folder, L: Link, D: Door, S: Sink>(
     alloc: Global,
     words: &[String],

@@ -1,3 +1,5 @@
+use Rattle.std.proofs.Common.{refl}
+use Rattle.std.proofs.lemmas.Result.{IfErr-weaker, IfOk-weaker}
 use Rattle.cli_words.specs.declared.command.Command.TheVariants as commands
 use Rattle.lc_cli.proofs.CommandLemmas.{leaves_alone, refused_printed, results_printed}
 use Rattle.lc_cli.proofs.command.result_of.Goals as goal
@@ -31,6 +33,21 @@ pub returns-in-Plan-clause-refused : goal.returns-in-Plan-clause-refused
 returns-in-Plan-clause-refused g c =
     rw c.in-Plan.is
     (refused_printed _ _ (commands.Plan c.in-Plan.plan) c.plan_block-block.result.0 c.printed-in-Plan.result c.plan_block-block.ensures.refused c.printed-in-Plan.ensures.work c.printed-in-Plan.ensures.refused)
+
+pub returns-in-Drill-clause-work : goal.returns-in-Drill-clause-work
+returns-in-Drill-clause-work g c =
+    rw c.in-Drill.is
+    (results_printed _ _ _ _ (commands.Drill c.in-Drill.drill) c.drill_block-block.result.0 c.printed-in-Drill.result
+    (IfOk-weaker c.drill_block-block.result.0 _ _ (λ block is. (refl, is)) c.drill_block-block.ensures.block) c.printed-in-Drill.ensures.work c.printed-in-Drill.ensures.refused)
+
+pub returns-in-Drill-clause-refused : goal.returns-in-Drill-clause-refused
+returns-in-Drill-clause-refused g c =
+    rw c.in-Drill.is
+    (refused_printed _ _ (commands.Drill c.in-Drill.drill) c.drill_block-block.result.0 c.printed-in-Drill.result
+    (IfErr-weaker c.drill_block-block.result.0 _ _ (λ refusal is. (refl, is)) c.drill_block-block.ensures.refused) c.printed-in-Drill.ensures.work c.printed-in-Drill.ensures.refused)
+
+pub returns-in-Drill-clause-link : goal.returns-in-Drill-clause-link
+returns-in-Drill-clause-link g c = rw c.in-Drill.is c.drill_block-block.ensures.left
 
 pub returns-in-Ask-clause-link : goal.returns-in-Ask-clause-link
 returns-in-Ask-clause-link g c = rw c.in-Ask.is c.ask_block-block.ensures.left

@@ -1,4 +1,5 @@
 use Rattle.lc_cli.proofs.HeadlineLemmas.{headline}
+use Rattle.lc_cli.proofs.HeadlineOfDrillLemmas.{headline_of_drill}
 use Rattle.lc_cli.proofs.HeadlineOfPlanLemmas.{headline_of_plan}
 use Rattle.lc_cli.proofs.HeadlineOfReplayLemmas.{headline_of_replay}
 use Rattle.lc_cli.proofs.laws.headline.Goals as goal
@@ -12,3 +13,6 @@ returns-clause-replay g c =
 
 pub returns-clause-plan : goal.returns-clause-plan
 returns-clause-plan g c = headline_of_plan g.L.Link.seen c.one_command.ensures
+
+pub returns-clause-drill : goal.returns-clause-drill
+returns-clause-drill g c = headline_of_drill g.L.Link.seen c.one_command.ensures c.one_timetable.ensures.loads_recorded c.one_outcome.ensures.one

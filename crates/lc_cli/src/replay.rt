@@ -1,0 +1,75 @@
+ghost use Rattle.std.specs.Prelude.{IfErr, IfOk};
+ghost use Rattle.cli_inputs.specs.Script.{IsReplayRefused};
+ghost use Rattle.gtfs_tables.specs.Reading.{Keeps};
+ghost use Rattle.laws_replay.specs.Replayed.{IsReplayed};
+ghost use Rattle.laws_replay.specs.Versions.{HaveAdmitted};
+ghost use Rattle.lc_world.specs.GoneOn.{IsLeftByPasses};
+ghost use Rattle.lc_cli.specs.Replay.{IsCourse, replay_scope};
+
+use crate::course::Course;
+use cli_inputs::{Refusal, ReplayInputs, read_replay};
+use cli_replay::Replayed;
+use cli_words::Replay;
+use lc_model::NoMemory;
+use lc_world::{Folder, Link};
+use std::alloc::Global;
+use timetable::Scope;
+
+/// Reads what an event sequence is played from: the script, the timetable and the messages.
+pub(crate) fn read_course<F: Folder>(
+    alloc: Global,
+    folder: &mut F,
+    replay: Replay,
+) -> Result<Course, Refusal>
+    ensures course { IfOk result (IsCourse replay (F.seen folder.old) (F.seen folder.new)) }
+    ensures refused { IfErr result (IsReplayRefused (replay_scope replay) replay.script (F.seen folder.old) (F.seen folder.new)) }
+    ensures kept { Keeps (F.seen folder.old) (F.seen folder.new) }
+{
+    let Replay {
+        feed,
+        first,
+        days,
+        zone,
+        change,
+        publishing,
+        cache,
+        script,
+        ..
+    } = replay;
+    let scope = Scope {
+        feed,
+        zone,
+        first,
+        days,
+        change,
+    };
+    match read_replay(alloc, folder, &scope, script) {
+        Ok(ReplayInputs { made, events }) => Ok(Course {
+            made,
+            events,
+            publishing,
+            cache,
+        }),
+        Err(refusal) => Err(refusal),
+    }
+}
+
+/// Plays an event sequence. Each reply is handed on over the link, which is given back.
+pub(crate) fn play_course<L: Link>(
+    alloc: Global,
+    course: Course,
+    link: L,
+) -> (Result<Replayed, NoMemory>, L)
+    ensures replayed { IfOk result.0 (λ replayed. IsReplayed course.made course.publishing course.events.items course.cache (L.seen link) (L.seen result.1) replayed.text.items replayed.ends.items) }
+    ensures admitted { IfOk result.0 (λ replayed. HaveAdmitted course.made course.publishing course.events.items replayed.admitted) }
+    ensures left { IsLeftByPasses (L.seen link) (L.seen result.1) }
+{
+    let Course {
+        made,
+        events,
+        publishing,
+        cache,
+        ..
+    } = course;
+    cli_replay::replay(alloc, made, publishing, events, cache as usize, link)
+}
