@@ -24,6 +24,8 @@ pub fn put_links(alloc: Global, draft: &mut Draft) {
         SCRIPT,
         &NOT_FOUND,
     );
+    put_line(draft, "1 reply of a drill not found");
+    put_not_found(alloc, draft, "drill 1", "", &NOT_FOUND[..1]);
     put_replies_of_another_feed(alloc, draft);
 }
 

@@ -2,7 +2,7 @@
 
 /// A line for each case: by hand from the ten minutes of Tiny at B and its two minutes of change. A page has half an hour of departures:
 /// those of 08:00, 09:00 and 10:00. The lines with `--cuts` show how many exchanges a question takes. They have a page for each departure,
-/// one page, or half an hour in each. A blank line has no argument at all.
+/// one page, or half an hour in each. A blank line has no argument at all. The lines of `drill` are those of `bench/drill.py`.
 pub const WORDS: &str = "ask tiny A D 2024-05-01T08:00:00Z
 ask --days=3 tiny -- A D 2024-05-01T08:00:00Z
 ask tiny A D 2024-05-01T08:00:01Z
@@ -46,4 +46,8 @@ serve tiny 20240501 --port 8080 --connections 1 --cache 5
 serve tiny 20240240 --port 8080 --connections 1
 plan http://lc.example/
 plan http://lc.example/?a a.csv
-plan lc.example a.csv";
+plan lc.example a.csv
+drill 1
+drill 1 --days 2
+drill 0
+drill 1 --days 8";
