@@ -1,0 +1,5 @@
+pub mod Latest
+pub mod Laws
+pub mod Near
+pub mod Requests
+pub mod Right
