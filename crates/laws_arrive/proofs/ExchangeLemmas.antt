@@ -95,6 +95,9 @@ one_exchange base side target known before after got honest ex =
       rose = failed_so base target known before after got ex;
     }
 
+pub same_side : (a b : Side) → Some a ≡ Some b → a ≡ b
+same_side a b is = cc
+
 -- a version stays one of a later side
 pub has_later : (before after : Side) (version : ℕ) → IsLater before after → has_version before version ≡ true → has_version after version ≡ true
 has_later before after version later has =

@@ -3,6 +3,7 @@ mod EndLemmas
 mod ExchangeLemmas
 mod FrontLemmas
 mod MeantLemmas
+mod NamedLemmas
 mod NearLemmas
 mod PagesBackLemmas
 mod WalkLemmas

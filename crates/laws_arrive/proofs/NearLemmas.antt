@@ -23,13 +23,10 @@ use Rattle.laws_arrive.specs.Near.{IsThere, NotAnotherVersion, NotEarlier, NotNo
 use Rattle.laws_arrive.specs.Requests.{page_request, requests_of}
 use Rattle.laws_arrive.specs.Right.{EndsAt, HasLatest, IsNamed, IsNamedByGate, IsRight}
 use Rattle.laws_arrive.proofs.AnsweredLemmas.{latest_stays, needed_back_stays, of_live, one_departure_at, one_list_of_needed_back_at}
-use Rattle.laws_arrive.proofs.ExchangeLemmas.{has_later}
+use Rattle.laws_arrive.proofs.ExchangeLemmas.{has_later, same_side}
 
 same_number : (a b : ℕ) → Some a ≡ Some b → a ≡ b
 same_number a b is = cc
-
-same_side : (a b : Side) → Some a ≡ Some b → a ≡ b
-same_side a b is = cc
 
 -- what holds of an end with an answer
 answer_at : (base : BaseParts) (side : Side) (asked : ArriveQuery) (version : Option ℕ) (requests : List (List ℕ)) (before after : ℕ) (answer : Option Journey) →

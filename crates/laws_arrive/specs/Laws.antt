@@ -1,5 +1,5 @@
 -- That a question for the latest departure ends rightly, and that its end is one.
-use Rattle.std.specs.Prelude.{◌≡◌, ℕ, List, Option, None}
+use Rattle.std.specs.Prelude.{◌≡◌, ℕ, List, Option, Some, None}
 use Rattle.lc_io.specs.Counts.{Rose}
 use Rattle.lc_model.specs.declared.journey.Journey.{Journey}
 use Rattle.lc_model.specs.declared.page.PageName.{PageName}
@@ -8,11 +8,12 @@ use Rattle.connection_uri.specs.Base.{BaseParts}
 use Rattle.lc_world.specs.Link.{IsHonestWith, IsQuietWith, LinkSeen}
 use Rattle.page_client.specs.Shown.{IsRefusal, answered}
 use Rattle.publisher_spec.specs.Side.{Side}
+use Rattle.laws_sides.specs.Stated.{version_at}
 use Rattle.laws_clients.specs.Laws.{Stays}
 use Rattle.laws_clients.specs.Wants.{HasEnds}
 use Rattle.back_scan.specs.Forward.{forward_query}
 use Rattle.back_scan.specs.declared.arrive_query.ArriveQuery.{ArriveQuery}
-use Rattle.back_client.specs.Arrives.{Arrives}
+use Rattle.back_client.specs.Arrives.{Arrives, AsksGate}
 use Rattle.back_client.specs.declared.outcome.ArriveEnd.{ArriveEnd}
 use Rattle.back_client.specs.declared.outcome.ArriveOutcome.TheVariants.{Ended}
 use Rattle.laws_arrive.specs.Latest.{LatestAt, NeededBackAt, departure_of}
@@ -23,6 +24,13 @@ abbrev pub LatestEndsRight : {X : Type 0} → (X → LinkSeen) → Type 0
 LatestEndsRight {X} seen =
     (side : Side) (base : BaseParts) (asked : ArriveQuery) (before after : X) (end : ArriveEnd) → IsHonestWith (seen before) base side → Arrives seen base asked before after end
     → IsRight seen base asked side before after end
+
+-- The time gate was asked, and replied. Then the version is the one that the known moment means at the side which this exchange left,
+-- whatever the link records.
+abbrev pub NamedAtGate : {X : Type 0} → (X → LinkSeen) → Type 0
+NamedAtGate {X} seen =
+    (side at : Side) (base : BaseParts) (asked : ArriveQuery) (before after : X) (end : ArriveEnd) (reply : List ℕ) → IsHonestWith (seen before) base side → (gate : AsksGate seen base asked before after end)
+    → gate.got ≡ Some reply → IsHonestWith (seen gate.after) base at → end.version ≡ Some (version_at at asked.known)
 
 -- The question has a horizon in range and different stops, which the stops document has. The count of the link did not increase. Then the end
 -- is a latest journey, or that there is none.
