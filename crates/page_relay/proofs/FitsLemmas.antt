@@ -1,5 +1,5 @@
 -- What a relay keeps agrees with the sides of its link.
-use Rattle.std.proofs.Common.{◌≡◌, ℕ, List, Some, sym, subst, inl, inr}
+use Rattle.std.proofs.Common.{◌≡◌, ℕ, List, Some, inl, inr, subst, sym}
 use Rattle.std.proofs.lemmas.List.Elements.{All-contains, All-weaker}
 use Rattle.connection_uri.specs.Base.{BaseParts}
 use Rattle.publisher_spec.specs.Reply.{IsReply}
@@ -7,7 +7,6 @@ use Rattle.publisher_spec.specs.Side.{IsLater, IsValidSide, Side}
 use Rattle.publisher_spec.proofs.LaterLemmas.{mementos_stay}
 use Rattle.page_relay.specs.Exchanges.{KeepsReply}
 use Rattle.page_relay.specs.Fits.{IsReplyOf, RelayFits}
-use Rattle.page_relay.specs.Keeping.{IsToKeep}
 use Rattle.page_relay.specs.Kept.{Kept, reply_for, with_used}
 use Rattle.page_relay.specs.Laws.{FitsLater}
 use Rattle.page_relay.specs.declared.sent.SentRequest.{SentRequest}
@@ -34,9 +33,9 @@ pub fits_used : (kept : List Kept) (side : Side) (sent : SentRequest) → RelayF
 fits_used kept side sent fits = All-with_used (IsReplyOf side) sent kept fits
 
 -- one more reply of the side is kept, if it has to be
-pub fits_kept : (base : BaseParts) (entries : ℕ) (kept now : List Kept) (side : Side) (sent : SentRequest) (reply : List ℕ) → side.base ≡ base → RelayFits kept side → IsReply side sent.request reply
+pub fits_kept : (base : BaseParts) (entries : ℕ) (kept now : List Kept) (side : Side) (sent : SentRequest) (reply : List ℕ) → RelayFits kept side → IsReply side sent.request reply
     → KeepsReply base entries kept sent reply now → RelayFits now side
-fits_kept base entries kept now side sent reply own fits (response, has) (inl (keep, is)) =
-    let document = only_documents side sent.request reply response (subst (λ (b : BaseParts). IsToKeep b sent.request reply) (sym own) keep) has in
+fits_kept base entries kept now side sent reply fits (response, has) (inl (keep, is)) =
+    let document = only_documents side base sent.request reply response keep has in
     subst (λ (k : List Kept). RelayFits k side) (sym is) (All-with_kept (IsReplyOf side) entries sent reply kept (record { response = response; document = document; has = has }) fits)
-fits_kept base entries kept now side sent reply own fits replied (inr (not, is)) = subst (λ (k : List Kept). RelayFits k side) (sym is) fits
+fits_kept base entries kept now side sent reply fits replied (inr (not, is)) = subst (λ (k : List Kept). RelayFits k side) (sym is) fits

@@ -1,5 +1,5 @@
--- What a relay keeps after its exchanges, from each to the next.
-use Rattle.std.specs.Prelude.{◌≡◌, ◌⊎◌, ℕ, List, [], ◌∷◌, Option, Some, None, Result, Ok, Err, IsErrOf}
+-- What a relay keeps after an exchange, and when it asks the link below.
+use Rattle.std.specs.Prelude.{◌≡◌, ◌⊎◌, ℕ, List, [], Option, Some, None, Result, Ok, Err, IsErrOf}
 use Rattle.connection_uri.specs.Base.{BaseParts}
 use Rattle.lc_io.specs.Counts.{HasCause, one_more}
 use Rattle.lc_world.specs.Link.{LinkSeen, Tells}
@@ -35,12 +35,6 @@ GoesOn base entries kept sent held None now = now ≡ kept
 abbrev pub IsKeptAfter : BaseParts → ℕ → List Kept → Exchanged → List Kept → Type 0
 IsKeptAfter base entries kept exchanged now =
     GoesOn base entries kept exchanged.sent (reply_for exchanged.sent kept) exchanged.reply now
-
--- what is kept after all these exchanges, from what was kept before them
-abbrev pub AreKeptAfter : BaseParts → ℕ → List Kept → List Exchanged → List Kept → Type 0
-AreKeptAfter base entries kept [] now = now ≡ kept
-AreKeptAfter base entries kept (exchanged ∷ more) now =
-    (between : List Kept) × IsKeptAfter base entries kept exchanged between × AreKeptAfter base entries between more now
 
 -- an exchange of a link was recorded, where the link records any, and has failed, if it has
 pub record HasAsked {T : Type 0} (recorded : Type 0) (faults now_faults : ℕ) (result : Result T LinkFail) : Type 0 where

@@ -1,8 +1,7 @@
 -- When what a relay keeps agrees with the side at the other end of its link.
-use Rattle.std.specs.Prelude.{◌≡◌, List, Option}
+use Rattle.std.specs.Prelude.{List, Option}
 use Rattle.std.specs.List.{All}
 use Rattle.std.specs.Option.{IfSome}
-use Rattle.connection_uri.specs.Base.{BaseParts}
 use Rattle.publisher_spec.specs.Reply.{HasReply}
 use Rattle.publisher_spec.specs.Response.{IsDocument}
 use Rattle.publisher_spec.specs.Side.{Side}
@@ -19,9 +18,8 @@ pub record IsReplyOf (side : Side) (kept : Kept) : Type 0 where
 abbrev pub RelayFits : List Kept → Side → Type 0
 RelayFits kept side = All (IsReplyOf side) kept
 
--- A relay that was made with this base is honest under a base: under its own, where the link below is honest under it, and what it keeps
--- agrees with the side.
-pub record RelaysHonestly (made base : BaseParts) (below : Type 0) (side : Option Side) (kept : List Kept) : Type 0 where
-  pub own : base ≡ made
+-- A relay is honest under a base where the link below is and what it keeps agrees with the side. The base under which it keeps does not matter:
+-- of the replies to GETs only documents have the status 200.
+pub record RelaysHonestly (below : Type 0) (side : Option Side) (kept : List Kept) : Type 0 where
   pub below_honest : below
   pub fits : IfSome side (RelayFits kept)

@@ -1,8 +1,12 @@
+pub mod Exchanger
 pub mod Exchanges
 pub mod Fits
+pub mod HandedOn
 pub mod Keeping
 pub mod Kept
 pub mod Laws
 pub mod Near
 pub mod Relay
+pub mod Told
+pub mod Transcript
 pub mod Worked

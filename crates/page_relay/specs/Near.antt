@@ -1,16 +1,21 @@
 -- Near values that the definitions of relays refuse.
-use Rattle.std.specs.Prelude.{◌≡◌, ◌≢◌, ℕ, ◌++◌, ◌∷◌, [], List, Some, codes}
+use Rattle.std.specs.Prelude.{◌≡◌, ◌≢◌, ◌+◌, ◌-◌, ◌^◌, ◌<◌, ℕ, Bool, true, ◌++◌, ◌∷◌, [], List, length, Some, codes}
 use Rattle.std.specs.List.{Contains}
 use Rattle.connection_uri.specs.Base.{BaseParts}
 use Rattle.http_text.specs.Reply.{IsReply}
 use Rattle.http_text.specs.declared.reply.Reply.{Reply}
 use Rattle.lc_model.specs.declared.page.PageName.{PageName}
+use Rattle.lc_world.specs.declared.entry.Entry.{Entry}
+use Rattle.lc_world.specs.declared.entry.RecordedReply.TheVariants as recorded_replies
 use Rattle.publisher_spec.specs.Reply.{HasReply}
 use Rattle.publisher_spec.specs.Side.{Side}
 use Rattle.publisher_spec.specs.declared.response.Response.TheVariants.{Found}
 use Rattle.page_relay.specs.Fits.{RelayFits}
-use Rattle.page_relay.specs.Keeping.{IsKeepable, IsLastingReply}
+use Rattle.page_relay.specs.HandedOn.{Follows}
+use Rattle.page_relay.specs.Keeping.{IsKeepable, IsLastingReply, IsToKeep}
 use Rattle.page_relay.specs.Kept.{Kept, reply_for}
+use Rattle.page_relay.specs.Told.{IsTold}
+use Rattle.page_relay.specs.Worked.{example, replied, stops}
 use Rattle.page_relay.specs.declared.sent.SentRequest.{SentRequest}
 
 -- what is kept disagrees with a side whose time gate's reply is among it
@@ -34,3 +39,30 @@ FoundIsItsOwn = (kept : List Kept) (sent : SentRequest) (reply : List ℕ) → r
 -- for another request than the one whose reply alone is kept none is found
 abbrev pub OthersAreNotFound : Type 0
 OthersAreNotFound = (sent other : SentRequest) (held reply : List ℕ) → reply_for sent ((other, held) ∷ []) ≡ Some reply → sent ≡ other
+
+-- no reply is kept where the link below has recorded nothing since
+abbrev pub NoneIsKeptUnasked : Type 0
+NoneIsKeptUnasked =
+    (made : List Entry) (sent : SentRequest) (reply : List ℕ) (kept : List Kept) (own : List Entry) (relayed forwarded : ℕ) (exact : Bool)
+    → IsTold (Some made) (Some made) ((sent, reply) ∷ kept) own relayed forwarded exact → ⊥
+
+-- and none is given
+abbrev pub NoneIsGivenUnasked : Type 0
+NoneIsGivenUnasked =
+    (made : List Entry) (kept : List Kept) (entry : Entry) (reply : List ℕ) (own : List Entry) (relayed forwarded : ℕ) (exact : Bool) → entry.reply ≡ recorded_replies.Reply reply
+    → IsTold (Some made) (Some made) kept (entry ∷ own) relayed forwarded exact → ⊥
+
+-- nothing is lost of what the link below had recorded
+abbrev pub NothingIsLost : Type 0
+NothingIsLost =
+    (made : List Entry) (entry : Entry) (kept : List Kept) (own : List Entry) (relayed forwarded : ℕ) (exact : Bool) → IsTold (Some (entry ∷ made)) (Some made) kept own relayed forwarded exact → ⊥
+
+-- an exact count is not one more than what the link below has recorded since
+abbrev pub NotOneMore : Type 0
+NotOneMore =
+    (made handed_on : List Entry) (kept : List Kept) (own : List Entry) (relayed : ℕ) → length handed_on < 2 ^ 64 - 1
+    → IsTold (Some made) (Some (made ++ handed_on)) kept own relayed (length handed_on + 1) true → ⊥
+
+-- a request whose reply is kept is not handed on again
+abbrev pub NotHandedOnAgain : Type 0
+NotHandedOnAgain = (reply : List ℕ) (kept : List Kept) → IsToKeep example stops.request reply → Follows example 1 (replied reply ∷ replied reply ∷ []) kept 2 → ⊥

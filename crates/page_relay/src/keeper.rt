@@ -20,7 +20,7 @@ pub(crate) struct Keeper {
 }
 
 impl Model for Keeper {
-    ghost use Rattle.page_relay.specs.Relay.{KeeperState};
+    ghost use Rattle.page_relay.specs.Exchanger.{KeeperState};
 
     ghost Value = { KeeperState };
 

@@ -15,7 +15,7 @@ pub(crate) struct Memory {
 }
 
 impl Model for Memory {
-    ghost use Rattle.page_relay.specs.Relay.{MemoryState};
+    ghost use Rattle.page_relay.specs.Exchanger.{MemoryState};
 
     ghost Value = { MemoryState };
 

@@ -1,26 +1,58 @@
-ghost use Rattle.std.specs.Prelude.{◌≡◌, ◌∷◌, ◌++◌, [], OnErr, OnOk};
+ghost use Rattle.std.specs.Prelude.{◌≡◌, ◌∷◌, ◌++◌, []};
 ghost use Rattle.lc_world.specs.ListLink.{entry_of};
-ghost use Rattle.lc_world.specs.declared.entry.RecordedReply.TheVariants.{Hidden};
+ghost use Rattle.page_relay.specs.Told.{Records, told_of};
 
-use lc_model::{Bytes, NoMemory, Text};
-use lc_world::{Entry, RecordedReply};
-use std::alloc::Global;
+use crate::SentRequest;
+use crate::told::Told;
+use http_server::Log;
+use lc_world::LinkFail;
+use std::marker::Model;
+use std::snapshot::Snapshot;
 
-/// Records an exchange without its reply. Linear in the request.
-pub(crate) fn push_entry(
-    alloc: Global,
-    recorded: &mut Vec<Entry>,
-    authority: &str,
-    request: &[u8],
-) -> Result<(), NoMemory>
-    ensures ok { OnOk result (recorded.new.items ≡ recorded.old.items ++ entry_of authority.now request.now Hidden ∷ []) }
-    ensures err { OnErr result (recorded.new.items ≡ recorded.old.items) }
-{
-    let entry = Entry {
-        authority: Text::from_string(String::from_str(alloc, authority)?),
-        request: Bytes::from_list(request.to_vec(alloc)?),
-        reply: RecordedReply::Hidden,
-    };
-    recorded.push(entry)?;
-    Ok(())
+/// The exchanges that were asked for, with how each ended. It takes no memory, since only proofs read it.
+#[derive(Drop)]
+pub(crate) struct Transcript {
+    told: Log<Told, ()>,
+}
+
+impl Model for Transcript {
+    ghost use Rattle.std.specs.Prelude.{List};
+    ghost use Rattle.lc_world.specs.declared.entry.Entry.{Entry};
+    ghost use Rattle.page_relay.specs.Transcript.{entries_of};
+
+    ghost Value = { List Entry };
+
+    ghost view = { λ t. entries_of t.told.items };
+}
+
+impl Transcript {
+    pub(crate) fn new() -> Transcript
+        ensures { result ≡ [] }
+    {
+        Transcript { told: Log::new() }
+    }
+
+    /// Records an exchange with the reply that it gave, or that it failed. One in which memory ran out is not recorded.
+    pub(crate) fn tell(
+        &mut self,
+        sent: Snapshot<SentRequest>,
+        ended: &Result<(), LinkFail>,
+        reply: &Vec<u8>,
+    )
+        ensures { Records self.old self.new sent.value.authority sent.value.request reply.now.items ended.now }
+    {
+        match ended {
+            Ok(()) => self.push(sent, true, reply),
+            Err(LinkFail::Failed) => self.push(sent, false, reply),
+            Err(LinkFail::NoMemory) => {}
+        }
+    }
+
+    /// Records an exchange: with this reply if one came, and else that it failed.
+    fn push(&mut self, sent: Snapshot<SentRequest>, came: bool, reply: &Vec<u8>)
+        ensures { self.new ≡ self.old ++ entry_of sent.value.authority sent.value.request (told_of came reply.now.items) ∷ [] }
+    {
+        let reply = Snapshot::of(reply);
+        self.told = self.told.and(&Told { sent, came, reply }, &());
+    }
 }

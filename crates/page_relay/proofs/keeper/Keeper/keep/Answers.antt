@@ -1,5 +1,5 @@
 use Rattle.std.proofs.Common.{ap, inl}
-use Rattle.page_relay.specs.Relay.{MemoryState}
+use Rattle.page_relay.specs.Exchanger.{MemoryState}
 use Rattle.page_relay.proofs.keeper.Keeper.keep.Goals as goal
 
 pub put-requires : goal.put-requires

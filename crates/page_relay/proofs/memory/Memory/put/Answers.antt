@@ -1,7 +1,7 @@
 use Rattle.std.proofs.Common.{ℕ, List, ap, ◌∙◌}
 use Rattle.lru.specs.LruCache.{LruCache}
 use Rattle.page_relay.specs.Kept.{Kept}
-use Rattle.page_relay.specs.Relay.{MemoryState}
+use Rattle.page_relay.specs.Exchanger.{MemoryState}
 use Rattle.page_relay.specs.declared.sent.SentRequest.{SentRequest}
 use Rattle.page_relay.proofs.MemoryLemmas.{put_is}
 use Rattle.page_relay.proofs.memory.Memory.put.Goals as goal

@@ -1,31 +1,29 @@
--- A relay is as honest as before where it answers itself, or does not, and as the link below where it hands on.
-use Rattle.std.proofs.Common.{IsTrue}
-use Rattle.page_relay.specs.Kept.{sent_to}
-use Rattle.page_relay.proofs.HonestLemmas.{by_memory, not_asked}
+-- What holds of a relay holds after an exchange.
+use Rattle.std.proofs.Common.{ap, refl}
+use Rattle.page_relay.specs.Exchanger.{ExchangerState}
+use Rattle.page_relay.specs.Kept.{reply_for, sent_to}
+use Rattle.page_relay.specs.declared.sent.SentRequest.{SentRequest}
+use Rattle.page_relay.proofs.FollowsLemmas.{follows_after}
+use Rattle.page_relay.proofs.ToldLemmas.{told_after}
 use Rattle.page_relay.proofs.relay.Relay.relay.Goals as goal
 
-pub returns-in_err-push_entry-clause-honest : goal.returns-in_err-push_entry-clause-honest
-returns-in_err-push_entry-clause-honest g c =
-    rw (← c.self.view_is) (λ base side get is. not_asked _ _ _ base side _ _ c.from_residual.result c.from_residual.ensures.0 is)
-
-pub returns-in_err-sent-clause-honest : goal.returns-in_err-sent-clause-honest
-returns-in_err-sent-clause-honest g c =
-    rw (← c.self.view_is) (λ base side get is. not_asked _ _ _ base side _ _ c.from_residual-in_err-sent.result c.from_residual-in_err-sent.ensures.0 is)
-
-pub returns-in_err-answer-clause-honest : goal.returns-in_err-answer-clause-honest
-returns-in_err-answer-clause-honest g c =
-    let same = c.in_err-answer.ensures.unchanged in
-    rw (← c.self.view_is, same) (λ base side get is. not_asked _ _ _ base side _ _ c.from_residual-in_err-answer.result c.from_residual-in_err-answer.ensures.0 is)
-
-pub returns-then-branch-clause-honest : goal.returns-then-branch-clause-honest
-returns-then-branch-clause-honest g c =
-    let hit : IsTrue c.in_ok-answer.field-0 = c.if-branch.true in
-    let found = rw c.in_ok-sent.ensures at c.in_ok-answer.ensures.answered hit in
-    let used = rw c.in_ok-sent.ensures at c.in_ok-answer.ensures.used hit in
-    rw (← c.self.view_is, used) (λ base side get is. by_memory _ base _ _ _ _ side (sent_to c.args.authority.now c.args.request.now) _ tt found is)
+pub invariant_of-self : goal.invariant_of-self
+invariant_of-self g c =
+    let was = c.self.inside in
+    let told = c.told_exchange-result in
+    let sent : SentRequest = sent_to c.args.authority.now c.args.request.now in
+    let base = ap (λ (e : ExchangerState _). e.base) told.ensures.rest in
+    let entries = ap (λ (e : ExchangerState _). e.memory.entries) told.ensures.rest in
+    rw (c.stays_exact-self-inside.ensures, c.saturating_add-self-inside.ensures, base, entries) (record {
+      told =
+          told_after g.L.Link.seen (g.L.Link.seen was.made.value).recorded was.exchanger.inner told.new.exchanger.inner was.exchanger.base was.exchanger.memory.entries was.exchanger.memory.kept
+          told.new.exchanger.memory.kept was.transcript was.relayed was.exchanger.forwarded told.new.exchanger.forwarded was.exact sent (reply_for sent was.exchanger.memory.kept) told.new.reply.items
+          told.result told.new.transcript refl told.ensures.below told.ensures.kept told.ensures.records c.self.invariant.told;
+      follows =
+          follows_after g.L.Link.seen was.exchanger.inner told.new.exchanger.inner was.exchanger.base was.exchanger.memory.entries was.exchanger.memory.kept told.new.exchanger.memory.kept was.transcript
+          told.new.transcript was.exchanger.forwarded told.new.exchanger.forwarded was.exact c.args.authority.now c.args.request.now c.self.invariant.follows told.new.reply.items told.result told.ensures.below
+          told.ensures.kept told.ensures.records;
+    })
 
 pub returns-clause-honest : goal.returns-clause-honest
-returns-clause-honest g c =
-    let not_hit : IsTrue c.in_ok-answer.field-0 → ⊥ = λ hit. cc in
-    let same = c.in_ok-answer.ensures.not_used not_hit in
-    rw (← c.self.view_is) (rw (same, c.in_ok-sent.ensures) at c.hand_on.ensures.honest)
+returns-clause-honest g c = rw (← c.self.view_is) c.told_exchange-result.ensures.honest
