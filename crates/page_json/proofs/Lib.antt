@@ -1,11 +1,14 @@
+pub mod AppendLemmas
+pub mod BaseLemmas
 pub mod ConnectionLemmas
-pub mod LinksLemmas
 pub mod MembersLemmas
 pub mod OneResultLemmas
 pub mod PageLemmas
+pub mod PlainLemmas
 pub mod SaysDecidedLemmas
 pub mod SaysLemmas
 pub mod SomeResultLemmas
 pub mod StopsLemmas
 pub mod Utf8Lemmas
 pub mod ValidResultLemmas
+pub mod WritingLemmas

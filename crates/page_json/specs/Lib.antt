@@ -1,8 +1,11 @@
+pub mod ConnectionWriting
+pub mod Fronts
 pub mod PageReading
+pub mod PageWriting
 pub mod Says
 pub mod Sound
 pub mod StopsReading
+pub mod StopsWriting
 pub mod Tree
 pub mod Urls
 pub mod Valid
-pub mod Writing

@@ -1,170 +1,203 @@
-ghost use Rattle.std.specs.Prelude.{◌≡◌, All, codes, OnOk};
-ghost use Rattle.connection_uri.specs.Name.{name_of};
+ghost use Rattle.std.specs.Prelude.{◌≡◌, ◌++◌, All, OnOk};
+ghost use Rattle.std.specs.Fmt.{signed_decimal};
+ghost use Rattle.std.specs.String.{string_bytes};
+ghost use Rattle.connection_uri.specs.Encoding.{encoded};
 ghost use Rattle.lc_time.specs.Iso.{iso_text_of};
-ghost use Rattle.serde_json.specs.Data.{array, member, no_members, number};
-ghost use Rattle.serde_json.specs.Find.{of_integer};
+ghost use Rattle.page_json.specs.ConnectionWriting.{arrival_part, departure_part, list_part, members_part, name_part, rest_part, use_part, use_text};
 ghost use Rattle.page_json.specs.Sound.{IsSoundConnection};
-ghost use Rattle.json_members.specs.Tokens.{Appends, member_tokens, tokens_of};
-ghost use Rattle.json_members.specs.MemberWriting.{items_from, text_at};
-ghost use Rattle.page_json.specs.Tree.{allowed_text, connection_tree};
-ghost use Rattle.page_json.specs.Urls.{stop_url_of, trip_url_of};
-ghost use Rattle.page_json.specs.Writing.{closed_tokens, use_members};
 
+use crate::fronts::Fronts;
 use crate::sound::sound_connection;
-use crate::urls::{fill_stop_url, fill_trip_url};
-use connection_uri::{Base, fill_name};
-use json::Writer;
-use json_members::{write_moment, write_number, write_text};
-use lc_model::{Connection, Id, NoMemory, RunKey};
+use connection_uri::{append_encoded, append_run};
+use itoa::Buffer;
+use lc_model::{Connection, Id, Moment, NoMemory};
+use lc_time::iso_text;
+use percent_encoding::ascii_str;
+use std::alloc::Global;
 
-/// Writes the list of connections, in order. `text` is room for the texts of members, one after the other.
-pub fn write_connections(
-    out: &mut Writer,
-    text: &mut String,
-    base: &Base,
+/// Appends the list of connections, in order.
+pub fn append_connections(
+    alloc: Global,
+    out: &mut String,
+    fronts: &Fronts,
     connections: &[Connection],
 ) -> Result<(), NoMemory>
-    ensures tokens { OnOk result
-        (Appends out.old out.new (tokens_of (array (items_from (connection_tree base.now) connections.now)))) }
+    ensures text { OnOk result
+        (string_bytes out.new ≡ string_bytes out.old ++ list_part fronts.now connections.now) }
     ensures sound { OnOk result (All IsSoundConnection connections.now) }
 {
-    out.begin_array()?;
-    for connection in connections {
-        write_connection(out, text, base, connection)?;
+    let mut run = String::new(alloc);
+    append_list(out, &mut run, fronts, connections)
+}
+
+/// Appends the list of connections. `run` is room for what names their runs, one after the other.
+fn append_list(
+    out: &mut String,
+    run: &mut String,
+    fronts: &Fronts,
+    connections: &[Connection],
+) -> Result<(), NoMemory>
+    ensures text { OnOk result
+        (string_bytes out.new ≡ string_bytes out.old ++ list_part fronts.now connections.now) }
+    ensures sound { OnOk result (All IsSoundConnection connections.now) }
+{
+    match connections {
+        [] => {
+            out.push_str("[]")?;
+            Ok(())
+        }
+        [first, rest @ ..] => {
+            out.push_str(fronts.names.first.as_str())?;
+            append_members(out, run, fronts, first)?;
+            append_rest(out, run, fronts, rest)?;
+            Ok(())
+        }
     }
-    out.end_array()?;
+}
+
+/// Appends further connections, and ends the last one and the list.
+fn append_rest(
+    out: &mut String,
+    run: &mut String,
+    fronts: &Fronts,
+    connections: &[Connection],
+) -> Result<(), NoMemory>
+    ensures text { OnOk result
+        (string_bytes out.new ≡ string_bytes out.old ++ rest_part fronts.now connections.now) }
+    ensures sound { OnOk result (All IsSoundConnection connections.now) }
+{
+    for connection in connections {
+        append_next(out, run, fronts, connection)?;
+    }
+    out.push_str("\"}]")?;
     Ok(())
 }
 
-fn write_connection(
-    out: &mut Writer,
-    text: &mut String,
-    base: &Base,
+/// Ends a connection, and appends the next one without its end.
+fn append_next(
+    out: &mut String,
+    run: &mut String,
+    fronts: &Fronts,
     connection: &Connection,
 ) -> Result<(), NoMemory>
-    ensures tokens { OnOk result (Appends out.old out.new (tokens_of (connection_tree base.now connection.now))) }
+    ensures text { OnOk result (string_bytes out.new
+        ≡ string_bytes out.old ++ (fronts.now.names.next ++ members_part fronts.now connection.now)) }
+    ensures sound { OnOk result (IsSoundConnection connection.now) }
+{
+    out.push_str(fronts.names.next.as_str())?;
+    append_members(out, run, fronts, connection)?;
+    Ok(())
+}
+
+/// Appends a connection from the run in its name on, without its end.
+fn append_members(
+    out: &mut String,
+    run: &mut String,
+    fronts: &Fronts,
+    connection: &Connection,
+) -> Result<(), NoMemory>
+    ensures text { OnOk result
+        (string_bytes out.new ≡ string_bytes out.old ++ members_part fronts.now connection.now) }
     ensures sound { OnOk result (IsSoundConnection connection.now) }
 {
     sound_connection(connection);
-    out.begin_object()?;
-    write_name(out, text, base, connection)?;
-    write_text(out, "@type", "Connection")?;
-    write_arrival(out, text, base, connection)?;
-    write_departure(out, text, base, connection)?;
-    write_use(out, text, base, connection)?;
+    run.clear();
+    append_run(run, &connection.key)?;
+    append_name(out, run.as_str(), connection.seq)?;
+    append_arrival(out, fronts.stops.arrival.as_str(), connection)?;
+    append_departure(out, fronts.stops.departure.as_str(), connection)?;
+    append_use(out, fronts.trip.as_str(), run.as_str(), connection)?;
     Ok(())
 }
 
-/// Writes whether one may alight and board, and of which trip the connection is, and ends its object.
-fn write_use(
-    out: &mut Writer,
-    text: &mut String,
-    base: &Base,
+fn append_name(out: &mut String, run: &str, sequence: u32) -> Result<(), NoMemory>
+    ensures { OnOk result (string_bytes out.new ≡ string_bytes out.old ++ name_part run.now sequence) }
+{
+    out.push_str(run)?;
+    out.push_str("/")?;
+    out.push_str(Buffer::new().format(sequence))?;
+    out.push_str("\",\"@type\":\"Connection\",\"arrivalDelay\":")?;
+    Ok(())
+}
+
+fn append_arrival(out: &mut String, front: &str, connection: &Connection) -> Result<(), NoMemory>
+    ensures { OnOk result
+        (string_bytes out.new ≡ string_bytes out.old ++ arrival_part front.now connection.now) }
+{
+    append_delay(out, connection.arr_delay)?;
+    append_stop(out, front, &connection.arr_stop)?;
+    out.push_str("\",\"arrivalTime\":\"")?;
+    append_moment(out, connection.arr)?;
+    out.push_str("\",\"departureDelay\":")?;
+    Ok(())
+}
+
+fn append_departure(out: &mut String, front: &str, connection: &Connection) -> Result<(), NoMemory>
+    ensures { OnOk result
+        (string_bytes out.new ≡ string_bytes out.old ++ departure_part front.now connection.now) }
+{
+    append_delay(out, connection.dep_delay)?;
+    append_stop(out, front, &connection.dep_stop)?;
+    out.push_str("\",\"departureTime\":\"")?;
+    append_moment(out, connection.dep)?;
+    Ok(())
+}
+
+/// Appends whether one may alight and board, and the trip.
+fn append_use(
+    out: &mut String,
+    front: &str,
+    run: &str,
     connection: &Connection,
-) -> Result<(), NoMemory>
-    ensures { OnOk result (Appends out.old out.new (closed_tokens (use_members base.now connection.now))) }
-{
-    write_allowed(out, "gtfs:dropOffType", connection.alight)?;
-    write_allowed(out, "gtfs:pickupType", connection.board)?;
-    write_trip(out, text, base, &connection.key)?;
-    out.end_object()?;
-    Ok(())
-}
-
-fn write_name(
-    out: &mut Writer,
-    text: &mut String,
-    base: &Base,
-    connection: &Connection,
-) -> Result<(), NoMemory>
-    ensures { let c = connection.now in OnOk result (Appends out.old out.new
-        (member_tokens (text_at (codes "@id") (name_of base.now c.key c.seq) no_members))) }
-{
-    fill_name(text, base, &connection.key, connection.seq)?;
-    write_text(out, "@id", text.as_str())?;
-    Ok(())
-}
-
-fn write_trip(
-    out: &mut Writer,
-    text: &mut String,
-    base: &Base,
-    key: &RunKey,
-) -> Result<(), NoMemory>
-    ensures { OnOk result (Appends out.old out.new
-        (member_tokens (text_at (codes "gtfs:trip") (trip_url_of base.now key.now) no_members))) }
-{
-    fill_trip_url(text, base, key)?;
-    write_text(out, "gtfs:trip", text.as_str())?;
-    Ok(())
-}
-
-fn write_arrival(
-    out: &mut Writer,
-    text: &mut String,
-    base: &Base,
-    connection: &Connection,
-) -> Result<(), NoMemory>
-    ensures { let c = connection.now in OnOk result (Appends out.old out.new (member_tokens
-        (member (codes "arrivalDelay") (number (of_integer c.arr_delay))
-        (text_at (codes "arrivalStop") (stop_url_of base.now c.arr_stop)
-        (text_at (codes "arrivalTime") (iso_text_of c.arr) no_members))))) }
-{
-    write_number(out, "arrivalDelay", connection.arr_delay)?;
-    write_stop_url(out, text, base, "arrivalStop", &connection.arr_stop)?;
-    write_moment(out, "arrivalTime", connection.arr)?;
-    Ok(())
-}
-
-fn write_departure(
-    out: &mut Writer,
-    text: &mut String,
-    base: &Base,
-    connection: &Connection,
-) -> Result<(), NoMemory>
-    ensures { let c = connection.now in OnOk result (Appends out.old out.new (member_tokens
-        (member (codes "departureDelay") (number (of_integer c.dep_delay))
-        (text_at (codes "departureStop") (stop_url_of base.now c.dep_stop)
-        (text_at (codes "departureTime") (iso_text_of c.dep) no_members))))) }
-{
-    write_number(out, "departureDelay", connection.dep_delay)?;
-    write_stop_url(out, text, base, "departureStop", &connection.dep_stop)?;
-    write_moment(out, "departureTime", connection.dep)?;
-    Ok(())
-}
-
-/// Writes the URL of a stop.
-fn write_stop_url(
-    out: &mut Writer,
-    text: &mut String,
-    base: &Base,
-    key: &str,
-    stop: &Id,
 ) -> Result<(), NoMemory>
     ensures { OnOk result
-        (Appends out.old out.new (member_tokens (text_at key.now (stop_url_of base.now stop.now) no_members))) }
+        (string_bytes out.new ≡ string_bytes out.old ++ use_part front.now run.now connection.now) }
 {
-    fill_stop_url(text, base, stop)?;
-    write_text(out, key, text.as_str())?;
+    out.push_str(use_text(connection.alight, connection.board))?;
+    out.push_str(front)?;
+    out.push_str(run)?;
     Ok(())
 }
 
-/// Writes whether one may board or alight, as the GTFS vocabulary says it.
-fn write_allowed(out: &mut Writer, key: &str, allowed: bool) -> Result<(), NoMemory>
-    ensures { OnOk result
-        (Appends out.old out.new (member_tokens (text_at key.now (allowed_text allowed) no_members))) }
+/// Whether one may alight and board, as the GTFS vocabulary says it.
+fn use_text(alight: bool, board: bool) -> &'static str
+    ensures { result.now ≡ use_text alight board }
 {
-    write_text(out, key, allowed_text(allowed))?;
-    Ok(())
-}
-
-/// How the GTFS vocabulary says whether one may board or alight.
-fn allowed_text(allowed: bool) -> &'static str
-    ensures { result.now ≡ allowed_text allowed }
-{
-    if allowed {
-        "gtfs:Regular"
-    } else {
-        "gtfs:NotAvailable"
+    match (alight, board) {
+        (true, true) =>
+            "\",\"gtfs:dropOffType\":\"gtfs:Regular\",\"gtfs:pickupType\":\"gtfs:Regular",
+        (true, false) => {
+            "\",\"gtfs:dropOffType\":\"gtfs:Regular\",\"gtfs:pickupType\":\"gtfs:NotAvailable"
+        }
+        (false, true) => {
+            "\",\"gtfs:dropOffType\":\"gtfs:NotAvailable\",\"gtfs:pickupType\":\"gtfs:Regular"
+        }
+        (false, false) => {
+            "\",\"gtfs:dropOffType\":\"gtfs:NotAvailable\",\"gtfs:pickupType\":\"gtfs:NotAvailable"
+        }
     }
+}
+
+fn append_delay(out: &mut String, delay: i64) -> Result<(), NoMemory>
+    ensures { OnOk result (string_bytes out.new ≡ string_bytes out.old ++ signed_decimal delay) }
+{
+    out.push_str(Buffer::new().format(delay))?;
+    Ok(())
+}
+
+/// Appends the URL of a stop after its front.
+fn append_stop(out: &mut String, front: &str, stop: &Id) -> Result<(), NoMemory>
+    ensures { OnOk result
+        (string_bytes out.new ≡ string_bytes out.old ++ (front.now ++ encoded stop.now)) }
+{
+    out.push_str(front)?;
+    append_encoded(out, stop.bytes())?;
+    Ok(())
+}
+
+pub fn append_moment(out: &mut String, moment: Moment) -> Result<(), NoMemory>
+    ensures { OnOk result (string_bytes out.new ≡ string_bytes out.old ++ iso_text_of moment) }
+{
+    out.push_str(ascii_str(&iso_text(moment)))?;
+    Ok(())
 }

@@ -1,12 +1,13 @@
 //! The pages of connections and the stops document as JSON, each with its exact text, which is read back. Every other text has
 //! its first fault. It hands on the fault of `json_members`, and builds on it, on `lc_model`, on `lc_time`, on
-//! `connection_uri`, on `json` and on `serde_json`.
+//! `connection_uri`, on `itoa`, on `json` and on `serde_json`.
 #![tactic(auto)]
 
 mod change_reading;
 mod connection_reading;
 mod connection_writing;
 mod cursor;
+mod fronts;
 mod guess;
 mod known;
 mod laws;

@@ -9,7 +9,7 @@ ghost use Rattle.json_members.specs.Tokens.{Appends, member_tokens, tokens_of};
 ghost use Rattle.json_members.specs.MemberWriting.{items_from};
 ghost use Rattle.page_json.specs.Tree.{change_tree, doc_tree, parent_at, stop_tree, stops_text_of};
 ghost use Rattle.page_json.specs.Valid.{IsValidDoc};
-ghost use Rattle.page_json.specs.Writing.{closed_tokens, list_members};
+ghost use Rattle.page_json.specs.StopsWriting.{closed_tokens, list_members};
 
 use crate::sound::{sound_change, sound_stop};
 use connection_uri::Base;

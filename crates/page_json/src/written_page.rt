@@ -10,9 +10,6 @@ use connection_uri::Base;
 use lc_model::{Moment, NoMemory, PageName, first_disorder};
 use std::alloc::Global;
 
-/// More bytes than a writer needs beyond what it writes.
-const ROOM_BEYOND: usize = 64;
-
 /// The page whose text the bytes are, as `page_text` writes it. None where they are no such text, and perhaps another of a
 /// page. Linear in the bytes.
 pub fn written_page(alloc: Global, base: &Base, bytes: &[u8]) -> Result<Option<Page>, NoMemory>
@@ -37,8 +34,7 @@ fn is_text_of(alloc: Global, base: &Base, page: &Page, bytes: &[u8]) -> Result<b
     if !is_valid(page) {
         return Ok(false);
     }
-    let room = bytes.len().saturating_add(ROOM_BEYOND);
-    let text = page_text_in(alloc, base, page, room)?;
+    let text = page_text_in(alloc, base, page, bytes.len())?;
     Ok(text.as_slice() == bytes)
 }
 
