@@ -1,8 +1,9 @@
 pub mod AdmissionLemmas
 pub mod ClientLemmas
-mod HomeLemmas
+pub mod HomeLemmas
 pub mod OneAnswerLemmas
 pub mod OneOutputLemmas
 pub mod OnePublisherLemmas
+pub mod OpeningLemmas
 pub mod SideLemmas
 mod WantsLemmas

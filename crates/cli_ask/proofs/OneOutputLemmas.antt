@@ -14,8 +14,14 @@ use Rattle.laws_convoys.specs.OneClient.{version_of}
 use Rattle.page_client.specs.declared.outcome.Outcome.{Outcome}
 use Rattle.page_client.specs.declared.outcome.Outcome.TheVariants as outcomes
 use Rattle.page_client.specs.declared.want.Want.{Want}
+use Rattle.cli_words.specs.declared.command.Publishing.{Publishing}
+use Rattle.lc_io.specs.declared.file.File.{File}
 use Rattle.publisher_spec.specs.Side.{Side, date_in}
+use Rattle.timetable.specs.Laws.{AreSame}
+use Rattle.timetable.specs.declared.timetable.Timetable.{Timetable}
 use Rattle.version_store.specs.Laws.{OneOutcome}
+use Rattle.version_store.specs.Store.{Stored}
+use Rattle.cli_ask.specs.Admission.{IsBehind}
 use Rattle.cli_ask.specs.Block.{client_text_of}
 use Rattle.cli_ask.specs.Client.{AsksFor, EndsRight}
 use Rattle.cli_ask.specs.Laws.{AreOneEnd, IsNoLinkFault, OneOutput}
@@ -42,6 +48,20 @@ no_link_fault base query before after version made (outcomes.Refused fault) ends
 no_link_fault base query before after version made (outcomes.LinkFault count later) ends none = absurd (none (omega (arith, ends.from, ends.rose, ends.up_to)))
 no_link_fault base query before after version made (outcomes.PeerWrong reply fault) ends none = tt
 
+-- the sides of publishers of timetables that are the same, after one message: the first differs from the second in its zone alone
+module _ (one_outcome : OneOutcome) (a b : Timetable) (publishing : Publishing) (file : Option File) (s t : Stored) (k l : List ℕ) where
+  pub first_side : AreSame a b → IsBehind file (store_of a publishing.base_moment) s k → IsBehind file (store_of b publishing.base_moment) t l
+      → side_with a publishing s ≡ in_zone (side_with b publishing (store_with b publishing.base_moment t.history)) a.zone
+  first_side same x y =
+      let moment = publishing.base_moment in
+      let one = one_behind one_outcome (store_of a moment) (store_of b moment) (record { base = refl; history = refl }) s t k l file x y in
+      ap (side_with a publishing) (of_history file (store_of a moment) s k x)
+      ∙ ap (λ (h : List Entry). side_with a publishing (store_with a moment h)) one.heard.history
+      ∙ same_side a b publishing moment t.history same
+
+  pub second_side : IsBehind file (store_of b publishing.base_moment) t l → side_with b publishing t ≡ side_with b publishing (store_with b publishing.base_moment t.history)
+  second_side y = ap (side_with b publishing) (of_history file (store_of b publishing.base_moment) t l y)
+
 module _ (one_arrival : OneArrivalAt) (one_needed : OneListOfNeededAt) (one_outcome : OneOutcome) where
   -- the ends by two sides, of which the first differs from the second in its zone alone, which shows the same dates
   one_end : (side : Side) (zone : Zone) → date_in zone ≡ date_in side.zone → (base : BaseParts) (query : Query) (recorded now_recorded other later : Option (List Recorded)) (d e : ClientEnd)
@@ -65,11 +85,8 @@ module _ (one_arrival : OneArrivalAt) (one_needed : OneListOfNeededAt) (one_outc
       let f = no_link_fault publishing.base query (seen before).faults (seen after).faults d.version p.asks.made d.outcome p.asks.ends fair.no_fault in
       let i = no_link_fault publishing.base query (saw other).faults (saw later).faults e.version q.asks.made e.outcome q.asks.ends other_fair.no_fault in
       let side = side_with b publishing (store_with b moment q.store.history) in
-      let here : side_with a publishing p.store ≡ in_zone side a.zone =
-      ap (side_with a publishing) (of_history file (store_of a moment) p.store p.line p.behind)
-      ∙ ap (λ (h : List Entry). side_with a publishing (store_with a moment h)) one.heard.history
-      ∙ same_side a b publishing moment q.store.history same in
-      let there : side_with b publishing q.store ≡ side = ap (side_with b publishing) (of_history file (store_of b moment) q.store q.line q.behind) in
+      let here : side_with a publishing p.store ≡ in_zone side a.zone = first_side one_outcome a b publishing file p.store q.store p.line q.line same p.behind q.behind in
+      let there : side_with b publishing q.store ≡ side = second_side one_outcome a b publishing file p.store q.store p.line q.line q.behind in
       let first = subst (λ s. EndsRight s publishing.base query (seen before).recorded (seen after).recorded d) here (p.right fair.was_clear (fair.short p.store p.line p.behind)) in
       let second = subst (λ s. EndsRight s publishing.base query (saw other).recorded (saw later).recorded e) there (q.right other_fair.was_clear (other_fair.short q.store q.line q.behind)) in
       record {

@@ -34,7 +34,7 @@ same_dates : (x y : Zone) → ((moment : ℕ) → date_shown x moment ≡ date_s
 same_dates x y same = λ i moment. unwrap_or (same moment i) first_date
 
 module _ (side : Side) (zone : Zone) (same : date_in zone ≡ date_in side.zone) where
-  live_at : (version : ℕ) (live : List Run) → AreLiveAt (in_zone side zone) version live → AreLiveAt side version live
+  pub live_at : (version : ℕ) (live : List Run) → AreLiveAt (in_zone side zone) version live → AreLiveAt side version live
   live_at version live are = subst (λ (dates : ℕ → ServiceDate). AreLiveRuns side.runs side.doc.stops (news_at dates side.history version) live) same are
 
   answers_at : (version : ℕ) (query : Query) (answer : Answer) → AnswersAt (in_zone side zone) version query answer → AnswersAt side version query answer

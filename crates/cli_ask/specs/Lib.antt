@@ -3,4 +3,5 @@ pub mod Asked
 pub mod Block
 pub mod Client
 pub mod Laws
+pub mod Opening
 pub mod Publishing

@@ -7,6 +7,7 @@ mod block;
 mod client;
 mod end;
 mod laws;
+mod opening;
 mod publishing;
 mod question;
 
@@ -14,6 +15,7 @@ pub use admission::{Heard, give};
 pub use block::push_client;
 pub use end::ClientEnd;
 pub use laws::{one_output, one_publisher, some_wants};
+pub use opening::{Opened, Unopened, open_home};
 pub use publishing::{publisher_of, serving_publisher};
-pub use question::{Asked, ask};
+pub use question::{Asked, ask, printed};
 pub use version_store::MessageFault;
