@@ -1,0 +1,4 @@
+mod AnswerLemmas
+mod CourseLemmas
+mod OneLemmas
+mod ReadLemmas
