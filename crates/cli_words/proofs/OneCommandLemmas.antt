@@ -10,8 +10,9 @@ use Rattle.cli_words.specs.Ask.{SaysAsk}
 use Rattle.cli_words.specs.Check.{SaysCheck}
 use Rattle.cli_words.specs.Drill.{SaysDrill}
 use Rattle.cli_words.specs.FeedWindow.{SaysFeedWindow}
+use Rattle.cli_words.specs.Fewest.{SaysFewest}
 use Rattle.cli_words.specs.Laws.{OneCommand}
-use Rattle.cli_words.specs.Line.{ask_line, check_line, replay_line, serve_line}
+use Rattle.cli_words.specs.Line.{ask_line, check_line, fewest_line, replay_line, serve_line}
 use Rattle.cli_words.specs.Plan.{SaysPlan}
 use Rattle.cli_words.specs.Publishing.{SaysBase, SaysPublishingOr}
 use Rattle.cli_words.specs.Replay.{SaysReplay}
@@ -21,6 +22,7 @@ use Rattle.cli_words.specs.declared.command.Ask.{Ask}
 use Rattle.cli_words.specs.declared.command.Check.{Check}
 use Rattle.cli_words.specs.declared.command.Command.TheVariants as command
 use Rattle.cli_words.specs.declared.command.Drill.{Drill}
+use Rattle.cli_words.specs.declared.command.Fewest.{Fewest}
 use Rattle.cli_words.specs.declared.command.Plan.{Plan}
 use Rattle.cli_words.specs.declared.command.Publishing.{Publishing}
 use Rattle.cli_words.specs.declared.command.Replay.{Replay}
@@ -125,7 +127,7 @@ one_ask words a b x y =
     let p = x.words_are in
     let q = y.words_are in
     let options = one_options ask_line words 3 a.days b.days a.zone b.zone a.change b.change p.options q.options in
-    let query = one_question words a.query b.query x.question y.question in
+    let query = one_question ask_line words a.query b.query x.question y.question in
     let first = one_date_at a.first b.first _ _ (ap (λ (query : Query). query.leave / 86_400 - 1) query) p.first_is q.first_is in
     same_ask a b (same_text _ _ (sym p.feed_is ∙ q.feed_is)) query first options.0 options.1 options.2
     (one_publishing _ ask_line words a.publishing b.publishing x.publishing y.publishing)
@@ -173,6 +175,26 @@ one_drill : (words : List (List ℕ)) (a b : Drill) → SaysDrill words a → Sa
 one_drill words a b x y =
     same_drill a b (same_number a.seed b.seed (sym x.seed_is ∙ y.seed_is)) (same_number a.days b.days (sym x.days_are ∙ y.days_are))
 
+abbrev fewest_of : (feed zone : List ℕ) (query : Query) (publishing : Publishing) (update : Option (List ℕ)) (s : ServiceDate × ℕ × ℕ) → Ranges s → Fewest
+fewest_of feed zone query publishing update s r = record { feed = feed; query = query; first = s.0; days = s.1; zone = zone; change = s.2; publishing = publishing; update = update; some_days = r.0; two_months = r.1; window = r.2; within_a_day = r.3 }
+
+same_fewest : (a b : Fewest) → a.feed ≡ b.feed → a.query ≡ b.query → a.first ≡ b.first → a.days ≡ b.days → a.zone ≡ b.zone → a.change ≡ b.change → a.publishing ≡ b.publishing → a.update ≡ b.update → a ≡ b
+same_fewest a b feed query first days zone change publishing update =
+    let ranges : Ranges (b.first, b.days, b.change) = (b.some_days, b.two_months, b.window, b.within_a_day) in
+    same_made Ranges ranges_prop (fewest_of a.feed a.zone a.query a.publishing a.update) (a.first, a.days, a.change) (b.first, b.days, b.change) (a.some_days, a.two_months, a.window, a.within_a_day) ranges
+    (λ i. (first i, days i, change i))
+    ∙ (λ i. fewest_of (feed i) (zone i) (query i) (publishing i) (update i) (b.first, b.days, b.change) ranges)
+
+one_fewest : (words : List (List ℕ)) (a b : Fewest) → SaysFewest words a → SaysFewest words b → a ≡ b
+one_fewest words a b x y =
+    let p = x.words_are in
+    let q = y.words_are in
+    let options = one_options fewest_line words 3 a.days b.days a.zone b.zone a.change b.change p.options q.options in
+    let query = one_question fewest_line words a.query b.query x.question y.question in
+    let first = one_date_at a.first b.first _ _ (ap (λ (query : Query). query.leave / 86_400 - 1) query) p.first_is q.first_is in
+    same_fewest a b (same_text _ _ (sym p.feed_is ∙ q.feed_is)) query first options.0 options.1 options.2
+    (one_publishing _ fewest_line words a.publishing b.publishing x.publishing y.publishing) (sym x.update.is ∙ y.update.is)
+
 pub only_command : OneCommand
 only_command [] a b x y = absurd x
 only_command (name ∷ words) (command.Check a) (command.Check b) x y = ap (λ (check : Check). command.Check check) (one_check words a b x.1 y.1)
@@ -180,34 +202,6 @@ only_command (name ∷ words) (command.Ask a) (command.Ask b) x y = ap (λ (ask 
 only_command (name ∷ words) (command.Replay a) (command.Replay b) x y = ap (λ (replay : Replay). command.Replay replay) (one_replay words a b x.1 y.1)
 only_command (name ∷ words) (command.Serve a) (command.Serve b) x y = ap (λ (serve : Serve). command.Serve serve) (one_serve words a b x.1 y.1)
 only_command (name ∷ words) (command.Plan a) (command.Plan b) x y = ap (λ (plan : Plan). command.Plan plan) (one_plan words a b x.1 y.1)
-only_command (name ∷ words) (command.Check a) (command.Ask b) x y = absurd (apart name _ _ refl x.0 y.0)
-only_command (name ∷ words) (command.Check a) (command.Replay b) x y = absurd (apart name _ _ refl x.0 y.0)
-only_command (name ∷ words) (command.Ask a) (command.Check b) x y = absurd (apart name _ _ refl x.0 y.0)
-only_command (name ∷ words) (command.Ask a) (command.Replay b) x y = absurd (apart name _ _ refl x.0 y.0)
-only_command (name ∷ words) (command.Replay a) (command.Check b) x y = absurd (apart name _ _ refl x.0 y.0)
-only_command (name ∷ words) (command.Replay a) (command.Ask b) x y = absurd (apart name _ _ refl x.0 y.0)
-only_command (name ∷ words) (command.Check a) (command.Serve b) x y = absurd (apart name _ _ refl x.0 y.0)
-only_command (name ∷ words) (command.Check a) (command.Plan b) x y = absurd (apart name _ _ refl x.0 y.0)
-only_command (name ∷ words) (command.Ask a) (command.Serve b) x y = absurd (apart name _ _ refl x.0 y.0)
-only_command (name ∷ words) (command.Ask a) (command.Plan b) x y = absurd (apart name _ _ refl x.0 y.0)
-only_command (name ∷ words) (command.Replay a) (command.Serve b) x y = absurd (apart name _ _ refl x.0 y.0)
-only_command (name ∷ words) (command.Replay a) (command.Plan b) x y = absurd (apart name _ _ refl x.0 y.0)
-only_command (name ∷ words) (command.Serve a) (command.Check b) x y = absurd (apart name _ _ refl x.0 y.0)
-only_command (name ∷ words) (command.Serve a) (command.Ask b) x y = absurd (apart name _ _ refl x.0 y.0)
-only_command (name ∷ words) (command.Serve a) (command.Replay b) x y = absurd (apart name _ _ refl x.0 y.0)
-only_command (name ∷ words) (command.Serve a) (command.Plan b) x y = absurd (apart name _ _ refl x.0 y.0)
-only_command (name ∷ words) (command.Plan a) (command.Check b) x y = absurd (apart name _ _ refl x.0 y.0)
-only_command (name ∷ words) (command.Plan a) (command.Ask b) x y = absurd (apart name _ _ refl x.0 y.0)
-only_command (name ∷ words) (command.Plan a) (command.Replay b) x y = absurd (apart name _ _ refl x.0 y.0)
-only_command (name ∷ words) (command.Plan a) (command.Serve b) x y = absurd (apart name _ _ refl x.0 y.0)
 only_command (name ∷ words) (command.Drill a) (command.Drill b) x y = ap (λ (drill : Drill). command.Drill drill) (one_drill words a b x.1 y.1)
-only_command (name ∷ words) (command.Drill a) (command.Check b) x y = absurd (apart name _ _ refl x.0 y.0)
-only_command (name ∷ words) (command.Check a) (command.Drill b) x y = absurd (apart name _ _ refl x.0 y.0)
-only_command (name ∷ words) (command.Drill a) (command.Ask b) x y = absurd (apart name _ _ refl x.0 y.0)
-only_command (name ∷ words) (command.Ask a) (command.Drill b) x y = absurd (apart name _ _ refl x.0 y.0)
-only_command (name ∷ words) (command.Drill a) (command.Replay b) x y = absurd (apart name _ _ refl x.0 y.0)
-only_command (name ∷ words) (command.Replay a) (command.Drill b) x y = absurd (apart name _ _ refl x.0 y.0)
-only_command (name ∷ words) (command.Drill a) (command.Serve b) x y = absurd (apart name _ _ refl x.0 y.0)
-only_command (name ∷ words) (command.Serve a) (command.Drill b) x y = absurd (apart name _ _ refl x.0 y.0)
-only_command (name ∷ words) (command.Drill a) (command.Plan b) x y = absurd (apart name _ _ refl x.0 y.0)
-only_command (name ∷ words) (command.Plan a) (command.Drill b) x y = absurd (apart name _ _ refl x.0 y.0)
+only_command (name ∷ words) (command.Fewest a) (command.Fewest b) x y = ap (λ (fewest : Fewest). command.Fewest fewest) (one_fewest words a b x.1 y.1)
+only_command (name ∷ words) a b x y = absurd (apart (sym x.0 ∙ y.0) refl)

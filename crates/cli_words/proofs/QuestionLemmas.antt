@@ -1,6 +1,7 @@
 -- Arguments ask one question.
 use Rattle.std.proofs.Common.{◌≡◌, ◌∙◌, ℕ, ◌≤◌, List, Option, Some, None, ap, subst, sym}
 use Rattle.std.proofs.Props.{props}
+use Rattle.clap.specs.Simple.{App}
 use Rattle.lc_model.specs.declared.query.Query.{Query}
 use Rattle.lc_model.specs.declared.query.TheConstants.{FIRST_LEAVE, LAST_LEAVE}
 use Rattle.lc_time.specs.Iso.{SaysMoment}
@@ -38,11 +39,11 @@ same_query a b from to known horizon leave =
     same_made MayLeave may_leave_prop (query_of a.from a.to a.known a.horizon) a.leave b.leave (a.not_before, a.not_after) (b.not_before, b.not_after) leave
     ∙ (λ i. query_of (from i) (to i) (known i) (horizon i) b.leave (b.not_before, b.not_after))
 
-pub one_question : (words : List (List ℕ)) (a b : Query) → AsksQuestion words a → AsksQuestion words b → a ≡ b
-one_question words a b x y =
-    let p = x.times in
-    let q = y.times in
-    same_query a b (one_stop _ a.from b.from x.from_is y.from_is) (one_stop _ a.to b.to x.to_is y.to_is)
-    (one_known _ a.known b.known p.known_is q.known_is)
-    (same_number a.horizon b.horizon (sym p.horizon_said ∙ q.horizon_said))
-    (one_leave p.moment q.moment a.leave b.leave (same_text _ _ (sym p.moment_is ∙ q.moment_is)) p.leave_is q.leave_is)
+pub one_question : (a : App) (words : List (List ℕ)) (p q : Query) → AsksQuestion a words p → AsksQuestion a words q → p ≡ q
+one_question a words p q x y =
+    let t = x.times in
+    let u = y.times in
+    same_query p q (one_stop _ p.from q.from x.from_is y.from_is) (one_stop _ p.to q.to x.to_is y.to_is)
+    (one_known _ p.known q.known t.known_is u.known_is)
+    (same_number p.horizon q.horizon (sym t.horizon_said ∙ u.horizon_said))
+    (one_leave t.moment u.moment p.leave q.leave (same_text _ _ (sym t.moment_is ∙ u.moment_is)) t.leave_is u.leave_is)

@@ -1,25 +1,32 @@
 -- What was read is what the arguments say.
-use Rattle.std.proofs.Common.{◌≡◌, ◌∙◌, ℕ, ◌-◌, ◌≤◌, ap, ap₂, arith, drop, get_or, length, take, Some, String, List, [], ◌∷◌, codes, eq-eqb, false, nat_eq, refl, subst, sym, true}
-use Rattle.std.proofs.Math.Seq.{take-length}
+use Rattle.std.proofs.Common.{◌≡◌, ◌∙◌, ℕ, Some, List, [], ◌∷◌, codes, false, refl, subst, sym, true}
 use Rattle.std.proofs.lemmas.Bool.{false≢true}
-use Rattle.std.specs.String.{string_bytes}
-use Rattle.std.specs.declared.alloc.Global.{Global}
+use Rattle.std.proofs.lemmas.Slice.Eq.{bytes_eq-Decides}
+use Rattle.std.specs.Str.{bytes_eq}
 use Rattle.clap.specs.Faults.{is_simple_and_free}
 use Rattle.clap.specs.Simple.{App}
 use Rattle.lc_model.specs.declared.date.ServiceDate.{ServiceDate}
-use Rattle.cli_words.specs.Line.{line, texts_of}
+use Rattle.cli_words.specs.Line.{line}
 use Rattle.lc_time.proofs.DateLemmas.{same_date}
 use Rattle.cli_words.specs.Ask.{SaysAsk}
+use Rattle.cli_words.specs.Check.{SaysCheck}
 use Rattle.cli_words.specs.Drill.{SaysDrill}
+use Rattle.cli_words.specs.Fewest.{SaysFewest}
 use Rattle.cli_words.specs.Options.{AreOptions}
 use Rattle.cli_words.specs.Plan.{SaysPlan}
+use Rattle.cli_words.specs.Replay.{SaysReplay}
+use Rattle.cli_words.specs.Serve.{SaysServe}
 use Rattle.cli_words.specs.Window.{IsDateAt}
 use Rattle.cli_words.specs.Words.{SaysCommand}
 use Rattle.cli_words.specs.declared.command.Ask.{Ask}
+use Rattle.cli_words.specs.declared.command.Check.{Check}
 use Rattle.cli_words.specs.declared.command.Command.{Command}
-use Rattle.cli_words.specs.declared.command.Drill.{Drill}
-use Rattle.cli_words.specs.declared.command.Plan.{Plan}
 use Rattle.cli_words.specs.declared.command.Command.TheVariants as command
+use Rattle.cli_words.specs.declared.command.Drill.{Drill}
+use Rattle.cli_words.specs.declared.command.Fewest.{Fewest}
+use Rattle.cli_words.specs.declared.command.Plan.{Plan}
+use Rattle.cli_words.specs.declared.command.Replay.{Replay}
+use Rattle.cli_words.specs.declared.command.Serve.{Serve}
 
 -- the lines are simple ones
 pub check_is_simple : is_simple_and_free (line (codes "check") (codes "feed" ∷ codes "first" ∷ []) (codes "days" ∷ codes "zone" ∷ codes "change" ∷ []) []) ≡ true
@@ -42,6 +49,10 @@ pub plan_is_simple : is_simple_and_free (line (codes "plan") (codes "url" ∷ co
 unfolding line
 plan_is_simple = refl
 
+pub fewest_is_simple : is_simple_and_free (line (codes "fewest") (codes "feed" ∷ codes "from" ∷ codes "to" ∷ codes "moment" ∷ []) (codes "days" ∷ codes "zone" ∷ codes "change" ∷ codes "horizon" ∷ codes "known" ∷ codes "base" ∷ codes "base-moment" ∷ codes "cuts" ∷ codes "update" ∷ []) []) ≡ true
+unfolding line
+fewest_is_simple = refl
+
 pub drill_is_simple : is_simple_and_free (line (codes "drill") (codes "n" ∷ []) (codes "days" ∷ []) []) ≡ true
 unfolding line
 drill_is_simple = refl
@@ -50,10 +61,9 @@ drill_is_simple = refl
 pub same_text : (a b : List ℕ) → Some a ≡ Some b → a ≡ b
 same_text a b e = cc
 
--- no text is equal to two that begin with different letters
-pub apart : (name a b : List ℕ) → nat_eq (get_or a 0 0) (get_or b 0 0) ≡ false → name ≡ a → name ≡ b → ⊥
-apart name a b other p q =
-    false≢true (sym other ∙ eq-eqb (get_or a 0 0) (get_or b 0 0) (ap (λ (t : List ℕ). get_or t 0 0) (sym p ∙ q)))
+-- no text is two others that differ
+pub apart : {a b : List ℕ} → a ≡ b → bytes_eq a b ≡ false → ⊥
+apart {a} {b} same differ = false≢true (sym differ ∙ (bytes_eq-Decides a b).1 same)
 
 -- two numbers that are one value are one
 pub same_number : (a b : ℕ) → Some a ≡ Some b → a ≡ b
@@ -73,46 +83,31 @@ one_date_at a b m n same p q =
     let p' : IsDateAt a n = subst (λ (k : ℕ). IsDateAt a k) same p in
     same_date a b (p'.year ∙ sym q.year) (p'.month ∙ sym q.month) (p'.day ∙ sym q.day)
 
--- a list of arguments is the first and those after it
-pub parted : (words : List (String Global)) (name : String Global) → 1 ≤ length words → name ≡ get_or words 0 name → texts_of words ≡ string_bytes name ∷ texts_of (take (length words - 1) (drop 1 words))
-parted [] name least is = absurd (omega arith)
-parted (first ∷ rest) name least is =
-    let len : length (first ∷ rest) - 1 ≡ length rest = omega arith in
-    let all : take (length (first ∷ rest) - 1) rest ≡ rest = rw len (take-length rest) in
-    ap₂ (λ (t : List ℕ) ts. t ∷ ts) (ap string_bytes (sym is)) (ap texts_of (sym all))
+-- arguments that begin with `check` and say nothing of it say no command, nor do those of the others
+pub no_check : (words : List (List ℕ)) → ((check : Check) → SaysCheck words check → ⊥) → (said : Command) → SaysCommand (codes "check" ∷ words) said → ⊥
+no_check words none (command.Check check) says = none check says.1
+no_check words none said says = apart says.0 refl
 
--- arguments that begin with `ask` and say no question say no command
-pub no_ask : (texts rest : List (List ℕ)) (name : List ℕ) → texts ≡ name ∷ rest → name ≡ codes "ask" → ((ask : Ask) → SaysAsk rest ask → ⊥) → (said : Command) → SaysCommand texts said → ⊥
-no_ask texts rest name parts is none said says = asked rest name is none said (subst (λ (t : List (List ℕ)). SaysCommand t said) parts says)
-  where
-    asked : (rest : List (List ℕ)) (name : List ℕ) → name ≡ codes "ask" → ((ask : Ask) → SaysAsk rest ask → ⊥) → (said : Command) → SaysCommand (name ∷ rest) said → ⊥
-    asked rest name is none (command.Check check) says = apart name _ _ refl is says.0
-    asked rest name is none (command.Ask ask) says = none ask says.1
-    asked rest name is none (command.Replay replay) says = apart name _ _ refl is says.0
-    asked rest name is none (command.Serve serve) says = apart name _ _ refl is says.0
-    asked rest name is none (command.Plan plan) says = apart name _ _ refl is says.0
-    asked rest name is none (command.Drill drill) says = apart name _ _ refl is says.0
+pub no_ask : (words : List (List ℕ)) → ((ask : Ask) → SaysAsk words ask → ⊥) → (said : Command) → SaysCommand (codes "ask" ∷ words) said → ⊥
+no_ask words none (command.Ask ask) says = none ask says.1
+no_ask words none said says = apart says.0 refl
 
--- and those that begin with `plan` and say no plan
-pub no_plan : (texts rest : List (List ℕ)) (name : List ℕ) → texts ≡ name ∷ rest → name ≡ codes "plan" → ((plan : Plan) → SaysPlan rest plan → ⊥) → (said : Command) → SaysCommand texts said → ⊥
-no_plan texts rest name parts is none said says = planned rest name is none said (subst (λ (t : List (List ℕ)). SaysCommand t said) parts says)
-  where
-    planned : (rest : List (List ℕ)) (name : List ℕ) → name ≡ codes "plan" → ((plan : Plan) → SaysPlan rest plan → ⊥) → (said : Command) → SaysCommand (name ∷ rest) said → ⊥
-    planned rest name is none (command.Check check) says = apart name _ _ refl is says.0
-    planned rest name is none (command.Ask ask) says = apart name _ _ refl is says.0
-    planned rest name is none (command.Replay replay) says = apart name _ _ refl is says.0
-    planned rest name is none (command.Serve serve) says = apart name _ _ refl is says.0
-    planned rest name is none (command.Plan plan) says = none plan says.1
-    planned rest name is none (command.Drill drill) says = apart name _ _ refl is says.0
+pub no_replay : (words : List (List ℕ)) → ((replay : Replay) → SaysReplay words replay → ⊥) → (said : Command) → SaysCommand (codes "replay" ∷ words) said → ⊥
+no_replay words none (command.Replay replay) says = none replay says.1
+no_replay words none said says = apart says.0 refl
 
--- and those that begin with `drill` and say no drill
-pub no_drill : (texts rest : List (List ℕ)) (name : List ℕ) → texts ≡ name ∷ rest → name ≡ codes "drill" → ((drill : Drill) → SaysDrill rest drill → ⊥) → (said : Command) → SaysCommand texts said → ⊥
-no_drill texts rest name parts is none said says = drilled rest name is none said (subst (λ (t : List (List ℕ)). SaysCommand t said) parts says)
-  where
-    drilled : (rest : List (List ℕ)) (name : List ℕ) → name ≡ codes "drill" → ((drill : Drill) → SaysDrill rest drill → ⊥) → (said : Command) → SaysCommand (name ∷ rest) said → ⊥
-    drilled rest name is none (command.Check check) says = apart name _ _ refl is says.0
-    drilled rest name is none (command.Ask ask) says = apart name _ _ refl is says.0
-    drilled rest name is none (command.Replay replay) says = apart name _ _ refl is says.0
-    drilled rest name is none (command.Serve serve) says = apart name _ _ refl is says.0
-    drilled rest name is none (command.Plan plan) says = apart name _ _ refl is says.0
-    drilled rest name is none (command.Drill drill) says = none drill says.1
+pub no_serve : (words : List (List ℕ)) → ((serve : Serve) → SaysServe words serve → ⊥) → (said : Command) → SaysCommand (codes "serve" ∷ words) said → ⊥
+no_serve words none (command.Serve serve) says = none serve says.1
+no_serve words none said says = apart says.0 refl
+
+pub no_plan : (words : List (List ℕ)) → ((plan : Plan) → SaysPlan words plan → ⊥) → (said : Command) → SaysCommand (codes "plan" ∷ words) said → ⊥
+no_plan words none (command.Plan plan) says = none plan says.1
+no_plan words none said says = apart says.0 refl
+
+pub no_drill : (words : List (List ℕ)) → ((drill : Drill) → SaysDrill words drill → ⊥) → (said : Command) → SaysCommand (codes "drill" ∷ words) said → ⊥
+no_drill words none (command.Drill drill) says = none drill says.1
+no_drill words none said says = apart says.0 refl
+
+pub no_fewest : (words : List (List ℕ)) → ((fewest : Fewest) → SaysFewest words fewest → ⊥) → (said : Command) → SaysCommand (codes "fewest" ∷ words) said → ⊥
+no_fewest words none (command.Fewest fewest) says = none fewest says.1
+no_fewest words none said says = apart says.0 refl

@@ -1,5 +1,6 @@
 -- The arguments of `ask`.
 use Rattle.std.specs.Prelude.{◌≡◌, ℕ, ◌/◌, ◌-◌, List, codes, Some}
+use Rattle.clap.specs.Simple.{App}
 use Rattle.lc_model.specs.declared.date.ServiceDate.{ServiceDate}
 use Rattle.cli_words.specs.Cache.{cache_said}
 use Rattle.cli_words.specs.Line.{IsLine, ask_line, value_at}
@@ -12,17 +13,17 @@ use Rattle.cli_words.specs.declared.command.Ask.{Ask}
 
 -- FEED, and the options of a window, with three days where `--days` is not there. The window begins on the day before the
 -- date of MOMENT in UTC.
-pub record AreAskWords (words : List (List ℕ)) (leave : ℕ) (feed : List ℕ) (first : ServiceDate) (days : ℕ) (zone : List ℕ) (change : ℕ) : Type 0 where
-  pub feed_is : value_at ask_line words (codes "feed") ≡ Some feed
-  pub first_is : IsDateAt first (leave / 86_400 - 1)
-  pub options : AreOptions ask_line words 3 days zone change
+pub record AreAskWords (a : App) (words : List (List ℕ)) (moment : ℕ) (feed : List ℕ) (first : ServiceDate) (days : ℕ) (zone : List ℕ) (change : ℕ) : Type 0 where
+  pub feed_is : value_at a words (codes "feed") ≡ Some feed
+  pub first_is : IsDateAt first (moment / 86_400 - 1)
+  pub options : AreOptions a words 3 days zone change
   pub window : IsWindow first days
 
 -- the arguments after `ask` say this
 pub record SaysAsk (words : List (List ℕ)) (ask : Ask) : Type 0 where
   pub is_line : IsLine ask_line words
-  pub question : AsksQuestion words ask.query
-  pub words_are : AreAskWords words ask.query.leave ask.feed ask.first ask.days ask.zone ask.change
+  pub question : AsksQuestion ask_line words ask.query
+  pub words_are : AreAskWords ask_line words ask.query.leave ask.feed ask.first ask.days ask.zone ask.change
   pub publishing : SaysPublishing ask_line words ask.publishing
   pub cache_is : cache_said ask_line words ≡ Some ask.cache
   pub update : SaysUpdate ask_line words ask.update

@@ -3,7 +3,7 @@ use Rattle.std.specs.Prelude.{◌≡◌, ◌≢◌, ℕ, ◌<◌, ◌^◌, ◌++
 use Rattle.std.specs.Str.{IsUtf8}
 use Rattle.clap.specs.Walk.{Text}
 use Rattle.cli_words.specs.Grammar.{HasGrammar, IsDashWord, IsOptionWord, IsTable}
-use Rattle.cli_words.specs.Line.{IsLine, ask_line, check_line, drill_line, line, plan_line, replay_line, serve_line}
+use Rattle.cli_words.specs.Line.{IsLine, ask_line, check_line, drill_line, fewest_line, line, plan_line, replay_line, serve_line}
 use Rattle.cli_words.specs.Publishing.{SaysBase}
 use Rattle.cli_words.specs.Serve.{address_at}
 use Rattle.cli_words.specs.Words.{SaysCommand}
@@ -68,3 +68,10 @@ PlanGrammar = HasGrammar plan_line (codes "url" ∷ codes "asks" ∷ []) (codes 
 -- the grammar of `drill`
 abbrev pub DrillGrammar : Type 0
 DrillGrammar = HasGrammar drill_line (codes "n" ∷ []) (codes "days" ∷ []) []
+
+-- the grammar of `fewest`
+abbrev pub FewestGrammar : Type 0
+FewestGrammar =
+    HasGrammar fewest_line (codes "feed" ∷ codes "from" ∷ codes "to" ∷ codes "moment" ∷ [])
+    (codes "days" ∷ codes "zone" ∷ codes "change" ∷ codes "horizon" ∷ codes "known" ∷ codes "base" ∷ codes "base-moment"
+    ∷ codes "cuts" ∷ codes "update" ∷ []) []

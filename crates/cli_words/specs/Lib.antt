@@ -2,6 +2,7 @@ pub mod Ask
 pub mod Cache
 pub mod Check
 pub mod FeedWindow
+pub mod Fewest
 pub mod Grammar
 pub mod Laws
 pub mod Line

@@ -89,3 +89,10 @@ plan_line = line (codes "plan") (codes "url" ∷ codes "asks" ∷ []) (codes "ca
 -- the line of `drill N` with its option
 unfoldable pub drill_line : App
 drill_line = line (codes "drill") (codes "n" ∷ []) (codes "days" ∷ []) []
+
+-- the line of `fewest FEED FROM TO MOMENT` with its options: those of `ask` but `--cache`
+unfoldable pub fewest_line : App
+fewest_line =
+    line (codes "fewest") (codes "feed" ∷ codes "from" ∷ codes "to" ∷ codes "moment" ∷ [])
+    (codes "days" ∷ codes "zone" ∷ codes "change" ∷ codes "horizon" ∷ codes "known" ∷ codes "base" ∷ codes "base-moment"
+    ∷ codes "cuts" ∷ codes "update" ∷ []) []

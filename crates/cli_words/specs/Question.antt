@@ -1,9 +1,10 @@
--- The question that the arguments of `ask` say.
+-- The question that the arguments of `ask` and of `fewest` say.
 use Rattle.std.specs.Prelude.{◌≡◌, ◌≢◌, ℕ, ◌≤◌, List, [], codes, Option, Some, None}
+use Rattle.clap.specs.Simple.{App}
 use Rattle.lc_model.specs.declared.query.Query.{Query}
 use Rattle.lc_model.specs.declared.query.TheConstants.{FIRST_LEAVE, LAST_LEAVE}
 use Rattle.lc_time.specs.Iso.{SaysMoment}
-use Rattle.cli_words.specs.Line.{ask_line, value_at}
+use Rattle.cli_words.specs.Line.{value_at}
 use Rattle.cli_words.specs.Options.{number_said}
 
 -- a plain argument that is not empty says the stop
@@ -24,16 +25,16 @@ SaysKnown (Some text) None = ⊥
 SaysKnown (Some text) (Some known) = SaysMoment text known
 
 -- MOMENT, `--known`, and `--horizon`, which is any number, and a day where it is not there
-pub record SaysTimes (words : List (List ℕ)) (leave : ℕ) (known : Option ℕ) (horizon : ℕ) : Type 0 where
+pub record SaysTimes (a : App) (words : List (List ℕ)) (leave : ℕ) (known : Option ℕ) (horizon : ℕ) : Type 0 where
   -- the argument of the moment
   pub moment : List ℕ
-  pub moment_is : value_at ask_line words (codes "moment") ≡ Some moment
+  pub moment_is : value_at a words (codes "moment") ≡ Some moment
   pub leave_is : SaysLeave moment leave
-  pub known_is : SaysKnown (value_at ask_line words (codes "known")) known
-  pub horizon_said : number_said 86_400 0 4_294_967_295 (value_at ask_line words (codes "horizon")) ≡ Some horizon
+  pub known_is : SaysKnown (value_at a words (codes "known")) known
+  pub horizon_said : number_said 86_400 0 4_294_967_295 (value_at a words (codes "horizon")) ≡ Some horizon
 
 -- FROM, TO and what says the times
-pub record AsksQuestion (words : List (List ℕ)) (query : Query) : Type 0 where
-  pub from_is : SaysStop (value_at ask_line words (codes "from")) query.from
-  pub to_is : SaysStop (value_at ask_line words (codes "to")) query.to
-  pub times : SaysTimes words query.leave query.known query.horizon
+pub record AsksQuestion (a : App) (words : List (List ℕ)) (query : Query) : Type 0 where
+  pub from_is : SaysStop (value_at a words (codes "from")) query.from
+  pub to_is : SaysStop (value_at a words (codes "to")) query.to
+  pub times : SaysTimes a words query.leave query.known query.horizon

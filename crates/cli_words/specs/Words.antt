@@ -1,8 +1,9 @@
 -- The arguments of a command line, and the command that they say.
-use Rattle.std.specs.Prelude.{◌≡◌, ℕ, List, [], ◌∷◌, codes}
+use Rattle.std.specs.Prelude.{◌≡◌, ℕ, List, [], ◌∷◌, codes, Option, MatchOption}
 use Rattle.cli_words.specs.Ask.{SaysAsk}
 use Rattle.cli_words.specs.Check.{SaysCheck}
 use Rattle.cli_words.specs.Drill.{SaysDrill}
+use Rattle.cli_words.specs.Fewest.{SaysFewest}
 use Rattle.cli_words.specs.Plan.{SaysPlan}
 use Rattle.cli_words.specs.Replay.{SaysReplay}
 use Rattle.cli_words.specs.Serve.{SaysServe}
@@ -18,3 +19,8 @@ SaysCommand (name ∷ words) (command.Replay replay) = (name ≡ codes "replay")
 SaysCommand (name ∷ words) (command.Serve serve) = (name ≡ codes "serve") × SaysServe words serve
 SaysCommand (name ∷ words) (command.Plan plan) = (name ≡ codes "plan") × SaysPlan words plan
 SaysCommand (name ∷ words) (command.Drill drill) = (name ≡ codes "drill") × SaysDrill words drill
+SaysCommand (name ∷ words) (command.Fewest fewest) = (name ≡ codes "fewest") × SaysFewest words fewest
+
+-- what was read of the arguments is the command that they say, and none where they say no command
+abbrev pub IsRead : List (List ℕ) → Option Command → Type 0
+IsRead words read = MatchOption read ((said : Command) → SaysCommand words said → ⊥) (SaysCommand words)

@@ -1,5 +1,4 @@
-ghost use Rattle.std.specs.Prelude.{◌≡◌, ◌≤◌, ℕ, IfOk, List, MatchOption, Some, option_map};
-ghost use Rattle.lc_model.specs.declared.date.ServiceDate.{ServiceDate as Date};
+ghost use Rattle.std.specs.Prelude.{◌≡◌, ℕ, IfOk, List, MatchOption, Some, option_map};
 ghost use Rattle.cli_words.specs.Ask.{AreAskWords, SaysAsk};
 ghost use Rattle.cli_words.specs.Cache.{cache_said};
 ghost use Rattle.cli_words.specs.Line.{HasFound, IsLine, ask_line, texts_of};
@@ -9,15 +8,14 @@ ghost use Rattle.cli_words.specs.Update.{SaysUpdate};
 ghost use Rattle.cli_words.specs.declared.command.Ask.{Ask as Asked};
 
 use crate::Ask;
+use crate::asked_window::asked_window;
 use crate::feed_window::{FeedWindow, window_texts};
 use crate::line::read_line;
-use crate::options::read_options;
 use crate::pages::{Pages, read_pages};
 use crate::question::read_question;
 use crate::update::{copy_of, read_update};
-use crate::window::{date_before, is_window};
 use clap::ArgMatches;
-use lc_model::{Moment, NoMemory, Query};
+use lc_model::{NoMemory, Query};
 use std::alloc::Global;
 
 /// The plain arguments of `ask` in their order, and its options.
@@ -68,11 +66,11 @@ fn ask_about<'a>(
     query: Query,
     update: Option<&'a str>,
 ) -> Result<Option<Ask>, NoMemory>
-    ensures { (words : List (List ℕ)) → IsLine ask_line words → HasFound ask_line words found.now → AsksQuestion words query
+    ensures { (words : List (List ℕ)) → IsLine ask_line words → HasFound ask_line words found.now → AsksQuestion ask_line words query
         → SaysUpdate ask_line words (option_map (λ s. s.now) update.entry)
         → IfOk result (λ ask. MatchOption ask ((ask : Asked) → SaysAsk words ask → ⊥) (SaysAsk words)) }
 {
-    let Some(said) = ask_words(found, query.leave) else {
+    let Some(said) = asked_window(found, query.leave) else {
         return Ok(None);
     };
     let Some(pages) = read_pages(alloc, found)? else {
@@ -89,8 +87,8 @@ fn ask_of<'a>(
     pages: Pages,
     update: Option<&'a str>,
 ) -> Result<Option<Ask>, NoMemory>
-    ensures { (words : List (List ℕ)) → IsLine ask_line words → AsksQuestion words query
-        → AreAskWords words query.leave said.entry.feed.now said.entry.first said.entry.options.days said.entry.options.zone.now said.entry.options.change
+    ensures { (words : List (List ℕ)) → IsLine ask_line words → AsksQuestion ask_line words query
+        → AreAskWords ask_line words query.leave said.entry.feed.now said.entry.first said.entry.options.days said.entry.options.zone.now said.entry.options.change
         → SaysPublishing ask_line words pages.publishing → cache_said ask_line words ≡ Some pages.cache
         → SaysUpdate ask_line words (option_map (λ s. s.now) update.entry)
         → IfOk result (λ ask. MatchOption ask ((ask : Asked) → SaysAsk words ask → ⊥) (SaysAsk words)) }
@@ -107,28 +105,4 @@ fn ask_of<'a>(
         cache: pages.cache,
         update: copy_of(alloc, update)?,
     }))
-}
-
-/// The feed and its window that were found, if they are said rightly.
-fn ask_words<'a>(found: &ArgMatches<'a>, leave: Moment) -> Option<FeedWindow<'a>>
-    requires { 86_400 ≤ leave }
-    ensures { (words : List (List ℕ)) → HasFound ask_line words found.now → MatchOption result
-        ((feed : List ℕ) (first : Date) (days : ℕ) (zone : List ℕ) (change : ℕ)
-        → AreAskWords words leave feed first days zone change → ⊥)
-        (λ said. AreAskWords words leave said.feed.now said.first said.options.days said.options.zone.now said.options.change) }
-{
-    let feed = found.get_str("feed")?;
-    let Some(options) = read_options(found, 3) else {
-        return None;
-    };
-    let first = date_before(leave);
-    if is_window(first, options.days) {
-        Some(FeedWindow {
-            feed,
-            first,
-            options,
-        })
-    } else {
-        None
-    }
 }

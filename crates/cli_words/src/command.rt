@@ -14,6 +14,7 @@ pub enum Command {
     Serve(Serve),
     Plan(Plan),
     Drill(Drill),
+    Fewest(Fewest),
 }
 
 /// `check`: the timetable of a feed in a window of dates.
@@ -129,6 +130,26 @@ pub struct Drill {
     pub ghost most_seed: { seed ≤ 1_000_000 },
     pub ghost some_days: { 1 ≤ days },
     pub ghost one_week: { days ≤ 7 },
+}
+
+/// `fewest`: a question for the fewest rides to the timetable of a feed in a window of dates, which is asked through pages.
+#[derive(Drop)]
+pub struct Fewest {
+    pub feed: Text,
+    pub query: Query,
+    pub first: ServiceDate,
+    pub days: u32,
+    /// The word of a zone, as it was said.
+    pub zone: Text,
+    /// The seconds of a change of which the feed says none.
+    pub change: u32,
+    pub publishing: Publishing,
+    /// The name of the file with a realtime message, if one is to be admitted.
+    pub update: Option<Text>,
+    pub ghost some_days: { 1 ≤ days },
+    pub ghost two_months: { days ≤ 62 },
+    pub ghost window: { IsWindow first days },
+    pub ghost within_a_day: { change ≤ 86_400 },
 }
 
 /// How a timetable is published.

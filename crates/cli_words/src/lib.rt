@@ -3,12 +3,14 @@
 #![tactic(auto)]
 
 mod ask;
+mod asked_window;
 mod cache;
 mod check;
 mod command;
 mod door;
 mod drill;
 mod feed_window;
+mod fewest;
 mod laws;
 mod line;
 mod options;
@@ -22,7 +24,7 @@ mod update;
 mod window;
 mod words;
 
-pub use command::{Ask, Check, Command, Drill, Plan, Publishing, Replay, Serve};
+pub use command::{Ask, Check, Command, Drill, Fewest, Plan, Publishing, Replay, Serve};
 pub use drill::drilled_replay;
 pub use laws::{default_address, default_publishing, one_command, words_are_lines};
 pub use words::read_words;

@@ -1,7 +1,8 @@
 ghost use Rattle.std.specs.Prelude.{◌≤◌, ℕ, IfOk, List, MatchOption, Option, option_map};
+ghost use Rattle.clap.specs.Simple.{App};
 ghost use Rattle.lc_model.specs.declared.query.Query.{Query as Question};
 ghost use Rattle.lc_model.specs.declared.query.TheConstants.{FIRST_LEAVE, LAST_LEAVE};
-ghost use Rattle.cli_words.specs.Line.{HasFound, ask_line};
+ghost use Rattle.cli_words.specs.Line.{HasFound};
 ghost use Rattle.cli_words.specs.Question.{AsksQuestion, SaysKnown, SaysLeave, SaysStop, SaysTimes};
 
 use crate::options::number;
@@ -28,8 +29,8 @@ pub(crate) fn read_question<'a>(
     alloc: Global,
     found: &ArgMatches<'a>,
 ) -> Result<Option<Query>, NoMemory>
-    ensures { (words : List (List ℕ)) → HasFound ask_line words found.now → IfOk result (λ query. MatchOption query
-        ((query : Question) → AsksQuestion words query → ⊥) (AsksQuestion words)) }
+    ensures { (a : App) (words : List (List ℕ)) → HasFound a words found.now → IfOk result (λ query. MatchOption query
+        ((query : Question) → AsksQuestion a words query → ⊥) (AsksQuestion a words)) }
 {
     let Some(times) = read_times(found) else {
         return Ok(None);
@@ -63,9 +64,9 @@ fn read_stop(alloc: Global, word: Option<&str>) -> Result<Option<Id>, NoMemory>
 
 /// The times that were found, or none where one of them is said wrongly.
 fn read_times<'a>(found: &ArgMatches<'a>) -> Option<Times>
-    ensures { (words : List (List ℕ)) → HasFound ask_line words found.now → MatchOption result
-        ((leave : ℕ) (known : Option ℕ) (horizon : ℕ) → SaysTimes words leave known horizon → ⊥)
-        (λ times. SaysTimes words times.leave times.known times.horizon) }
+    ensures { (a : App) (words : List (List ℕ)) → HasFound a words found.now → MatchOption result
+        ((leave : ℕ) (known : Option ℕ) (horizon : ℕ) → SaysTimes a words leave known horizon → ⊥)
+        (λ times. SaysTimes a words times.leave times.known times.horizon) }
 {
     let moment = found.get_str("moment")?;
     let Some(leave) = read_leave(moment) else {

@@ -1,5 +1,5 @@
-ghost use Rattle.std.specs.Prelude.{IfOk, MatchOption};
-ghost use Rattle.cli_words.specs.Words.{SaysCommand};
+ghost use Rattle.std.specs.Prelude.{◌∷◌, IfOk, MatchOption, codes};
+ghost use Rattle.cli_words.specs.Words.{IsRead, SaysCommand};
 ghost use Rattle.cli_words.specs.Line.{texts_of};
 ghost use Rattle.cli_words.specs.declared.command.Command.{Command as Said};
 
@@ -7,6 +7,7 @@ use crate::Command;
 use crate::ask::read_ask;
 use crate::check::read_check;
 use crate::drill::read_drill;
+use crate::fewest::read_fewest;
 use crate::plan::read_plan;
 use crate::replay::read_replay;
 use crate::serve::read_serve;
@@ -19,34 +20,94 @@ pub fn read_words(alloc: Global, words: &[String]) -> Result<Option<Command>, No
     ensures { IfOk result (λ read. MatchOption read ((command : Said) → SaysCommand (texts_of words.now) command → ⊥)
         (SaysCommand (texts_of words.now))) }
 {
-    let [name, rest @ ..] = words else {
-        return Ok(None);
-    };
-    match name.as_str() {
-        "check" => match read_check(alloc, rest)? {
-            Some(check) => Ok(Some(Command::Check(check))),
-            None => Ok(None),
-        },
-        "ask" => match read_ask(alloc, rest)? {
-            Some(ask) => Ok(Some(Command::Ask(ask))),
-            None => Ok(None),
-        },
-        "replay" => match read_replay(alloc, rest)? {
-            Some(replay) => Ok(Some(Command::Replay(replay))),
-            None => Ok(None),
-        },
-        "serve" => match read_serve(alloc, rest)? {
-            Some(serve) => Ok(Some(Command::Serve(serve))),
-            None => Ok(None),
-        },
-        "plan" => match read_plan(alloc, rest)? {
-            Some(plan) => Ok(Some(Command::Plan(plan))),
-            None => Ok(None),
-        },
-        "drill" => match read_drill(alloc, rest)? {
-            Some(drill) => Ok(Some(Command::Drill(drill))),
-            None => Ok(None),
-        },
+    match words {
+        [name, rest @ ..] => read_named(alloc, name.as_str(), rest),
+        [] => Ok(None),
+    }
+}
+
+/// Reads the arguments after the name of a command. None exactly where name and arguments say no command.
+fn read_named(alloc: Global, name: &str, words: &[String]) -> Result<Option<Command>, NoMemory>
+    ensures { IfOk result (IsRead (name.now ∷ texts_of words.now)) }
+{
+    match name {
+        "check" => check_command(alloc, words),
+        "ask" => ask_command(alloc, words),
+        "replay" => replay_command(alloc, words),
+        "serve" => serve_command(alloc, words),
+        "plan" => plan_command(alloc, words),
+        "drill" => drill_command(alloc, words),
+        "fewest" => fewest_command(alloc, words),
         _ => Ok(None),
+    }
+}
+
+/// The arguments after `check` as a command.
+fn check_command(alloc: Global, words: &[String]) -> Result<Option<Command>, NoMemory>
+    ensures { IfOk result (IsRead (codes "check" ∷ texts_of words.now)) }
+{
+    match read_check(alloc, words)? {
+        Some(check) => Ok(Some(Command::Check(check))),
+        None => Ok(None),
+    }
+}
+
+/// The arguments after `ask` as a command.
+fn ask_command(alloc: Global, words: &[String]) -> Result<Option<Command>, NoMemory>
+    ensures { IfOk result (IsRead (codes "ask" ∷ texts_of words.now)) }
+{
+    match read_ask(alloc, words)? {
+        Some(ask) => Ok(Some(Command::Ask(ask))),
+        None => Ok(None),
+    }
+}
+
+/// The arguments after `replay` as a command.
+fn replay_command(alloc: Global, words: &[String]) -> Result<Option<Command>, NoMemory>
+    ensures { IfOk result (IsRead (codes "replay" ∷ texts_of words.now)) }
+{
+    match read_replay(alloc, words)? {
+        Some(replay) => Ok(Some(Command::Replay(replay))),
+        None => Ok(None),
+    }
+}
+
+/// The arguments after `serve` as a command.
+fn serve_command(alloc: Global, words: &[String]) -> Result<Option<Command>, NoMemory>
+    ensures { IfOk result (IsRead (codes "serve" ∷ texts_of words.now)) }
+{
+    match read_serve(alloc, words)? {
+        Some(serve) => Ok(Some(Command::Serve(serve))),
+        None => Ok(None),
+    }
+}
+
+/// The arguments after `plan` as a command.
+fn plan_command(alloc: Global, words: &[String]) -> Result<Option<Command>, NoMemory>
+    ensures { IfOk result (IsRead (codes "plan" ∷ texts_of words.now)) }
+{
+    match read_plan(alloc, words)? {
+        Some(plan) => Ok(Some(Command::Plan(plan))),
+        None => Ok(None),
+    }
+}
+
+/// The arguments after `drill` as a command.
+fn drill_command(alloc: Global, words: &[String]) -> Result<Option<Command>, NoMemory>
+    ensures { IfOk result (IsRead (codes "drill" ∷ texts_of words.now)) }
+{
+    match read_drill(alloc, words)? {
+        Some(drill) => Ok(Some(Command::Drill(drill))),
+        None => Ok(None),
+    }
+}
+
+/// The arguments after `fewest` as a command.
+fn fewest_command(alloc: Global, words: &[String]) -> Result<Option<Command>, NoMemory>
+    ensures { IfOk result (IsRead (codes "fewest" ∷ texts_of words.now)) }
+{
+    match read_fewest(alloc, words)? {
+        Some(fewest) => Ok(Some(Command::Fewest(fewest))),
+        None => Ok(None),
     }
 }

@@ -1,4 +1,5 @@
 //! What the arguments of each command say.
+use crate::asking::{FEWESTS, put_fewest};
 use crate::drills::{DRILLS, put_drill};
 use crate::network::{PLANS, SERVES, put_plan, put_serve};
 use crate::words::{Side, command_of, put_publishing, put_read};
@@ -114,6 +115,7 @@ pub fn put_commands(alloc: Global, draft: &mut Draft) {
     put_table(alloc, draft, &SERVES);
     put_table(alloc, draft, &PLANS);
     put_table(alloc, draft, &DRILLS);
+    put_table(alloc, draft, &FEWESTS);
     draft.put("no word: ");
     put_read(draft, read_words(alloc, &[]), Side::Words);
 }
@@ -140,6 +142,7 @@ pub fn put_said(draft: &mut Draft, read: &Result<Option<Command>, NoMemory>) {
         Ok(Some(Command::Serve(serve))) => put_serve(draft, serve),
         Ok(Some(Command::Plan(plan))) => put_plan(draft, plan),
         Ok(Some(Command::Drill(drill))) => put_drill(draft, drill),
+        Ok(Some(Command::Fewest(fewest))) => put_fewest(draft, fewest),
         Ok(None) => draft.put("none"),
         Err(_) => draft.lose(),
     }
@@ -177,7 +180,8 @@ fn put_ask(draft: &mut Draft, ask: &Ask) {
     put_word(draft, &ask.change);
 }
 
-fn put_question(draft: &mut Draft, query: &Query) {
+/// A question: its stops, when it leaves, and its horizon.
+pub fn put_question(draft: &mut Draft, query: &Query) {
     put_word(draft, &query.from.as_str());
     put_word(draft, &query.to.as_str());
     put_word(draft, &query.leave.seconds());

@@ -2,6 +2,7 @@
 //! and what is no command. The expected lines are in `stdout`.
 #![tactic(auto)]
 
+mod asking;
 mod commands;
 mod drills;
 mod network;

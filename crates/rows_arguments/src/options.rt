@@ -1,7 +1,7 @@
 //! What the options of a question say.
 use crate::words::{Side, command_of, put_publishing, put_read};
 use cli_words::{Ask, Command};
-use lc_model::NoMemory;
+use lc_model::{Moment, NoMemory, Text};
 use rows_common::{Draft, Unmade};
 use std::alloc::Global;
 
@@ -103,6 +103,7 @@ fn put_other(draft: &mut Draft, read: &Result<Option<Command>, NoMemory>) {
         Ok(Some(Command::Serve(_))) => draft.put("serve"),
         Ok(Some(Command::Plan(_))) => draft.put("plan"),
         Ok(Some(Command::Drill(_))) => draft.put("drill"),
+        Ok(Some(Command::Fewest(_))) => draft.put("fewest"),
         Ok(None) => draft.put("none"),
         Err(_) => draft.lose(),
     }
@@ -126,13 +127,18 @@ pub fn put_client(draft: &mut Draft, read: &Result<Option<Command>, NoMemory>) {
 fn put_client_of(draft: &mut Draft, ask: &Ask) {
     draft.put_shown(&ask.cache);
     draft.put(" ");
-    draft.put(match &ask.update {
+    put_known(draft, &ask.update, ask.query.known);
+}
+
+/// The name of the file with a message, and which moment's knowledge is meant.
+pub fn put_known(draft: &mut Draft, update: &Option<Text>, known: Option<Moment>) {
+    draft.put(match update {
         Some(name) => name.as_str(),
         None => "-",
     });
-    draft.put(match ask.query.known {
+    draft.put(match known {
         Some(_) => " known ",
         None => " newest ",
     });
-    draft.put_shown(&ask.query.known.map_or(0, |moment| moment.seconds()));
+    draft.put_shown(&known.map_or(0, |moment| moment.seconds()));
 }

@@ -7,10 +7,10 @@ returns-in_default c = λ words line found ask says.
 
 pub returns-in-Some-2 : goal.returns-in-Some-2
 returns-in-Some-2 c = λ words line found.
-    let asks = rw c.in-Some-2.is at (c.in_ok-query.ensures words found) in
+    let asks = rw c.in-Some-2.is at (c.in_ok-query.ensures ask_line words found) in
     c.ask_about.ensures words line found asks (c.in-Some.ensures ask_line words found)
 
 pub returns-in-None : goal.returns-in-None
 returns-in-None c = λ words line found ask says.
-    let none = rw c.in-None.is at (c.in_ok-query.ensures words found) in
+    let none = rw c.in-None.is at (c.in_ok-query.ensures ask_line words found) in
     none ask.query says.question

@@ -1,6 +1,16 @@
-use Rattle.cli_words.proofs.GrammarLemmas.{ask_grammar, check_grammar, drill_grammar, lines_have_grammar, plan_grammar, replay_grammar, serve_grammar}
+use Rattle.cli_words.proofs.GrammarLemmas.{ask_grammar, check_grammar, drill_grammar, fewest_grammar, lines_have_grammar, plan_grammar, replay_grammar, serve_grammar}
 use Rattle.cli_words.proofs.NearLemmas.{dash_words}
 use Rattle.cli_words.proofs.laws.words_are_lines.Goals as goal
 
 pub returns : goal.returns
-returns c = record { lines = lines_have_grammar; dashes = dash_words; check = check_grammar; ask = ask_grammar; replay = replay_grammar; serve = serve_grammar; plan = plan_grammar; drill = drill_grammar }
+returns c = record {
+  lines = lines_have_grammar;
+  dashes = dash_words;
+  check = check_grammar;
+  ask = ask_grammar;
+  replay = replay_grammar;
+  serve = serve_grammar;
+  plan = plan_grammar;
+  drill = drill_grammar;
+  fewest = fewest_grammar;
+}
