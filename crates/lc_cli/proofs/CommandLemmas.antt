@@ -2,11 +2,13 @@
 use Rattle.std.proofs.Common.{◌≡◌, ◌∷◌, inr, ℕ, List, [], Option, Result, Ok, Err, IfErr, IfOk, subst, sym}
 use Rattle.cli_ask.specs.Asked.{IsAsked}
 use Rattle.cli_ask.specs.declared.end.ClientEnd.{ClientEnd}
+use Rattle.cli_fewest.specs.Asked.{IsAskedFewest}
 use Rattle.cli_inputs.specs.Inputs.{ReadsInputs}
 use Rattle.cli_inputs.specs.declared.refusal.Refusal.{Refusal}
 use Rattle.cli_words.specs.Words.{SaysCommand}
 use Rattle.cli_words.specs.declared.command.Ask.{Ask}
 use Rattle.cli_words.specs.declared.command.Command.{Command}
+use Rattle.cli_words.specs.declared.command.Fewest.{Fewest}
 use Rattle.cli_words.specs.declared.command.Command.TheVariants as commands
 use Rattle.lc_io.specs.Folder.{FolderSeen}
 use Rattle.lc_io.specs.declared.file.File.{File}
@@ -14,7 +16,7 @@ use Rattle.lc_world.proofs.GoneOnLemmas.{no_gets, no_passes}
 use Rattle.lc_world.specs.GoneOn.{HasGoneOn}
 use Rattle.lc_world.specs.Link.{LinkSeen}
 use Rattle.timetable.specs.declared.timetable.Timetable.{Timetable}
-use Rattle.lc_cli.specs.Command.{IsAskBlock, IsRefusedAs, IsRightRefusal, IsRightWork, LeavesLink, Prints, ResultsIn, ask_scope}
+use Rattle.lc_cli.specs.Command.{IsAskBlock, IsFewestBlock, IsQuestionBlock, IsRefusedAs, IsRightRefusal, IsRightWork, LeavesLink, Prints, ResultsIn, ask_scope, fewest_scope}
 use Rattle.lc_cli.specs.declared.block.Block.{Block}
 use Rattle.lc_cli.specs.declared.work.Work.{Work}
 use Rattle.lc_cli.specs.declared.work.Work.TheVariants as works
@@ -30,6 +32,24 @@ ask_block_of ask old new before after made file inputs text end block is client 
   asked = subst (λ t. IsAsked made ask.publishing file ask.query before after t.items end) (sym is) asked;
   client = client;
 }
+
+-- and of one for the fewest rides
+pub fewest_block_of : (fewest : Fewest) (old new : FolderSeen) (before after : LinkSeen) (made : Timetable) (file : Option File) → ReadsInputs (fewest_scope fewest) fewest.update old new made file
+    → (text : _) (end : ClientEnd) (block : Block) → block.text ≡ text → block.ends.items ≡ end ∷ [] → IsAskedFewest made fewest.publishing file fewest.query before after text.items end
+    → IsFewestBlock fewest old new before after block
+fewest_block_of fewest old new before after made file inputs text end block is client asked = record {
+  made = made;
+  file = file;
+  inputs = inputs;
+  end = end;
+  asked = subst (λ t. IsAskedFewest made fewest.publishing file fewest.query before after t.items end) (sym is) asked;
+  client = client;
+}
+
+-- what `fewest` prints is what is printed of a question
+abbrev pub question_of : (fewest : Fewest) (old new : FolderSeen) (before after : LinkSeen) (block : Block) → IsFewestBlock fewest old new before after block
+    → IsQuestionBlock (fewest_scope fewest) fewest.update fewest.publishing fewest.query old new before after block
+question_of fewest old new before after block x = record { made = x.made; file = x.file; inputs = x.inputs; end = x.end; asked = x.asked.asked; client = x.client }
 
 -- a block that a command prints, and a refusal of it, as what it results in
 pub results_printed : (old new : FolderSeen) (before after : LinkSeen) (command : Command) (block : Result Block Refusal) (result : Result Work Refusal)
@@ -54,6 +74,7 @@ said_works words old new before after (commands.Replay replay) (Ok (works.Serve 
 said_works words old new before after (commands.Serve serve) (Ok (works.Serve server)) says is = record { serve = serve; says = says; is = is }
 said_works words old new before after (commands.Plan plan) (Ok (works.Serve server)) says is = absurd is
 said_works words old new before after (commands.Drill drill) (Ok (works.Serve server)) says is = absurd is
+said_works words old new before after (commands.Fewest fewest) (Ok (works.Serve server)) says is = absurd is
 said_works words old new before after command (Err refusal) says is = tt
 
 pub said_refusals : (words : List (List ℕ)) (old new : FolderSeen) (command : Command) (result : Result Work Refusal) → SaysCommand words command
@@ -69,6 +90,7 @@ leaves_alone (commands.Replay replay) link = no_passes link
 leaves_alone (commands.Serve serve) link = no_passes link
 leaves_alone (commands.Plan plan) link = no_gets link
 leaves_alone (commands.Drill drill) link = no_passes link
+leaves_alone (commands.Fewest fewest) link = no_passes link
 
 -- the link has gone on, whatever the command
 pub has_gone_on : (command : Command) (before after : LinkSeen) → LeavesLink command before after → HasGoneOn before after
@@ -78,3 +100,4 @@ has_gone_on (commands.Replay replay) before after left = left.gone_on
 has_gone_on (commands.Serve serve) before after left = left.gone_on
 has_gone_on (commands.Plan plan) before after left = left.gone_on
 has_gone_on (commands.Drill drill) before after left = left.gone_on
+has_gone_on (commands.Fewest fewest) before after left = left.gone_on

@@ -1,5 +1,5 @@
 -- Nothing but memory keeps the output from being printed, where nothing hinders a command.
-use Rattle.std.proofs.Common.{◌≡◌, ◌∙◌, ◌⊎◌, ◌∷◌, ℕ, inl, inr, List, None, Option, Some, ap, arith, codes, refl, subst, sym}
+use Rattle.std.proofs.Common.{◌≡◌, ◌∙◌, ◌⊎◌, ◌∷◌, ℕ, inl, inr, false, List, None, Option, Some, ap, arith, codes, refl, subst, sym}
 use Rattle.cli_ask.specs.Publishing.{store_of}
 use Rattle.cli_drill.specs.Files.{drill_files}
 use Rattle.cli_inputs.specs.Inputs.{IsRefusedFor}
@@ -25,16 +25,17 @@ use Rattle.timetable.specs.declared.timetable.Timetable.{Timetable}
 use Rattle.version_store.specs.Laws.{OneOutcome}
 use Rattle.lc_cli.specs.Block.{IsBlockEnd, client_status_of}
 use Rattle.lc_cli.specs.Clear.{IsAnswered, IsClear, IsFed, IsHeard}
-use Rattle.lc_cli.specs.Command.{IsRefusedAs, IsRightRefusal, Prints, ask_scope, check_scope, replay_scope, serve_scope}
+use Rattle.lc_cli.specs.Command.{IsRefusedAs, IsRightRefusal, Prints, ask_scope, check_scope, fewest_scope, replay_scope, serve_scope}
 use Rattle.lc_cli.specs.Drill.{IsDrillRefused, drill_folder, sure_seen}
 use Rattle.lc_cli.specs.Refusal.{IsRefusalEnd, status_of}
 use Rattle.lc_cli.specs.Top.{IsRight, Past}
 use Rattle.lc_cli.specs.declared.status.Status.{Status}
 use Rattle.lc_cli.specs.declared.status.Status.TheVariants.{NoMemory}
+use Rattle.lc_cli.proofs.CommandLemmas.{question_of}
 use Rattle.lc_cli.proofs.PlanLemmas.{plan_fine, plan_never_refused}
 use Rattle.lc_cli.proofs.ReplayLemmas.{course_fine, never_refused}
 use Rattle.lc_cli.proofs.ServingLemmas.{served_answered}
-use Rattle.lc_cli.proofs.TopLemmas.{AreNoFaults, IsHeardBy, answered, heard, heard_nothing, heard_served, no_fault, not_absent, not_broken_update, not_long}
+use Rattle.lc_cli.proofs.TopLemmas.{AreNoFaults, IsHeardBy, answered, heard, heard_nothing, no_fault, not_absent, not_broken_update, not_long}
 
 -- a command without a script whose feed and message are fine is refused for memory alone
 module _ (not_broken : NotBroken) (not_too_large : NotTooLarge) (one_outcome : OneOutcome) (recorded : List File) (scope : Scope) (update : Option (List ℕ)) (old new : FolderSeen)
@@ -65,7 +66,11 @@ module _ (one_command : OneCommand) (loads_recorded : LoadsRecorded) (not_broken
     fine : (command : Command) → SaysCommand p.words command → Prints command p.folder_before p.folder_after (seen p.link_before) (seen p.link_after) x.block → AreNoFaults x.block.ends.items
     fine (commands.Check check) says prints = subst AreNoFaults (sym prints.no_client) tt
     fine (commands.Ask ask) says prints =
-        no_fault loads_recorded clear.recorded ask p.folder_before p.folder_after (seen p.link_before) (seen p.link_after) x.block prints clear.unhindered.tells (clear.unhindered.fair ask says)
+        no_fault loads_recorded clear.recorded (ask_scope ask) ask.update ask.publishing ask.query p.folder_before p.folder_after (seen p.link_before) (seen p.link_after) x.block prints
+        clear.unhindered.tells (clear.unhindered.fair ask says)
+    fine (commands.Fewest fewest) says prints =
+        no_fault loads_recorded clear.recorded (fewest_scope fewest) fewest.update fewest.publishing fewest.query p.folder_before p.folder_after (seen p.link_before) (seen p.link_after) x.block
+        (question_of fewest p.folder_before p.folder_after (seen p.link_before) (seen p.link_after) x.block prints) clear.unhindered.tells (clear.unhindered.fair_fewest fewest says)
     fine (commands.Replay replay) says prints =
         course_fine loads_recorded clear.recorded replay p.folder_before p.folder_after (seen p.link_before) (seen p.link_after) x.block.text.items x.block.ends.items prints clear.unhindered.tells
         (clear.unhindered.fair_course replay says)
@@ -96,13 +101,16 @@ module _ (one_command : OneCommand) (loads_recorded : LoadsRecorded) (not_broken
         (heard_nothing clear.recorded (store_of fed.made 0)) clear.unhindered.no_folder_fault x.refusal refused_is
     never_as (commands.Ask ask) fed is refused_is =
         never not_broken not_too_large one_outcome clear.recorded (ask_scope ask) ask.update p.folder_before p.folder_after fed.made clear.unhindered.tells fed.sound
-        (heard clear.recorded ask is) clear.unhindered.no_folder_fault x.refusal refused_is
+        (heard clear.recorded (ask_scope ask) ask.update ask.publishing false is.0 is.1) clear.unhindered.no_folder_fault x.refusal refused_is
+    never_as (commands.Fewest fewest) fed is refused_is =
+        never not_broken not_too_large one_outcome clear.recorded (fewest_scope fewest) fewest.update p.folder_before p.folder_after fed.made clear.unhindered.tells fed.sound
+        (heard clear.recorded (fewest_scope fewest) fewest.update fewest.publishing false is.0 is.1) clear.unhindered.no_folder_fault x.refusal refused_is
     never_as (commands.Replay replay) fed (made, all, course) refused_is =
         never_refused one_script never_both not_broken not_too_large clear.recorded replay p.folder_before p.folder_after clear.unhindered.tells made all course
         clear.unhindered.no_folder_fault x.refusal refused_is
     never_as (commands.Serve serve) fed is refused_is =
         never not_broken not_too_large one_outcome clear.recorded (serve_scope serve) serve.update p.folder_before p.folder_after fed.made clear.unhindered.tells fed.sound
-        (heard_served clear.recorded serve is) clear.unhindered.no_folder_fault x.refusal refused_is
+        (heard clear.recorded (serve_scope serve) serve.update serve.publishing serve.accept_updates is.0 is.1) clear.unhindered.no_folder_fault x.refusal refused_is
     never_as (commands.Plan plan) fed (all, asks) refused_is =
         plan_never_refused never_both clear.recorded plan.asks p.folder_before p.folder_after clear.unhindered.tells all asks clear.unhindered.no_folder_fault x.refusal refused_is
     never_as (commands.Drill drill) fed (replay, made, all, drilled, course) refused_is = by_cause refused_is.1 where

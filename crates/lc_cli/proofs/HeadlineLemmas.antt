@@ -40,8 +40,8 @@ use Rattle.cli_serve.specs.Written.{Wrote}
 use Rattle.lc_cli.specs.declared.block.Block.{Block}
 use Rattle.lc_cli.specs.declared.status.Status.{Status}
 use Rattle.lc_cli.specs.declared.status.Status.TheVariants.{Done, NoMemory, SinkFault}
-use Rattle.lc_cli.proofs.InputsLemmas.{inputs_recorded}
 use Rattle.lc_cli.proofs.OneStatusLemmas.{done_is_printed}
+use Rattle.lc_cli.proofs.TopLemmas.{side_asked}
 
 -- the outcome is that of an answer
 pub record HasAnswer (outcome : Outcome) : Type 0 where
@@ -141,16 +141,8 @@ module _ (loads_recorded : LoadsRecorded) {X : Type 0} (seen : X → LinkSeen) (
   wrote_best : (block : Block) → IsAskBlock ask p.folder_before p.folder_after (seen p.link_before) (seen p.link_after) block → IsBlockEnd block p.sink_before p.sink_after Done → WroteBest p ask files
   wrote_best block x end =
       let side = side_with x.made ask.publishing x.asked.store in
-      let asked : IsAskedSide files ask (side_with x.made ask.publishing x.asked.store) = record {
-        made = x.made;
-        sound = loads_recorded files (ask_scope ask) p.folder_before x.inputs.between x.made tells x.inputs.loaded;
-        file = x.file;
-        is_recorded = inputs_recorded files (ask_scope ask) ask.update p.folder_before p.folder_after x.made x.file tells x.inputs;
-        store = x.asked.store;
-        line = x.asked.line;
-        behind = x.asked.behind;
-        is = refl;
-      } in
+      let asked : IsAskedSide files ask side =
+      side_asked loads_recorded files (ask_scope ask) ask.update ask.publishing ask.query p.folder_before p.folder_after (seen p.link_before) (seen p.link_after) block x tells in
       let right = x.asked.right clear (short side asked) in
       let whole = is_whole block p.sink_before p.sink_after end in
       let found = answer_at 1 block.ends.items 0 x.end whole.status_is (ap (λ (l : List ClientEnd). slice_get l 0) x.client) in

@@ -1,5 +1,5 @@
 -- Where `drill` ended with status Done, its sums are over best journeys.
-use Rattle.std.proofs.Common.{◌≡◌, ◌⊎◌, ◌+◌, ℕ, inl, inr, List, refl, subst}
+use Rattle.std.proofs.Common.{◌≡◌, ◌⊎◌, ◌+◌, inl, inr, refl, subst}
 use Rattle.cli_drill.specs.Files.{drill_files}
 use Rattle.cli_words.specs.Laws.{OneCommand}
 use Rattle.cli_words.specs.Words.{SaysCommand}

@@ -6,6 +6,7 @@ pub mod HeadlineLemmas
 pub mod HeadlineOfPlanLemmas
 pub mod HeadlineOfReplayLemmas
 mod HeadlineOfDrillLemmas
+mod HeadlineOfFewestLemmas
 mod DrillLemmas
 pub mod InputsLemmas
 pub mod NearHeadlineLemmas

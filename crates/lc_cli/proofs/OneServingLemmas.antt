@@ -26,12 +26,13 @@ use Rattle.lc_world.specs.Link.{LinkSeen}
 use Rattle.publisher.specs.Held.{side_of}
 use Rattle.publisher_spec.specs.Side.{Side, date_in}
 use Rattle.timetable.specs.Laws.{AreSame, LoadsRecorded, OneTimetable}
+use Rattle.timetable.specs.declared.scope.Scope.{Scope}
 use Rattle.timetable.specs.declared.timetable.Timetable.{Timetable}
 use Rattle.version_store.specs.Laws.{OneOutcome}
 use Rattle.version_store.specs.Store.{Stored}
-use Rattle.lc_cli.specs.Clear.{IsRecordedFile, IsServedSide}
-use Rattle.lc_cli.specs.Command.{IsServer, ask_scope, serve_scope}
-use Rattle.lc_cli.specs.OneServing.{BeginsFromIt, NotAnotherBase, NotMadeUp, NotUnasked, OneAskedSide, OneServedSide, OneServing}
+use Rattle.lc_cli.specs.Clear.{IsPublishedSide, IsRecordedFile, IsServedSide}
+use Rattle.lc_cli.specs.Command.{IsServer, ask_scope, fewest_scope, serve_scope}
+use Rattle.lc_cli.specs.OneServing.{BeginsFromIt, NotAnotherBase, NotMadeUp, NotUnasked, OneAskedSide, OneFewestSide, OneServedSide, OneServing}
 use Rattle.lc_cli.specs.Serving.{IsSaidLast, IsServingEnd, asked_of, served_status_of}
 use Rattle.lc_cli.specs.declared.server.Server.{Server}
 use Rattle.lc_cli.specs.declared.status.Status.TheVariants.{Done}
@@ -77,26 +78,28 @@ by_what_they_are : (a b x y : Side) → a ≡ x → b ≡ y → AreOneSide x y �
 by_what_they_are a b x y first second one = subst (λ (s : Side). AreOneSide s b) (sym first) (subst (λ (s : Side). AreOneSide x s) (sym second) one)
 
 module _ (one_timetable : OneTimetable) (one_outcome : OneOutcome) where
+  -- by recorded files a publisher has one side, and one line says what became of its message
+  published_alike : (recorded : List File) (scope : Scope) (update : Option (List ℕ)) (publishing : Publishing) (accepts : Bool) (a b : Side)
+      (x : IsPublishedSide recorded scope update publishing accepts a) (y : IsPublishedSide recorded scope update publishing accepts b) → ArePublishedAsOne a b x.line y.line
+  published_alike recorded scope update publishing accepts a b x y =
+      let made : AreSame x.made y.made = one_timetable recorded scope x.made y.made x.sound y.sound in
+      let file : y.file ≡ x.file = one_file recorded update y.file x.file y.is_recorded x.is_recorded in
+      let behind = subst (λ (f : Option File). IsBehind f (store_of y.made publishing.base_moment) y.store y.line) file y.behind in
+      let one = published_as_one one_outcome x.made y.made publishing accepts x.file x.store y.store x.line y.line made x.behind behind in
+      record {
+        sides = by_what_they_are a b (side_for x.made publishing x.store accepts) (side_for y.made publishing y.store accepts) x.is y.is one.sides;
+        line_is = one.line_is;
+      }
+
   pub one_asked_side : OneAskedSide
-  one_asked_side recorded ask a b x y =
-      let made : AreSame x.made y.made = one_timetable recorded (ask_scope ask) x.made y.made x.sound y.sound in
-      let file : y.file ≡ x.file = one_file recorded ask.update y.file x.file y.is_recorded x.is_recorded in
-      let behind = subst (λ (f : Option File). IsBehind f (store_of y.made ask.publishing.base_moment) y.store y.line) file y.behind in
-      let one = published_as_one one_outcome x.made y.made ask.publishing false x.file x.store y.store x.line y.line made x.behind behind in
-      by_what_they_are a b (side_for x.made ask.publishing x.store false) (side_for y.made ask.publishing y.store false) x.is y.is one.sides
+  one_asked_side recorded ask a b x y = (published_alike recorded (ask_scope ask) ask.update ask.publishing false a b x y).sides
+
+  pub one_fewest_side : OneFewestSide
+  one_fewest_side recorded fewest a b x y = (published_alike recorded (fewest_scope fewest) fewest.update fewest.publishing false a b x y).sides
 
   -- a server begins from one side, and writes one line of its message first
   begins_as_one : (recorded : List File) (serve : Serve) (a b : Side) (x : IsServedSide recorded serve a) (y : IsServedSide recorded serve b) → ArePublishedAsOne a b x.line y.line
-  begins_as_one recorded serve a b x y =
-      let made : AreSame x.made y.made = one_timetable recorded (serve_scope serve) x.made y.made x.sound y.sound in
-      let file : y.file ≡ x.file = one_file recorded serve.update y.file x.file y.is_recorded x.is_recorded in
-      let behind = subst (λ (f : Option File). IsBehind f (store_of y.made serve.publishing.base_moment) y.store y.line) file y.behind in
-      let one = published_as_one one_outcome x.made y.made serve.publishing serve.accept_updates x.file x.store y.store x.line y.line made x.behind behind in
-      record {
-        sides =
-            by_what_they_are a b (side_for x.made serve.publishing x.store serve.accept_updates) (side_for y.made serve.publishing y.store serve.accept_updates) x.is y.is one.sides;
-        line_is = one.line_is;
-      }
+  begins_as_one recorded serve a b x y = published_alike recorded (serve_scope serve) serve.update serve.publishing serve.accept_updates a b x y
 
   pub one_served_side : OneServedSide
   one_served_side recorded serve a b x y = (begins_as_one recorded serve a b x y).sides

@@ -3,19 +3,22 @@ use Rattle.std.proofs.Common.{◌≡◌, ◌∙◌, ◌⊎◌, ◌+◌, ◌∷�
 use Rattle.std.specs.List.{AllZip}
 use Rattle.std.specs.Option.{unwrap_or}
 use Rattle.cli_ask.specs.Publishing.{side_for, side_with, store_of}
-use Rattle.cli_ask.specs.Laws.{AreOneEnd, OneOutput}
+use Rattle.cli_ask.specs.Laws.{AreOneEnd, OneOutput, PrintOneClient}
 use Rattle.cli_ask.specs.declared.end.ClientEnd.{ClientEnd}
+use Rattle.cli_fewest.specs.Laws.{OneFewestOutput}
 use Rattle.laws_replies.specs.Laws.{SayTheSame}
 use Rattle.cli_words.specs.Laws.{OneCommand}
 use Rattle.cli_words.specs.Words.{SaysCommand}
 use Rattle.cli_words.specs.declared.command.Command.{Command}
 use Rattle.cli_words.specs.declared.command.Command.TheVariants as commands
+use Rattle.cli_words.specs.declared.command.Publishing.{Publishing}
 use Rattle.cli_words.specs.declared.command.Replay.{Replay}
 use Rattle.lc_io.specs.Counts.{Rose}
 use Rattle.lc_io.specs.Folder.{FolderSeen}
 use Rattle.lc_io.specs.declared.file.File.{File}
 use Rattle.lc_io.specs.declared.folder.FolderFail.{FolderFail}
 use Rattle.lc_io.specs.declared.folder.FolderFail.TheVariants.{Absent}
+use Rattle.lc_model.specs.declared.query.Query.{Query}
 use Rattle.lc_world.specs.Link.{LinkSeen}
 use Rattle.page_client.specs.declared.fault.QueryFault.{QueryFault}
 use Rattle.page_client.specs.declared.outcome.Outcome.{Outcome}
@@ -33,8 +36,8 @@ use Rattle.version_store.specs.Laws.{OneOutcome}
 use Rattle.version_store.specs.declared.admission.AdmitFault.{AdmitFault}
 use Rattle.version_store.specs.declared.admission.AdmitFault.TheVariants as faults
 use Rattle.lc_cli.specs.Block.{IsBlockEnd, client_status_of, failed_status_of}
-use Rattle.lc_cli.specs.Clear.{HasTimetable, IsClear, IsRecordedCourse, IsRecordedFile, IsUnhindered}
-use Rattle.lc_cli.specs.Command.{IsRefusedAs, IsRightBlock, IsRightRefusal, Prints, ask_scope, check_scope, serve_scope}
+use Rattle.lc_cli.specs.Clear.{HasFairLink, HasTimetable, IsClear, IsRecordedCourse, IsRecordedFile, IsUnhindered}
+use Rattle.lc_cli.specs.Command.{IsQuestionBlock, IsRefusedAs, IsRightBlock, IsRightRefusal, Prints, ask_scope, check_scope, fewest_scope, serve_scope}
 use Rattle.lc_cli.specs.Drill.{drill_folder, sure_seen}
 use Rattle.cli_drill.specs.Files.{drill_files}
 use Rattle.cli_inputs.specs.Inputs.{AsksForUpdate, IsRefusedFor}
@@ -46,10 +49,11 @@ use Rattle.cli_inputs.specs.declared.refusal.Refusal.{Refusal}
 use Rattle.cli_inputs.specs.declared.refusal.Refusal.TheVariants as refused
 use Rattle.lc_cli.specs.declared.status.Status.{Status}
 use Rattle.lc_cli.specs.declared.status.Status.TheVariants.{Done, NoMemory, ScriptWrong, UpdateBroken, Usage}
+use Rattle.lc_cli.proofs.CommandLemmas.{question_of}
 use Rattle.lc_cli.proofs.CourseRefusalLemmas.{HasLoaded, IsCourseRefused, IsRecordedCause, course_refused, not_refused, one_course_refusal, one_wrong, status_by, status_in}
 use Rattle.lc_cli.proofs.InputsLemmas.{absent_recorded, bytes_recorded, inputs_recorded, still_recorded}
 use Rattle.lc_cli.proofs.OneReplayLemmas.{one_replay}
-use Rattle.lc_cli.proofs.OneRunLemmas.{one_client}
+use Rattle.lc_cli.proofs.OneRunLemmas.{one_client, one_fewest}
 use Rattle.lc_cli.proofs.PlanLemmas.{asks_recorded}
 use Rattle.lc_cli.proofs.ReplayLemmas.{course_fine, course_recorded}
 use Rattle.lc_cli.proofs.TopLemmas.{AreNoFaults, IsHeardBy, IsNoFault, heard_fine, heard_nothing, no_fault, side_asked, side_served}
@@ -95,6 +99,7 @@ IsRefusedSo recorded p s (commands.Replay replay) = IsCourseRefused recorded rep
 IsRefusedSo recorded p s (commands.Serve serve) = Unit {0}
 IsRefusedSo recorded p s (commands.Plan plan) = Unit {0}
 IsRefusedSo recorded p s (commands.Drill drill) = Unit {0}
+IsRefusedSo recorded p s (commands.Fewest fewest) = Fails (fewest_scope fewest) fewest.update recorded p s
 
 -- a command is refused by its files
 record IsRefusedByFiles {X : Type 0} (recorded : List File) (p : Past X) (s : Status) : Type 0 where
@@ -153,6 +158,7 @@ module _ {X : Type 0} (seen : X → LinkSeen) (p : Past X) (recorded : List File
   refused_so (commands.Serve serve) refusal status is = inr tt
   refused_so (commands.Plan plan) refusal status is = inr tt
   refused_so (commands.Drill drill) refusal status is = inr tt
+  refused_so (commands.Fewest fewest) refusal status is = by_refusal (fewest_scope fewest) fewest.update refusal status is
 
   by_command : (command : Command) → SaysCommand p.words command → (s ≡ NoMemory) ⊎ IsRefusedSo recorded p s command → (s ≡ NoMemory) ⊎ Ended seen recorded p s
   by_command command says (inl memory) = inl memory
@@ -203,7 +209,7 @@ one_clients_status k (d ∷ a) (e ∷ b) one fine =
     ap₂ (λ (first : Option Status) (rest : Status). unwrap_or first rest) (one_client_status k d.outcome e.outcome one.0.outcome fine.0) (one_clients_status (k + 1) a b one.1 fine.1)
 
 module _ {X Y : Type 0} (seen : X → LinkSeen) (saw : Y → LinkSeen) (one_command : OneCommand) (one_timetable : OneTimetable) (one_end : OneEnd) (loads_recorded : LoadsRecorded)
-    (one_outcome : OneOutcome) (one_output : OneOutput seen saw) (one_script : OneScript) (one_fault : OneFault) (never_both : NeverBoth) (one_course : OneCourse) (p : Past X) (q : Past Y)
+    (one_outcome : OneOutcome) (one_output : OneOutput seen saw) (one_fewest_output : OneFewestOutput seen saw) (one_script : OneScript) (one_fault : OneFault) (never_both : NeverBoth) (one_course : OneCourse) (p : Past X) (q : Past Y)
     (recorded : List File) (words : p.words ≡ q.words) (home : AreInProcess p.words) (at : IsUnhindered seen p recorded) (to : IsUnhindered saw q recorded) (s t : Status) where
   same_command : (a b : Command) → SaysCommand p.words a → SaysCommand q.words b → b ≡ a
   same_command a b x y = one_command p.words b a (subst (λ w. SaysCommand w b) (sym words) y) x
@@ -234,6 +240,24 @@ module _ {X Y : Type 0} (seen : X → LinkSeen) (saw : Y → LinkSeen) (one_comm
   LoadedSo r (commands.Serve serve) = Unit {0}
   LoadedSo r (commands.Plan plan) = Unit {0}
   LoadedSo r (commands.Drill drill) = Unit {0}
+  LoadedSo r (commands.Fewest fewest) = Loaded (fewest_scope fewest) fewest.update r
+
+  -- that of a question
+  loaded_question : {Z : Type 0} (look : Z → LinkSeen) (r : Past Z) (scope : Scope) (update : Option (List ℕ)) (publishing : Publishing) (query : Query) (block : Block)
+      → IsQuestionBlock scope update publishing query r.folder_before r.folder_after (look r.link_before) (look r.link_after) block → r.folder_before.files ≡ Some recorded → Loaded scope update r
+  loaded_question look r scope update publishing query block prints tells = record {
+    between = prints.inputs.between;
+    made = prints.made;
+    loads = prints.inputs.loaded;
+    heard = record {
+      file = prints.file;
+      is_recorded = inputs_recorded recorded scope update r.folder_before r.folder_after prints.made prints.file tells prints.inputs;
+      old = store_of prints.made publishing.base_moment;
+      new = prints.asked.store;
+      line = prints.asked.line;
+      behind = prints.asked.behind;
+    };
+  }
 
   loaded : {Z : Type 0} (look : Z → LinkSeen) (r : Past Z) (block : Block) → r.folder_before.files ≡ Some recorded → (command : Command)
       → Prints command r.folder_before r.folder_after (look r.link_before) (look r.link_after) block → LoadedSo r command
@@ -252,21 +276,11 @@ module _ {X Y : Type 0} (seen : X → LinkSeen) (saw : Y → LinkSeen) (one_comm
   loaded look r block tells (commands.Serve serve) prints = tt
   loaded look r block tells (commands.Plan plan) prints = tt
   loaded look r block tells (commands.Drill drill) prints = tt
+  loaded look r block tells (commands.Fewest fewest) prints =
+      loaded_question look r (fewest_scope fewest) fewest.update fewest.publishing fewest.query block (question_of fewest r.folder_before r.folder_after (look r.link_before) (look r.link_after) block prints) tells
   loaded look r block tells (commands.Check check) prints =
       record { between = r.folder_after; made = prints.made; loads = prints.loaded; heard = heard_nothing recorded (record { runs = prints.made.runs; stops = prints.made.doc.stops; zone = prints.made.zone; base = 0; history = [] }) }
-  loaded look r block tells (commands.Ask ask) prints = record {
-    between = prints.inputs.between;
-    made = prints.made;
-    loads = prints.inputs.loaded;
-    heard = record {
-      file = prints.file;
-      is_recorded = inputs_recorded recorded (ask_scope ask) ask.update r.folder_before r.folder_after prints.made prints.file tells prints.inputs;
-      old = store_of prints.made ask.publishing.base_moment;
-      new = prints.asked.store;
-      line = prints.asked.line;
-      behind = prints.asked.behind;
-    };
-  }
+  loaded look r block tells (commands.Ask ask) prints = loaded_question look r (ask_scope ask) ask.update ask.publishing ask.query block prints tells
 
   -- a recorded message that was heard is not wrong
   heard_or_wrong : (name : List ℕ) (cause : Option AdmitFault) → IsHeardBy recorded (Some name) → IsRecordedCause recorded name cause → ⊥
@@ -275,6 +289,16 @@ module _ {X Y : Type 0} (seen : X → LinkSeen) (saw : Y → LinkSeen) (one_comm
     there None recorded_is = recorded_is
     there (Some file) recorded_is = let e = sym none ∙ recorded_is.1 in cc
   heard_or_wrong name (Some found) is (bytes, same, wrong, other) = heard_fine one_outcome recorded name bytes found is same wrong other
+
+  -- questions that print one client have one status
+  one_question : (scope : Scope) (update : Option (List ℕ)) (publishing : Publishing) (query : Query) (x y : Block)
+      (a : IsQuestionBlock scope update publishing query p.folder_before p.folder_after (seen p.link_before) (seen p.link_after) x)
+      (b : IsQuestionBlock scope update publishing query q.folder_before q.folder_after (saw q.link_before) (saw q.link_after) y)
+      → HasFairLink recorded scope update publishing (seen p.link_before).clear (seen p.link_before).faults (seen p.link_after).faults → PrintOneClient x.text.items y.text.items a.end b.end
+      → client_status_of 1 x.ends.items ≡ client_status_of 1 y.ends.items
+  one_question scope update publishing query x y a b fair one =
+      let fine = subst AreNoFaults a.client (no_fault loads_recorded recorded scope update publishing query p.folder_before p.folder_after (seen p.link_before) (seen p.link_after) x a at.tells fair) in
+      ap (client_status_of 1) a.client ∙ ap (λ (f : Option Status). unwrap_or f Done) (one_client_status 1 a.end.outcome b.end.outcome one.one.outcome fine.0) ∙ sym (ap (client_status_of 1) b.client)
 
   -- blocks that were printed whole
   both_whole : Whole seen p s → Whole saw q t → s ≡ t
@@ -294,11 +318,16 @@ module _ {X Y : Type 0} (seen : X → LinkSeen) (saw : Y → LinkSeen) (one_comm
         (saw q.link_before) (saw q.link_after) x.block y.block a b at.tells to.tells fair (to.fair_course replay (subst (λ w. SaysCommand w (commands.Replay replay)) words says)) in
         one_clients_status 1 x.block.ends.items y.block.ends.items one.one_each
         (course_fine loads_recorded recorded replay p.folder_before p.folder_after (seen p.link_before) (seen p.link_after) x.block.text.items x.block.ends.items a at.tells fair)
+    by (commands.Fewest fewest) says a b =
+        let one = one_fewest seen saw one_timetable loads_recorded one_output one_fewest_output recorded fewest p.folder_before p.folder_after q.folder_before q.folder_after p.link_before p.link_after q.link_before
+        q.link_after x.block y.block a b at.tells to.tells (at.fair_fewest fewest says) (to.fair_fewest fewest (subst (λ w. SaysCommand w (commands.Fewest fewest)) words says)) in
+        one_question (fewest_scope fewest) fewest.update fewest.publishing fewest.query x.block y.block
+        (question_of fewest p.folder_before p.folder_after (seen p.link_before) (seen p.link_after) x.block a)
+        (question_of fewest q.folder_before q.folder_after (saw q.link_before) (saw q.link_after) y.block b) (at.fair_fewest fewest says) one.client
     by (commands.Ask ask) says a b =
-        let one = one_client seen saw one_timetable loads_recorded one_output recorded ask p.folder_before p.folder_after q.folder_before q.folder_after p.link_before p.link_after q.link_before q.link_after x.block y.block a b
+        let one = one_client seen saw one_timetable loads_recorded one_output one_fewest_output recorded ask p.folder_before p.folder_after q.folder_before q.folder_after p.link_before p.link_after q.link_before q.link_after x.block y.block a b
         at.tells to.tells (at.fair ask says) (to.fair ask (subst (λ w. SaysCommand w (commands.Ask ask)) words says)) in
-        let fine = subst AreNoFaults a.client (no_fault loads_recorded recorded ask p.folder_before p.folder_after (seen p.link_before) (seen p.link_after) x.block a at.tells (at.fair ask says)) in
-        ap (client_status_of 1) a.client ∙ ap (λ (f : Option Status). unwrap_or f Done) (one_client_status 1 a.end.outcome b.end.outcome one.one.outcome fine.0) ∙ sym (ap (client_status_of 1) b.client)
+        one_question (ask_scope ask) ask.update ask.publishing ask.query x.block y.block a b (at.fair ask says) one
 
   -- a block and a refusal by the files are no ends of one command
   clash_loaded : {Z W : Type 0} (r : Past Z) (u : Past W) (v : Status) → r.folder_before.files ≡ Some recorded → u.folder_before.files ≡ Some recorded → (scope : Scope) (update : Option (List ℕ))
@@ -316,6 +345,7 @@ module _ {X Y : Type 0} (seen : X → LinkSeen) (saw : Y → LinkSeen) (one_comm
   clash r u v tells tell (commands.Serve serve) here x y = here
   clash r u v tells tell (commands.Plan plan) here x y = here
   clash r u v tells tell (commands.Drill drill) here x y = here
+  clash r u v tells tell (commands.Fewest fewest) here x y = clash_loaded r u v tells tell (fewest_scope fewest) fewest.update x y
 
   whole_refused : (x : Whole seen p s) → IsRefusedByFiles recorded q t → ⊥
   whole_refused x y =
@@ -349,6 +379,7 @@ module _ {X Y : Type 0} (seen : X → LinkSeen) (saw : Y → LinkSeen) (one_comm
   both_refused (commands.Serve serve) here x y = absurd here
   both_refused (commands.Plan plan) here x y = absurd here
   both_refused (commands.Drill drill) here x y = absurd here
+  both_refused (commands.Fewest fewest) here x y = both_fail (fewest_scope fewest) fewest.update x y
 
   one_ended : Ended seen recorded p s → Ended saw recorded q t → s ≡ t
   one_ended (inl x) (inl y) = both_whole x y
@@ -369,10 +400,10 @@ module _ {X Y : Type 0} (seen : X → LinkSeen) (saw : Y → LinkSeen) (one_comm
     by (inr a) (inl e) = inr (inr e)
     by (inr a) (inr b) = inl (one_ended a b)
 
-pub one_status : {X Y : Type 0} (seen : X → LinkSeen) (saw : Y → LinkSeen) → OneCommand → OneTimetable → OneEnd → LoadsRecorded → OneOutcome → OneOutput seen saw → OneScript → OneFault → NeverBoth
+pub one_status : {X Y : Type 0} (seen : X → LinkSeen) (saw : Y → LinkSeen) → OneCommand → OneTimetable → OneEnd → LoadsRecorded → OneOutcome → OneOutput seen saw → OneFewestOutput seen saw → OneScript → OneFault → NeverBoth
     → OneCourse → OneStatus seen saw
-one_status seen saw one_command one_timetable one_end loads_recorded one_outcome one_output one_script one_fault never_both one_course p q recorded words home at to s t x y =
-    one seen saw one_command one_timetable one_end loads_recorded one_outcome one_output one_script one_fault never_both one_course p q recorded words home at to s t x y
+one_status seen saw one_command one_timetable one_end loads_recorded one_outcome one_output one_fewest_output one_script one_fault never_both one_course p q recorded words home at to s t x y =
+    one seen saw one_command one_timetable one_end loads_recorded one_outcome one_output one_fewest_output one_script one_fault never_both one_course p q recorded words home at to s t x y
 
 -- a run that is done was no refusal
 pub done_is_printed : {X : Type 0} (seen : X → LinkSeen) → DoneIsPrinted seen
@@ -427,7 +458,19 @@ done_is_clear seen loads_recorded p recorded at right = by (done_is_printed seen
     fed = has_timetable loads_recorded recorded (ask_scope ask) p.folder_before prints.inputs.between prints.made at.tells prints.inputs.loaded;
     heard = (
       side_with prints.made ask.publishing prints.asked.store,
-      side_asked loads_recorded recorded ask p.folder_before p.folder_after (seen p.link_before) (seen p.link_after) block prints at.tells,
+      side_asked loads_recorded recorded (ask_scope ask) ask.update ask.publishing ask.query p.folder_before p.folder_after (seen p.link_before) (seen p.link_after) block prints at.tells,
+    );
+  }
+  of (commands.Fewest fewest) block says prints = record {
+    command = commands.Fewest fewest;
+    says = says;
+    recorded = recorded;
+    unhindered = at;
+    fed = has_timetable loads_recorded recorded (fewest_scope fewest) p.folder_before prints.inputs.between prints.made at.tells prints.inputs.loaded;
+    heard = (
+      side_with prints.made fewest.publishing prints.asked.asked.store,
+      side_asked loads_recorded recorded (fewest_scope fewest) fewest.update fewest.publishing fewest.query p.folder_before p.folder_after (seen p.link_before) (seen p.link_after) block
+          (question_of fewest p.folder_before p.folder_after (seen p.link_before) (seen p.link_after) block prints) at.tells,
     );
   }
   of (commands.Serve serve) block says prints = absurd prints

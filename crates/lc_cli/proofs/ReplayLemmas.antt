@@ -37,7 +37,6 @@ use Rattle.trip_updates.specs.declared.fault.RtFault.{RtFault}
 use Rattle.lc_cli.specs.Clear.{AreRecordedEvents, HasFairCourse, IsRecordedCourse, IsRecordedEvent}
 use Rattle.lc_cli.specs.Command.{IsPlayedBy, replay_scope}
 use Rattle.lc_cli.specs.Refusal.{status_of}
-use Rattle.lc_cli.specs.declared.block.Block.{Block}
 use Rattle.lc_cli.specs.declared.status.Status.TheVariants.{NoMemory}
 use Rattle.lc_cli.proofs.InputsLemmas.{absent_recorded, bytes_recorded, still_recorded}
 use Rattle.lc_cli.proofs.TopLemmas.{AreNoFaults, IsNoFault}

@@ -1,5 +1,5 @@
 -- What follows from the cause of a status.
-use Rattle.std.proofs.Common.{◌≡◌, ◌∙◌, ◌⊎◌, ◌+◌, ◌∷◌, ℕ, inl, inr, List, [], None, Some, Option, Result, Ok, Err, ap, arith, refl, subst, sym}
+use Rattle.std.proofs.Common.{◌≡◌, ◌∙◌, ◌⊎◌, ◌+◌, ◌∷◌, ℕ, inl, inr, Bool, false, List, [], None, Some, Option, Result, Ok, Err, ap, arith, refl, subst, sym}
 use Rattle.std.specs.Option.{unwrap_or}
 use Rattle.cli_ask.specs.Admission.{IsBehind, IsIgnored}
 use Rattle.cli_ask.specs.Client.{shown_of}
@@ -7,7 +7,7 @@ use Rattle.cli_ask.specs.Publishing.{side_for, side_with, store_of}
 use Rattle.laws_clients.specs.Fits.{HasEnded}
 use Rattle.laws_replies.specs.Ends.{EndsBy}
 use Rattle.cli_words.specs.Words.{SaysCommand}
-use Rattle.cli_words.specs.declared.command.Ask.{Ask}
+use Rattle.cli_words.specs.declared.command.Publishing.{Publishing}
 use Rattle.cli_words.specs.declared.command.Serve.{Serve}
 use Rattle.cli_words.specs.declared.command.Command.{Command}
 use Rattle.cli_words.specs.declared.command.Command.TheVariants as commands
@@ -16,6 +16,7 @@ use Rattle.lc_io.specs.declared.file.File.{File}
 use Rattle.lc_io.specs.declared.folder.FolderFail.{FolderFail}
 use Rattle.lc_io.specs.declared.folder.FolderFail.TheVariants.{Absent}
 use Rattle.lc_io.specs.Sink.{SinkSeen}
+use Rattle.lc_model.specs.declared.query.Query.{Query}
 use Rattle.lc_world.specs.Link.{LinkSeen}
 use Rattle.page_client.specs.declared.outcome.Outcome.{Outcome}
 use Rattle.page_client.specs.declared.outcome.Outcome.TheVariants as outcomes
@@ -32,8 +33,8 @@ use Rattle.version_store.specs.declared.admission.AdmitFault.{AdmitFault}
 use Rattle.version_store.specs.declared.admission.AdmitFault.TheVariants as faults
 use Rattle.cli_ask.specs.declared.end.ClientEnd.{ClientEnd}
 use Rattle.lc_cli.specs.Block.{IsBlockEnd, client_status_of, failed_status_of}
-use Rattle.lc_cli.specs.Clear.{HasFairLink, IsAnswered, IsAskedSide, IsHeard, IsServedSide, IsRecordedFile}
-use Rattle.lc_cli.specs.Command.{IsAskBlock, IsRightRefusal, IsServer, ask_scope, serve_scope}
+use Rattle.lc_cli.specs.Clear.{HasFairLink, IsAnswered, IsPublishedSide, IsServedSide, IsRecordedFile}
+use Rattle.lc_cli.specs.Command.{IsQuestionBlock, IsRightRefusal, IsServer, serve_scope}
 use Rattle.cli_inputs.specs.Inputs.{AsksForUpdate, IsBrokenUpdate, IsLongUpdate}
 use Rattle.lc_cli.specs.Refusal.{IsRefusalEnd, status_of}
 use Rattle.lc_cli.specs.Top.{IsEarlyRefusal, IsRight, Past}
@@ -86,30 +87,33 @@ answered k (end ∷ more) fine = by end.outcome (answered (k + 1) more fine.1) f
   by (outcomes.LinkFault before after) rest f = absurd f
   by (outcomes.PeerWrong reply fault) rest f = absurd f
 
-module _ (loads_recorded : LoadsRecorded) where
-  -- the side that was asked is the one of the recorded files
-  pub side_asked : (recorded : List File) (ask : Ask) (old new : FolderSeen) (before after : LinkSeen) (block : Block) (x : IsAskBlock ask old new before after block) → old.files ≡ Some recorded
-      → IsAskedSide recorded ask (side_with x.made ask.publishing x.asked.store)
-  side_asked recorded ask old new before after block x tells = record {
+module _ (loads_recorded : LoadsRecorded) (recorded : List File) (scope : Scope) (update : Option (List ℕ)) (publishing : Publishing) (query : Query) (old new : FolderSeen) (before after : LinkSeen)
+    (block : Block) (x : IsQuestionBlock scope update publishing query old new before after block) (tells : old.files ≡ Some recorded) where
+  -- the side that was asked is the one of the recorded files, also with another store after the message
+  abbrev pub side_asked_with : (store : Stored) (line : List ℕ) → IsBehind x.file (store_of x.made publishing.base_moment) store line
+      → IsPublishedSide recorded scope update publishing false (side_with x.made publishing store)
+  side_asked_with store line behind = record {
     made = x.made;
-    sound = loads_recorded recorded (ask_scope ask) old x.inputs.between x.made tells x.inputs.loaded;
+    sound = loads_recorded recorded scope old x.inputs.between x.made tells x.inputs.loaded;
     file = x.file;
-    is_recorded = inputs_recorded recorded (ask_scope ask) ask.update old new x.made x.file tells x.inputs;
-    store = x.asked.store;
-    line = x.asked.line;
-    behind = x.asked.behind;
+    is_recorded = inputs_recorded recorded scope update old new x.made x.file tells x.inputs;
+    store = store;
+    line = line;
+    behind = behind;
     is = refl;
   }
 
+  abbrev pub side_asked : IsPublishedSide recorded scope update publishing false (side_with x.made publishing x.asked.store)
+  side_asked = side_asked_with x.asked.store x.asked.line x.asked.behind
+
   -- over a fair link no exchange failed and no reply
-  pub no_fault : (recorded : List File) (ask : Ask) (old new : FolderSeen) (before after : LinkSeen) (block : Block) → IsAskBlock ask old new before after block → old.files ≡ Some recorded
-      → HasFairLink recorded ask before.clear before.faults after.faults → AreNoFaults block.ends.items
-  no_fault recorded ask old new before after block x tells fair =
-      let side = side_with x.made ask.publishing x.asked.store in
-      let right = x.asked.right fair.link.was_clear (fair.short side (side_asked recorded ask old new before after block x tells)) in
+  pub no_fault : HasFairLink recorded scope update publishing before.clear before.faults after.faults → AreNoFaults block.ends.items
+  no_fault fair =
+      let side = side_with x.made publishing x.asked.store in
+      let right = x.asked.right fair.link.was_clear (fair.short side side_asked) in
       subst AreNoFaults (sym x.client) (by side right.given x.end.outcome x.asked.asks.ends right.ended, tt) where
-        by : (side : Side) (given : List Want) (outcome : Outcome) → EndsBy ask.publishing.base ask.query before.faults after.faults x.end.version x.asked.asks.made outcome
-            → HasEnded side (shown_of ask.query x.end) given (Some outcome) → IsNoFault outcome
+        by : (side : Side) (given : List Want) (outcome : Outcome) → EndsBy publishing.base query before.faults after.faults x.end.version x.asked.asks.made outcome
+            → HasEnded side (shown_of query x.end) given (Some outcome) → IsNoFault outcome
         by side given (outcomes.Found journey) ends ended = tt
         by side given outcomes.NoJourney ends ended = tt
         by side given (outcomes.Refused fault) ends ended = tt
@@ -143,21 +147,13 @@ pub record IsHeardBy (recorded : List File) (update : Option (List ℕ)) : Type 
 pub heard_nothing : (recorded : List File) (store : Stored) → IsHeardBy recorded None
 heard_nothing recorded store = record { file = None; is_recorded = tt; old = store; new = store; line = []; behind = (refl, refl) }
 
-pub heard : (recorded : List File) (ask : Ask) → IsHeard recorded (commands.Ask ask) → IsHeardBy recorded ask.update
-heard recorded ask (side, is) = record {
+-- what a publisher has heard
+pub heard : (recorded : List File) (scope : Scope) (update : Option (List ℕ)) (publishing : Publishing) (accepts : Bool) (side : Side) → IsPublishedSide recorded scope update publishing accepts side
+    → IsHeardBy recorded update
+heard recorded scope update publishing accepts side is = record {
   file = is.file;
   is_recorded = is.is_recorded;
-  old = store_of is.made ask.publishing.base_moment;
-  new = is.store;
-  line = is.line;
-  behind = is.behind;
-}
-
-pub heard_served : (recorded : List File) (serve : Serve) → IsHeard recorded (commands.Serve serve) → IsHeardBy recorded serve.update
-heard_served recorded serve (side, is) = record {
-  file = is.file;
-  is_recorded = is.is_recorded;
-  old = store_of is.made serve.publishing.base_moment;
+  old = store_of is.made publishing.base_moment;
   new = is.store;
   line = is.line;
   behind = is.behind;

@@ -1,13 +1,15 @@
 -- When nothing but memory keeps the output from being printed, and that there is one such output.
 use Rattle.std.specs.Prelude.{◌≡◌, ℕ, Bool, false, true, List, [], ◌∷◌, Option, Some, None}
 use Rattle.cli_ask.specs.Admission.{IsBehind}
-use Rattle.cli_ask.specs.Publishing.{side_for, side_with, store_of}
+use Rattle.cli_ask.specs.Publishing.{side_for, store_of}
 use Rattle.cli_drill.specs.Files.{drill_files}
 use Rattle.cli_inputs.specs.Plan.{SayEvents}
 use Rattle.cli_words.specs.Words.{SaysCommand}
 use Rattle.cli_words.specs.declared.command.Ask.{Ask}
 use Rattle.cli_words.specs.declared.command.Drill.{Drill}
+use Rattle.cli_words.specs.declared.command.Fewest.{Fewest}
 use Rattle.cli_words.specs.declared.command.Plan.{Plan}
+use Rattle.cli_words.specs.declared.command.Publishing.{Publishing}
 use Rattle.cli_words.specs.declared.command.Replay.{Replay}
 use Rattle.cli_words.specs.declared.command.Serve.{Serve}
 use Rattle.cli_words.specs.declared.command.Command.{Command}
@@ -28,7 +30,7 @@ use Rattle.timetable.specs.Recorded.{IsSound}
 use Rattle.timetable.specs.declared.scope.Scope.{Scope}
 use Rattle.timetable.specs.declared.timetable.Timetable.{Timetable}
 use Rattle.version_store.specs.Store.{Stored}
-use Rattle.lc_cli.specs.Command.{ask_scope, check_scope, replay_scope, serve_scope}
+use Rattle.lc_cli.specs.Command.{ask_scope, check_scope, fewest_scope, replay_scope, serve_scope}
 use Rattle.lc_cli.specs.Drill.{IsDrilled}
 use Rattle.lc_cli.specs.Top.{Past}
 use Rattle.lc_cli.specs.declared.status.Status.{Status}
@@ -41,29 +43,29 @@ IsRecordedFile recorded None (Some file) = ⊥
 IsRecordedFile recorded (Some name) None = ⊥
 IsRecordedFile recorded (Some name) (Some file) = (file.name ≡ name) × (bytes_named recorded name ≡ Some file.bytes)
 
--- By the recorded files, this is the side of the publisher that is asked: that of the feed's timetable. It has the
--- message, if there is one, which is a message that is not too long.
-pub record IsAskedSide (recorded : List File) (ask : Ask) (side : Side) : Type 0 where
+-- By the recorded files, this is the side of a publisher of the feed's timetable. It has the message, if there is one, which is a message
+-- that is not too long. It takes messages from its clients, or not.
+pub record IsPublishedSide (recorded : List File) (scope : Scope) (update : Option (List ℕ)) (publishing : Publishing) (accepts : Bool) (side : Side) : Type 0 where
   pub made : Timetable
-  pub sound : IsSound recorded (ask_scope ask) made
+  pub sound : IsSound recorded scope made
   pub file : Option File
-  pub is_recorded : IsRecordedFile recorded ask.update file
+  pub is_recorded : IsRecordedFile recorded update file
   pub store : Stored
   pub line : List ℕ
-  pub behind : IsBehind file (store_of made ask.publishing.base_moment) store line
-  pub is : side ≡ side_with made ask.publishing store
+  pub behind : IsBehind file (store_of made publishing.base_moment) store line
+  pub is : side ≡ side_for made publishing store accepts
 
--- By the recorded files, this is the side of the publisher that is served first: that of the feed's timetable. It has the message, if
--- there is one, which is a message that is not too long. It takes messages where the arguments say so.
-pub record IsServedSide (recorded : List File) (serve : Serve) (side : Side) : Type 0 where
-  pub made : Timetable
-  pub sound : IsSound recorded (serve_scope serve) made
-  pub file : Option File
-  pub is_recorded : IsRecordedFile recorded serve.update file
-  pub store : Stored
-  pub line : List ℕ
-  pub behind : IsBehind file (store_of made serve.publishing.base_moment) store line
-  pub is : side ≡ side_for made serve.publishing store serve.accept_updates
+-- the side to which `ask` puts its question
+abbrev pub IsAskedSide : List File → Ask → Side → Type 0
+IsAskedSide recorded ask = IsPublishedSide recorded (ask_scope ask) ask.update ask.publishing false
+
+-- the side to which `fewest` puts its question
+abbrev pub IsFewestSide : List File → Fewest → Side → Type 0
+IsFewestSide recorded fewest = IsPublishedSide recorded (fewest_scope fewest) fewest.update fewest.publishing false
+
+-- the side that `serve` publishes first, which takes messages where the arguments say so
+abbrev pub IsServedSide : List File → Serve → Side → Type 0
+IsServedSide recorded serve = IsPublishedSide recorded (serve_scope serve) serve.update serve.publishing serve.accept_updates
 
 -- the link was clear, and failed in no exchange
 pub record HasClearLink (clear : Type 0) (before after : ℕ) : Type 0 where
@@ -71,9 +73,9 @@ pub record HasClearLink (clear : Type 0) (before after : ℕ) : Type 0 where
   pub no_fault : Rose before after → ⊥
 
 -- what a question needs of its link: it was clear and did not fail, and the texts of the asked publisher fit into replies
-pub record HasFairLink (recorded : List File) (ask : Ask) (clear : Type 0) (before after : ℕ) : Type 0 where
+pub record HasFairLink (recorded : List File) (scope : Scope) (update : Option (List ℕ)) (publishing : Publishing) (clear : Type 0) (before after : ℕ) : Type 0 where
   pub link : HasClearLink clear before after
-  pub short : (side : Side) → IsAskedSide recorded ask side → IsShort side
+  pub short : (side : Side) → IsPublishedSide recorded scope update publishing false side → IsShort side
 
 -- the script is recorded, and says this; it may name messages or not
 pub record IsRecordedScript (recorded : List File) (name : List ℕ) (updates : Bool) (script : List Record) : Type 0 where
@@ -130,7 +132,10 @@ pub record IsUnhindered {X : Type 0} (seen : X → LinkSeen) (p : Past X) (recor
   pub no_folder_fault : Rose p.folder_before.faults p.folder_after.faults → ⊥
   pub no_door_fault : Rose p.door_before.faults p.door_after.faults → ⊥
   pub no_sink_fault : Rose p.sink_before.faults p.sink_after.faults → ⊥
-  pub fair : (ask : Ask) → SaysCommand p.words (commands.Ask ask) → HasFairLink recorded ask (seen p.link_before).clear (seen p.link_before).faults (seen p.link_after).faults
+  pub fair : (ask : Ask) → SaysCommand p.words (commands.Ask ask)
+      → HasFairLink recorded (ask_scope ask) ask.update ask.publishing (seen p.link_before).clear (seen p.link_before).faults (seen p.link_after).faults
+  pub fair_fewest : (fewest : Fewest) → SaysCommand p.words (commands.Fewest fewest)
+      → HasFairLink recorded (fewest_scope fewest) fewest.update fewest.publishing (seen p.link_before).clear (seen p.link_before).faults (seen p.link_after).faults
   pub fair_course : (replay : Replay) → SaysCommand p.words (commands.Replay replay)
       → HasFairCourse recorded replay (seen p.link_before).clear (seen p.link_before).faults (seen p.link_after).faults
   pub fair_drill : (drill : Drill) → SaysCommand p.words (commands.Drill drill) → (replay : Replay) → IsDrilled drill replay
@@ -150,6 +155,7 @@ IsFed recorded (commands.Replay replay) = HasTimetable recorded (replay_scope re
 IsFed recorded (commands.Serve serve) = HasTimetable recorded (serve_scope serve)
 IsFed recorded (commands.Plan plan) = Unit {0}
 IsFed recorded (commands.Drill drill) = Unit {0}
+IsFed recorded (commands.Fewest fewest) = HasTimetable recorded (fewest_scope fewest)
 
 -- The message of a question or of a server, if it has one, reads as a message. There is a publisher to ask or to serve. The messages
 -- of an event sequence do too. Its script reads as a script, and the questions and turns of `plan` as such.
@@ -161,6 +167,7 @@ IsHeard recorded (commands.Serve serve) = (side : Side) × IsServedSide recorded
 IsHeard recorded (commands.Plan plan) = (all : List Event) × AreRecordedAsks recorded plan.asks all
 IsHeard recorded (commands.Drill drill) =
     (replay : Replay) × (made : Timetable) × (all : List Event) × IsDrilled drill replay × IsRecordedCourse (drill_files drill.seed drill.days) replay made all
+IsHeard recorded (commands.Fewest fewest) = (side : Side) × IsFewestSide recorded fewest side
 
 -- The arguments say a command, nothing hinders it, and by the recorded files no rule and no limit refuses what it reads.
 pub record IsClear {X : Type 0} (seen : X → LinkSeen) (p : Past X) : Type 0 where

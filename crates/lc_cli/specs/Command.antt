@@ -3,16 +3,19 @@ use Rattle.std.specs.Prelude.{◌≡◌, ◌⊎◌, ℕ, false, List, [], ◌∷
 use Rattle.cli_ask.specs.Asked.{IsAsked}
 use Rattle.cli_ask.specs.Publishing.{PublishesAfter}
 use Rattle.cli_ask.specs.declared.end.ClientEnd.{ClientEnd}
+use Rattle.cli_fewest.specs.Asked.{IsAskedFewest}
 use Rattle.cli_words.specs.Words.{SaysCommand}
 use Rattle.cli_words.specs.declared.command.Ask.{Ask}
 use Rattle.cli_words.specs.declared.command.Check.{Check}
+use Rattle.cli_words.specs.declared.command.Fewest.{Fewest}
 use Rattle.cli_words.specs.declared.command.Plan.{Plan}
-use Rattle.cli_words.specs.declared.command.Replay.{Replay}
+use Rattle.cli_words.specs.declared.command.Publishing.{Publishing}
 use Rattle.cli_words.specs.declared.command.Serve.{Serve}
 use Rattle.cli_words.specs.declared.command.Command.{Command}
 use Rattle.cli_words.specs.declared.command.Command.TheVariants as commands
 use Rattle.lc_io.specs.Folder.{FolderSeen}
 use Rattle.lc_io.specs.declared.file.File.{File}
+use Rattle.lc_model.specs.declared.query.Query.{Query}
 use Rattle.lc_world.specs.GoneOn.{IsLeftByGets, IsLeftByPasses}
 use Rattle.lc_world.specs.Link.{LinkSeen}
 use Rattle.laws_plan.specs.Planned.{IsPlanned}
@@ -42,6 +45,10 @@ check_scope check = record { feed = check.feed; zone = check.zone; first = check
 abbrev pub ask_scope : Ask → Scope
 ask_scope ask = record { feed = ask.feed; zone = ask.zone; first = ask.first; days = ask.days; change = ask.change }
 
+-- what `fewest` asks of its feed
+abbrev pub fewest_scope : Fewest → Scope
+fewest_scope fewest = record { feed = fewest.feed; zone = fewest.zone; first = fewest.first; days = fewest.days; change = fewest.change }
+
 -- what `serve` asks of its feed
 abbrev pub serve_scope : Serve → Scope
 serve_scope serve = record { feed = serve.feed; zone = serve.zone; first = serve.first; days = serve.days; change = serve.change }
@@ -55,12 +62,25 @@ pub record IsCheckBlock (check : Check) (old new : FolderSeen) (block : Block) :
 
 -- A publisher of the timetable received the message, and a client asked it the question over the link. The block has the line of
 -- the message and those of the client.
-pub record IsAskBlock (ask : Ask) (old new : FolderSeen) (before after : LinkSeen) (block : Block) : Type 0 where
+pub record IsQuestionBlock (scope : Scope) (update : Option (List ℕ)) (publishing : Publishing) (query : Query) (old new : FolderSeen) (before after : LinkSeen) (block : Block) : Type 0 where
   pub made : Timetable
   pub file : Option File
-  pub inputs : ReadsInputs (ask_scope ask) ask.update old new made file
+  pub inputs : ReadsInputs scope update old new made file
   pub end : ClientEnd
-  pub asked : IsAsked made ask.publishing file ask.query before after block.text.items end
+  pub asked : IsAsked made publishing file query before after block.text.items end
+  pub client : block.ends.items ≡ end ∷ []
+
+-- it is that of `ask`
+abbrev pub IsAskBlock : Ask → FolderSeen → FolderSeen → LinkSeen → LinkSeen → Block → Type 0
+IsAskBlock ask = IsQuestionBlock (ask_scope ask) ask.update ask.publishing ask.query
+
+-- All that is so of `ask` is so of `fewest`. Besides, a journey that the client found has the fewest rides of all best ones.
+pub record IsFewestBlock (fewest : Fewest) (old new : FolderSeen) (before after : LinkSeen) (block : Block) : Type 0 where
+  pub made : Timetable
+  pub file : Option File
+  pub inputs : ReadsInputs (fewest_scope fewest) fewest.update old new made file
+  pub end : ClientEnd
+  pub asked : IsAskedFewest made fewest.publishing file fewest.query before after block.text.items end
   pub client : block.ends.items ≡ end ∷ []
 
 -- The questions and turns were read, and happened over the link. What is printed are the lines of the clients.
@@ -77,6 +97,7 @@ Prints (commands.Replay replay) old new before after block = IsReplayBlock repla
 Prints (commands.Serve serve) old new before after block = ⊥
 Prints (commands.Plan plan) old new before after block = IsPlanBlock plan old new before after block
 Prints (commands.Drill drill) old new before after block = (new ≡ old) × IsDrillBlock drill before after block
+Prints (commands.Fewest fewest) old new before after block = IsFewestBlock fewest old new before after block
 
 -- the arguments say a command, and the block is what it prints
 pub record IsRightBlock (words : List (List ℕ)) (old new : FolderSeen) (before after : LinkSeen) (block : Block) : Type 0 where
@@ -102,6 +123,7 @@ Serves (commands.Replay replay) old new server = ⊥
 Serves (commands.Serve serve) old new server = IsServer serve old new server
 Serves (commands.Plan plan) old new server = ⊥
 Serves (commands.Drill drill) old new server = ⊥
+Serves (commands.Fewest fewest) old new server = ⊥
 
 -- what the command results in
 abbrev pub ResultsIn : Command → FolderSeen → FolderSeen → LinkSeen → LinkSeen → Work → Type 0
@@ -128,6 +150,7 @@ LeavesLink (commands.Replay replay) before after = IsLeftByPasses before after
 LeavesLink (commands.Serve serve) before after = IsLeftByPasses before after
 LeavesLink (commands.Plan plan) before after = IsLeftByGets before after
 LeavesLink (commands.Drill drill) before after = IsLeftByPasses before after
+LeavesLink (commands.Fewest fewest) before after = IsLeftByPasses before after
 
 -- why a command is refused
 abbrev pub IsRefusedAs : Command → FolderSeen → FolderSeen → Refusal → Type 0
@@ -137,6 +160,7 @@ IsRefusedAs (commands.Replay replay) old new refusal = IsReplayRefused (replay_s
 IsRefusedAs (commands.Serve serve) old new refusal = IsRefusedFor (serve_scope serve) serve.update old new refusal
 IsRefusedAs (commands.Plan plan) old new refusal = IsScriptRefused false plan.asks old new refusal
 IsRefusedAs (commands.Drill drill) old new refusal = (new ≡ old) × IsDrillRefused drill refusal
+IsRefusedAs (commands.Fewest fewest) old new refusal = IsRefusedFor (fewest_scope fewest) fewest.update old new refusal
 
 -- the arguments say a command, which is refused for this
 pub record IsRefusedCommand (words : List (List ℕ)) (old new : FolderSeen) (refusal : Refusal) : Type 0 where

@@ -3,6 +3,7 @@ use Rattle.std.specs.Prelude.{◌≡◌, ◌⊎◌, ℕ, List, ◌++◌}
 use Rattle.std.specs.List.{AllZip}
 use Rattle.cli_ask.specs.Laws.{AreOneEnd, PrintOneClient}
 use Rattle.cli_ask.specs.declared.end.ClientEnd.{ClientEnd}
+use Rattle.cli_fewest.specs.Laws.{PrintOneFewest}
 use Rattle.cli_words.specs.Words.{SaysCommand}
 use Rattle.cli_words.specs.declared.command.Command.{Command}
 use Rattle.cli_words.specs.declared.command.Command.TheVariants as commands
@@ -30,12 +31,14 @@ IsInProcess (commands.Replay replay) = Unit {0}
 IsInProcess (commands.Serve serve) = ⊥
 IsInProcess (commands.Plan plan) = ⊥
 IsInProcess (commands.Drill drill) = ⊥
+IsInProcess (commands.Fewest fewest) = Unit {0}
 
 -- the arguments say no other command
 abbrev pub AreInProcess : List (List ℕ) → Type 0
 AreInProcess words = (command : Command) → SaysCommand words command → IsInProcess command
 
--- The outputs of such a command are one: the same counts, or the same lines of messages and clients whose ends are one.
+-- The outputs of such a command are one: the same counts, or the same lines of messages and clients whose ends are one. Journeys of `fewest`
+-- have as many rides.
 abbrev pub PrintOne : Command → Block → Block → Type 0
 PrintOne (commands.Serve serve) x y = ⊥
 PrintOne (commands.Plan plan) x y = ⊥
@@ -43,6 +46,7 @@ PrintOne (commands.Drill drill) x y = ⊥
 PrintOne (commands.Check check) x y = x.text.items ≡ y.text.items
 PrintOne (commands.Replay replay) x y = PrintOneCourse x y
 PrintOne (commands.Ask ask) x y = (first : ClientEnd) × (second : ClientEnd) × PrintOneClient x.text.items y.text.items first second
+PrintOne (commands.Fewest fewest) x y = (first : ClientEnd) × (second : ClientEnd) × PrintOneFewest x.text.items y.text.items first second
 
 -- a run that is done has printed its output, or served its connections
 abbrev pub DoneIsPrinted : {X : Type 0} → (X → LinkSeen) → Type 0

@@ -6,6 +6,7 @@ pub mod Drill
 pub mod Command
 pub mod Headline
 pub mod HeadlineOfDrill
+pub mod HeadlineOfFewest
 pub mod Laws
 pub mod NearHeadline
 pub mod NearPlan

@@ -2,12 +2,13 @@
 use Rattle.std.specs.Prelude.{◌≡◌, ◌≢◌, [], List, None, Some}
 use Rattle.cli_serve.specs.SameBytes.{AreOneSide, RecordsWell, ServeAlike}
 use Rattle.cli_words.specs.declared.command.Ask.{Ask}
+use Rattle.cli_words.specs.declared.command.Fewest.{Fewest}
 use Rattle.cli_words.specs.declared.command.Serve.{Serve}
 use Rattle.lc_doors.specs.Door.{DoorRecorded}
 use Rattle.lc_io.specs.declared.file.File.{File}
 use Rattle.lc_world.specs.Link.{LinkSeen}
 use Rattle.publisher_spec.specs.Side.{Side}
-use Rattle.lc_cli.specs.Clear.{IsAskedSide, IsServedSide}
+use Rattle.lc_cli.specs.Clear.{IsAskedSide, IsFewestSide, IsServedSide}
 use Rattle.lc_cli.specs.Serving.{asked_of}
 use Rattle.lc_cli.specs.Top.{HasServed, Past}
 use Rattle.lc_cli.specs.declared.status.Status.{Status}
@@ -16,6 +17,10 @@ use Rattle.lc_cli.specs.declared.status.Status.TheVariants.{Done}
 -- by recorded files the question is put to one side
 abbrev pub OneAskedSide : Type 0
 OneAskedSide = (recorded : List File) (ask : Ask) (a b : Side) → IsAskedSide recorded ask a → IsAskedSide recorded ask b → AreOneSide a b
+
+-- and so is that for the fewest rides
+abbrev pub OneFewestSide : Type 0
+OneFewestSide = (recorded : List File) (fewest : Fewest) (a b : Side) → IsFewestSide recorded fewest a → IsFewestSide recorded fewest b → AreOneSide a b
 
 -- by recorded files a server begins from one side
 abbrev pub OneServedSide : Type 0

@@ -9,7 +9,7 @@ ghost use Rattle.cli_words.specs.declared.command.Command.TheVariants as command
 ghost use Rattle.cli_words.specs.declared.command.Serve.{Serve as Served};
 ghost use Rattle.lc_world.specs.GoneOn.{HasGoneOn, IsLeftByGets, IsLeftByPasses};
 ghost use Rattle.gtfs_tables.specs.Reading.{Keeps};
-ghost use Rattle.lc_cli.specs.Command.{IsAskBlock, IsCheckBlock, IsPlanBlock, IsRefusedAs, IsReplayBlock, IsRightRefusal, IsRightWork, IsServer, LeavesLink, ResultsIn, ask_scope, check_scope, replay_scope, serve_scope};
+ghost use Rattle.lc_cli.specs.Command.{IsAskBlock, IsCheckBlock, IsFewestBlock, IsPlanBlock, IsRefusedAs, IsReplayBlock, IsRightRefusal, IsRightWork, IsServer, LeavesLink, ResultsIn, ask_scope, check_scope, fewest_scope, replay_scope, serve_scope};
 ghost use Rattle.lc_cli.specs.declared.work.Work.TheVariants as works;
 ghost use Rattle.cli_inputs.specs.Inputs.{IsMessageRefusal, IsRefusedFor};
 ghost use Rattle.cli_inputs.specs.Script.{IsReplayRefused, IsScriptRefused};
@@ -27,7 +27,7 @@ use cli_ask::{Asked, MessageFault, serving_publisher};
 use cli_inputs::{Inputs, Refusal, read_inputs, read_plan};
 use cli_plan::Planned;
 use cli_replay::Replayed;
-use cli_words::{Ask, Check, Command, Plan, Replay, Serve, one_command, read_words};
+use cli_words::{Ask, Check, Command, Fewest, Plan, Replay, Serve, one_command, read_words};
 use lc_model::NoMemory;
 use lc_world::{File, Folder, Link};
 use std::alloc::Global;
@@ -95,6 +95,10 @@ fn result_of<F: Folder, L: Link>(
         }
         Command::Drill(drill) => {
             let (block, link) = drill_block(alloc, drill, link);
+            (printed(block), link)
+        }
+        Command::Fewest(fewest) => {
+            let (block, link) = fewest_block(alloc, folder, fewest, link);
             (printed(block), link)
         }
     }
@@ -187,6 +191,52 @@ fn ask_block<F: Folder, L: Link>(
                 cache as usize,
                 link,
             );
+            match ended {
+                Ok(asked) => match client_block(alloc, asked) {
+                    Ok(block) => (Ok(block), link),
+                    Err(NoMemory) => (Err(Refusal::from(NoMemory)), link),
+                },
+                Err(fault) => (Err(message_refusal(fault, file)), link),
+            }
+        }
+        Err(refusal) => (Err(refusal), link),
+    }
+}
+
+/// Reads what a question is asked of, and lets a client of the fewest rides ask it.
+fn fewest_block<F: Folder, L: Link>(
+    alloc: Global,
+    folder: &mut F,
+    fewest: Fewest,
+    link: L,
+) -> (Result<Block, Refusal>, L)
+    ensures block { IfOk result.0 (IsFewestBlock fewest (F.seen folder.old) (F.seen folder.new) (L.seen link) (L.seen result.1)) }
+    ensures refused { IfErr result.0 (IsRefusedFor (fewest_scope fewest) fewest.update (F.seen folder.old) (F.seen folder.new)) }
+    ensures kept { Keeps (F.seen folder.old) (F.seen folder.new) }
+    ensures refusal_leaves_link { IfErr result.0 (λ refusal. refusal ≢ Load OutOfMemory → result.1 ≡ link) }
+    ensures left { IsLeftByPasses (L.seen link) (L.seen result.1) }
+{
+    let Fewest {
+        feed,
+        query,
+        first,
+        days,
+        zone,
+        change,
+        publishing,
+        update,
+        ..
+    } = fewest;
+    let scope = Scope {
+        feed,
+        zone,
+        first,
+        days,
+        change,
+    };
+    match read_inputs(alloc, folder, &scope, update) {
+        Ok(Inputs { made, file }) => {
+            let (ended, link) = cli_fewest::ask_fewest(alloc, made, publishing, &file, query, link);
             match ended {
                 Ok(asked) => match client_block(alloc, asked) {
                     Ok(block) => (Ok(block), link),

@@ -1,10 +1,12 @@
 ghost use Rattle.lc_cli.specs.Headline.{Headline, HeadlineOfPlan, HeadlineOfReplay};
 ghost use Rattle.lc_cli.specs.HeadlineOfDrill.{HeadlineOfDrill};
+ghost use Rattle.lc_cli.specs.HeadlineOfFewest.{HeadlineOfFewest};
 ghost use Rattle.lc_cli.specs.Laws.{DoneIsClear, DoneIsPrinted, OneRun, OneStatus};
 ghost use Rattle.lc_cli.specs.OnePlan.{OneNamedPlan, OneQuietPlan};
-ghost use Rattle.lc_cli.specs.OneServing.{BeginsFromIt, NotAnotherBase, NotMadeUp, NotUnasked, OneAskedSide, OneServedSide, OneServing};
+ghost use Rattle.lc_cli.specs.OneServing.{BeginsFromIt, NotAnotherBase, NotMadeUp, NotUnasked, OneAskedSide, OneFewestSide, OneServedSide, OneServing};
 
 use cli_ask::one_output;
+use cli_fewest::one_fewest_output;
 use cli_serve::one_over_bytes;
 use cli_words::one_command;
 use laws_plan::{one_growing_plan, one_plan};
@@ -16,12 +18,14 @@ use version_store::one_outcome;
 
 /// A run of `ask` with status Done wrote a best journey at the version that its question means, or that there is none. A run of `replay` did so for
 /// each client that asked, at the version that its question meant before its first turn. A run of `plan` over an honest link did so for each
-/// client, at the version that its own time gate exchange named. The sums of `drill` are over such journeys.
+/// client, at the version that its own time gate exchange named. The sums of `drill` are over such journeys. A run of `fewest` wrote one of the
+/// fewest rides of all best journeys.
 pub fn headline<L: Link>()
     ensures ask { Headline L.seen }
     ensures replay { HeadlineOfReplay L.seen }
     ensures plan { HeadlineOfPlan L.seen }
     ensures drill { HeadlineOfDrill L.seen }
+    ensures fewest { HeadlineOfFewest L.seen }
 {
     one_command();
     one_timetable();
@@ -29,7 +33,8 @@ pub fn headline<L: Link>()
 }
 
 /// Runs of equal arguments over equal files, which nothing hindered, print one output: equal counts, or equal lines of messages. Clients have
-/// one version, one arrival and one number of exchanges. It speaks of commands that ask an in-process publisher, or none.
+/// one version, one arrival and one number of exchanges, and journeys of `fewest` have as many rides. It speaks of commands that ask an
+/// in-process publisher, or none.
 pub fn one_run<L: Link, M: Link>()
     ensures { OneRun L.seen M.seen }
 {
@@ -38,6 +43,7 @@ pub fn one_run<L: Link, M: Link>()
     one_script();
     one_course();
     one_output::<L, M>();
+    one_fewest_output::<L, M>();
 }
 
 /// Runs of equal arguments over equal files, which nothing hindered, end with one status, memory apart. They ask an in-process publisher
@@ -54,6 +60,7 @@ pub fn one_status<L: Link, M: Link>()
     one_script();
     one_course();
     one_output::<L, M>();
+    one_fewest_output::<L, M>();
 }
 
 /// Runs of `plan` with equal arguments over equal files print one output, where no exchange failed. The links are quiet with one side, or have
@@ -68,10 +75,11 @@ pub fn one_planned<L: Link, M: Link>()
     one_growing_plan::<L, M>();
 }
 
-/// By recorded files a command begins from one side: that to which `ask` puts its question, and that which `serve` publishes first. Other sides are
-/// refused: with a message that no argument names, with messages taken unasked, or with another base version.
+/// By recorded files a command begins from one side: that to which `ask` or `fewest` puts its question, and that which `serve` publishes
+/// first. Other sides are refused: with a message that no argument names, with messages taken unasked, or with another base version.
 pub fn one_side<L: Link>()
     ensures asked { OneAskedSide }
+    ensures fewest { OneFewestSide }
     ensures served { OneServedSide }
     ensures begins { BeginsFromIt L.seen }
     ensures made_up { NotMadeUp }

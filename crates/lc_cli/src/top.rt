@@ -38,6 +38,7 @@ use version_store::one_outcome;
 /// after the other, and prints how many there were. With `--accept-updates` clients may post messages.
 /// `plan URL ASKS` lets the clients of a script ask the publisher under the URL, over the link handed in, and prints their answers.
 /// `drill N` is `replay` over files that are generated from the number, and prints sums over the clients.
+/// `fewest FEED FROM TO MOMENT` is `ask` for a best journey that has the fewest rides of all best ones.
 pub fn run<F: Folder, L: Link, D: Door, S: Sink>(
     alloc: Global,
     words: &[String],
@@ -82,8 +83,8 @@ pub fn run<F: Folder, L: Link, D: Door, S: Sink>(
     ensures door { ((serve : Served) → SaysCommand (texts_of words.now) (commands.Serve serve) → ⊥) → door.new ≡ door.old }
     ensures door_counts { DoorNeverFell (D.seen door.old) (D.seen door.new) }
 
-    // However it ended, the count of the link has not fallen, and nothing is lost of what it recorded. `ask` and `replay` hand answers on
-    // over it, and its side stays. `plan` leaves an honest link honest.
+    // However it ended, the count of the link has not fallen, and nothing is lost of what it recorded. `ask`, `fewest` and `replay` hand answers
+    // on over it, and its side stays. `plan` leaves an honest link honest.
     ensures link { HasGoneOn (L.seen link) (L.seen result.1) }
     ensures command_leaves_link { (command : Command) → SaysCommand (texts_of words.now) command → LeavesLink command (L.seen link) (L.seen result.1) }
 

@@ -49,6 +49,19 @@ returns-in-Drill-clause-refused g c =
 pub returns-in-Drill-clause-link : goal.returns-in-Drill-clause-link
 returns-in-Drill-clause-link g c = rw c.in-Drill.is c.drill_block-block.ensures.left
 
+pub returns-in-Fewest-clause-work : goal.returns-in-Fewest-clause-work
+returns-in-Fewest-clause-work g c =
+    rw c.in-Fewest.is
+    (results_printed _ _ _ _ (commands.Fewest c.in-Fewest.fewest) c.fewest_block-block.result.0 c.printed-in-Fewest.result c.fewest_block-block.ensures.block c.printed-in-Fewest.ensures.work c.printed-in-Fewest.ensures.refused)
+
+pub returns-in-Fewest-clause-refused : goal.returns-in-Fewest-clause-refused
+returns-in-Fewest-clause-refused g c =
+    rw c.in-Fewest.is
+    (refused_printed _ _ (commands.Fewest c.in-Fewest.fewest) c.fewest_block-block.result.0 c.printed-in-Fewest.result c.fewest_block-block.ensures.refused c.printed-in-Fewest.ensures.work c.printed-in-Fewest.ensures.refused)
+
+pub returns-in-Fewest-clause-link : goal.returns-in-Fewest-clause-link
+returns-in-Fewest-clause-link g c = rw c.in-Fewest.is c.fewest_block-block.ensures.left
+
 pub returns-in-Ask-clause-link : goal.returns-in-Ask-clause-link
 returns-in-Ask-clause-link g c = rw c.in-Ask.is c.ask_block-block.ensures.left
 

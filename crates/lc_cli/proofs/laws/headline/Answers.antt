@@ -1,5 +1,6 @@
 use Rattle.lc_cli.proofs.HeadlineLemmas.{headline}
 use Rattle.lc_cli.proofs.HeadlineOfDrillLemmas.{headline_of_drill}
+use Rattle.lc_cli.proofs.HeadlineOfFewestLemmas.{headline_of_fewest}
 use Rattle.lc_cli.proofs.HeadlineOfPlanLemmas.{headline_of_plan}
 use Rattle.lc_cli.proofs.HeadlineOfReplayLemmas.{headline_of_replay}
 use Rattle.lc_cli.proofs.laws.headline.Goals as goal
@@ -16,3 +17,6 @@ returns-clause-plan g c = headline_of_plan g.L.Link.seen c.one_command.ensures
 
 pub returns-clause-drill : goal.returns-clause-drill
 returns-clause-drill g c = headline_of_drill g.L.Link.seen c.one_command.ensures c.one_timetable.ensures.loads_recorded c.one_outcome.ensures.one
+
+pub returns-clause-fewest : goal.returns-clause-fewest
+returns-clause-fewest g c = headline_of_fewest g.L.Link.seen c.one_command.ensures c.one_timetable.ensures.loads_recorded
