@@ -1,0 +1,2 @@
+mod RelayedLemmas
+mod SumLemmas
