@@ -9,6 +9,7 @@ mod HeadlineOfDrillLemmas
 mod HeadlineOfFewestLemmas
 mod DrillLemmas
 pub mod InputsLemmas
+pub mod NearFewestLemmas
 pub mod NearHeadlineLemmas
 pub mod NearPlanLemmas
 pub mod OnePlanLemmas

@@ -8,6 +8,7 @@ pub mod Headline
 pub mod HeadlineOfDrill
 pub mod HeadlineOfFewest
 pub mod Laws
+pub mod NearFewest
 pub mod NearHeadline
 pub mod NearPlan
 pub mod OnePlan

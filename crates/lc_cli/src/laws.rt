@@ -2,6 +2,7 @@ ghost use Rattle.lc_cli.specs.Headline.{Headline, HeadlineOfPlan, HeadlineOfRepl
 ghost use Rattle.lc_cli.specs.HeadlineOfDrill.{HeadlineOfDrill};
 ghost use Rattle.lc_cli.specs.HeadlineOfFewest.{HeadlineOfFewest};
 ghost use Rattle.lc_cli.specs.Laws.{DoneIsClear, DoneIsPrinted, OneRun, OneStatus};
+ghost use Rattle.lc_cli.specs.NearFewest.{NotAnotherVersion, NotNoJourney, NotOneRideFewer, NotOneRideMore};
 ghost use Rattle.lc_cli.specs.OnePlan.{OneNamedPlan, OneQuietPlan};
 ghost use Rattle.lc_cli.specs.OneServing.{BeginsFromIt, NotAnotherBase, NotMadeUp, NotUnasked, OneAskedSide, OneFewestSide, OneServedSide, OneServing};
 
@@ -9,6 +10,7 @@ use cli_ask::one_output;
 use cli_fewest::one_fewest_output;
 use cli_serve::one_over_bytes;
 use cli_words::one_command;
+use laws_fewest::fewest_at_version;
 use laws_plan::{one_growing_plan, one_plan};
 use laws_replay::one_course;
 use lc_world::Link;
@@ -30,6 +32,16 @@ pub fn headline<L: Link>()
     one_command();
     one_timetable();
     one_outcome();
+}
+
+/// What is near the end that `fewest` writes is refused: a ride more or less, no journey, another version.
+pub fn near_fewest()
+    ensures ride_more { NotOneRideMore }
+    ensures ride_fewer { NotOneRideFewer }
+    ensures none { NotNoJourney }
+    ensures version { NotAnotherVersion }
+{
+    fewest_at_version();
 }
 
 /// Runs of equal arguments over equal files, which nothing hindered, print one output: equal counts, or equal lines of messages. Clients have
