@@ -1,7 +1,7 @@
 -- The grammar of each command.
 use Rattle.std.proofs.Common.{refl}
-use Rattle.cli_words.specs.Laws.{AskGrammar, CheckGrammar, DrillGrammar, FewestGrammar, LinesHaveGrammar, PlanGrammar, ReplayGrammar, ServeGrammar}
-use Rattle.cli_words.specs.Line.{ask_line, check_line, drill_line, fewest_line, plan_line, replay_line, serve_line}
+use Rattle.cli_words.specs.Laws.{AskGrammar, CheckGrammar, DrillGrammar, FewestGrammar, LinesHaveGrammar, PlanGrammar, RelayGrammar, ReplayGrammar, ServeGrammar}
+use Rattle.cli_words.specs.Line.{ask_line, check_line, drill_line, fewest_line, plan_line, relay_line, replay_line, serve_line}
 use Rattle.cli_words.proofs.GrammarReadsLemmas.{lines_are_words}
 use Rattle.cli_words.proofs.GrammarTakesLemmas.{words_are_taken}
 
@@ -36,3 +36,7 @@ drill_grammar = lines_have_grammar _ _ _ _ (record { apart = refl; option_names 
 pub fewest_grammar : FewestGrammar
 unfolding fewest_line
 fewest_grammar = lines_have_grammar _ _ _ _ (record { apart = refl; option_names = refl; flag_names = refl; fit = refl })
+
+pub relay_grammar : RelayGrammar
+unfolding relay_line
+relay_grammar = lines_have_grammar _ _ _ _ (record { apart = refl; option_names = refl; flag_names = refl; fit = refl })

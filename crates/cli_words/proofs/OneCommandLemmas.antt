@@ -15,6 +15,7 @@ use Rattle.cli_words.specs.Laws.{OneCommand}
 use Rattle.cli_words.specs.Line.{ask_line, check_line, fewest_line, replay_line, serve_line}
 use Rattle.cli_words.specs.Plan.{SaysPlan}
 use Rattle.cli_words.specs.Publishing.{SaysBase, SaysPublishingOr}
+use Rattle.cli_words.specs.Relay.{SaysRelay}
 use Rattle.cli_words.specs.Replay.{SaysReplay}
 use Rattle.cli_words.specs.Serve.{SaysServe, address_at}
 use Rattle.cli_words.specs.Window.{IsWindow}
@@ -25,6 +26,7 @@ use Rattle.cli_words.specs.declared.command.Drill.{Drill}
 use Rattle.cli_words.specs.declared.command.Fewest.{Fewest}
 use Rattle.cli_words.specs.declared.command.Plan.{Plan}
 use Rattle.cli_words.specs.declared.command.Publishing.{Publishing}
+use Rattle.cli_words.specs.declared.command.Relay.{Relay}
 use Rattle.cli_words.specs.declared.command.Replay.{Replay}
 use Rattle.cli_words.specs.declared.command.Serve.{Serve}
 use Rattle.cli_words.proofs.MadeLemmas.{same_made}
@@ -195,6 +197,30 @@ one_fewest words a b x y =
     same_fewest a b (same_text _ _ (sym p.feed_is ∙ q.feed_is)) query first options.0 options.1 options.2
     (one_publishing _ fewest_line words a.publishing b.publishing x.publishing y.publishing) (sym x.update.is ∙ y.update.is)
 
+-- this many pages may be cached, and this many documents kept
+abbrev RelayRanges : ℕ × ℕ → Type 0
+RelayRanges s = (1 ≤ s.0) × (s.0 ≤ 10_000) × (1 ≤ s.1) × (s.1 ≤ 1_000)
+
+relay_ranges_prop : (s : ℕ × ℕ) → IsProp (RelayRanges s)
+relay_ranges_prop s = hlevel props
+
+abbrev relay_of : (base : BaseParts) (asks : List ℕ) (s : ℕ × ℕ) → RelayRanges s → Relay
+relay_of base asks s r = record { base = base; asks = asks; cache = s.0; entries = s.1; some_pages = r.0; most_pages = r.1; some_entries = r.2; most_entries = r.3 }
+
+same_relay : (a b : Relay) → a.base ≡ b.base → a.asks ≡ b.asks → a.cache ≡ b.cache → a.entries ≡ b.entries → a ≡ b
+same_relay a b base asks cache entries =
+    let ranges : RelayRanges (b.cache, b.entries) = (b.some_pages, b.most_pages, b.some_entries, b.most_entries) in
+    same_made RelayRanges relay_ranges_prop (relay_of a.base a.asks) (a.cache, a.entries) (b.cache, b.entries) (a.some_pages, a.most_pages, a.some_entries, a.most_entries) ranges
+    (λ i. (cache i, entries i))
+    ∙ (λ i. relay_of (base i) (asks i) (b.cache, b.entries) ranges)
+
+one_relay : (words : List (List ℕ)) (a b : Relay) → SaysRelay words a → SaysRelay words b → a ≡ b
+one_relay words a b x y =
+    let url = same_text x.url y.url (sym x.url_is ∙ y.url_is) in
+    same_relay a b (one_base_said y.url a.base b.base (subst (λ (text : List ℕ). SaysBase text a.base) url x.base_said) y.base_said)
+    (same_text a.asks b.asks (sym x.asks_is ∙ y.asks_is)) (same_number a.cache b.cache (sym x.cache_is ∙ y.cache_is))
+    (same_number a.entries b.entries (sym x.entries_are ∙ y.entries_are))
+
 pub only_command : OneCommand
 only_command [] a b x y = absurd x
 only_command (name ∷ words) (command.Check a) (command.Check b) x y = ap (λ (check : Check). command.Check check) (one_check words a b x.1 y.1)
@@ -204,4 +230,5 @@ only_command (name ∷ words) (command.Serve a) (command.Serve b) x y = ap (λ (
 only_command (name ∷ words) (command.Plan a) (command.Plan b) x y = ap (λ (plan : Plan). command.Plan plan) (one_plan words a b x.1 y.1)
 only_command (name ∷ words) (command.Drill a) (command.Drill b) x y = ap (λ (drill : Drill). command.Drill drill) (one_drill words a b x.1 y.1)
 only_command (name ∷ words) (command.Fewest a) (command.Fewest b) x y = ap (λ (fewest : Fewest). command.Fewest fewest) (one_fewest words a b x.1 y.1)
+only_command (name ∷ words) (command.Relay a) (command.Relay b) x y = ap (λ (relay : Relay). command.Relay relay) (one_relay words a b x.1 y.1)
 only_command (name ∷ words) a b x y = absurd (apart (sym x.0 ∙ y.0) refl)

@@ -14,6 +14,7 @@ use Rattle.cli_words.specs.Drill.{SaysDrill}
 use Rattle.cli_words.specs.Fewest.{SaysFewest}
 use Rattle.cli_words.specs.Options.{AreOptions}
 use Rattle.cli_words.specs.Plan.{SaysPlan}
+use Rattle.cli_words.specs.Relay.{SaysRelay}
 use Rattle.cli_words.specs.Replay.{SaysReplay}
 use Rattle.cli_words.specs.Serve.{SaysServe}
 use Rattle.cli_words.specs.Window.{IsDateAt}
@@ -25,6 +26,7 @@ use Rattle.cli_words.specs.declared.command.Command.TheVariants as command
 use Rattle.cli_words.specs.declared.command.Drill.{Drill}
 use Rattle.cli_words.specs.declared.command.Fewest.{Fewest}
 use Rattle.cli_words.specs.declared.command.Plan.{Plan}
+use Rattle.cli_words.specs.declared.command.Relay.{Relay}
 use Rattle.cli_words.specs.declared.command.Replay.{Replay}
 use Rattle.cli_words.specs.declared.command.Serve.{Serve}
 
@@ -52,6 +54,10 @@ plan_is_simple = refl
 pub fewest_is_simple : is_simple_and_free (line (codes "fewest") (codes "feed" ∷ codes "from" ∷ codes "to" ∷ codes "moment" ∷ []) (codes "days" ∷ codes "zone" ∷ codes "change" ∷ codes "horizon" ∷ codes "known" ∷ codes "base" ∷ codes "base-moment" ∷ codes "cuts" ∷ codes "update" ∷ []) []) ≡ true
 unfolding line
 fewest_is_simple = refl
+
+pub relay_is_simple : is_simple_and_free (line (codes "relay") (codes "url" ∷ codes "asks" ∷ []) (codes "cache" ∷ codes "entries" ∷ []) []) ≡ true
+unfolding line
+relay_is_simple = refl
 
 pub drill_is_simple : is_simple_and_free (line (codes "drill") (codes "n" ∷ []) (codes "days" ∷ []) []) ≡ true
 unfolding line
@@ -111,3 +117,7 @@ no_drill words none said says = apart says.0 refl
 pub no_fewest : (words : List (List ℕ)) → ((fewest : Fewest) → SaysFewest words fewest → ⊥) → (said : Command) → SaysCommand (codes "fewest" ∷ words) said → ⊥
 no_fewest words none (command.Fewest fewest) says = none fewest says.1
 no_fewest words none said says = apart says.0 refl
+
+pub no_relay : (words : List (List ℕ)) → ((relay : Relay) → SaysRelay words relay → ⊥) → (said : Command) → SaysCommand (codes "relay" ∷ words) said → ⊥
+no_relay words none (command.Relay relay) says = none relay says.1
+no_relay words none said says = apart says.0 refl

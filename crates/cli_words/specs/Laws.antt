@@ -3,7 +3,7 @@ use Rattle.std.specs.Prelude.{◌≡◌, ◌≢◌, ℕ, ◌<◌, ◌^◌, ◌++
 use Rattle.std.specs.Str.{IsUtf8}
 use Rattle.clap.specs.Walk.{Text}
 use Rattle.cli_words.specs.Grammar.{HasGrammar, IsDashWord, IsOptionWord, IsTable}
-use Rattle.cli_words.specs.Line.{IsLine, ask_line, check_line, drill_line, fewest_line, line, plan_line, replay_line, serve_line}
+use Rattle.cli_words.specs.Line.{IsLine, ask_line, check_line, drill_line, fewest_line, line, plan_line, relay_line, replay_line, serve_line}
 use Rattle.cli_words.specs.Publishing.{SaysBase}
 use Rattle.cli_words.specs.Serve.{address_at}
 use Rattle.cli_words.specs.Words.{SaysCommand}
@@ -64,6 +64,10 @@ ServeGrammar =
 -- the grammar of `plan`
 abbrev pub PlanGrammar : Type 0
 PlanGrammar = HasGrammar plan_line (codes "url" ∷ codes "asks" ∷ []) (codes "cache" ∷ []) []
+
+-- the grammar of `relay`
+abbrev pub RelayGrammar : Type 0
+RelayGrammar = HasGrammar relay_line (codes "url" ∷ codes "asks" ∷ []) (codes "cache" ∷ codes "entries" ∷ []) []
 
 -- the grammar of `drill`
 abbrev pub DrillGrammar : Type 0

@@ -11,6 +11,7 @@ pub mod Plan
 pub mod Drill
 pub mod Publishing
 pub mod Question
+pub mod Relay
 pub mod Replay
 pub mod Serve
 pub mod Update

@@ -86,6 +86,10 @@ serve_line =
 unfoldable pub plan_line : App
 plan_line = line (codes "plan") (codes "url" ∷ codes "asks" ∷ []) (codes "cache" ∷ []) []
 
+-- the line of `relay URL ASKS` with its options
+unfoldable pub relay_line : App
+relay_line = line (codes "relay") (codes "url" ∷ codes "asks" ∷ []) (codes "cache" ∷ codes "entries" ∷ []) []
+
 -- the line of `drill N` with its option
 unfoldable pub drill_line : App
 drill_line = line (codes "drill") (codes "n" ∷ []) (codes "days" ∷ []) []

@@ -5,6 +5,7 @@ use Rattle.cli_words.specs.Check.{SaysCheck}
 use Rattle.cli_words.specs.Drill.{SaysDrill}
 use Rattle.cli_words.specs.Fewest.{SaysFewest}
 use Rattle.cli_words.specs.Plan.{SaysPlan}
+use Rattle.cli_words.specs.Relay.{SaysRelay}
 use Rattle.cli_words.specs.Replay.{SaysReplay}
 use Rattle.cli_words.specs.Serve.{SaysServe}
 use Rattle.cli_words.specs.declared.command.Command.{Command}
@@ -20,6 +21,7 @@ SaysCommand (name ∷ words) (command.Serve serve) = (name ≡ codes "serve") ×
 SaysCommand (name ∷ words) (command.Plan plan) = (name ≡ codes "plan") × SaysPlan words plan
 SaysCommand (name ∷ words) (command.Drill drill) = (name ≡ codes "drill") × SaysDrill words drill
 SaysCommand (name ∷ words) (command.Fewest fewest) = (name ≡ codes "fewest") × SaysFewest words fewest
+SaysCommand (name ∷ words) (command.Relay relay) = (name ≡ codes "relay") × SaysRelay words relay
 
 -- what was read of the arguments is the command that they say, and none where they say no command
 abbrev pub IsRead : List (List ℕ) → Option Command → Type 0

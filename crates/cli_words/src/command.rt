@@ -15,6 +15,7 @@ pub enum Command {
     Plan(Plan),
     Drill(Drill),
     Fewest(Fewest),
+    Relay(Relay),
 }
 
 /// `check`: the timetable of a feed in a window of dates.
@@ -150,6 +151,22 @@ pub struct Fewest {
     pub ghost two_months: { days ≤ 62 },
     pub ghost window: { IsWindow first days },
     pub ghost within_a_day: { change ≤ 86_400 },
+}
+
+/// `relay`: questions to the publisher under a base, which are asked over the network through a relay that keeps documents.
+#[derive(Drop)]
+pub struct Relay {
+    pub base: Base,
+    /// The name of the file with the questions and turns.
+    pub asks: Text,
+    /// How many pages are cached at most.
+    pub cache: u32,
+    /// How many documents the relay keeps at most.
+    pub entries: u32,
+    pub ghost some_pages: { 1 ≤ cache },
+    pub ghost most_pages: { cache ≤ 10_000 },
+    pub ghost some_entries: { 1 ≤ entries },
+    pub ghost most_entries: { entries ≤ 1_000 },
 }
 
 /// How a timetable is published.

@@ -18,13 +18,14 @@ mod pages;
 mod plan;
 mod publishing;
 mod question;
+mod relay;
 mod replay;
 mod serve;
 mod update;
 mod window;
 mod words;
 
-pub use command::{Ask, Check, Command, Drill, Fewest, Plan, Publishing, Replay, Serve};
+pub use command::{Ask, Check, Command, Drill, Fewest, Plan, Publishing, Relay, Replay, Serve};
 pub use drill::drilled_replay;
 pub use laws::{default_address, default_publishing, one_command, words_are_lines};
 pub use words::read_words;

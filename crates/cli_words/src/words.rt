@@ -9,6 +9,7 @@ use crate::check::read_check;
 use crate::drill::read_drill;
 use crate::fewest::read_fewest;
 use crate::plan::read_plan;
+use crate::relay::read_relay;
 use crate::replay::read_replay;
 use crate::serve::read_serve;
 use lc_model::NoMemory;
@@ -38,6 +39,7 @@ fn read_named(alloc: Global, name: &str, words: &[String]) -> Result<Option<Comm
         "plan" => plan_command(alloc, words),
         "drill" => drill_command(alloc, words),
         "fewest" => fewest_command(alloc, words),
+        "relay" => relay_command(alloc, words),
         _ => Ok(None),
     }
 }
@@ -108,6 +110,16 @@ fn fewest_command(alloc: Global, words: &[String]) -> Result<Option<Command>, No
 {
     match read_fewest(alloc, words)? {
         Some(fewest) => Ok(Some(Command::Fewest(fewest))),
+        None => Ok(None),
+    }
+}
+
+/// The arguments after `relay` as a command.
+fn relay_command(alloc: Global, words: &[String]) -> Result<Option<Command>, NoMemory>
+    ensures { IfOk result (IsRead (codes "relay" ∷ texts_of words.now)) }
+{
+    match read_relay(alloc, words)? {
+        Some(relay) => Ok(Some(Command::Relay(relay))),
         None => Ok(None),
     }
 }

@@ -1,7 +1,7 @@
 //! What the arguments of the commands over the network say.
 use crate::commands::{put_date, put_word};
 use crate::words::put_publishing;
-use cli_words::{Plan, Serve};
+use cli_words::{Plan, Relay, Serve};
 use rows_common::Draft;
 
 /// Arguments of `serve`.
@@ -91,6 +91,42 @@ pub const PLANS: [&str; 30] = [
     "plans http://x/ a",
 ];
 
+/// Arguments of `relay`, and its option at other commands.
+pub const RELAYS: [&str; 32] = [
+    "relay http://lc.example/ a.csv",
+    "relay http://localhost:8080/ a.csv --cache 1",
+    "relay --entries=1 http://x a.csv",
+    "relay http://x/ a --entries 001000 --cache=10000",
+    "relay --cache 2 -- http://x/lc/ -a",
+    "relay http://x/ ",
+    "relay http://x/",
+    "relay",
+    "relay http://x/ a b",
+    "relay a http://x/",
+    "relay https://x/ a",
+    "relay  a",
+    "relay http://x/ a --entries 0",
+    "relay http://x/ a --entries 1001",
+    "relay http://x/ a --entries 00000000001",
+    "relay http://x/ a --entries=",
+    "relay http://x/ a --entries",
+    "relay http://x/ a --entries=-1",
+    "relay http://x/ a --entries -1",
+    "relay http://x/ a --entries 5 --entries=5",
+    "relay http://x/ a --cache 0",
+    "relay http://x/ a --cache 10001",
+    "relay http://x/ a --cache 5 --cache 5",
+    "relay http://x/ -",
+    "relay http://x/ -a",
+    "relay -- http://x/ a --entries",
+    "relay http://x/ a --base http://x/",
+    "relay http://x/ a --days 3",
+    "plan http://x/ a --entries 5",
+    "ask tiny A D 2024-05-01T08:00:00Z --entries 5",
+    "relay --help",
+    "relays http://x/ a",
+];
+
 /// A server: its feed and window, how it publishes, its port and connections, the message, and whether it takes messages.
 pub fn put_serve(draft: &mut Draft, serve: &Serve) {
     draft.put("serve ");
@@ -121,4 +157,13 @@ pub fn put_plan(draft: &mut Draft, plan: &Plan) {
     draft.put(plan.base.text());
     put_word(draft, &plan.asks.as_str());
     put_word(draft, &plan.cache);
+}
+
+/// A plan through a relay: its base, the name of its questions, how many pages it caches, and how many documents the relay keeps.
+pub fn put_relay(draft: &mut Draft, relay: &Relay) {
+    draft.put("relay ");
+    draft.put(relay.base.text());
+    put_word(draft, &relay.asks.as_str());
+    put_word(draft, &relay.cache);
+    put_word(draft, &relay.entries);
 }

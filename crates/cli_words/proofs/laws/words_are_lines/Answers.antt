@@ -1,4 +1,4 @@
-use Rattle.cli_words.proofs.GrammarLemmas.{ask_grammar, check_grammar, drill_grammar, fewest_grammar, lines_have_grammar, plan_grammar, replay_grammar, serve_grammar}
+use Rattle.cli_words.proofs.GrammarLemmas.{ask_grammar, check_grammar, drill_grammar, fewest_grammar, lines_have_grammar, plan_grammar, relay_grammar, replay_grammar, serve_grammar}
 use Rattle.cli_words.proofs.NearLemmas.{dash_words}
 use Rattle.cli_words.proofs.laws.words_are_lines.Goals as goal
 
@@ -13,4 +13,5 @@ returns c = record {
   plan = plan_grammar;
   drill = drill_grammar;
   fewest = fewest_grammar;
+  relay = relay_grammar;
 }
