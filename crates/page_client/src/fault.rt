@@ -54,6 +54,8 @@ pub enum PeerFault {
     Advance,
     /// The time gate sent to this page, though another is for the moment when the question leaves.
     GateWrong { page: Page },
+    /// The page does not lead back, where one is asked for after the other by previous links.
+    Retreat,
 }
 
 impl PlainData for PeerFault {
@@ -68,6 +70,7 @@ impl PlainData for PeerFault {
             PeerFault::GateWrong { page } => PeerFault::GateWrong {
                 page: page.copy(alloc)?,
             },
+            PeerFault::Retreat => PeerFault::Retreat,
         })
     }
 }
@@ -84,6 +87,7 @@ impl fmt::Display for PeerFault {
             PeerFault::Identity => write!(f, "peer wrong identity"),
             PeerFault::Advance => write!(f, "peer wrong advance"),
             PeerFault::GateWrong { .. } => write!(f, "peer wrong gate"),
+            PeerFault::Retreat => write!(f, "peer wrong retreat"),
         }
     }
 }
