@@ -16,6 +16,9 @@ use Rattle.lc_world.specs.Link.{LinkSeen}
 use Rattle.page_json.specs.declared.page.Page.{Page}
 use Rattle.page_client.specs.Page.{IsPageReply, advances, begins_at, is_on_from}
 use Rattle.page_client.specs.declared.fault.PeerFault.{PeerFault}
+use Rattle.page_client.specs.declared.fault.PeerFault.TheVariants.{GateWrong, Retreat}
+use Rattle.page_client.specs.declared.outcome.Outcome.{Outcome}
+use Rattle.page_client.specs.declared.outcome.Outcome.TheVariants.{PeerWrong}
 use Rattle.page_client.proofs.OrderLemmas.{begins, ends, in_order-append}
 use Rattle.back_scan.specs.Forward.{forward_query}
 use Rattle.back_scan.specs.Latest.{IsListLatest}
@@ -29,8 +32,6 @@ use Rattle.back_client.specs.Exchange.{IsExchange}
 use Rattle.back_client.specs.Steps.{AfterGot, AfterSaid, Answers, EndsAt, EndsByGot, EndsByPage, EndsBySaid, IsOverAt, IsRead, IsTurn, Leads, LeadsBack, LeadsOn, Taken, TakesReply, WalksBack}
 use Rattle.back_client.specs.Wrong.{is_level, is_off, is_up_to, overlaps, reaches, retreats, wrong_gate, wrong_of, wrong_retreat}
 use Rattle.back_client.specs.declared.outcome.ArriveEnd.{ArriveEnd}
-use Rattle.back_client.specs.declared.outcome.ArriveOutcome.{ArriveOutcome}
-use Rattle.back_client.specs.declared.outcome.ArriveOutcome.TheVariants.{Ended, Retreat}
 use Rattle.back_client.specs.declared.page.Place.{Place}
 use Rattle.back_client.specs.declared.page.Place.TheVariants.{After, First}
 use Rattle.back_client.specs.declared.step.Sequel.{Sequel}
@@ -54,7 +55,7 @@ pub record IsWalking {X : Type 0} (seen : X → LinkSeen) (base : BaseParts) (as
   pub in_order : InDepartureOrder taken
   pub ahead : IsAhead place taken name.departs
   pub within : IsWithin asked place exchanges
-  pub walks : (turns : List (Taken X)) (last : X) (outcome : ArriveOutcome) → WalksBack seen base asked doc place taken name link turns last outcome →
+  pub walks : (turns : List (Taken X)) (last : X) (outcome : Outcome) → WalksBack seen base asked doc place taken name link turns last outcome →
       (all : List (Taken X)) × WalksBack seen base asked doc (First gate) [] first start all last outcome × (length all + 2 ≡ length turns + exchanges)
 
 in_order_nil : InDepartureOrder []
@@ -73,11 +74,11 @@ begins_walking seen base asked doc gate first start scan stands = record {
 }
 
 -- tests that a page passes
-retreats_not : (wrong : Option ArriveOutcome) (place : Place) (page : Page) (reply : List ℕ) (t : Bool) → retreats place page ≡ t → wrong_retreat wrong place page reply ≡ None → t ≡ false
+retreats_not : (wrong : Option Outcome) (place : Place) (page : Page) (reply : List ℕ) (t : Bool) → retreats place page ≡ t → wrong_retreat wrong place page reply ≡ None → t ≡ false
 retreats_not (Some outcome) place page reply t e h = absurd (cc)
 retreats_not None place page reply false e h = refl
 retreats_not None place page reply true e h =
-    let P : Bool → Type 0 = λ b. cond b (Some (Retreat reply)) None ≡ None in
+    let P : Bool → Type 0 = λ b. cond b (Some (PeerWrong reply Retreat)) None ≡ None in
     let k = subst P e h in absurd (cc)
 
 pub not_retreats : (arrive : ℕ) (place : Place) (page : Page) (reply : List ℕ) → wrong_of arrive place page reply ≡ None → retreats place page ≡ false
@@ -147,7 +148,7 @@ after_leave query doc taken (Some leaves) name is not = elim (cases_lt leaves na
 gate_right : (arrive : ℕ) (gate : List ℕ) (page : Page) (reply : List ℕ) (t : Bool) → is_off arrive page ≡ t → wrong_of arrive (First gate) page reply ≡ None → t ≡ false
 gate_right arrive gate page reply false e h = refl
 gate_right arrive gate page reply true e h =
-    let P : Bool → Type 0 = λ b. wrong_retreat (cond b (Some (Ended (Rattle.page_client.specs.declared.outcome.Outcome.TheVariants.PeerWrong gate (Rattle.page_client.specs.declared.fault.PeerFault.TheVariants.GateWrong page)))) None) (First gate) page reply ≡ None in
+    let P : Bool → Type 0 = λ b. wrong_retreat (cond b (Some (PeerWrong gate (GateWrong page))) None) (First gate) page reply ≡ None in
     let k = subst P e h in absurd (cc)
 
 not_late : (arrive : ℕ) (departs : ℕ) (previous : Option PageName) (name : PageName) → previous ≡ Some name → (is_some previous && nat_lt arrive departs) ≡ false → departs ≤ arrive
@@ -172,7 +173,7 @@ within_after asked (After name) page reply taken previous exchanges right e ahea
 -- a page that was read and leads on goes on with the walk
 goes_page : {X : Type 0} (seen : X → LinkSeen) (base : BaseParts) (asked : ArriveQuery) (doc : StopsDoc) (gate : List ℕ) (first : PageName) (start : X) (old new : BackScan) (place : Place) (name : PageName) (exchanges : ℕ) (link after : X) (previous : PageName) (reply : List ℕ) (page : Page) →
     IsExchange base (page_target_of base name) None (seen link) (seen after) (Some reply) → IsPageReply base name reply (Ok page) → IsRead name page →
-    (wrong : Option ArriveOutcome) → wrong_of asked.arrive place page reply ≡ wrong → Leads wrong old new page (Goes previous) →
+    (wrong : Option Outcome) → wrong_of asked.arrive place page reply ≡ wrong → Leads wrong old new page (Goes previous) →
     IsWalking seen base asked doc gate first start old place name exchanges link → IsWalking seen base asked doc gate first start new (After name.departs) previous (exchanges + 1) after
 goes_page seen base asked doc gate first start old new place name exchanges link after previous reply page exchange says read (Some wrong) e leads h = absurd (cc)
 goes_page {X = X} seen base asked doc gate first start old new place name exchanges link after previous reply page exchange says read None e leads h =
@@ -222,12 +223,12 @@ goes_on seen base asked doc gate first start old new place name exchanges link a
     goes_got seen base asked doc gate first start old new place name exchanges link after previous turn.got turn.exchange (subst P e turn.leads) h
 
 -- what ends a turn ends the walk
-ends_page : (asked : ArriveQuery) (doc : StopsDoc) (place : Place) (taken : List Connection) (old new : BackScan) (page : Page) (outcome : ArriveOutcome) → (wrong : Option ArriveOutcome) → Leads wrong old new page (Ends outcome) →
+ends_page : (asked : ArriveQuery) (doc : StopsDoc) (place : Place) (taken : List Connection) (old new : BackScan) (page : Page) (outcome : Outcome) → (wrong : Option Outcome) → Leads wrong old new page (Ends outcome) →
     (wrong ≡ None → InDepartureOrder (page.list ++ taken)) → StandsFor old (forward_query asked) doc taken → EndsByPage wrong (forward_query asked) doc taken page outcome
 ends_page asked doc place taken old new page outcome (Some wrong) leads order stands = cc
 ends_page asked doc place taken old new page outcome None leads order stands = (leads (forward_query asked) doc taken (order refl) stands).1
 
-ends_said : (asked : ArriveQuery) (doc : StopsDoc) (place : Place) (taken : List Connection) (old new : BackScan) (name : PageName) (reply : List ℕ) (outcome : ArriveOutcome) →
+ends_said : (asked : ArriveQuery) (doc : StopsDoc) (place : Place) (taken : List Connection) (old new : BackScan) (name : PageName) (reply : List ℕ) (outcome : Outcome) →
     (said : Result Page PeerFault) → AfterSaid asked.arrive place name reply old new said (Ends outcome) → InDepartureOrder taken → IsAhead place taken name.departs → StandsFor old (forward_query asked) doc taken →
     EndsBySaid asked doc place taken name reply said outcome
 ends_said asked doc place taken old new name reply outcome (Err fault) leads in_order ahead stands = cc
@@ -237,7 +238,7 @@ ends_said asked doc place taken old new name reply outcome (Ok page) leads in_or
       (λ e. in_order_before place page taken name.departs (not_retreats asked.arrive place page reply e) leads.0.valid.in_order in_order ahead) stands,
 )
 
-ends_got : (base : BaseParts) (asked : ArriveQuery) (doc : StopsDoc) (place : Place) (taken : List Connection) (old new : BackScan) (name : PageName) (before after : ℕ) (outcome : ArriveOutcome) →
+ends_got : (base : BaseParts) (asked : ArriveQuery) (doc : StopsDoc) (place : Place) (taken : List Connection) (old new : BackScan) (name : PageName) (before after : ℕ) (outcome : Outcome) →
     (got : Got) → AfterGot base asked.arrive place name old new before after (Ends outcome) got → InDepartureOrder taken → IsAhead place taken name.departs → StandsFor old (forward_query asked) doc taken →
     EndsByGot base asked doc place taken name before after got outcome
 ends_got base asked doc place taken old new name before after outcome None leads in_order ahead stands = cc
@@ -245,7 +246,7 @@ ends_got base asked doc place taken old new name before after outcome (Some repl
     (leads.said, leads.says, ends_said asked doc place taken old new name reply outcome leads.said leads.after in_order ahead stands)
 
 -- a turn that ends ends the walk
-pub ends_walk : {X : Type 0} (seen : X → LinkSeen) (base : BaseParts) (asked : ArriveQuery) (doc : StopsDoc) (gate : List ℕ) (first : PageName) (start : X) (old new : BackScan) (place : Place) (name : PageName) (exchanges : ℕ) (link after : X) (outcome : ArriveOutcome) (sequel : Sequel) →
+pub ends_walk : {X : Type 0} (seen : X → LinkSeen) (base : BaseParts) (asked : ArriveQuery) (doc : StopsDoc) (gate : List ℕ) (first : PageName) (start : X) (old new : BackScan) (place : Place) (name : PageName) (exchanges : ℕ) (link after : X) (outcome : Outcome) (sequel : Sequel) →
     sequel ≡ Ends outcome → IsTurn base asked.arrive place name old new (seen link) (seen after) sequel →
     IsWalking seen base asked doc gate first start old place name exchanges link → (end : ArriveEnd) → end ≡ ended outcome (Some first.version) (exchanges + 1) →
     HasWalked seen base asked doc gate first start after end

@@ -11,6 +11,7 @@ use Rattle.page_client.specs.Stops.{IsStopsReply}
 use Rattle.page_client.specs.declared.fault.PeerFault.{PeerFault}
 use Rattle.page_client.specs.declared.fault.QueryFault.{QueryFault}
 use Rattle.page_client.specs.declared.fault.QueryFault.TheVariants.{UnknownFrom, UnknownTo}
+use Rattle.page_client.specs.declared.outcome.Outcome.{Outcome}
 use Rattle.page_client.specs.declared.outcome.Outcome.TheVariants.{LinkFault, PeerWrong, Refused}
 use Rattle.lc_world.specs.Link.{LinkSeen}
 use Rattle.back_scan.specs.Forward.{forward_query}
@@ -19,19 +20,17 @@ use Rattle.convoy.specs.Exchange.{Got}
 use Rattle.back_client.specs.Exchange.{IsExchange}
 use Rattle.back_client.specs.Steps.{Taken, WalksBack}
 use Rattle.back_client.specs.declared.outcome.ArriveEnd.{ArriveEnd}
-use Rattle.back_client.specs.declared.outcome.ArriveOutcome.{ArriveOutcome}
-use Rattle.back_client.specs.declared.outcome.ArriveOutcome.TheVariants.{Ended}
 use Rattle.back_client.specs.declared.page.Place.TheVariants.{First}
 
 -- an end with this outcome, this version and so many exchanges
-abbrev pub ended : ArriveOutcome → Option ℕ → ℕ → ArriveEnd
+abbrev pub ended : Outcome → Option ℕ → ℕ → ArriveEnd
 ended outcome version exchanges = record { outcome = outcome; version = version; exchanges = exchanges }
 
 -- Pages were taken along the previous links, from the one to which the time gate sent by this reply. One exchange was made for each of
 -- them, one at the end, and two before.
 pub record HasWalked {X : Type 0} (seen : X → LinkSeen) (base : BaseParts) (asked : ArriveQuery) (doc : StopsDoc) (gate : List ℕ) (first : PageName) (link last : X) (end : ArriveEnd) : Type 0 where
   pub turns : List (Taken X)
-  pub outcome : ArriveOutcome
+  pub outcome : Outcome
   pub walks : WalksBack seen base asked doc (First gate) [] first link turns last outcome
   pub is : end ≡ ended outcome (Some first.version) (length turns + 3)
 
@@ -44,14 +43,14 @@ pub record KnowsBoth (asked : ArriveQuery) (doc : StopsDoc) : Type 0 where
 pub record LacksFrom {X : Type 0} (asked : ArriveQuery) (doc : StopsDoc) (first : PageName) (link last : X) (end : ArriveEnd) : Type 0 where
   pub lacks : HasStop doc.stops asked.from → ⊥
   pub same_link : last ≡ link
-  pub is : end ≡ ended (Ended (Refused UnknownFrom)) (Some first.version) 2
+  pub is : end ≡ ended (Refused UnknownFrom) (Some first.version) 2
 
 -- it has this one, and lacks the one where the question ends
 pub record LacksTo {X : Type 0} (asked : ArriveQuery) (doc : StopsDoc) (first : PageName) (link last : X) (end : ArriveEnd) : Type 0 where
   pub has : HasStop doc.stops asked.from
   pub lacks : HasStop doc.stops asked.to → ⊥
   pub same_link : last ≡ link
-  pub is : end ≡ ended (Ended (Refused UnknownTo)) (Some first.version) 2
+  pub is : end ≡ ended (Refused UnknownTo) (Some first.version) 2
 
 -- what comes after the stops document: it lacks a stop of the question, or pages are taken
 abbrev pub AfterDoc : {X : Type 0} → (X → LinkSeen) → BaseParts → ArriveQuery → StopsDoc → List ℕ → PageName → X → X → ArriveEnd → Type 0
@@ -62,12 +61,12 @@ AfterDoc seen base asked doc gate first link last end =
 -- the call ended by this reply, which fails a test
 pub record EndsWrong {X : Type 0} (reply : List ℕ) (fault : PeerFault) (version : Option ℕ) (exchanges : ℕ) (link last : X) (end : ArriveEnd) : Type 0 where
   pub same_link : last ≡ link
-  pub is : end ≡ ended (Ended (PeerWrong reply fault)) version exchanges
+  pub is : end ≡ ended (PeerWrong reply fault) version exchanges
 
 -- the call ended by an exchange that failed, with both counts of the link
 pub record EndsFailed {X : Type 0} (before after : ℕ) (version : Option ℕ) (exchanges : ℕ) (link last : X) (end : ArriveEnd) : Type 0 where
   pub same_link : last ≡ link
-  pub is : end ≡ ended (Ended (LinkFault before after)) version exchanges
+  pub is : end ≡ ended (LinkFault before after) version exchanges
 
 -- what is said by the reply with the stops document
 abbrev pub AfterSaidStops : {X : Type 0} → (X → LinkSeen) → BaseParts → ArriveQuery → List ℕ → PageName → List ℕ → X → X → ArriveEnd → Result StopsDoc PeerFault → Type 0
@@ -107,7 +106,7 @@ pub record AsksGate {X : Type 0} (seen : X → LinkSeen) (base : BaseParts) (ask
 
 -- the question is refused at once, without an exchange, or the time gate is asked
 abbrev pub AfterRefusal : {X : Type 0} → (X → LinkSeen) → BaseParts → ArriveQuery → X → X → ArriveEnd → Option QueryFault → Type 0
-AfterRefusal seen base asked link last end (Some fault) = (last ≡ link) × (end ≡ ended (Ended (Refused fault)) None 0)
+AfterRefusal seen base asked link last end (Some fault) = (last ≡ link) × (end ≡ ended (Refused fault) None 0)
 AfterRefusal seen base asked link last end None = AsksGate seen base asked link last end
 
 -- how the question is asked over the link, which is left so, and how that ends

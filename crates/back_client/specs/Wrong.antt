@@ -4,10 +4,9 @@ use Rattle.lc_model.specs.Connection.{last_departure}
 use Rattle.lc_model.specs.declared.connection.Connection.{Connection}
 use Rattle.lc_model.specs.declared.page.PageName.{PageName}
 use Rattle.page_json.specs.declared.page.Page.{Page}
-use Rattle.page_client.specs.declared.fault.PeerFault.TheVariants.{GateWrong}
+use Rattle.page_client.specs.declared.fault.PeerFault.TheVariants.{GateWrong, Retreat}
+use Rattle.page_client.specs.declared.outcome.Outcome.{Outcome}
 use Rattle.page_client.specs.declared.outcome.Outcome.TheVariants.{PeerWrong}
-use Rattle.back_client.specs.declared.outcome.ArriveOutcome.{ArriveOutcome}
-use Rattle.back_client.specs.declared.outcome.ArriveOutcome.TheVariants.{Ended, Retreat}
 use Rattle.back_client.specs.declared.page.Place.{Place}
 use Rattle.back_client.specs.declared.page.Place.TheVariants.{First, After}
 
@@ -44,15 +43,15 @@ abbrev pub retreats : Place → Page → Bool
 retreats place page = is_level page.name.departs page.previous || overlaps place page.list
 
 -- the time gate was wrong to send to the page
-abbrev pub wrong_gate : ℕ → Place → Page → Option ArriveOutcome
-wrong_gate arrive (First gate) page = if is_off arrive page then Some (Ended (PeerWrong gate (GateWrong page))) else None
+abbrev pub wrong_gate : ℕ → Place → Page → Option Outcome
+wrong_gate arrive (First gate) page = if is_off arrive page then Some (PeerWrong gate (GateWrong page)) else None
 wrong_gate arrive (After name) page = None
 
 -- the outcome by the test of leading back, which comes last
-abbrev pub wrong_retreat : Option ArriveOutcome → Place → Page → List ℕ → Option ArriveOutcome
+abbrev pub wrong_retreat : Option Outcome → Place → Page → List ℕ → Option Outcome
 wrong_retreat (Some outcome) place page reply = Some outcome
-wrong_retreat None place page reply = if retreats place page then Some (Retreat reply) else None
+wrong_retreat None place page reply = if retreats place page then Some (PeerWrong reply Retreat) else None
 
 -- the outcome by the first of these tests that the page fails, if it fails one
-abbrev pub wrong_of : ℕ → Place → Page → List ℕ → Option ArriveOutcome
+abbrev pub wrong_of : ℕ → Place → Page → List ℕ → Option Outcome
 wrong_of arrive place page reply = wrong_retreat (wrong_gate arrive place page) place page reply

@@ -3,12 +3,11 @@ ghost use Rattle.lc_world.specs.GoneOn.{IsLeftByGets};
 ghost use Rattle.page_client.specs.Shown.{HasHorizon};
 ghost use Rattle.back_scan.specs.Forward.{forward_query};
 ghost use Rattle.back_client.specs.Arrives.{AfterDoc, Arrives, AsksGate, AsksStops, ended};
-ghost use Rattle.back_client.specs.declared.outcome.ArriveOutcome.TheVariants.{Ended};
 
+use crate::ArriveEnd;
 use crate::exchange::exchanged;
 use crate::refusal::refusal_of;
 use crate::walk::walk_back;
-use crate::{ArriveEnd, ArriveOutcome};
 use back_scan::{ArriveQuery, BackScan};
 use connection_uri::Base;
 use csa_scan::BeginFault;
@@ -19,10 +18,10 @@ use std::alloc::Global;
 
 /// An end with this outcome.
 fn end(outcome: Outcome, version: Option<Moment>, exchanges: u64) -> ArriveEnd
-    ensures { result ≡ ended (Ended outcome) version exchanges }
+    ensures { result ≡ ended outcome version exchanges }
 {
     ArriveEnd {
-        outcome: ArriveOutcome::Ended(outcome),
+        outcome,
         version,
         exchanges,
     }

@@ -12,4 +12,4 @@ mod step;
 mod walk;
 
 pub use asking::arrive;
-pub use outcome::{ArriveEnd, ArriveOutcome};
+pub use outcome::ArriveEnd;

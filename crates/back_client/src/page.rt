@@ -1,9 +1,8 @@
 ghost use Rattle.std.specs.Prelude.{◌≡◌, IfOk};
 ghost use Rattle.back_client.specs.Wrong.{is_by, is_level, is_off, reaches, retreats, wrong_of};
 
-use crate::ArriveOutcome;
 use lc_model::{Bytes, Connection, Moment, NoMemory, PageName, PlainData};
-use page_client::{Outcome, PeerFault, last_departure};
+use page_client::{Outcome, PeerFault, last_departure, wrong};
 use page_json::Page;
 use std::alloc::Global;
 
@@ -70,22 +69,21 @@ pub fn wrong_of(
     place: Place,
     page: &Page,
     reply: Vec<u8>,
-) -> Result<Option<ArriveOutcome>, NoMemory>
+) -> Result<Option<Outcome>, NoMemory>
     ensures { IfOk result (λ wrong. wrong ≡ wrong_of arrive place page.now reply.items) }
 {
     let retreats = retreats(&place, page);
     if let Place::First { gate } = place {
         if is_off(arrive, page) {
             let page = page.copy(alloc)?;
-            return Ok(Some(ArriveOutcome::Ended(Outcome::PeerWrong {
+            return Ok(Some(Outcome::PeerWrong {
                 reply: gate,
                 fault: PeerFault::GateWrong { page },
-            })));
+            }));
         }
     }
     if retreats {
-        let reply = Bytes::from_list(reply);
-        return Ok(Some(ArriveOutcome::Retreat { reply }));
+        return Ok(Some(wrong(reply, PeerFault::Retreat)));
     }
     Ok(None)
 }

@@ -2,18 +2,17 @@ ghost use Rattle.std.specs.Prelude.{◌≡◌, ◌⊎◌, ℕ, List, Option, Non
 ghost use Rattle.lc_model.specs.declared.connection.Connection.{Connection};
 ghost use Rattle.lc_model.specs.declared.doc.StopsDoc.{StopsDoc};
 ghost use Rattle.lc_model.specs.declared.query.Query.{Query};
+ghost use Rattle.page_client.specs.declared.outcome.Outcome.{Outcome as OutcomeValue};
 ghost use Rattle.page_json.specs.declared.page.Page.{Page as PageValue};
 ghost use Rattle.back_scan.specs.StandsFor.{StandsFor};
 ghost use Rattle.back_client.specs.Steps.{GoesBelow, GoesTo, IsOverAt, TakesBack, TakesReply};
 ghost use Rattle.back_client.specs.Wrong.{wrong_of};
-ghost use Rattle.back_client.specs.declared.outcome.ArriveOutcome.{ArriveOutcome as OutcomeValue};
 
-use crate::ArriveOutcome;
 use crate::page::{Place, wrong_of};
 use back_scan::BackScan;
 use connection_uri::Base;
 use lc_model::{Moment, NoMemory, PageName};
-use page_client::{answered, page_of, wrong};
+use page_client::{Outcome, answered, page_of, wrong};
 use page_json::Page;
 use std::alloc::Global;
 
@@ -23,7 +22,7 @@ pub enum Sequel {
     /// The page of this name.
     Goes(PageName),
     /// The end.
-    Ends(ArriveOutcome),
+    Ends(Outcome),
 }
 
 /// Whether no page before the one of this name can be better.
@@ -66,7 +65,7 @@ fn take(alloc: Global, scan: &mut BackScan, page: &Page) -> Result<Sequel, NoMem
         Some(previous) => Ok(Sequel::Goes(previous)),
         None => {
             let journey = scan.journey(alloc)?;
-            Ok(Sequel::Ends(ArriveOutcome::Ended(answered(journey))))
+            Ok(Sequel::Ends(answered(journey)))
         }
     }
 }
@@ -106,9 +105,6 @@ pub fn take_reply(
     match page_of(alloc, base, name, reply.as_slice()) {
         Ok(page) => after_page(alloc, scan, arrive, place, &page, reply),
         Err(fault) if fault.is_want() => Err(NoMemory),
-        Err(fault) => {
-            let outcome = wrong(reply, fault);
-            Ok(Sequel::Ends(ArriveOutcome::Ended(outcome)))
-        }
+        Err(fault) => Ok(Sequel::Ends(wrong(reply, fault))),
     }
 }

@@ -8,10 +8,10 @@ ghost use Rattle.back_scan.specs.StandsFor.{StandsFor};
 ghost use Rattle.back_client.specs.Arrives.{HasWalked};
 ghost use Rattle.back_client.specs.Steps.{GoesBelow, IsTurn};
 
+use crate::ArriveEnd;
 use crate::exchange::exchanged;
 use crate::page::Place;
 use crate::step::{Sequel, take_reply};
-use crate::{ArriveEnd, ArriveOutcome};
 use back_scan::{ArriveQuery, BackScan};
 use connection_uri::Base;
 use lc_model::{Bytes, Moment, NoMemory, PageName};
@@ -45,7 +45,7 @@ fn page_turn<L: Link>(
     let request = page_request(alloc, base, name)?;
     match exchanged(alloc, base, request.as_slice(), link)? {
         Ok(reply) => take_reply(alloc, base, scan, arrive, place, *name, reply),
-        Err(outcome) => Ok(Sequel::Ends(ArriveOutcome::Ended(outcome))),
+        Err(outcome) => Ok(Sequel::Ends(outcome)),
     }
 }
 

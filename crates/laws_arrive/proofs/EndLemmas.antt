@@ -17,6 +17,7 @@ use Rattle.page_client.specs.Shown.{HasHorizon, IsRefusal, answered}
 use Rattle.page_client.specs.declared.fault.PeerFault.{PeerFault}
 use Rattle.page_client.specs.declared.fault.QueryFault.{QueryFault}
 use Rattle.page_client.specs.declared.fault.QueryFault.TheVariants.{HorizonRange, SameStop, UnknownFrom, UnknownTo}
+use Rattle.page_client.specs.declared.outcome.Outcome.{Outcome}
 use Rattle.page_client.specs.declared.outcome.Outcome.TheVariants as outcomes
 use Rattle.publisher_spec.specs.PageAt.{named}
 use Rattle.publisher_spec.specs.Side.{IsLater, Side}
@@ -38,8 +39,6 @@ use Rattle.back_scan.specs.StandsFor.{IsLatestChain}
 use Rattle.back_scan.specs.declared.arrive_query.ArriveQuery.{ArriveQuery}
 use Rattle.back_client.specs.Arrives.{AfterDoc, AfterGotGate, AfterGotStops, AfterRefusal, AfterSaidGate, AfterSaidStops, HasWalked, ended}
 use Rattle.back_client.specs.declared.outcome.ArriveEnd.{ArriveEnd}
-use Rattle.back_client.specs.declared.outcome.ArriveOutcome.{ArriveOutcome}
-use Rattle.back_client.specs.declared.outcome.ArriveOutcome.TheVariants.{Ended, Retreat}
 use Rattle.back_client.specs.declared.page.Place.TheVariants.{First}
 use Rattle.laws_arrive.specs.Laws.{LatestEndsRight, LatestIsFound}
 use Rattle.laws_arrive.specs.Requests.{AreWanted, IsFront, gate_request, page_request, requests_of, stops_request}
@@ -129,7 +128,7 @@ module _ {X : Type 0} (seen : X → LinkSeen) (base : BaseParts) (asked : Arrive
       }
 
   -- it ended after further requests
-  right_after : (left : Side) (last : X) (requests : List (List ℕ)) (outcome : ArriveOutcome) (count : ℕ) → LeavesHonest base s.at left (seen mid) (seen last) →
+  right_after : (left : Side) (last : X) (requests : List (List ℕ)) (outcome : Outcome) (count : ℕ) → LeavesHonest base s.at left (seen mid) (seen last) →
       TellsRequests (seen mid).recorded (seen last).recorded base.authority requests → count ≡ length (gate_request base asked ∷ requests) →
       EndsAt base s.at asked (Some first.version) (gate_request base asked ∷ requests) (seen link).faults (seen last).faults outcome →
       IsRight seen base asked side link last (ended outcome (Some first.version) count)
@@ -146,23 +145,23 @@ module _ {X : Type 0} (seen : X → LinkSeen) (base : BaseParts) (asked : Arrive
 
   -- the exchange for the stops document failed
   stops_failed : (after : X) → OneExchange base s.at (stops_target_of base) None (seen mid) (seen after) None →
-      IsRight seen base asked side link after (ended (Ended (outcomes.LinkFault (seen mid).faults (seen after).faults)) (Some first.version) 2)
+      IsRight seen base asked side link after (ended (outcomes.LinkFault (seen mid).faults (seen after).faults) (Some first.version) 2)
   stops_failed after x =
-      right_after x.left after (stops_request base ∷ []) (Ended (outcomes.LinkFault (seen mid).faults (seen after).faults)) 2 x.honest x.recorded refl (record {
+      right_after x.left after (stops_request base ∷ []) (outcomes.LinkFault (seen mid).faults (seen after).faults) 2 x.honest x.recorded refl (record {
         accepted = s.accepted;
         front = λ names wanted. (map (page_request base) names, refl);
         rose = record { from = s.by_gate.not_fallen; to = no_less (seen after).faults; rose = x.rose refl };
       })
 
   module _ (after : X) (got : Got) (x : OneExchange base s.at (stops_target_of base) None (seen mid) (seen after) got) where
-    lacks_from : (HasStop s.at.doc.stops asked.from → ⊥) → IsRight seen base asked side link after (ended (Ended (outcomes.Refused UnknownFrom)) (Some first.version) 2)
+    lacks_from : (HasStop s.at.doc.stops asked.from → ⊥) → IsRight seen base asked side link after (ended (outcomes.Refused UnknownFrom) (Some first.version) 2)
     lacks_from lacks =
-        right_after x.left after (stops_request base ∷ []) (Ended (outcomes.Refused UnknownFrom)) 2 x.honest x.recorded refl
+        right_after x.left after (stops_request base ∷ []) (outcomes.Refused UnknownFrom) 2 x.honest x.recorded refl
         (record { accepted = s.accepted; number = first.version; at_version = refl; no_from = lacks; requests_are = refl })
 
-    lacks_to : HasStop s.at.doc.stops asked.from → (HasStop s.at.doc.stops asked.to → ⊥) → IsRight seen base asked side link after (ended (Ended (outcomes.Refused UnknownTo)) (Some first.version) 2)
+    lacks_to : HasStop s.at.doc.stops asked.from → (HasStop s.at.doc.stops asked.to → ⊥) → IsRight seen base asked side link after (ended (outcomes.Refused UnknownTo) (Some first.version) 2)
     lacks_to has lacks =
-        right_after x.left after (stops_request base ∷ []) (Ended (outcomes.Refused UnknownTo)) 2 x.honest x.recorded refl
+        right_after x.left after (stops_request base ∷ []) (outcomes.Refused UnknownTo) 2 x.honest x.recorded refl
         (record { accepted = s.accepted; number = first.version; at_version = refl; from = has; no_to = lacks; requests_are = refl })
 
     begins : IsAt seen base asked s.published (version_at s.at asked.known) s.at.doc row in_range x.left after
@@ -173,7 +172,7 @@ module _ {X : Type 0} (seen : X → LinkSeen) (base : BaseParts) (asked : Arrive
     }
 
     -- the pages were taken
-    module _ (knows : HasEnds s.at.doc (forward_query asked)) (last : X) (turns : ℕ) (outcome : ArriveOutcome)
+    module _ (knows : HasEnds s.at.doc (forward_query asked)) (last : X) (turns : ℕ) (outcome : Outcome)
         (w : Walked seen base asked s.published (version_at s.at asked.known) s.at.doc row in_range x.left after last [] (turns + 1) outcome) where
       has_latest : (answer : Option Journey) → IsTakenBackUntilOver (forward_query asked) s.at.doc (pages_back s.published.first s.published.rest (forward_query asked)) w.pages →
           IsLatestChain (forward_query asked) s.at.doc (connections_back w.pages) answer → HasLatest base s.at asked (Some first.version) (requests_of base asked (names_at (version_at s.at asked.known) w.pages)) answer
@@ -207,19 +206,18 @@ module _ {X : Type 0} (seen : X → LinkSeen) (base : BaseParts) (asked : Arrive
           let there : F (version_at s.at asked.known) = front_by back in
           subst F (sym version_is) there
 
-      by_outcome : (so : ArriveOutcome) → EndsWalk (forward_query asked) s.at.doc (pages_back s.published.first s.published.rest (forward_query asked)) w.pages (seen after).faults (seen last).faults so →
+      by_outcome : (so : Outcome) → EndsWalk (forward_query asked) s.at.doc (pages_back s.published.first s.published.rest (forward_query asked)) w.pages (seen after).faults (seen last).faults so →
           EndsAt base s.at asked (Some first.version) (requests_of base asked (names_at (version_at s.at asked.known) w.pages)) (seen link).faults (seen last).faults so
-      by_outcome (Ended (outcomes.Found journey)) ends = has_latest (Some journey) ends.0 ends.1
-      by_outcome (Ended outcomes.NoJourney) ends = has_latest None ends.0 ends.1
-      by_outcome (Ended (outcomes.Refused fault)) ends = absurd ends
-      by_outcome (Ended (outcomes.LinkFault low high)) ends = record {
+      by_outcome (outcomes.Found journey) ends = has_latest (Some journey) ends.0 ends.1
+      by_outcome outcomes.NoJourney ends = has_latest None ends.0 ends.1
+      by_outcome (outcomes.Refused fault) ends = absurd ends
+      by_outcome (outcomes.LinkFault low high) ends = record {
         accepted = s.accepted;
         front = is_front ends.0;
         rose = rose_wider (seen link).faults (seen after).faults (seen last).faults (seen last).faults low high
             (leaves_then base side s.at x.left (seen link) (seen mid) (seen after) s.by_gate x.honest).not_fallen (no_less (seen last).faults) ends.1;
       }
-      by_outcome (Ended (outcomes.PeerWrong reply fault)) ends = absurd ends
-      by_outcome (Retreat reply) ends = absurd ends
+      by_outcome (outcomes.PeerWrong reply fault) ends = absurd ends
 
       walked_right : IsRight seen base asked side link last (ended outcome (Some first.version) (turns + 3))
       walked_right =
@@ -236,15 +234,15 @@ module _ {X : Type 0} (seen : X → LinkSeen) (base : BaseParts) (asked : Arrive
 
     -- what the stops document led to
     by_doc : (gate : List ℕ) (last : X) (end : ArriveEnd) → AfterDoc seen base asked s.at.doc gate first after last end → IsRight seen base asked side link last end
-    by_doc gate last end (inl lacks) = by_same seen base asked side link last after end (ended (Ended (outcomes.Refused UnknownFrom)) (Some first.version) 2) lacks.same_link lacks.is (lacks_from lacks.lacks)
-    by_doc gate last end (inr (inl lacks)) = by_same seen base asked side link last after end (ended (Ended (outcomes.Refused UnknownTo)) (Some first.version) 2) lacks.same_link lacks.is (lacks_to lacks.has lacks.lacks)
+    by_doc gate last end (inl lacks) = by_same seen base asked side link last after end (ended (outcomes.Refused UnknownFrom) (Some first.version) 2) lacks.same_link lacks.is (lacks_from lacks.lacks)
+    by_doc gate last end (inr (inl lacks)) = by_same seen base asked side link last after end (ended (outcomes.Refused UnknownTo) (Some first.version) 2) lacks.same_link lacks.is (lacks_to lacks.has lacks.lacks)
     by_doc gate last end (inr (inr (knows, walked))) = ends_walked (record { from = knows.from; to = knows.to }) gate last end walked
 
   -- what the exchange for the stops document led to
   by_stops : (gate : List ℕ) (after last : X) (end : ArriveEnd) (got : Got) → OneExchange base s.at (stops_target_of base) None (seen mid) (seen after) got →
       AfterGotStops seen base asked gate first (seen mid).faults (seen after).faults after last end got → IsRight seen base asked side link last end
   by_stops gate after last end None x leads =
-      by_same seen base asked side link last after end (ended (Ended (outcomes.LinkFault (seen mid).faults (seen after).faults)) (Some first.version) 2) leads.same_link leads.is (stops_failed after x)
+      by_same seen base asked side link last after end (ended (outcomes.LinkFault (seen mid).faults (seen after).faults) (Some first.version) 2) leads.same_link leads.is (stops_failed after x)
   by_stops gate after last end (Some reply) x (said, says, leads) =
       let read : said ≡ Ok s.at.doc = stops_read base x.left x.request reply said x.honest.honest.stands x.asks x.replied says ∙ ap Ok (same_doc s.at x.left x.honest.later) in
       let S : Result StopsDoc PeerFault → Type 0 = λ r. AfterSaidStops seen base asked gate first reply after last end r in
@@ -258,7 +256,7 @@ module _ {X : Type 0} (seen : X → LinkSeen) (base : BaseParts) (asked : Arrive
   refused_at_once UnknownTo deserved = absurd deserved
 
   -- it was refused at once
-  at_once : (fault : QueryFault) → IsRefusal (forward_query asked) (Some fault) → IsRight seen base asked side link link (ended (Ended (outcomes.Refused fault)) None 0)
+  at_once : (fault : QueryFault) → IsRefusal (forward_query asked) (Some fault) → IsRight seen base asked side link link (ended (outcomes.Refused fault) None 0)
   at_once fault deserved = record {
     left = side;
     honest = leaves_alone base side (seen link) honest;
@@ -272,7 +270,7 @@ module _ {X : Type 0} (seen : X → LinkSeen) (base : BaseParts) (asked : Arrive
 
   -- the exchange with the time gate failed
   gate_failed : IsRefusal (forward_query asked) None → (after : X) → OneExchange base side (gate_target_of base asked.arrive) asked.known (seen link) (seen after) None →
-      IsRight seen base asked side link after (ended (Ended (outcomes.LinkFault (seen link).faults (seen after).faults)) None 1)
+      IsRight seen base asked side link after (ended (outcomes.LinkFault (seen link).faults (seen after).faults) None 1)
   gate_failed accepted after x = record {
     left = x.left;
     honest = x.honest;
@@ -288,7 +286,7 @@ module _ {X : Type 0} (seen : X → LinkSeen) (base : BaseParts) (asked : Arrive
   by_gate : IsRefusal (forward_query asked) None → (after last : X) (end : ArriveEnd) (got : Got) → OneExchange base side (gate_target_of base asked.arrive) asked.known (seen link) (seen after) got →
       AfterGotGate seen base asked (seen link).faults (seen after).faults after last end got → IsRight seen base asked side link last end
   by_gate accepted after last end None x leads =
-      by_same seen base asked side link last after end (ended (Ended (outcomes.LinkFault (seen link).faults (seen after).faults)) None 1) leads.same_link leads.is (gate_failed accepted after x)
+      by_same seen base asked side link last after end (ended (outcomes.LinkFault (seen link).faults (seen after).faults) None 1) leads.same_link leads.is (gate_failed accepted after x)
   by_gate accepted after last end (Some reply) x (said, says, leads) =
       let read = gate_read base x.left asked x.request reply said x.honest.honest.stands x.asks x.replied says in
       let S : Result PageName PeerFault → Type 0 = λ r. AfterSaidGate seen base asked reply after last end r in
@@ -297,7 +295,7 @@ module _ {X : Type 0} (seen : X → LinkSeen) (base : BaseParts) (asked : Arrive
       by_stops seen base asked side link after read.0 s reply stops.after last end stops.got (one_exchange base s.at (stops_target_of base) None (seen after) (seen stops.after) stops.got s.by_gate.honest stops.exchange) stops.leads
 
   by_refusal : (last : X) (end : ArriveEnd) (refusal : Option QueryFault) → IsRefusal (forward_query asked) refusal → AfterRefusal seen base asked link last end refusal → IsRight seen base asked side link last end
-  by_refusal last end (Some fault) is leads = by_same seen base asked side link last link end (ended (Ended (outcomes.Refused fault)) None 0) leads.0 leads.1 (at_once fault is)
+  by_refusal last end (Some fault) is leads = by_same seen base asked side link last link end (ended (outcomes.Refused fault) None 0) leads.0 leads.1 (at_once fault is)
   by_refusal last end None is leads =
       by_gate is leads.after last end leads.got (one_exchange base side (gate_target_of base asked.arrive) asked.known (seen link) (seen leads.after) leads.got honest leads.exchange) leads.leads
 
@@ -342,15 +340,14 @@ module _ {X : Type 0} (seen : X → LinkSeen) (base : BaseParts) (asked : Arrive
         count = right.count ∙ ap length has.requests_are;
       }
 
-  found_by : (outcome : ArriveOutcome) → end.outcome ≡ outcome → IsRefusal (forward_query asked) None → HasEnds right.at.doc (forward_query asked) → ¬ Rose (seen before).faults (seen after).faults →
+  found_by : (outcome : Outcome) → end.outcome ≡ outcome → IsRefusal (forward_query asked) None → HasEnds right.at.doc (forward_query asked) → ¬ Rose (seen before).faults (seen after).faults →
       EndsAt base right.at asked end.version right.requests (seen before).faults (seen after).faults outcome →
-      (answer : Option Journey) × (end.outcome ≡ Ended (answered answer)) × EndsWithLatest seen base asked side before after end answer
-  found_by (Ended (outcomes.Found journey)) is accepted ends no_fault at = (Some journey, is, ends_with (Some journey) at)
-  found_by (Ended outcomes.NoJourney) is accepted ends no_fault at = (None, is, ends_with None at)
-  found_by (Ended (outcomes.Refused fault)) is accepted ends no_fault at = absurd (not_refused base right.at asked end.version right.requests fault accepted ends at)
-  found_by (Ended (outcomes.LinkFault low high)) is accepted ends no_fault at = absurd (no_fault (rose_over (seen before).faults (seen after).faults low high at.rose))
-  found_by (Ended (outcomes.PeerWrong reply fault)) is accepted ends no_fault at = absurd at
-  found_by (Retreat reply) is accepted ends no_fault at = absurd at
+      (answer : Option Journey) × (end.outcome ≡ answered answer) × EndsWithLatest seen base asked side before after end answer
+  found_by (outcomes.Found journey) is accepted ends no_fault at = (Some journey, is, ends_with (Some journey) at)
+  found_by outcomes.NoJourney is accepted ends no_fault at = (None, is, ends_with None at)
+  found_by (outcomes.Refused fault) is accepted ends no_fault at = absurd (not_refused base right.at asked end.version right.requests fault accepted ends at)
+  found_by (outcomes.LinkFault low high) is accepted ends no_fault at = absurd (no_fault (rose_over (seen before).faults (seen after).faults low high at.rose))
+  found_by (outcomes.PeerWrong reply fault) is accepted ends no_fault at = absurd at
 
 pub latest_is_found : {X : Type 0} (seen : X → LinkSeen) → LatestIsFound seen
 latest_is_found {X} seen side base asked before after end honest accepted known no_fault arrives =

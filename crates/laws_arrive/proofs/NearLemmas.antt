@@ -8,6 +8,7 @@ use Rattle.lc_model.specs.declared.journey.Journey.{Journey}
 use Rattle.connection_uri.specs.Base.{BaseParts}
 use Rattle.lc_world.specs.Link.{LinkSeen}
 use Rattle.page_client.specs.Shown.{answered}
+use Rattle.page_client.specs.declared.outcome.Outcome.{Outcome}
 use Rattle.publisher_spec.specs.Side.{IsLater, IsValidSide, Side}
 use Rattle.laws_sides.specs.Stated.{version_at}
 use Rattle.laws_clients.specs.Published.{AreLiveAt}
@@ -15,8 +16,6 @@ use Rattle.laws_clients.specs.Wants.{HasEnds}
 use Rattle.back_scan.specs.Forward.{forward_query}
 use Rattle.back_scan.specs.declared.arrive_query.ArriveQuery.{ArriveQuery}
 use Rattle.back_client.specs.declared.outcome.ArriveEnd.{ArriveEnd}
-use Rattle.back_client.specs.declared.outcome.ArriveOutcome.{ArriveOutcome}
-use Rattle.back_client.specs.declared.outcome.ArriveOutcome.TheVariants.{Ended}
 use Rattle.laws_arrive.specs.Latest.{LatestAt, NeededBackAt, departure_of}
 use Rattle.laws_arrive.specs.Laws.{OneLatestEnd}
 use Rattle.laws_arrive.specs.Near.{IsThere, NotAnotherVersion, NotEarlier, NotNone, NotOneExchangeMore, NotOnePageLess, NotOnePageMore}
@@ -30,14 +29,14 @@ same_number a b is = cc
 
 -- what holds of an end with an answer
 answer_at : (base : BaseParts) (side : Side) (asked : ArriveQuery) (version : Option ℕ) (requests : List (List ℕ)) (before after : ℕ) (answer : Option Journey) →
-    EndsAt base side asked version requests before after (Ended (answered answer)) → HasLatest base side asked version requests answer
+    EndsAt base side asked version requests before after (answered answer) → HasLatest base side asked version requests answer
 answer_at base side asked version requests before after None at = at
 answer_at base side asked version requests before after (Some journey) at = at
 
-has_answer : (base : BaseParts) (side : Side) (asked : ArriveQuery) (version : Option ℕ) (requests : List (List ℕ)) (before after : ℕ) (outcome : ArriveOutcome) (answer : Option Journey) → outcome ≡ Ended (answered answer) →
+has_answer : (base : BaseParts) (side : Side) (asked : ArriveQuery) (version : Option ℕ) (requests : List (List ℕ)) (before after : ℕ) (outcome : Outcome) (answer : Option Journey) → outcome ≡ answered answer →
     EndsAt base side asked version requests before after outcome → HasLatest base side asked version requests answer
 has_answer base side asked version requests before after outcome answer is at =
-    let E : ArriveOutcome → Type 0 = λ o. EndsAt base side asked version requests before after o in
+    let E : Outcome → Type 0 = λ o. EndsAt base side asked version requests before after o in
     answer_at base side asked version requests before after answer (subst E is at)
 
 -- two answers at a version of a side
@@ -82,7 +81,7 @@ named_quietly : {X : Type 0} (seen : X → LinkSeen) (base : BaseParts) (asked :
 named_quietly seen base asked side at left before after version quiet named = named.is ∙ ap (λ (s : Side). version_at s asked.known) (named.first.same quiet)
 
 module _ {X : Type 0} (seen : X → LinkSeen) (base : BaseParts) (asked : ArriveQuery) (side : Side) (before after : X) (end : ArriveEnd) (right : IsRight seen base asked side before after end) (answer : Option Journey)
-    (is : end.outcome ≡ Ended (answered answer)) where
+    (is : end.outcome ≡ answered answer) where
   has : HasLatest base right.at asked end.version right.requests answer
   has = has_answer base right.at asked end.version right.requests (seen before).faults (seen after).faults end.outcome answer is right.ends
 
@@ -119,7 +118,7 @@ one_latest_end seen seen_too side base asked before after start left a b first s
 
 -- two ends with answers over one link and after one another that name one version
 both_alike : {X : Type 0} (seen : X → LinkSeen) (base : BaseParts) (asked : ArriveQuery) (side : Side) (before after : X) (end other : ArriveEnd) (first second : Option Journey) →
-    (right : IsRight seen base asked side before after end) (right_too : IsRight seen base asked side before after other) → end.outcome ≡ Ended (answered first) → other.outcome ≡ Ended (answered second) →
+    (right : IsRight seen base asked side before after end) (right_too : IsRight seen base asked side before after other) → end.outcome ≡ answered first → other.outcome ≡ answered second →
     end.version ≡ other.version → AnswersAlike right.requests right_too.requests first second
 both_alike seen base asked side before after end other first second right right_too is is_too one =
     let same : right_too.left ≡ right.left = same_side right_too.left right.left (sym right_too.honest.honest.tells ∙ right.honest.honest.tells) in

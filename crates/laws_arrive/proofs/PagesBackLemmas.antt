@@ -21,11 +21,10 @@ use Rattle.publisher_spec.specs.PageAt.{named}
 use Rattle.laws_clients.specs.Published.{between}
 use Rattle.laws_back.specs.NeededBack.{pages_back}
 use Rattle.laws_back.proofs.BackLemmas.{along-append}
-use Rattle.page_client.specs.declared.fault.PeerFault.TheVariants.{GateWrong}
+use Rattle.page_client.specs.declared.fault.PeerFault.TheVariants.{GateWrong, Retreat}
+use Rattle.page_client.specs.declared.outcome.Outcome.{Outcome}
 use Rattle.page_client.specs.declared.outcome.Outcome.TheVariants.{PeerWrong}
 use Rattle.back_client.specs.Wrong.{is_by, is_level, is_off, is_up_to, overlaps, reaches, retreats, wrong_gate, wrong_of, wrong_retreat}
-use Rattle.back_client.specs.declared.outcome.ArriveOutcome.{ArriveOutcome}
-use Rattle.back_client.specs.declared.outcome.ArriveOutcome.TheVariants.{Ended, Retreat}
 use Rattle.back_client.specs.declared.page.Place.{Place}
 use Rattle.back_client.specs.declared.page.Place.TheVariants.{After, First}
 
@@ -178,7 +177,7 @@ neither a b e f = rw (e, f) refl
 
 no_test_fails : (arrive : ℕ) (place : Place) (page : Page) (reply : List ℕ) → wrong_gate arrive place page ≡ None → retreats place page ≡ false → wrong_of arrive place page reply ≡ None
 no_test_fails arrive place page reply gate back =
-    ap (λ (o : Option ArriveOutcome). wrong_retreat o place page reply) gate ∙ ap (λ (b : Bool). cond b (Some (Retreat reply)) None) back
+    ap (λ (o : Option Outcome). wrong_retreat o place page reply) gate ∙ ap (λ (b : Bool). cond b (Some (PeerWrong reply Retreat)) None) back
 
 module _ (list : List Connection) (first : CutPage) (rest : List CutPage) (query : Query) (version : ℕ) (pages : ArePagesOf list first rest)
     (before : List CutPage) (cut : CutPage) (behind : List CutPage) (parts : pages_back first rest query ≡ before ++ cut ∷ behind)
@@ -216,7 +215,7 @@ module _ (list : List Connection) (first : CutPage) (rest : List CutPage) (query
       let early : is_by (latest_of query) page.next ≡ false = ap (is_by (latest_of query)) next_is ∙ not_by version (latest_of query) (later_pages list first rest query pages) for_it.1 in
       let off : is_off arrive page ≡ false =
       ap (λ (m : ℕ). is_off m page) (sym same) ∙ neither (is_some page.previous && nat_lt (latest_of query) page.name.departs) (is_by (latest_of query) page.next) late early in
-      ap (λ (b : Bool). cond b (Some (Ended (PeerWrong gate (GateWrong page)))) None) off
+      ap (λ (b : Bool). cond b (Some (PeerWrong gate (GateWrong page))) None) off
 
   -- the page passes the tests
   pub passes : (arrive : ℕ) (place : Place) (reply : List ℕ) → latest_of query ≡ arrive → PlaceIs place before → wrong_of arrive place page reply ≡ None

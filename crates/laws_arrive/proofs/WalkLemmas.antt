@@ -20,6 +20,7 @@ use Rattle.page_client.specs.Page.{IsPageReply}
 use Rattle.page_client.specs.Request.{Asks}
 use Rattle.page_client.specs.Shown.{answered}
 use Rattle.page_client.specs.declared.fault.PeerFault.{PeerFault}
+use Rattle.page_client.specs.declared.outcome.Outcome.{Outcome}
 use Rattle.page_client.specs.declared.outcome.Outcome.TheVariants as outcomes
 use Rattle.publisher_spec.specs.PageAt.{linked, named, page_among}
 use Rattle.publisher_spec.specs.Reply.{IsReply}
@@ -46,8 +47,6 @@ use Rattle.back_scan.specs.declared.arrive_query.ArriveQuery.{ArriveQuery}
 use Rattle.back_client.specs.Exchange.{IsExchange}
 use Rattle.back_client.specs.Steps.{EndsByGot, EndsByPage, EndsBySaid, IsOverAt, LeadsBack, LeadsOn, Taken, WalksBack}
 use Rattle.back_client.specs.Wrong.{wrong_of}
-use Rattle.back_client.specs.declared.outcome.ArriveOutcome.{ArriveOutcome}
-use Rattle.back_client.specs.declared.outcome.ArriveOutcome.TheVariants.{Ended, Retreat}
 use Rattle.back_client.specs.declared.page.Place.{Place}
 use Rattle.back_client.specs.declared.page.Place.TheVariants.{After}
 use Rattle.laws_arrive.specs.Requests.{page_request}
@@ -116,27 +115,25 @@ none_before version [] links = refl
 none_before version (q ∷ more) links = absurd (cc)
 
 -- what ended a walk after these pages: an answer over them, or a fault of the link at the last one
-abbrev pub EndsWalk : Query → StopsDoc → List CutPage → List CutPage → ℕ → ℕ → ArriveOutcome → Type 0
-EndsWalk query doc pages asked before after (Ended (outcomes.Found journey)) = IsTakenBackUntilOver query doc pages asked × IsLatestChain query doc (connections_back asked) (Some journey)
-EndsWalk query doc pages asked before after (Ended outcomes.NoJourney) = IsTakenBackUntilOver query doc pages asked × IsLatestChain query doc (connections_back asked) None
-EndsWalk query doc pages asked before after (Ended (outcomes.Refused fault)) = ⊥
-EndsWalk query doc pages asked before after (Ended (outcomes.LinkFault low high)) = IsAskedBack query doc pages asked × RoseWithin before after low high
-EndsWalk query doc pages asked before after (Ended (outcomes.PeerWrong reply fault)) = ⊥
-EndsWalk query doc pages asked before after (Retreat reply) = ⊥
+abbrev pub EndsWalk : Query → StopsDoc → List CutPage → List CutPage → ℕ → ℕ → Outcome → Type 0
+EndsWalk query doc pages asked before after (outcomes.Found journey) = IsTakenBackUntilOver query doc pages asked × IsLatestChain query doc (connections_back asked) (Some journey)
+EndsWalk query doc pages asked before after outcomes.NoJourney = IsTakenBackUntilOver query doc pages asked × IsLatestChain query doc (connections_back asked) None
+EndsWalk query doc pages asked before after (outcomes.Refused fault) = ⊥
+EndsWalk query doc pages asked before after (outcomes.LinkFault low high) = IsAskedBack query doc pages asked × RoseWithin before after low high
+EndsWalk query doc pages asked before after (outcomes.PeerWrong reply fault) = ⊥
 
 answers_walk : (query : Query) (doc : StopsDoc) (pages asked : List CutPage) (before after : ℕ) (journey : Option Journey) → IsTakenBackUntilOver query doc pages asked → IsLatestChain query doc (connections_back asked) journey →
-    EndsWalk query doc pages asked before after (Ended (answered journey))
+    EndsWalk query doc pages asked before after (answered journey)
 answers_walk query doc pages asked before after None until chain = (until, chain)
 answers_walk query doc pages asked before after (Some journey) until chain = (until, chain)
 
 -- a walk that began earlier ends by the same
-longer : (query : Query) (doc : StopsDoc) (pages asked : List CutPage) (a b c : ℕ) (outcome : ArriveOutcome) → a ≤ b → EndsWalk query doc pages asked b c outcome → EndsWalk query doc pages asked a c outcome
-longer query doc pages asked a b c (Ended (outcomes.Found journey)) l ends = ends
-longer query doc pages asked a b c (Ended outcomes.NoJourney) l ends = ends
-longer query doc pages asked a b c (Ended (outcomes.Refused fault)) l ends = absurd ends
-longer query doc pages asked a b c (Ended (outcomes.LinkFault low high)) l ends = (ends.0, rose_wider a b c c low high l (no_less c) ends.1)
-longer query doc pages asked a b c (Ended (outcomes.PeerWrong reply fault)) l ends = absurd ends
-longer query doc pages asked a b c (Retreat reply) l ends = absurd ends
+longer : (query : Query) (doc : StopsDoc) (pages asked : List CutPage) (a b c : ℕ) (outcome : Outcome) → a ≤ b → EndsWalk query doc pages asked b c outcome → EndsWalk query doc pages asked a c outcome
+longer query doc pages asked a b c (outcomes.Found journey) l ends = ends
+longer query doc pages asked a b c outcomes.NoJourney l ends = ends
+longer query doc pages asked a b c (outcomes.Refused fault) l ends = absurd ends
+longer query doc pages asked a b c (outcomes.LinkFault low high) l ends = (ends.0, rose_wider a b c c low high l (no_less c) ends.1)
+longer query doc pages asked a b c (outcomes.PeerWrong reply fault) l ends = absurd ends
 
 one_counted : (pages : List CutPage) (cut : CutPage) (n : ℕ) → length pages ≡ n + 1 → length (cut ∷ pages) ≡ suc n + 1
 one_counted pages cut n count = omega arith
@@ -171,7 +168,7 @@ module _ {X : Type 0} (seen : X → LinkSeen) (base : BaseParts) (asked : Arrive
     pub goes_on : (front : List CutPage) (page : CutPage) (more : List CutPage) → before ≡ front ++ page ∷ more → ¬ IsOverBack (forward_query asked) doc front page
 
   -- what a walk over the link results in
-  pub record Walked (side : Side) (link last : X) (before : List CutPage) (count : ℕ) (outcome : ArriveOutcome) : Type 0 where
+  pub record Walked (side : Side) (link last : X) (before : List CutPage) (count : ℕ) (outcome : Outcome) : Type 0 where
     pub left : Side
     pub honest : LeavesHonest base side left (seen link) (seen last)
     pub pages : List CutPage
@@ -293,13 +290,13 @@ module _ {X : Type 0} (seen : X → LinkSeen) (base : BaseParts) (asked : Arrive
         }
 
     -- the exchange that ends the walk
-    module _ (side : Side) (link last : X) (at : IsAt side link) (outcome : ArriveOutcome) where
-      by_page : (page : Page) (own : IsOwn page) (wrong : Option ArriveOutcome) → wrong ≡ None → EndsByPage wrong (forward_query asked) doc taken page outcome →
+    module _ (side : Side) (link last : X) (at : IsAt side link) (outcome : Outcome) where
+      by_page : (page : Page) (own : IsOwn page) (wrong : Option Outcome) → wrong ≡ None → EndsByPage wrong (forward_query asked) doc taken page outcome →
           EndsWalk (forward_query asked) doc (pages_back published.first published.rest (forward_query asked)) (before ++ w.cut ∷ []) (seen link).faults (seen last).faults outcome
       by_page page own (Some wrong) none ends = absurd (cc)
       by_page page own None none ends =
           let all = before ++ w.cut ∷ [] in
-          let P : ArriveOutcome → Type 0 = λ o. EndsWalk (forward_query asked) doc (pages_back published.first published.rest (forward_query asked)) all (seen link).faults (seen last).faults o in
+          let P : Outcome → Type 0 = λ o. EndsWalk (forward_query asked) doc (pages_back published.first published.rest (forward_query asked)) all (seen link).faults (seen last).faults o in
           let L : List Connection → Type 0 = λ l. IsLatestChain (forward_query asked) doc l ends.journey in
           subst P (sym ends.is)
           (answers_walk (forward_query asked) doc (pages_back published.first published.rest (forward_query asked)) all (seen link).faults (seen last).faults ends.journey
@@ -308,7 +305,7 @@ module _ {X : Type 0} (seen : X → LinkSeen) (base : BaseParts) (asked : Arrive
       by_got : (got : Got) → OneExchange base side (page_target_of base name) None (seen link) (seen last) got → EndsByGot base asked doc place taken name (seen link).faults (seen last).faults got outcome →
           EndsWalk (forward_query asked) doc (pages_back published.first published.rest (forward_query asked)) (before ++ w.cut ∷ []) (seen link).faults (seen last).faults outcome
       by_got None x ends =
-          let P : ArriveOutcome → Type 0 = λ o. EndsWalk (forward_query asked) doc (pages_back published.first published.rest (forward_query asked)) (before ++ w.cut ∷ []) (seen link).faults (seen last).faults o in
+          let P : Outcome → Type 0 = λ o. EndsWalk (forward_query asked) doc (pages_back published.first published.rest (forward_query asked)) (before ++ w.cut ∷ []) (seen link).faults (seen last).faults o in
           subst P (sym ends) (
             record { before = before; last = w.cut; behind = w.behind; are = refl; parts = w.parts; goes_on = w.goes_on },
             record { from = no_less (seen link).faults; to = no_less (seen last).faults; rose = x.rose refl },
@@ -334,7 +331,7 @@ module _ {X : Type 0} (seen : X → LinkSeen) (base : BaseParts) (asked : Arrive
           }
 
   -- the walk
-  pub walks : (turns : List (Taken X)) (side : Side) (link last : X) (place : Place) (taken : List Connection) (name : PageName) (before : List CutPage) (outcome : ArriveOutcome) → IsAt side link → Waits place taken name before →
+  pub walks : (turns : List (Taken X)) (side : Side) (link last : X) (place : Place) (taken : List Connection) (name : PageName) (before : List CutPage) (outcome : Outcome) → IsAt side link → Waits place taken name before →
       WalksBack seen base asked doc place taken name link turns last outcome → Walked side link last before (length turns + 1) outcome
   walks [] side link last place taken name before outcome at w ends = ends_here place taken name before w side link last at outcome ends.got ends.exchange ends.ends
   walks (turn ∷ rest) side link last place taken name before outcome at w (leads, more) =

@@ -15,7 +15,6 @@ use Rattle.back_scan.specs.Forward.{forward_query}
 use Rattle.back_scan.specs.declared.arrive_query.ArriveQuery.{ArriveQuery}
 use Rattle.back_client.specs.Arrives.{Arrives, AsksGate}
 use Rattle.back_client.specs.declared.outcome.ArriveEnd.{ArriveEnd}
-use Rattle.back_client.specs.declared.outcome.ArriveOutcome.TheVariants.{Ended}
 use Rattle.laws_arrive.specs.Latest.{LatestAt, NeededBackAt, departure_of}
 use Rattle.laws_arrive.specs.Right.{EndsWithLatest, IsRight}
 
@@ -38,7 +37,7 @@ abbrev pub LatestIsFound : {X : Type 0} → (X → LinkSeen) → Type 0
 LatestIsFound {X} seen =
     (side : Side) (base : BaseParts) (asked : ArriveQuery) (before after : X) (end : ArriveEnd) → IsHonestWith (seen before) base side → IsRefusal (forward_query asked) None
     → HasEnds side.doc (forward_query asked) → ¬ Rose (seen before).faults (seen after).faults → Arrives seen base asked before after end
-    → (answer : Option Journey) × (end.outcome ≡ Ended (answered answer)) × EndsWithLatest seen base asked side before after end answer
+    → (answer : Option Journey) × (end.outcome ≡ answered answer) × EndsWithLatest seen base asked side before after end answer
 
 -- two ends name one version, after as many exchanges, and their answers leave at one moment
 pub record EndAlike (a b : ArriveEnd) (first second : Option Journey) : Type 0 where
@@ -50,8 +49,8 @@ pub record EndAlike (a b : ArriveEnd) (first second : Option Journey) : Type 0 w
 abbrev pub OneLatestEnd : {X Y : Type 0} → (X → LinkSeen) → (Y → LinkSeen) → Type 0
 OneLatestEnd {X} {Y} seen seen_too =
     (side : Side) (base : BaseParts) (asked : ArriveQuery) (before after : X) (start left : Y) (a b : ArriveEnd) (first second : Option Journey) → IsQuietWith (seen before) base side
-    → IsQuietWith (seen_too start) base side → IsRight seen base asked side before after a → IsRight seen_too base asked side start left b → a.outcome ≡ Ended (answered first)
-    → b.outcome ≡ Ended (answered second) → EndAlike a b first second
+    → IsQuietWith (seen_too start) base side → IsRight seen base asked side before after a → IsRight seen_too base asked side start left b → a.outcome ≡ answered first
+    → b.outcome ≡ answered second → EndAlike a b first second
 
 -- the latest answers at a version leave at one moment, or none is a journey
 abbrev pub OneDepartureAt : Type 0

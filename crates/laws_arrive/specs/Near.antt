@@ -16,7 +16,6 @@ use Rattle.laws_clients.specs.Published.{AreLiveAt}
 use Rattle.back_scan.specs.Forward.{forward_query}
 use Rattle.back_scan.specs.declared.arrive_query.ArriveQuery.{ArriveQuery}
 use Rattle.back_client.specs.declared.outcome.ArriveEnd.{ArriveEnd}
-use Rattle.back_client.specs.declared.outcome.ArriveOutcome.TheVariants.{Ended}
 use Rattle.laws_arrive.specs.Requests.{page_request}
 use Rattle.laws_arrive.specs.Right.{HasLatest, IsRight}
 
@@ -31,13 +30,13 @@ pub record IsThere {X : Type 0} (seen : X → LinkSeen) (base : BaseParts) (aske
 -- a journey is refused that leaves earlier than another
 abbrev pub NotEarlier : {X : Type 0} → (X → LinkSeen) → Type 0
 NotEarlier {X} seen =
-    (side : Side) (base : BaseParts) (asked : ArriveQuery) (before after : X) (end : ArriveEnd) (journey later : Journey) → end.outcome ≡ Ended (outcomes.Found journey)
+    (side : Side) (base : BaseParts) (asked : ArriveQuery) (before after : X) (end : ArriveEnd) (journey later : Journey) → end.outcome ≡ outcomes.Found journey
     → leaves_at journey < leaves_at later → (right : IsRight seen base asked side before after end) → IsThere seen base asked side before after end right later → ⊥
 
 -- where there is a journey, it is refused that there is none
 abbrev pub NotNone : {X : Type 0} → (X → LinkSeen) → Type 0
 NotNone {X} seen =
-    (side : Side) (base : BaseParts) (asked : ArriveQuery) (before after : X) (end : ArriveEnd) (journey : Journey) → end.outcome ≡ Ended outcomes.NoJourney
+    (side : Side) (base : BaseParts) (asked : ArriveQuery) (before after : X) (end : ArriveEnd) (journey : Journey) → end.outcome ≡ outcomes.NoJourney
     → (right : IsRight seen base asked side before after end) → IsThere seen base asked side before after end right journey → ⊥
 
 -- with an answer at a version the request for a page more is refused
@@ -56,7 +55,7 @@ NotOnePageLess =
 abbrev pub NotOneExchangeMore : {X : Type 0} → (X → LinkSeen) → Type 0
 NotOneExchangeMore {X} seen =
     (side : Side) (base : BaseParts) (asked : ArriveQuery) (before after : X) (end : ArriveEnd) (answer : Option Journey) → IsRight seen base asked side before after end
-    → end.outcome ≡ Ended (answered answer) → IsRight seen base asked side before after (record end { exchanges = end.exchanges + 1 }) → ⊥
+    → end.outcome ≡ answered answer → IsRight seen base asked side before after (record end { exchanges = end.exchanges + 1 }) → ⊥
 
 -- over a quiet link no other version is named than the one that the known moment means at its side
 abbrev pub NotAnotherVersion : {X : Type 0} → (X → LinkSeen) → Type 0

@@ -8,6 +8,7 @@ use Rattle.lc_world.specs.Link.{LinkSeen}
 use Rattle.page_client.specs.Shown.{IsRefusal}
 use Rattle.page_client.specs.declared.fault.QueryFault.{QueryFault}
 use Rattle.page_client.specs.declared.fault.QueryFault.TheVariants.{HorizonRange, SameStop, UnknownFrom, UnknownTo}
+use Rattle.page_client.specs.declared.outcome.Outcome.{Outcome}
 use Rattle.page_client.specs.declared.outcome.Outcome.TheVariants as outcomes
 use Rattle.publisher_spec.specs.Side.{Side, has_version}
 use Rattle.laws_sides.specs.Stated.{version_at}
@@ -17,8 +18,6 @@ use Rattle.laws_convoys.specs.Requests.{TellsRequests}
 use Rattle.back_scan.specs.Forward.{forward_query}
 use Rattle.back_scan.specs.declared.arrive_query.ArriveQuery.{ArriveQuery}
 use Rattle.back_client.specs.declared.outcome.ArriveEnd.{ArriveEnd}
-use Rattle.back_client.specs.declared.outcome.ArriveOutcome.{ArriveOutcome}
-use Rattle.back_client.specs.declared.outcome.ArriveOutcome.TheVariants.{Ended, Retreat}
 use Rattle.laws_arrive.specs.Latest.{LatestAt, NeededBackAt}
 use Rattle.laws_arrive.specs.Requests.{IsFront, gate_request, requests_of}
 
@@ -87,13 +86,12 @@ pub record HasFailed (base : BaseParts) (side : Side) (asked : ArriveQuery) (ver
 
 -- The outcome is right at the side where the version was named. It is an answer of a latest departure, or a deserved refusal, or comes from
 -- a failure of the link. No reply failed a test.
-abbrev pub EndsAt : BaseParts → Side → ArriveQuery → Option ℕ → List (List ℕ) → ℕ → ℕ → ArriveOutcome → Type 0
-EndsAt base side asked version requests before after (Ended (outcomes.Found journey)) = HasLatest base side asked version requests (Some journey)
-EndsAt base side asked version requests before after (Ended outcomes.NoJourney) = HasLatest base side asked version requests None
-EndsAt base side asked version requests before after (Ended (outcomes.Refused fault)) = IsRefused base side asked version requests fault
-EndsAt base side asked version requests before after (Ended (outcomes.LinkFault low high)) = HasFailed base side asked version requests before after low high
-EndsAt base side asked version requests before after (Ended (outcomes.PeerWrong reply fault)) = ⊥
-EndsAt base side asked version requests before after (Retreat reply) = ⊥
+abbrev pub EndsAt : BaseParts → Side → ArriveQuery → Option ℕ → List (List ℕ) → ℕ → ℕ → Outcome → Type 0
+EndsAt base side asked version requests before after (outcomes.Found journey) = HasLatest base side asked version requests (Some journey)
+EndsAt base side asked version requests before after outcomes.NoJourney = HasLatest base side asked version requests None
+EndsAt base side asked version requests before after (outcomes.Refused fault) = IsRefused base side asked version requests fault
+EndsAt base side asked version requests before after (outcomes.LinkFault low high) = HasFailed base side asked version requests before after low high
+EndsAt base side asked version requests before after (outcomes.PeerWrong reply fault) = ⊥
 
 -- What a right end is where the link was honest with this side. The link is honest with the side that is left, and recorded these requests,
 -- and nothing else. Each exchange is counted. The outcome is right at the side that the exchange with the time gate left.

@@ -1,6 +1,6 @@
 //! What a question results in, as a piece of a line each.
 use crate::arrivals::MIDNIGHT;
-use back_client::{ArriveEnd, ArriveOutcome};
+use back_client::ArriveEnd;
 use lc_model::{Journey, Moment, Ride, Walk};
 use lc_world::Entry;
 use page_client::Outcome;
@@ -9,10 +9,7 @@ use rows_common::Draft;
 /// How the question ended, and the number of its exchanges.
 pub fn put_end(draft: &mut Draft, end: &ArriveEnd) {
     draft.put(": ");
-    match &end.outcome {
-        ArriveOutcome::Ended(outcome) => put_outcome(draft, outcome),
-        ArriveOutcome::Retreat { .. } => draft.put("peer wrong retreat"),
-    }
+    put_outcome(draft, &end.outcome);
     draft.put(", exchanges ");
     draft.put_shown(&end.exchanges);
 }

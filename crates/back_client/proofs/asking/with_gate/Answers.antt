@@ -5,7 +5,6 @@ use Rattle.lc_world.proofs.GoneOnLemmas.{gets_then, no_gets}
 use Rattle.page_client.specs.Request.{Asks}
 use Rattle.page_client.specs.declared.outcome.Outcome.{Outcome}
 use Rattle.back_client.specs.Arrives.{ended}
-use Rattle.back_client.specs.declared.outcome.ArriveOutcome.TheVariants.{Ended}
 use Rattle.back_client.proofs.asking.with_gate.Goals as goal
 
 pub returns-in_err-request-clause-left : goal.returns-in_err-request-clause-left
@@ -34,7 +33,7 @@ returns-in-Ok-clause-asks g c =
       after = c.exchanged.new.link;
       got = Some c.in-Ok.reply.items;
       exchange = exchange;
-      leads = (Err c.in-Err-2.fault, says, record { same_link = refl; is = c.end.ensures ∙ ap (λ (outcome : Outcome). ended (Ended outcome) None 1) c.wrong.ensures });
+      leads = (Err c.in-Err-2.fault, says, record { same_link = refl; is = c.end.ensures ∙ ap (λ (outcome : Outcome). ended outcome None 1) c.wrong.ensures });
     }
 
 pub returns-in-Ok-2-clause-left : goal.returns-in-Ok-2-clause-left

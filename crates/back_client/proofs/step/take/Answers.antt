@@ -1,5 +1,4 @@
-use Rattle.std.proofs.Common.{◌++◌, ap}
-use Rattle.back_client.specs.declared.outcome.ArriveOutcome.TheVariants.{Ended}
+use Rattle.std.proofs.Common.{◌++◌}
 use Rattle.back_client.proofs.step.take.Goals as goal
 
 pub returns-in-Some-clause-takes : goal.returns-in-Some-clause-takes
@@ -18,7 +17,7 @@ returns-in_ok-journey-in-None-clause-takes c = λ query doc taken in_order stand
         last = c.in-None.ensures.last query doc all now;
         journey = c.in_ok-journey-in-None.journey;
         is_latest = c.in_ok-journey-in-None.ensures query doc all now;
-        is = ap Ended c.answered.ensures;
+        is = c.answered.ensures;
       },
       (c.latest-latest.result, c.latest-latest.ensures query doc all now),
     )
