@@ -1,0 +1,4 @@
+mod AroundLemmas
+mod BackLemmas
+mod EndLemmas
+mod OneLemmas

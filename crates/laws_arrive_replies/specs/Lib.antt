@@ -1,0 +1,4 @@
+pub mod Asked
+pub mod Back
+pub mod Ends
+pub mod Laws
