@@ -1,0 +1,3 @@
+mod HomeLemmas
+mod OneLemmas
+mod QuietLemmas
