@@ -75,6 +75,7 @@ said_works words old new before after (commands.Serve serve) (Ok (works.Serve se
 said_works words old new before after (commands.Plan plan) (Ok (works.Serve server)) says is = absurd is
 said_works words old new before after (commands.Drill drill) (Ok (works.Serve server)) says is = absurd is
 said_works words old new before after (commands.Fewest fewest) (Ok (works.Serve server)) says is = absurd is
+said_works words old new before after (commands.Relay relay) (Ok (works.Serve server)) says is = absurd is
 said_works words old new before after command (Err refusal) says is = tt
 
 pub said_refusals : (words : List (List ℕ)) (old new : FolderSeen) (command : Command) (result : Result Work Refusal) → SaysCommand words command
@@ -91,6 +92,7 @@ leaves_alone (commands.Serve serve) link = no_passes link
 leaves_alone (commands.Plan plan) link = no_gets link
 leaves_alone (commands.Drill drill) link = no_passes link
 leaves_alone (commands.Fewest fewest) link = no_passes link
+leaves_alone (commands.Relay relay) link = no_gets link
 
 -- the link has gone on, whatever the command
 pub has_gone_on : (command : Command) (before after : LinkSeen) → LeavesLink command before after → HasGoneOn before after
@@ -101,3 +103,4 @@ has_gone_on (commands.Serve serve) before after left = left.gone_on
 has_gone_on (commands.Plan plan) before after left = left.gone_on
 has_gone_on (commands.Drill drill) before after left = left.gone_on
 has_gone_on (commands.Fewest fewest) before after left = left.gone_on
+has_gone_on (commands.Relay relay) before after left = left.gone_on

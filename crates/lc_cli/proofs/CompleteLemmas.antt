@@ -6,6 +6,7 @@ use Rattle.cli_inputs.specs.Inputs.{IsRefusedFor}
 use Rattle.cli_inputs.specs.Script.{IsReplayRefused}
 use Rattle.cli_inputs.specs.declared.refusal.Refusal.{Refusal}
 use Rattle.cli_inputs.specs.declared.refusal.Refusal.TheVariants as refused
+use Rattle.cli_relay.specs.Laws.{RelaysPlanRight}
 use Rattle.cli_words.specs.Drill.{drilled_words}
 use Rattle.cli_words.specs.Laws.{OneCommand}
 use Rattle.cli_words.specs.Words.{SaysCommand}
@@ -32,7 +33,7 @@ use Rattle.lc_cli.specs.Top.{IsRight, Past}
 use Rattle.lc_cli.specs.declared.status.Status.{Status}
 use Rattle.lc_cli.specs.declared.status.Status.TheVariants.{NoMemory}
 use Rattle.lc_cli.proofs.CommandLemmas.{question_of}
-use Rattle.lc_cli.proofs.PlanLemmas.{plan_fine, plan_never_refused}
+use Rattle.lc_cli.proofs.PlanLemmas.{plan_fine, plan_never_refused, relay_fine}
 use Rattle.lc_cli.proofs.ReplayLemmas.{course_fine, never_refused}
 use Rattle.lc_cli.proofs.ServingLemmas.{served_answered}
 use Rattle.lc_cli.proofs.TopLemmas.{AreNoFaults, IsHeardBy, answered, heard, heard_nothing, no_fault, not_absent, not_broken_update, not_long}
@@ -58,8 +59,8 @@ by_status status other is fine = subst IsAnswered (sym is) fine
 module _ (one_command : OneCommand) (loads_recorded : LoadsRecorded) (not_broken : NotBroken) (not_too_large : NotTooLarge) (one_outcome : OneOutcome) (one_script : OneScript)
     (never_both : NeverBoth) where
   -- nothing but memory keeps the output from being printed
-  pub complete : {X : Type 0} (seen : X → LinkSeen) (p : Past X) (status : Status) → IsRight seen p status → IsClear seen p → IsAnswered status
-  complete seen p status (inl x) clear = by x.end where
+  pub complete : {X : Type 0} (seen : X → LinkSeen) → RelaysPlanRight seen → (p : Past X) (status : Status) → IsRight seen p status → IsClear seen p → IsAnswered status
+  complete seen relays_plan_right p status (inl x) clear = by x.end where
     same : x.right.command ≡ clear.command
     same = one_command p.words x.right.command clear.command x.right.says clear.says
 
@@ -81,14 +82,16 @@ module _ (one_command : OneCommand) (loads_recorded : LoadsRecorded) (not_broken
         (clear.unhindered.fair_drill drill says x.replay x.drilled)
     fine (commands.Plan plan) says prints =
         plan_fine plan p.folder_before p.folder_after (seen p.link_before) (seen p.link_after) x.block prints (clear.unhindered.fair_plan plan says)
+    fine (commands.Relay relay) says prints =
+        relay_fine seen relays_plan_right relay p.folder_before p.folder_after p.link_before p.link_after x.block prints (clear.unhindered.fair_relay relay says)
 
     by : IsBlockEnd x.block p.sink_before p.sink_after status → IsAnswered status
     by (inl whole) = by_status status (client_status_of 1 x.block.ends.items) whole.status_is (answered 1 x.block.ends.items (fine x.right.command x.right.says x.right.prints))
     by (inr (inl cut)) = absurd (clear.unhindered.no_sink_fault cut.rose)
     by (inr (inr cut)) = by_status status NoMemory cut.status_is tt
-  complete seen p status (inr (inr x)) clear =
+  complete seen relays_plan_right p status (inr (inr x)) clear =
       served_answered x.server p.door_before p.door_after p.sink_before p.sink_after status x.end clear.unhindered.no_door_fault clear.unhindered.no_sink_fault
-  complete seen p status (inr (inl x)) clear = by x.right x.end where
+  complete seen relays_plan_right p status (inr (inl x)) clear = by x.right x.end where
     memory : (refusal : Refusal) → status_of refusal ≡ NoMemory → IsRefusalEnd refusal p.sink_before p.sink_after status → IsAnswered status
     memory refusal is (inl said) = by_status status NoMemory (said.status_is ∙ is) tt
     memory refusal is (inr lacks) = by_status status NoMemory lacks.status_is tt
@@ -113,6 +116,8 @@ module _ (one_command : OneCommand) (loads_recorded : LoadsRecorded) (not_broken
         (heard clear.recorded (serve_scope serve) serve.update serve.publishing serve.accept_updates is.0 is.1) clear.unhindered.no_folder_fault x.refusal refused_is
     never_as (commands.Plan plan) fed (all, asks) refused_is =
         plan_never_refused never_both clear.recorded plan.asks p.folder_before p.folder_after clear.unhindered.tells all asks clear.unhindered.no_folder_fault x.refusal refused_is
+    never_as (commands.Relay relay) fed (all, asks) refused_is =
+        plan_never_refused never_both clear.recorded relay.asks p.folder_before p.folder_after clear.unhindered.tells all asks clear.unhindered.no_folder_fault x.refusal refused_is
     never_as (commands.Drill drill) fed (replay, made, all, drilled, course) refused_is = by_cause refused_is.1 where
       by_cause : IsDrillRefused drill x.refusal → (status_of x.refusal ≡ NoMemory) ⊎ ⊥
       by_cause (inl memory) = inl (ap status_of memory)

@@ -10,9 +10,11 @@ use Rattle.cli_words.specs.declared.command.Plan.{Plan}
 use Rattle.laws_clients.specs.Answered.{AnswersAt}
 use Rattle.laws_clients.specs.Fits.{HasAnswered}
 use Rattle.laws_convoys.specs.Names.{Round}
-use Rattle.laws_plan.specs.Planned.{EndsAt}
+use Rattle.connection_uri.specs.Base.{BaseParts}
+use Rattle.laws_plan.specs.Planned.{ArePlanned, EndsAt, IsPlanned}
 use Rattle.laws_plan.specs.Sides.{version_after, version_with}
 use Rattle.laws_replay.specs.Turns.{given_in}
+use Rattle.laws_replay.specs.declared.event.Event.{Event}
 use Rattle.laws_sides.specs.Stated.{version_at}
 use Rattle.lc_io.specs.declared.file.File.{File}
 use Rattle.lc_model.specs.declared.query.Query.{Query}
@@ -20,9 +22,9 @@ use Rattle.lc_world.specs.Link.{IsHonestWith, LinkSeen}
 use Rattle.page_client.specs.declared.want.Want.{Want}
 use Rattle.page_client.specs.declared.want.Want.TheVariants as wants
 use Rattle.publisher_spec.specs.Side.{Side}
-use Rattle.lc_cli.specs.Block.{IsBlockEnd}
+use Rattle.lc_cli.specs.Block.{IsBlockEnd, client_status_of}
 use Rattle.lc_cli.specs.Command.{IsPlanBlock, Prints}
-use Rattle.lc_cli.specs.Headline.{EndsBestAt, HeadlineOfPlan, IsGateSide, PlannedEachBest}
+use Rattle.lc_cli.specs.Headline.{EachEndsBest, EndsBestAt, HeadlineOfPlan, IsGateSide, PlannedEachBest}
 use Rattle.lc_cli.specs.Top.{HasPrinted, HasServed, Past}
 use Rattle.cli_serve.specs.Written.{Wrote}
 use Rattle.lc_cli.specs.declared.block.Block.{Block}
@@ -97,22 +99,29 @@ module _ (last : Side) (query : Query) (rounds : List Round) (sides : List Side)
     outcome_is = found.is;
   }
 
+-- clients that ended rightly, each with an answer, ended best
+abbrev pub each_best : (base : BaseParts) (first : Side) (all : List Event) (cache : ℕ) (before after : LinkSeen) (text : List ℕ) (ends : List ClientEnd) (x : IsPlanned base all cache before after text ends)
+    → ArePlanned base first all cache before after ends x.caused.met → Done ≡ client_status_of 1 ends → EachEndsBest base first all cache before after ends
+each_best base first all cache before after text ends x planned done = record {
+  one_each = x.one_each;
+  met = x.caused.met;
+  planned = planned;
+  best = λ place query own asks is. best_at planned.last query _ _ own (planned.clients place query own asks is) (answer_at 1 ends place own done is);
+}
+
 module _ {X : Type 0} (seen : X → LinkSeen) (p : Past X) (plan : Plan) (files : List File) (first : Side) (tells : p.folder_before.files ≡ Some files)
     (honest : IsHonestWith (seen p.link_before) plan.base first) where
   -- what was written are the blocks of best journeys
   planned_each_best : (block : Block) → IsPlanBlock plan p.folder_before p.folder_after (seen p.link_before) (seen p.link_after) block → IsBlockEnd block p.sink_before p.sink_after Done
       → PlannedEachBest seen p plan files first
   planned_each_best block x end =
-      let planned = x.planned.right first honest in
       let whole = is_whole block p.sink_before p.sink_after end in
       record {
         all = x.all;
         recorded = asks_recorded files plan.asks p.folder_before p.folder_after x.all tells x.inputs;
         ends = block.ends.items;
-        one_each = x.planned.one_each;
-        met = x.planned.caused.met;
-        planned = planned;
-        best = λ place query own asks is. best_at planned.last query _ _ own (planned.clients place query own asks is) (answer_at 1 block.ends.items place own whole.status_is is);
+        each =
+            each_best plan.base first x.all plan.cache (seen p.link_before) (seen p.link_after) block.text.items block.ends.items x.planned (x.planned.right first honest) whole.status_is;
         wrote = subst (Wrote p.sink_before p.sink_after) x.planned.text_is whole.wrote;
       }
 

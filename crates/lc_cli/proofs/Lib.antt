@@ -7,12 +7,14 @@ pub mod HeadlineOfPlanLemmas
 pub mod HeadlineOfReplayLemmas
 mod HeadlineOfDrillLemmas
 mod HeadlineOfFewestLemmas
+mod HeadlineOfRelayLemmas
 mod DrillLemmas
 pub mod InputsLemmas
 pub mod NearFewestLemmas
 pub mod NearHeadlineLemmas
 pub mod NearPlanLemmas
 pub mod OnePlanLemmas
+mod OneRelayLemmas
 pub mod OneReplayLemmas
 pub mod OneRunLemmas
 pub mod OneServingLemmas

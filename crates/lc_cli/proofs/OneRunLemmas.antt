@@ -140,6 +140,7 @@ module _ {X Y : Type 0} (seen : X → LinkSeen) (saw : Y → LinkSeen) (one_time
           (to.fair_course replay (subst (λ w. SaysCommand w (commands.Replay replay)) words says))
       by (commands.Serve serve) says a b = absurd a
       by (commands.Plan plan) says a b = absurd (home (commands.Plan plan) says)
+      by (commands.Relay relay) says a b = absurd (home (commands.Relay relay) says)
       by (commands.Drill drill) says a b = absurd (home (commands.Drill drill) says)
       by (commands.Fewest fewest) says a b =
           let fair = at.fair_fewest fewest says in

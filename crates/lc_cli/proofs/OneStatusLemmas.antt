@@ -98,6 +98,7 @@ IsRefusedSo recorded p s (commands.Ask ask) = Fails (ask_scope ask) ask.update r
 IsRefusedSo recorded p s (commands.Replay replay) = IsCourseRefused recorded replay s
 IsRefusedSo recorded p s (commands.Serve serve) = Unit {0}
 IsRefusedSo recorded p s (commands.Plan plan) = Unit {0}
+IsRefusedSo recorded p s (commands.Relay relay) = Unit {0}
 IsRefusedSo recorded p s (commands.Drill drill) = Unit {0}
 IsRefusedSo recorded p s (commands.Fewest fewest) = Fails (fewest_scope fewest) fewest.update recorded p s
 
@@ -157,6 +158,7 @@ module _ {X : Type 0} (seen : X → LinkSeen) (p : Past X) (recorded : List File
   refused_so (commands.Replay replay) refusal status is = course_refused recorded replay p.folder_before p.folder_after at.tells at.no_folder_fault s refusal is status
   refused_so (commands.Serve serve) refusal status is = inr tt
   refused_so (commands.Plan plan) refusal status is = inr tt
+  refused_so (commands.Relay relay) refusal status is = inr tt
   refused_so (commands.Drill drill) refusal status is = inr tt
   refused_so (commands.Fewest fewest) refusal status is = by_refusal (fewest_scope fewest) fewest.update refusal status is
 
@@ -239,6 +241,7 @@ module _ {X Y : Type 0} (seen : X → LinkSeen) (saw : Y → LinkSeen) (one_comm
   LoadedSo r (commands.Replay replay) = PlayedRecorded replay
   LoadedSo r (commands.Serve serve) = Unit {0}
   LoadedSo r (commands.Plan plan) = Unit {0}
+  LoadedSo r (commands.Relay relay) = Unit {0}
   LoadedSo r (commands.Drill drill) = Unit {0}
   LoadedSo r (commands.Fewest fewest) = Loaded (fewest_scope fewest) fewest.update r
 
@@ -275,6 +278,7 @@ module _ {X Y : Type 0} (seen : X → LinkSeen) (saw : Y → LinkSeen) (one_comm
   }
   loaded look r block tells (commands.Serve serve) prints = tt
   loaded look r block tells (commands.Plan plan) prints = tt
+  loaded look r block tells (commands.Relay relay) prints = tt
   loaded look r block tells (commands.Drill drill) prints = tt
   loaded look r block tells (commands.Fewest fewest) prints =
       loaded_question look r (fewest_scope fewest) fewest.update fewest.publishing fewest.query block (question_of fewest r.folder_before r.folder_after (look r.link_before) (look r.link_after) block prints) tells
@@ -311,6 +315,7 @@ module _ {X Y : Type 0} (seen : X → LinkSeen) (saw : Y → LinkSeen) (one_comm
     by (commands.Check check) says a b = ap (client_status_of 1) (a.no_client ∙ sym b.no_client)
     by (commands.Serve serve) says a b = absurd a
     by (commands.Plan plan) says a b = absurd (home (commands.Plan plan) says)
+    by (commands.Relay relay) says a b = absurd (home (commands.Relay relay) says)
     by (commands.Drill drill) says a b = absurd (home (commands.Drill drill) says)
     by (commands.Replay replay) says a b =
         let fair = at.fair_course replay says in
@@ -344,6 +349,7 @@ module _ {X Y : Type 0} (seen : X → LinkSeen) (saw : Y → LinkSeen) (one_comm
       not_refused one_outcome one_end one_script one_fault never_both recorded replay x.made x.all v x.course x.loaded y
   clash r u v tells tell (commands.Serve serve) here x y = here
   clash r u v tells tell (commands.Plan plan) here x y = here
+  clash r u v tells tell (commands.Relay relay) here x y = here
   clash r u v tells tell (commands.Drill drill) here x y = here
   clash r u v tells tell (commands.Fewest fewest) here x y = clash_loaded r u v tells tell (fewest_scope fewest) fewest.update x y
 
@@ -378,6 +384,7 @@ module _ {X Y : Type 0} (seen : X → LinkSeen) (saw : Y → LinkSeen) (one_comm
   both_refused (commands.Replay replay) here x y = one_course_refusal one_outcome one_end one_script one_fault never_both recorded replay s t x y
   both_refused (commands.Serve serve) here x y = absurd here
   both_refused (commands.Plan plan) here x y = absurd here
+  both_refused (commands.Relay relay) here x y = absurd here
   both_refused (commands.Drill drill) here x y = absurd here
   both_refused (commands.Fewest fewest) here x y = both_fail (fewest_scope fewest) fewest.update x y
 
@@ -481,6 +488,14 @@ done_is_clear seen loads_recorded p recorded at right = by (done_is_printed seen
     unhindered = at;
     fed = tt;
     heard = (prints.all, asks_recorded recorded plan.asks p.folder_before p.folder_after prints.all at.tells prints.inputs);
+  }
+  of (commands.Relay relay) block says prints = record {
+    command = commands.Relay relay;
+    says = says;
+    recorded = recorded;
+    unhindered = at;
+    fed = tt;
+    heard = (prints.all, asks_recorded recorded relay.asks p.folder_before p.folder_after prints.all at.tells prints.inputs);
   }
   of (commands.Drill drill) block says prints =
       let x = prints.1 in

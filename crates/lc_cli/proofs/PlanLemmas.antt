@@ -1,22 +1,28 @@
--- What `plan` reads and results in over recorded files that nothing hinders.
+-- What `plan` and `relay` read and result in over recorded files that nothing hinders.
 use Rattle.std.proofs.Common.{◌≡◌, ◌∙◌, ◌⊎◌, ℕ, false, inl, inr, List, Some, refl, subst, sym}
 use Rattle.cli_inputs.specs.Plan.{ReadsPlan}
 use Rattle.cli_inputs.specs.Script.{IsScriptRefused}
 use Rattle.cli_inputs.specs.declared.refusal.Refusal.{Refusal}
 use Rattle.cli_inputs.specs.declared.refusal.Refusal.TheVariants as refused
+use Rattle.cli_ask.specs.declared.end.ClientEnd.{ClientEnd}
+use Rattle.cli_relay.specs.Laws.{RelaysPlanRight}
 use Rattle.cli_words.specs.declared.command.Plan.{Plan}
+use Rattle.cli_words.specs.declared.command.Relay.{Relay}
+use Rattle.connection_uri.specs.Base.{BaseParts}
+use Rattle.laws_plan.specs.Planned.{ArePlanned, IsPlanned}
 use Rattle.laws_replay.specs.Events.{questions_in}
 use Rattle.laws_replay.specs.declared.event.Event.{Event}
 use Rattle.lc_io.specs.Counts.{Rose}
 use Rattle.lc_io.specs.Folder.{FolderSeen}
 use Rattle.lc_io.specs.declared.file.File.{File}
 use Rattle.lc_world.specs.Link.{LinkSeen}
+use Rattle.publisher_spec.specs.Side.{Side}
 use Rattle.script_text.specs.Laws.{NeverBoth}
 use Rattle.script_text.specs.Reading.{HasFault}
 use Rattle.script_text.specs.declared.fault.ScriptFault.TheVariants.{Wrong}
 use Rattle.timetable.specs.declared.fault.LoadFault.TheVariants as fault
 use Rattle.lc_cli.specs.Clear.{AreRecordedAsks, HasHonestLink}
-use Rattle.lc_cli.specs.Command.{IsPlanBlock}
+use Rattle.lc_cli.specs.Command.{IsPlanBlock, IsRelayBlock}
 use Rattle.lc_cli.specs.Refusal.{status_of}
 use Rattle.lc_cli.specs.declared.block.Block.{Block}
 use Rattle.lc_cli.specs.declared.status.Status.TheVariants.{NoMemory}
@@ -32,14 +38,27 @@ asks_recorded recorded name old new all tells x = record {
   say = x.say;
 }
 
--- over an honest link no exchange failed and no reply
-pub plan_fine : (plan : Plan) (old new : FolderSeen) (before after : LinkSeen) (block : Block) → IsPlanBlock plan old new before after block → HasHonestLink plan before after → AreNoFaults block.ends.items
+-- where clients ended rightly and no exchange failed, no reply did
+pub planned_fine : (base : BaseParts) (first : Side) (all : List Event) (cache : ℕ) (before after : LinkSeen) (text : List ℕ) (ends : List ClientEnd) (x : IsPlanned base all cache before after text ends)
+    → ArePlanned base first all cache before after ends x.caused.met → (Rose before.faults after.faults → ⊥) → AreNoFaults ends
+planned_fine base first all cache before after text ends x right no_fault =
+    no_faults_at ends (λ place end is.
+    let query = some_at ends (questions_in all) place end x.one_each is in
+    let ended = right.clients place query.0 end query.1 is in
+    no_fault_of _ _ query.0 end base before.faults after.faults end.version _ end.outcome (x.caused.clients place query.0 end query.1 is).ends ended.ended no_fault)
+
+-- over an honest link no exchange of `plan` failed and no reply
+pub plan_fine : (plan : Plan) (old new : FolderSeen) (before after : LinkSeen) (block : Block) → IsPlanBlock plan old new before after block → HasHonestLink plan.base before after
+    → AreNoFaults block.ends.items
 plan_fine plan old new before after block x fair =
-    let right = x.planned.right fair.first fair.was_honest in
-    no_faults_at block.ends.items (λ place end is.
-    let query = some_at block.ends.items (questions_in x.all) place end x.planned.one_each is in
-    let ends = right.clients place query.0 end query.1 is in
-    no_fault_of _ _ query.0 end plan.base before.faults after.faults end.version _ end.outcome (x.planned.caused.clients place query.0 end query.1 is).ends ends.ended fair.no_fault)
+    planned_fine plan.base fair.first x.all plan.cache before after block.text.items block.ends.items x.planned (x.planned.right fair.first fair.was_honest) fair.no_fault
+
+-- nor of `relay`
+pub relay_fine : {X : Type 0} (seen : X → LinkSeen) → RelaysPlanRight seen → (relay : Relay) (old new : FolderSeen) (before after : X) (block : Block) → IsRelayBlock relay old new (seen before) (seen after) block
+    → HasHonestLink relay.base (seen before) (seen after) → AreNoFaults block.ends.items
+relay_fine seen relays_plan_right relay old new before after block x fair =
+    planned_fine relay.base fair.first x.all relay.cache _ _ x.relayed.blocks block.ends.items x.relayed.planned
+    (relays_plan_right relay.base fair.first x.all relay.cache relay.entries before after block.text.items block.ends.items x.relayed fair.was_honest).planned fair.no_fault
 
 -- recorded questions and turns are refused for no cause but memory
 module _ (never_both : NeverBoth) (recorded : List File) (name : List ℕ) (old new : FolderSeen) (tells : old.files ≡ Some recorded) (all : List Event) (asks : AreRecordedAsks recorded name all)

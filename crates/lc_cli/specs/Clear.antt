@@ -10,10 +10,12 @@ use Rattle.cli_words.specs.declared.command.Drill.{Drill}
 use Rattle.cli_words.specs.declared.command.Fewest.{Fewest}
 use Rattle.cli_words.specs.declared.command.Plan.{Plan}
 use Rattle.cli_words.specs.declared.command.Publishing.{Publishing}
+use Rattle.cli_words.specs.declared.command.Relay.{Relay}
 use Rattle.cli_words.specs.declared.command.Replay.{Replay}
 use Rattle.cli_words.specs.declared.command.Serve.{Serve}
 use Rattle.cli_words.specs.declared.command.Command.{Command}
 use Rattle.cli_words.specs.declared.command.Command.TheVariants as commands
+use Rattle.connection_uri.specs.Base.{BaseParts}
 use Rattle.lc_io.specs.Counts.{Rose}
 use Rattle.lc_io.specs.Folder.{bytes_named}
 use Rattle.lc_io.specs.declared.file.File.{File}
@@ -109,7 +111,7 @@ pub record IsRecordedCourse (recorded : List File) (replay : Replay) (made : Tim
   pub is_recorded : IsRecordedScript recorded replay.script true script
   pub are : AreRecordedEvents recorded script all
 
--- by the files that are recorded, these are the questions and turns of `plan`, and no messages
+-- by the files that are recorded, these are the questions and turns of `plan` or `relay`, and no messages
 pub record AreRecordedAsks (recorded : List File) (name : List ℕ) (all : List Event) : Type 0 where
   pub script : List Record
   pub is_recorded : IsRecordedScript recorded name false script
@@ -120,10 +122,10 @@ pub record HasFairCourse (recorded : List File) (replay : Replay) (clear : Type 
   pub link : HasClearLink clear before after
   pub short : (made : Timetable) (all : List Event) → IsRecordedCourse recorded replay made all → AreShort made replay.publishing all
 
--- what `plan` needs of its link: it was honest under the base, with some side at its other end, and failed in no exchange
-pub record HasHonestLink (plan : Plan) (before after : LinkSeen) : Type 0 where
+-- what `plan` and `relay` need of their link: it was honest under the base, with some side at its other end, and failed in no exchange
+pub record HasHonestLink (base : BaseParts) (before after : LinkSeen) : Type 0 where
   pub first : Side
-  pub was_honest : IsHonestWith before plan.base first
+  pub was_honest : IsHonestWith before base first
   pub no_fault : Rose before.faults after.faults → ⊥
 
 -- The directory records these files. No count of faults increased: the directory's, the door's and the sink's. Clients had a fair link.
@@ -140,7 +142,8 @@ pub record IsUnhindered {X : Type 0} (seen : X → LinkSeen) (p : Past X) (recor
       → HasFairCourse recorded replay (seen p.link_before).clear (seen p.link_before).faults (seen p.link_after).faults
   pub fair_drill : (drill : Drill) → SaysCommand p.words (commands.Drill drill) → (replay : Replay) → IsDrilled drill replay
       → HasFairCourse (drill_files drill.seed drill.days) replay (seen p.link_before).clear (seen p.link_before).faults (seen p.link_after).faults
-  pub fair_plan : (plan : Plan) → SaysCommand p.words (commands.Plan plan) → HasHonestLink plan (seen p.link_before) (seen p.link_after)
+  pub fair_plan : (plan : Plan) → SaysCommand p.words (commands.Plan plan) → HasHonestLink plan.base (seen p.link_before) (seen p.link_after)
+  pub fair_relay : (relay : Relay) → SaysCommand p.words (commands.Relay relay) → HasHonestLink relay.base (seen p.link_before) (seen p.link_after)
 
 -- by the files that are recorded, a feed has a timetable
 pub record HasTimetable (recorded : List File) (scope : Scope) : Type 0 where
@@ -156,9 +159,10 @@ IsFed recorded (commands.Serve serve) = HasTimetable recorded (serve_scope serve
 IsFed recorded (commands.Plan plan) = Unit {0}
 IsFed recorded (commands.Drill drill) = Unit {0}
 IsFed recorded (commands.Fewest fewest) = HasTimetable recorded (fewest_scope fewest)
+IsFed recorded (commands.Relay relay) = Unit {0}
 
 -- The message of a question or of a server, if it has one, reads as a message. There is a publisher to ask or to serve. The messages
--- of an event sequence do too. Its script reads as a script, and the questions and turns of `plan` as such.
+-- of an event sequence do too. Its script reads as a script, and the questions and turns of `plan` and `relay` as such.
 abbrev pub IsHeard : List File → Command → Type 0
 IsHeard recorded (commands.Check check) = Unit {0}
 IsHeard recorded (commands.Ask ask) = (side : Side) × IsAskedSide recorded ask side
@@ -168,6 +172,7 @@ IsHeard recorded (commands.Plan plan) = (all : List Event) × AreRecordedAsks re
 IsHeard recorded (commands.Drill drill) =
     (replay : Replay) × (made : Timetable) × (all : List Event) × IsDrilled drill replay × IsRecordedCourse (drill_files drill.seed drill.days) replay made all
 IsHeard recorded (commands.Fewest fewest) = (side : Side) × IsFewestSide recorded fewest side
+IsHeard recorded (commands.Relay relay) = (all : List Event) × AreRecordedAsks recorded relay.asks all
 
 -- The arguments say a command, nothing hinders it, and by the recorded files no rule and no limit refuses what it reads.
 pub record IsClear {X : Type 0} (seen : X → LinkSeen) (p : Past X) : Type 0 where

@@ -4,12 +4,14 @@ use Rattle.cli_ask.specs.Asked.{IsAsked}
 use Rattle.cli_ask.specs.Publishing.{PublishesAfter}
 use Rattle.cli_ask.specs.declared.end.ClientEnd.{ClientEnd}
 use Rattle.cli_fewest.specs.Asked.{IsAskedFewest}
+use Rattle.cli_relay.specs.Relayed.{IsRelayed}
 use Rattle.cli_words.specs.Words.{SaysCommand}
 use Rattle.cli_words.specs.declared.command.Ask.{Ask}
 use Rattle.cli_words.specs.declared.command.Check.{Check}
 use Rattle.cli_words.specs.declared.command.Fewest.{Fewest}
 use Rattle.cli_words.specs.declared.command.Plan.{Plan}
 use Rattle.cli_words.specs.declared.command.Publishing.{Publishing}
+use Rattle.cli_words.specs.declared.command.Relay.{Relay}
 use Rattle.cli_words.specs.declared.command.Serve.{Serve}
 use Rattle.cli_words.specs.declared.command.Command.{Command}
 use Rattle.cli_words.specs.declared.command.Command.TheVariants as commands
@@ -89,6 +91,12 @@ pub record IsPlanBlock (plan : Plan) (old new : FolderSeen) (before after : Link
   pub inputs : ReadsPlan plan.asks old new all
   pub planned : IsPlanned plan.base all plan.cache before after block.text.items block.ends.items
 
+-- They happened over a relay of the link. What is printed are the lines of the clients, and how many exchanges the relay has handed on.
+pub record IsRelayBlock (relay : Relay) (old new : FolderSeen) (before after : LinkSeen) (block : Block) : Type 0 where
+  pub all : List Event
+  pub inputs : ReadsPlan relay.asks old new all
+  pub relayed : IsRelayed relay.base all relay.cache relay.entries before after block.text.items block.ends.items
+
 -- what the command prints
 abbrev pub Prints : Command → FolderSeen → FolderSeen → LinkSeen → LinkSeen → Block → Type 0
 Prints (commands.Check check) old new before after block = IsCheckBlock check old new block
@@ -98,6 +106,7 @@ Prints (commands.Serve serve) old new before after block = ⊥
 Prints (commands.Plan plan) old new before after block = IsPlanBlock plan old new before after block
 Prints (commands.Drill drill) old new before after block = (new ≡ old) × IsDrillBlock drill before after block
 Prints (commands.Fewest fewest) old new before after block = IsFewestBlock fewest old new before after block
+Prints (commands.Relay relay) old new before after block = IsRelayBlock relay old new before after block
 
 -- the arguments say a command, and the block is what it prints
 pub record IsRightBlock (words : List (List ℕ)) (old new : FolderSeen) (before after : LinkSeen) (block : Block) : Type 0 where
@@ -124,6 +133,7 @@ Serves (commands.Serve serve) old new server = IsServer serve old new server
 Serves (commands.Plan plan) old new server = ⊥
 Serves (commands.Drill drill) old new server = ⊥
 Serves (commands.Fewest fewest) old new server = ⊥
+Serves (commands.Relay relay) old new server = ⊥
 
 -- what the command results in
 abbrev pub ResultsIn : Command → FolderSeen → FolderSeen → LinkSeen → LinkSeen → Work → Type 0
@@ -141,8 +151,8 @@ abbrev pub IsRightWork : List (List ℕ) → FolderSeen → FolderSeen → LinkS
 IsRightWork words old new before after (works.Print block) = IsRightBlock words old new before after block
 IsRightWork words old new before after (works.Serve server) = IsRightServer words old new server
 
--- What a command leaves of the link, however it ends. The clients of `plan` ask over it by GETs, and no other command does more than to hand
--- answers on.
+-- What a command leaves of the link, however it ends. The clients of `plan` and `relay` ask over it by GETs, and no other command does more than
+-- to hand answers on.
 abbrev pub LeavesLink : Command → LinkSeen → LinkSeen → Type 0
 LeavesLink (commands.Check check) before after = IsLeftByPasses before after
 LeavesLink (commands.Ask ask) before after = IsLeftByPasses before after
@@ -151,6 +161,7 @@ LeavesLink (commands.Serve serve) before after = IsLeftByPasses before after
 LeavesLink (commands.Plan plan) before after = IsLeftByGets before after
 LeavesLink (commands.Drill drill) before after = IsLeftByPasses before after
 LeavesLink (commands.Fewest fewest) before after = IsLeftByPasses before after
+LeavesLink (commands.Relay relay) before after = IsLeftByGets before after
 
 -- why a command is refused
 abbrev pub IsRefusedAs : Command → FolderSeen → FolderSeen → Refusal → Type 0
@@ -161,6 +172,7 @@ IsRefusedAs (commands.Serve serve) old new refusal = IsRefusedFor (serve_scope s
 IsRefusedAs (commands.Plan plan) old new refusal = IsScriptRefused false plan.asks old new refusal
 IsRefusedAs (commands.Drill drill) old new refusal = (new ≡ old) × IsDrillRefused drill refusal
 IsRefusedAs (commands.Fewest fewest) old new refusal = IsRefusedFor (fewest_scope fewest) fewest.update old new refusal
+IsRefusedAs (commands.Relay relay) old new refusal = IsScriptRefused false relay.asks old new refusal
 
 -- the arguments say a command, which is refused for this
 pub record IsRefusedCommand (words : List (List ℕ)) (old new : FolderSeen) (refusal : Refusal) : Type 0 where

@@ -9,6 +9,7 @@ use Rattle.cli_words.specs.declared.command.Command.TheVariants as commands
 use Rattle.cli_words.specs.declared.command.Plan.{Plan}
 use Rattle.cli_words.specs.declared.command.Publishing.{Publishing}
 use Rattle.cli_words.specs.declared.command.Replay.{Replay}
+use Rattle.connection_uri.specs.Base.{BaseParts}
 use Rattle.laws_clients.specs.Answered.{AnswersAt, NeededAt}
 use Rattle.laws_convoys.specs.Names.{Round}
 use Rattle.laws_plan.specs.Planned.{ArePlanned}
@@ -138,17 +139,21 @@ pub record EndsBestAt (rounds : List Round) (sides : List Side) (last : Side) (q
   pub is_best : AnswersAt last (version_meant side query) query answer
   pub outcome_is : end.outcome ≡ outcome_of answer
 
+-- the clients of questions and turns had these over a link, and each of them ended best
+pub record EachEndsBest (base : BaseParts) (first : Side) (all : List Event) (cache : ℕ) (before after : LinkSeen) (ends : List ClientEnd) : Type 0 where
+  pub one_each : length ends ≡ length (questions_in all)
+  pub met : List Met
+  pub planned : ArePlanned base first all cache before after ends met
+  pub best :
+      (place : ℕ) (query : Query) (end : ClientEnd) → slice_get (questions_in all) place ≡ Some query → slice_get ends place ≡ Some end
+      → EndsBestAt (rounds_of (place + 1) (order_of all) planned.rounds) (sides_of (place + 1) (order_of all) planned.sides) planned.last query end
+
 -- `plan` let the clients of its script have their turns over the link, and wrote the block of each client, which ended best.
 pub record PlannedEachBest {X : Type 0} (seen : X → LinkSeen) (p : Past X) (plan : Plan) (files : List File) (first : Side) : Type 0 where
   pub all : List Event
   pub recorded : AreRecordedAsks files plan.asks all
   pub ends : List ClientEnd
-  pub one_each : length ends ≡ length (questions_in all)
-  pub met : List Met
-  pub planned : ArePlanned plan.base first all plan.cache (seen p.link_before) (seen p.link_after) ends met
-  pub best :
-      (place : ℕ) (query : Query) (end : ClientEnd) → slice_get (questions_in all) place ≡ Some query → slice_get ends place ≡ Some end
-      → EndsBestAt (rounds_of (place + 1) (order_of all) planned.rounds) (sides_of (place + 1) (order_of all) planned.sides) planned.last query end
+  pub each : EachEndsBest plan.base first all plan.cache (seen p.link_before) (seen p.link_after) ends
   pub wrote : Wrote p.sink_before p.sink_after (clients_text_of 1 ends)
 
 -- Over recorded files and an honest link, also one whose side grows, status Done of `plan` means this. It wrote a best

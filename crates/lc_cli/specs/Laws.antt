@@ -32,6 +32,7 @@ IsInProcess (commands.Serve serve) = ⊥
 IsInProcess (commands.Plan plan) = ⊥
 IsInProcess (commands.Drill drill) = ⊥
 IsInProcess (commands.Fewest fewest) = Unit {0}
+IsInProcess (commands.Relay relay) = ⊥
 
 -- the arguments say no other command
 abbrev pub AreInProcess : List (List ℕ) → Type 0
@@ -43,6 +44,7 @@ abbrev pub PrintOne : Command → Block → Block → Type 0
 PrintOne (commands.Serve serve) x y = ⊥
 PrintOne (commands.Plan plan) x y = ⊥
 PrintOne (commands.Drill drill) x y = ⊥
+PrintOne (commands.Relay relay) x y = ⊥
 PrintOne (commands.Check check) x y = x.text.items ≡ y.text.items
 PrintOne (commands.Replay replay) x y = PrintOneCourse x y
 PrintOne (commands.Ask ask) x y = (first : ClientEnd) × (second : ClientEnd) × PrintOneClient x.text.items y.text.items first second

@@ -7,11 +7,13 @@ pub mod Command
 pub mod Headline
 pub mod HeadlineOfDrill
 pub mod HeadlineOfFewest
+pub mod HeadlineOfRelay
 pub mod Laws
 pub mod NearFewest
 pub mod NearHeadline
 pub mod NearPlan
 pub mod OnePlan
+pub mod OneRelay
 pub mod OneServing
 pub mod Refusal
 pub mod Serving

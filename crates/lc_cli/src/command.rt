@@ -9,7 +9,7 @@ ghost use Rattle.cli_words.specs.declared.command.Command.TheVariants as command
 ghost use Rattle.cli_words.specs.declared.command.Serve.{Serve as Served};
 ghost use Rattle.lc_world.specs.GoneOn.{HasGoneOn, IsLeftByGets, IsLeftByPasses};
 ghost use Rattle.gtfs_tables.specs.Reading.{Keeps};
-ghost use Rattle.lc_cli.specs.Command.{IsAskBlock, IsCheckBlock, IsFewestBlock, IsPlanBlock, IsRefusedAs, IsReplayBlock, IsRightRefusal, IsRightWork, IsServer, LeavesLink, ResultsIn, ask_scope, check_scope, fewest_scope, replay_scope, serve_scope};
+ghost use Rattle.lc_cli.specs.Command.{IsAskBlock, IsCheckBlock, IsFewestBlock, IsPlanBlock, IsRefusedAs, IsRelayBlock, IsReplayBlock, IsRightRefusal, IsRightWork, IsServer, LeavesLink, ResultsIn, ask_scope, check_scope, fewest_scope, replay_scope, serve_scope};
 ghost use Rattle.lc_cli.specs.declared.work.Work.TheVariants as works;
 ghost use Rattle.cli_inputs.specs.Inputs.{IsMessageRefusal, IsRefusedFor};
 ghost use Rattle.cli_inputs.specs.Script.{IsReplayRefused, IsScriptRefused};
@@ -27,7 +27,7 @@ use cli_ask::{Asked, MessageFault, serving_publisher};
 use cli_inputs::{Inputs, Refusal, read_inputs, read_plan};
 use cli_plan::Planned;
 use cli_replay::Replayed;
-use cli_words::{Ask, Check, Command, Fewest, Plan, Replay, Serve, one_command, read_words};
+use cli_words::{Ask, Check, Command, Fewest, Plan, Relay, Replay, Serve, one_command, read_words};
 use lc_model::NoMemory;
 use lc_world::{File, Folder, Link};
 use std::alloc::Global;
@@ -99,6 +99,10 @@ fn result_of<F: Folder, L: Link>(
         }
         Command::Fewest(fewest) => {
             let (block, link) = fewest_block(alloc, folder, fewest, link);
+            (printed(block), link)
+        }
+        Command::Relay(relay) => {
+            let (block, link) = relay_block(alloc, folder, relay, link);
             (printed(block), link)
         }
     }
@@ -360,6 +364,45 @@ fn plan_block<F: Folder, L: Link>(
     match read_plan(alloc, folder, asks) {
         Ok(events) => {
             let (planned, link) = cli_plan::plan(alloc, base, events, cache as usize, link);
+            match planned {
+                Ok(Planned { text, ends }) => (Ok(Block { text, ends }), link),
+                Err(NoMemory) => (Err(Refusal::from(NoMemory)), link),
+            }
+        }
+        Err(refusal) => (Err(refusal), link),
+    }
+}
+
+/// Reads questions and turns, and lets the clients ask over a relay of the link.
+fn relay_block<F: Folder, L: Link>(
+    alloc: Global,
+    folder: &mut F,
+    relay: Relay,
+    link: L,
+) -> (Result<Block, Refusal>, L)
+    ensures block { IfOk result.0 (IsRelayBlock relay (F.seen folder.old) (F.seen folder.new) (L.seen link) (L.seen result.1)) }
+    ensures refused { IfErr result.0 (IsScriptRefused false relay.asks (F.seen folder.old) (F.seen folder.new)) }
+    ensures kept { Keeps (F.seen folder.old) (F.seen folder.new) }
+    ensures refusal_leaves_link { IfErr result.0 (λ refusal. refusal ≢ Load OutOfMemory → result.1 ≡ link) }
+    ensures left { IsLeftByGets (L.seen link) (L.seen result.1) }
+{
+    let Relay {
+        base,
+        asks,
+        cache,
+        entries,
+        ..
+    } = relay;
+    match read_plan(alloc, folder, asks) {
+        Ok(events) => {
+            let (planned, link) = cli_relay::relay(
+                alloc,
+                base,
+                events,
+                cache as usize,
+                entries as usize,
+                link,
+            );
             match planned {
                 Ok(Planned { text, ends }) => (Ok(Block { text, ends }), link),
                 Err(NoMemory) => (Err(Refusal::from(NoMemory)), link),

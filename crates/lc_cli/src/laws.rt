@@ -1,37 +1,43 @@
 ghost use Rattle.lc_cli.specs.Headline.{Headline, HeadlineOfPlan, HeadlineOfReplay};
 ghost use Rattle.lc_cli.specs.HeadlineOfDrill.{HeadlineOfDrill};
 ghost use Rattle.lc_cli.specs.HeadlineOfFewest.{HeadlineOfFewest};
+ghost use Rattle.lc_cli.specs.HeadlineOfRelay.{HeadlineOfRelay};
 ghost use Rattle.lc_cli.specs.Laws.{DoneIsClear, DoneIsPrinted, OneRun, OneStatus};
 ghost use Rattle.lc_cli.specs.NearFewest.{NotAnotherVersion, NotNoJourney, NotOneRideFewer, NotOneRideMore};
 ghost use Rattle.lc_cli.specs.OnePlan.{OneNamedPlan, OneQuietPlan};
+ghost use Rattle.lc_cli.specs.OneRelay.{OneNamedRelay, OneQuietRelay};
 ghost use Rattle.lc_cli.specs.OneServing.{BeginsFromIt, NotAnotherBase, NotMadeUp, NotUnasked, OneAskedSide, OneFewestSide, OneServedSide, OneServing};
 
 use cli_ask::one_output;
 use cli_fewest::one_fewest_output;
+use cli_relay::relays_plan_right;
 use cli_serve::one_over_bytes;
 use cli_words::one_command;
 use laws_fewest::fewest_at_version;
 use laws_plan::{one_growing_plan, one_plan};
 use laws_replay::one_course;
 use lc_world::Link;
+use page_relay::Relay;
 use script_text::one_script;
 use timetable::{one_end, one_timetable};
 use version_store::one_outcome;
 
 /// A run of `ask` with status Done wrote a best journey at the version that its question means, or that there is none. A run of `replay` did so for
 /// each client that asked, at the version that its question meant before its first turn. A run of `plan` over an honest link did so for each
-/// client, at the version that its own time gate exchange named. The sums of `drill` are over such journeys. A run of `fewest` wrote one of the
-/// fewest rides of all best journeys.
+/// client, at the version that its own time gate exchange named, and so did a run of `relay`. The sums of `drill` are over such journeys. A run
+/// of `fewest` wrote one of the fewest rides of all best journeys.
 pub fn headline<L: Link>()
     ensures ask { Headline L.seen }
     ensures replay { HeadlineOfReplay L.seen }
     ensures plan { HeadlineOfPlan L.seen }
     ensures drill { HeadlineOfDrill L.seen }
     ensures fewest { HeadlineOfFewest L.seen }
+    ensures relay { HeadlineOfRelay L.seen }
 {
     one_command();
     one_timetable();
     one_outcome();
+    relays_plan_right::<L>();
 }
 
 /// What is near the end that `fewest` writes is refused: a ride more or less, no journey, another version.
@@ -85,6 +91,19 @@ pub fn one_planned<L: Link, M: Link>()
     one_script();
     one_plan::<L, M>();
     one_growing_plan::<L, M>();
+}
+
+/// And runs of `relay` do, but for how many exchanges were handed on, which the line of the counts says last.
+pub fn one_relayed<L: Link, M: Link>()
+    ensures quiet { OneQuietRelay L.seen M.seen }
+    ensures named { OneNamedRelay L.seen M.seen }
+{
+    one_command();
+    one_script();
+    relays_plan_right::<L>();
+    relays_plan_right::<M>();
+    one_plan::<Relay<L>, Relay<M>>();
+    one_growing_plan::<Relay<L>, Relay<M>>();
 }
 
 /// By recorded files a command begins from one side: that to which `ask` or `fewest` puts its question, and that which `serve` publishes

@@ -1,5 +1,5 @@
 //! The commands of `lc`: they check feeds, publish them, and plan journeys over pages that a publisher gives. It builds on the
-//! arguments, the timetable of a feed, `cli_ask`, `cli_fewest`, `cli_replay`, `cli_drill`, `cli_serve` and `cli_plan`.
+//! arguments, the timetable of a feed, `cli_ask`, `cli_fewest`, `cli_replay`, `cli_drill`, `cli_serve`, `cli_plan` and `cli_relay`.
 #![tactic(auto)]
 
 mod block;
@@ -17,7 +17,9 @@ mod top;
 mod work;
 mod worked;
 
-pub use laws::{headline, near_fewest, one_planned, one_run, one_served, one_side, one_status};
+pub use laws::{
+    headline, near_fewest, one_planned, one_relayed, one_run, one_served, one_side, one_status,
+};
 pub use refusal::refuse;
 pub use status::{Status, code};
 pub use top::run;

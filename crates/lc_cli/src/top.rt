@@ -19,6 +19,7 @@ use crate::refusal::refuse;
 use crate::serve::serve;
 use crate::status::Status;
 use crate::work::Work;
+use cli_relay::relays_plan_right;
 use cli_words::one_command;
 use lc_world::{Door, Folder, Link, Sink};
 use script_text::one_script;
@@ -39,6 +40,7 @@ use version_store::one_outcome;
 /// `plan URL ASKS` lets the clients of a script ask the publisher under the URL, over the link handed in, and prints their answers.
 /// `drill N` is `replay` over files that are generated from the number, and prints sums over the clients.
 /// `fewest FEED FROM TO MOMENT` is `ask` for a best journey that has the fewest rides of all best ones.
+/// `relay URL ASKS` is `plan` through a relay that keeps documents, and prints how many exchanges it handed on over the link.
 pub fn run<F: Folder, L: Link, D: Door, S: Sink>(
     alloc: Global,
     words: &[String],
@@ -64,7 +66,7 @@ pub fn run<F: Folder, L: Link, D: Door, S: Sink>(
         → (result.0 ≡ Status.Usage) ⊎ (result.0 ≡ Status.NoMemory) }
 
     // Nothing but memory keeps the output from being printed where no rule refuses the feed, the script and the messages, and no fault is
-    // counted. Clients have a clear link, or those of `plan` an honest one. What fails on a connection of `serve` does not hinder it.
+    // counted. Clients have a clear link, or those of `plan` and `relay` an honest one. What fails on a connection of `serve` does not hinder it.
     ensures complete { IsClear L.seen (record {
       words = texts_of words.now;
       folder_before = F.seen folder.old;
@@ -84,7 +86,7 @@ pub fn run<F: Folder, L: Link, D: Door, S: Sink>(
     ensures door_counts { DoorNeverFell (D.seen door.old) (D.seen door.new) }
 
     // However it ended, the count of the link has not fallen, and nothing is lost of what it recorded. `ask`, `fewest` and `replay` hand answers
-    // on over it, and its side stays. `plan` leaves an honest link honest.
+    // on over it, and its side stays. `plan` and `relay` leave an honest link honest.
     ensures link { HasGoneOn (L.seen link) (L.seen result.1) }
     ensures command_leaves_link { (command : Command) → SaysCommand (texts_of words.now) command → LeavesLink command (L.seen link) (L.seen result.1) }
 
@@ -97,6 +99,7 @@ pub fn run<F: Folder, L: Link, D: Door, S: Sink>(
     one_timetable();
     one_outcome();
     one_script();
+    relays_plan_right::<L>();
     let (came, link) = outcome(alloc, words, folder, link);
     match came {
         Ok(Work::Print(block)) => (write_block(block, out), link),

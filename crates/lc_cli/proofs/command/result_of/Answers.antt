@@ -62,6 +62,19 @@ returns-in-Fewest-clause-refused g c =
 pub returns-in-Fewest-clause-link : goal.returns-in-Fewest-clause-link
 returns-in-Fewest-clause-link g c = rw c.in-Fewest.is c.fewest_block-block.ensures.left
 
+pub returns-in-Relay-clause-work : goal.returns-in-Relay-clause-work
+returns-in-Relay-clause-work g c =
+    rw c.in-Relay.is
+    (results_printed _ _ _ _ (commands.Relay c.in-Relay.relay) c.relay_block-block.result.0 c.printed-in-Relay.result c.relay_block-block.ensures.block c.printed-in-Relay.ensures.work c.printed-in-Relay.ensures.refused)
+
+pub returns-in-Relay-clause-refused : goal.returns-in-Relay-clause-refused
+returns-in-Relay-clause-refused g c =
+    rw c.in-Relay.is
+    (refused_printed _ _ (commands.Relay c.in-Relay.relay) c.relay_block-block.result.0 c.printed-in-Relay.result c.relay_block-block.ensures.refused c.printed-in-Relay.ensures.work c.printed-in-Relay.ensures.refused)
+
+pub returns-in-Relay-clause-link : goal.returns-in-Relay-clause-link
+returns-in-Relay-clause-link g c = rw c.in-Relay.is c.relay_block-block.ensures.left
+
 pub returns-in-Ask-clause-link : goal.returns-in-Ask-clause-link
 returns-in-Ask-clause-link g c = rw c.in-Ask.is c.ask_block-block.ensures.left
 

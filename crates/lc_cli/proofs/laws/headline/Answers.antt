@@ -2,6 +2,7 @@ use Rattle.lc_cli.proofs.HeadlineLemmas.{headline}
 use Rattle.lc_cli.proofs.HeadlineOfDrillLemmas.{headline_of_drill}
 use Rattle.lc_cli.proofs.HeadlineOfFewestLemmas.{headline_of_fewest}
 use Rattle.lc_cli.proofs.HeadlineOfPlanLemmas.{headline_of_plan}
+use Rattle.lc_cli.proofs.HeadlineOfRelayLemmas.{headline_of_relay}
 use Rattle.lc_cli.proofs.HeadlineOfReplayLemmas.{headline_of_replay}
 use Rattle.lc_cli.proofs.laws.headline.Goals as goal
 
@@ -20,3 +21,6 @@ returns-clause-drill g c = headline_of_drill g.L.Link.seen c.one_command.ensures
 
 pub returns-clause-fewest : goal.returns-clause-fewest
 returns-clause-fewest g c = headline_of_fewest g.L.Link.seen c.one_command.ensures c.one_timetable.ensures.loads_recorded
+
+pub returns-clause-relay : goal.returns-clause-relay
+returns-clause-relay g c = headline_of_relay g.L.Link.seen c.one_command.ensures c.relays_plan_right.ensures

@@ -71,7 +71,7 @@ returns-in-Ok-Print g c = record {
   usage_only = usage_only g.L.Link.seen (printed g c) c.write_block.result (right_block g c);
   complete =
       complete c.one_command.ensures c.one_timetable.ensures.loads_recorded c.one_timetable.ensures.not_broken c.one_timetable.ensures.not_too_large c.one_outcome.ensures.one c.one_script.ensures.script
-      c.one_script.ensures.never_both g.L.Link.seen
+      c.one_script.ensures.never_both g.L.Link.seen c.relays_plan_right.ensures
       (printed g c) c.write_block.result (right_block g c);
   folder = c.outcome-came.ensures.kept;
   sink = c.write_block.ensures.kept;
@@ -90,7 +90,7 @@ returns-in-Ok-Serve g c = record {
   usage_only = usage_only g.L.Link.seen (served g c) c.serve.result (right_served g c);
   complete =
       complete c.one_command.ensures c.one_timetable.ensures.loads_recorded c.one_timetable.ensures.not_broken c.one_timetable.ensures.not_too_large c.one_outcome.ensures.one c.one_script.ensures.script
-      c.one_script.ensures.never_both g.L.Link.seen
+      c.one_script.ensures.never_both g.L.Link.seen c.relays_plan_right.ensures
       (served g c) c.serve.result (right_served g c);
   folder = c.outcome-came.ensures.kept;
   sink = c.serve.ensures.kept;
@@ -109,7 +109,7 @@ returns-in-Err g c = record {
   usage_only = usage_only g.L.Link.seen (refused g c) c.refuse.result (right_refusal g c);
   complete =
       complete c.one_command.ensures c.one_timetable.ensures.loads_recorded c.one_timetable.ensures.not_broken c.one_timetable.ensures.not_too_large c.one_outcome.ensures.one c.one_script.ensures.script
-      c.one_script.ensures.never_both g.L.Link.seen
+      c.one_script.ensures.never_both g.L.Link.seen c.relays_plan_right.ensures
       (refused g c) c.refuse.result (right_refusal g c);
   folder = c.outcome-came.ensures.kept;
   sink = c.refuse.ensures.kept;
