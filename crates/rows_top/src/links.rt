@@ -30,7 +30,13 @@ pub fn put_links(alloc: Global, draft: &mut Draft) {
 }
 
 /// Runs the arguments over a link whose first replies are 404. Each client prints what such a reply says, not what the publisher has.
-fn put_not_found(alloc: Global, draft: &mut Draft, words: &str, script: &str, replies: &[&str]) {
+pub fn put_not_found(
+    alloc: Global,
+    draft: &mut Draft,
+    words: &str,
+    script: &str,
+    replies: &[&str],
+) {
     put_line(draft, words);
     put_line(draft, script);
     put_list(

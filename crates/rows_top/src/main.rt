@@ -10,6 +10,8 @@ mod lying;
 mod messages;
 mod planning;
 mod playing;
+mod relaying;
+mod rides;
 mod running;
 mod servers;
 mod words;
@@ -34,4 +36,6 @@ fn put_cases(alloc: Global, draft: &mut Draft) {
     lying::put_lies(alloc, draft);
     planning::put_plans(alloc, draft);
     servers::put_servings(alloc, draft);
+    rides::put_rides(alloc, draft);
+    relaying::put_relays(alloc, draft);
 }

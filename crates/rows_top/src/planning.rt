@@ -161,7 +161,8 @@ pub fn put_planned(alloc: Global, draft: &mut Draft, asks: &str, replies: &[&str
     put_list(alloc, draft, &over_tiny(PLAN, &[("a.csv", asks)]), replies);
 }
 
-fn put_plan(alloc: Global, draft: &mut Draft, fails: u64, case: &str) {
+/// Runs arguments and asks over a link to a publisher of Tiny, of which this exchange fails.
+pub fn put_plan(alloc: Global, draft: &mut Draft, fails: u64, case: &str) {
     if fails > 0 {
         draft.put("exchange ");
         draft.put_shown(&fails);

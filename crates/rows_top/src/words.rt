@@ -50,4 +50,10 @@ plan lc.example a.csv
 drill 1
 drill 1 --days 2
 drill 0
-drill 1 --days 8";
+drill 1 --days 8
+fewest tiny A D 2024-05-01T08:00:00Z
+fewest tiny A D 2024-05-01T08:00:01Z
+fewest tiny A D 2024-05-01T08:00:00Z --update d60.pb
+fewest tiny A D 2024-05-01T08:00:00Z --cache 5
+fewest tiny A A 2024-05-01T08:00:00Z
+fewest none A D 2024-05-01T08:00:00Z";
