@@ -1,7 +1,7 @@
 -- The grammar of each command.
 use Rattle.std.proofs.Common.{refl}
-use Rattle.cli_words.specs.Laws.{AskGrammar, CheckGrammar, DrillGrammar, FewestGrammar, LinesHaveGrammar, PlanGrammar, RelayGrammar, ReplayGrammar, ServeGrammar}
-use Rattle.cli_words.specs.Line.{ask_line, check_line, drill_line, fewest_line, plan_line, relay_line, replay_line, serve_line}
+use Rattle.cli_words.specs.Laws.{ArriveGrammar, AskGrammar, CheckGrammar, DrillGrammar, FewestGrammar, LinesHaveGrammar, PlanGrammar, RelayGrammar, ReplayGrammar, ServeGrammar}
+use Rattle.cli_words.specs.Line.{arrive_line, ask_line, check_line, drill_line, fewest_line, plan_line, relay_line, replay_line, serve_line}
 use Rattle.cli_words.proofs.GrammarReadsLemmas.{lines_are_words}
 use Rattle.cli_words.proofs.GrammarTakesLemmas.{words_are_taken}
 
@@ -32,6 +32,10 @@ plan_grammar = lines_have_grammar _ _ _ _ (record { apart = refl; option_names =
 pub drill_grammar : DrillGrammar
 unfolding drill_line
 drill_grammar = lines_have_grammar _ _ _ _ (record { apart = refl; option_names = refl; flag_names = refl; fit = refl })
+
+pub arrive_grammar : ArriveGrammar
+unfolding arrive_line
+arrive_grammar = lines_have_grammar _ _ _ _ (record { apart = refl; option_names = refl; flag_names = refl; fit = refl })
 
 pub fewest_grammar : FewestGrammar
 unfolding fewest_line

@@ -1,24 +1,27 @@
 -- Arguments say one command at most.
 use Rattle.std.proofs.Common.{◌≡◌, ◌∙◌, ℕ, ◌/◌, ◌-◌, ◌≤◌, Bool, List, [], ◌∷◌, Option, ap, refl, subst, sym}
 use Rattle.std.proofs.Props.{props}
+use Rattle.back_scan.specs.declared.arrive_query.ArriveQuery.{ArriveQuery}
 use Rattle.clap.specs.Simple.{App}
 use Rattle.connection_uri.specs.Base.{BaseParts}
 use Rattle.lc_model.specs.declared.date.ServiceDate.{ServiceDate}
 use Rattle.lc_model.specs.declared.query.Query.{Query}
 use Rattle.lc_time.proofs.OneTextLemmas.{one_date}
+use Rattle.cli_words.specs.Arrive.{SaysArrive}
 use Rattle.cli_words.specs.Ask.{SaysAsk}
 use Rattle.cli_words.specs.Check.{SaysCheck}
 use Rattle.cli_words.specs.Drill.{SaysDrill}
 use Rattle.cli_words.specs.FeedWindow.{SaysFeedWindow}
 use Rattle.cli_words.specs.Fewest.{SaysFewest}
 use Rattle.cli_words.specs.Laws.{OneCommand}
-use Rattle.cli_words.specs.Line.{ask_line, check_line, fewest_line, replay_line, serve_line}
+use Rattle.cli_words.specs.Line.{arrive_line, ask_line, check_line, fewest_line, replay_line, serve_line}
 use Rattle.cli_words.specs.Plan.{SaysPlan}
 use Rattle.cli_words.specs.Publishing.{SaysBase, SaysPublishingOr}
 use Rattle.cli_words.specs.Relay.{SaysRelay}
 use Rattle.cli_words.specs.Replay.{SaysReplay}
 use Rattle.cli_words.specs.Serve.{SaysServe, address_at}
 use Rattle.cli_words.specs.Window.{IsWindow}
+use Rattle.cli_words.specs.declared.command.Arrive.{Arrive}
 use Rattle.cli_words.specs.declared.command.Ask.{Ask}
 use Rattle.cli_words.specs.declared.command.Check.{Check}
 use Rattle.cli_words.specs.declared.command.Command.TheVariants as command
@@ -31,7 +34,7 @@ use Rattle.cli_words.specs.declared.command.Replay.{Replay}
 use Rattle.cli_words.specs.declared.command.Serve.{Serve}
 use Rattle.cli_words.proofs.MadeLemmas.{same_made}
 use Rattle.cli_words.proofs.PublishingLemmas.{one_base_said, one_publishing}
-use Rattle.cli_words.proofs.QuestionLemmas.{one_question}
+use Rattle.cli_words.proofs.QuestionLemmas.{one_arrival, one_question}
 use Rattle.cli_words.proofs.WordsLemmas.{apart, one_date_at, one_options, same_number, same_text}
 
 -- what holds of the first date, the days and the change of a command
@@ -197,6 +200,26 @@ one_fewest words a b x y =
     same_fewest a b (same_text _ _ (sym p.feed_is ∙ q.feed_is)) query first options.0 options.1 options.2
     (one_publishing _ fewest_line words a.publishing b.publishing x.publishing y.publishing) (sym x.update.is ∙ y.update.is)
 
+abbrev arrive_of : (feed zone : List ℕ) (query : ArriveQuery) (publishing : Publishing) (update : Option (List ℕ)) (s : ServiceDate × ℕ × ℕ) → Ranges s → Arrive
+arrive_of feed zone query publishing update s r = record { feed = feed; query = query; first = s.0; days = s.1; zone = zone; change = s.2; publishing = publishing; update = update; some_days = r.0; two_months = r.1; window = r.2; within_a_day = r.3 }
+
+same_arrive : (a b : Arrive) → a.feed ≡ b.feed → a.query ≡ b.query → a.first ≡ b.first → a.days ≡ b.days → a.zone ≡ b.zone → a.change ≡ b.change → a.publishing ≡ b.publishing → a.update ≡ b.update → a ≡ b
+same_arrive a b feed query first days zone change publishing update =
+    let ranges : Ranges (b.first, b.days, b.change) = (b.some_days, b.two_months, b.window, b.within_a_day) in
+    same_made Ranges ranges_prop (arrive_of a.feed a.zone a.query a.publishing a.update) (a.first, a.days, a.change) (b.first, b.days, b.change) (a.some_days, a.two_months, a.window, a.within_a_day) ranges
+    (λ i. (first i, days i, change i))
+    ∙ (λ i. arrive_of (feed i) (zone i) (query i) (publishing i) (update i) (b.first, b.days, b.change) ranges)
+
+one_arrive : (words : List (List ℕ)) (a b : Arrive) → SaysArrive words a → SaysArrive words b → a ≡ b
+one_arrive words a b x y =
+    let p = x.words_are in
+    let q = y.words_are in
+    let options = one_options arrive_line words 3 a.days b.days a.zone b.zone a.change b.change p.options q.options in
+    let query = one_arrival arrive_line words a.query b.query x.question y.question in
+    let first = one_date_at a.first b.first _ _ (ap (λ (query : ArriveQuery). query.arrive / 86_400 - 1) query) p.first_is q.first_is in
+    same_arrive a b (same_text _ _ (sym p.feed_is ∙ q.feed_is)) query first options.0 options.1 options.2
+    (one_publishing _ arrive_line words a.publishing b.publishing x.publishing y.publishing) (sym x.update.is ∙ y.update.is)
+
 -- this many pages may be cached, and this many documents kept
 abbrev RelayRanges : ℕ × ℕ → Type 0
 RelayRanges s = (1 ≤ s.0) × (s.0 ≤ 10_000) × (1 ≤ s.1) × (s.1 ≤ 1_000)
@@ -229,6 +252,7 @@ only_command (name ∷ words) (command.Replay a) (command.Replay b) x y = ap (λ
 only_command (name ∷ words) (command.Serve a) (command.Serve b) x y = ap (λ (serve : Serve). command.Serve serve) (one_serve words a b x.1 y.1)
 only_command (name ∷ words) (command.Plan a) (command.Plan b) x y = ap (λ (plan : Plan). command.Plan plan) (one_plan words a b x.1 y.1)
 only_command (name ∷ words) (command.Drill a) (command.Drill b) x y = ap (λ (drill : Drill). command.Drill drill) (one_drill words a b x.1 y.1)
+only_command (name ∷ words) (command.Arrive a) (command.Arrive b) x y = ap (λ (arrive : Arrive). command.Arrive arrive) (one_arrive words a b x.1 y.1)
 only_command (name ∷ words) (command.Fewest a) (command.Fewest b) x y = ap (λ (fewest : Fewest). command.Fewest fewest) (one_fewest words a b x.1 y.1)
 only_command (name ∷ words) (command.Relay a) (command.Relay b) x y = ap (λ (relay : Relay). command.Relay relay) (one_relay words a b x.1 y.1)
 only_command (name ∷ words) a b x y = absurd (apart (sym x.0 ∙ y.0) refl)

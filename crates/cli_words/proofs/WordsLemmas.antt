@@ -8,6 +8,7 @@ use Rattle.clap.specs.Simple.{App}
 use Rattle.lc_model.specs.declared.date.ServiceDate.{ServiceDate}
 use Rattle.cli_words.specs.Line.{line}
 use Rattle.lc_time.proofs.DateLemmas.{same_date}
+use Rattle.cli_words.specs.Arrive.{SaysArrive}
 use Rattle.cli_words.specs.Ask.{SaysAsk}
 use Rattle.cli_words.specs.Check.{SaysCheck}
 use Rattle.cli_words.specs.Drill.{SaysDrill}
@@ -19,6 +20,7 @@ use Rattle.cli_words.specs.Replay.{SaysReplay}
 use Rattle.cli_words.specs.Serve.{SaysServe}
 use Rattle.cli_words.specs.Window.{IsDateAt}
 use Rattle.cli_words.specs.Words.{SaysCommand}
+use Rattle.cli_words.specs.declared.command.Arrive.{Arrive}
 use Rattle.cli_words.specs.declared.command.Ask.{Ask}
 use Rattle.cli_words.specs.declared.command.Check.{Check}
 use Rattle.cli_words.specs.declared.command.Command.{Command}
@@ -50,6 +52,10 @@ serve_is_simple = refl
 pub plan_is_simple : is_simple_and_free (line (codes "plan") (codes "url" ∷ codes "asks" ∷ []) (codes "cache" ∷ []) []) ≡ true
 unfolding line
 plan_is_simple = refl
+
+pub arrive_is_simple : is_simple_and_free (line (codes "arrive") (codes "feed" ∷ codes "from" ∷ codes "to" ∷ codes "moment" ∷ []) (codes "days" ∷ codes "zone" ∷ codes "change" ∷ codes "horizon" ∷ codes "known" ∷ codes "base" ∷ codes "base-moment" ∷ codes "cuts" ∷ codes "update" ∷ []) []) ≡ true
+unfolding line
+arrive_is_simple = refl
 
 pub fewest_is_simple : is_simple_and_free (line (codes "fewest") (codes "feed" ∷ codes "from" ∷ codes "to" ∷ codes "moment" ∷ []) (codes "days" ∷ codes "zone" ∷ codes "change" ∷ codes "horizon" ∷ codes "known" ∷ codes "base" ∷ codes "base-moment" ∷ codes "cuts" ∷ codes "update" ∷ []) []) ≡ true
 unfolding line
@@ -113,6 +119,10 @@ no_plan words none said says = apart says.0 refl
 pub no_drill : (words : List (List ℕ)) → ((drill : Drill) → SaysDrill words drill → ⊥) → (said : Command) → SaysCommand (codes "drill" ∷ words) said → ⊥
 no_drill words none (command.Drill drill) says = none drill says.1
 no_drill words none said says = apart says.0 refl
+
+pub no_arrive : (words : List (List ℕ)) → ((arrive : Arrive) → SaysArrive words arrive → ⊥) → (said : Command) → SaysCommand (codes "arrive" ∷ words) said → ⊥
+no_arrive words none (command.Arrive arrive) says = none arrive says.1
+no_arrive words none said says = apart says.0 refl
 
 pub no_fewest : (words : List (List ℕ)) → ((fewest : Fewest) → SaysFewest words fewest → ⊥) → (said : Command) → SaysCommand (codes "fewest" ∷ words) said → ⊥
 no_fewest words none (command.Fewest fewest) says = none fewest says.1

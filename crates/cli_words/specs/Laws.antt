@@ -3,7 +3,7 @@ use Rattle.std.specs.Prelude.{◌≡◌, ◌≢◌, ℕ, ◌<◌, ◌^◌, ◌++
 use Rattle.std.specs.Str.{IsUtf8}
 use Rattle.clap.specs.Walk.{Text}
 use Rattle.cli_words.specs.Grammar.{HasGrammar, IsDashWord, IsOptionWord, IsTable}
-use Rattle.cli_words.specs.Line.{IsLine, ask_line, check_line, drill_line, fewest_line, line, plan_line, relay_line, replay_line, serve_line}
+use Rattle.cli_words.specs.Line.{IsLine, arrive_line, ask_line, check_line, drill_line, fewest_line, line, plan_line, relay_line, replay_line, serve_line}
 use Rattle.cli_words.specs.Publishing.{SaysBase}
 use Rattle.cli_words.specs.Serve.{address_at}
 use Rattle.cli_words.specs.Words.{SaysCommand}
@@ -72,6 +72,13 @@ RelayGrammar = HasGrammar relay_line (codes "url" ∷ codes "asks" ∷ []) (code
 -- the grammar of `drill`
 abbrev pub DrillGrammar : Type 0
 DrillGrammar = HasGrammar drill_line (codes "n" ∷ []) (codes "days" ∷ []) []
+
+-- the grammar of `arrive`
+abbrev pub ArriveGrammar : Type 0
+ArriveGrammar =
+    HasGrammar arrive_line (codes "feed" ∷ codes "from" ∷ codes "to" ∷ codes "moment" ∷ [])
+    (codes "days" ∷ codes "zone" ∷ codes "change" ∷ codes "horizon" ∷ codes "known" ∷ codes "base" ∷ codes "base-moment"
+    ∷ codes "cuts" ∷ codes "update" ∷ []) []
 
 -- the grammar of `fewest`
 abbrev pub FewestGrammar : Type 0

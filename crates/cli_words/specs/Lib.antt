@@ -1,3 +1,4 @@
+pub mod Arrive
 pub mod Ask
 pub mod Cache
 pub mod Check

@@ -94,6 +94,13 @@ relay_line = line (codes "relay") (codes "url" ∷ codes "asks" ∷ []) (codes "
 unfoldable pub drill_line : App
 drill_line = line (codes "drill") (codes "n" ∷ []) (codes "days" ∷ []) []
 
+-- the line of `arrive FEED FROM TO MOMENT` with its options: those of `ask` but `--cache`
+unfoldable pub arrive_line : App
+arrive_line =
+    line (codes "arrive") (codes "feed" ∷ codes "from" ∷ codes "to" ∷ codes "moment" ∷ [])
+    (codes "days" ∷ codes "zone" ∷ codes "change" ∷ codes "horizon" ∷ codes "known" ∷ codes "base" ∷ codes "base-moment"
+    ∷ codes "cuts" ∷ codes "update" ∷ []) []
+
 -- the line of `fewest FEED FROM TO MOMENT` with its options: those of `ask` but `--cache`
 unfoldable pub fewest_line : App
 fewest_line =

@@ -1,5 +1,6 @@
 -- The arguments of a command line, and the command that they say.
 use Rattle.std.specs.Prelude.{◌≡◌, ℕ, List, [], ◌∷◌, codes, Option, MatchOption}
+use Rattle.cli_words.specs.Arrive.{SaysArrive}
 use Rattle.cli_words.specs.Ask.{SaysAsk}
 use Rattle.cli_words.specs.Check.{SaysCheck}
 use Rattle.cli_words.specs.Drill.{SaysDrill}
@@ -20,6 +21,7 @@ SaysCommand (name ∷ words) (command.Replay replay) = (name ≡ codes "replay")
 SaysCommand (name ∷ words) (command.Serve serve) = (name ≡ codes "serve") × SaysServe words serve
 SaysCommand (name ∷ words) (command.Plan plan) = (name ≡ codes "plan") × SaysPlan words plan
 SaysCommand (name ∷ words) (command.Drill drill) = (name ≡ codes "drill") × SaysDrill words drill
+SaysCommand (name ∷ words) (command.Arrive arrive) = (name ≡ codes "arrive") × SaysArrive words arrive
 SaysCommand (name ∷ words) (command.Fewest fewest) = (name ≡ codes "fewest") × SaysFewest words fewest
 SaysCommand (name ∷ words) (command.Relay relay) = (name ≡ codes "relay") × SaysRelay words relay
 

@@ -1,6 +1,7 @@
 ghost use Rattle.std.specs.Prelude.{◌≤◌};
 ghost use Rattle.cli_words.specs.Window.{IsWindow};
 
+use back_scan::ArriveQuery;
 use connection_uri::Base;
 use fragmenter::Cutting;
 use lc_model::{Moment, Query, ServiceDate, Text};
@@ -14,6 +15,7 @@ pub enum Command {
     Serve(Serve),
     Plan(Plan),
     Drill(Drill),
+    Arrive(Arrive),
     Fewest(Fewest),
     Relay(Relay),
 }
@@ -131,6 +133,26 @@ pub struct Drill {
     pub ghost most_seed: { seed ≤ 1_000_000 },
     pub ghost some_days: { 1 ≤ days },
     pub ghost one_week: { days ≤ 7 },
+}
+
+/// `arrive`: a question for the latest departure to the timetable of a feed in a window of dates, which is asked through pages.
+#[derive(Drop)]
+pub struct Arrive {
+    pub feed: Text,
+    pub query: ArriveQuery,
+    pub first: ServiceDate,
+    pub days: u32,
+    /// The word of a zone, as it was said.
+    pub zone: Text,
+    /// The seconds of a change of which the feed says none.
+    pub change: u32,
+    pub publishing: Publishing,
+    /// The name of the file with a realtime message, if one is to be admitted.
+    pub update: Option<Text>,
+    pub ghost some_days: { 1 ≤ days },
+    pub ghost two_months: { days ≤ 62 },
+    pub ghost window: { IsWindow first days },
+    pub ghost within_a_day: { change ≤ 86_400 },
 }
 
 /// `fewest`: a question for the fewest rides to the timetable of a feed in a window of dates, which is asked through pages.

@@ -2,7 +2,7 @@ ghost use Rattle.std.specs.Prelude.{◌≡◌, codes};
 ghost use Rattle.lc_time.specs.Iso.{SaysMoment};
 ghost use Rattle.fragmenter.specs.declared.by_span.BySpan.{BySpan};
 ghost use Rattle.fragmenter.specs.declared.cutting.Cutting.TheVariants as ways;
-ghost use Rattle.cli_words.specs.Laws.{Address80, AddressesAreBases, AskGrammar, CheckGrammar, DashWordsAreOptions, DrillGrammar, FewestGrammar, LinesHaveGrammar, OneCommand, PlanGrammar, RelayGrammar, ReplayGrammar, ServeGrammar};
+ghost use Rattle.cli_words.specs.Laws.{Address80, AddressesAreBases, ArriveGrammar, AskGrammar, CheckGrammar, DashWordsAreOptions, DrillGrammar, FewestGrammar, LinesHaveGrammar, OneCommand, PlanGrammar, RelayGrammar, ReplayGrammar, ServeGrammar};
 ghost use Rattle.cli_words.specs.Publishing.{SaysBase, SaysCutting};
 
 /// Arguments say one command at most.
@@ -21,6 +21,7 @@ pub fn words_are_lines()
     ensures serve { ServeGrammar }
     ensures plan { PlanGrammar }
     ensures drill { DrillGrammar }
+    ensures arrive { ArriveGrammar }
     ensures fewest { FewestGrammar }
     ensures relay { RelayGrammar }
 {}

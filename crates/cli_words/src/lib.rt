@@ -1,7 +1,8 @@
 //! The arguments of a command line as a command, or that they are none. It builds on `lc_model`, `lc_time`,
-//! `connection_uri`, `fragmenter` and `clap`.
+//! `connection_uri`, `fragmenter`, `back_scan` and `clap`.
 #![tactic(auto)]
 
+mod arrive;
 mod ask;
 mod asked_window;
 mod cache;
@@ -25,7 +26,9 @@ mod update;
 mod window;
 mod words;
 
-pub use command::{Ask, Check, Command, Drill, Fewest, Plan, Publishing, Relay, Replay, Serve};
+pub use command::{
+    Arrive, Ask, Check, Command, Drill, Fewest, Plan, Publishing, Relay, Replay, Serve,
+};
 pub use drill::drilled_replay;
 pub use laws::{default_address, default_publishing, one_command, words_are_lines};
 pub use words::read_words;

@@ -4,6 +4,7 @@ ghost use Rattle.cli_words.specs.Line.{texts_of};
 ghost use Rattle.cli_words.specs.declared.command.Command.{Command as Said};
 
 use crate::Command;
+use crate::arrive::read_arrive;
 use crate::ask::read_ask;
 use crate::check::read_check;
 use crate::drill::read_drill;
@@ -38,6 +39,7 @@ fn read_named(alloc: Global, name: &str, words: &[String]) -> Result<Option<Comm
         "serve" => serve_command(alloc, words),
         "plan" => plan_command(alloc, words),
         "drill" => drill_command(alloc, words),
+        "arrive" => arrive_command(alloc, words),
         "fewest" => fewest_command(alloc, words),
         "relay" => relay_command(alloc, words),
         _ => Ok(None),
@@ -100,6 +102,16 @@ fn drill_command(alloc: Global, words: &[String]) -> Result<Option<Command>, NoM
 {
     match read_drill(alloc, words)? {
         Some(drill) => Ok(Some(Command::Drill(drill))),
+        None => Ok(None),
+    }
+}
+
+/// The arguments after `arrive` as a command.
+fn arrive_command(alloc: Global, words: &[String]) -> Result<Option<Command>, NoMemory>
+    ensures { IfOk result (IsRead (codes "arrive" ∷ texts_of words.now)) }
+{
+    match read_arrive(alloc, words)? {
+        Some(arrive) => Ok(Some(Command::Arrive(arrive))),
         None => Ok(None),
     }
 }

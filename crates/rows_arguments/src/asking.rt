@@ -2,7 +2,8 @@
 use crate::commands::{put_date, put_question, put_word};
 use crate::options::put_known;
 use crate::words::put_publishing;
-use cli_words::Fewest;
+use cli_words::{Arrive, Fewest};
+use lc_model::{ServiceDate, Text};
 use rows_common::Draft;
 
 /// Arguments of `fewest`.
@@ -43,21 +44,90 @@ pub const FEWESTS: [&str; 34] = [
     "few tiny A D 2024-05-01T08:00:00Z",
 ];
 
+/// Arguments of `arrive`. The first moment by which a question may ask to arrive is a week after the first at which one may leave.
+pub const ARRIVES: [&str; 34] = [
+    "arrive tiny A D 2024-05-01T08:00:00Z",
+    "arrive tiny A -- D 2024-05-01T08:00:00Z",
+    "arrive --days=3 tiny A D 2024-05-01T08:00:00Z --zone utc",
+    "arrive tiny --change 0 A D 2024-05-01T08:00:00Z --days=1",
+    "arrive tiny A D 2024-05-01T23:59:59Z --days 62 --change=86400 --zone posix:UTC0",
+    "arrive tiny A D 2024-05-02T00:00:00Z --horizon 0",
+    "arrive tiny A D 2024-05-01T08:00:00Z --horizon=4294967295 --known=1970-01-01T00:00:00Z --update=a=b",
+    "arrive --base http://x tiny A D 2024-05-01T08:00:00Z --base-moment=2024-05-01T06:00:00Z --cuts whole",
+    "arrive tiny A D 1970-01-18T00:00:00Z",
+    "arrive tiny A D 9999-12-14T23:59:59Z",
+    "arrive -- tiny A -D 2024-05-01T08:00:00Z",
+    "arrive tiny A D 2024-05-01T08:00:00Z --cache 5",
+    "arrive tiny A D 2024-05-01T08:00:00Z --cache=100",
+    "arrive tiny A D",
+    "arrive tiny A D 2024-05-01T08:00:00Z x",
+    "arrive tiny A D -- 2024-05-01T08:00:00Z --days",
+    "arrive tiny A D tomorrow",
+    "arrive tiny A D 1970-01-11T00:00:00Z",
+    "arrive tiny A D 1970-01-17T23:59:59Z",
+    "arrive tiny A D 9999-12-15T00:00:00Z",
+    "arrive tiny A D 9999-12-14T23:59:59Z --days 4",
+    "arrive tiny A  2024-05-01T08:00:00Z",
+    "arrive tiny A D 2024-05-01T08:00:00Z --days 0",
+    "arrive tiny A D 2024-05-01T08:00:00Z --days 63",
+    "arrive tiny A D 2024-05-01T08:00:00Z --change=-1",
+    "arrive tiny A D 2024-05-01T08:00:00Z --horizon 4294967296",
+    "arrive tiny A D 2024-05-01T08:00:00Z --known",
+    "arrive tiny A D 2024-05-01T08:00:00Z --cuts count:0",
+    "arrive tiny A D 2024-05-01T08:00:00Z --update=-x",
+    "arrive tiny A D 2024-05-01T08:00:00Z --known 2024-05-01T08:00:00Z --known=2024-05-01T08:00:00Z",
+    "arrive tiny A D 2024-05-01T08:00:00Z -",
+    "arrive tiny A D 2024-05-01T08:00:00Z --connections 3",
+    "arrive --help",
+    "arrives tiny A D 2024-05-01T08:00:00Z",
+];
+
 /// A question for the fewest rides: its feed, its question and window, how it is published, the message, and the known moment.
 pub fn put_fewest(draft: &mut Draft, fewest: &Fewest) {
     draft.put("fewest ");
     draft.put(fewest.feed.as_str());
     put_question(draft, &fewest.query);
-    put_fewest_window(draft, fewest);
+    put_window(
+        draft,
+        fewest.first,
+        fewest.days,
+        &fewest.zone,
+        fewest.change,
+    );
+    draft.put(" ");
+    put_publishing(draft, &fewest.publishing);
     draft.put(" ");
     put_known(draft, &fewest.update, fewest.query.known);
 }
 
-fn put_fewest_window(draft: &mut Draft, fewest: &Fewest) {
-    put_date(draft, fewest.first);
-    put_word(draft, &fewest.days);
-    put_word(draft, &fewest.zone.as_str());
-    put_word(draft, &fewest.change);
+/// A question for the latest departure: what one for the fewest rides has.
+pub fn put_arrive(draft: &mut Draft, arrive: &Arrive) {
+    draft.put("arrive ");
+    draft.put(arrive.feed.as_str());
+    put_arrival(draft, arrive);
+    put_window(
+        draft,
+        arrive.first,
+        arrive.days,
+        &arrive.zone,
+        arrive.change,
+    );
     draft.put(" ");
-    put_publishing(draft, &fewest.publishing);
+    put_publishing(draft, &arrive.publishing);
+    draft.put(" ");
+    put_known(draft, &arrive.update, arrive.query.known);
+}
+
+fn put_arrival(draft: &mut Draft, arrive: &Arrive) {
+    put_word(draft, &arrive.query.from.as_str());
+    put_word(draft, &arrive.query.to.as_str());
+    put_word(draft, &arrive.query.arrive.seconds());
+    put_word(draft, &arrive.query.horizon);
+}
+
+fn put_window(draft: &mut Draft, first: ServiceDate, days: u32, zone: &Text, change: u32) {
+    put_date(draft, first);
+    put_word(draft, &days);
+    put_word(draft, &zone.as_str());
+    put_word(draft, &change);
 }

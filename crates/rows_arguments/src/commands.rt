@@ -1,5 +1,5 @@
 //! What the arguments of each command say.
-use crate::asking::{FEWESTS, put_fewest};
+use crate::asking::{ARRIVES, FEWESTS, put_arrive, put_fewest};
 use crate::drills::{DRILLS, put_drill};
 use crate::network::{PLANS, RELAYS, SERVES, put_plan, put_relay, put_serve};
 use crate::words::{Side, command_of, put_publishing, put_read};
@@ -116,6 +116,7 @@ pub fn put_commands(alloc: Global, draft: &mut Draft) {
     put_table(alloc, draft, &PLANS);
     put_table(alloc, draft, &DRILLS);
     put_table(alloc, draft, &FEWESTS);
+    put_table(alloc, draft, &ARRIVES);
     put_table(alloc, draft, &RELAYS);
     draft.put("no word: ");
     put_read(draft, read_words(alloc, &[]), Side::Words);
@@ -143,6 +144,7 @@ pub fn put_said(draft: &mut Draft, read: &Result<Option<Command>, NoMemory>) {
         Ok(Some(Command::Serve(serve))) => put_serve(draft, serve),
         Ok(Some(Command::Plan(plan))) => put_plan(draft, plan),
         Ok(Some(Command::Drill(drill))) => put_drill(draft, drill),
+        Ok(Some(Command::Arrive(arrive))) => put_arrive(draft, arrive),
         Ok(Some(Command::Fewest(fewest))) => put_fewest(draft, fewest),
         Ok(Some(Command::Relay(relay))) => put_relay(draft, relay),
         Ok(None) => draft.put("none"),

@@ -103,6 +103,7 @@ fn put_other(draft: &mut Draft, read: &Result<Option<Command>, NoMemory>) {
         Ok(Some(Command::Serve(_))) => draft.put("serve"),
         Ok(Some(Command::Plan(_))) => draft.put("plan"),
         Ok(Some(Command::Drill(_))) => draft.put("drill"),
+        Ok(Some(Command::Arrive(_))) => draft.put("arrive"),
         Ok(Some(Command::Fewest(_))) => draft.put("fewest"),
         Ok(Some(Command::Relay(_))) => draft.put("relay"),
         Ok(None) => draft.put("none"),

@@ -1,4 +1,4 @@
-use Rattle.cli_words.proofs.GrammarLemmas.{ask_grammar, check_grammar, drill_grammar, fewest_grammar, lines_have_grammar, plan_grammar, relay_grammar, replay_grammar, serve_grammar}
+use Rattle.cli_words.proofs.GrammarLemmas.{arrive_grammar, ask_grammar, check_grammar, drill_grammar, fewest_grammar, lines_have_grammar, plan_grammar, relay_grammar, replay_grammar, serve_grammar}
 use Rattle.cli_words.proofs.NearLemmas.{dash_words}
 use Rattle.cli_words.proofs.laws.words_are_lines.Goals as goal
 
@@ -12,6 +12,7 @@ returns c = record {
   serve = serve_grammar;
   plan = plan_grammar;
   drill = drill_grammar;
+  arrive = arrive_grammar;
   fewest = fewest_grammar;
   relay = relay_grammar;
 }
