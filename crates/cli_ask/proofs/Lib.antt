@@ -6,4 +6,4 @@ pub mod OneOutputLemmas
 pub mod OnePublisherLemmas
 pub mod OpeningLemmas
 pub mod SideLemmas
-mod WantsLemmas
+pub mod WantsLemmas

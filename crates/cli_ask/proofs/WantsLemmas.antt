@@ -31,7 +31,7 @@ has_horizon query =
 has_stop : (stops : List Stop) (id : List ℕ) → Dec (HasStop stops id)
 has_stop stops id = any (λ (stop : Stop). stop.id ≡ id) (λ stop. same_text stop.id id) stops
 
-has_ends : (doc : StopsDoc) (query : Query) → Dec (HasEnds doc query)
+pub has_ends : (doc : StopsDoc) (query : Query) → Dec (HasEnds doc query)
 has_ends doc query =
     turn (λ two. record { from = two.0; to = two.1 }) (λ (has : HasEnds doc query). (has.from, has.to)) (both (has_stop doc.stops query.from) (has_stop doc.stops query.to))
 
