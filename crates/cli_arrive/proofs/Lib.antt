@@ -1,3 +1,4 @@
 mod HomeLemmas
 mod OneLemmas
 mod QuietLemmas
+mod WantedLemmas

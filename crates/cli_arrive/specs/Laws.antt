@@ -1,14 +1,19 @@
--- That the output of a question for the latest departure is one, where the replies come as the publisher gave them.
-use Rattle.std.specs.Prelude.{◌≡◌, ℕ, List, ◌++◌, Option}
+-- That the output of a question for the latest departure is one, where the replies come as the publisher gave them, and that it wants some pages.
+use Rattle.std.specs.Prelude.{◌≡◌, ℕ, List, ◌++◌, Option, None}
+use Rattle.back_scan.specs.Forward.{forward_query}
 use Rattle.back_scan.specs.declared.arrive_query.ArriveQuery.{ArriveQuery}
 use Rattle.cli_arrive.specs.Asked.{IsAskedLatest}
 use Rattle.cli_ask.specs.Block.{client_text_of}
 use Rattle.cli_ask.specs.Laws.{IsFair}
 use Rattle.cli_ask.specs.declared.end.ClientEnd.{ClientEnd}
 use Rattle.cli_words.specs.declared.command.Publishing.{Publishing}
+use Rattle.laws_arrive.specs.Requests.{AreWanted}
 use Rattle.laws_arrive_replies.specs.Laws.{SayOneLatest}
 use Rattle.lc_io.specs.declared.file.File.{File}
+use Rattle.lc_model.specs.declared.page.PageName.{PageName}
 use Rattle.lc_world.specs.Link.{LinkSeen}
+use Rattle.page_client.specs.Shown.{IsRefusal}
+use Rattle.publisher_spec.specs.Side.{IsValidSide, Side}
 use Rattle.timetable.specs.Laws.{AreSame}
 use Rattle.timetable.specs.declared.timetable.Timetable.{Timetable}
 
@@ -34,3 +39,8 @@ OneLatestOutput {X} {Y} seen saw =
     → IsFair b publishing file (saw other).clear (saw other).faults (saw later).faults
     → IsAskedLatest a publishing file asked (seen before) (seen after) x d → IsAskedLatest b publishing file asked (saw other) (saw later) y e
     → PrintOneLatest x y d e
+
+-- a question that is not refused at once wants some pages, or none, at each version of a valid side
+abbrev pub SomeWanted : Type 0
+SomeWanted =
+    (side : Side) (version : ℕ) (asked : ArriveQuery) → IsValidSide side → IsRefusal (forward_query asked) None → (names : List PageName) × AreWanted side version asked names

@@ -1,7 +1,9 @@
-ghost use Rattle.cli_arrive.specs.Laws.{OneLatestOutput};
+ghost use Rattle.cli_arrive.specs.Laws.{OneLatestOutput, SomeWanted};
 
 use laws_arrive::one_latest_answer;
+use laws_journeys::some_least_arrival;
 use lc_world::Link;
+use publisher::some_timetable;
 use version_store::one_outcome;
 
 /// What is printed of a question for the latest departure is one, but for the way of the journey, where the replies come as the publisher gave
@@ -11,4 +13,13 @@ pub fn one_latest_output<L: Link, M: Link>()
 {
     one_outcome();
     one_latest_answer();
+}
+
+/// At each version of a valid side a question for the latest departure wants some pages. What is said of all their names is thus said of
+/// something.
+pub fn some_wanted()
+    ensures { SomeWanted }
+{
+    some_timetable();
+    some_least_arrival();
 }

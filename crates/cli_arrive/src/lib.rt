@@ -6,5 +6,5 @@ mod client;
 mod laws;
 mod question;
 
-pub use laws::one_latest_output;
+pub use laws::{one_latest_output, some_wanted};
 pub use question::ask_arrive;
