@@ -1,11 +1,14 @@
 -- Near relays that the definitions refuse.
-use Rattle.std.proofs.Common.{◌≡◌, ◌∙◌, ◌+◌, ◌-◌, ◌^◌, ◌<◌, ◌∷◌, ◌++◌, [], ℕ, Some, List, ap, arith, length, length-append, min, refl, subst}
-use Rattle.std.proofs.lemmas.List.Elements.{All-head}
+use Rattle.std.proofs.Common.{◌≡◌, ◌∙◌, ◌+◌, ◌-◌, ◌^◌, ◌<◌, ◌∷◌, ◌++◌, [], ℕ, Some, List, ap, arith, inr, length, length-append, min, refl, subst, sym}
+use Rattle.std.proofs.lemmas.List.Elements.{All-contains, All-head}
+use Rattle.connection_uri.specs.Base.{BaseParts}
 use Rattle.lc_model.proofs.ListLemmas.{Contains-nil}
 use Rattle.lc_world.specs.declared.entry.Entry.{Entry}
+use Rattle.lc_world.specs.declared.entry.RecordedReply.TheVariants.{Reply}
+use Rattle.page_relay.specs.HandedOn.{AreRelayed}
 use Rattle.page_relay.specs.Kept.{Kept}
-use Rattle.page_relay.specs.Near.{NoneIsGivenUnasked, NoneIsKeptUnasked, NotHandedOnAgain, NotOneMore, NothingIsLost}
-use Rattle.page_relay.specs.Told.{IsGivenOf, IsKeptOf, IsReplied}
+use Rattle.page_relay.specs.Near.{NoneIsGivenUnasked, NoneIsHidden, NoneIsKeptUnasked, NotHandedOnAgain, NotInOtherOrder, NotOneMore, NothingIsLost}
+use Rattle.page_relay.specs.Told.{IsGiven, IsGivenOf, IsKeptOf, IsReplied}
 use Rattle.page_relay.specs.Worked.{example, replied, stops}
 use Rattle.page_relay.proofs.ExchangeLemmas.{one_memory}
 use Rattle.page_relay.proofs.TranscriptLemmas.{lengths}
@@ -32,8 +35,9 @@ none_is_kept_unasked made sent reply kept own relayed forwarded exact told =
 pub none_is_given_unasked : NoneIsGivenUnasked
 none_is_given_unasked made kept entry reply own relayed forwarded exact is told =
     let none : told.handed_on ≡ [] = none_since made told.handed_on (same_list made (made ++ told.handed_on) told.is) in
-    let by = All-head (IsGivenOf told.handed_on) entry own told.given_of in
-    no_reply entry.authority entry.request reply (subst (λ (handed_on : List Entry). IsReplied handed_on entry.authority entry.request reply) none (by reply is))
+    let by : IsGiven told.handed_on entry.authority entry.request (Reply reply) =
+    subst (IsGiven told.handed_on entry.authority entry.request) is (All-head (IsGivenOf told.handed_on) entry own told.given_of) in
+    no_reply entry.authority entry.request reply (subst (λ (handed_on : List Entry). IsReplied handed_on entry.authority entry.request reply) none by)
 
 pub nothing_is_lost : NothingIsLost
 nothing_is_lost made entry kept own relayed forwarded exact told =
@@ -52,7 +56,33 @@ two_is_one : (m n most : ℕ) → m ≡ n → 1 ≡ min m most → 2 ≡ min n m
 two_is_one m n most same one two = omega (arith, same, one, two)
 
 pub not_handed_on_again : NotHandedOnAgain
-not_handed_on_again reply kept keep again =
-    let once = follows reply keep in
+not_handed_on_again reply kept made now keep again =
+    let once = follows reply (Reply reply) (inr refl) [] keep in
     let one = one_memory example 1 [] (replied reply ∷ replied reply ∷ []) ((stops, reply) ∷ []) kept once.handed_on again.handed_on once.relayed again.relayed in
-    two_is_one once.handed_on again.handed_on (2 ^ 64 - 1) one.count_is once.count_is again.count_is
+    two_is_one (length once.handed_on) (length again.handed_on) (2 ^ 64 - 1) one.count_is once.count_is again.count_is
+
+pub none_is_hidden : NoneIsHidden
+none_is_hidden made now kept own entry relayed forwarded exact there hidden told =
+    subst (IsGiven told.handed_on entry.authority entry.request) hidden (All-contains (IsGivenOf told.handed_on) own entry told.given_of there)
+
+-- THE ORDER
+
+same_first : (a b : Entry) (xs ys : List Entry) → a ∷ xs ≡ b ∷ ys → a ≡ b
+same_first a b xs ys e = cc
+
+-- after an equal front lists are equal where the whole is
+after_front : (front xs ys : List Entry) → front ++ xs ≡ front ++ ys → xs ≡ ys
+after_front [] xs ys e = e
+after_front (entry ∷ front) xs ys e = after_front front xs ys (cc)
+
+-- the first exchange of a new relay is the first one that it handed on
+first_handed_on : (base : BaseParts) (entries : ℕ) (first below : Entry) (own more : List Entry) (kept : List Kept) → AreRelayed base entries [] (first ∷ own) kept (below ∷ more) → below.request ≡ first.request
+first_handed_on base entries first below own more kept (between, rest, step, relayed, (found, recorded, is)) =
+    ap (λ (entry : Entry). entry.request) (same_first below found more rest is) ∙ recorded.request_is
+
+pub not_in_other_order : NotInOtherOrder
+not_in_other_order base entries made own more first second kept forwarded other follows =
+    let turned : List Entry = second ∷ first ∷ more in
+    let same : turned ≡ follows.handed_on = after_front made turned follows.handed_on (same_list (made ++ turned) (made ++ follows.handed_on) follows.is) in
+    let relayed : AreRelayed base entries [] (first ∷ second ∷ own) kept turned = subst (AreRelayed base entries [] (first ∷ second ∷ own) kept) (sym same) follows.relayed in
+    other (sym (first_handed_on base entries first second (second ∷ own) (first ∷ more) kept relayed))

@@ -15,7 +15,7 @@ use Rattle.lc_world.specs.declared.link.LinkFail.{LinkFail}
 use Rattle.lc_world.specs.declared.link.LinkFail.TheVariants.{Failed, NoMemory}
 use Rattle.page_relay.specs.Exchanges.{AsksBelow, GoesOn, KeepsReply, reply_of}
 use Rattle.page_relay.specs.Kept.{Kept, reply_for, with_used}
-use Rattle.page_relay.specs.Told.{IsGivenOf, IsKeptOf, IsReplied, IsTold, Records, counted, known_of}
+use Rattle.page_relay.specs.Told.{IsGiven, IsGivenOf, IsKeptOf, IsReplied, IsTold, Records, counted, known_of}
 use Rattle.page_relay.specs.declared.sent.SentRequest.{SentRequest}
 use Rattle.page_relay.proofs.MemoryLemmas.{All-with_kept, All-with_used, found_is_own}
 
@@ -25,7 +25,7 @@ use Rattle.page_relay.proofs.MemoryLemmas.{All-with_kept, All-with_used, found_i
 abbrev pub RecordedMore : Option (List Entry) → Option (List Entry) → List Entry → Type 0
 RecordedMore before after more = after ≡ option_map (λ (list : List Entry). list ++ more) before
 
-none_more : (recorded : Option (List Entry)) → RecordedMore recorded recorded []
+pub none_more : (recorded : Option (List Entry)) → RecordedMore recorded recorded []
 none_more None = refl
 none_more (Some list) = ap Some (sym (append-nil list))
 
@@ -34,7 +34,7 @@ joined : (made : Option (List Entry)) (one two : List Entry) →
 joined None one two = refl
 joined (Some made) one two = ap Some (append_assoc made one two)
 
-then_more : (made before after : Option (List Entry)) (one two : List Entry) → RecordedMore made before one → RecordedMore before after two → RecordedMore made after (one ++ two)
+pub then_more : (made before after : Option (List Entry)) (one two : List Entry) → RecordedMore made before one → RecordedMore before after two → RecordedMore made after (one ++ two)
 then_more made before after one two first second = second ∙ ap (option_map (λ (list : List Entry). list ++ two)) first ∙ joined made one two
 
 -- what an exchange recorded, whatever its result
@@ -54,7 +54,7 @@ more_counted n m most is = omega (arith, is)
 pub counted_more : (entries : List Entry) (entry : Entry) → counted (entries ++ entry ∷ []) ≡ one_more (counted entries)
 counted_more entries entry = more_counted (length entries) (length (entries ++ entry ∷ [])) (2 ^ 64 - 1) (length-append entries (entry ∷ []))
 
-count_on : (entries : List Entry) (entry : Entry) (count : ℕ) → count ≡ counted entries → one_more count ≡ counted (entries ++ entry ∷ [])
+pub count_on : (entries : List Entry) (entry : Entry) (count : ℕ) → count ≡ counted entries → one_more count ≡ counted (entries ++ entry ∷ [])
 count_on entries entry count is = ap one_more is ∙ sym (counted_more entries entry)
 
 -- REPLIES
@@ -72,13 +72,15 @@ kept_more : (handed_on more : List Entry) (kept : List Kept) → All (IsKeptOf h
 kept_more handed_on more kept all =
     All-weaker (IsKeptOf handed_on) (IsKeptOf (handed_on ++ more)) (λ k is. replied_more handed_on more k.0.authority k.0.request k.1 is) kept all
 
+given_one : (handed_on more : List Entry) (authority request : List ℕ) (recorded : RecordedReply) → IsGiven handed_on authority request recorded
+    → IsGiven (handed_on ++ more) authority request recorded
+given_one handed_on more authority request recorded_replies.Hidden is = absurd is
+given_one handed_on more authority request recorded_replies.Failed is = tt
+given_one handed_on more authority request (recorded_replies.Reply reply) is = replied_more handed_on more authority request reply is
+
 given_more : (handed_on more own : List Entry) → All (IsGivenOf handed_on) own → All (IsGivenOf (handed_on ++ more)) own
 given_more handed_on more own all =
-    All-weaker (IsGivenOf handed_on) (IsGivenOf (handed_on ++ more))
-    (λ entry is reply e. replied_more handed_on more entry.authority entry.request reply (is reply e)) own all
-
-same_reply : (a b : List ℕ) → recorded_replies.Reply a ≡ recorded_replies.Reply b → a ≡ b
-same_reply a b e = cc
+    All-weaker (IsGivenOf handed_on) (IsGivenOf (handed_on ++ more)) (λ entry is. given_one handed_on more entry.authority entry.request entry.reply is) own all
 
 -- one exchange more gave this reply
 given_then : (handed_on own : List Entry) (authority request reply : List ℕ) → IsReplied handed_on authority request reply → All (IsGivenOf handed_on) own
@@ -86,10 +88,7 @@ given_then : (handed_on own : List Entry) (authority request reply : List ℕ) �
 given_then handed_on own authority request reply is all =
     let last = entry_of authority request (recorded_replies.Reply reply) in
     All-append (IsGivenOf handed_on) own (last ∷ []) all
-    (All-cons (IsGivenOf handed_on) last [] (λ other e. subst (IsReplied handed_on authority request) (same_reply reply other e) is) (All-nil (IsGivenOf handed_on)))
-
-no_reply : (reply : List ℕ) → recorded_replies.Failed ≡ recorded_replies.Reply reply → ⊥
-no_reply reply e = cc
+    (All-cons (IsGivenOf handed_on) last [] is (All-nil (IsGivenOf handed_on)))
 
 -- one exchange more failed
 failed_then : (handed_on own : List Entry) (authority request : List ℕ) → All (IsGivenOf handed_on) own
@@ -97,7 +96,7 @@ failed_then : (handed_on own : List Entry) (authority request : List ℕ) → Al
 failed_then handed_on own authority request all =
     let last = entry_of authority request recorded_replies.Failed in
     All-append (IsGivenOf handed_on) own (last ∷ []) all
-    (All-cons (IsGivenOf handed_on) last [] (λ reply e. absurd (no_reply reply e)) (All-nil (IsGivenOf handed_on)))
+    (All-cons (IsGivenOf handed_on) last [] tt (All-nil (IsGivenOf handed_on)))
 
 -- the last exchange that was handed on gave this reply
 replied_last : (handed_on : List Entry) (authority request reply : List ℕ) (recorded : RecordedReply) → (recorded ≡ recorded_replies.Hidden) ⊎ (recorded ≡ recorded_replies.Reply reply)
@@ -195,18 +194,6 @@ told_failed made now after kept own relayed forwarded exact sent tells told =
       forwarded_is = λ exact. count_on told.handed_on last forwarded (told.forwarded_is exact);
     }
 
-told_idle : (made now : Option (List Entry)) (kept : List Kept) (own : List Entry) (relayed forwarded : ℕ) (exact : Bool) (sent : SentRequest)
-    → IsTold made now kept own relayed forwarded exact
-    → IsTold made now kept (own ++ entry_of sent.authority sent.request recorded_replies.Failed ∷ []) (one_more relayed) forwarded exact
-told_idle made now kept own relayed forwarded exact sent told = record {
-  handed_on = told.handed_on;
-  is = told.is;
-  kept_of = told.kept_of;
-  given_of = failed_then told.handed_on own sent.authority sent.request told.given_of;
-  relayed_is = λ exact. count_on own (entry_of sent.authority sent.request recorded_replies.Failed) relayed (told.relayed_is exact);
-  forwarded_is = told.forwarded_is;
-}
-
 module _ {X : Type 0} (seen : X → LinkSeen) (made : Option (List Entry)) (before after : X) (base : BaseParts) (entries : ℕ) (kept now : List Kept) (own : List Entry) (relayed forwarded forwarded_now : ℕ) (exact : Bool) (sent : SentRequest) where
   -- an answered exchange
   told_ok : {T : Type 0} (held : Option (List ℕ)) (reply : List ℕ) (done : T) → reply_for sent kept ≡ held
@@ -227,11 +214,7 @@ module _ {X : Type 0} (seen : X → LinkSeen) (made : Option (List Entry)) (befo
       → AsksBelow {T = T} seen before after forwarded forwarded_now sent.authority sent.request held reply (Err Failed) → GoesOn base entries kept sent held None now
       → IsTold made (seen before).recorded kept own relayed forwarded exact
       → IsTold made (seen after).recorded now (own ++ entry_of sent.authority sent.request recorded_replies.Failed ∷ []) (one_more relayed) forwarded_now exact
-  told_err T (Some held) reply (same, count) is told =
-      let Was : X → List Kept → ℕ → Type 0 =
-      λ x k n. IsTold made (seen x).recorded k (own ++ entry_of sent.authority sent.request recorded_replies.Failed ∷ []) (one_more relayed) n exact in
-      subst (λ (x : X). Was x now forwarded_now) (sym same) (subst (λ (k : List Kept). Was before k forwarded_now) (sym is) (subst (λ (n : ℕ). Was before kept n) (sym count)
-      (told_idle made (seen before).recorded kept own relayed forwarded exact sent told)))
+  told_err T (Some held) reply never is told = absurd never
   told_err T None reply (asks, count) is told =
       let Was : List Kept → ℕ → Type 0 =
       λ k n. IsTold made (seen after).recorded k (own ++ entry_of sent.authority sent.request recorded_replies.Failed ∷ []) (one_more relayed) n exact in

@@ -1,5 +1,5 @@
 -- What two equal requests leave of a relay with one entry.
-use Rattle.std.proofs.Common.{◌≡◌, ◌⊎◌, ◌∷◌, [], ℕ, List, inl, inr, refl, subst}
+use Rattle.std.proofs.Common.{◌≡◌, ◌⊎◌, ◌∷◌, ◌++◌, [], ℕ, List, Some, inl, inr, refl}
 use Rattle.std.specs.List.{All}
 use Rattle.std.proofs.lemmas.List.Elements.{All-cons, All-nil}
 use Rattle.lc_model.proofs.ListLemmas.{Contains-here}
@@ -7,14 +7,11 @@ use Rattle.lc_world.specs.ListLink.{entry_of}
 use Rattle.lc_world.specs.declared.entry.Entry.{Entry}
 use Rattle.lc_world.specs.declared.entry.RecordedReply.{RecordedReply}
 use Rattle.lc_world.specs.declared.entry.RecordedReply.TheVariants.{Hidden, Reply}
-use Rattle.page_relay.specs.HandedOn.{Follows}
+use Rattle.page_relay.specs.HandedOn.{Follows, IsRecordedBelow}
 use Rattle.page_relay.specs.Keeping.{IsToKeep}
 use Rattle.page_relay.specs.Kept.{Kept}
 use Rattle.page_relay.specs.Told.{IsGivenOf, IsKeptOf, IsReplied}
-use Rattle.page_relay.specs.Worked.{WorkedTold, example, replied, stops}
-
-same_reply : (a b : List ℕ) → Reply a ≡ Reply b → a ≡ b
-same_reply a b e = cc
+use Rattle.page_relay.specs.Worked.{WorkedTold, example, failed, replied, stops}
 
 -- the one exchange that was handed on gave this reply
 module _ (reply : List ℕ) (recorded : RecordedReply) (is : (recorded ≡ Hidden) ⊎ (recorded ≡ Reply reply)) where
@@ -28,20 +25,25 @@ module _ (reply : List ℕ) (recorded : RecordedReply) (is : (recorded ≡ Hidde
   keeps_it = let kept : Kept = (stops, reply) in All-cons (IsKeptOf (one ∷ [])) kept [] by_it (All-nil (IsKeptOf (one ∷ [])))
 
   given : IsGivenOf (one ∷ []) (replied reply)
-  given other e = subst (IsReplied (one ∷ []) stops.authority stops.request) (same_reply reply other e) by_it
+  given = by_it
 
   gives_it : All (IsGivenOf (one ∷ [])) (replied reply ∷ replied reply ∷ [])
   gives_it =
       All-cons (IsGivenOf (one ∷ [])) (replied reply) (replied reply ∷ []) given
       (All-cons (IsGivenOf (one ∷ [])) (replied reply) [] given (All-nil (IsGivenOf (one ∷ []))))
 
--- what is kept and handed on after both
-pub follows : (reply : List ℕ) → IsToKeep example stops.request reply → Follows example 1 (replied reply ∷ replied reply ∷ []) ((stops, reply) ∷ []) 1
-follows reply keep = record {
-  handed_on = 1;
-  relayed = ((stops, reply) ∷ [], 0, inl (keep, refl), ((stops, reply) ∷ [], 0, (refl, refl), (refl, refl), refl), refl);
-  count_is = refl;
-}
+-- what is kept and handed on after both, with the reply or without
+pub follows : (reply : List ℕ) (recorded : RecordedReply) → (recorded ≡ Hidden) ⊎ (recorded ≡ Reply reply) → (made : List Entry) → IsToKeep example stops.request reply
+    → Follows example 1 (Some made) (Some (made ++ entry_of stops.authority stops.request recorded ∷ [])) (replied reply ∷ replied reply ∷ []) ((stops, reply) ∷ []) 1
+follows reply recorded is made keep =
+    let below : Entry = entry_of stops.authority stops.request recorded in
+    let by : IsRecordedBelow (replied reply) below = record { authority_is = refl; request_is = refl; end_is = is } in
+    record {
+      handed_on = below ∷ [];
+      relayed = ((stops, reply) ∷ [], [], inl (keep, refl), ((stops, reply) ∷ [], [], (refl, refl), (refl, refl), (refl, refl)), (below, by, refl));
+      is = refl;
+      count_is = refl;
+    }
 
 pub worked_told : (reply : List ℕ) → WorkedTold reply
 worked_told reply = record {
@@ -61,5 +63,6 @@ worked_told reply = record {
     relayed_is = λ exact. refl;
     forwarded_is = λ exact. refl;
   };
-  follows = follows reply;
+  follows = follows reply (Reply reply) (inr refl) (failed ∷ []);
+  follows_hidden = follows reply Hidden (inl refl) [];
 }

@@ -51,10 +51,13 @@ abbrev pub AsksOnce : LinkSeen → LinkSeen → List ℕ → List ℕ → Type 0
 AsksOnce before after authority request =
     (reply : List ℕ) × (result : Result (Unit {0}) LinkFail) × Asks before after authority request reply result
 
--- Whether the link below was asked, and what that gave, by the reply that was kept for the request. Where there was one it was not asked. Else
--- it was, once, which is counted, and its reply or its failure is that of the exchange. Where memory ran out it may have been asked.
+-- Whether the link below was asked, and what that gave, by the reply that was kept for the request. Where there was one it was not asked, and the
+-- exchange has not failed. Else it was, once, which is counted, and its reply or its failure is that of the exchange. Where memory ran out it may
+-- have been asked.
 abbrev pub AsksBelow : {X T : Type 0} → (X → LinkSeen) → X → X → ℕ → ℕ → List ℕ → List ℕ → Option (List ℕ) → List ℕ → Result T LinkFail → Type 0
-AsksBelow seen before after count now_count authority request (Some held) reply result = (after ≡ before) × (now_count ≡ count)
+AsksBelow seen before after count now_count authority request (Some held) reply (Ok done) = (after ≡ before) × (now_count ≡ count)
+AsksBelow seen before after count now_count authority request (Some held) reply (Err Failed) = ⊥
+AsksBelow seen before after count now_count authority request (Some held) reply (Err NoMemory) = (after ≡ before) × (now_count ≡ count)
 AsksBelow seen before after count now_count authority request None reply (Ok done) =
     Asks (seen before) (seen after) authority request reply (Ok done) × (now_count ≡ one_more count)
 AsksBelow {X} {T} seen before after count now_count authority request None reply (Err Failed) =

@@ -1,5 +1,5 @@
 -- The laws of relays. X is the type of the link below, and `seen` what is promised of it.
-use Rattle.std.specs.Prelude.{◌≡◌, ◌<◌, ◌-◌, ◌^◌, ℕ, true, min, List, length, Option, Some}
+use Rattle.std.specs.Prelude.{◌≡◌, ◌⊎◌, ◌<◌, ◌-◌, ◌^◌, ℕ, true, min, List, [], ◌∷◌, length, Option, Some}
 use Rattle.connection_uri.specs.Base.{BaseParts, IsBase}
 use Rattle.http_text.specs.Request.{IsWholeRequest}
 use Rattle.http_text.specs.RequestText.{SaysGet}
@@ -9,6 +9,7 @@ use Rattle.lc_model.specs.declared.page.PageName.{PageName}
 use Rattle.lc_world.specs.GoneOn.{IsLeftByGets, RecordsMore}
 use Rattle.lc_world.specs.Link.{IsHonestWith, IsQuietWith, LinkSeen}
 use Rattle.lc_world.specs.declared.entry.Entry.{Entry}
+use Rattle.lc_world.specs.declared.entry.RecordedReply.TheVariants.{Hidden}
 use Rattle.publisher_spec.specs.Reply.{HasReply}
 use Rattle.publisher_spec.specs.Response.{IsDocument}
 use Rattle.publisher_spec.specs.Side.{IsLater, IsValidSide, Side}
@@ -20,16 +21,30 @@ use Rattle.page_relay.specs.Kept.{Kept}
 use Rattle.page_relay.specs.Relay.{HasRelayedOf, RelayState, new_relay, relay_seen, transcript_of}
 use Rattle.page_relay.specs.Told.{HasRelayed, IsTold}
 
--- the same is kept, and as many were handed on
-pub record AreOne (a b : List Kept) (m n : ℕ) : Type 0 where
+-- these were recorded of one exchange: the same request to the same authority, with the same end, unless one of them hides that
+pub record IsAlike (a b : Entry) : Type 0 where
+  pub authority_is : a.authority ≡ b.authority
+  pub request_is : a.request ≡ b.request
+  pub end_is : (a.reply ≡ Hidden) ⊎ ((b.reply ≡ Hidden) ⊎ (a.reply ≡ b.reply))
+
+-- one after the other
+abbrev pub AreAlike : List Entry → List Entry → Type 0
+AreAlike [] [] = Unit {0}
+AreAlike [] (b ∷ more) = ⊥
+AreAlike (a ∷ more) [] = ⊥
+AreAlike (a ∷ more) (b ∷ others) = IsAlike a b × AreAlike more others
+
+-- The same is kept, and the same exchanges were handed on, in one order, as far as the link below does not hide how they ended.
+pub record AreOne (a b : List Kept) (handed_on other : List Entry) : Type 0 where
   pub kept_is : a ≡ b
-  pub count_is : m ≡ n
+  pub alike : AreAlike handed_on other
+  pub count_is : length handed_on ≡ length other
 
 -- after the same exchanges
 abbrev pub OneMemory : Type 0
 OneMemory =
-    (base : BaseParts) (entries : ℕ) (kept : List Kept) (own : List Entry) (a b : List Kept) (m n : ℕ)
-    → AreRelayed base entries kept own a m → AreRelayed base entries kept own b n → AreOne a b m n
+    (base : BaseParts) (entries : ℕ) (kept : List Kept) (own : List Entry) (a b : List Kept) (handed_on other : List Entry)
+    → AreRelayed base entries kept own a handed_on → AreRelayed base entries kept own b other → AreOne a b handed_on other
 
 -- what is kept agrees with every later side
 abbrev pub FitsLater : Type 0

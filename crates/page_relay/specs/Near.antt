@@ -1,5 +1,5 @@
 -- Near values that the definitions of relays refuse.
-use Rattle.std.specs.Prelude.{◌≡◌, ◌≢◌, ◌+◌, ◌-◌, ◌^◌, ◌<◌, ℕ, Bool, true, ◌++◌, ◌∷◌, [], List, length, Some, codes}
+use Rattle.std.specs.Prelude.{◌≡◌, ◌≢◌, ◌+◌, ◌-◌, ◌^◌, ◌<◌, ℕ, Bool, true, ◌++◌, ◌∷◌, [], List, length, Option, Some, codes}
 use Rattle.std.specs.List.{Contains}
 use Rattle.connection_uri.specs.Base.{BaseParts}
 use Rattle.http_text.specs.Reply.{IsReply}
@@ -65,4 +65,18 @@ NotOneMore =
 
 -- a request whose reply is kept is not handed on again
 abbrev pub NotHandedOnAgain : Type 0
-NotHandedOnAgain = (reply : List ℕ) (kept : List Kept) → IsToKeep example stops.request reply → Follows example 1 (replied reply ∷ replied reply ∷ []) kept 2 → ⊥
+NotHandedOnAgain =
+    (reply : List ℕ) (kept : List Kept) (made now : Option (List Entry)) → IsToKeep example stops.request reply
+    → Follows example 1 made now (replied reply ∷ replied reply ∷ []) kept 2 → ⊥
+
+-- how an exchange of a relay ended is not hidden
+abbrev pub NoneIsHidden : Type 0
+NoneIsHidden =
+    (made now : Option (List Entry)) (kept : List Kept) (own : List Entry) (entry : Entry) (relayed forwarded : ℕ) (exact : Bool)
+    → Contains own entry → entry.reply ≡ recorded_replies.Hidden → IsTold made now kept own relayed forwarded exact → ⊥
+
+-- the link below has not recorded two exchanges in the other order, where their requests differ
+abbrev pub NotInOtherOrder : Type 0
+NotInOtherOrder =
+    (base : BaseParts) (entries : ℕ) (made own more : List Entry) (first second : Entry) (kept : List Kept) (forwarded : ℕ) → first.request ≢ second.request
+    → Follows base entries (Some made) (Some (made ++ second ∷ first ∷ more)) (first ∷ second ∷ own) kept forwarded → ⊥

@@ -40,9 +40,15 @@ pub record IsReplied (handed_on : List Entry) (authority request reply : List �
 abbrev pub IsKeptOf : List Entry → Kept → Type 0
 IsKeptOf handed_on kept = IsReplied handed_on kept.0.authority kept.0.request kept.1
 
--- a reply that was given came by one of these exchanges
+-- This is recorded of an exchange of a relay: the reply that it gave, which came by one of these exchanges, or that it failed. It is never hidden.
+abbrev pub IsGiven : List Entry → List ℕ → List ℕ → RecordedReply → Type 0
+IsGiven handed_on authority request recorded_replies.Hidden = ⊥
+IsGiven handed_on authority request recorded_replies.Failed = Unit {0}
+IsGiven handed_on authority request (recorded_replies.Reply reply) = IsReplied handed_on authority request reply
+
+-- of each exchange it is recorded so
 abbrev pub IsGivenOf : List Entry → Entry → Type 0
-IsGivenOf handed_on entry = (reply : List ℕ) → entry.reply ≡ recorded_replies.Reply reply → IsReplied handed_on entry.authority entry.request reply
+IsGivenOf handed_on entry = IsGiven handed_on entry.authority entry.request entry.reply
 
 -- so many, up to the last value of a count
 abbrev pub counted : List Entry → ℕ
@@ -59,8 +65,8 @@ pub record IsTold (made now : Option (List Entry)) (kept : List Kept) (own : Lis
   pub relayed_is : IsTrue exact → relayed ≡ counted own
   pub forwarded_is : IsTrue exact → forwarded ≡ counted handed_on
 
--- And of a relay that keeps so many replies under this base. If its counts are exact, what it keeps and how many exchanges it handed on follow
--- from its own exchanges.
+-- And of a relay that keeps so many replies under this base. If its counts are exact, what it keeps follows from its own exchanges, and so does
+-- which of them it handed on: those are what the link below has recorded since.
 pub record HasRelayed (base : BaseParts) (entries : ℕ) (made now : Option (List Entry)) (kept : List Kept) (own : List Entry) (relayed forwarded : ℕ) (exact : Bool) : Type 0 where
   pub told : IsTold made now kept own relayed forwarded exact
-  pub follows : IsTrue exact → Follows base entries own kept forwarded
+  pub follows : IsTrue exact → Follows base entries made now own kept forwarded

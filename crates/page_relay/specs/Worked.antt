@@ -76,4 +76,7 @@ pub record WorkedTranscripts : Type 0 where
 pub record WorkedTold (reply : List ℕ) : Type 0 where
   pub told : IsTold (Some (failed ∷ [])) (Some (failed ∷ replied reply ∷ [])) ((stops, reply) ∷ []) (replied reply ∷ replied reply ∷ []) 2 1 true
   pub hidden : IsTold (Some []) (Some (entry_of stops.authority stops.request Hidden ∷ [])) ((stops, reply) ∷ []) (replied reply ∷ replied reply ∷ []) 2 1 true
-  pub follows : IsToKeep example stops.request reply → Follows example 1 (replied reply ∷ replied reply ∷ []) ((stops, reply) ∷ []) 1
+  pub follows : IsToKeep example stops.request reply
+      → Follows example 1 (Some (failed ∷ [])) (Some (failed ∷ replied reply ∷ [])) (replied reply ∷ replied reply ∷ []) ((stops, reply) ∷ []) 1
+  pub follows_hidden : IsToKeep example stops.request reply
+      → Follows example 1 (Some []) (Some (entry_of stops.authority stops.request Hidden ∷ [])) (replied reply ∷ replied reply ∷ []) ((stops, reply) ∷ []) 1

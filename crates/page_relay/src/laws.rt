@@ -2,7 +2,7 @@ ghost use Rattle.page_relay.specs.Laws.{ClientsAreKept, CountsAreLengths, Counts
 
 use lc_world::Link;
 
-/// What is kept after exchanges is one, and how many of them were handed on.
+/// What is kept after exchanges is one, and so are those that were handed on, as far as the link below does not hide how they ended.
 pub fn one_memory()
     ensures { OneMemory }
 {}

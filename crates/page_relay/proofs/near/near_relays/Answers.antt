@@ -15,3 +15,9 @@ returns-clause-more c = near.not_one_more
 
 pub returns-clause-again : goal.returns-clause-again
 returns-clause-again c = near.not_handed_on_again
+
+pub returns-clause-hidden : goal.returns-clause-hidden
+returns-clause-hidden c = near.none_is_hidden
+
+pub returns-clause-order : goal.returns-clause-order
+returns-clause-order c = near.not_in_other_order

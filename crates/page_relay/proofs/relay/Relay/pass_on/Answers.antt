@@ -15,5 +15,5 @@ invariant_of-self g c =
       told =
           passed_after (g.L.Link.seen was.made.value).recorded (g.L.Link.seen was.exchanger.inner).recorded (g.L.Link.seen told.new.exchanger.inner).recorded was.exchanger.memory.kept was.transcript
           told.new.transcript was.relayed was.exchanger.forwarded was.exact c.args.authority.now c.args.request.now told.new.reply.items told.result told.ensures.below told.ensures.records c.self.invariant.told;
-      follows = follows_not _ _ _ _ _;
+      follows = follows_not _ _ _ _ _ _ _;
     })

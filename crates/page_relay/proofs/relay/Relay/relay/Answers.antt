@@ -20,7 +20,7 @@ invariant_of-self g c =
           told.new.exchanger.memory.kept was.transcript was.relayed was.exchanger.forwarded told.new.exchanger.forwarded was.exact sent (reply_for sent was.exchanger.memory.kept) told.new.reply.items
           told.result told.new.transcript refl told.ensures.below told.ensures.kept told.ensures.records c.self.invariant.told;
       follows =
-          follows_after g.L.Link.seen was.exchanger.inner told.new.exchanger.inner was.exchanger.base was.exchanger.memory.entries was.exchanger.memory.kept told.new.exchanger.memory.kept was.transcript
+          follows_after g.L.Link.seen (g.L.Link.seen was.made.value).recorded was.exchanger.inner told.new.exchanger.inner was.exchanger.base was.exchanger.memory.entries was.exchanger.memory.kept told.new.exchanger.memory.kept was.transcript
           told.new.transcript was.exchanger.forwarded told.new.exchanger.forwarded was.exact c.args.authority.now c.args.request.now c.self.invariant.follows told.new.reply.items told.result told.ensures.below
           told.ensures.kept told.ensures.records;
     })
