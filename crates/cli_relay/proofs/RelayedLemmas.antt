@@ -7,7 +7,7 @@ use Rattle.cli_relay.specs.Relayed.{IsRelayed, counts_line_of, exchanges_in, rel
 use Rattle.cli_relay.specs.RelayedBy.{IsLeftBelow, IsRelayedBy}
 use Rattle.cli_relay.proofs.SumLemmas.{all_asked, ends_summed, recorded_len, sum_after}
 use Rattle.connection_uri.specs.Base.{BaseParts}
-use Rattle.laws_plan.specs.Planned.{IsPlanned}
+use Rattle.cli_plan.specs.Planned.{IsPlanned}
 use Rattle.laws_replay.specs.Caused.{AreCaused}
 use Rattle.laws_replay.specs.Events.{questions_in}
 use Rattle.laws_replay.specs.declared.event.Event.{Event}

@@ -2,7 +2,7 @@
 use Rattle.std.specs.Prelude.{◌≡◌, ◌-◌, ◌^◌, ℕ, true, min, sum_by, List, [], ◌++◌, codes, decimal}
 use Rattle.cli_ask.specs.declared.end.ClientEnd.{ClientEnd}
 use Rattle.connection_uri.specs.Base.{BaseParts}
-use Rattle.laws_plan.specs.Planned.{IsPlanned}
+use Rattle.cli_plan.specs.Planned.{IsPlanned}
 use Rattle.laws_replay.specs.declared.event.Event.{Event}
 use Rattle.lc_world.specs.Link.{LinkSeen}
 use Rattle.lc_world.specs.declared.entry.Entry.{Entry}
@@ -28,7 +28,8 @@ relay_after base entries link own kept after = relayed_seen after (transcript_of
 
 -- The clients planned over a new relay of the link with so many entries, which has these exchanges of its own. The text is their blocks and a line
 -- with two counts. The first one is the number of the relay's exchanges, which is the sum of the clients'. The second one is how many of them were
--- handed on: those for which the relay kept no reply. By these the transcript of the link has grown, if it has one.
+-- handed on: those for which the relay kept no reply. By these, in order, and by no others the transcript of the link
+-- has grown, if it has one.
 pub record IsRelayed (base : BaseParts) (all : List Event) (cache entries : ℕ) (before after : LinkSeen) (text : List ℕ) (ends : List ClientEnd) : Type 0 where
   pub blocks : List ℕ
   pub own : List Entry
