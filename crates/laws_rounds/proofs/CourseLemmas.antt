@@ -6,7 +6,7 @@ use Rattle.lc_model.specs.declared.query.Query.{Query}
 use Rattle.connection_uri.specs.Base.{BaseParts}
 use Rattle.lc_world.specs.Link.{IsHonestWith, LinkSeen}
 use Rattle.page_client.specs.Client.{shown}
-use Rattle.page_client.specs.Shown.{Begins, Shown, first_outcome, first_phase, want_of}
+use Rattle.page_client.specs.Shown.{Begins, IsRefusal, Shown, first_outcome, first_phase, want_of}
 use Rattle.page_client.specs.declared.client.Client.{Client}
 use Rattle.page_client.specs.declared.fault.QueryFault.{QueryFault}
 use Rattle.page_client.specs.declared.outcome.Outcome.TheVariants.{LinkFault}
@@ -26,7 +26,7 @@ use Rattle.laws_convoys.proofs.TurnLemmas.{rose_wider}
 use Rattle.rounds_client.specs.Course.{LeadsTo, Point}
 use Rattle.rounds_client.specs.Given.{Gives, Was}
 use Rattle.laws_rounds.specs.Right.{IsNamed, IsNamedByGate}
-use Rattle.laws_rounds.proofs.ExchangeLemmas.{HadNoReply, NamesVersion, OneExchange, WasReplied, one_exchange}
+use Rattle.laws_rounds.proofs.ExchangeLemmas.{HadNoReply, IsVersioned, NamesVersion, OneExchange, WasReplied, one_exchange}
 use Rattle.laws_rounds.proofs.GivenLemmas.{Holds, OwnDoc, doc_by_shown}
 use Rattle.laws_rounds.proofs.RecordedLemmas.{asked_nothing, asked_then}
 
@@ -38,6 +38,7 @@ pub record AskedJust (s : Shown) (wanted asked : List Want) : Type 0 where
 -- or for the next of its wants too, where the link failed
 pub record AskedOneMore (side : Side) (s : Shown) (wanted asked : List Want) : Type 0 where
   pub by_fault : HasFault s
+  pub accepted : IsRefusal s.query None
   pub want : Want
   pub are : asked ≡ wanted ++ want ∷ []
   pub gate : wanted ≡ [] → want ≡ wants.Gate
@@ -55,6 +56,7 @@ pub record SoFar {X : Type 0} (seen : X → LinkSeen) (base : BaseParts) (query 
   pub exact : AskedJust (shown point.client) wanted asked ⊎ AskedOneMore left (shown point.client) wanted asked
   pub fault : (low high : ℕ) → (shown point.client).outcome ≡ Some (LinkFault low high) → RoseWithin (seen start).faults (seen point.link).faults low high
   pub named : IsNamed seen base query side left start point.link (shown point.client).version
+  pub versioned : IsVersioned (shown point.client).version wanted
   pub fits : FitsSide left point.client wanted
   pub holds : Holds left point.client point.given wanted
 
@@ -72,6 +74,7 @@ exact_then left s wanted asked more want all (inr failed) =
     let no_more : wanted ++ more ≡ wanted = ap (λ (l : List Want). wanted ++ l) failed.none ∙ append-nil wanted in
     inr (record {
       by_fault = failed.by_fault;
+      accepted = failed.accepted;
       want = want;
       are = ap (λ (l : List Want). l ++ want ∷ []) (all ∙ sym no_more);
       gate = λ nothing. failed.gate (sym no_more ∙ nothing);
@@ -141,6 +144,7 @@ module _ {X : Type 0} (seen : X → LinkSeen) (base : BaseParts) (query : Query)
         fault = λ low high some.
             rose_wider (seen start).faults (seen mid.link).faults (seen end.link).faults (seen end.link).faults low high s.honest.not_fallen (no_less (seen end.link).faults) (o.fault low high some);
         named = named_then s.left o.left mid.link end.link (shown mid.client) (shown end.client) s.wanted s.asked o.want honest o.honest s.query_is all recorded s.named o.version;
+        versioned = o.versioned;
         fits = o.fits;
         holds = o.holds;
       }
@@ -177,6 +181,7 @@ none_so_far begins_law seen base query side start client honest begins =
       exact = inl (record { no_fault = no_fault; are = refl });
       fault = λ low high some. absurd (no_fault (record { low = low; high = high; is = some }));
       named = subst P (sym no_version) tt;
+      versioned = subst (λ (v : Option ℕ). IsVersioned v []) (sym no_version) refl;
       fits = begins_law side query client begins;
       holds = record {
         own = All-nil (IsOwnPage side);

@@ -24,7 +24,7 @@ use Rattle.publisher_spec.specs.Side.{Side}
 use Rattle.laws_clients.specs.Answered.{AnswersAt, NeededAt, answer_of}
 use Rattle.laws_clients.specs.Fits.{FitsAt, HasAnswered, HasFailed, IsDenied}
 use Rattle.laws_clients.specs.Steps.{BeginsInAgreement}
-use Rattle.laws_clients.specs.Wants.{AreWants, HasEnds}
+use Rattle.laws_clients.specs.Wants.{AreWants, HasEnds, wants_of}
 use Rattle.laws_clients.proofs.WantsLemmas.{ends_with_an_answer, faults_cut_short, no_reply_fails_a_test, refusals_are_deserved}
 use Rattle.laws_convoys.specs.Leaves.{HasFault, RoseWithin}
 use Rattle.laws_convoys.specs.Requests.{TellsAsked}
@@ -36,6 +36,7 @@ use Rattle.rounds_client.specs.declared.ending.FewestEnd.{FewestEnd}
 use Rattle.laws_rounds.specs.Laws.{FewestEndsRight, FewestIsFound}
 use Rattle.laws_rounds.specs.Right.{EndsAt, EndsWithFewest, HasFewest, IsFront, IsNamed, IsNamedByGate, IsRefused, IsRight}
 use Rattle.laws_rounds.proofs.CourseLemmas.{AskedJust, AskedOneMore, SoFar, none_so_far, so_far}
+use Rattle.laws_rounds.proofs.ExchangeLemmas.{IsVersioned}
 use Rattle.laws_rounds.proofs.GivenLemmas.{doc_of_finder, names_in, names_of_wants}
 
 -- who has an outcome has ended
@@ -48,6 +49,16 @@ finished side client wanted outcome phases.Finished fits is = refl
 -- an answer is no fault of the link, and a refusal is none
 no_fault_of : (client : Client) (outcome : Outcome) → ((low high : ℕ) → outcome ≡ outcomes.LinkFault low high → ⊥) → (shown client).outcome ≡ Some outcome → ¬ HasFault (shown client)
 no_fault_of client outcome not is fault = let some = fault.is in let same : outcome ≡ outcomes.LinkFault fault.low fault.high = cc in not fault.low fault.high same
+
+-- who received nothing has no version
+unversioned : (version : Option ℕ) (wanted : List Want) → IsVersioned version wanted → wanted ≡ [] → version ≡ None
+unversioned None wanted versioned none = refl
+unversioned (Some number) wanted versioned none = absurd (versioned none)
+
+-- and who received the stops document has one
+numbered : (version : Option ℕ) (wanted : List Want) → IsVersioned version wanted → wanted ≡ wants_of [] → (number : ℕ) × (version ≡ Some number)
+numbered None wanted versioned is = let none : wanted ≡ [] = versioned in let e : wants_of [] ≡ [] = sym is ∙ none in absurd (cc)
+numbered (Some number) wanted versioned is = (number, refl)
 
 module _ {X : Type 0} (seen : X → LinkSeen) (base : BaseParts) (query : Query) (side : Side) (start : X) (last : Point X) (made : ℕ) (s : SoFar seen base query side start last made) where
   -- who ended by no fault asked for exactly what it received
@@ -101,23 +112,27 @@ module _ {X : Type 0} (seen : X → LinkSeen) (base : BaseParts) (query : Query)
       has_fewest version None None has same (asked_just outcomes.NoJourney (λ low high e. cc) is) (record { live = at.live; are_live = at.are_live; is_fewest = at.is_answer })
 
   -- a refusal was deserved
-  refused_right : (fault : QueryFault) → s.asked ≡ s.wanted → IsDenied s.left (shown last.client) s.wanted fault → IsRefused s.left query s.asked fault
-  refused_right HorizonRange all denied =
+  refused_right : (version : Option ℕ) (fault : QueryFault) → version ≡ (shown last.client).version → s.asked ≡ s.wanted → IsDenied s.left (shown last.client) s.wanted fault → IsRefused s.left query version s.asked fault
+  refused_right version HorizonRange same all denied =
       let R : Query → Type 0 = λ q. IsRefusal q (Some HorizonRange) in
-      record { deserved = subst R s.query_is denied.deserved; asked_are = all ∙ denied.given }
-  refused_right SameStop all denied =
+      record { deserved = subst R s.query_is denied.deserved; no_version = same ∙ unversioned (shown last.client).version s.wanted s.versioned denied.given; asked_are = all ∙ denied.given }
+  refused_right version SameStop same all denied =
       let R : Query → Type 0 = λ q. IsRefusal q (Some SameStop) in
-      record { deserved = subst R s.query_is denied.deserved; asked_are = all ∙ denied.given }
-  refused_right UnknownFrom all denied =
+      record { deserved = subst R s.query_is denied.deserved; no_version = same ∙ unversioned (shown last.client).version s.wanted s.versioned denied.given; asked_are = all ∙ denied.given }
+  refused_right version UnknownFrom same all denied =
+      let at = numbered (shown last.client).version s.wanted s.versioned denied.given in
       let R : Query → Type 0 = λ q. IsRefusal q None in
       let F : Query → Type 0 = λ q. HasStop s.left.doc.stops q.from → ⊥ in
-      record { accepted = subst R s.query_is denied.accepted; no_from = subst F s.query_is denied.no_from; asked_are = all ∙ denied.given }
-  refused_right UnknownTo all denied =
+      record { accepted = subst R s.query_is denied.accepted; number = at.0; at_version = same ∙ at.1; no_from = subst F s.query_is denied.no_from; asked_are = all ∙ denied.given }
+  refused_right version UnknownTo same all denied =
+      let at = numbered (shown last.client).version s.wanted s.versioned denied.given in
       let R : Query → Type 0 = λ q. IsRefusal q None in
       let F : Query → Type 0 = λ q. HasStop s.left.doc.stops q.from in
       let T : Query → Type 0 = λ q. HasStop s.left.doc.stops q.to → ⊥ in
       record {
         accepted = subst R s.query_is denied.accepted;
+        number = at.0;
+        at_version = same ∙ at.1;
         from = subst F s.query_is denied.from;
         no_to = subst T s.query_is denied.no_to;
         asked_are = all ∙ denied.given;
@@ -146,6 +161,12 @@ module _ {X : Type 0} (seen : X → LinkSeen) (base : BaseParts) (query : Query)
     by_exact (inl just) = absurd (just.no_fault (record { low = low; high = high; is = is }))
     by_exact (inr more) = front_of_more version (shown last.client).version same refl more (faults_cut_short s.left last.client s.wanted low high s.fits is)
 
+  accepted_right : (low high : ℕ) → (shown last.client).outcome ≡ Some (outcomes.LinkFault low high) → IsRefusal query None
+  accepted_right low high is = by_exact s.exact where
+    by_exact : AskedJust (shown last.client) s.wanted s.asked ⊎ AskedOneMore s.left (shown last.client) s.wanted s.asked → IsRefusal query None
+    by_exact (inl just) = absurd (just.no_fault (record { low = low; high = high; is = is }))
+    by_exact (inr more) = subst (λ (q : Query). IsRefusal q None) s.query_is more.accepted
+
   -- each outcome is right
   outcome_right : FewestOfNeededAt → (version : Option ℕ) (own outcome : Outcome) → version ≡ (shown last.client).version → (shown last.client).outcome ≡ Some own → AnswersFewest query last.given own outcome →
       EndsAt s.left query version s.asked (seen start).faults (seen last.link).faults outcome
@@ -155,10 +176,10 @@ module _ {X : Type 0} (seen : X → LinkSeen) (base : BaseParts) (query : Query)
       subst E (sym answer) (none_right version same is)
   outcome_right law version (outcomes.Refused fault) outcome same is answer =
       let E : Outcome → Type 0 = λ o. EndsAt s.left query version s.asked (seen start).faults (seen last.link).faults o in
-      subst E (sym answer) (refused_right fault (asked_just (outcomes.Refused fault) (λ low high e. cc) is) (refusals_are_deserved s.left last.client s.wanted fault s.fits is))
+      subst E (sym answer) (refused_right version fault same (asked_just (outcomes.Refused fault) (λ low high e. cc) is) (refusals_are_deserved s.left last.client s.wanted fault s.fits is))
   outcome_right law version (outcomes.LinkFault low high) outcome same is answer =
       let E : Outcome → Type 0 = λ o. EndsAt s.left query version s.asked (seen start).faults (seen last.link).faults o in
-      subst E (sym answer) (record { front = front_right version low high same is; rose = s.fault low high is })
+      subst E (sym answer) (record { accepted = accepted_right low high is; front = front_right version low high same is; rose = s.fault low high is })
   outcome_right law version (outcomes.PeerWrong reply fault) outcome same is answer = absurd (no_reply_fails_a_test s.left last.client s.wanted reply fault s.fits is)
 
   ends_right : FewestOfNeededAt → (end : FewestEnd) (own : Outcome) → end.version ≡ (shown last.client).version → end.exchanges ≡ made → (shown last.client).outcome ≡ Some own → AnswersFewest query last.given own end.outcome →
@@ -189,11 +210,11 @@ rose_over before after low high rose = once before after low high rose.from rose
   once a b low high from to rose = omega arith
 
 -- a question that may be asked is not refused
-not_refused : (side : Side) (query : Query) (asked : List Want) (fault : QueryFault) → IsRefusal query None → HasEnds side.doc query → IsRefused side query asked fault → ⊥
-not_refused side query asked HorizonRange accepted ends refused = refused.deserved accepted.0
-not_refused side query asked SameStop accepted ends refused = accepted.1 refused.deserved.1
-not_refused side query asked UnknownFrom accepted ends refused = refused.no_from ends.from
-not_refused side query asked UnknownTo accepted ends refused = refused.no_to ends.to
+not_refused : (side : Side) (query : Query) (version : Option ℕ) (asked : List Want) (fault : QueryFault) → IsRefusal query None → HasEnds side.doc query → IsRefused side query version asked fault → ⊥
+not_refused side query version asked HorizonRange accepted ends refused = refused.deserved accepted.0
+not_refused side query version asked SameStop accepted ends refused = accepted.1 refused.deserved.1
+not_refused side query version asked UnknownFrom accepted ends refused = refused.no_from ends.from
+not_refused side query version asked UnknownTo accepted ends refused = refused.no_to ends.to
 
 module _ {X : Type 0} (seen : X → LinkSeen) (base : BaseParts) (query : Query) (side : Side) (before after : X) (end : FewestEnd) (right : IsRight seen base query side before after end) where
   named_some : (version : ℕ) → end.version ≡ Some version → IsNamedByGate seen base query side right.left before after version
@@ -219,7 +240,7 @@ module _ {X : Type 0} (seen : X → LinkSeen) (base : BaseParts) (query : Query)
       EndsAt right.left query end.version right.asked (seen before).faults (seen after).faults outcome → (answer : Option Journey) × (end.outcome ≡ answered answer) × EndsWithFewest seen base query side before after end answer
   found_by (outcomes.Found journey) is accepted ends no_fault at = (Some journey, is, ends_with (Some journey) at)
   found_by outcomes.NoJourney is accepted ends no_fault at = (None, is, ends_with None at)
-  found_by (outcomes.Refused fault) is accepted ends no_fault at = absurd (not_refused right.left query right.asked fault accepted ends at)
+  found_by (outcomes.Refused fault) is accepted ends no_fault at = absurd (not_refused right.left query end.version right.asked fault accepted ends at)
   found_by (outcomes.LinkFault low high) is accepted ends no_fault at = absurd (no_fault (rose_over (seen before).faults (seen after).faults low high at.rose))
   found_by (outcomes.PeerWrong reply fault) is accepted ends no_fault at = absurd at
 

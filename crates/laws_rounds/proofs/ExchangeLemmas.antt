@@ -10,7 +10,7 @@ use Rattle.connection_uri.specs.Base.{BaseParts}
 use Rattle.page_json.specs.declared.page.Page.{Page}
 use Rattle.lc_world.specs.Link.{Exchanges, IsHonestWith, LinkSeen}
 use Rattle.page_client.specs.Client.{AfterStops, shown}
-use Rattle.page_client.specs.Shown.{Shown, ended, want_of}
+use Rattle.page_client.specs.Shown.{IsRefusal, Shown, ended, want_of}
 use Rattle.page_client.specs.declared.client.Client.{Client}
 use Rattle.page_client.specs.declared.fault.PeerFault.{PeerFault}
 use Rattle.page_client.specs.declared.outcome.Outcome.{Outcome}
@@ -50,6 +50,7 @@ pub record WasReplied (new : Shown) (more : List Want) (want : Want) : Type 0 wh
 -- the exchange failed: it was for the next of the wants
 pub record HadNoReply (left : Side) (new : Shown) (wanted more : List Want) (want : Want) : Type 0 where
   pub by_fault : HasFault new
+  pub accepted : IsRefusal new.query None
   pub none : more ≡ []
   pub gate : wanted ≡ [] → want ≡ wants.Gate
   pub next : (version : ℕ) (all : List Want) → new.version ≡ Some version → AreWants left version new.query all → (rest : List Want) × (all ≡ wanted ++ want ∷ rest)
@@ -59,6 +60,11 @@ pub record NamesVersion (left : Side) (old new : Shown) (wanted : List Want) (wa
   pub first : wanted ≡ []
   pub gate : want ≡ wants.Gate
   pub is : new.version ≡ Some (version_at left old.query.known)
+
+-- who received something has a version, and who received nothing has none
+abbrev pub IsVersioned : Option ℕ → List Want → Type 0
+IsVersioned None wanted = wanted ≡ []
+IsVersioned (Some version) wanted = wanted ≢ []
 
 -- what an exchange leaves
 pub record OneExchange (base : BaseParts) (side : Side) (old new : Client) (wanted : List Want) (now : Was) (before after : LinkSeen) : Type 0 where
@@ -70,6 +76,7 @@ pub record OneExchange (base : BaseParts) (side : Side) (old new : Client) (want
   pub recorded : TellsAsked before.recorded after.recorded base (shown old).query (want ∷ [])
   pub query : (shown new).query ≡ (shown old).query
   pub version : NamesVersion left (shown old) (shown new) wanted want ⊎ ((shown new).version ≡ (shown old).version)
+  pub versioned : IsVersioned (shown new).version (wanted ++ more)
   pub how : WasReplied (shown new) more want ⊎ HadNoReply left (shown new) wanted more want
   pub fault : (low high : ℕ) → (shown new).outcome ≡ Some (LinkFault low high) → RoseWithin before.faults after.faults low high
   pub fits : FitsSide left new (wanted ++ more)
@@ -88,6 +95,35 @@ nothing_before_gate side client wanted phases.Gate fits is = fits.given
 nothing_before_gate side client wanted (phases.Stops first) fits is = absurd (cc)
 nothing_before_gate side client wanted (phases.Page name) fits is = absurd (cc)
 nothing_before_gate side client wanted phases.Finished fits is = absurd (cc)
+
+-- who waits asks a question that is not refused
+accepted_so : (side : Side) (client : Client) (wanted : List Want) (phase : Phase) → FitsAt side client wanted phase → (want_of phase ≡ wants.Finished → ⊥) → IsRefusal client.query None
+accepted_so side client wanted phases.Gate fits waits = fits.accepted
+accepted_so side client wanted (phases.Stops first) fits waits = fits.accepted
+accepted_so side client wanted (phases.Page name) fits waits = fits.accepted
+accepted_so side client wanted phases.Finished fits waits = absurd (waits refl)
+
+begins_with : (first : Want) (wanted rest : List Want) → wanted ≡ first ∷ rest → wanted ≢ []
+begins_with first wanted rest is none = let e : first ∷ rest ≡ [] = sym is ∙ none in cc
+
+pub one_at_least : (wanted : List Want) (want : Want) → wanted ++ want ∷ [] ≢ []
+one_at_least [] want none = cc
+one_at_least (first ∷ wanted) want none = cc
+
+-- who waits has a version where it received something
+versioned_so : (side : Side) (client : Client) (wanted : List Want) (phase : Phase) → FitsAt side client wanted phase → (want_of phase ≡ wants.Finished → ⊥) → IsVersioned client.version wanted
+versioned_so side client wanted phases.Gate fits waits = subst (λ (v : Option ℕ). IsVersioned v wanted) (sym fits.no_version) fits.given
+versioned_so side client wanted (phases.Stops first) fits waits = subst (λ (v : Option ℕ). IsVersioned v wanted) (sym fits.at_version) (begins_with wants.Gate wanted _ fits.given)
+versioned_so side client wanted (phases.Page name) fits waits = subst (λ (v : Option ℕ). IsVersioned v wanted) (sym fits.at_version) (begins_with wants.Gate wanted _ fits.given)
+versioned_so side client wanted phases.Finished fits waits = absurd (waits refl)
+
+-- who waits for something after the time gate has one
+version_past_gate : (side : Side) (client : Client) (wanted : List Want) (phase : Phase) → FitsAt side client wanted phase → (want_of phase ≡ wants.Finished → ⊥) → (want_of phase ≡ wants.Gate → ⊥)
+    → (number : ℕ) × (client.version ≡ Some number)
+version_past_gate side client wanted phases.Gate fits waits past = absurd (past refl)
+version_past_gate side client wanted (phases.Stops first) fits waits past = (first.version, fits.at_version)
+version_past_gate side client wanted (phases.Page name) fits waits past = (name.version, fits.at_version)
+version_past_gate side client wanted phases.Finished fits waits past = absurd (waits refl)
 
 -- the counts with which a client ended
 rose_within : (outcome : Option Outcome) (before after low high : ℕ) → outcome ≡ Some (LinkFault before after) → outcome ≡ Some (LinkFault low high) → Rose before after → RoseWithin before after low high
@@ -130,12 +166,18 @@ module _ (base : BaseParts) (side : Side) (old new : Client) (wanted : List Want
   no_outcome : (want : Want) → want_of (shown old).phase ≡ want → want ≢ wants.Finished → (shown old).outcome ≡ None
   no_outcome want wants_it not = none_yet side old wanted old.phase fits.fits (λ e. not (sym wants_it ∙ e))
 
+  -- who waited for something after the time gate keeps its version
+  version_kept : (want : Want) → want_of (shown old).phase ≡ want → want ≢ wants.Finished → want ≢ wants.Gate → (shown new).version ≡ (shown old).version → (number : ℕ) × ((shown new).version ≡ Some number)
+  version_kept want wants_it not past stays =
+      let some = version_past_gate side old wanted old.phase fits.fits (λ e. not (sym wants_it ∙ e)) (λ e. past (sym wants_it ∙ e)) in
+      (some.0, stays ∙ some.1)
+
   -- the link gave a reply
   by_reply : (reply : List ℕ) (ex : IsExchange base (shown old) before after (Some reply)) (want : Want) → want_of (shown old).phase ≡ want → want ≢ wants.Finished →
       FitsSide (exchanged (Some reply) ex).side new (wanted ++ want ∷ []) → (shown new).query ≡ (shown old).query →
-      (NamesVersion (exchanged (Some reply) ex).side (shown old) (shown new) wanted want ⊎ ((shown new).version ≡ (shown old).version)) → ¬ HasFault (shown new) →
+      (NamesVersion (exchanged (Some reply) ex).side (shown old) (shown new) wanted want ⊎ ((shown new).version ≡ (shown old).version)) → (number : ℕ) × ((shown new).version ≡ Some number) → ¬ HasFault (shown new) →
       Holds (exchanged (Some reply) ex).side new now (wanted ++ want ∷ []) → OneExchange base side old new wanted now before after
-  by_reply reply ex want wants_it not client query version no_fault held = record {
+  by_reply reply ex want wants_it not client query version some no_fault held = record {
     left = (exchanged (Some reply) ex).side;
     honest = leaves (Some reply) ex;
     want = want;
@@ -144,6 +186,7 @@ module _ (base : BaseParts) (side : Side) (old new : Client) (wanted : List Want
     recorded = asked_one before.recorded after.recorded base (shown old).query want ex.request (Some reply) (request_is (Some reply) ex want wants_it) ex.recorded;
     query = query;
     version = version;
+    versioned = subst (λ (v : Option ℕ). IsVersioned v (wanted ++ want ∷ [])) (sym some.1) (one_at_least wanted want);
     how = inl (record { no_fault = no_fault; are = refl });
     fault = λ low high some. absurd (no_fault (record { low = low; high = high; is = some }));
     fits = client;
@@ -168,8 +211,12 @@ module _ (base : BaseParts) (side : Side) (old new : Client) (wanted : List Want
         recorded = asked_one before.recorded after.recorded base (shown old).query want ex.request None (request_is None ex want wants_it) ex.recorded;
         query = keeps.1.query;
         version = inr keeps.1.version;
+        versioned =
+            subst (λ (v : Option ℕ). IsVersioned v (wanted ++ [])) (sym keeps.1.version)
+            (subst (IsVersioned (shown old).version) (sym (append-nil wanted)) (versioned_so side old wanted old.phase fits.fits waits));
         how = inr (record {
           by_fault = record { low = before.faults; high = after.faults; is = outcome };
+          accepted = subst (λ (q : Query). IsRefusal q None) (sym keeps.1.query) (accepted_so side old wanted old.phase fits.fits waits);
           none = refl;
           gate = λ nothing. sym wants_it ∙ waits_at_first side old wanted old.phase fits.fits waits nothing;
           next = λ version all at are.
@@ -197,6 +244,7 @@ module _ (base : BaseParts) (side : Side) (old new : Client) (wanted : List Want
       let pages : now.pages ≡ given.pages = ap (λ (w : Was). w.pages) same in
       by_reply reply ex wants.Gate wants_it (λ e. cc) keeps.0 keeps.1.query
       (inl (record { first = nothing_before_gate side old wanted old.phase fits.fits wants_it; gate = refl; is = keeps.1.version }))
+      (_, keeps.1.version)
       (gate_no_fault (shown old) (shown new) reply takes.said takes.after (no_outcome wants.Gate wants_it (λ e. cc)))
       (record {
         own = subst (λ (l : List Page). All (IsOwnPage x.side) l) (sym pages) (own_then (Some reply) ex);
@@ -221,6 +269,7 @@ module _ (base : BaseParts) (side : Side) (old new : Client) (wanted : List Want
       let keeps = stops_keep_it x.side base old new wanted reply takes.said x.honest.stands (fits_then (Some reply) ex) wants_it (replied reply ex wants.Stops wants_it) takes.says takes.after in
       let read = doc_is_read reply ex takes wants_it in
       by_reply reply ex wants.Stops wants_it (λ e. cc) keeps.0 keeps.1.query (inr keeps.1.version)
+      (version_kept wants.Stops wants_it (λ e. cc) (λ e. cc) keeps.1.version)
       (stops_no_fault old new reply takes.said takes.after (no_outcome wants.Stops wants_it (λ e. cc)))
       (record {
         own = subst (λ (l : List Page). All (IsOwnPage x.side) l) (sym takes.pages) (own_then (Some reply) ex);
@@ -240,6 +289,7 @@ module _ (base : BaseParts) (side : Side) (old new : Client) (wanted : List Want
       let under : WaitsForPage x.side old wanted page.name = subst (FitsAt x.side old wanted) (waits_for old.phase page.name wants_page) (fits_then (Some reply) ex).fits in
       let had = doc_of_reader side given old.phase old.outcome name (waits_for old.phase name wants_it) holds.doc in
       by_reply reply ex (wants.Page page.name) wants_page (λ e. cc) keeps.0 keeps.1.query (inr keeps.1.version)
+      (version_kept (wants.Page page.name) wants_page (λ e. cc) (λ e. cc) keeps.1.version)
       (page_no_fault old new page x.side.doc _ takes under.stands (no_outcome (wants.Page page.name) wants_page (λ e. cc)))
       (record {
         own = own_more x.side given.pages now.pages page pages (own_then (Some reply) ex) says.1;

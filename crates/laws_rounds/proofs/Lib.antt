@@ -2,6 +2,7 @@ pub mod CourseLemmas
 pub mod EndLemmas
 pub mod ExchangeLemmas
 pub mod GivenLemmas
+pub mod NamedLemmas
 pub mod NearLemmas
 pub mod NoFaultLemmas
 pub mod RecordedLemmas

@@ -1,5 +1,5 @@
 -- That a client of the fewest rides ends rightly, and that its end is one.
-use Rattle.std.specs.Prelude.{◌≡◌, Option, None}
+use Rattle.std.specs.Prelude.{◌≡◌, List, [], ◌∷◌, ◌++◌, Option, Some, None}
 use Rattle.lc_io.specs.Counts.{Rose}
 use Rattle.lc_model.specs.declared.journey.Journey.{Journey}
 use Rattle.lc_model.specs.declared.query.Query.{Query}
@@ -7,8 +7,10 @@ use Rattle.connection_uri.specs.Base.{BaseParts}
 use Rattle.lc_world.specs.Link.{IsHonestWith, IsQuietWith, LinkSeen}
 use Rattle.page_client.specs.Shown.{IsRefusal, answered}
 use Rattle.publisher_spec.specs.Side.{Side}
+use Rattle.laws_sides.specs.Stated.{version_at}
 use Rattle.laws_clients.specs.Wants.{HasEnds}
 use Rattle.change_rounds.specs.Laws.{AreAlike}
+use Rattle.rounds_client.specs.Course.{Point}
 use Rattle.rounds_client.specs.End.{EndsSo}
 use Rattle.rounds_client.specs.declared.ending.FewestEnd.{FewestEnd}
 use Rattle.laws_rounds.specs.Right.{EndsWithFewest, IsRight}
@@ -18,6 +20,13 @@ abbrev pub FewestEndsRight : {X : Type 0} → (X → LinkSeen) → Type 0
 FewestEndsRight {X} seen =
     (side : Side) (base : BaseParts) (query : Query) (before after : X) (end : FewestEnd) → IsHonestWith (seen before) base side → EndsSo seen base query before after end
     → IsRight seen base query side before after end
+
+-- The time gate was asked first, and something else after it. Then the version is the one that the known moment means at the side which the
+-- exchange with the time gate left, whatever the link records.
+abbrev pub NamedAtGate : {X : Type 0} → (X → LinkSeen) → Type 0
+NamedAtGate {X} seen =
+    (side at : Side) (base : BaseParts) (query : Query) (before after : X) (end : FewestEnd) (later : List (Point X)) (next first : Point X) → IsHonestWith (seen before) base side
+    → (ends : EndsSo seen base query before after end) → ends.points ≡ later ++ next ∷ first ∷ [] → IsHonestWith (seen next.link) base at → end.version ≡ Some (version_at at query.known)
 
 -- The question has a horizon in range and different stops, which the stops document has. The count of the link did not increase. Then the end
 -- is a journey of the fewest rides, or that there is none.

@@ -51,29 +51,34 @@ pub record HasFewest (side : Side) (query : Query) (version : Option ℕ) (asked
   pub asked_are : asked ≡ wants_of names
 
 -- the question was refused at once, and nothing was asked for
-pub record IsRefusedAtOnce (query : Query) (asked : List Want) (fault : QueryFault) : Type 0 where
+pub record IsRefusedAtOnce (query : Query) (version : Option ℕ) (asked : List Want) (fault : QueryFault) : Type 0 where
   pub deserved : IsRefusal query (Some fault)
+  pub no_version : version ≡ None
   pub asked_are : asked ≡ []
 
 -- or since the stops document lacks the stop where it begins
-pub record LacksFrom (side : Side) (query : Query) (asked : List Want) : Type 0 where
+pub record LacksFrom (side : Side) (query : Query) (version : Option ℕ) (asked : List Want) : Type 0 where
   pub accepted : IsRefusal query None
+  pub number : ℕ
+  pub at_version : version ≡ Some number
   pub no_from : HasStop side.doc.stops query.from → ⊥
   pub asked_are : asked ≡ wants_of []
 
 -- or the one where it ends
-pub record LacksTo (side : Side) (query : Query) (asked : List Want) : Type 0 where
+pub record LacksTo (side : Side) (query : Query) (version : Option ℕ) (asked : List Want) : Type 0 where
   pub accepted : IsRefusal query None
+  pub number : ℕ
+  pub at_version : version ≡ Some number
   pub from : HasStop side.doc.stops query.from
   pub no_to : HasStop side.doc.stops query.to → ⊥
   pub asked_are : asked ≡ wants_of []
 
 -- a refusal was deserved
-abbrev pub IsRefused : Side → Query → List Want → QueryFault → Type 0
-IsRefused side query asked HorizonRange = IsRefusedAtOnce query asked HorizonRange
-IsRefused side query asked SameStop = IsRefusedAtOnce query asked SameStop
-IsRefused side query asked UnknownFrom = LacksFrom side query asked
-IsRefused side query asked UnknownTo = LacksTo side query asked
+abbrev pub IsRefused : Side → Query → Option ℕ → List Want → QueryFault → Type 0
+IsRefused side query version asked HorizonRange = IsRefusedAtOnce query version asked HorizonRange
+IsRefused side query version asked SameStop = IsRefusedAtOnce query version asked SameStop
+IsRefused side query version asked UnknownFrom = LacksFrom side query version asked
+IsRefused side query version asked UnknownTo = LacksTo side query version asked
 
 -- what was asked for is a front of what the question wants at the version, and without one it is the time gate alone
 abbrev pub IsFront : Side → Query → List Want → Option ℕ → Type 0
@@ -82,6 +87,7 @@ IsFront side query asked (Some version) = (all : List Want) → AreWants side ve
 
 -- the last exchange failed, and the count of the link increased from the one to the other
 pub record HasFailed (side : Side) (query : Query) (version : Option ℕ) (asked : List Want) (before after low high : ℕ) : Type 0 where
+  pub accepted : IsRefusal query None
   pub front : IsFront side query asked version
   pub rose : RoseWithin before after low high
 
@@ -90,7 +96,7 @@ pub record HasFailed (side : Side) (query : Query) (version : Option ℕ) (asked
 abbrev pub EndsAt : Side → Query → Option ℕ → List Want → ℕ → ℕ → Outcome → Type 0
 EndsAt side query version asked before after (outcomes.Found journey) = HasFewest side query version asked (Some journey)
 EndsAt side query version asked before after outcomes.NoJourney = HasFewest side query version asked None
-EndsAt side query version asked before after (outcomes.Refused fault) = IsRefused side query asked fault
+EndsAt side query version asked before after (outcomes.Refused fault) = IsRefused side query version asked fault
 EndsAt side query version asked before after (outcomes.LinkFault low high) = HasFailed side query version asked before after low high
 EndsAt side query version asked before after (outcomes.PeerWrong reply fault) = ⊥
 

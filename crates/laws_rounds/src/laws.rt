@@ -1,4 +1,4 @@
-ghost use Rattle.laws_rounds.specs.Laws.{FewestEndsRight, FewestIsFound, OneFewestEnd};
+ghost use Rattle.laws_rounds.specs.Laws.{FewestEndsRight, FewestIsFound, NamedAtGate, OneFewestEnd};
 
 use laws_clients::{one_answer, steps_keep_agreement};
 use laws_fewest::fewest_at_version;
@@ -6,10 +6,12 @@ use lc_world::Link;
 
 /// Over an honest link a client of the fewest rides ends rightly. Without a failure it found a journey that is best at the version which the
 /// time gate named, with the fewest rides of all best ones. Where there is none, it found none. It asked for the time gate, the stops document
-/// and the needed pages, and for nothing else.
+/// and the needed pages, and for nothing else. That version is the one that the known moment means at the side which the exchange with the time
+/// gate left.
 pub fn fewest_ends_right<L: Link>()
     ensures right { FewestEndsRight L.seen }
     ensures found { FewestIsFound L.seen }
+    ensures gate { NamedAtGate L.seen }
 {
     steps_keep_agreement();
     fewest_at_version();
