@@ -1,55 +1,65 @@
 -- From what is read and asked to what a command results in.
-use Rattle.std.proofs.Common.{◌≡◌, ◌∷◌, inr, ℕ, List, [], Option, Result, Ok, Err, IfErr, IfOk, subst, sym}
-use Rattle.cli_ask.specs.Asked.{IsAsked}
+use Rattle.std.proofs.Common.{◌≡◌, ◌≢◌, ◌∷◌, inr, ℕ, List, [], Option, Result, Ok, Err, IfErr, IfOk, subst, sym}
 use Rattle.cli_ask.specs.declared.end.ClientEnd.{ClientEnd}
-use Rattle.cli_fewest.specs.Asked.{IsAskedFewest}
-use Rattle.cli_inputs.specs.Inputs.{ReadsInputs}
+use Rattle.cli_ask.specs.declared.question.Asked.{Asked}
+use Rattle.cli_inputs.specs.Inputs.{IsMessageRefusal, IsRefusedFor, ReadsInputs}
+use Rattle.cli_inputs.proofs.InputsLemmas.{message_refused}
 use Rattle.cli_inputs.specs.declared.refusal.Refusal.{Refusal}
+use Rattle.cli_inputs.specs.declared.refusal.Refusal.TheVariants.{Load}
 use Rattle.cli_words.specs.Words.{SaysCommand}
-use Rattle.cli_words.specs.declared.command.Ask.{Ask}
 use Rattle.cli_words.specs.declared.command.Command.{Command}
-use Rattle.cli_words.specs.declared.command.Fewest.{Fewest}
 use Rattle.cli_words.specs.declared.command.Command.TheVariants as commands
 use Rattle.lc_io.specs.Folder.{FolderSeen}
 use Rattle.lc_io.specs.declared.file.File.{File}
 use Rattle.lc_world.proofs.GoneOnLemmas.{no_gets, no_passes}
 use Rattle.lc_world.specs.GoneOn.{HasGoneOn}
 use Rattle.lc_world.specs.Link.{LinkSeen}
+use Rattle.timetable.specs.declared.fault.LoadFault.TheVariants.{NoMemory as OutOfMemory}
+use Rattle.timetable.specs.declared.scope.Scope.{Scope}
 use Rattle.timetable.specs.declared.timetable.Timetable.{Timetable}
-use Rattle.lc_cli.specs.Command.{IsAskBlock, IsFewestBlock, IsQuestionBlock, IsRefusedAs, IsRightRefusal, IsRightWork, LeavesLink, Prints, ResultsIn, ask_scope, fewest_scope}
+use Rattle.version_store.specs.declared.message_fault.MessageFault.{MessageFault}
+use Rattle.version_store.specs.declared.message_fault.MessageFault.TheVariants as messages
+use Rattle.lc_cli.specs.Command.{IsQuestionBlock, IsRefusedAs, IsRightRefusal, IsRightWork, LeavesLink, Prints, ResultsIn}
+use Rattle.lc_cli.specs.Question.{IsAskedSo, IsEndBlock, IsUnasked}
 use Rattle.lc_cli.specs.declared.block.Block.{Block}
+use Rattle.lc_cli.specs.declared.question.Question.{Question}
 use Rattle.lc_cli.specs.declared.work.Work.{Work}
 use Rattle.lc_cli.specs.declared.work.Work.TheVariants as works
 
 -- what is printed of a question
-pub ask_block_of : (ask : Ask) (old new : FolderSeen) (before after : LinkSeen) (made : Timetable) (file : Option File) → ReadsInputs (ask_scope ask) ask.update old new made file
-    → (text : _) (end : ClientEnd) (block : Block) → block.text ≡ text → block.ends.items ≡ end ∷ [] → IsAsked made ask.publishing file ask.query before after text.items end → IsAskBlock ask old new before after block
-ask_block_of ask old new before after made file inputs text end block is client asked = record {
+pub question_block_of : (question : Question) (old new : FolderSeen) (before after : LinkSeen) (made : Timetable) (file : Option File) → ReadsInputs question.scope question.update old new made file
+    → (text : _) (end : ClientEnd) (block : Block) → block.text ≡ text → block.ends.items ≡ end ∷ [] → IsAskedSo question.asking made question.publishing file before after text.items end
+    → IsQuestionBlock question old new before after block
+question_block_of question old new before after made file inputs text end block is client asked = record {
   made = made;
   file = file;
   inputs = inputs;
   end = end;
-  asked = subst (λ t. IsAsked made ask.publishing file ask.query before after t.items end) (sym is) asked;
+  asked = subst (λ t. IsAskedSo question.asking made question.publishing file before after t.items end) (sym is) asked;
   client = client;
 }
 
--- and of one for the fewest rides
-pub fewest_block_of : (fewest : Fewest) (old new : FolderSeen) (before after : LinkSeen) (made : Timetable) (file : Option File) → ReadsInputs (fewest_scope fewest) fewest.update old new made file
-    → (text : _) (end : ClientEnd) (block : Block) → block.text ≡ text → block.ends.items ≡ end ∷ [] → IsAskedFewest made fewest.publishing file fewest.query before after text.items end
-    → IsFewestBlock fewest old new before after block
-fewest_block_of fewest old new before after made file inputs text end block is client asked = record {
-  made = made;
-  file = file;
-  inputs = inputs;
-  end = end;
-  asked = subst (λ t. IsAskedFewest made fewest.publishing file fewest.query before after t.items end) (sym is) asked;
-  client = client;
-}
+-- what is printed of a question that ended so
+pub ended_printed : (question : Question) (old new : FolderSeen) (before after : LinkSeen) (made : Timetable) (file : Option File) → ReadsInputs question.scope question.update old new made file
+    → (ended : Result Asked MessageFault) (result : Result Block Refusal) → IfOk result (IsEndBlock ended)
+    → IfOk ended (λ asked. IsAskedSo question.asking made question.publishing file before after asked.text.items asked.end) → IfOk result (IsQuestionBlock question old new before after)
+ended_printed question old new before after made file inputs (Ok asked) (Ok block) is so = question_block_of question old new before after made file inputs asked.text asked.end block is.0 is.1 so
+ended_printed question old new before after made file inputs (Err fault) (Ok block) is so = absurd is
+ended_printed question old new before after made file inputs ended (Err refusal) is so = tt
 
--- what `fewest` prints is what is printed of a question
-abbrev pub question_of : (fewest : Fewest) (old new : FolderSeen) (before after : LinkSeen) (block : Block) → IsFewestBlock fewest old new before after block
-    → IsQuestionBlock (fewest_scope fewest) fewest.update fewest.publishing fewest.query old new before after block
-question_of fewest old new before after block x = record { made = x.made; file = x.file; inputs = x.inputs; end = x.end; asked = x.asked.asked; client = x.client }
+-- why it is refused
+pub ended_refused : (scope : Scope) (update : Option (List ℕ)) (old new : FolderSeen) (made : Timetable) (file : Option File) → ReadsInputs scope update old new made file
+    → (result : Result Block Refusal) → IfErr result (IsMessageRefusal file) → IfErr result (IsRefusedFor scope update old new)
+ended_refused scope update old new made file inputs (Ok block) is = tt
+ended_refused scope update old new made file inputs (Err refusal) is = message_refused scope update old new made file refusal inputs is
+
+-- a link over which nothing was asked is left as it was
+pub ended_unasked : {X : Type 0} (link left : X) (ended : Result Asked MessageFault) (result : Result Block Refusal)
+    → IfErr result (λ refusal. refusal ≢ Load OutOfMemory → IsUnasked ended) → IfErr ended (λ fault. fault ≢ messages.NoMemory → left ≡ link)
+    → IfErr result (λ refusal. refusal ≢ Load OutOfMemory → left ≡ link)
+ended_unasked link left ended (Ok block) is kept = tt
+ended_unasked link left (Ok asked) (Err refusal) is kept = λ other. absurd (is other)
+ended_unasked link left (Err fault) (Err refusal) is kept = λ other. kept (is other)
 
 -- a block that a command prints, and a refusal of it, as what it results in
 pub results_printed : (old new : FolderSeen) (before after : LinkSeen) (command : Command) (block : Result Block Refusal) (result : Result Work Refusal)
@@ -75,6 +85,7 @@ said_works words old new before after (commands.Serve serve) (Ok (works.Serve se
 said_works words old new before after (commands.Plan plan) (Ok (works.Serve server)) says is = absurd is
 said_works words old new before after (commands.Drill drill) (Ok (works.Serve server)) says is = absurd is
 said_works words old new before after (commands.Fewest fewest) (Ok (works.Serve server)) says is = absurd is
+said_works words old new before after (commands.Arrive arrive) (Ok (works.Serve server)) says is = absurd is
 said_works words old new before after (commands.Relay relay) (Ok (works.Serve server)) says is = absurd is
 said_works words old new before after command (Err refusal) says is = tt
 
@@ -92,6 +103,7 @@ leaves_alone (commands.Serve serve) link = no_passes link
 leaves_alone (commands.Plan plan) link = no_gets link
 leaves_alone (commands.Drill drill) link = no_passes link
 leaves_alone (commands.Fewest fewest) link = no_passes link
+leaves_alone (commands.Arrive arrive) link = no_passes link
 leaves_alone (commands.Relay relay) link = no_gets link
 
 -- the link has gone on, whatever the command
@@ -103,4 +115,5 @@ has_gone_on (commands.Serve serve) before after left = left.gone_on
 has_gone_on (commands.Plan plan) before after left = left.gone_on
 has_gone_on (commands.Drill drill) before after left = left.gone_on
 has_gone_on (commands.Fewest fewest) before after left = left.gone_on
+has_gone_on (commands.Arrive arrive) before after left = left.gone_on
 has_gone_on (commands.Relay relay) before after left = left.gone_on

@@ -26,13 +26,12 @@ use Rattle.timetable.specs.declared.timetable.Timetable.{Timetable}
 use Rattle.version_store.specs.Laws.{OneOutcome}
 use Rattle.lc_cli.specs.Block.{IsBlockEnd, client_status_of}
 use Rattle.lc_cli.specs.Clear.{IsAnswered, IsClear, IsFed, IsHeard}
-use Rattle.lc_cli.specs.Command.{IsRefusedAs, IsRightRefusal, Prints, ask_scope, check_scope, fewest_scope, replay_scope, serve_scope}
+use Rattle.lc_cli.specs.Command.{IsRefusedAs, IsRightRefusal, Prints, arrive_question, arrive_scope, ask_question, ask_scope, check_scope, fewest_question, fewest_scope, replay_scope, serve_scope}
 use Rattle.lc_cli.specs.Drill.{IsDrillRefused, drill_folder, sure_seen}
 use Rattle.lc_cli.specs.Refusal.{IsRefusalEnd, status_of}
 use Rattle.lc_cli.specs.Top.{IsRight, Past}
 use Rattle.lc_cli.specs.declared.status.Status.{Status}
 use Rattle.lc_cli.specs.declared.status.Status.TheVariants.{NoMemory}
-use Rattle.lc_cli.proofs.CommandLemmas.{question_of}
 use Rattle.lc_cli.proofs.PlanLemmas.{plan_fine, plan_never_refused, relay_fine}
 use Rattle.lc_cli.proofs.ReplayLemmas.{course_fine, never_refused}
 use Rattle.lc_cli.proofs.ServingLemmas.{served_answered}
@@ -67,11 +66,14 @@ module _ (one_command : OneCommand) (loads_recorded : LoadsRecorded) (not_broken
     fine : (command : Command) → SaysCommand p.words command → Prints command p.folder_before p.folder_after (seen p.link_before) (seen p.link_after) x.block → AreNoFaults x.block.ends.items
     fine (commands.Check check) says prints = subst AreNoFaults (sym prints.no_client) tt
     fine (commands.Ask ask) says prints =
-        no_fault loads_recorded clear.recorded (ask_scope ask) ask.update ask.publishing ask.query p.folder_before p.folder_after (seen p.link_before) (seen p.link_after) x.block prints
-        clear.unhindered.tells (clear.unhindered.fair ask says)
+        no_fault loads_recorded clear.recorded (ask_question ask) p.folder_before p.folder_after (seen p.link_before) (seen p.link_after) x.block prints clear.unhindered.tells
+        (clear.unhindered.fair ask says)
     fine (commands.Fewest fewest) says prints =
-        no_fault loads_recorded clear.recorded (fewest_scope fewest) fewest.update fewest.publishing fewest.query p.folder_before p.folder_after (seen p.link_before) (seen p.link_after) x.block
-        (question_of fewest p.folder_before p.folder_after (seen p.link_before) (seen p.link_after) x.block prints) clear.unhindered.tells (clear.unhindered.fair_fewest fewest says)
+        no_fault loads_recorded clear.recorded (fewest_question fewest) p.folder_before p.folder_after (seen p.link_before) (seen p.link_after) x.block prints clear.unhindered.tells
+        (clear.unhindered.fair_fewest fewest says)
+    fine (commands.Arrive arrive) says prints =
+        no_fault loads_recorded clear.recorded (arrive_question arrive) p.folder_before p.folder_after (seen p.link_before) (seen p.link_after) x.block prints clear.unhindered.tells
+        (clear.unhindered.fair_arrive arrive says)
     fine (commands.Replay replay) says prints =
         course_fine loads_recorded clear.recorded replay p.folder_before p.folder_after (seen p.link_before) (seen p.link_after) x.block.text.items x.block.ends.items prints clear.unhindered.tells
         (clear.unhindered.fair_course replay says)
@@ -108,6 +110,9 @@ module _ (one_command : OneCommand) (loads_recorded : LoadsRecorded) (not_broken
     never_as (commands.Fewest fewest) fed is refused_is =
         never not_broken not_too_large one_outcome clear.recorded (fewest_scope fewest) fewest.update p.folder_before p.folder_after fed.made clear.unhindered.tells fed.sound
         (heard clear.recorded (fewest_scope fewest) fewest.update fewest.publishing false is.0 is.1) clear.unhindered.no_folder_fault x.refusal refused_is
+    never_as (commands.Arrive arrive) fed is refused_is =
+        never not_broken not_too_large one_outcome clear.recorded (arrive_scope arrive) arrive.update p.folder_before p.folder_after fed.made clear.unhindered.tells fed.sound
+        (heard clear.recorded (arrive_scope arrive) arrive.update arrive.publishing false is.0 is.1) clear.unhindered.no_folder_fault x.refusal refused_is
     never_as (commands.Replay replay) fed (made, all, course) refused_is =
         never_refused one_script never_both not_broken not_too_large clear.recorded replay p.folder_before p.folder_after clear.unhindered.tells made all course
         clear.unhindered.no_folder_fault x.refusal refused_is

@@ -33,7 +33,7 @@ use Rattle.publisher_spec.specs.Side.{Side}
 use Rattle.timetable.specs.Laws.{LoadsRecorded}
 use Rattle.lc_cli.specs.Block.{IsBlockEnd, IsWrittenWhole, client_status_of, failed_status_of}
 use Rattle.lc_cli.specs.Clear.{IsAskedSide}
-use Rattle.lc_cli.specs.Command.{IsAskBlock, Prints, ask_scope}
+use Rattle.lc_cli.specs.Command.{IsAskBlock, Prints, ask_question}
 use Rattle.lc_cli.specs.Headline.{EndsBest, Headline, StaysShort, WroteBest, outcome_of, version_meant}
 use Rattle.lc_cli.specs.Top.{HasPrinted, HasServed, Past}
 use Rattle.cli_serve.specs.Written.{Wrote}
@@ -142,7 +142,7 @@ module _ (loads_recorded : LoadsRecorded) {X : Type 0} (seen : X → LinkSeen) (
   wrote_best block x end =
       let side = side_with x.made ask.publishing x.asked.store in
       let asked : IsAskedSide files ask side =
-      side_asked loads_recorded files (ask_scope ask) ask.update ask.publishing ask.query p.folder_before p.folder_after (seen p.link_before) (seen p.link_after) block x tells in
+      side_asked loads_recorded files (ask_question ask) p.folder_before p.folder_after (seen p.link_before) (seen p.link_after) block x tells in
       let right = x.asked.right clear (short side asked) in
       let whole = is_whole block p.sink_before p.sink_after end in
       let found = answer_at 1 block.ends.items 0 x.end whole.status_is (ap (λ (l : List ClientEnd). slice_get l 0) x.client) in

@@ -22,13 +22,12 @@ use Rattle.publisher_spec.specs.Side.{Side}
 use Rattle.timetable.specs.Laws.{LoadsRecorded}
 use Rattle.lc_cli.specs.Block.{IsBlockEnd}
 use Rattle.lc_cli.specs.Clear.{IsFewestSide}
-use Rattle.lc_cli.specs.Command.{IsFewestBlock, Prints, fewest_scope}
+use Rattle.lc_cli.specs.Command.{IsFewestBlock, Prints, fewest_question}
 use Rattle.lc_cli.specs.Headline.{EndsBest, outcome_of, version_meant}
 use Rattle.lc_cli.specs.HeadlineOfFewest.{EndsFewest, HeadlineOfFewest, WroteFewest}
 use Rattle.lc_cli.specs.Top.{HasPrinted, HasServed, Past}
 use Rattle.lc_cli.specs.declared.block.Block.{Block}
 use Rattle.lc_cli.specs.declared.status.Status.TheVariants.{Done}
-use Rattle.lc_cli.proofs.CommandLemmas.{question_of}
 use Rattle.lc_cli.proofs.HeadlineLemmas.{answer_at, ends_best, exchanges, has, is_whole, needed}
 use Rattle.lc_cli.proofs.OneStatusLemmas.{done_is_printed}
 use Rattle.lc_cli.proofs.TopLemmas.{side_asked}
@@ -48,10 +47,9 @@ module _ (loads_recorded : LoadsRecorded) {X : Type 0} (seen : X → LinkSeen) (
   -- what was written is the block of such a journey
   wrote_fewest : (block : Block) → IsFewestBlock fewest p.folder_before p.folder_after (seen p.link_before) (seen p.link_after) block → IsBlockEnd block p.sink_before p.sink_after Done → WroteFewest p fewest files
   wrote_fewest block x end =
-      let question = question_of fewest p.folder_before p.folder_after (seen p.link_before) (seen p.link_after) block x in
       let side = side_with x.made fewest.publishing x.asked.asked.store in
       let asked : IsFewestSide files fewest side =
-      side_asked loads_recorded files (fewest_scope fewest) fewest.update fewest.publishing fewest.query p.folder_before p.folder_after (seen p.link_before) (seen p.link_after) block question tells in
+      side_asked loads_recorded files (fewest_question fewest) p.folder_before p.folder_after (seen p.link_before) (seen p.link_after) block x tells in
       let is_short = short side asked in
       let right = x.asked.asked.right clear is_short in
       let whole = is_whole block p.sink_before p.sink_after end in

@@ -11,8 +11,8 @@ use Rattle.laws_clients.specs.Answered.{AnswersAt}
 use Rattle.laws_clients.specs.Fits.{HasAnswered}
 use Rattle.laws_convoys.specs.Names.{Round}
 use Rattle.connection_uri.specs.Base.{BaseParts}
-use Rattle.laws_plan.specs.Planned.{ArePlanned, EndsAt, IsPlanned}
-use Rattle.laws_plan.specs.Sides.{version_after, version_with}
+use Rattle.cli_relay.specs.Planned.{ArePlanned, EndsAt, IsPlanned}
+use Rattle.cli_relay.specs.Sides.{version_after, version_with}
 use Rattle.laws_replay.specs.Turns.{given_in}
 use Rattle.laws_replay.specs.declared.event.Event.{Event}
 use Rattle.laws_sides.specs.Stated.{version_at}

@@ -5,11 +5,13 @@ pub mod EarlierSideLemmas
 pub mod HeadlineLemmas
 pub mod HeadlineOfPlanLemmas
 pub mod HeadlineOfReplayLemmas
+mod HeadlineOfArriveLemmas
 mod HeadlineOfDrillLemmas
 mod HeadlineOfFewestLemmas
 mod HeadlineOfRelayLemmas
 mod DrillLemmas
 pub mod InputsLemmas
+pub mod NearArriveLemmas
 pub mod NearFewestLemmas
 pub mod NearHeadlineLemmas
 pub mod NearPlanLemmas
@@ -25,3 +27,5 @@ pub mod ServingLemmas
 pub mod TinyLemmas
 pub mod TopLemmas
 pub mod WindowLemmas
+mod WorkedFewestLemmas
+mod WorkedLatestLemmas

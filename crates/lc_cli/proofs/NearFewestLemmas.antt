@@ -12,7 +12,7 @@ use Rattle.lc_cli.specs.HeadlineOfFewest.{EndsFewest}
 use Rattle.lc_cli.specs.NearFewest.{NotAnotherVersion, NotNoJourney, NotOneRideFewer, NotOneRideMore}
 
 -- no outcome is that of two answers
-one_answer : (a b : Option Journey) → answered a ≡ answered b → a ≡ b
+pub one_answer : (a b : Option Journey) → answered a ≡ answered b → a ≡ b
 one_answer (Some a) (Some b) same = let inner : a ≡ b = cc in cc
 one_answer (Some a) None same = absurd (cc)
 one_answer None (Some b) same = absurd (cc)

@@ -6,7 +6,7 @@ use Rattle.cli_ask.specs.declared.end.ClientEnd.{ClientEnd}
 use Rattle.cli_words.specs.declared.command.Publishing.{Publishing}
 use Rattle.laws_clients.specs.Answered.{AnswersAt}
 use Rattle.laws_convoys.specs.Names.{Round}
-use Rattle.laws_plan.specs.Worked.{received}
+use Rattle.cli_relay.specs.Worked.{received}
 use Rattle.laws_replay.proofs.OneCourseLemmas.{at_place}
 use Rattle.lc_model.specs.Journey.{IsAnswer, arrives_at}
 use Rattle.lc_model.specs.Laws.{OneArrival}

@@ -11,9 +11,9 @@ use Rattle.cli_words.specs.declared.command.Plan.{Plan}
 use Rattle.cli_ask.specs.declared.end.ClientEnd.{ClientEnd}
 use Rattle.cli_inputs.specs.Plan.{ReadsPlan}
 use Rattle.connection_uri.specs.Base.{BaseParts}
-use Rattle.laws_plan.specs.OneGrowing.{IsGrowingPlan, NameTheSame, OneGrowingPlan}
-use Rattle.laws_plan.specs.OnePlan.{IsQuietPlan, OnePlan}
-use Rattle.laws_plan.specs.Planned.{ArePlanned, IsPlanned}
+use Rattle.cli_relay.specs.OneGrowing.{IsGrowingPlan, NameTheSame, OneGrowingPlan}
+use Rattle.cli_relay.specs.OnePlan.{IsQuietPlan, OnePlan}
+use Rattle.cli_relay.specs.Planned.{ArePlanned, IsPlanned}
 use Rattle.laws_replay.specs.Events.{TurnsAreOfClients, questions_in}
 use Rattle.laws_replay.specs.declared.event.Event.{Event}
 use Rattle.laws_replay.specs.declared.event.Event.TheVariants as events

@@ -10,8 +10,8 @@ use Rattle.cli_words.specs.Laws.{OneCommand}
 use Rattle.cli_words.specs.declared.command.Command.TheVariants as commands
 use Rattle.cli_words.specs.declared.command.Relay.{Relay}
 use Rattle.connection_uri.specs.Base.{BaseParts}
-use Rattle.laws_plan.specs.OneGrowing.{OneGrowingPlan}
-use Rattle.laws_plan.specs.OnePlan.{OnePlan}
+use Rattle.cli_relay.specs.OneGrowing.{OneGrowingPlan}
+use Rattle.cli_relay.specs.OnePlan.{OnePlan}
 use Rattle.laws_replay.specs.Replayed.{clients_text_of}
 use Rattle.laws_replay.specs.declared.event.Event.{Event}
 use Rattle.lc_io.specs.Counts.{Rose}

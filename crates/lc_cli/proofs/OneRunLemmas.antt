@@ -1,34 +1,33 @@
 -- Two runs of one command over the same files print one output.
 use Rattle.std.proofs.Common.{◌≡◌, ◌∙◌, ◌+◌, ◌++◌, ℕ, List, codes, length, None, Some, Option, ap, refl, subst, sym}
-use Rattle.cli_ask.specs.Asked.{IsAsked}
+use Rattle.cli_arrive.specs.Laws.{OneLatestOutput, PrintOneLatest}
 use Rattle.cli_ask.specs.Laws.{IsFair, OneOutput, PrintOneClient}
 use Rattle.cli_ask.specs.Publishing.{side_with}
-use Rattle.cli_fewest.specs.Asked.{IsAskedFewest}
+use Rattle.cli_ask.specs.declared.end.ClientEnd.{ClientEnd}
 use Rattle.cli_fewest.specs.Laws.{OneFewestOutput, PrintOneFewest}
 use Rattle.cli_words.specs.Laws.{OneCommand}
 use Rattle.cli_words.specs.Words.{SaysCommand}
-use Rattle.cli_words.specs.declared.command.Ask.{Ask}
 use Rattle.cli_words.specs.declared.command.Command.{Command}
-use Rattle.cli_words.specs.declared.command.Fewest.{Fewest}
 use Rattle.cli_words.specs.declared.command.Publishing.{Publishing}
 use Rattle.cli_words.specs.declared.command.Command.TheVariants as commands
 use Rattle.lc_io.specs.Folder.{FolderSeen}
 use Rattle.lc_io.specs.declared.file.File.{File}
 use Rattle.lc_model.specs.declared.doc.StopsDoc.{StopsDoc}
-use Rattle.lc_model.specs.declared.query.Query.{Query}
 use Rattle.lc_model.specs.declared.run.Run.{Run}
 use Rattle.lc_world.specs.Link.{LinkSeen}
 use Rattle.laws_replay.specs.OneCourse.{OneCourse}
 use Rattle.script_text.specs.Laws.{OneScript}
 use Rattle.timetable.specs.Laws.{AreSame, LoadsRecorded, OneTimetable}
-use Rattle.timetable.specs.declared.scope.Scope.{Scope}
 use Rattle.timetable.specs.declared.timetable.Timetable.{Timetable}
 use Rattle.lc_cli.specs.CheckText.{check_text_of, count_line_of}
 use Rattle.lc_cli.specs.Clear.{HasFairLink, IsRecordedFile}
-use Rattle.lc_cli.specs.Command.{IsAskBlock, IsFewestBlock, IsQuestionBlock, Prints, ask_scope, check_scope, fewest_scope}
+use Rattle.lc_cli.specs.Command.{IsQuestionBlock, Prints, arrive_question, ask_question, check_scope, fewest_question}
 use Rattle.lc_cli.specs.Laws.{OneRun, PrintOne}
+use Rattle.lc_cli.specs.Question.{IsAskedSo}
 use Rattle.lc_cli.specs.declared.block.Block.{Block}
-use Rattle.lc_cli.proofs.CommandLemmas.{question_of}
+use Rattle.lc_cli.specs.declared.question.Asking.{Asking}
+use Rattle.lc_cli.specs.declared.question.Asking.TheVariants as askings
+use Rattle.lc_cli.specs.declared.question.Question.{Question}
 use Rattle.lc_cli.proofs.InputsLemmas.{inputs_recorded}
 use Rattle.lc_cli.proofs.OneReplayLemmas.{one_replay}
 use Rattle.lc_cli.proofs.TopLemmas.{side_asked_with}
@@ -57,66 +56,66 @@ one_file recorded (Some name) (Some a) (Some b) x y =
     λ i. file ((x.0 ∙ sym y.0) i) (same i)
 
 -- what was loaded and read for questions over the same files
-module _ (one_timetable : OneTimetable) (loads_recorded : LoadsRecorded) (recorded : List File) (scope : Scope) (update : Option (List ℕ)) (publishing : Publishing) (query : Query) where
+module _ (one_timetable : OneTimetable) (loads_recorded : LoadsRecorded) (recorded : List File) (question : Question) where
   -- timetables that were loaded over the same files are the same
-  same_timetables : (old new other later : FolderSeen) (before after from to : LinkSeen) (x y : Block) (a : IsQuestionBlock scope update publishing query old new before after x)
-      (b : IsQuestionBlock scope update publishing query other later from to y) → old.files ≡ Some recorded → other.files ≡ Some recorded → AreSame a.made b.made
+  same_timetables : (old new other later : FolderSeen) (before after from to : LinkSeen) (x y : Block) (a : IsQuestionBlock question old new before after x)
+      (b : IsQuestionBlock question other later from to y) → old.files ≡ Some recorded → other.files ≡ Some recorded → AreSame a.made b.made
   same_timetables old new other later before after from to x y a b tells tell =
-      one_timetable recorded scope a.made b.made (loads_recorded recorded scope old a.inputs.between a.made tells a.inputs.loaded)
-      (loads_recorded recorded scope other b.inputs.between b.made tell b.inputs.loaded)
+      one_timetable recorded question.scope a.made b.made (loads_recorded recorded question.scope old a.inputs.between a.made tells a.inputs.loaded)
+      (loads_recorded recorded question.scope other b.inputs.between b.made tell b.inputs.loaded)
 
   -- and so are the files of their messages
-  same_files : (old new other later : FolderSeen) (before after from to : LinkSeen) (x y : Block) (a : IsQuestionBlock scope update publishing query old new before after x)
-      (b : IsQuestionBlock scope update publishing query other later from to y) → old.files ≡ Some recorded → other.files ≡ Some recorded → b.file ≡ a.file
+  same_files : (old new other later : FolderSeen) (before after from to : LinkSeen) (x y : Block) (a : IsQuestionBlock question old new before after x)
+      (b : IsQuestionBlock question other later from to y) → old.files ≡ Some recorded → other.files ≡ Some recorded → b.file ≡ a.file
   same_files old new other later before after from to x y a b tells tell =
-      one_file recorded update b.file a.file (inputs_recorded recorded scope update other later b.made b.file tell b.inputs) (inputs_recorded recorded scope update old new a.made a.file tells a.inputs)
+      one_file recorded question.update b.file a.file (inputs_recorded recorded question.scope question.update other later b.made b.file tell b.inputs)
+      (inputs_recorded recorded question.scope question.update old new a.made a.file tells a.inputs)
 
   -- a fair link is one for what was asked
-  fair_asked : (old new : FolderSeen) (before after : LinkSeen) (block : Block) (x : IsQuestionBlock scope update publishing query old new before after block) → old.files ≡ Some recorded
-      → HasFairLink recorded scope update publishing before.clear before.faults after.faults → IsFair x.made publishing x.file before.clear before.faults after.faults
+  fair_asked : (old new : FolderSeen) (before after : LinkSeen) (block : Block) (x : IsQuestionBlock question old new before after block) → old.files ≡ Some recorded
+      → HasFairLink recorded question.scope question.update question.publishing before.clear before.faults after.faults
+      → IsFair x.made question.publishing x.file before.clear before.faults after.faults
   fair_asked old new before after block x tells fair = record {
     was_clear = fair.link.was_clear;
     no_fault = fair.link.no_fault;
     short = λ store line behind.
-        fair.short (side_with x.made publishing store)
-        (side_asked_with loads_recorded recorded scope update publishing query old new before after block x tells store line behind);
+        fair.short (side_with x.made question.publishing store)
+        (side_asked_with loads_recorded recorded question old new before after block x tells store line behind);
   }
 
-module _ {X Y : Type 0} (seen : X → LinkSeen) (saw : Y → LinkSeen) (one_timetable : OneTimetable) (loads_recorded : LoadsRecorded) (one_output : OneOutput seen saw)
-    (one_fewest_output : OneFewestOutput seen saw) where
-  -- what is printed of one question over the same files is one
-  pub one_client : (recorded : List File) (ask : Ask) (old new other later : FolderSeen) (before after : X) (from to : Y) (x y : Block)
-      (a : IsAskBlock ask old new (seen before) (seen after) x) (b : IsAskBlock ask other later (saw from) (saw to) y) → old.files ≡ Some recorded → other.files ≡ Some recorded
-      → HasFairLink recorded (ask_scope ask) ask.update ask.publishing (seen before).clear (seen before).faults (seen after).faults
-      → HasFairLink recorded (ask_scope ask) ask.update ask.publishing (saw from).clear (saw from).faults (saw to).faults
-      → PrintOneClient x.text.items y.text.items a.end b.end
-  one_client recorded ask old new other later before after from to x y a b tells tell fair other_fair =
-      let file : b.file ≡ a.file = same_files one_timetable loads_recorded recorded (ask_scope ask) ask.update ask.publishing ask.query old new other later (seen before) (seen after) (saw from) (saw to) x y a b tells tell in
-      one_output a.made b.made ask.publishing a.file ask.query before after from to x.text.items y.text.items a.end b.end
-      (same_timetables one_timetable loads_recorded recorded (ask_scope ask) ask.update ask.publishing ask.query old new other later (seen before) (seen after) (saw from) (saw to) x y a b tells tell)
-      (fair_asked one_timetable loads_recorded recorded (ask_scope ask) ask.update ask.publishing ask.query old new (seen before) (seen after) x a tells fair)
-      (subst (λ f. IsFair b.made ask.publishing f (saw from).clear (saw from).faults (saw to).faults) file
-      (fair_asked one_timetable loads_recorded recorded (ask_scope ask) ask.update ask.publishing ask.query other later (saw from) (saw to) y b tell other_fair)) a.asked
-      (subst (λ f. IsAsked b.made ask.publishing f ask.query (saw from) (saw to) y.text.items b.end) file b.asked)
+-- the texts of two askings print one client, in the words of the question
+abbrev pub PrintOneSo : Asking → List ℕ → List ℕ → ClientEnd → ClientEnd → Type 0
+PrintOneSo (askings.Earliest query cache) x y d e = PrintOneClient x y d e
+PrintOneSo (askings.Fewest query) x y d e = PrintOneFewest x y d e
+PrintOneSo (askings.Latest query) x y d e = PrintOneLatest x y d e
 
-  -- and of one question for the fewest rides
-  pub one_fewest : (recorded : List File) (fewest : Fewest) (old new other later : FolderSeen) (before after : X) (from to : Y) (x y : Block)
-      (a : IsFewestBlock fewest old new (seen before) (seen after) x) (b : IsFewestBlock fewest other later (saw from) (saw to) y) → old.files ≡ Some recorded → other.files ≡ Some recorded
-      → HasFairLink recorded (fewest_scope fewest) fewest.update fewest.publishing (seen before).clear (seen before).faults (seen after).faults
-      → HasFairLink recorded (fewest_scope fewest) fewest.update fewest.publishing (saw from).clear (saw from).faults (saw to).faults
-      → PrintOneFewest x.text.items y.text.items a.end b.end
-  one_fewest recorded fewest old new other later before after from to x y a b tells tell fair other_fair =
-      let first = question_of fewest old new (seen before) (seen after) x a in
-      let second = question_of fewest other later (saw from) (saw to) y b in
-      let file : b.file ≡ a.file =
-      same_files one_timetable loads_recorded recorded (fewest_scope fewest) fewest.update fewest.publishing fewest.query old new other later (seen before) (seen after) (saw from) (saw to) x y first second tells tell in
-      one_fewest_output a.made b.made fewest.publishing a.file fewest.query before after from to x.text.items y.text.items a.end b.end
-      (same_timetables one_timetable loads_recorded recorded (fewest_scope fewest) fewest.update fewest.publishing fewest.query old new other later (seen before) (seen after) (saw from) (saw to) x y first second
-      tells tell)
-      (fair_asked one_timetable loads_recorded recorded (fewest_scope fewest) fewest.update fewest.publishing fewest.query old new (seen before) (seen after) x first tells fair)
-      (subst (λ f. IsFair b.made fewest.publishing f (saw from).clear (saw from).faults (saw to).faults) file
-      (fair_asked one_timetable loads_recorded recorded (fewest_scope fewest) fewest.update fewest.publishing fewest.query other later (saw from) (saw to) y second tell other_fair)) a.asked
-      (subst (λ f. IsAskedFewest b.made fewest.publishing f fewest.query (saw from) (saw to) y.text.items b.end) file b.asked)
+module _ {X Y : Type 0} (seen : X → LinkSeen) (saw : Y → LinkSeen) (one_timetable : OneTimetable) (loads_recorded : LoadsRecorded) (one_output : OneOutput seen saw)
+    (one_fewest_output : OneFewestOutput seen saw) (one_latest_output : OneLatestOutput seen saw) where
+  -- what is printed of one asking of publishers that are the same is one
+  one_asking : (asking : Asking) (m n : Timetable) (publishing : Publishing) (file : Option File) (before after : X) (from to : Y) (x y : List ℕ) (d e : ClientEnd) → AreSame m n
+      → IsFair m publishing file (seen before).clear (seen before).faults (seen after).faults → IsFair n publishing file (saw from).clear (saw from).faults (saw to).faults
+      → IsAskedSo asking m publishing file (seen before) (seen after) x d → IsAskedSo asking n publishing file (saw from) (saw to) y e → PrintOneSo asking x y d e
+  one_asking (askings.Earliest query cache) m n publishing file before after from to x y d e same fair other_fair a b =
+      one_output m n publishing file query before after from to x y d e same fair other_fair a b
+  one_asking (askings.Fewest query) m n publishing file before after from to x y d e same fair other_fair a b =
+      one_fewest_output m n publishing file query before after from to x y d e same fair other_fair a b
+  one_asking (askings.Latest query) m n publishing file before after from to x y d e same fair other_fair a b =
+      one_latest_output m n publishing file query before after from to x y d e same fair other_fair a b
+
+  -- what is printed of one question over the same files is one
+  pub one_client : (recorded : List File) (question : Question) (old new other later : FolderSeen) (before after : X) (from to : Y) (x y : Block)
+      (a : IsQuestionBlock question old new (seen before) (seen after) x) (b : IsQuestionBlock question other later (saw from) (saw to) y) → old.files ≡ Some recorded → other.files ≡ Some recorded
+      → HasFairLink recorded question.scope question.update question.publishing (seen before).clear (seen before).faults (seen after).faults
+      → HasFairLink recorded question.scope question.update question.publishing (saw from).clear (saw from).faults (saw to).faults
+      → PrintOneSo question.asking x.text.items y.text.items a.end b.end
+  one_client recorded question old new other later before after from to x y a b tells tell fair other_fair =
+      let file : b.file ≡ a.file = same_files one_timetable loads_recorded recorded question old new other later (seen before) (seen after) (saw from) (saw to) x y a b tells tell in
+      one_asking question.asking a.made b.made question.publishing a.file before after from to x.text.items y.text.items a.end b.end
+      (same_timetables one_timetable loads_recorded recorded question old new other later (seen before) (seen after) (saw from) (saw to) x y a b tells tell)
+      (fair_asked one_timetable loads_recorded recorded question old new (seen before) (seen after) x a tells fair)
+      (subst (λ f. IsFair b.made question.publishing f (saw from).clear (saw from).faults (saw to).faults) file
+      (fair_asked one_timetable loads_recorded recorded question other later (saw from) (saw to) y b tell other_fair)) a.asked
+      (subst (λ f. IsAskedSo question.asking b.made question.publishing f (saw from) (saw to) y.text.items b.end) file b.asked)
 
   module _ (one_command : OneCommand) (one_script : OneScript) (one_course : OneCourse) where
     -- runs over these arguments and files that print something print one output
@@ -142,17 +141,27 @@ module _ {X Y : Type 0} (seen : X → LinkSeen) (saw : Y → LinkSeen) (one_time
       by (commands.Plan plan) says a b = absurd (home (commands.Plan plan) says)
       by (commands.Relay relay) says a b = absurd (home (commands.Relay relay) says)
       by (commands.Drill drill) says a b = absurd (home (commands.Drill drill) says)
-      by (commands.Fewest fewest) says a b =
-          let fair = at.fair_fewest fewest says in
-          let other_fair = to.fair_fewest fewest (subst (λ w. SaysCommand w (commands.Fewest fewest)) words says) in (
-            a.end,
-            b.end,
-            one_fewest recorded fewest p.folder_before p.folder_after q.folder_before q.folder_after p.link_before p.link_after q.link_before q.link_after x.block y.block a b at.tells to.tells fair other_fair,
-          )
       by (commands.Ask ask) says a b =
           let fair = at.fair ask says in
           let other_fair = to.fair ask (subst (λ w. SaysCommand w (commands.Ask ask)) words says) in (
             a.end,
             b.end,
-            one_client recorded ask p.folder_before p.folder_after q.folder_before q.folder_after p.link_before p.link_after q.link_before q.link_after x.block y.block a b at.tells to.tells fair other_fair,
+            one_client recorded (ask_question ask) p.folder_before p.folder_after q.folder_before q.folder_after p.link_before p.link_after q.link_before q.link_after x.block y.block a b at.tells to.tells fair
+                other_fair,
+          )
+      by (commands.Fewest fewest) says a b =
+          let fair = at.fair_fewest fewest says in
+          let other_fair = to.fair_fewest fewest (subst (λ w. SaysCommand w (commands.Fewest fewest)) words says) in (
+            a.end,
+            b.end,
+            one_client recorded (fewest_question fewest) p.folder_before p.folder_after q.folder_before q.folder_after p.link_before p.link_after q.link_before q.link_after x.block y.block a b at.tells to.tells fair
+                other_fair,
+          )
+      by (commands.Arrive arrive) says a b =
+          let fair = at.fair_arrive arrive says in
+          let other_fair = to.fair_arrive arrive (subst (λ w. SaysCommand w (commands.Arrive arrive)) words says) in (
+            a.end,
+            b.end,
+            one_client recorded (arrive_question arrive) p.folder_before p.folder_after q.folder_before q.folder_after p.link_before p.link_after q.link_before q.link_after x.block y.block a b at.tells to.tells fair
+                other_fair,
           )

@@ -31,8 +31,8 @@ use Rattle.timetable.specs.declared.timetable.Timetable.{Timetable}
 use Rattle.version_store.specs.Laws.{OneOutcome}
 use Rattle.version_store.specs.Store.{Stored}
 use Rattle.lc_cli.specs.Clear.{IsPublishedSide, IsRecordedFile, IsServedSide}
-use Rattle.lc_cli.specs.Command.{IsServer, ask_scope, fewest_scope, serve_scope}
-use Rattle.lc_cli.specs.OneServing.{BeginsFromIt, NotAnotherBase, NotMadeUp, NotUnasked, OneAskedSide, OneFewestSide, OneServedSide, OneServing}
+use Rattle.lc_cli.specs.Command.{IsServer, arrive_scope, ask_scope, fewest_scope, serve_scope}
+use Rattle.lc_cli.specs.OneServing.{BeginsFromIt, NotAnotherBase, NotMadeUp, NotUnasked, OneArriveSide, OneAskedSide, OneFewestSide, OneServedSide, OneServing}
 use Rattle.lc_cli.specs.Serving.{IsSaidLast, IsServingEnd, asked_of, served_status_of}
 use Rattle.lc_cli.specs.declared.server.Server.{Server}
 use Rattle.lc_cli.specs.declared.status.Status.TheVariants.{Done}
@@ -96,6 +96,9 @@ module _ (one_timetable : OneTimetable) (one_outcome : OneOutcome) where
 
   pub one_fewest_side : OneFewestSide
   one_fewest_side recorded fewest a b x y = (published_alike recorded (fewest_scope fewest) fewest.update fewest.publishing false a b x y).sides
+
+  pub one_arrive_side : OneArriveSide
+  one_arrive_side recorded arrive a b x y = (published_alike recorded (arrive_scope arrive) arrive.update arrive.publishing false a b x y).sides
 
   -- a server begins from one side, and writes one line of its message first
   begins_as_one : (recorded : List File) (serve : Serve) (a b : Side) (x : IsServedSide recorded serve a) (y : IsServedSide recorded serve b) → ArePublishedAsOne a b x.line y.line

@@ -3,22 +3,22 @@ use Rattle.std.proofs.Common.{◌≡◌, ◌∙◌, ◌⊎◌, ◌+◌, ◌∷�
 use Rattle.std.specs.List.{AllZip}
 use Rattle.std.specs.Option.{unwrap_or}
 use Rattle.cli_ask.specs.Publishing.{side_for, side_with, store_of}
-use Rattle.cli_ask.specs.Laws.{AreOneEnd, OneOutput, PrintOneClient}
+use Rattle.cli_arrive.specs.Laws.{OneLatestOutput}
+use Rattle.cli_ask.specs.Laws.{AreOneEnd, OneOutput}
 use Rattle.cli_ask.specs.declared.end.ClientEnd.{ClientEnd}
 use Rattle.cli_fewest.specs.Laws.{OneFewestOutput}
+use Rattle.laws_arrive_replies.specs.Laws.{SayOneLatest}
 use Rattle.laws_replies.specs.Laws.{SayTheSame}
 use Rattle.cli_words.specs.Laws.{OneCommand}
 use Rattle.cli_words.specs.Words.{SaysCommand}
 use Rattle.cli_words.specs.declared.command.Command.{Command}
 use Rattle.cli_words.specs.declared.command.Command.TheVariants as commands
-use Rattle.cli_words.specs.declared.command.Publishing.{Publishing}
 use Rattle.cli_words.specs.declared.command.Replay.{Replay}
 use Rattle.lc_io.specs.Counts.{Rose}
 use Rattle.lc_io.specs.Folder.{FolderSeen}
 use Rattle.lc_io.specs.declared.file.File.{File}
 use Rattle.lc_io.specs.declared.folder.FolderFail.{FolderFail}
 use Rattle.lc_io.specs.declared.folder.FolderFail.TheVariants.{Absent}
-use Rattle.lc_model.specs.declared.query.Query.{Query}
 use Rattle.lc_world.specs.Link.{LinkSeen}
 use Rattle.page_client.specs.declared.fault.QueryFault.{QueryFault}
 use Rattle.page_client.specs.declared.outcome.Outcome.{Outcome}
@@ -37,7 +37,7 @@ use Rattle.version_store.specs.declared.admission.AdmitFault.{AdmitFault}
 use Rattle.version_store.specs.declared.admission.AdmitFault.TheVariants as faults
 use Rattle.lc_cli.specs.Block.{IsBlockEnd, client_status_of, failed_status_of}
 use Rattle.lc_cli.specs.Clear.{HasFairLink, HasTimetable, IsClear, IsRecordedCourse, IsRecordedFile, IsUnhindered}
-use Rattle.lc_cli.specs.Command.{IsQuestionBlock, IsRefusedAs, IsRightBlock, IsRightRefusal, Prints, ask_scope, check_scope, fewest_scope, serve_scope}
+use Rattle.lc_cli.specs.Command.{IsQuestionBlock, IsRefusedAs, IsRightBlock, IsRightRefusal, Prints, arrive_question, arrive_scope, ask_question, ask_scope, check_scope, fewest_question, fewest_scope, serve_scope}
 use Rattle.lc_cli.specs.Drill.{drill_folder, sure_seen}
 use Rattle.cli_drill.specs.Files.{drill_files}
 use Rattle.cli_inputs.specs.Inputs.{AsksForUpdate, IsRefusedFor}
@@ -45,18 +45,20 @@ use Rattle.lc_cli.specs.Laws.{AreInProcess, DoneIsClear, DoneIsPrinted, IsInProc
 use Rattle.lc_cli.specs.Refusal.{IsRefusalEnd, status_of}
 use Rattle.lc_cli.specs.Top.{HasPrinted, HasServed, IsRight, Past}
 use Rattle.lc_cli.specs.declared.block.Block.{Block}
+use Rattle.lc_cli.specs.declared.question.Asking.{Asking}
+use Rattle.lc_cli.specs.declared.question.Asking.TheVariants as askings
+use Rattle.lc_cli.specs.declared.question.Question.{Question}
 use Rattle.cli_inputs.specs.declared.refusal.Refusal.{Refusal}
 use Rattle.cli_inputs.specs.declared.refusal.Refusal.TheVariants as refused
 use Rattle.lc_cli.specs.declared.status.Status.{Status}
 use Rattle.lc_cli.specs.declared.status.Status.TheVariants.{Done, NoMemory, ScriptWrong, UpdateBroken, Usage}
-use Rattle.lc_cli.proofs.CommandLemmas.{question_of}
 use Rattle.lc_cli.proofs.CourseRefusalLemmas.{HasLoaded, IsCourseRefused, IsRecordedCause, course_refused, not_refused, one_course_refusal, one_wrong, status_by, status_in}
 use Rattle.lc_cli.proofs.InputsLemmas.{absent_recorded, bytes_recorded, inputs_recorded, still_recorded}
 use Rattle.lc_cli.proofs.OneReplayLemmas.{one_replay}
-use Rattle.lc_cli.proofs.OneRunLemmas.{one_client, one_fewest}
+use Rattle.lc_cli.proofs.OneRunLemmas.{PrintOneSo, one_client}
 use Rattle.lc_cli.proofs.PlanLemmas.{asks_recorded}
 use Rattle.lc_cli.proofs.ReplayLemmas.{course_fine, course_recorded}
-use Rattle.lc_cli.proofs.TopLemmas.{AreNoFaults, IsHeardBy, IsNoFault, heard_fine, heard_nothing, no_fault, side_asked, side_served}
+use Rattle.lc_cli.proofs.TopLemmas.{AreNoFaults, IsHeardBy, IsNoFault, first_heard, heard_fine, heard_nothing, no_fault, side_asked, side_served}
 
 -- the block was printed whole
 record Whole {X : Type 0} (seen : X → LinkSeen) (p : Past X) (s : Status) : Type 0 where
@@ -101,6 +103,7 @@ IsRefusedSo recorded p s (commands.Plan plan) = Unit {0}
 IsRefusedSo recorded p s (commands.Relay relay) = Unit {0}
 IsRefusedSo recorded p s (commands.Drill drill) = Unit {0}
 IsRefusedSo recorded p s (commands.Fewest fewest) = Fails (fewest_scope fewest) fewest.update recorded p s
+IsRefusedSo recorded p s (commands.Arrive arrive) = Fails (arrive_scope arrive) arrive.update recorded p s
 
 -- a command is refused by its files
 record IsRefusedByFiles {X : Type 0} (recorded : List File) (p : Past X) (s : Status) : Type 0 where
@@ -161,6 +164,7 @@ module _ {X : Type 0} (seen : X → LinkSeen) (p : Past X) (recorded : List File
   refused_so (commands.Relay relay) refusal status is = inr tt
   refused_so (commands.Drill drill) refusal status is = inr tt
   refused_so (commands.Fewest fewest) refusal status is = by_refusal (fewest_scope fewest) fewest.update refusal status is
+  refused_so (commands.Arrive arrive) refusal status is = by_refusal (arrive_scope arrive) arrive.update refusal status is
 
   by_command : (command : Command) → SaysCommand p.words command → (s ≡ NoMemory) ⊎ IsRefusedSo recorded p s command → (s ≡ NoMemory) ⊎ Ended seen recorded p s
   by_command command says (inl memory) = inl memory
@@ -202,6 +206,32 @@ one_client_status client (outcomes.Refused f) (outcomes.PeerWrong r g) one fine 
 one_client_status client (outcomes.LinkFault k l) p one fine = absurd fine
 one_client_status client (outcomes.PeerWrong r f) p one fine = absurd fine
 
+-- and so have those of questions for the latest departure
+one_latest_status : (client : ℕ) (o p : Outcome) → SayOneLatest o p → IsNoFault o → failed_status_of client o ≡ failed_status_of client p
+one_latest_status client (outcomes.Found a) (outcomes.Found b) one fine = refl
+one_latest_status client (outcomes.Found a) outcomes.NoJourney one fine = absurd one
+one_latest_status client (outcomes.Found a) (outcomes.Refused g) one fine = absurd one
+one_latest_status client (outcomes.Found a) (outcomes.LinkFault m n) one fine = absurd one
+one_latest_status client (outcomes.Found a) (outcomes.PeerWrong r g) one fine = absurd one
+one_latest_status client outcomes.NoJourney (outcomes.Found b) one fine = absurd one
+one_latest_status client outcomes.NoJourney outcomes.NoJourney one fine = refl
+one_latest_status client outcomes.NoJourney (outcomes.Refused g) one fine = absurd one
+one_latest_status client outcomes.NoJourney (outcomes.LinkFault m n) one fine = absurd one
+one_latest_status client outcomes.NoJourney (outcomes.PeerWrong r g) one fine = absurd one
+one_latest_status client (outcomes.Refused f) (outcomes.Found b) one fine = absurd one
+one_latest_status client (outcomes.Refused f) outcomes.NoJourney one fine = absurd one
+one_latest_status client (outcomes.Refused f) (outcomes.Refused g) one fine = ap (λ (c : QueryFault). failed_status_of client (outcomes.Refused c)) one
+one_latest_status client (outcomes.Refused f) (outcomes.LinkFault m n) one fine = absurd one
+one_latest_status client (outcomes.Refused f) (outcomes.PeerWrong r g) one fine = absurd one
+one_latest_status client (outcomes.LinkFault k l) p one fine = absurd fine
+one_latest_status client (outcomes.PeerWrong r f) p one fine = absurd fine
+
+-- outcomes of clients that print one output have one status
+one_asking_status : (asking : Asking) (x y : List ℕ) (d e : ClientEnd) → PrintOneSo asking x y d e → IsNoFault d.outcome → failed_status_of 1 d.outcome ≡ failed_status_of 1 e.outcome
+one_asking_status (askings.Earliest query cache) x y d e one fine = one_client_status 1 d.outcome e.outcome one.one.outcome fine
+one_asking_status (askings.Fewest query) x y d e one fine = one_client_status 1 d.outcome e.outcome one.client.one.outcome fine
+one_asking_status (askings.Latest query) x y d e one fine = one_latest_status 1 d.outcome e.outcome one.one.outcome fine
+
 -- clients whose ends are one have one status
 one_clients_status : (k : ℕ) (a b : List ClientEnd) → AllZip AreOneEnd a b → AreNoFaults a → client_status_of k a ≡ client_status_of k b
 one_clients_status k [] [] one fine = refl
@@ -211,7 +241,7 @@ one_clients_status k (d ∷ a) (e ∷ b) one fine =
     ap₂ (λ (first : Option Status) (rest : Status). unwrap_or first rest) (one_client_status k d.outcome e.outcome one.0.outcome fine.0) (one_clients_status (k + 1) a b one.1 fine.1)
 
 module _ {X Y : Type 0} (seen : X → LinkSeen) (saw : Y → LinkSeen) (one_command : OneCommand) (one_timetable : OneTimetable) (one_end : OneEnd) (loads_recorded : LoadsRecorded)
-    (one_outcome : OneOutcome) (one_output : OneOutput seen saw) (one_fewest_output : OneFewestOutput seen saw) (one_script : OneScript) (one_fault : OneFault) (never_both : NeverBoth) (one_course : OneCourse) (p : Past X) (q : Past Y)
+    (one_outcome : OneOutcome) (one_output : OneOutput seen saw) (one_fewest_output : OneFewestOutput seen saw) (one_latest_output : OneLatestOutput seen saw) (one_script : OneScript) (one_fault : OneFault) (never_both : NeverBoth) (one_course : OneCourse) (p : Past X) (q : Past Y)
     (recorded : List File) (words : p.words ≡ q.words) (home : AreInProcess p.words) (at : IsUnhindered seen p recorded) (to : IsUnhindered saw q recorded) (s t : Status) where
   same_command : (a b : Command) → SaysCommand p.words a → SaysCommand q.words b → b ≡ a
   same_command a b x y = one_command p.words b a (subst (λ w. SaysCommand w b) (sym words) y) x
@@ -244,23 +274,26 @@ module _ {X Y : Type 0} (seen : X → LinkSeen) (saw : Y → LinkSeen) (one_comm
   LoadedSo r (commands.Relay relay) = Unit {0}
   LoadedSo r (commands.Drill drill) = Unit {0}
   LoadedSo r (commands.Fewest fewest) = Loaded (fewest_scope fewest) fewest.update r
+  LoadedSo r (commands.Arrive arrive) = Loaded (arrive_scope arrive) arrive.update r
 
   -- that of a question
-  loaded_question : {Z : Type 0} (look : Z → LinkSeen) (r : Past Z) (scope : Scope) (update : Option (List ℕ)) (publishing : Publishing) (query : Query) (block : Block)
-      → IsQuestionBlock scope update publishing query r.folder_before r.folder_after (look r.link_before) (look r.link_after) block → r.folder_before.files ≡ Some recorded → Loaded scope update r
-  loaded_question look r scope update publishing query block prints tells = record {
-    between = prints.inputs.between;
-    made = prints.made;
-    loads = prints.inputs.loaded;
-    heard = record {
-      file = prints.file;
-      is_recorded = inputs_recorded recorded scope update r.folder_before r.folder_after prints.made prints.file tells prints.inputs;
-      old = store_of prints.made publishing.base_moment;
-      new = prints.asked.store;
-      line = prints.asked.line;
-      behind = prints.asked.behind;
-    };
-  }
+  loaded_question : {Z : Type 0} (look : Z → LinkSeen) (r : Past Z) (question : Question) (block : Block)
+      → IsQuestionBlock question r.folder_before r.folder_after (look r.link_before) (look r.link_after) block → r.folder_before.files ≡ Some recorded → Loaded question.scope question.update r
+  loaded_question look r question block prints tells =
+      let first = first_heard loads_recorded recorded question r.folder_before r.folder_after (look r.link_before) (look r.link_after) block prints tells in
+      record {
+        between = prints.inputs.between;
+        made = prints.made;
+        loads = prints.inputs.loaded;
+        heard = record {
+          file = prints.file;
+          is_recorded = inputs_recorded recorded question.scope question.update r.folder_before r.folder_after prints.made prints.file tells prints.inputs;
+          old = store_of prints.made question.publishing.base_moment;
+          new = first.store;
+          line = first.line;
+          behind = first.behind;
+        };
+      }
 
   loaded : {Z : Type 0} (look : Z → LinkSeen) (r : Past Z) (block : Block) → r.folder_before.files ≡ Some recorded → (command : Command)
       → Prints command r.folder_before r.folder_after (look r.link_before) (look r.link_after) block → LoadedSo r command
@@ -280,11 +313,11 @@ module _ {X Y : Type 0} (seen : X → LinkSeen) (saw : Y → LinkSeen) (one_comm
   loaded look r block tells (commands.Plan plan) prints = tt
   loaded look r block tells (commands.Relay relay) prints = tt
   loaded look r block tells (commands.Drill drill) prints = tt
-  loaded look r block tells (commands.Fewest fewest) prints =
-      loaded_question look r (fewest_scope fewest) fewest.update fewest.publishing fewest.query block (question_of fewest r.folder_before r.folder_after (look r.link_before) (look r.link_after) block prints) tells
+  loaded look r block tells (commands.Fewest fewest) prints = loaded_question look r (fewest_question fewest) block prints tells
+  loaded look r block tells (commands.Arrive arrive) prints = loaded_question look r (arrive_question arrive) block prints tells
   loaded look r block tells (commands.Check check) prints =
       record { between = r.folder_after; made = prints.made; loads = prints.loaded; heard = heard_nothing recorded (record { runs = prints.made.runs; stops = prints.made.doc.stops; zone = prints.made.zone; base = 0; history = [] }) }
-  loaded look r block tells (commands.Ask ask) prints = loaded_question look r (ask_scope ask) ask.update ask.publishing ask.query block prints tells
+  loaded look r block tells (commands.Ask ask) prints = loaded_question look r (ask_question ask) block prints tells
 
   -- a recorded message that was heard is not wrong
   heard_or_wrong : (name : List ℕ) (cause : Option AdmitFault) → IsHeardBy recorded (Some name) → IsRecordedCause recorded name cause → ⊥
@@ -295,14 +328,18 @@ module _ {X Y : Type 0} (seen : X → LinkSeen) (saw : Y → LinkSeen) (one_comm
   heard_or_wrong name (Some found) is (bytes, same, wrong, other) = heard_fine one_outcome recorded name bytes found is same wrong other
 
   -- questions that print one client have one status
-  one_question : (scope : Scope) (update : Option (List ℕ)) (publishing : Publishing) (query : Query) (x y : Block)
-      (a : IsQuestionBlock scope update publishing query p.folder_before p.folder_after (seen p.link_before) (seen p.link_after) x)
-      (b : IsQuestionBlock scope update publishing query q.folder_before q.folder_after (saw q.link_before) (saw q.link_after) y)
-      → HasFairLink recorded scope update publishing (seen p.link_before).clear (seen p.link_before).faults (seen p.link_after).faults → PrintOneClient x.text.items y.text.items a.end b.end
+  one_question : (question : Question) (x y : Block) (a : IsQuestionBlock question p.folder_before p.folder_after (seen p.link_before) (seen p.link_after) x)
+      (b : IsQuestionBlock question q.folder_before q.folder_after (saw q.link_before) (saw q.link_after) y)
+      → HasFairLink recorded question.scope question.update question.publishing (seen p.link_before).clear (seen p.link_before).faults (seen p.link_after).faults
+      → HasFairLink recorded question.scope question.update question.publishing (saw q.link_before).clear (saw q.link_before).faults (saw q.link_after).faults
       → client_status_of 1 x.ends.items ≡ client_status_of 1 y.ends.items
-  one_question scope update publishing query x y a b fair one =
-      let fine = subst AreNoFaults a.client (no_fault loads_recorded recorded scope update publishing query p.folder_before p.folder_after (seen p.link_before) (seen p.link_after) x a at.tells fair) in
-      ap (client_status_of 1) a.client ∙ ap (λ (f : Option Status). unwrap_or f Done) (one_client_status 1 a.end.outcome b.end.outcome one.one.outcome fine.0) ∙ sym (ap (client_status_of 1) b.client)
+  one_question question x y a b fair other_fair =
+      let one = one_client seen saw one_timetable loads_recorded one_output one_fewest_output one_latest_output recorded question p.folder_before p.folder_after q.folder_before q.folder_after p.link_before
+      p.link_after q.link_before q.link_after x y a b at.tells to.tells fair other_fair in
+      let fine = subst AreNoFaults a.client (no_fault loads_recorded recorded question p.folder_before p.folder_after (seen p.link_before) (seen p.link_after) x a at.tells fair) in
+      ap (client_status_of 1) a.client
+      ∙ ap (λ (f : Option Status). unwrap_or f Done) (one_asking_status question.asking x.text.items y.text.items a.end b.end one fine.0)
+      ∙ sym (ap (client_status_of 1) b.client)
 
   -- blocks that were printed whole
   both_whole : Whole seen p s → Whole saw q t → s ≡ t
@@ -323,16 +360,12 @@ module _ {X Y : Type 0} (seen : X → LinkSeen) (saw : Y → LinkSeen) (one_comm
         (saw q.link_before) (saw q.link_after) x.block y.block a b at.tells to.tells fair (to.fair_course replay (subst (λ w. SaysCommand w (commands.Replay replay)) words says)) in
         one_clients_status 1 x.block.ends.items y.block.ends.items one.one_each
         (course_fine loads_recorded recorded replay p.folder_before p.folder_after (seen p.link_before) (seen p.link_after) x.block.text.items x.block.ends.items a at.tells fair)
-    by (commands.Fewest fewest) says a b =
-        let one = one_fewest seen saw one_timetable loads_recorded one_output one_fewest_output recorded fewest p.folder_before p.folder_after q.folder_before q.folder_after p.link_before p.link_after q.link_before
-        q.link_after x.block y.block a b at.tells to.tells (at.fair_fewest fewest says) (to.fair_fewest fewest (subst (λ w. SaysCommand w (commands.Fewest fewest)) words says)) in
-        one_question (fewest_scope fewest) fewest.update fewest.publishing fewest.query x.block y.block
-        (question_of fewest p.folder_before p.folder_after (seen p.link_before) (seen p.link_after) x.block a)
-        (question_of fewest q.folder_before q.folder_after (saw q.link_before) (saw q.link_after) y.block b) (at.fair_fewest fewest says) one.client
     by (commands.Ask ask) says a b =
-        let one = one_client seen saw one_timetable loads_recorded one_output one_fewest_output recorded ask p.folder_before p.folder_after q.folder_before q.folder_after p.link_before p.link_after q.link_before q.link_after x.block y.block a b
-        at.tells to.tells (at.fair ask says) (to.fair ask (subst (λ w. SaysCommand w (commands.Ask ask)) words says)) in
-        one_question (ask_scope ask) ask.update ask.publishing ask.query x.block y.block a b (at.fair ask says) one
+        one_question (ask_question ask) x.block y.block a b (at.fair ask says) (to.fair ask (subst (λ w. SaysCommand w (commands.Ask ask)) words says))
+    by (commands.Fewest fewest) says a b =
+        one_question (fewest_question fewest) x.block y.block a b (at.fair_fewest fewest says) (to.fair_fewest fewest (subst (λ w. SaysCommand w (commands.Fewest fewest)) words says))
+    by (commands.Arrive arrive) says a b =
+        one_question (arrive_question arrive) x.block y.block a b (at.fair_arrive arrive says) (to.fair_arrive arrive (subst (λ w. SaysCommand w (commands.Arrive arrive)) words says))
 
   -- a block and a refusal by the files are no ends of one command
   clash_loaded : {Z W : Type 0} (r : Past Z) (u : Past W) (v : Status) → r.folder_before.files ≡ Some recorded → u.folder_before.files ≡ Some recorded → (scope : Scope) (update : Option (List ℕ))
@@ -352,6 +385,7 @@ module _ {X Y : Type 0} (seen : X → LinkSeen) (saw : Y → LinkSeen) (one_comm
   clash r u v tells tell (commands.Relay relay) here x y = here
   clash r u v tells tell (commands.Drill drill) here x y = here
   clash r u v tells tell (commands.Fewest fewest) here x y = clash_loaded r u v tells tell (fewest_scope fewest) fewest.update x y
+  clash r u v tells tell (commands.Arrive arrive) here x y = clash_loaded r u v tells tell (arrive_scope arrive) arrive.update x y
 
   whole_refused : (x : Whole seen p s) → IsRefusedByFiles recorded q t → ⊥
   whole_refused x y =
@@ -387,6 +421,7 @@ module _ {X Y : Type 0} (seen : X → LinkSeen) (saw : Y → LinkSeen) (one_comm
   both_refused (commands.Relay relay) here x y = absurd here
   both_refused (commands.Drill drill) here x y = absurd here
   both_refused (commands.Fewest fewest) here x y = both_fail (fewest_scope fewest) fewest.update x y
+  both_refused (commands.Arrive arrive) here x y = both_fail (arrive_scope arrive) arrive.update x y
 
   one_ended : Ended seen recorded p s → Ended saw recorded q t → s ≡ t
   one_ended (inl x) (inl y) = both_whole x y
@@ -407,10 +442,10 @@ module _ {X Y : Type 0} (seen : X → LinkSeen) (saw : Y → LinkSeen) (one_comm
     by (inr a) (inl e) = inr (inr e)
     by (inr a) (inr b) = inl (one_ended a b)
 
-pub one_status : {X Y : Type 0} (seen : X → LinkSeen) (saw : Y → LinkSeen) → OneCommand → OneTimetable → OneEnd → LoadsRecorded → OneOutcome → OneOutput seen saw → OneFewestOutput seen saw → OneScript → OneFault → NeverBoth
+pub one_status : {X Y : Type 0} (seen : X → LinkSeen) (saw : Y → LinkSeen) → OneCommand → OneTimetable → OneEnd → LoadsRecorded → OneOutcome → OneOutput seen saw → OneFewestOutput seen saw → OneLatestOutput seen saw → OneScript → OneFault → NeverBoth
     → OneCourse → OneStatus seen saw
-one_status seen saw one_command one_timetable one_end loads_recorded one_outcome one_output one_fewest_output one_script one_fault never_both one_course p q recorded words home at to s t x y =
-    one seen saw one_command one_timetable one_end loads_recorded one_outcome one_output one_fewest_output one_script one_fault never_both one_course p q recorded words home at to s t x y
+one_status seen saw one_command one_timetable one_end loads_recorded one_outcome one_output one_fewest_output one_latest_output one_script one_fault never_both one_course p q recorded words home at to s t x y =
+    one seen saw one_command one_timetable one_end loads_recorded one_outcome one_output one_fewest_output one_latest_output one_script one_fault never_both one_course p q recorded words home at to s t x y
 
 -- a run that is done was no refusal
 pub done_is_printed : {X : Type 0} (seen : X → LinkSeen) → DoneIsPrinted seen
@@ -465,7 +500,7 @@ done_is_clear seen loads_recorded p recorded at right = by (done_is_printed seen
     fed = has_timetable loads_recorded recorded (ask_scope ask) p.folder_before prints.inputs.between prints.made at.tells prints.inputs.loaded;
     heard = (
       side_with prints.made ask.publishing prints.asked.store,
-      side_asked loads_recorded recorded (ask_scope ask) ask.update ask.publishing ask.query p.folder_before p.folder_after (seen p.link_before) (seen p.link_after) block prints at.tells,
+      side_asked loads_recorded recorded (ask_question ask) p.folder_before p.folder_after (seen p.link_before) (seen p.link_after) block prints at.tells,
     );
   }
   of (commands.Fewest fewest) block says prints = record {
@@ -476,8 +511,18 @@ done_is_clear seen loads_recorded p recorded at right = by (done_is_printed seen
     fed = has_timetable loads_recorded recorded (fewest_scope fewest) p.folder_before prints.inputs.between prints.made at.tells prints.inputs.loaded;
     heard = (
       side_with prints.made fewest.publishing prints.asked.asked.store,
-      side_asked loads_recorded recorded (fewest_scope fewest) fewest.update fewest.publishing fewest.query p.folder_before p.folder_after (seen p.link_before) (seen p.link_after) block
-          (question_of fewest p.folder_before p.folder_after (seen p.link_before) (seen p.link_after) block prints) at.tells,
+      side_asked loads_recorded recorded (fewest_question fewest) p.folder_before p.folder_after (seen p.link_before) (seen p.link_after) block prints at.tells,
+    );
+  }
+  of (commands.Arrive arrive) block says prints = record {
+    command = commands.Arrive arrive;
+    says = says;
+    recorded = recorded;
+    unhindered = at;
+    fed = has_timetable loads_recorded recorded (arrive_scope arrive) p.folder_before prints.inputs.between prints.made at.tells prints.inputs.loaded;
+    heard = (
+      side_with prints.made arrive.publishing prints.asked.store,
+      side_asked loads_recorded recorded (arrive_question arrive) p.folder_before p.folder_after (seen p.link_before) (seen p.link_after) block prints at.tells,
     );
   }
   of (commands.Serve serve) block says prints = absurd prints

@@ -9,7 +9,7 @@ use Rattle.cli_relay.specs.Laws.{RelaysPlanRight}
 use Rattle.cli_words.specs.declared.command.Plan.{Plan}
 use Rattle.cli_words.specs.declared.command.Relay.{Relay}
 use Rattle.connection_uri.specs.Base.{BaseParts}
-use Rattle.laws_plan.specs.Planned.{ArePlanned, IsPlanned}
+use Rattle.cli_relay.specs.Planned.{ArePlanned, IsPlanned}
 use Rattle.laws_replay.specs.Events.{questions_in}
 use Rattle.laws_replay.specs.declared.event.Event.{Event}
 use Rattle.lc_io.specs.Counts.{Rose}

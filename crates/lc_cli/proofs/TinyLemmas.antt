@@ -3,7 +3,7 @@ use Rattle.std.proofs.Common.{◌≡◌, ℕ, suc, ◌+◌, ◌-◌, ◌<◌, �
 use Rattle.std.specs.Prelude.{find, option_map}
 use Rattle.std.proofs.lemmas.Bool.{and_parts, ltb-true}
 use Rattle.std.proofs.lemmas.Slice.Eq.{bytes_eq-Decides}
-use Rattle.std.specs.List.{All, AllPairs, list_all}
+use Rattle.std.specs.List.{All, AllPairs, list_all, slice_get}
 use Rattle.std.specs.Option.{IfSome}
 use Rattle.std.proofs.lemmas.List.{get_or_default}
 use Rattle.std.proofs.lemmas.List.Elements.{All-cons, All-map, All-nil}
@@ -21,8 +21,8 @@ use Rattle.lc_versions.specs.Timetable.{AreLiveRuns}
 use Rattle.live_calls.specs.Laws.{IsOnTime, LiveWithoutNews, RunsAreLive, RunsOnTime}
 use Rattle.cli_words.specs.declared.command.Publishing.{Publishing}
 use Rattle.lc_model.specs.Change.{change_between, is_same_id}
-use Rattle.lc_model.specs.Journey.{AreRides, GoesOn, IsAnswer, IsJourney, alight_of, arrival_of_rides, arrives_at, board_of, departure_of}
-use Rattle.lc_model.specs.Question.{IsFrom, IsTo, latest_of}
+use Rattle.lc_model.specs.Journey.{AreRides, GoesOn, IsAnswer, IsJourney, alight_of, arrival_of_rides, arrives_at, board_of, departure_of, leaves_at}
+use Rattle.lc_model.specs.Question.{IsEnd, IsFrom, IsTo, latest_of}
 use Rattle.lc_model.specs.Ride.{IsRideAt, IsRideOn}
 use Rattle.lc_model.specs.Stop.{HasStop}
 use Rattle.lc_model.specs.StopsDoc.{NamesItsStops}
@@ -58,10 +58,10 @@ known = record {
   changes_to = All-map (λ (c : Change). HasStop tiny_stops c.to) change_at tiny_stops (each_known tiny_stops);
 }
 
-abbrev runs : List Run
+abbrev pub runs : List Run
 runs = tiny_runs
 
-abbrev doc : StopsDoc
+abbrev pub doc : StopsDoc
 doc = record { stops = tiny_stops; changes = tiny_changes; closed = ∣ known ∣₁ }
 
 abbrev SequenceRises : Call → Call → Type 0
@@ -95,10 +95,10 @@ three_forward a b c ab ac bc stay_a stay_b stay_c along_ab along_ac along_bc = r
   along = pairs_of_three GoesOnForward a b c along_ab along_ac along_bc;
 }
 
-abbrev RunForward : Run → Type 0
+abbrev pub RunForward : Run → Type 0
 RunForward run = GoesForward run.calls
 
-two_run : (trip from to : List ℕ) (dep arr : ℕ) → dep ≤ arr → RunForward (run_of trip (call from 1 dep dep ∷ call to 2 arr arr ∷ []))
+pub two_run : (trip from to : List ℕ) (dep arr : ℕ) → dep ≤ arr → RunForward (run_of trip (call from 1 dep dep ∷ call to 2 arr arr ∷ []))
 two_run trip from to dep arr along = two_forward (call from 1 dep dep) (call to 2 arr arr) (lit< tt) (omega arith) (omega arith) along
 
 pub forward : RunsForward tiny_runs
@@ -114,41 +114,55 @@ forward =
 abbrev pub tiny : Timetable
 tiny = record { zone = Utc; runs = runs; connections = 6; doc = doc; trips = 5; left_out = 0; forward = forward }
 
-is_tiny : IsTiny tiny
+pub is_tiny : IsTiny tiny
 is_tiny = record { runs = refl; stops = refl; changes = refl }
 
--- at D, the call arrives at 08:31 or later
-abbrev is_late_at_d : Call → Bool
-is_late_at_d call = cond (is_same_id call.stop (codes "D")) (nat_lt 1_714_552_259 call.arr) true
+-- the call is at another stop, or departs before this moment
+abbrev pub departs_before : List ℕ → ℕ → Call → Bool
+departs_before stop bound call = cond (is_same_id call.stop stop) (nat_lt call.dep bound) true
 
-late : (at_d : Bool) (arr : ℕ) → cond at_d (nat_lt 1_714_552_259 arr) true ≡ true → at_d ≡ true → moment 8 31 ≤ arr
-late true arr e at = omega (arith, ltb-true)
-late false arr e at = absurd (cc)
+-- the call is at another stop, or arrives after this moment
+abbrev pub arrives_after : List ℕ → ℕ → Call → Bool
+arrives_after stop bound call = cond (is_same_id call.stop stop) (nat_lt bound call.arr) true
 
--- no ride arrives at D earlier
-rides_late : (ride : Ride) → IsRideAt runs ride → ride.alight ≡ codes "D" → moment 8 31 ≤ ride.arr
-rides_late ride (place, run, inside, stands, rides) at_d =
-    let of_run : list_all is_late_at_d run.calls ≡ true = subst (λ (r : Run). list_all is_late_at_d r.calls ≡ true) stands (AllPass-from_list_all (λ (r : Run). list_all is_late_at_d r.calls) runs refl place run inside) in
-    let of_call : is_late_at_d rides.alights ≡ true = subst (λ (c : Call). is_late_at_d c ≡ true) (get_or_from_slice_get run.calls (suc rides.last_at) rides.alights rides.alights rides.is_alights)
-    (AllPass-from_list_all is_late_at_d run.calls of_run (suc rides.last_at) rides.alights (slice_get_within run.calls (suc rides.last_at) rides.alights rides.is_alights)) in
-    let stop : rides.alights.stop ≡ codes "D" = sym (ap (λ (r : Ride). r.alight) rides.is_ride) ∙ at_d in
-    subst (λ (v : ℕ). moment 8 31 ≤ v) (sym (ap (λ (r : Ride). r.arr) rides.is_ride))
-    (late (is_same_id rides.alights.stop (codes "D")) rides.alights.arr of_call (ap (λ (s : List ℕ). is_same_id s (codes "D")) stop))
+-- at the stop itself, the moments of such a call are in that order
+pub at_stop : (stop named : List ℕ) (m n : ℕ) → cond (is_same_id stop named) (nat_lt m n) true ≡ true → stop ≡ named → m < n
+at_stop stop named m n passes same = here (is_same_id stop named) passes ((bytes_eq-Decides stop named).1 same) where
+  here : (is_here : Bool) → cond is_here (nat_lt m n) true ≡ true → is_here ≡ true → m < n
+  here true passes is = omega (arith, ltb-true)
+  here false passes is = absurd (cc)
 
--- no stop has a parent, so only D is an end of the question
-ends_at_d : (stop : List ℕ) → IsTo doc.stops from_a_to_d stop → stop ≡ codes "D"
-ends_at_d stop (inl is) = is
-ends_at_d stop (inr (place, child, inside, stands, (is, parent))) =
+-- a call of a run passes what all calls of the run pass
+pub call_passes : (passes : Call → Bool) (run : Run) (place : ℕ) (call : Call) → list_all passes run.calls ≡ true → slice_get run.calls place ≡ Some call → passes call ≡ true
+call_passes passes run place call all is =
+    subst (λ (c : Call). passes c ≡ true) (get_or_from_slice_get run.calls place call call is) (AllPass-from_list_all passes run.calls all place call (slice_get_within run.calls place call is))
+
+-- no ride leaves the stop at this moment or later, where no call does
+pub rides_before : (list : List Run) (stop : List ℕ) (bound : ℕ) → list_all (λ (r : Run). list_all (departs_before stop bound) r.calls) list ≡ true
+    → (ride : Ride) → IsRideAt list ride → ride.board ≡ stop → ride.dep < bound
+rides_before list stop bound all ride (place, run, inside, stands, rides) here =
+    let of_run : list_all (departs_before stop bound) run.calls ≡ true =
+    subst (λ (r : Run). list_all (departs_before stop bound) r.calls ≡ true) stands (AllPass-from_list_all (λ (r : Run). list_all (departs_before stop bound) r.calls) list all place run inside) in
+    let of_call : departs_before stop bound rides.boards ≡ true = call_passes (departs_before stop bound) run rides.boards_at rides.boards of_run rides.is_boards in
+    subst (λ (v : ℕ). v < bound) (sym (ap (λ (r : Ride). r.dep) rides.is_ride))
+    (at_stop rides.boards.stop stop rides.boards.dep bound of_call (sym (ap (λ (r : Ride). r.board) rides.is_ride) ∙ here))
+
+-- no ride reaches the stop at this moment or earlier, where no call does
+pub rides_after : (list : List Run) (stop : List ℕ) (bound : ℕ) → list_all (λ (r : Run). list_all (arrives_after stop bound) r.calls) list ≡ true
+    → (ride : Ride) → IsRideAt list ride → ride.alight ≡ stop → bound < ride.arr
+rides_after list stop bound all ride (place, run, inside, stands, rides) here =
+    let of_run : list_all (arrives_after stop bound) run.calls ≡ true =
+    subst (λ (r : Run). list_all (arrives_after stop bound) r.calls ≡ true) stands (AllPass-from_list_all (λ (r : Run). list_all (arrives_after stop bound) r.calls) list all place run inside) in
+    let of_call : arrives_after stop bound rides.alights ≡ true = call_passes (arrives_after stop bound) run (suc rides.last_at) rides.alights of_run rides.is_alights in
+    subst (λ (v : ℕ). bound < v) (sym (ap (λ (r : Ride). r.arr) rides.is_ride))
+    (at_stop rides.alights.stop stop bound rides.alights.arr of_call (sym (ap (λ (r : Ride). r.alight) rides.is_ride) ∙ here))
+
+-- no stop has a parent, so only the named one is an end of a question
+is_named : (named stop : List ℕ) → IsEnd tiny_stops named stop → stop ≡ named
+is_named named stop (inl is) = is
+is_named named stop (inr (place, child, inside, stands, (is, parent))) =
     let none : child.parent ≡ None = subst (λ (s : Stop). s.parent ≡ None) stands (All-map (λ (s : Stop). s.parent ≡ None) stop_named stop_ids (λ k d lt. refl) place child inside) in
     absurd (cc)
-
-goes_on_late : (ride : Ride) (rest : List Ride) → IsRideAt runs ride → GoesOn (IsRideAt runs) doc ride rest → alight_of (ride ∷ rest) ≡ codes "D" → moment 8 31 ≤ arrival_of_rides (ride ∷ rest)
-goes_on_late ride [] is goes at_d = rides_late ride is at_d
-goes_on_late ride (next ∷ rest) is goes at_d = goes_on_late next rest goes.0 goes.2 at_d
-
-are_late : (rides : List Ride) → AreRides (IsRideAt runs) doc rides → alight_of rides ≡ codes "D" → moment 8 31 ≤ arrival_of_rides rides
-are_late [] are at_d = absurd are
-are_late (first ∷ rest) are at_d = goes_on_late first rest are.0 are.1 at_d
 
 -- a change of the document is at one stop
 stays_found : (sought : Bool) (stop : Stop) (rest : Option Change) (from to : List ℕ) (seconds : ℕ) → (sought ≡ true → from ≡ to) → (option_map (λ (c : Change). c.seconds) rest ≡ Some seconds → from ≡ to)
@@ -163,19 +177,57 @@ stays (stop ∷ stops) from to seconds is =
     (λ sought. let both = and_parts (is_same_id stop.id from) (is_same_id stop.id to) sought in sym ((bytes_eq-Decides stop.id from).0 both.0) ∙ (bytes_eq-Decides stop.id to).0 both.1)
     (stays stops from to seconds) is
 
--- with a walk after them or none, rides that end at D arrive no earlier
-ends_late : (rides : List Ride) (after : Option Walk) → AreRides (IsRideAt runs) doc rides → IsWalkAfter from_a_to_d doc (alight_of rides) after → moment 8 31 ≤ arrival_of_rides rides + seconds_of after
-ends_late rides None are ends = let late : moment 8 31 ≤ arrival_of_rides rides = are_late rides are (ends_at_d (alight_of rides) ends) in omega (arith, late)
-ends_late rides (Some walk) are (apart, from, nearest) =
-    let same : alight_of rides ≡ walk.to = stays tiny_stops (alight_of rides) walk.to walk.seconds nearest.takes_so_long in
-    absurd (apart (subst (IsTo doc.stops from_a_to_d) (sym same) nearest.is_an_end))
+-- rides of a journey begin where the question does, with no walk before them
+pub begins_there : (query : Query) (rides : List Ride) (before : Option Walk) → IsWalkBefore query doc (board_of rides) before → (board_of rides ≡ query.from) × (seconds_of before ≡ 0)
+begins_there query rides None begins = (is_named query.from (board_of rides) begins, refl)
+begins_there query rides (Some walk) (apart, to, nearest) =
+    let same : walk.from ≡ board_of rides = stays tiny_stops walk.from (board_of rides) walk.seconds nearest.takes_so_long in
+    absurd (apart (subst (IsFrom doc.stops query) same nearest.is_an_end))
 
--- no journey arrives earlier
+-- and end where it does, with none after them
+pub ends_there : (query : Query) (rides : List Ride) (after : Option Walk) → IsWalkAfter query doc (alight_of rides) after → (alight_of rides ≡ query.to) × (seconds_of after ≡ 0)
+ends_there query rides None ends = (is_named query.to (alight_of rides) ends, refl)
+ends_there query rides (Some walk) (apart, from, nearest) =
+    let same : alight_of rides ≡ walk.to = stays tiny_stops (alight_of rides) walk.to walk.seconds nearest.takes_so_long in
+    absurd (apart (subst (IsTo doc.stops query) (sym same) nearest.is_an_end))
+
+module _ (IsRide : Ride → Type 0) (query : Query) (bound : ℕ) where
+  -- where no ride leaves the stop at this moment or later, no journey does
+  pub journeys_before : ((ride : Ride) → IsRide ride → ride.board ≡ query.from → ride.dep < bound) → (journey : Journey) → IsJourney IsRide query doc journey → leaves_at journey < bound
+  journeys_before each journey is =
+      let there = begins_there query journey.rides journey.before is.begins in
+      let before : departure_of journey.rides < bound = first journey.rides is.are_rides there.0 in
+      omega (arith, before) where
+        first : (rides : List Ride) → AreRides IsRide doc rides → board_of rides ≡ query.from → departure_of rides < bound
+        first [] are here = absurd are
+        first (ride ∷ rest) are here = each ride are.0 here
+
+  -- where no ride reaches the stop at this moment or earlier, no journey does
+  pub journeys_after : ((ride : Ride) → IsRide ride → ride.alight ≡ query.to → bound < ride.arr) → (journey : Journey) → IsJourney IsRide query doc journey → bound < arrives_at journey
+  journeys_after each journey is =
+      let there = ends_there query journey.rides journey.after is.ends in
+      let after : bound < arrival_of_rides journey.rides = are_after journey.rides is.are_rides there.0 in
+      omega (arith, after) where
+        goes_on : (ride : Ride) (rest : List Ride) → IsRide ride → GoesOn IsRide doc ride rest → alight_of (ride ∷ rest) ≡ query.to → bound < arrival_of_rides (ride ∷ rest)
+        goes_on ride [] is goes there = each ride is there
+        goes_on ride (next ∷ rest) is goes there = goes_on next rest goes.0 goes.2 there
+
+        are_after : (rides : List Ride) → AreRides IsRide doc rides → alight_of rides ≡ query.to → bound < arrival_of_rides rides
+        are_after [] are there = absurd are
+        are_after (ride ∷ rest) are there = goes_on ride rest are.0 are.1 there
+
+-- one second before 08:31
+abbrev pub just_before : ℕ
+just_before = moment 8 30 + 59
+
+-- no journey arrives before 08:31
 journeys_late : (journey : Journey) → IsJourney (IsRideAt runs) from_a_to_d doc journey → moment 8 31 ≤ arrives_at journey
-journeys_late journey is = ends_late journey.rides journey.after is.are_rides is.ends
+journeys_late journey is =
+    let after : just_before < arrives_at journey = journeys_after (IsRideAt runs) from_a_to_d just_before (rides_after runs (codes "D") just_before refl) journey is in
+    omega (arith, after)
 
 -- a ride from the first call of a run to the second
-from_first : (key : RunKey) (boards alights : Call) (rest : List Call) → boards.board ≡ true → alights.alight ≡ true → IsRideOn key (boards ∷ alights ∷ rest) (record { key = key; first_seq = boards.seq; last_seq = boards.seq; board = boards.stop; dep = boards.dep; alight = alights.stop; arr = alights.arr })
+pub from_first : (key : RunKey) (boards alights : Call) (rest : List Call) → boards.board ≡ true → alights.alight ≡ true → IsRideOn key (boards ∷ alights ∷ rest) (record { key = key; first_seq = boards.seq; last_seq = boards.seq; board = boards.stop; dep = boards.dep; alight = alights.stop; arr = alights.arr })
 from_first key boards alights rest board alight = record {
   boards_at = 0;
   last_at = 0;
@@ -191,14 +243,14 @@ from_first key boards alights rest board alight = record {
   is_ride = refl;
 }
 
-abbrev run_at : ℕ → Run
+abbrev pub run_at : ℕ → Run
 run_at place = get_or runs place (run_of [] [])
 
-rides_to_b : IsRideAt runs to_b
+pub rides_to_b : IsRideAt runs to_b
 rides_to_b =
     (0, run_at 0, lit< tt, refl, from_first (key_of (codes "T1")) (call (codes "A") 1 (moment 8 0) (moment 8 0)) (call (codes "B") 2 (moment 8 10) (moment 8 11)) (call (codes "C") 3 (moment 8 30) (moment 8 30) ∷ []) refl refl)
 
-rides_to_d : IsRideAt runs (to_d_at (moment 8 31))
+pub rides_to_d : IsRideAt runs (to_d_at (moment 8 31))
 rides_to_d =
     (2, run_at 2, lit< tt, refl, from_first (key_of (codes "T3")) (call (codes "B") 1 (moment 8 12) (moment 8 12)) (call (codes "D") 2 (moment 8 31) (moment 8 31)) [] refl refl)
 
@@ -207,7 +259,7 @@ rides_to_d_later =
     (1, run_at 1, lit< tt, refl, from_first (key_of (codes "T2")) (call (codes "B") 1 (moment 8 20) (moment 8 20)) (call (codes "D") 2 (moment 8 40) (moment 8 40)) [] refl refl)
 
 -- a journey with no walks is one where its rides are, from an end of the question to an end and in time
-walks_nowhere : (IsRide : Ride → Type 0) (query : Query) (doc : StopsDoc) (rides : List Ride) (journey : Journey) → IsMadeOf None rides None journey → AreRides IsRide doc rides
+pub walks_nowhere : (IsRide : Ride → Type 0) (query : Query) (doc : StopsDoc) (rides : List Ride) (journey : Journey) → IsMadeOf None rides None journey → AreRides IsRide doc rides
     → IsFrom doc.stops query (board_of rides) → query.leave ≤ departure_of rides → IsTo doc.stops query (alight_of rides) → arrival_of_rides rides ≤ latest_of query → IsJourney IsRide query doc journey
 walks_nowhere IsRide query doc rides journey made are from leaves to arrives = record {
   are_rides = subst (AreRides IsRide doc) (sym made.rides_are) are;
@@ -218,7 +270,7 @@ walks_nowhere IsRide query doc rides journey made are from leaves to arrives = r
 }
 
 -- a journey with no walk after it arrives when its rides do
-arrives_with_rides : (before : Option Walk) (rides : List Ride) (journey : Journey) → IsMadeOf before rides None journey → arrives_at journey ≡ arrival_of_rides rides
+pub arrives_with_rides : (before : Option Walk) (rides : List Ride) (journey : Journey) → IsMadeOf before rides None journey → arrives_at journey ≡ arrival_of_rides rides
 arrives_with_rides before rides journey made =
     let here : arrival_of_rides rides + 0 ≡ arrival_of_rides rides = omega arith in
     ap (λ rides. arrival_of_rides rides + seconds_of journey.after) made.rides_are ∙ ap (λ walk. arrival_of_rides rides + seconds_of walk) made.after_is ∙ here
@@ -254,11 +306,11 @@ the_worked_answers : IsAnswer (IsRideAt runs) from_a_to_d doc (answers.Journey t
 the_worked_answers = best the_worked (rides_make to_b (to_d_at (moment 8 31) ∷ []) None None).1
 
 -- one run is before another by its key
-abbrev KeyBefore : Run → Run → Type 0
+abbrev pub KeyBefore : Run → Run → Type 0
 KeyBefore a b = on (λ (r : Run). r.key) key_cmp a b ≡ Less
 
 -- the runs are in the order of their trips
-in_order : InKeyOrder runs
+pub in_order : InKeyOrder runs
 in_order =
     AllPairs-cons KeyBefore (run_at 0) (drop 1 runs) (All-cons (KeyBefore (run_at 0)) (run_at 1) (drop 2 runs) refl
     (All-cons (KeyBefore (run_at 0)) (run_at 2) (drop 3 runs) refl (All-cons (KeyBefore (run_at 0)) (run_at 3) (drop 4 runs) refl
@@ -272,34 +324,39 @@ in_order =
 on_time : (stop : List ℕ) (seq arr dep : ℕ) → arr < MOMENTS_END → dep < MOMENTS_END → IsOnTime (call stop seq arr dep)
 on_time stop seq arr dep a d = record { arr = a; dep = d; arr_delay = refl; dep_delay = refl }
 
+-- and so are the calls of a run from one stop to another
+pub two_on_time : (from : List ℕ) (first arr dep : ℕ) (to : List ℕ) (second last : ℕ) → arr < MOMENTS_END → dep < MOMENTS_END → last < MOMENTS_END → All IsOnTime (call from first arr dep ∷ call to second last last ∷ [])
+two_on_time from first arr dep to second last a d l =
+    All-cons IsOnTime (call from first arr dep) (call to second last last ∷ []) (on_time from first arr dep a d) (All-cons IsOnTime (call to second last last) [] (on_time to second last last l l) (All-nil IsOnTime))
+
 -- the calls of the runs are on time
 all_on_time : All (λ (r : Run). All IsOnTime r.calls) runs
 all_on_time =
     All-cons OnTime (run_at 0) (drop 1 runs) (All-cons IsOnTime (call (codes "A") 1 (moment 8 0) (moment 8 0)) (drop 1 (run_at 0).calls) (on_time (codes "A") 1 (moment 8 0) (moment 8 0) (lit< tt) (lit< tt))
-    (two (codes "B") 2 (moment 8 10) (moment 8 11) (codes "C") 3 (moment 8 30) (lit< tt) (lit< tt) (lit< tt)))
-    (All-cons OnTime (run_at 1) (drop 2 runs) (two (codes "B") 1 (moment 8 20) (moment 8 20) (codes "D") 2 (moment 8 40) (lit< tt) (lit< tt) (lit< tt))
-    (All-cons OnTime (run_at 2) (drop 3 runs) (two (codes "B") 1 (moment 8 12) (moment 8 12) (codes "D") 2 (moment 8 31) (lit< tt) (lit< tt) (lit< tt))
-    (All-cons OnTime (run_at 3) (drop 4 runs) (two (codes "E") 1 (moment 9 0) (moment 9 0) (codes "F") 2 (moment 9 10) (lit< tt) (lit< tt) (lit< tt))
-    (All-cons OnTime (run_at 4) [] (two (codes "E") 1 (moment 10 0) (moment 10 0) (codes "F") 2 (moment 10 10) (lit< tt) (lit< tt) (lit< tt)) (All-nil OnTime))))) where
+    (two_on_time (codes "B") 2 (moment 8 10) (moment 8 11) (codes "C") 3 (moment 8 30) (lit< tt) (lit< tt) (lit< tt)))
+    (All-cons OnTime (run_at 1) (drop 2 runs) (two_on_time (codes "B") 1 (moment 8 20) (moment 8 20) (codes "D") 2 (moment 8 40) (lit< tt) (lit< tt) (lit< tt))
+    (All-cons OnTime (run_at 2) (drop 3 runs) (two_on_time (codes "B") 1 (moment 8 12) (moment 8 12) (codes "D") 2 (moment 8 31) (lit< tt) (lit< tt) (lit< tt))
+    (All-cons OnTime (run_at 3) (drop 4 runs) (two_on_time (codes "E") 1 (moment 9 0) (moment 9 0) (codes "F") 2 (moment 9 10) (lit< tt) (lit< tt) (lit< tt))
+    (All-cons OnTime (run_at 4) [] (two_on_time (codes "E") 1 (moment 10 0) (moment 10 0) (codes "F") 2 (moment 10 10) (lit< tt) (lit< tt) (lit< tt)) (All-nil OnTime))))) where
       OnTime : Run → Type 0
       OnTime r = All IsOnTime r.calls
 
-      two : (from : List ℕ) (first arr dep : ℕ) (to : List ℕ) (second last : ℕ) → arr < MOMENTS_END → dep < MOMENTS_END → last < MOMENTS_END → All IsOnTime (call from first arr dep ∷ call to second last last ∷ [])
-      two from first arr dep to second last a d l =
-          All-cons IsOnTime (call from first arr dep) (call to second last last ∷ []) (on_time from first arr dep a d) (All-cons IsOnTime (call to second last last) [] (on_time to second last last l l) (All-nil IsOnTime))
-
 -- the runs are on time
-runs_on_time : All RunsOnTime runs
+pub runs_on_time : All RunsOnTime runs
 runs_on_time place run inside = record { forward = forward place run inside; on_time = all_on_time place run inside }
 
 -- the document of each timetable of the small feed is this one
-same_doc : (made : Timetable) → IsTiny made → made.doc ≡ doc
+pub same_doc : (made : Timetable) → IsTiny made → made.doc ≡ doc
 same_doc made is = documents_are_one made.doc doc is.stops is.changes
+
+-- the live runs of each timetable of the small feed, to which no message was admitted, are its runs
+pub live_are : LiveWithoutNews → (made : Timetable) → IsTiny made → (live : List Run) → AreLiveRuns made.runs made.doc.stops [] live → live ≡ runs
+live_are without made is live are_live = without runs made.doc.stops live in_order runs_on_time (subst (λ (r : List Run). AreLiveRuns r made.doc.stops [] live) is.runs are_live)
 
 -- what answers at a version of the small feed's timetable answers by its runs
 pub by_tiny : LiveWithoutNews → (publishing : Publishing) (version : ℕ) (answer : Answer) → AnswersTiny publishing version from_a_to_d answer → IsAnswer (IsRideAt runs) from_a_to_d doc answer
 by_tiny without publishing version answer (made, is, answers) =
-    let live : answers.live ≡ runs = without runs made.doc.stops answers.live in_order runs_on_time (subst (λ (r : List Run). AreLiveRuns r made.doc.stops [] answers.live) is.runs answers.are_live) in
+    let live : answers.live ≡ runs = live_are without made is answers.live answers.are_live in
     subst (λ (d : StopsDoc). IsAnswer (IsRideAt runs) from_a_to_d d answer) (same_doc made is) (subst (λ (r : List Run). IsAnswer (IsRideAt r) from_a_to_d made.doc answer) live answers.is_answer)
 
 -- the worked rides are taken at every version

@@ -1,9 +1,13 @@
 -- What follows from the cause of a status.
 use Rattle.std.proofs.Common.{◌≡◌, ◌∙◌, ◌⊎◌, ◌+◌, ◌∷◌, ℕ, inl, inr, Bool, false, List, [], None, Some, Option, Result, Ok, Err, ap, arith, refl, subst, sym}
 use Rattle.std.specs.Option.{unwrap_or}
+use Rattle.back_scan.specs.declared.arrive_query.ArriveQuery.{ArriveQuery}
+use Rattle.cli_arrive.specs.Asked.{IsAskedLatest}
 use Rattle.cli_ask.specs.Admission.{IsBehind, IsIgnored}
+use Rattle.cli_ask.specs.Asked.{IsAsked}
 use Rattle.cli_ask.specs.Client.{shown_of}
 use Rattle.cli_ask.specs.Publishing.{side_for, side_with, store_of}
+use Rattle.laws_arrive.specs.Right.{EndsAt}
 use Rattle.laws_clients.specs.Fits.{HasEnded}
 use Rattle.laws_replies.specs.Ends.{EndsBy}
 use Rattle.cli_words.specs.Words.{SaysCommand}
@@ -11,6 +15,7 @@ use Rattle.cli_words.specs.declared.command.Publishing.{Publishing}
 use Rattle.cli_words.specs.declared.command.Serve.{Serve}
 use Rattle.cli_words.specs.declared.command.Command.{Command}
 use Rattle.cli_words.specs.declared.command.Command.TheVariants as commands
+use Rattle.lc_io.specs.Counts.{Rose}
 use Rattle.lc_io.specs.Folder.{FolderSeen, bytes_named}
 use Rattle.lc_io.specs.declared.file.File.{File}
 use Rattle.lc_io.specs.declared.folder.FolderFail.{FolderFail}
@@ -21,10 +26,12 @@ use Rattle.lc_world.specs.Link.{LinkSeen}
 use Rattle.page_client.specs.declared.outcome.Outcome.{Outcome}
 use Rattle.page_client.specs.declared.outcome.Outcome.TheVariants as outcomes
 use Rattle.page_client.specs.declared.want.Want.{Want}
+use Rattle.publisher_spec.specs.Short.{IsShort}
 use Rattle.publisher_spec.specs.Side.{Side}
 use Rattle.timetable.specs.Laws.{LoadsRecorded}
 use Rattle.timetable.specs.declared.fault.LoadFault.TheVariants as fault
 use Rattle.timetable.specs.declared.scope.Scope.{Scope}
+use Rattle.timetable.specs.declared.timetable.Timetable.{Timetable}
 use Rattle.trip_updates.specs.declared.fault.RtFault.{RtFault}
 use Rattle.version_store.specs.Admission.{IsRefused, IsTaken}
 use Rattle.version_store.specs.Laws.{OneOutcome}
@@ -35,10 +42,14 @@ use Rattle.cli_ask.specs.declared.end.ClientEnd.{ClientEnd}
 use Rattle.lc_cli.specs.Block.{IsBlockEnd, client_status_of, failed_status_of}
 use Rattle.lc_cli.specs.Clear.{HasFairLink, IsAnswered, IsPublishedSide, IsServedSide, IsRecordedFile}
 use Rattle.lc_cli.specs.Command.{IsQuestionBlock, IsRightRefusal, IsServer, serve_scope}
+use Rattle.lc_cli.specs.Question.{IsAskedSo}
 use Rattle.cli_inputs.specs.Inputs.{AsksForUpdate, IsBrokenUpdate, IsLongUpdate}
 use Rattle.lc_cli.specs.Refusal.{IsRefusalEnd, status_of}
 use Rattle.lc_cli.specs.Top.{IsEarlyRefusal, IsRight, Past}
 use Rattle.lc_cli.specs.declared.block.Block.{Block}
+use Rattle.lc_cli.specs.declared.question.Asking.{Asking}
+use Rattle.lc_cli.specs.declared.question.Asking.TheVariants as askings
+use Rattle.lc_cli.specs.declared.question.Question.{Question}
 use Rattle.lc_cli.specs.declared.server.Server.{Server}
 use Rattle.cli_inputs.specs.declared.refusal.Refusal.{Refusal}
 use Rattle.cli_inputs.specs.declared.refusal.Refusal.TheVariants as refused
@@ -87,38 +98,79 @@ answered k (end ∷ more) fine = by end.outcome (answered (k + 1) more fine.1) f
   by (outcomes.LinkFault before after) rest f = absurd f
   by (outcomes.PeerWrong reply fault) rest f = absurd f
 
-module _ (loads_recorded : LoadsRecorded) (recorded : List File) (scope : Scope) (update : Option (List ℕ)) (publishing : Publishing) (query : Query) (old new : FolderSeen) (before after : LinkSeen)
-    (block : Block) (x : IsQuestionBlock scope update publishing query old new before after block) (tells : old.files ≡ Some recorded) where
+-- what a publisher heard before a client asked it: the store after the message, and its line
+pub record HasHeardFirst (made : Timetable) (publishing : Publishing) (file : Option File) : Type 0 where
+  pub store : Stored
+  pub line : List ℕ
+  pub behind : IsBehind file (store_of made publishing.base_moment) store line
+
+abbrev pub heard_first : (asking : Asking) (made : Timetable) (publishing : Publishing) (file : Option File) (before after : LinkSeen) (text : List ℕ) (end : ClientEnd)
+    → IsAskedSo asking made publishing file before after text end → HasHeardFirst made publishing file
+heard_first (askings.Earliest query cache) made publishing file before after text end x = record { store = x.store; line = x.line; behind = x.behind }
+heard_first (askings.Fewest query) made publishing file before after text end x = record { store = x.asked.store; line = x.asked.line; behind = x.asked.behind }
+heard_first (askings.Latest query) made publishing file before after text end x = record { store = x.store; line = x.line; behind = x.behind }
+
+-- over a clear link no exchange failed and no reply
+module _ (made : Timetable) (publishing : Publishing) (file : Option File) (before after : LinkSeen) (text : List ℕ) (end : ClientEnd) (clear : before.clear) (no_rise : Rose before.faults after.faults → ⊥) where
+  of_wants : (query : Query) (x : IsAsked made publishing file query before after text end) → IsShort (side_with made publishing x.store) → IsNoFault end.outcome
+  of_wants query x short =
+      let side = side_with made publishing x.store in
+      let right = x.right clear short in
+      by side right.given end.outcome x.asks.ends right.ended where
+        by : (side : Side) (given : List Want) (outcome : Outcome) → EndsBy publishing.base query before.faults after.faults end.version x.asks.made outcome
+            → HasEnded side (shown_of query end) given (Some outcome) → IsNoFault outcome
+        by side given (outcomes.Found journey) ends ended = tt
+        by side given outcomes.NoJourney ends ended = tt
+        by side given (outcomes.Refused fault) ends ended = tt
+        by side given (outcomes.LinkFault count later) ends ended = absurd (no_rise (omega (arith, ends.from, ends.rose, ends.up_to)))
+        by side given (outcomes.PeerWrong reply fault) ends ended = absurd ended
+
+  of_requests : (query : ArriveQuery) (x : IsAskedLatest made publishing file query before after text end) → IsShort (side_with made publishing x.store) → IsNoFault end.outcome
+  of_requests query x short =
+      let side = side_with made publishing x.store in
+      let right = x.right clear short in
+      by side right.requests end.outcome right.ends where
+        by : (side : Side) (requests : List (List ℕ)) (outcome : Outcome) → EndsAt publishing.base side query end.version requests before.faults after.faults outcome → IsNoFault outcome
+        by side requests (outcomes.Found journey) ends = tt
+        by side requests outcomes.NoJourney ends = tt
+        by side requests (outcomes.Refused fault) ends = tt
+        by side requests (outcomes.LinkFault low high) ends = absurd (no_rise (omega (arith, ends.rose.from, ends.rose.to, ends.rose.rose)))
+        by side requests (outcomes.PeerWrong reply fault) ends = absurd ends
+
+  of_asking : (asking : Asking) (x : IsAskedSo asking made publishing file before after text end)
+      → IsShort (side_with made publishing (heard_first asking made publishing file before after text end x).store) → IsNoFault end.outcome
+  of_asking (askings.Earliest query cache) x short = of_wants query x short
+  of_asking (askings.Fewest query) x short = of_wants query x.asked short
+  of_asking (askings.Latest query) x short = of_requests query x short
+
+module _ (loads_recorded : LoadsRecorded) (recorded : List File) (question : Question) (old new : FolderSeen) (before after : LinkSeen) (block : Block)
+    (x : IsQuestionBlock question old new before after block) (tells : old.files ≡ Some recorded) where
   -- the side that was asked is the one of the recorded files, also with another store after the message
-  abbrev pub side_asked_with : (store : Stored) (line : List ℕ) → IsBehind x.file (store_of x.made publishing.base_moment) store line
-      → IsPublishedSide recorded scope update publishing false (side_with x.made publishing store)
+  abbrev pub side_asked_with : (store : Stored) (line : List ℕ) → IsBehind x.file (store_of x.made question.publishing.base_moment) store line
+      → IsPublishedSide recorded question.scope question.update question.publishing false (side_with x.made question.publishing store)
   side_asked_with store line behind = record {
     made = x.made;
-    sound = loads_recorded recorded scope old x.inputs.between x.made tells x.inputs.loaded;
+    sound = loads_recorded recorded question.scope old x.inputs.between x.made tells x.inputs.loaded;
     file = x.file;
-    is_recorded = inputs_recorded recorded scope update old new x.made x.file tells x.inputs;
+    is_recorded = inputs_recorded recorded question.scope question.update old new x.made x.file tells x.inputs;
     store = store;
     line = line;
     behind = behind;
     is = refl;
   }
 
-  abbrev pub side_asked : IsPublishedSide recorded scope update publishing false (side_with x.made publishing x.asked.store)
-  side_asked = side_asked_with x.asked.store x.asked.line x.asked.behind
+  abbrev pub first_heard : HasHeardFirst x.made question.publishing x.file
+  first_heard = heard_first question.asking x.made question.publishing x.file before after block.text.items x.end x.asked
+
+  abbrev pub side_asked : IsPublishedSide recorded question.scope question.update question.publishing false (side_with x.made question.publishing first_heard.store)
+  side_asked = side_asked_with first_heard.store first_heard.line first_heard.behind
 
   -- over a fair link no exchange failed and no reply
-  pub no_fault : HasFairLink recorded scope update publishing before.clear before.faults after.faults → AreNoFaults block.ends.items
+  pub no_fault : HasFairLink recorded question.scope question.update question.publishing before.clear before.faults after.faults → AreNoFaults block.ends.items
   no_fault fair =
-      let side = side_with x.made publishing x.asked.store in
-      let right = x.asked.right fair.link.was_clear (fair.short side side_asked) in
-      subst AreNoFaults (sym x.client) (by side right.given x.end.outcome x.asked.asks.ends right.ended, tt) where
-        by : (side : Side) (given : List Want) (outcome : Outcome) → EndsBy publishing.base query before.faults after.faults x.end.version x.asked.asks.made outcome
-            → HasEnded side (shown_of query x.end) given (Some outcome) → IsNoFault outcome
-        by side given (outcomes.Found journey) ends ended = tt
-        by side given outcomes.NoJourney ends ended = tt
-        by side given (outcomes.Refused fault) ends ended = tt
-        by side given (outcomes.LinkFault count later) ends ended = absurd (fair.link.no_fault (omega (arith, ends.from, ends.rose, ends.up_to)))
-        by side given (outcomes.PeerWrong reply fault) ends ended = absurd ended
+      let short = fair.short (side_with x.made question.publishing first_heard.store) side_asked in
+      subst AreNoFaults (sym x.client)
+      (of_asking x.made question.publishing x.file before after block.text.items x.end fair.link.was_clear fair.link.no_fault question.asking x.asked short, tt)
 
 -- the side that is served first is the one of the recorded files
 pub side_served : LoadsRecorded → (recorded : List File) (serve : Serve) (old new : FolderSeen) (server : Server) → old.files ≡ Some recorded → (x : IsServer serve old new server)

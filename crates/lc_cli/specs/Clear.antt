@@ -5,6 +5,7 @@ use Rattle.cli_ask.specs.Publishing.{side_for, store_of}
 use Rattle.cli_drill.specs.Files.{drill_files}
 use Rattle.cli_inputs.specs.Plan.{SayEvents}
 use Rattle.cli_words.specs.Words.{SaysCommand}
+use Rattle.cli_words.specs.declared.command.Arrive.{Arrive}
 use Rattle.cli_words.specs.declared.command.Ask.{Ask}
 use Rattle.cli_words.specs.declared.command.Drill.{Drill}
 use Rattle.cli_words.specs.declared.command.Fewest.{Fewest}
@@ -32,7 +33,7 @@ use Rattle.timetable.specs.Recorded.{IsSound}
 use Rattle.timetable.specs.declared.scope.Scope.{Scope}
 use Rattle.timetable.specs.declared.timetable.Timetable.{Timetable}
 use Rattle.version_store.specs.Store.{Stored}
-use Rattle.lc_cli.specs.Command.{ask_scope, check_scope, fewest_scope, replay_scope, serve_scope}
+use Rattle.lc_cli.specs.Command.{arrive_scope, ask_scope, check_scope, fewest_scope, replay_scope, serve_scope}
 use Rattle.lc_cli.specs.Drill.{IsDrilled}
 use Rattle.lc_cli.specs.Top.{Past}
 use Rattle.lc_cli.specs.declared.status.Status.{Status}
@@ -64,6 +65,10 @@ IsAskedSide recorded ask = IsPublishedSide recorded (ask_scope ask) ask.update a
 -- the side to which `fewest` puts its question
 abbrev pub IsFewestSide : List File → Fewest → Side → Type 0
 IsFewestSide recorded fewest = IsPublishedSide recorded (fewest_scope fewest) fewest.update fewest.publishing false
+
+-- the side to which `arrive` puts its question
+abbrev pub IsArriveSide : List File → Arrive → Side → Type 0
+IsArriveSide recorded arrive = IsPublishedSide recorded (arrive_scope arrive) arrive.update arrive.publishing false
 
 -- the side that `serve` publishes first, which takes messages where the arguments say so
 abbrev pub IsServedSide : List File → Serve → Side → Type 0
@@ -138,6 +143,8 @@ pub record IsUnhindered {X : Type 0} (seen : X → LinkSeen) (p : Past X) (recor
       → HasFairLink recorded (ask_scope ask) ask.update ask.publishing (seen p.link_before).clear (seen p.link_before).faults (seen p.link_after).faults
   pub fair_fewest : (fewest : Fewest) → SaysCommand p.words (commands.Fewest fewest)
       → HasFairLink recorded (fewest_scope fewest) fewest.update fewest.publishing (seen p.link_before).clear (seen p.link_before).faults (seen p.link_after).faults
+  pub fair_arrive : (arrive : Arrive) → SaysCommand p.words (commands.Arrive arrive)
+      → HasFairLink recorded (arrive_scope arrive) arrive.update arrive.publishing (seen p.link_before).clear (seen p.link_before).faults (seen p.link_after).faults
   pub fair_course : (replay : Replay) → SaysCommand p.words (commands.Replay replay)
       → HasFairCourse recorded replay (seen p.link_before).clear (seen p.link_before).faults (seen p.link_after).faults
   pub fair_drill : (drill : Drill) → SaysCommand p.words (commands.Drill drill) → (replay : Replay) → IsDrilled drill replay
@@ -159,6 +166,7 @@ IsFed recorded (commands.Serve serve) = HasTimetable recorded (serve_scope serve
 IsFed recorded (commands.Plan plan) = Unit {0}
 IsFed recorded (commands.Drill drill) = Unit {0}
 IsFed recorded (commands.Fewest fewest) = HasTimetable recorded (fewest_scope fewest)
+IsFed recorded (commands.Arrive arrive) = HasTimetable recorded (arrive_scope arrive)
 IsFed recorded (commands.Relay relay) = Unit {0}
 
 -- The message of a question or of a server, if it has one, reads as a message. There is a publisher to ask or to serve. The messages
@@ -172,6 +180,7 @@ IsHeard recorded (commands.Plan plan) = (all : List Event) × AreRecordedAsks re
 IsHeard recorded (commands.Drill drill) =
     (replay : Replay) × (made : Timetable) × (all : List Event) × IsDrilled drill replay × IsRecordedCourse (drill_files drill.seed drill.days) replay made all
 IsHeard recorded (commands.Fewest fewest) = (side : Side) × IsFewestSide recorded fewest side
+IsHeard recorded (commands.Arrive arrive) = (side : Side) × IsArriveSide recorded arrive side
 IsHeard recorded (commands.Relay relay) = (all : List Event) × AreRecordedAsks recorded relay.asks all
 
 -- The arguments say a command, nothing hinders it, and by the recorded files no rule and no limit refuses what it reads.

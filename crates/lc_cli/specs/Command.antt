@@ -1,26 +1,23 @@
 -- What a command results in before anything is written: a text to print, a publisher to serve, or a refusal. Each has its cause.
 use Rattle.std.specs.Prelude.{◌≡◌, ◌⊎◌, ℕ, false, List, [], ◌∷◌, Option, None}
-use Rattle.cli_ask.specs.Asked.{IsAsked}
 use Rattle.cli_ask.specs.Publishing.{PublishesAfter}
 use Rattle.cli_ask.specs.declared.end.ClientEnd.{ClientEnd}
-use Rattle.cli_fewest.specs.Asked.{IsAskedFewest}
 use Rattle.cli_relay.specs.Relayed.{IsRelayed}
 use Rattle.cli_words.specs.Words.{SaysCommand}
+use Rattle.cli_words.specs.declared.command.Arrive.{Arrive}
 use Rattle.cli_words.specs.declared.command.Ask.{Ask}
 use Rattle.cli_words.specs.declared.command.Check.{Check}
 use Rattle.cli_words.specs.declared.command.Fewest.{Fewest}
 use Rattle.cli_words.specs.declared.command.Plan.{Plan}
-use Rattle.cli_words.specs.declared.command.Publishing.{Publishing}
 use Rattle.cli_words.specs.declared.command.Relay.{Relay}
 use Rattle.cli_words.specs.declared.command.Serve.{Serve}
 use Rattle.cli_words.specs.declared.command.Command.{Command}
 use Rattle.cli_words.specs.declared.command.Command.TheVariants as commands
 use Rattle.lc_io.specs.Folder.{FolderSeen}
 use Rattle.lc_io.specs.declared.file.File.{File}
-use Rattle.lc_model.specs.declared.query.Query.{Query}
 use Rattle.lc_world.specs.GoneOn.{IsLeftByGets, IsLeftByPasses}
 use Rattle.lc_world.specs.Link.{LinkSeen}
-use Rattle.laws_plan.specs.Planned.{IsPlanned}
+use Rattle.cli_relay.specs.Planned.{IsPlanned}
 use Rattle.laws_replay.specs.declared.event.Event.{Event}
 use Rattle.timetable.specs.Loading.{Loads}
 use Rattle.timetable.specs.declared.fault.LoadFault.TheVariants as fault
@@ -32,7 +29,10 @@ pub use Rattle.lc_cli.specs.Replay.{IsPlayedBy, IsReplayBlock, replay_scope}
 use Rattle.cli_inputs.specs.Inputs.{IsRefusedFor, ReadsInputs}
 use Rattle.cli_inputs.specs.Plan.{ReadsPlan}
 use Rattle.cli_inputs.specs.Script.{IsReplayRefused, IsScriptRefused}
+use Rattle.lc_cli.specs.Question.{IsAskedSo}
 use Rattle.lc_cli.specs.declared.block.Block.{Block}
+use Rattle.lc_cli.specs.declared.question.Asking.TheVariants as askings
+use Rattle.lc_cli.specs.declared.question.Question.{Question}
 use Rattle.lc_cli.specs.declared.server.Server.{Server}
 use Rattle.lc_cli.specs.declared.work.Work.{Work}
 use Rattle.lc_cli.specs.declared.work.Work.TheVariants as works
@@ -51,6 +51,10 @@ ask_scope ask = record { feed = ask.feed; zone = ask.zone; first = ask.first; da
 abbrev pub fewest_scope : Fewest → Scope
 fewest_scope fewest = record { feed = fewest.feed; zone = fewest.zone; first = fewest.first; days = fewest.days; change = fewest.change }
 
+-- what `arrive` asks of its feed
+abbrev pub arrive_scope : Arrive → Scope
+arrive_scope arrive = record { feed = arrive.feed; zone = arrive.zone; first = arrive.first; days = arrive.days; change = arrive.change }
+
 -- what `serve` asks of its feed
 abbrev pub serve_scope : Serve → Scope
 serve_scope serve = record { feed = serve.feed; zone = serve.zone; first = serve.first; days = serve.days; change = serve.change }
@@ -62,28 +66,39 @@ pub record IsCheckBlock (check : Check) (old new : FolderSeen) (block : Block) :
   pub text : block.text.items ≡ check_text_of made
   pub no_client : block.ends.items ≡ []
 
--- A publisher of the timetable received the message, and a client asked it the question over the link. The block has the line of
--- the message and those of the client.
-pub record IsQuestionBlock (scope : Scope) (update : Option (List ℕ)) (publishing : Publishing) (query : Query) (old new : FolderSeen) (before after : LinkSeen) (block : Block) : Type 0 where
+-- the question of `ask`
+abbrev pub ask_question : Ask → Question
+ask_question ask = record { scope = ask_scope ask; update = ask.update; publishing = ask.publishing; asking = askings.Earliest ask.query ask.cache }
+
+-- the question of `fewest`
+abbrev pub fewest_question : Fewest → Question
+fewest_question fewest = record { scope = fewest_scope fewest; update = fewest.update; publishing = fewest.publishing; asking = askings.Fewest fewest.query }
+
+-- the question of `arrive`
+abbrev pub arrive_question : Arrive → Question
+arrive_question arrive = record { scope = arrive_scope arrive; update = arrive.update; publishing = arrive.publishing; asking = askings.Latest arrive.query }
+
+-- The timetable and the message of the question were read, and a client asked a publisher of them. The block has the line of the message and
+-- those of the client.
+pub record IsQuestionBlock (question : Question) (old new : FolderSeen) (before after : LinkSeen) (block : Block) : Type 0 where
   pub made : Timetable
   pub file : Option File
-  pub inputs : ReadsInputs scope update old new made file
+  pub inputs : ReadsInputs question.scope question.update old new made file
   pub end : ClientEnd
-  pub asked : IsAsked made publishing file query before after block.text.items end
+  pub asked : IsAskedSo question.asking made question.publishing file before after block.text.items end
   pub client : block.ends.items ≡ end ∷ []
 
 -- it is that of `ask`
 abbrev pub IsAskBlock : Ask → FolderSeen → FolderSeen → LinkSeen → LinkSeen → Block → Type 0
-IsAskBlock ask = IsQuestionBlock (ask_scope ask) ask.update ask.publishing ask.query
+IsAskBlock ask = IsQuestionBlock (ask_question ask)
 
--- All that is so of `ask` is so of `fewest`. Besides, a journey that the client found has the fewest rides of all best ones.
-pub record IsFewestBlock (fewest : Fewest) (old new : FolderSeen) (before after : LinkSeen) (block : Block) : Type 0 where
-  pub made : Timetable
-  pub file : Option File
-  pub inputs : ReadsInputs (fewest_scope fewest) fewest.update old new made file
-  pub end : ClientEnd
-  pub asked : IsAskedFewest made fewest.publishing file fewest.query before after block.text.items end
-  pub client : block.ends.items ≡ end ∷ []
+-- that of `fewest`
+abbrev pub IsFewestBlock : Fewest → FolderSeen → FolderSeen → LinkSeen → LinkSeen → Block → Type 0
+IsFewestBlock fewest = IsQuestionBlock (fewest_question fewest)
+
+-- and that of `arrive`
+abbrev pub IsArriveBlock : Arrive → FolderSeen → FolderSeen → LinkSeen → LinkSeen → Block → Type 0
+IsArriveBlock arrive = IsQuestionBlock (arrive_question arrive)
 
 -- The questions and turns were read, and happened over the link. What is printed are the lines of the clients.
 pub record IsPlanBlock (plan : Plan) (old new : FolderSeen) (before after : LinkSeen) (block : Block) : Type 0 where
@@ -106,6 +121,7 @@ Prints (commands.Serve serve) old new before after block = ⊥
 Prints (commands.Plan plan) old new before after block = IsPlanBlock plan old new before after block
 Prints (commands.Drill drill) old new before after block = (new ≡ old) × IsDrillBlock drill before after block
 Prints (commands.Fewest fewest) old new before after block = IsFewestBlock fewest old new before after block
+Prints (commands.Arrive arrive) old new before after block = IsArriveBlock arrive old new before after block
 Prints (commands.Relay relay) old new before after block = IsRelayBlock relay old new before after block
 
 -- the arguments say a command, and the block is what it prints
@@ -133,6 +149,7 @@ Serves (commands.Serve serve) old new server = IsServer serve old new server
 Serves (commands.Plan plan) old new server = ⊥
 Serves (commands.Drill drill) old new server = ⊥
 Serves (commands.Fewest fewest) old new server = ⊥
+Serves (commands.Arrive arrive) old new server = ⊥
 Serves (commands.Relay relay) old new server = ⊥
 
 -- what the command results in
@@ -161,6 +178,7 @@ LeavesLink (commands.Serve serve) before after = IsLeftByPasses before after
 LeavesLink (commands.Plan plan) before after = IsLeftByGets before after
 LeavesLink (commands.Drill drill) before after = IsLeftByPasses before after
 LeavesLink (commands.Fewest fewest) before after = IsLeftByPasses before after
+LeavesLink (commands.Arrive arrive) before after = IsLeftByPasses before after
 LeavesLink (commands.Relay relay) before after = IsLeftByGets before after
 
 -- why a command is refused
@@ -172,6 +190,7 @@ IsRefusedAs (commands.Serve serve) old new refusal = IsRefusedFor (serve_scope s
 IsRefusedAs (commands.Plan plan) old new refusal = IsScriptRefused false plan.asks old new refusal
 IsRefusedAs (commands.Drill drill) old new refusal = (new ≡ old) × IsDrillRefused drill refusal
 IsRefusedAs (commands.Fewest fewest) old new refusal = IsRefusedFor (fewest_scope fewest) fewest.update old new refusal
+IsRefusedAs (commands.Arrive arrive) old new refusal = IsRefusedFor (arrive_scope arrive) arrive.update old new refusal
 IsRefusedAs (commands.Relay relay) old new refusal = IsScriptRefused false relay.asks old new refusal
 
 -- the arguments say a command, which is refused for this

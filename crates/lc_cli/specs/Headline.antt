@@ -12,8 +12,8 @@ use Rattle.cli_words.specs.declared.command.Replay.{Replay}
 use Rattle.connection_uri.specs.Base.{BaseParts}
 use Rattle.laws_clients.specs.Answered.{AnswersAt, NeededAt}
 use Rattle.laws_convoys.specs.Names.{Round}
-use Rattle.laws_plan.specs.Planned.{ArePlanned}
-use Rattle.laws_plan.specs.Sides.{sides_of}
+use Rattle.cli_relay.specs.Planned.{ArePlanned}
+use Rattle.cli_relay.specs.Sides.{sides_of}
 use Rattle.laws_replay.specs.Events.{before_turn_of, questions_in}
 use Rattle.laws_replay.specs.OneCourse.{IsPlayedOut}
 use Rattle.laws_replay.specs.Replayed.{clients_text_of}

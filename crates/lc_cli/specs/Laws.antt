@@ -1,6 +1,7 @@
 -- That what is printed is one, and so is the status.
 use Rattle.std.specs.Prelude.{◌≡◌, ◌⊎◌, ℕ, List, ◌++◌}
 use Rattle.std.specs.List.{AllZip}
+use Rattle.cli_arrive.specs.Laws.{PrintOneLatest}
 use Rattle.cli_ask.specs.Laws.{AreOneEnd, PrintOneClient}
 use Rattle.cli_ask.specs.declared.end.ClientEnd.{ClientEnd}
 use Rattle.cli_fewest.specs.Laws.{PrintOneFewest}
@@ -32,6 +33,7 @@ IsInProcess (commands.Serve serve) = ⊥
 IsInProcess (commands.Plan plan) = ⊥
 IsInProcess (commands.Drill drill) = ⊥
 IsInProcess (commands.Fewest fewest) = Unit {0}
+IsInProcess (commands.Arrive arrive) = Unit {0}
 IsInProcess (commands.Relay relay) = ⊥
 
 -- the arguments say no other command
@@ -39,7 +41,7 @@ abbrev pub AreInProcess : List (List ℕ) → Type 0
 AreInProcess words = (command : Command) → SaysCommand words command → IsInProcess command
 
 -- The outputs of such a command are one: the same counts, or the same lines of messages and clients whose ends are one. Journeys of `fewest`
--- have as many rides.
+-- have as many rides, and journeys of `arrive` leave at one moment.
 abbrev pub PrintOne : Command → Block → Block → Type 0
 PrintOne (commands.Serve serve) x y = ⊥
 PrintOne (commands.Plan plan) x y = ⊥
@@ -49,6 +51,7 @@ PrintOne (commands.Check check) x y = x.text.items ≡ y.text.items
 PrintOne (commands.Replay replay) x y = PrintOneCourse x y
 PrintOne (commands.Ask ask) x y = (first : ClientEnd) × (second : ClientEnd) × PrintOneClient x.text.items y.text.items first second
 PrintOne (commands.Fewest fewest) x y = (first : ClientEnd) × (second : ClientEnd) × PrintOneFewest x.text.items y.text.items first second
+PrintOne (commands.Arrive arrive) x y = (first : ClientEnd) × (second : ClientEnd) × PrintOneLatest x.text.items y.text.items first second
 
 -- a run that is done has printed its output, or served its connections
 abbrev pub DoneIsPrinted : {X : Type 0} → (X → LinkSeen) → Type 0

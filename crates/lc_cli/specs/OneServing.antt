@@ -1,6 +1,7 @@
 -- A command begins from one side by its files. Two runs of `serve` over the same files and the same bytes answer the same.
 use Rattle.std.specs.Prelude.{◌≡◌, ◌≢◌, [], List, None, Some}
 use Rattle.cli_serve.specs.SameBytes.{AreOneSide, RecordsWell, ServeAlike}
+use Rattle.cli_words.specs.declared.command.Arrive.{Arrive}
 use Rattle.cli_words.specs.declared.command.Ask.{Ask}
 use Rattle.cli_words.specs.declared.command.Fewest.{Fewest}
 use Rattle.cli_words.specs.declared.command.Serve.{Serve}
@@ -8,7 +9,7 @@ use Rattle.lc_doors.specs.Door.{DoorRecorded}
 use Rattle.lc_io.specs.declared.file.File.{File}
 use Rattle.lc_world.specs.Link.{LinkSeen}
 use Rattle.publisher_spec.specs.Side.{Side}
-use Rattle.lc_cli.specs.Clear.{IsAskedSide, IsFewestSide, IsServedSide}
+use Rattle.lc_cli.specs.Clear.{IsArriveSide, IsAskedSide, IsFewestSide, IsServedSide}
 use Rattle.lc_cli.specs.Serving.{asked_of}
 use Rattle.lc_cli.specs.Top.{HasServed, Past}
 use Rattle.lc_cli.specs.declared.status.Status.{Status}
@@ -21,6 +22,10 @@ OneAskedSide = (recorded : List File) (ask : Ask) (a b : Side) → IsAskedSide r
 -- and so is that for the fewest rides
 abbrev pub OneFewestSide : Type 0
 OneFewestSide = (recorded : List File) (fewest : Fewest) (a b : Side) → IsFewestSide recorded fewest a → IsFewestSide recorded fewest b → AreOneSide a b
+
+-- and that for the latest departure
+abbrev pub OneArriveSide : Type 0
+OneArriveSide = (recorded : List File) (arrive : Arrive) (a b : Side) → IsArriveSide recorded arrive a → IsArriveSide recorded arrive b → AreOneSide a b
 
 -- by recorded files a server begins from one side
 abbrev pub OneServedSide : Type 0

@@ -9,7 +9,8 @@ ghost use Rattle.cli_words.specs.declared.command.Command.TheVariants as command
 ghost use Rattle.cli_words.specs.declared.command.Serve.{Serve as Served};
 ghost use Rattle.lc_world.specs.GoneOn.{HasGoneOn, IsLeftByGets, IsLeftByPasses};
 ghost use Rattle.gtfs_tables.specs.Reading.{Keeps};
-ghost use Rattle.lc_cli.specs.Command.{IsAskBlock, IsCheckBlock, IsFewestBlock, IsPlanBlock, IsRefusedAs, IsRelayBlock, IsReplayBlock, IsRightRefusal, IsRightWork, IsServer, LeavesLink, ResultsIn, ask_scope, check_scope, fewest_scope, replay_scope, serve_scope};
+ghost use Rattle.lc_cli.specs.Command.{IsArriveBlock, IsAskBlock, IsCheckBlock, IsFewestBlock, IsPlanBlock, IsQuestionBlock, IsRefusedAs, IsRelayBlock, IsReplayBlock, IsRightRefusal, IsRightWork, IsServer, LeavesLink, ResultsIn, arrive_scope, ask_scope, check_scope, fewest_scope, replay_scope, serve_scope};
+ghost use Rattle.lc_cli.specs.Question.{CachesPages, IsAskedSo, IsEndBlock, IsUnasked};
 ghost use Rattle.lc_cli.specs.declared.work.Work.TheVariants as works;
 ghost use Rattle.cli_inputs.specs.Inputs.{IsMessageRefusal, IsRefusedFor};
 ghost use Rattle.cli_inputs.specs.Script.{IsReplayRefused, IsScriptRefused};
@@ -20,18 +21,22 @@ ghost use Rattle.timetable.specs.declared.fault.LoadFault.TheVariants.{NoMemory 
 use crate::block::Block;
 use crate::check_text::check_text;
 use crate::drill::drill_block;
+use crate::question::{Asking, Question};
 use crate::replay::{play_course, read_course};
 use crate::server::Server;
 use crate::work::Work;
 use cli_ask::{Asked, MessageFault, serving_publisher};
 use cli_inputs::{Inputs, Refusal, read_inputs, read_plan};
-use cli_plan::Planned;
+use cli_relay::Planned;
 use cli_replay::Replayed;
-use cli_words::{Ask, Check, Command, Fewest, Plan, Relay, Replay, Serve, one_command, read_words};
+use cli_words::{
+    Arrive, Ask, Check, Command, Fewest, Plan, Publishing, Relay, Replay, Serve, one_command,
+    read_words,
+};
 use lc_model::NoMemory;
 use lc_world::{File, Folder, Link};
 use std::alloc::Global;
-use timetable::{LoadFault, Scope, load};
+use timetable::{LoadFault, Scope, Timetable, load};
 
 /// What the command of these arguments results in, and the link, as it is left. Nothing is written yet, and nothing is served.
 pub(crate) fn outcome<F: Folder, L: Link>(
@@ -101,6 +106,10 @@ fn result_of<F: Folder, L: Link>(
             let (block, link) = fewest_block(alloc, folder, fewest, link);
             (printed(block), link)
         }
+        Command::Arrive(arrive) => {
+            let (block, link) = arrive_block(alloc, folder, arrive, link);
+            (printed(block), link)
+        }
         Command::Relay(relay) => {
             let (block, link) = relay_block(alloc, folder, relay, link);
             (printed(block), link)
@@ -152,7 +161,7 @@ fn scope_of_check(check: Check) -> Scope
     }
 }
 
-/// Reads what a question is asked of, and lets a client ask it.
+/// A question for the earliest arrival is asked.
 fn ask_block<F: Folder, L: Link>(
     alloc: Global,
     folder: &mut F,
@@ -177,37 +186,22 @@ fn ask_block<F: Folder, L: Link>(
         update,
         ..
     } = ask;
-    let scope = Scope {
-        feed,
-        zone,
-        first,
-        days,
-        change,
+    let question = Question {
+        scope: Scope {
+            feed,
+            zone,
+            first,
+            days,
+            change,
+        },
+        update,
+        publishing,
+        asking: Asking::Earliest { query, cache },
     };
-    match read_inputs(alloc, folder, &scope, update) {
-        Ok(Inputs { made, file }) => {
-            let (ended, link) = cli_ask::ask(
-                alloc,
-                made,
-                publishing,
-                &file,
-                query,
-                cache as usize,
-                link,
-            );
-            match ended {
-                Ok(asked) => match client_block(alloc, asked) {
-                    Ok(block) => (Ok(block), link),
-                    Err(NoMemory) => (Err(Refusal::from(NoMemory)), link),
-                },
-                Err(fault) => (Err(message_refusal(fault, file)), link),
-            }
-        }
-        Err(refusal) => (Err(refusal), link),
-    }
+    question_block(alloc, folder, question, link)
 }
 
-/// Reads what a question is asked of, and lets a client of the fewest rides ask it.
+/// A question for the fewest rides is asked.
 fn fewest_block<F: Folder, L: Link>(
     alloc: Global,
     folder: &mut F,
@@ -231,25 +225,141 @@ fn fewest_block<F: Folder, L: Link>(
         update,
         ..
     } = fewest;
-    let scope = Scope {
+    let question = Question {
+        scope: Scope {
+            feed,
+            zone,
+            first,
+            days,
+            change,
+        },
+        update,
+        publishing,
+        asking: Asking::Fewest(query),
+    };
+    question_block(alloc, folder, question, link)
+}
+
+/// A question for the latest departure is asked.
+fn arrive_block<F: Folder, L: Link>(
+    alloc: Global,
+    folder: &mut F,
+    arrive: Arrive,
+    link: L,
+) -> (Result<Block, Refusal>, L)
+    ensures block { IfOk result.0 (IsArriveBlock arrive (F.seen folder.old) (F.seen folder.new) (L.seen link) (L.seen result.1)) }
+    ensures refused { IfErr result.0 (IsRefusedFor (arrive_scope arrive) arrive.update (F.seen folder.old) (F.seen folder.new)) }
+    ensures kept { Keeps (F.seen folder.old) (F.seen folder.new) }
+    ensures refusal_leaves_link { IfErr result.0 (λ refusal. refusal ≢ Load OutOfMemory → result.1 ≡ link) }
+    ensures left { IsLeftByPasses (L.seen link) (L.seen result.1) }
+{
+    let Arrive {
         feed,
-        zone,
+        query,
         first,
         days,
+        zone,
         change,
+        publishing,
+        update,
+        ..
+    } = arrive;
+    let question = Question {
+        scope: Scope {
+            feed,
+            zone,
+            first,
+            days,
+            change,
+        },
+        update,
+        publishing,
+        asking: Asking::Latest(query),
     };
+    question_block(alloc, folder, question, link)
+}
+
+/// Reads what a question is asked of, and lets a client ask it.
+fn question_block<F: Folder, L: Link>(
+    alloc: Global,
+    folder: &mut F,
+    question: Question,
+    link: L,
+) -> (Result<Block, Refusal>, L)
+    requires window { IsWindow question.scope.first question.scope.days }
+    requires pages { CachesPages question.asking }
+    ensures block { IfOk result.0 (IsQuestionBlock question (F.seen folder.old) (F.seen folder.new) (L.seen link) (L.seen result.1)) }
+    ensures refused { IfErr result.0 (IsRefusedFor question.scope question.update (F.seen folder.old) (F.seen folder.new)) }
+    ensures kept { Keeps (F.seen folder.old) (F.seen folder.new) }
+    ensures refusal_leaves_link { IfErr result.0 (λ refusal. refusal ≢ Load OutOfMemory → result.1 ≡ link) }
+    ensures left { IsLeftByPasses (L.seen link) (L.seen result.1) }
+{
+    let Question {
+        scope,
+        update,
+        publishing,
+        asking,
+    } = question;
     match read_inputs(alloc, folder, &scope, update) {
         Ok(Inputs { made, file }) => {
-            let (ended, link) = cli_fewest::ask_fewest(alloc, made, publishing, &file, query, link);
-            match ended {
-                Ok(asked) => match client_block(alloc, asked) {
-                    Ok(block) => (Ok(block), link),
-                    Err(NoMemory) => (Err(Refusal::from(NoMemory)), link),
-                },
-                Err(fault) => (Err(message_refusal(fault, file)), link),
-            }
+            let (ended, link) = ask_publisher(alloc, made, publishing, &file, asking, link);
+            (ended_block(alloc, ended, file), link)
         }
         Err(refusal) => (Err(refusal), link),
+    }
+}
+
+/// Publishes a timetable, gives the publisher the message of a file, if there is one, and lets a client ask it.
+fn ask_publisher<L: Link>(
+    alloc: Global,
+    made: Timetable,
+    publishing: Publishing,
+    file: &Option<File>,
+    asking: Asking,
+    link: L,
+) -> (Result<Asked, MessageFault>, L)
+    requires { CachesPages asking }
+    ensures asked { IfOk result.0 (λ asked. IsAskedSo asking made publishing file.now (L.seen link) (L.seen result.1) asked.text.items asked.end) }
+    ensures faulty { IfErr result.0 (IsFaulty file.now) }
+    ensures unasked { IfErr result.0 (λ fault. fault ≢ messages.NoMemory → result.1 ≡ link) }
+    ensures left { IsLeftByPasses (L.seen link) (L.seen result.1) }
+{
+    match asking {
+        Asking::Earliest { query, cache } => cli_ask::ask(
+            alloc,
+            made,
+            publishing,
+            file,
+            query,
+            cache as usize,
+            link,
+        ),
+        Asking::Fewest(query) => {
+            cli_fewest::ask_fewest(alloc, made, publishing, file, query, link)
+        }
+        Asking::Latest(query) => {
+            cli_arrive::ask_arrive(alloc, made, publishing, file, query, link)
+        }
+    }
+}
+
+/// What is printed of a question that ended so, or why the file is no message.
+fn ended_block(
+    alloc: Global,
+    ended: Result<Asked, MessageFault>,
+    file: Option<File>,
+) -> Result<Block, Refusal>
+    requires { IfErr ended (IsFaulty file) }
+    ensures block { IfOk result (IsEndBlock ended) }
+    ensures refused { IfErr result (IsMessageRefusal file) }
+    ensures unasked { IfErr result (λ refusal. refusal ≢ Load OutOfMemory → IsUnasked ended) }
+{
+    match ended {
+        Ok(asked) => match client_block(alloc, asked) {
+            Ok(block) => Ok(block),
+            Err(NoMemory) => Err(Refusal::from(NoMemory)),
+        },
+        Err(fault) => Err(message_refusal(fault, file)),
     }
 }
 
@@ -363,7 +473,7 @@ fn plan_block<F: Folder, L: Link>(
     } = plan;
     match read_plan(alloc, folder, asks) {
         Ok(events) => {
-            let (planned, link) = cli_plan::plan(alloc, base, events, cache as usize, link);
+            let (planned, link) = cli_relay::plan(alloc, base, events, cache as usize, link);
             match planned {
                 Ok(Planned { text, ends }) => (Ok(Block { text, ends }), link),
                 Err(NoMemory) => (Err(Refusal::from(NoMemory)), link),

@@ -1,20 +1,23 @@
 ghost use Rattle.lc_cli.specs.Headline.{Headline, HeadlineOfPlan, HeadlineOfReplay};
+ghost use Rattle.lc_cli.specs.HeadlineOfArrive.{HeadlineOfArrive};
 ghost use Rattle.lc_cli.specs.HeadlineOfDrill.{HeadlineOfDrill};
 ghost use Rattle.lc_cli.specs.HeadlineOfFewest.{HeadlineOfFewest};
 ghost use Rattle.lc_cli.specs.HeadlineOfRelay.{HeadlineOfRelay};
 ghost use Rattle.lc_cli.specs.Laws.{DoneIsClear, DoneIsPrinted, OneRun, OneStatus};
+ghost use Rattle.lc_cli.specs.NearArrive.{NotAnotherOrder, NotEarlier, NotLater, NotNone, NotOneExchangeMore, NotVersion};
 ghost use Rattle.lc_cli.specs.NearFewest.{NotAnotherVersion, NotNoJourney, NotOneRideFewer, NotOneRideMore};
 ghost use Rattle.lc_cli.specs.OnePlan.{OneNamedPlan, OneQuietPlan};
 ghost use Rattle.lc_cli.specs.OneRelay.{OneNamedRelay, OneQuietRelay};
-ghost use Rattle.lc_cli.specs.OneServing.{BeginsFromIt, NotAnotherBase, NotMadeUp, NotUnasked, OneAskedSide, OneFewestSide, OneServedSide, OneServing};
+ghost use Rattle.lc_cli.specs.OneServing.{BeginsFromIt, NotAnotherBase, NotMadeUp, NotUnasked, OneArriveSide, OneAskedSide, OneFewestSide, OneServedSide, OneServing};
 
+use cli_arrive::one_latest_output;
 use cli_ask::one_output;
 use cli_fewest::one_fewest_output;
-use cli_relay::relays_plan_right;
+use cli_relay::{one_growing_plan, one_plan, relays_plan_right};
 use cli_serve::one_over_bytes;
 use cli_words::one_command;
+use laws_arrive::one_latest_answer;
 use laws_fewest::fewest_at_version;
-use laws_plan::{one_growing_plan, one_plan};
 use laws_replay::one_course;
 use lc_world::Link;
 use page_relay::Relay;
@@ -25,13 +28,15 @@ use version_store::one_outcome;
 /// A run of `ask` with status Done wrote a best journey at the version that its question means, or that there is none. A run of `replay` did so for
 /// each client that asked, at the version that its question meant before its first turn. A run of `plan` over an honest link did so for each
 /// client, at the version that its own time gate exchange named, and so did a run of `relay`. The sums of `drill` are over such journeys. A run
-/// of `fewest` wrote one of the fewest rides of all best journeys.
+/// of `fewest` wrote one of the fewest rides of all best journeys. A run of `arrive` wrote one that leaves as late as any, after exactly the needed
+/// pages back.
 pub fn headline<L: Link>()
     ensures ask { Headline L.seen }
     ensures replay { HeadlineOfReplay L.seen }
     ensures plan { HeadlineOfPlan L.seen }
     ensures drill { HeadlineOfDrill L.seen }
     ensures fewest { HeadlineOfFewest L.seen }
+    ensures arrive { HeadlineOfArrive L.seen }
     ensures relay { HeadlineOfRelay L.seen }
 {
     one_command();
@@ -50,9 +55,22 @@ pub fn near_fewest()
     fewest_at_version();
 }
 
+/// What is near the end that `arrive` writes is refused: a journey that leaves earlier or later, no journey, another version, an exchange more
+/// or less, the needed pages in another order.
+pub fn near_arrive()
+    ensures earlier { NotEarlier }
+    ensures later { NotLater }
+    ensures none { NotNone }
+    ensures version { NotVersion }
+    ensures exchange { NotOneExchangeMore }
+    ensures order { NotAnotherOrder }
+{
+    one_latest_answer();
+}
+
 /// Runs of equal arguments over equal files, which nothing hindered, print one output: equal counts, or equal lines of messages. Clients have
-/// one version, one arrival and one number of exchanges, and journeys of `fewest` have as many rides. It speaks of commands that ask an
-/// in-process publisher, or none.
+/// one version, one arrival and one number of exchanges, and journeys of `fewest` have as many rides. Those of `arrive` leave at one moment,
+/// and may arrive at others. It speaks of commands that ask an in-process publisher, or none.
 pub fn one_run<L: Link, M: Link>()
     ensures { OneRun L.seen M.seen }
 {
@@ -62,6 +80,7 @@ pub fn one_run<L: Link, M: Link>()
     one_course();
     one_output::<L, M>();
     one_fewest_output::<L, M>();
+    one_latest_output::<L, M>();
 }
 
 /// Runs of equal arguments over equal files, which nothing hindered, end with one status, memory apart. They ask an in-process publisher
@@ -79,6 +98,7 @@ pub fn one_status<L: Link, M: Link>()
     one_course();
     one_output::<L, M>();
     one_fewest_output::<L, M>();
+    one_latest_output::<L, M>();
 }
 
 /// Runs of `plan` with equal arguments over equal files print one output, where no exchange failed. The links are quiet with one side, or have
@@ -106,11 +126,12 @@ pub fn one_relayed<L: Link, M: Link>()
     one_growing_plan::<Relay<L>, Relay<M>>();
 }
 
-/// By recorded files a command begins from one side: that to which `ask` or `fewest` puts its question, and that which `serve` publishes
+/// By recorded files a command begins from one side: that to which `ask`, `fewest` or `arrive` puts its question, and that which `serve` publishes
 /// first. Other sides are refused: with a message that no argument names, with messages taken unasked, or with another base version.
 pub fn one_side<L: Link>()
     ensures asked { OneAskedSide }
     ensures fewest { OneFewestSide }
+    ensures arrive { OneArriveSide }
     ensures served { OneServedSide }
     ensures begins { BeginsFromIt L.seen }
     ensures made_up { NotMadeUp }

@@ -1,5 +1,6 @@
 //! The commands of `lc`: they check feeds, publish them, and plan journeys over pages that a publisher gives. It builds on the
-//! arguments, the timetable of a feed, `cli_ask`, `cli_fewest`, `cli_replay`, `cli_drill`, `cli_serve`, `cli_plan` and `cli_relay`.
+//! arguments, the timetable of a feed, `cli_ask`, `cli_fewest`, `cli_arrive`, `cli_replay`, `cli_drill`, `cli_serve`, `cli_plan` and
+//! `cli_relay`.
 #![tactic(auto)]
 
 mod block;
@@ -8,6 +9,7 @@ mod command;
 mod course;
 mod drill;
 mod laws;
+mod question;
 mod refusal;
 mod replay;
 mod serve;
@@ -16,11 +18,14 @@ mod status;
 mod top;
 mod work;
 mod worked;
+mod worked_questions;
 
 pub use laws::{
-    headline, near_fewest, one_planned, one_relayed, one_run, one_served, one_side, one_status,
+    headline, near_arrive, near_fewest, one_planned, one_relayed, one_run, one_served, one_side,
+    one_status,
 };
 pub use refusal::refuse;
 pub use status::{Status, code};
 pub use top::run;
 pub use worked::{worked_answer, worked_end, worked_plan};
+pub use worked_questions::{worked_fewest, worked_latest};

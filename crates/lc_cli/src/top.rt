@@ -40,6 +40,7 @@ use version_store::one_outcome;
 /// `plan URL ASKS` lets the clients of a script ask the publisher under the URL, over the link handed in, and prints their answers.
 /// `drill N` is `replay` over files that are generated from the number, and prints sums over the clients.
 /// `fewest FEED FROM TO MOMENT` is `ask` for a best journey that has the fewest rides of all best ones.
+/// `arrive FEED FROM TO MOMENT` is `ask` for a journey that arrives by the moment and leaves as late as any. Its client asks for pages back.
 /// `relay URL ASKS` is `plan` through a relay that keeps documents, and prints how many exchanges it handed on over the link.
 pub fn run<F: Folder, L: Link, D: Door, S: Sink>(
     alloc: Global,
@@ -85,8 +86,8 @@ pub fn run<F: Folder, L: Link, D: Door, S: Sink>(
     ensures door { ((serve : Served) → SaysCommand (texts_of words.now) (commands.Serve serve) → ⊥) → door.new ≡ door.old }
     ensures door_counts { DoorNeverFell (D.seen door.old) (D.seen door.new) }
 
-    // However it ended, the count of the link has not fallen, and nothing is lost of what it recorded. `ask`, `fewest` and `replay` hand answers
-    // on over it, and its side stays. `plan` and `relay` leave an honest link honest.
+    // However it ended, the count of the link has not fallen, and nothing is lost of what it recorded. `ask`, `fewest`, `arrive` and `replay` hand
+    // answers on over it, and its side stays. `plan` and `relay` leave an honest link honest.
     ensures link { HasGoneOn (L.seen link) (L.seen result.1) }
     ensures command_leaves_link { (command : Command) → SaysCommand (texts_of words.now) command → LeavesLink command (L.seen link) (L.seen result.1) }
 

@@ -62,6 +62,19 @@ returns-in-Fewest-clause-refused g c =
 pub returns-in-Fewest-clause-link : goal.returns-in-Fewest-clause-link
 returns-in-Fewest-clause-link g c = rw c.in-Fewest.is c.fewest_block-block.ensures.left
 
+pub returns-in-Arrive-clause-work : goal.returns-in-Arrive-clause-work
+returns-in-Arrive-clause-work g c =
+    rw c.in-Arrive.is
+    (results_printed _ _ _ _ (commands.Arrive c.in-Arrive.arrive) c.arrive_block-block.result.0 c.printed-in-Arrive.result c.arrive_block-block.ensures.block c.printed-in-Arrive.ensures.work c.printed-in-Arrive.ensures.refused)
+
+pub returns-in-Arrive-clause-refused : goal.returns-in-Arrive-clause-refused
+returns-in-Arrive-clause-refused g c =
+    rw c.in-Arrive.is
+    (refused_printed _ _ (commands.Arrive c.in-Arrive.arrive) c.arrive_block-block.result.0 c.printed-in-Arrive.result c.arrive_block-block.ensures.refused c.printed-in-Arrive.ensures.work c.printed-in-Arrive.ensures.refused)
+
+pub returns-in-Arrive-clause-link : goal.returns-in-Arrive-clause-link
+returns-in-Arrive-clause-link g c = rw c.in-Arrive.is c.arrive_block-block.ensures.left
+
 pub returns-in-Relay-clause-work : goal.returns-in-Relay-clause-work
 returns-in-Relay-clause-work g c =
     rw c.in-Relay.is

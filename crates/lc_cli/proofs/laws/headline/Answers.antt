@@ -1,4 +1,5 @@
 use Rattle.lc_cli.proofs.HeadlineLemmas.{headline}
+use Rattle.lc_cli.proofs.HeadlineOfArriveLemmas.{headline_of_arrive}
 use Rattle.lc_cli.proofs.HeadlineOfDrillLemmas.{headline_of_drill}
 use Rattle.lc_cli.proofs.HeadlineOfFewestLemmas.{headline_of_fewest}
 use Rattle.lc_cli.proofs.HeadlineOfPlanLemmas.{headline_of_plan}
@@ -24,3 +25,6 @@ returns-clause-fewest g c = headline_of_fewest g.L.Link.seen c.one_command.ensur
 
 pub returns-clause-relay : goal.returns-clause-relay
 returns-clause-relay g c = headline_of_relay g.L.Link.seen c.one_command.ensures c.relays_plan_right.ensures
+
+pub returns-clause-arrive : goal.returns-clause-arrive
+returns-clause-arrive g c = headline_of_arrive g.L.Link.seen c.one_command.ensures c.one_timetable.ensures.loads_recorded

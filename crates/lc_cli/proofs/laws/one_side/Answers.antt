@@ -1,4 +1,4 @@
-use Rattle.lc_cli.proofs.OneServingLemmas.{begins_from_it, not_another_base, not_made_up, not_unasked, one_asked_side, one_fewest_side, one_served_side}
+use Rattle.lc_cli.proofs.OneServingLemmas.{begins_from_it, not_another_base, not_made_up, not_unasked, one_arrive_side, one_asked_side, one_fewest_side, one_served_side}
 use Rattle.lc_cli.proofs.laws.one_side.Goals as goal
 
 pub returns-clause-asked : goal.returns-clause-asked
@@ -6,6 +6,9 @@ returns-clause-asked g c = one_asked_side c.one_timetable.ensures.one c.one_outc
 
 pub returns-clause-fewest : goal.returns-clause-fewest
 returns-clause-fewest g c = one_fewest_side c.one_timetable.ensures.one c.one_outcome.ensures.one
+
+pub returns-clause-arrive : goal.returns-clause-arrive
+returns-clause-arrive g c = one_arrive_side c.one_timetable.ensures.one c.one_outcome.ensures.one
 
 pub returns-clause-served : goal.returns-clause-served
 returns-clause-served g c = one_served_side c.one_timetable.ensures.one c.one_outcome.ensures.one
