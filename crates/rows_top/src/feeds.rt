@@ -76,7 +76,7 @@ const FIRST_DAY: &str = "check tiny 20240501";
 
 /// The name of a file, its path, its other text and the arguments. The files have no stops, no rows of trips, a ride over two calls at one
 /// moment, and a row of no trip. Then come changes at a stop and between stops, and a station.
-static OTHERS: [(&str, &str, &str, &str); 9] = [
+static OTHERS: [(&str, &str, &str, &str); 10] = [
     (
         "stops.txt",
         "tiny/stops.txt",
@@ -109,6 +109,12 @@ static OTHERS: [(&str, &str, &str, &str); 9] = [
         "tiny/transfers.txt",
         B_TO_E,
         "ask tiny B F 2024-05-01T08:55:00Z",
+    ),
+    (
+        "transfers.txt",
+        "tiny/transfers.txt",
+        B_TO_E,
+        "arrive tiny B F 2024-05-01T09:10:00Z",
     ),
     (
         "stops.txt",

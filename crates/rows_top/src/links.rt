@@ -10,6 +10,8 @@ static NOT_FOUND: [&str; 2] = [
     "HTTP/1.1 404 Not Found\r\nContent-Length: 0\r\n\r\n",
 ];
 
+const BY_831: &str = "arrive tiny A D 2024-05-01T08:31:00Z";
+
 const SCRIPT: &str =
     "ask,A,D,2024-05-01T08:00:00Z\nturn,1\nupdate,d60.pb\nask,A,D,2024-05-01T08:00:00Z\n";
 
@@ -26,6 +28,11 @@ pub fn put_links(alloc: Global, draft: &mut Draft) {
     );
     put_line(draft, "1 reply of a drill not found");
     put_not_found(alloc, draft, "drill 1", "", &NOT_FOUND[..1]);
+    put_line(
+        draft,
+        "1 reply to a question for the latest departure not found",
+    );
+    put_not_found(alloc, draft, BY_831, "", &NOT_FOUND[..1]);
     put_replies_of_another_feed(alloc, draft);
 }
 

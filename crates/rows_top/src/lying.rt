@@ -26,6 +26,7 @@ fn put_lies_of(alloc: Global, draft: &mut Draft, honest: &ListLink) {
     put_other(alloc, draft, honest, (1, 2), CUT);
     put_each(alloc, draft, honest, &THEN);
     put_pages_without_end(alloc, draft, honest);
+    put_page_before_itself(alloc, draft, honest);
 }
 
 /// A lie: the reply that lies and the reply with the page, each by its number, and a text that replaces another.
@@ -167,4 +168,18 @@ fn put_pages_without_end(alloc: Global, draft: &mut Draft, honest: &ListLink) {
     ];
     put_list(alloc, draft, &over_tiny(WITHIN_3, &[]), &replies);
     put_planned(alloc, draft, "ask,A,D,2024-05-01T08:00:00Z,,3", &replies);
+}
+
+/// The page of 08:00, which links to itself as the one before it.
+const BEFORE_ITSELF: &str =
+    "HTTP/1.1 200 OK\r\nMemento-Datetime: Thu, 01 Jan 1970 00:00:00 GMT\r\n\r\n{\"@id\":\"http://lc.example/memento/connections?version=1970-01-01T00:00:00.000Z&departureTime=2024-05-01T08:00:00.000Z\",\"hydra:previous\":\"http://lc.example/memento/connections?version=1970-01-01T00:00:00.000Z&departureTime=2024-05-01T08:00:00.000Z\",\"@graph\":[{\"@id\":\"http://lc.example/connections/X/20240501/-/1\",\"departureStop\":\"http://lc.example/stops/E\",\"departureTime\":\"2024-05-01T08:00:00.000Z\",\"arrivalStop\":\"http://lc.example/stops/F\",\"arrivalTime\":\"2024-05-01T08:10:00.000Z\"}]}";
+
+const BEFORE_831: &str = "arrive tiny A D 2024-05-01T08:30:59Z";
+
+/// A client that goes back asks for no page that is not earlier.
+fn put_page_before_itself(alloc: Global, draft: &mut Draft, honest: &ListLink) {
+    put_line(draft, "a page before itself");
+    put_line(draft, BEFORE_831);
+    let replies = [reply_at(honest, 0), reply_at(honest, 1), BEFORE_ITSELF];
+    put_list(alloc, draft, &over_tiny(BEFORE_831, &[]), &replies);
 }

@@ -30,6 +30,7 @@ fn main(rt: HostRuntime) -> ExitCode {
 fn put_cases(alloc: Global, draft: &mut Draft) {
     playing::put_each(alloc, draft, words::WORDS, "\n");
     playing::put_each(alloc, draft, messages::CASES, "\n\n");
+    playing::put_each(alloc, draft, words::ARRIVES, "\n");
     playing::put_failures(alloc, draft);
     feeds::put_feeds(alloc, draft);
     links::put_links(alloc, draft);

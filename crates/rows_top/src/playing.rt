@@ -24,7 +24,7 @@ const SCRIPT: &str = "ask,A,D,2024-05-01T08:00:00Z\nask,A,D,2024-05-01T08:00:00Z
 
 /// What fails, and the arguments. The third exchange ends the client that made it. The other one has its answer. The status is that of the
 /// first.
-static FAILURES: [(&str, Fails, &str); 2] = [
+static FAILURES: [(&str, Fails, &str); 3] = [
     (
         "the third exchange fails",
         Fails {
@@ -33,6 +33,15 @@ static FAILURES: [(&str, Fails, &str); 2] = [
             write: 0,
         },
         "replay tiny 20240501 s.csv",
+    ),
+    (
+        "the third exchange for the latest departure fails",
+        Fails {
+            read: 0,
+            exchange: 3,
+            write: 0,
+        },
+        "arrive tiny A D 2024-05-01T08:31:00Z",
     ),
     (
         "the first write fails",

@@ -57,3 +57,28 @@ fewest tiny A D 2024-05-01T08:00:00Z --update d60.pb
 fewest tiny A D 2024-05-01T08:00:00Z --cache 5
 fewest tiny A A 2024-05-01T08:00:00Z
 fewest none A D 2024-05-01T08:00:00Z";
+
+/// Questions for the latest departure, by hand from the same times. The page for the moment comes first, and then those before it, down to the
+/// one that has the journey. Causes and statuses are those of `ask`.
+pub const ARRIVES: &str = "arrive tiny A D 2024-05-01T08:31:00Z
+arrive tiny A D 2024-05-01T08:30:59Z
+arrive tiny E F 2024-05-01T10:09:59Z
+arrive tiny E F 2024-05-01T10:10:00Z
+arrive tiny A D 2024-05-01T08:31:00Z --change 121
+arrive tiny A D 2024-05-01T08:40:00Z --change 121
+arrive tiny A D 2024-05-01T08:31:00Z --horizon 1860
+arrive tiny A D 2024-05-01T08:31:00Z --horizon 1859
+arrive tiny A D 2024-05-01T08:31:00Z --cuts count:1
+arrive tiny A D 2024-05-01T08:31:00Z --cuts whole
+arrive tiny A D 2024-05-01T08:40:00Z --update d60.pb
+arrive tiny A D 2024-05-01T08:31:00Z --update d60.pb --known 2024-05-01T06:59:59Z
+arrive tiny A D 2024-05-01T08:31:00Z --horizon 0
+arrive tiny X X 2024-05-01T08:31:00Z --horizon 604801
+arrive tiny A A 2024-05-01T08:31:00Z
+arrive tiny X D 2024-05-01T08:31:00Z
+arrive tiny A X 2024-05-01T08:31:00Z
+arrive none A D 2024-05-01T08:31:00Z
+arrive tiny A D 2024-05-01T08:31:00Z --update none.pb
+arrive tiny A D 2024-05-01T08:31:00Z --update cut.pb
+arrive tiny A D 2024-05-01T08:31:00Z --cache 5
+arrive tiny A D 1970-01-17T23:59:59Z";
