@@ -66,6 +66,12 @@ pub fn tiny_link(alloc: Global) -> Result<LocalLink<Cutting>, Unmade> {
     Ok(LocalLink::new(alloc, publisher)?)
 }
 
+/// A relay over such a link.
+pub fn over_tiny(alloc: Global, entries: usize) -> Result<Relay<LocalLink<Cutting>>, Unmade> {
+    let link = tiny_link(alloc)?;
+    relay(alloc, link, entries)
+}
+
 fn publisher(alloc: Global) -> Result<Publisher<Cutting>, Unmade> {
     let options = options(alloc)?;
     let doc = read_stops(alloc, STOPS.as_bytes())?;

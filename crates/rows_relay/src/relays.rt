@@ -1,7 +1,7 @@
 //! Clients over relays: one that keeps all, one that keeps a single reply, one whose link fails at first, and one over another.
 use crate::asking::{POST_D60, exchange};
 use crate::clients::{begun, put_client};
-use crate::publishing::{relay, tiny_link};
+use crate::publishing::{over_tiny, relay, tiny_link};
 use convoy::Convoy;
 use fragmenter::Cutting;
 use lc_links::{FaultyLink, LocalLink};
@@ -22,15 +22,15 @@ fn put_entries(alloc: Global, draft: &mut Draft, entries: usize) {
     draft.put("entries ");
     draft.put_shown(&entries);
     draft.put("\n");
-    match over_tiny(alloc, entries) {
+    put_two_over(alloc, draft, over_tiny(alloc, entries));
+}
+
+/// Two clients over a relay, which ends here. Over any link, since one of a known type is dear to prove where it ends.
+fn put_two_over<L: Link + Drop>(alloc: Global, draft: &mut Draft, made: Result<Relay<L>, Unmade>) {
+    match made {
         Ok(mut link) => put_two(alloc, draft, &mut link),
         Err(Unmade) => draft.lose(),
     }
-}
-
-fn over_tiny(alloc: Global, entries: usize) -> Result<Relay<LocalLink<Cutting>>, Unmade> {
-    let link = tiny_link(alloc)?;
-    relay(alloc, link, entries)
 }
 
 fn put_two<L: Link>(alloc: Global, draft: &mut Draft, link: &mut Relay<L>) {
@@ -61,10 +61,7 @@ pub fn put_counts<L: Link>(draft: &mut Draft, link: &Relay<L>) {
 /// The first exchange with the publisher fails.
 fn put_faulty(alloc: Global, draft: &mut Draft) {
     draft.put("exchange 1 fails\n");
-    match over_faulty(alloc) {
-        Ok(mut link) => put_two(alloc, draft, &mut link),
-        Err(Unmade) => draft.lose(),
-    }
+    put_two_over(alloc, draft, over_faulty(alloc));
 }
 
 fn over_faulty(alloc: Global) -> Result<Relay<FaultyLink<LocalLink<Cutting>>>, Unmade> {
@@ -120,4 +117,6 @@ fn put_asked(draft: &mut Draft, below: Relay<LocalLink<Cutting>>) {
     draft.put(" newest ");
     draft.put_shown(&newest.seconds());
     draft.put("\n");
+    // A link of a known type is dear to prove where it ends, so `drop` takes it.
+    drop(local);
 }

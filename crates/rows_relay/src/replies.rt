@@ -1,8 +1,6 @@
 //! Single requests over a relay: which replies are kept, byte by byte, and which is forgotten first.
 use crate::asking::{EIGHT, GATE, NINE, STOPS, exchange};
-use crate::publishing::{relay, tiny_link};
-use fragmenter::Cutting;
-use lc_links::LocalLink;
+use crate::publishing::over_tiny;
 use lc_world::Link;
 use page_relay::Relay;
 use rows_common::{Draft, Unmade};
@@ -34,19 +32,28 @@ static TWICE: [(&str, &[u8]); 9] = [
 static IN_TURN: [&[u8]; 6] = [STOPS, EIGHT, STOPS, NINE, STOPS, EIGHT];
 
 pub fn put_replies(alloc: Global, draft: &mut Draft) {
-    match over_tiny(alloc, 100) {
+    put_each_over(alloc, draft, over_tiny(alloc, 100));
+    put_in_turn_over(alloc, draft, over_tiny(alloc, 2));
+}
+
+/// Each request over a relay, which ends here. Over any link, since one of a known type is dear to prove where it ends.
+fn put_each_over<L: Link + Drop>(alloc: Global, draft: &mut Draft, made: Result<Relay<L>, Unmade>) {
+    match made {
         Ok(mut link) => put_each(alloc, draft, &mut link),
-        Err(Unmade) => draft.lose(),
-    }
-    match over_tiny(alloc, 2) {
-        Ok(mut link) => put_in_turn(alloc, draft, &mut link),
         Err(Unmade) => draft.lose(),
     }
 }
 
-fn over_tiny(alloc: Global, entries: usize) -> Result<Relay<LocalLink<Cutting>>, Unmade> {
-    let link = tiny_link(alloc)?;
-    relay(alloc, link, entries)
+/// The requests in turn over a relay, which ends here.
+fn put_in_turn_over<L: Link + Drop>(
+    alloc: Global,
+    draft: &mut Draft,
+    made: Result<Relay<L>, Unmade>,
+) {
+    match made {
+        Ok(mut link) => put_in_turn(alloc, draft, &mut link),
+        Err(Unmade) => draft.lose(),
+    }
 }
 
 fn put_each<L: Link>(alloc: Global, draft: &mut Draft, link: &mut Relay<L>) {
