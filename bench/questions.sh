@@ -1,6 +1,6 @@
 #!/bin/sh
-# What `fewest` takes beside `ask` for one question, each less the reading of the feed. Both follow as many pages. Prints a table, and fails
-# where `fewest` takes more than twice as long. See docs/PERFORMANCE.md.
+# What `fewest` and `arrive` take beside `ask` for one question, each less the reading of the feed. All follow as many pages. Prints a table, and
+# fails where `fewest` takes more than twice as long, or `arrive` more than 1.3 times. See docs/PERFORMANCE.md.
 #
 #   bench/questions.sh
 #
@@ -27,8 +27,9 @@ import sys
 lc, feeds = sys.argv[1:3]
 rounds, days = int(sys.argv[3]), sys.argv[4]
 sizes = [int(word) for word in sys.argv[5:]]
-MOST = 2.0  # `fewest` takes at most so many times what `ask` takes.
-MOMENT = "2024-05-02T06:00:00Z"
+MOST = {"fewest": 2.0, "arrive": 1.3}  # They take at most so many times what `ask` takes.
+DAY = "2024-05-02"
+MOMENT = f"{DAY}T06:00:00Z"
 
 
 def last_stop(rows):
@@ -37,8 +38,8 @@ def last_stop(rows):
         return file.read().splitlines()[-1].split(",")[0]
 
 
-def question(command, rows):
-    return [lc, command, f"{feeds}/{rows}", "s00000", last_stop(rows), MOMENT, "--days", days]
+def question(command, rows, moment=MOMENT):
+    return [lc, command, f"{feeds}/{rows}", "s00000", last_stop(rows), moment, "--days", days]
 
 
 def once(words):
@@ -57,26 +58,41 @@ def said(words):
     return [line.split()[-1] for line in lines if line.startswith(("journey", "exchanges"))]
 
 
-runs = {rows: [question("fewest", rows), question("ask", rows), [lc, "check", f"{feeds}/{rows}", "20240501", "--days", days]] for rows in sizes}
+def arriving(rows):
+    """A question of `arrive` that has a journey, after as many exchanges as the one of `ask`."""
+    exchanges = said(question("ask", rows))[-1]
+    for minute in range(7 * 60, 24 * 60, 10):
+        words = question("arrive", rows, f"{DAY}T{minute // 60:02}:{minute % 60:02}:00Z")
+        lines = said(words)
+        if len(lines) == 2 and lines[-1] == exchanges:
+            return words
+    sys.exit(f"questions.sh: over {rows} rows no question of `arrive` makes {exchanges} exchanges")
+
+
+runs = {}
 for rows in sizes:
-    if said(runs[rows][0]) != said(runs[rows][1]):
+    check = [lc, "check", f"{feeds}/{rows}", "20240501", "--days", days]
+    runs[rows] = [check, question("ask", rows), question("fewest", rows), arriving(rows)]
+    if said(runs[rows][1]) != said(runs[rows][2]):
         sys.exit(f"questions.sh: over {rows} rows `fewest` arrives at another moment than `ask`, or makes other exchanges")
 
 # The feeds take turns, so that what else the machine does meets all of them.
-least = {rows: [float("inf")] * 3 for rows in sizes}
+least = {rows: [float("inf")] * len(runs[rows]) for rows in sizes}
 for _ in range(rounds):
     for rows in sizes:
         least[rows] = [min(old, once(words)) for old, words in zip(least[rows], runs[rows])]
 
-print("| connections | exchanges | `fewest` to `ask`, each less `check` |")
-print("|------------:|----------:|-------------------------------------:|")
-ratios = []
+print("| connections | exchanges | `fewest` to `ask`, each less `check` | `arrive` to `ask`, each less `check` |")
+print("|------------:|----------:|-------------------------------------:|-------------------------------------:|")
+most = dict.fromkeys(MOST, 0.0)
 for rows in sizes:
-    fewest, ask, check = least[rows]
+    check, ask, *others = least[rows]
     if ask <= check:
         sys.exit("questions.sh: a question took no longer than reading its feed; raise ROUNDS")
-    ratios.append((fewest - check) / (ask - check))
-    print(f"| {rows * 9 // 10 * int(days):11,} | {said(runs[rows][0])[-1]:>9} | {ratios[-1]:36.2f} |")
-if max(ratios) > MOST:
-    sys.exit(f"questions.sh: `fewest` took more than {MOST} times what `ask` took")
+    ratios = [(other - check) / (ask - check) for other in others]
+    most = {name: max(old, ratio) for (name, old), ratio in zip(most.items(), ratios)}
+    print(f"| {rows * 9 // 10 * int(days):11,} | {said(runs[rows][1])[-1]:>9} | {ratios[0]:36.2f} | {ratios[1]:36.2f} |")
+for name, ratio in most.items():
+    if ratio > MOST[name]:
+        sys.exit(f"questions.sh: `{name}` took more than {MOST[name]} times what `ask` took")
 PYTHON

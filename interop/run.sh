@@ -1,7 +1,7 @@
 #!/usr/bin/env bash
-# interop/run.sh [PART]...: lets `serve` and `plan` meet peers that share no code with them. The parts are curl, python, wrk, node, nginx and hostile,
-# all of them if none is named. It ends by itself, in about three minutes, and prints a line for each check. The last line is `N passed, M failed`,
-# and the status is 0 where none failed. A part whose tool is not here is skipped, and said so.
+# interop/run.sh [PART]...: lets `serve`, `plan` and `relay` meet peers that share no code with them. The parts are curl, python, wrk, node, relay,
+# nginx and hostile, all of them if none is named. It ends by itself, in about three minutes, and prints a line for each check. The last line is
+# `N passed, M failed`, and the status is 0 where none failed. A part whose tool is not here is skipped, and said so.
 #
 # LC is the program, `crates/lc/out/lc` of this repository if it is not set.
 set -u
@@ -217,6 +217,25 @@ kept() { curl -s -m 60 -o /dev/null -D - "$1" | tr -d '\r' | sed -n 's/^X-Cache:
 # exchanges BASE: how many exchanges a plan of the question in one.csv makes at this base.
 exchanges() { (cd "$work" && timeout 120 "$LC" plan "$1" one.csv | sed -nE 's/^exchanges ([0-9]+)$/\1/p'); }
 
+# A relay whose memory holds all that one question needs. The first client makes the exchanges of a plan, and each of the others the time gate alone.
+relay_checks() {
+  local port base made said count times=10
+  port=$(free_port)
+  base=http://localhost:$port/
+  questions 1 2 >"$work/one.csv"
+  serve direct.log "$port" 1000000 "$work/feed" || return
+  made=$(exchanges "$base")
+  (cd "$work" && timeout 120 "$LC" plan "$base" one.csv) | grep '^journey\|^no journey' >"$work/wanted"
+  stop "$server"
+  for ((count = 0; count < times; count++)); do cat "$work/one.csv"; done >"$work/often.csv"
+  serve relayed.log "$port" $((made + times - 1)) "$work/feed" || return
+  (cd "$work" && timeout 300 "$LC" relay "$base" often.csv --cache 1 --entries 1000) >"$work/relayed" 2>&1
+  said=$(tail -n 1 "$work/relayed")
+  same 'relay: all but the time gate is kept' "forwarded $((made + times - 1))" "${said#relayed * }"
+  same 'relay: the publisher got no more' "served $((made + times - 1)) requests $((made + times - 1)) faults 0" "$(ended relayed.log 30)"
+  same 'relay: each client answers as a plan does' "$times" "$(grep -cxFf "$work/wanted" "$work/relayed")"
+}
+
 # start_nginx FRONT FIRST SECOND: nginx by the example, at these ports and in the work directory.
 start_nginx() {
   mkdir -p "$work/nginx"
@@ -282,11 +301,11 @@ nginx_checks() {
 
 hostile_checks() { take hostile python3 "$here/hostile.py" "$work/feed"; }
 
-[ "$#" -gt 0 ] || set -- curl python wrk node nginx hostile
+[ "$#" -gt 0 ] || set -- curl python wrk node relay nginx hostile
 for part in "$@"; do
   case $part in
     curl | wrk | node | nginx) need "$part" "$part" && "${part}_checks" ;;
-    python | hostile) "${part}_checks" ;;
+    python | relay | hostile) "${part}_checks" ;;
     *) echo "run.sh: no part $part" >&2; exit 2 ;;
   esac
 done
