@@ -9,4 +9,5 @@ pub mod ReadingLemmas
 pub mod ReadingsLemmas
 pub mod SomeReadingLemmas
 pub mod TokensLemmas
+pub mod TreeLemmas
 pub mod WrittenUtf8Lemmas

@@ -6,3 +6,4 @@ pub mod Reading
 pub mod Texts
 pub mod Tokens
 pub mod Values
+pub mod View

@@ -1,18 +1,22 @@
 ghost use Rattle.std.specs.Prelude.{◌≢◌, All, Ok, Err, IfOk, IfErr};
 ghost use Rattle.lc_model.specs.Stop.{HasStop};
 ghost use Rattle.lc_model.specs.declared.change.Change.{Change as Stated};
-ghost use Rattle.serde_json.specs.View.{items_view, view};
 ghost use Rattle.json_members.specs.Reading.{Meets, each_in};
+ghost use Rattle.json_members.specs.View.{items_view, view};
 ghost use Rattle.page_json.specs.StopsReading.{change_in, if_stop, stop_at};
 ghost use Rattle.json_members.specs.declared.fault.PageFault.TheVariants.{NoMemory as OutOfMemory};
 
+use json::Value;
 use json_members::{PageFault, bad_member, id_at, object_under, seconds_at};
 use lc_model::{Change, Id, Stops};
-use serde_json::Value;
 use std::alloc::Global;
 
 /// The changes of a list. Looks each end up by binary search.
-pub fn each_change(alloc: Global, stops: &Stops, values: &[Value]) -> Result<Vec<Change>, PageFault>
+pub fn each_change(
+    alloc: Global,
+    stops: &Stops,
+    values: &[Value<'_>],
+) -> Result<Vec<Change>, PageFault>
     ensures ok { IfOk result (λ list. each_in (change_in stops.now) (items_view values.now) (Ok list.items)) }
     ensures err { IfErr result
         (λ fault. fault ≢ OutOfMemory → each_in (change_in stops.now) (items_view values.now) (Err fault)) }
@@ -27,7 +31,7 @@ pub fn each_change(alloc: Global, stops: &Stops, values: &[Value]) -> Result<Vec
 }
 
 /// A change.
-fn change_in(alloc: Global, stops: &Stops, value: &Value) -> Result<Change, PageFault>
+fn change_in(alloc: Global, stops: &Stops, value: &Value<'_>) -> Result<Change, PageFault>
     ensures said { Meets (change_in stops.now (view value.now)) result }
     ensures from { IfOk result (λ c. HasStop stops.now c.from) }
     ensures to { IfOk result (λ c. HasStop stops.now c.to) }
@@ -40,7 +44,7 @@ fn change_in(alloc: Global, stops: &Stops, value: &Value) -> Result<Change, Page
 }
 
 /// The stop of the list that a member names.
-fn stop_at(alloc: Global, stops: &Stops, value: &Value, key: &str) -> Result<Id, PageFault>
+fn stop_at(alloc: Global, stops: &Stops, value: &Value<'_>, key: &str) -> Result<Id, PageFault>
     ensures said { Meets (stop_at stops.now key.now (view value.now)) result }
     ensures known { IfOk result (HasStop stops.now) }
 {

@@ -2,17 +2,20 @@ ghost use Rattle.std.specs.Prelude.{◌≡◌, ◌≢◌, ◌≤◌, ℕ, List, 
 ghost use Rattle.lc_model.specs.Connection.{NoneArrivesEarly};
 ghost use Rattle.lc_model.specs.declared.connection.Connection.{Connection as Stated};
 ghost use Rattle.lc_model.specs.declared.key.RunKey.{RunKey as Key};
-ghost use Rattle.serde_json.specs.View.{items_view, view};
 ghost use Rattle.json_members.specs.Members.{said_at};
 ghost use Rattle.page_json.specs.PageReading.{allows, connection_in, end_at, joined, unless_early};
 ghost use Rattle.json_members.specs.Reading.{Meets, each_in, exactly};
+ghost use Rattle.json_members.specs.View.{items_view, view};
 ghost use Rattle.page_json.specs.Says.{SaysName, SaysStop};
 
 use crate::urls::read_stop_url;
 use connection_uri::{Base, read_name};
-use json_members::{PageFault, bad_member, delay_at, moment_at, needed_text, object_under, or_bad};
+use json::Value;
+use json_members::{
+    PageFault, bad_member, delay_at, member_at, moment_at, needed_text, object_under, or_bad,
+    text_in,
+};
 use lc_model::{Connection, Connections, Id, Moment, NoMemory, RunKey};
-use serde_json::Value;
 use std::alloc::Global;
 
 /// An arrival or a departure.
@@ -24,7 +27,7 @@ pub struct End {
 }
 
 /// The run and the sequence that a connection's name says.
-fn name_at(alloc: Global, base: &Base, value: &Value) -> Result<(RunKey, u32), PageFault>
+fn name_at(alloc: Global, base: &Base, value: &Value<'_>) -> Result<(RunKey, u32), PageFault>
     ensures { Meets (said_at (SaysName base.now) (codes "@id") (view value.now)) result }
 {
     let text = needed_text(alloc, value, "@id")?;
@@ -45,7 +48,7 @@ fn said_name(alloc: Global, base: &Base, text: &[u8]) -> Result<Option<(RunKey, 
 }
 
 /// The stop that a member's URL says.
-fn stop_at(alloc: Global, base: &Base, value: &Value, key: &str) -> Result<Id, PageFault>
+fn stop_at(alloc: Global, base: &Base, value: &Value<'_>, key: &str) -> Result<Id, PageFault>
     ensures { Meets (said_at (SaysStop base.now) key.now (view value.now)) result }
 {
     let text = needed_text(alloc, value, key)?;
@@ -57,7 +60,7 @@ fn stop_at(alloc: Global, base: &Base, value: &Value, key: &str) -> Result<Id, P
 fn end_at(
     alloc: Global,
     base: &Base,
-    value: &Value,
+    value: &Value<'_>,
     delay_key: &str,
     stop_key: &str,
     moment_key: &str,
@@ -75,7 +78,7 @@ fn end_at(
 }
 
 /// A connection.
-fn connection_in(alloc: Global, base: &Base, value: &Value) -> Result<Connection, PageFault>
+fn connection_in(alloc: Global, base: &Base, value: &Value<'_>) -> Result<Connection, PageFault>
     ensures said { Meets (connection_in base.now (view value.now)) result }
     ensures forward { IfOk result (λ c. c.dep ≤ c.arr) }
 {
@@ -103,7 +106,7 @@ fn connection_in(alloc: Global, base: &Base, value: &Value) -> Result<Connection
 /// The connection of a name, an arrival and a departure.
 fn joined(
     alloc: Global,
-    value: &Value,
+    value: &Value<'_>,
     name: (RunKey, u32),
     arrival: End,
     departure: End,
@@ -130,10 +133,13 @@ fn joined(
 }
 
 /// Whether the member allows to board or to alight.
-fn allows(value: &Value, key: &str) -> bool
+fn allows(value: &Value<'_>, key: &str) -> bool
     ensures { result ≡ allows key.now (view value.now) }
 {
-    match value.get(key).and_then(Value::as_str) {
+    let Some(member) = member_at(value, key) else {
+        return true;
+    };
+    match text_in(member) {
         Some(text) => text != "gtfs:NotAvailable",
         None => true,
     }
@@ -143,7 +149,7 @@ fn allows(value: &Value, key: &str) -> bool
 pub fn connections_in(
     alloc: Global,
     base: &Base,
-    values: &[Value],
+    values: &[Value<'_>],
 ) -> Result<Connections, PageFault>
     ensures { Meets (each_in (connection_in base.now) (items_view values.now)) result }
 {

@@ -49,9 +49,14 @@ impl<'a> Cursor<'a> {
         self.before(b'"')
     }
 
-    /// The bytes between the quote that comes next and the one that ends its text, with their escapes. Moves past the latter.
-    pub(crate) fn quoted(&mut self) -> Option<&'a [u8]> {
-        self.skip(b"\"")?;
+    /// The bytes between these, which come next, and the quote that ends a text, with their escapes. Moves past the quote.
+    pub(crate) fn written_after(&mut self, front: &[u8]) -> Option<&'a [u8]> {
+        self.skip(front)?;
+        self.written()
+    }
+
+    /// The bytes up to the quote that ends a text, with their escapes. Moves past the quote.
+    pub(crate) fn written(&mut self) -> Option<&'a [u8]> {
         let (front, rest) = self.rest.split_at(end_of_text(self.rest)?);
         self.rest = rest.get(1..)?;
         Some(front)

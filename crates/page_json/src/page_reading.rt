@@ -1,12 +1,12 @@
 ghost use Rattle.std.specs.Prelude.{◌≡◌, ◌<◌, ℕ, List, codes, Some, IfOk, IfSome};
 ghost use Rattle.lc_model.specs.Connection.{InDepartureOrder, NoneArrivesEarly, departure_cmp};
 ghost use Rattle.lc_model.specs.declared.page.PageName.{PageName as Named};
-ghost use Rattle.serde_json.specs.View.{view};
 ghost use Rattle.lc_model.specs.Disorder.{first_disorder};
 ghost use Rattle.json_members.specs.Disorder.{unless_disorder};
 ghost use Rattle.json_members.specs.Members.{said_at, said_if_there, said_in};
 ghost use Rattle.page_json.specs.PageReading.{page_in, page_of_bytes};
 ghost use Rattle.json_members.specs.Reading.{Meets, exactly, gives};
+ghost use Rattle.json_members.specs.View.{view};
 ghost use Rattle.page_json.specs.Says.{SaysLink, SaysPage};
 ghost use Rattle.page_json.specs.Valid.{IsOfVersion, IsValidPage};
 ghost use Rattle.page_json.specs.declared.page.Page.{Page as Stated};
@@ -15,11 +15,11 @@ use crate::Page;
 use crate::connection_reading::connections_in;
 use crate::written_page::written_page;
 use connection_uri::{Base, read_page_url};
+use json::{Scratch, Value};
 use json_members::{
-    PageFault, json_in, needed_list, needed_text, object_under, or_bad, text_under,
+    PageFault, json_in, member_at, needed_list, needed_text, object_under, or_bad, text_under,
 };
 use lc_model::{Moment, PageName, first_disorder};
-use serde_json::Value;
 use std::alloc::Global;
 
 /// The page whose URL the text is.
@@ -45,7 +45,7 @@ fn said_link(base: &Base, text: &[u8], version: Moment) -> Option<PageName>
 }
 
 /// The page that a member's URL names.
-fn page_at(alloc: Global, base: &Base, value: &Value) -> Result<PageName, PageFault>
+fn page_at(alloc: Global, base: &Base, value: &Value<'_>) -> Result<PageName, PageFault>
     ensures { Meets (said_at (SaysPage base.now) (codes "@id") (view value.now)) result }
 {
     let text = needed_text(alloc, value, "@id")?;
@@ -56,7 +56,7 @@ fn page_at(alloc: Global, base: &Base, value: &Value) -> Result<PageName, PageFa
 fn link_in(
     alloc: Global,
     base: &Base,
-    member: &Value,
+    member: &Value<'_>,
     key: &str,
     version: Moment,
 ) -> Result<PageName, PageFault>
@@ -71,14 +71,14 @@ fn link_in(
 fn link_at(
     alloc: Global,
     base: &Base,
-    value: &Value,
+    value: &Value<'_>,
     key: &str,
     version: Moment,
 ) -> Result<Option<PageName>, PageFault>
     ensures said { Meets (said_if_there (SaysLink base.now version) key.now (view value.now)) result }
     ensures version { IfOk result (IsOfVersion version) }
 {
-    match value.get(key) {
+    match member_at(value, key) {
         Some(member) => Ok(Some(link_in(alloc, base, member, key, version)?)),
         None => Ok(None),
     }
@@ -98,7 +98,7 @@ fn in_order(page: Page) -> Result<Page, PageFault>
 }
 
 /// The page that a JSON value says.
-fn page_in(alloc: Global, base: &Base, value: &Value) -> Result<Page, PageFault>
+fn page_in(alloc: Global, base: &Base, value: &Value<'_>) -> Result<Page, PageFault>
     ensures said { Meets (page_in base.now (view value.now)) result }
     ensures valid { IfOk result IsValidPage }
 {
@@ -117,7 +117,7 @@ fn page_in(alloc: Global, base: &Base, value: &Value) -> Result<Page, PageFault>
 }
 
 /// The page that a text of JSON says, or the first fault of the text. Linear in the text. What `page_text` wrote is read by
-/// a guess that is written again, which takes a third of the time of a text that others wrote.
+/// a guess that is written again, and what others wrote as a tree.
 pub fn read_page(alloc: Global, base: &Base, bytes: &[u8]) -> Result<Page, PageFault>
     ensures said { Meets (page_of_bytes base.now bytes.now) result }
     ensures valid { IfOk result IsValidPage }
@@ -136,6 +136,7 @@ fn read_tree(alloc: Global, base: &Base, bytes: &[u8]) -> Result<Page, PageFault
     ensures said { Meets (page_of_bytes base.now bytes.now) result }
     ensures valid { IfOk result IsValidPage }
 {
-    let value = json_in(alloc, bytes)?;
+    let mut scratch = Scratch::new(alloc);
+    let value = json_in(alloc, bytes, &mut scratch)?;
     page_in(alloc, base, &value)
 }

@@ -1,16 +1,16 @@
 ghost use Rattle.std.specs.Prelude.{◌≢◌, Ok, Err, IfOk, IfErr};
-ghost use Rattle.serde_json.specs.View.{items_view, view};
 ghost use Rattle.json_members.specs.Reading.{Meets, each_in};
+ghost use Rattle.json_members.specs.View.{items_view, view};
 ghost use Rattle.page_json.specs.StopsReading.{stop_in};
 ghost use Rattle.json_members.specs.declared.fault.PageFault.TheVariants.{NoMemory as OutOfMemory};
 
+use json::Value;
 use json_members::{PageFault, id_at, id_if_there, object_under, text_if_there};
 use lc_model::Stop;
-use serde_json::Value;
 use std::alloc::Global;
 
 /// The stops of a list. Linear in the list.
-pub fn each_stop(alloc: Global, values: &[Value]) -> Result<Vec<Stop>, PageFault>
+pub fn each_stop(alloc: Global, values: &[Value<'_>]) -> Result<Vec<Stop>, PageFault>
     ensures ok { IfOk result (λ list. each_in stop_in (items_view values.now) (Ok list.items)) }
     ensures err { IfErr result
         (λ fault. fault ≢ OutOfMemory → each_in stop_in (items_view values.now) (Err fault)) }
@@ -23,7 +23,7 @@ pub fn each_stop(alloc: Global, values: &[Value]) -> Result<Vec<Stop>, PageFault
 }
 
 /// A stop.
-fn stop_in(alloc: Global, value: &Value) -> Result<Stop, PageFault>
+fn stop_in(alloc: Global, value: &Value<'_>) -> Result<Stop, PageFault>
     ensures { Meets (stop_in (view value.now)) result }
 {
     object_under(alloc, value, "stops")?;

@@ -69,7 +69,7 @@ fn push_changes(
 ) -> Result<bool, NoMemory> {
     // Each takes a byte at least.
     for _ in 0..cursor.left() {
-        if cursor.skip(b"{\"from\":").is_none() {
+        if cursor.skip(b"{\"from\":\"").is_none() {
             break;
         }
         match guessed_change(alloc, cursor)? {
@@ -98,13 +98,18 @@ struct ChangeParts<'a> {
 
 /// The parts of the change whose first end comes next. Moves past its comma, or past its end where it is the last.
 fn change_parts<'a>(cursor: &mut Cursor<'a>) -> Option<ChangeParts<'a>> {
-    let from = cursor.quoted()?;
+    let from = cursor.written()?;
     let seconds = cursor.number_after(b",\"seconds\":")?;
-    cursor.skip(b"\"to\":")?;
-    let to = cursor.quoted()?;
+    let to = cursor.written_after(b"\"to\":\"")?;
+    skip_end(cursor)?;
+    Some(ChangeParts { from, seconds, to })
+}
+
+/// Moves past the end of an item and the comma after it, if there is one.
+fn skip_end(cursor: &mut Cursor<'_>) -> Option<()> {
     cursor.skip(b"}")?;
     let _comma = cursor.skip(b",");
-    Some(ChangeParts { from, seconds, to })
+    Some(())
 }
 
 /// The change of these parts.
@@ -153,7 +158,7 @@ fn push_stops(
 ) -> Result<bool, NoMemory> {
     // Each takes a byte at least.
     for _ in 0..cursor.left() {
-        if cursor.skip(b"{\"id\":").is_none() {
+        if cursor.skip(b"{\"id\":\"").is_none() {
             break;
         }
         match guessed_stop(alloc, cursor)? {
@@ -182,15 +187,10 @@ struct StopParts<'a> {
 
 /// The parts of the stop whose id comes next. Moves past its comma, or past its end where it is the last.
 fn stop_parts<'a>(cursor: &mut Cursor<'a>) -> Option<StopParts<'a>> {
-    let id = cursor.quoted()?;
-    cursor.skip(b",\"name\":")?;
-    let name = cursor.quoted()?;
-    let parent = match cursor.skip(b",\"parent\":") {
-        Some(()) => Some(cursor.quoted()?),
-        None => None,
-    };
-    cursor.skip(b"}")?;
-    let _comma = cursor.skip(b",");
+    let id = cursor.written()?;
+    let name = cursor.written_after(b",\"name\":\"")?;
+    let parent = cursor.written_after(b",\"parent\":\"");
+    skip_end(cursor)?;
     Some(StopParts { id, name, parent })
 }
 

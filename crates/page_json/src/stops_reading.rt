@@ -6,10 +6,10 @@ ghost use Rattle.lc_model.specs.Text.{id_cmp};
 ghost use Rattle.lc_model.specs.declared.change.Change.{Change as StatedChange};
 ghost use Rattle.lc_model.specs.declared.stop.Stop.{Stop as StatedStop};
 ghost use Rattle.lc_model.specs.declared.doc.StopsDoc.{StopsDoc as Stated};
-ghost use Rattle.serde_json.specs.View.{view};
 ghost use Rattle.lc_model.specs.Disorder.{first_disorder};
 ghost use Rattle.json_members.specs.Disorder.{unless_disorder};
 ghost use Rattle.json_members.specs.Reading.{Meets, exactly, gives};
+ghost use Rattle.json_members.specs.View.{view};
 ghost use Rattle.page_json.specs.StopsReading.{AreParents, changes_in, doc_in, doc_of_bytes, stops_in};
 ghost use Rattle.page_json.specs.Valid.{IsValidDoc};
 ghost use Rattle.json_members.specs.declared.fault.PageFault.TheVariants.{BadMember as bad, NoMemory as OutOfMemory};
@@ -18,9 +18,9 @@ use crate::change_reading::each_change;
 use crate::known::have_parents;
 use crate::stop_reading::each_stop;
 use crate::written_stops::written_stops;
+use json::{Scratch, Value};
 use json_members::{PageFault, bad_member, json_in, needed_list, object_under};
 use lc_model::{Change, Changes, Stop, Stops, StopsDoc};
-use serde_json::Value;
 use std::alloc::Global;
 
 /// The stops document that a text of JSON says, or the first fault of the text: first of its stops, then of its changes.
@@ -43,11 +43,12 @@ pub fn read_stops(alloc: Global, bytes: &[u8]) -> Result<StopsDoc, PageFault>
 fn read_tree(alloc: Global, bytes: &[u8]) -> Result<StopsDoc, PageFault>
     ensures { Meets (doc_of_bytes bytes.now) result }
 {
-    let value = json_in(alloc, bytes)?;
+    let mut scratch = Scratch::new(alloc);
+    let value = json_in(alloc, bytes, &mut scratch)?;
     doc_in(alloc, &value)
 }
 
-fn doc_in(alloc: Global, value: &Value) -> Result<StopsDoc, PageFault>
+fn doc_in(alloc: Global, value: &Value<'_>) -> Result<StopsDoc, PageFault>
     ensures { Meets (doc_in (view value.now)) result }
 {
     object_under(alloc, value, "stops")?;
@@ -57,7 +58,7 @@ fn doc_in(alloc: Global, value: &Value) -> Result<StopsDoc, PageFault>
 }
 
 /// The stops, each of whose parents is one of them.
-fn stops_in(alloc: Global, value: &Value) -> Result<Stops, PageFault>
+fn stops_in(alloc: Global, value: &Value<'_>) -> Result<Stops, PageFault>
     ensures said { Meets (stops_in (view value.now)) result }
     ensures parents { IfOk result AreParents }
 {
@@ -93,7 +94,7 @@ fn ordered_stops(stops: Vec<Stop>) -> Result<Stops, PageFault>
 }
 
 /// The changes, each of whose ends is one of the stops.
-fn changes_in(alloc: Global, stops: &Stops, value: &Value) -> Result<Changes, PageFault>
+fn changes_in(alloc: Global, stops: &Stops, value: &Value<'_>) -> Result<Changes, PageFault>
     ensures said { Meets (changes_in stops.now (view value.now)) result }
     ensures from { IfOk result (All (λ (c : StatedChange). HasStop stops.now c.from)) }
     ensures to { IfOk result (All (λ (c : StatedChange). HasStop stops.now c.to)) }

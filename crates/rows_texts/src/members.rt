@@ -1,12 +1,11 @@
 //! Members of JSON as they are read and written.
-use json::Writer;
+use json::{Scratch, Value, Writer};
 use json_members::{
     delay_at, id_at, json_in, moment_at, needed_text, seconds_at, write_moment, write_number,
     write_text,
 };
 use lc_model::{Moment, NoMemory};
 use rows_common::{Draft, Unmade};
-use serde_json::Value;
 use std::alloc::Global;
 
 /// How deep a text of JSON nests, of which 127 levels are the most.
@@ -65,28 +64,38 @@ fn put_nested(alloc: Global, draft: &mut Draft, levels: usize) {
     draft.also(&json);
     draft.put_shown(&levels);
     draft.put(" levels of nesting are JSON: ");
-    draft.put_is_read(json_in(alloc, json.as_bytes()));
+    put_whether_json(alloc, draft, json.as_bytes());
 }
 
 fn put_is_json(alloc: Global, draft: &mut Draft, json: &str) {
     draft.put(json);
     draft.put(" is JSON: ");
-    draft.put_is_read(json_in(alloc, json.as_bytes()));
+    put_whether_json(alloc, draft, json.as_bytes());
+}
+
+fn put_whether_json(alloc: Global, draft: &mut Draft, bytes: &[u8]) {
+    let mut scratch = Scratch::new(alloc);
+    draft.put_is_read(json_in(alloc, bytes, &mut scratch));
 }
 
 fn put_numbers(alloc: Global, draft: &mut Draft, json: &str) {
-    match value_in(alloc, json.as_bytes()) {
+    let mut scratch = Scratch::new(alloc);
+    match value_in(alloc, json.as_bytes(), &mut scratch) {
         Ok(value) => put_numbers_of(alloc, draft, json, &value),
         Err(Unmade) => draft.lose(),
     }
 }
 
-fn value_in(alloc: Global, json: &[u8]) -> Result<Value, Unmade> {
-    Ok(json_in(alloc, json)?)
+fn value_in<'t>(
+    alloc: Global,
+    json: &'t [u8],
+    scratch: &'t mut Scratch,
+) -> Result<Value<'t>, Unmade> {
+    Ok(json_in(alloc, json, scratch)?)
 }
 
 /// What is read as a delay and as seconds.
-fn put_numbers_of(alloc: Global, draft: &mut Draft, json: &str, value: &Value) {
+fn put_numbers_of(alloc: Global, draft: &mut Draft, json: &str, value: &Value<'_>) {
     draft.put("delay of ");
     draft.put(json);
     draft.put(": ");
@@ -99,14 +108,15 @@ fn put_numbers_of(alloc: Global, draft: &mut Draft, json: &str, value: &Value) {
 }
 
 fn put_text(alloc: Global, draft: &mut Draft, json: &str) {
-    match value_in(alloc, json.as_bytes()) {
+    let mut scratch = Scratch::new(alloc);
+    match value_in(alloc, json.as_bytes(), &mut scratch) {
         Ok(value) => put_text_of(alloc, draft, json, &value),
         Err(Unmade) => draft.lose(),
     }
 }
 
 /// What is read as a text, and whether it is an id.
-fn put_text_of(alloc: Global, draft: &mut Draft, json: &str, value: &Value) {
+fn put_text_of(alloc: Global, draft: &mut Draft, json: &str, value: &Value<'_>) {
     draft.put("text of ");
     draft.put(json);
     draft.put(": ");
@@ -142,13 +152,14 @@ fn put_written_text(alloc: Global, draft: &mut Draft, written: &[u8]) {
     draft.put("members as they are written: ");
     draft.put_escaped(written);
     draft.put("\n");
-    match value_in(alloc, written) {
+    let mut scratch = Scratch::new(alloc);
+    match value_in(alloc, written, &mut scratch) {
         Ok(value) => put_moment(alloc, draft, &value),
         Err(Unmade) => draft.lose(),
     }
 }
 
-fn put_moment(alloc: Global, draft: &mut Draft, value: &Value) {
+fn put_moment(alloc: Global, draft: &mut Draft, value: &Value<'_>) {
     draft.put("moment of what is written: ");
     match moment_at(alloc, value, "c") {
         Ok(moment) => draft.put_shown(&moment.seconds()),

@@ -1,9 +1,9 @@
 -- The text of the member says its moment.
 use Rattle.std.proofs.Common.{Ok, ap, sym, ◌∙◌}
 use Rattle.lc_time.specs.Iso.{SaysMoment}
-use Rattle.serde_json.specs.View.{view}
 use Rattle.json_members.specs.Members.{text_of}
 use Rattle.json_members.specs.Reading.{what_is_said}
+use Rattle.json_members.specs.View.{view}
 use Rattle.json_members.proofs.ReadingsLemmas.{after_ok, said_from}
 use Rattle.json_members.proofs.values.moment_at.Goals as goal
 

@@ -4,7 +4,7 @@ use Rattle.std.specs.List.{All}
 use Rattle.std.proofs.lemmas.List.Elements.{All-nil, All-push}
 use Rattle.lc_model.specs.Stop.{HasStop}
 use Rattle.lc_model.specs.declared.change.Change.{Change}
-use Rattle.serde_json.specs.View.{items_view}
+use Rattle.json_members.specs.View.{items_view}
 use Rattle.page_json.specs.StopsReading.{change_in}
 use Rattle.json_members.specs.Reading.{each_in}
 use Rattle.json_members.proofs.EachLemmas.{AreReadTo, all_read, fault_read, nothing_read, one_more_read}

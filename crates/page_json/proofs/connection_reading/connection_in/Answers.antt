@@ -1,6 +1,6 @@
 -- One member after the other.
 use Rattle.std.proofs.Common.{Ok, Err, refl, sym}
-use Rattle.serde_json.specs.View.{view}
+use Rattle.json_members.specs.View.{view}
 use Rattle.page_json.specs.PageReading.{connection_in, joined, unless_early}
 use Rattle.json_members.specs.Reading.{exactly}
 use Rattle.json_members.proofs.ReadingsLemmas.{meets_err, meets_last}

@@ -3,7 +3,7 @@ use Rattle.std.proofs.Common.{◌≤◌, ◌+◌, List, Ok, sym, subst}
 use Rattle.std.proofs.lemmas.List.Elements.{All-nil, All-push}
 use Rattle.lc_model.specs.Connection.{NoneArrivesEarly}
 use Rattle.lc_model.specs.declared.connection.Connection.{Connection}
-use Rattle.serde_json.specs.View.{items_view}
+use Rattle.json_members.specs.View.{items_view}
 use Rattle.page_json.specs.PageReading.{connection_in}
 use Rattle.json_members.specs.Reading.{each_in}
 use Rattle.json_members.proofs.EachLemmas.{AreReadTo, all_read, fault_read, nothing_read, one_more_read}

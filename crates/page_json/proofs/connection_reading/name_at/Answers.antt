@@ -1,7 +1,7 @@
 -- The text of the member says its name.
 use Rattle.std.proofs.Common.{Ok, ap, codes, sym, ◌∙◌}
 use Rattle.page_json.specs.Says.{SaysName}
-use Rattle.serde_json.specs.View.{view}
+use Rattle.json_members.specs.View.{view}
 use Rattle.json_members.specs.Members.{text_of}
 use Rattle.json_members.specs.Reading.{what_is_said}
 use Rattle.json_members.proofs.ReadingsLemmas.{after_ok, said_from}

@@ -1,7 +1,7 @@
 -- The text of the member says its page.
 use Rattle.std.proofs.Common.{Ok, ap, sym, ◌∙◌}
 use Rattle.serde_json.specs.Find.{as_str}
-use Rattle.serde_json.specs.View.{view}
+use Rattle.json_members.specs.View.{view}
 use Rattle.json_members.specs.Members.{formed}
 use Rattle.json_members.specs.Reading.{what_is_said}
 use Rattle.page_json.specs.Says.{SaysLink}

@@ -1,6 +1,6 @@
 -- The text of the member says its page.
 use Rattle.std.proofs.Common.{Ok, ap, codes, sym, ◌∙◌}
-use Rattle.serde_json.specs.View.{view}
+use Rattle.json_members.specs.View.{view}
 use Rattle.json_members.specs.Members.{text_of}
 use Rattle.json_members.specs.Reading.{what_is_said}
 use Rattle.page_json.specs.Says.{SaysPage}

@@ -1,7 +1,7 @@
 -- Each item is read in its turn.
 use Rattle.std.proofs.Common.{◌+◌, List, Err, sym, subst}
 use Rattle.lc_model.specs.declared.stop.Stop.{Stop}
-use Rattle.serde_json.specs.View.{items_view}
+use Rattle.json_members.specs.View.{items_view}
 use Rattle.page_json.specs.StopsReading.{stop_in}
 use Rattle.json_members.specs.Reading.{each_in}
 use Rattle.json_members.proofs.EachLemmas.{AreReadTo, all_read, fault_read, nothing_read, one_more_read}

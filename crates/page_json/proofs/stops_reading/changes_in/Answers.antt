@@ -1,6 +1,6 @@
 -- One step after the other.
 use Rattle.std.proofs.Common.{List, ◌≡◌, Ok, Err, refl, subst, sym}
-use Rattle.serde_json.specs.View.{items_view, view}
+use Rattle.json_members.specs.View.{items_view, view}
 use Rattle.lc_model.specs.Disorder.{first_disorder}
 use Rattle.json_members.specs.Disorder.{unless_disorder}
 use Rattle.json_members.specs.Reading.{exactly}
@@ -10,6 +10,7 @@ use Rattle.lc_model.specs.Change.{change_cmp}
 use Rattle.lc_model.specs.Stop.{HasStop}
 use Rattle.lc_model.specs.declared.change.Change.{Change}
 use Rattle.page_json.specs.StopsReading.{changes_in}
+use Rattle.json_members.proofs.EachLemmas.{items_seen}
 use Rattle.json_members.proofs.ReadingsLemmas.{meets_err, meets_last}
 use Rattle.page_json.proofs.stops_reading.changes_in.Goals as goal
 
@@ -17,7 +18,7 @@ pub returns-clause-said : goal.returns-clause-said
 unfolding changes_in
 returns-clause-said c =
     meets_last (exactly (unless_disorder (first_disorder change_cmp c.in_ok-changes.changes.items) c.in_ok-changes.changes.items)) (changes_in c.args.stops.now (view c.args.value.now)) c.ordered_changes.result
-    (λ r last. (Ok (items_view c.in_ok-items.items.now), sym c.in_ok-items.ensures.ok, (Ok c.in_ok-changes.changes.items, c.in_ok-changes.ensures.ok, last)))
+    (λ r last. (Ok (items_view c.deref.result.now), items_seen _ _ _ c.deref.ensures.value c.in_ok-items.ensures.ok, (Ok c.in_ok-changes.changes.items, c.in_ok-changes.ensures.ok, last)))
     c.ordered_changes.ensures.said
 
 pub returns-in_err-items-clause-said : goal.returns-in_err-items-clause-said
@@ -32,7 +33,7 @@ unfolding changes_in
 returns-in_err-changes-clause-said c =
     let fault = c.in_err-changes.field-0.0 in
     meets_err (changes_in c.args.stops.now (view c.args.value.now)) c.from_residual-in_err-changes.result fault c.from_residual-in_err-changes.ensures.1
-    (λ other. (Ok (items_view c.in_ok-items.items.now), sym c.in_ok-items.ensures.ok, (Err fault, c.in_err-changes.ensures.err other, refl)))
+    (λ other. (Ok (items_view c.deref.result.now), items_seen _ _ _ c.deref.ensures.value c.in_ok-items.ensures.ok, (Err fault, c.in_err-changes.ensures.err other, refl)))
 
 pub returns-clause-from : goal.returns-clause-from
 returns-clause-from c =

@@ -1,6 +1,6 @@
 -- One step after the other.
 use Rattle.std.proofs.Common.{Ok, Err, refl, sym}
-use Rattle.serde_json.specs.View.{view}
+use Rattle.json_members.specs.View.{view}
 use Rattle.page_json.specs.StopsReading.{doc_in}
 use Rattle.json_members.proofs.ReadingsLemmas.{meets_err}
 use Rattle.page_json.proofs.stops_reading.doc_in.Goals as goal

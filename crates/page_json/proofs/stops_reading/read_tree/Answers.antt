@@ -1,6 +1,6 @@
 -- First the JSON, then the document.
 use Rattle.std.proofs.Common.{Ok, Err, refl}
-use Rattle.serde_json.specs.View.{view}
+use Rattle.json_members.specs.View.{view}
 use Rattle.page_json.specs.StopsReading.{doc_in, doc_of_bytes}
 use Rattle.json_members.proofs.ReadingsLemmas.{meets_err, meets_last}
 use Rattle.page_json.proofs.stops_reading.read_tree.Goals as goal
