@@ -3,7 +3,7 @@ use Rattle.std.proofs.Common.{◌≡◌, ℕ, ◌-◌, ◌≤◌, List, ◌∷�
 use Rattle.std.proofs.lemmas.List.{drop_more, take_rest}
 use Rattle.lc_model.specs.declared.connection.Connection.{Connection}
 use Rattle.connection_uri.specs.Name.{run_part_of}
-use Rattle.page_json.specs.ConnectionWriting.{arrival_part, departure_part, list_part, members_part, name_part, use_part}
+use Rattle.page_json.specs.ConnectionWriting.{end_part, list_part, members_part, name_part, use_part}
 use Rattle.page_json.specs.PageWriting.{page_part, search_part, view_part}
 use Rattle.page_json.specs.declared.fronts.Fronts.{Fronts}
 use Rattle.page_json.specs.declared.page.Page.{Page}
@@ -22,12 +22,12 @@ four a b c d e x y z w first second third fourth = two a b e x (y ++ (z ++ w)) f
 pub five : (a b c d e f x y z w v : List ℕ) → b ≡ a ++ x → c ≡ b ++ y → d ≡ c ++ z → e ≡ d ++ w → f ≡ e ++ v → f ≡ a ++ (x ++ (y ++ (z ++ (w ++ v))))
 five a b c d e f x y z w v first second third fourth fifth = two a b f x (y ++ (z ++ (w ++ v))) first (four b c d e f y z w v second third fourth fifth)
 
--- a connection, by the texts of its run and of its fronts
-pub members_by : (fronts : Fronts) (c : Connection) (old new run arrival departure trip again : List ℕ)
-    → run ≡ run_part_of c.key → arrival ≡ fronts.stops.arrival → departure ≡ fronts.stops.departure → trip ≡ fronts.trip → again ≡ run_part_of c.key
-    → new ≡ old ++ (name_part run c.seq ++ (arrival_part arrival c ++ (departure_part departure c ++ use_part trip again c))) → new ≡ old ++ members_part fronts c
-members_by fronts c old new run arrival departure trip again e1 e2 e3 e4 e5 h =
-    h ∙ (λ i. old ++ (name_part (e1 i) c.seq ++ (arrival_part (e2 i) c ++ (departure_part (e3 i) c ++ use_part (e4 i) (e5 i) c))))
+-- a connection, by the text of its run
+pub members_by : (fronts : Fronts) (c : Connection) (old new run again : List ℕ) → run ≡ run_part_of c.key → again ≡ run_part_of c.key
+    → new ≡ old ++ (name_part run c.seq ++ (end_part fronts.ends.arrival c.arr_delay c.arr_stop c.arr ++ (end_part fronts.ends.departure c.dep_delay c.dep_stop c.dep ++ use_part fronts.uses again c)))
+    → new ≡ old ++ members_part fronts c
+members_by fronts c old new run again e1 e2 h =
+    h ∙ (λ i. old ++ (name_part (e1 i) c.seq ++ (end_part fronts.ends.arrival c.arr_delay c.arr_stop c.arr ++ (end_part fronts.ends.departure c.dep_delay c.dep_stop c.dep ++ use_part fronts.uses (e2 i) c))))
 
 -- a page, by its list and the base
 pub page_by : (fronts : Fronts) (page : Page) (old new : List ℕ) (list : List Connection) (base again : List ℕ) → list ≡ page.list → base ≡ fronts.base → again ≡ fronts.base

@@ -1,7 +1,9 @@
 pub mod AppendLemmas
 pub mod BaseLemmas
 pub mod ConnectionLemmas
+pub mod IdLemmas
 pub mod MembersLemmas
+pub mod MomentTextLemmas
 pub mod OneResultLemmas
 pub mod PageLemmas
 pub mod PlainLemmas

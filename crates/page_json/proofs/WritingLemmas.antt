@@ -1,6 +1,6 @@
 -- What is appended of a page is the page's text.
-use Rattle.std.proofs.Common.{◌≡◌, ℕ, ◌+◌, ◌^◌, ◌<◌, ◌≤◌, ℤ, pos, negsuc, Bool, true, false, List, [], ◌∷◌, ◌++◌, length, drop, get_or, codes, decimal, map, Option, Some, None, All, refl, sym, ap, ap₂, ◌∙◌, append_assoc, arith}
-use Rattle.std.specs.Fmt.{signed_decimal}
+use Rattle.std.proofs.Common.{◌≡◌, ℕ, ◌+◌, ◌^◌, ◌<◌, ◌≤◌, ℤ, pos, negsuc, zero, suc, Bool, true, false, List, [], ◌∷◌, ◌++◌, length, drop, get_or, codes, decimal, map, Option, Some, None, All, refl, sym, ap, ap₂, ◌∙◌, append_assoc, arith}
+use Rattle.std.specs.Fmt.{digits, signed_decimal}
 use Rattle.std.specs.Option.{IfSome}
 use Rattle.std.proofs.lemmas.Grind.{flat_map-append}
 use Rattle.std.proofs.lemmas.List.{drop_all, drop_more}
@@ -19,8 +19,8 @@ use Rattle.connection_uri.specs.Encoding.{encoded}
 use Rattle.connection_uri.specs.Name.{name_of, run_part_of}
 use Rattle.connection_uri.specs.Page.{page_url_of}
 use Rattle.json_members.specs.MemberWriting.{text_at}
-use Rattle.page_json.specs.ConnectionWriting.{list_part, members_part, rest_part}
-use Rattle.page_json.specs.Fronts.{fronts_under}
+use Rattle.page_json.specs.ConnectionWriting.{call_part, delay_part, list_part, members_part, name_part, rest_part, use_front}
+use Rattle.page_json.specs.Fronts.{delay_under, fronts_under, uses_under}
 use Rattle.page_json.specs.PageWriting.{link_part, page_part, search_part, url_part, view_part}
 use Rattle.page_json.specs.Sound.{IsSoundConnection, IsSoundName, IsSoundPage}
 use Rattle.page_json.specs.Tree.{allowed_text, connection_tree, context_tree, link_at, mapping_tree, page_text_of, search_tree}
@@ -77,6 +77,11 @@ number_then key front z ms rest begins after =
 
 -- ---- a connection
 
+-- how 0 is written
+zero_is : decimal 0 ≡ codes "0"
+unfolding digits
+zero_is = refl
+
 module _ (base : BaseParts) where
   abbrev text : List ℕ
   text = escape base.text
@@ -100,11 +105,34 @@ module _ (base : BaseParts) where
   trip_inside key run =
       under base.text (codes "trips/" ++ run_part_of key) (trip_url_of base key) (plain.both (plain.tested (codes "trips/") refl) run) (append_assoc base.text (codes "trips/") (run_part_of key))
 
+  -- a delay is written so, also one of 0
+  delay_is : (before after : List ℕ) (z : ℤ) → delay_part (delay_under text before after) z ≡ before ++ (signed_decimal z ++ (after ++ (text ++ codes "stops/")))
+  delay_is before after (pos zero) = ap (λ (s : List ℕ). before ++ (s ++ (after ++ (text ++ codes "stops/")))) (sym zero_is)
+  delay_is before after (pos (suc n)) = refl
+  delay_is before after (negsuc n) = refl
+
+  -- whether one may alight and board is written so
+  use_is : (alight board : Bool) → use_front (uses_under text) alight board
+      ≡ (codes "\",\"gtfs:dropOffType\":\"" ++ (allowed_text alight ++ (codes "\",\"gtfs:pickupType\":\"" ++ allowed_text board))) ++ (codes "\",\"gtfs:trip\":\"" ++ (text ++ codes "trips/"))
+  use_is true true = refl
+  use_is true false = refl
+  use_is false true = refl
+  use_is false false = refl
+
   -- the members and the parts of a connection, grouped in two ways
   regrouped : (t id conn run slash seq t1 ad fs stops to k1 arr k2 dd gs off k3 dep u1 al u2 bo ft trips e : List ℕ)
       → id ++ ((t ++ (conn ++ (run ++ (slash ++ seq)))) ++ (t1 ++ (ad ++ (fs ++ ((t ++ (stops ++ to)) ++ (k1 ++ (arr ++ (k2 ++ (dd ++ (gs ++ ((t ++ (stops ++ off)) ++ (k3 ++ (dep ++ (u1 ++ (al ++ (u2 ++ (bo ++ (ft ++ ((t ++ (trips ++ run)) ++ e)))))))))))))))))))
-      ≡ id ++ (t ++ (conn ++ (((run ++ (slash ++ (seq ++ t1))) ++ ((ad ++ (((fs ++ (t ++ stops)) ++ to) ++ (k1 ++ (arr ++ k2)))) ++ ((dd ++ (((gs ++ (t ++ stops)) ++ off) ++ (k3 ++ dep))) ++ ((u1 ++ (al ++ (u2 ++ bo))) ++ ((ft ++ (t ++ trips)) ++ run))))) ++ e)))
+      ≡ id ++ (t ++ (conn ++ (((run ++ (slash ++ seq)) ++ (((t1 ++ (ad ++ (fs ++ (t ++ stops)))) ++ (to ++ (k1 ++ arr))) ++ (((k2 ++ (dd ++ (gs ++ (t ++ stops)))) ++ (off ++ (k3 ++ dep))) ++ (((u1 ++ (al ++ (u2 ++ bo))) ++ (ft ++ (t ++ trips))) ++ run)))) ++ e)))
   regrouped t id conn run slash seq t1 ad fs stops to k1 arr k2 dd gs off k3 dep u1 al u2 bo ft trips e = simp append_assoc
+
+  -- a connection by what is written of its two delays and before its trip
+  abbrev written : Connection → List ℕ → List ℕ → List ℕ → List ℕ
+  written c arrival departure usage =
+      codes "{\"@id\":\"" ++ (text ++ (codes "connections/" ++ ((name_part (run_part_of c.key) c.seq
+      ++ ((arrival ++ call_part f.ends.arrival c.arr_stop c.arr) ++ ((departure ++ call_part f.ends.departure c.dep_stop c.dep) ++ (usage ++ run_part_of c.key)))) ++ codes "\"}")))
+
+  written_same : (c : Connection) (a a' d d' u u' : List ℕ) → a' ≡ a → d' ≡ d → u' ≡ u → written c a d u ≡ written c a' d' u'
+  written_same c a a' d d' u u' e1 e2 e3 = sym (λ i. written c (e1 i) (e2 i) (e3 i))
 
   -- the members of a connection, each with those after it
   abbrev trip_on : Connection → Members
@@ -159,6 +187,10 @@ module _ (base : BaseParts) where
       (signed_decimal c.arr_delay) (codes ",\"arrivalStop\":\"") (codes "stops/") (encoded c.arr_stop) (codes "\",\"arrivalTime\":\"") (iso_text_of c.arr) (codes "\",\"departureDelay\":")
       (signed_decimal c.dep_delay) (codes ",\"departureStop\":\"") (encoded c.dep_stop) (codes "\",\"departureTime\":\"") (iso_text_of c.dep) (codes "\",\"gtfs:dropOffType\":\"")
       (allowed_text c.alight) (codes "\",\"gtfs:pickupType\":\"") (allowed_text c.board) (codes "\",\"gtfs:trip\":\"") (codes "trips/") (codes "\"}")
+      ∙ written_same c _ _ _ _ _ _
+      (delay_is (codes "\",\"@type\":\"Connection\",\"arrivalDelay\":") (codes ",\"arrivalStop\":\"") c.arr_delay)
+      (delay_is (codes "\",\"departureDelay\":") (codes ",\"departureStop\":\"") c.dep_delay)
+      (use_is c.alight c.board)
 
   -- ---- the list of connections
 

@@ -1,47 +1,53 @@
 -- What the functions that write connections append. A base is in these texts as JSON has it.
-use Rattle.std.specs.Prelude.{ℕ, List, [], ◌∷◌, ◌++◌, Bool, codes, decimal}
+use Rattle.std.specs.Prelude.{ℕ, ℤ, pos, zero, List, [], ◌∷◌, ◌++◌, Bool, true, false, codes, decimal}
 use Rattle.std.specs.Fmt.{signed_decimal}
 use Rattle.lc_model.specs.declared.connection.Connection.{Connection}
 use Rattle.lc_time.specs.Iso.{iso_text_of}
 use Rattle.connection_uri.specs.Encoding.{encoded}
 use Rattle.connection_uri.specs.Name.{run_part_of}
-use Rattle.page_json.specs.Tree.{allowed_text}
+use Rattle.page_json.specs.declared.fronts.DelayFronts.{DelayFronts}
+use Rattle.page_json.specs.declared.fronts.EndFronts.{EndFronts}
 use Rattle.page_json.specs.declared.fronts.Fronts.{Fronts}
+use Rattle.page_json.specs.declared.fronts.UseFronts.{UseFronts}
 
--- the run and the sequence in a connection's name, and what comes before its arrival
+-- the run and the sequence in a connection's name
 abbrev pub name_part : List ℕ → ℕ → List ℕ
-name_part run sequence =
-    run ++ (codes "/" ++ (decimal sequence ++ codes "\",\"@type\":\"Connection\",\"arrivalDelay\":"))
+name_part run sequence = run ++ (codes "/" ++ decimal sequence)
 
--- the arrival, and what comes before the departure
-abbrev pub arrival_part : List ℕ → Connection → List ℕ
-arrival_part front c =
-    signed_decimal c.arr_delay
-    ++ ((front ++ encoded c.arr_stop)
-    ++ (codes "\",\"arrivalTime\":\"" ++ (iso_text_of c.arr ++ codes "\",\"departureDelay\":")))
+-- a delay, with what comes before it and between it and the stop
+abbrev pub late_part : DelayFronts → ℤ → List ℕ
+late_part fronts delay = fronts.before ++ (signed_decimal delay ++ fronts.after)
 
--- the departure
-abbrev pub departure_part : List ℕ → Connection → List ℕ
-departure_part front c =
-    signed_decimal c.dep_delay
-    ++ ((front ++ encoded c.dep_stop) ++ (codes "\",\"departureTime\":\"" ++ iso_text_of c.dep))
+-- the same, where a delay of 0 is in one text with both
+abbrev pub delay_part : DelayFronts → ℤ → List ℕ
+delay_part fronts (pos zero) = fronts.on_time
+delay_part fronts delay = late_part fronts delay
 
--- whether one may alight and board
-abbrev pub use_text : Bool → Bool → List ℕ
-use_text alight board =
-    codes "\",\"gtfs:dropOffType\":\"" ++ (allowed_text alight
-    ++ (codes "\",\"gtfs:pickupType\":\"" ++ allowed_text board))
+-- the stop and the moment of an end
+abbrev pub call_part : EndFronts → List ℕ → ℕ → List ℕ
+call_part fronts stop moment = encoded stop ++ (fronts.moment ++ iso_text_of moment)
+
+-- the arrival or the departure
+abbrev pub end_part : EndFronts → ℤ → List ℕ → ℕ → List ℕ
+end_part fronts delay stop moment = delay_part fronts.delay delay ++ call_part fronts stop moment
+
+-- whether one may alight and board, and what comes before the trip
+abbrev pub use_front : UseFronts → Bool → Bool → List ℕ
+use_front fronts true true = fronts.both
+use_front fronts true false = fronts.alighting
+use_front fronts false true = fronts.boarding
+use_front fronts false false = fronts.neither
 
 -- whether one may alight and board, and the trip
-abbrev pub use_part : List ℕ → List ℕ → Connection → List ℕ
-use_part front run c = use_text c.alight c.board ++ (front ++ run)
+abbrev pub use_part : UseFronts → List ℕ → Connection → List ℕ
+use_part fronts run c = use_front fronts c.alight c.board ++ run
 
 -- a connection from the run in its name on, without its end
 abbrev pub members_part : Fronts → Connection → List ℕ
 members_part fronts c =
     name_part (run_part_of c.key) c.seq
-    ++ (arrival_part fronts.stops.arrival c
-    ++ (departure_part fronts.stops.departure c ++ use_part fronts.trip (run_part_of c.key) c))
+    ++ (end_part fronts.ends.arrival c.arr_delay c.arr_stop c.arr
+    ++ (end_part fronts.ends.departure c.dep_delay c.dep_stop c.dep ++ use_part fronts.uses (run_part_of c.key) c))
 
 -- further connections, and the ends of the last one and of the list
 abbrev pub rest_part : Fronts → List Connection → List ℕ

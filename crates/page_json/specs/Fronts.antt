@@ -1,8 +1,11 @@
 -- The texts of a page that have its base, as JSON has it.
 use Rattle.std.specs.Prelude.{ℕ, List, ◌++◌, codes}
+use Rattle.page_json.specs.declared.fronts.DelayFronts.{DelayFronts}
+use Rattle.page_json.specs.declared.fronts.EndFronts.{EndFronts}
+use Rattle.page_json.specs.declared.fronts.EndsFronts.{EndsFronts}
 use Rattle.page_json.specs.declared.fronts.Fronts.{Fronts}
 use Rattle.page_json.specs.declared.fronts.NameFronts.{NameFronts}
-use Rattle.page_json.specs.declared.fronts.StopFronts.{StopFronts}
+use Rattle.page_json.specs.declared.fronts.UseFronts.{UseFronts}
 
 -- what comes before the runs in the names of connections under this base
 abbrev pub names_under : List ℕ → NameFronts
@@ -12,12 +15,35 @@ names_under base =
       next = codes "\"},{\"@id\":\"" ++ (base ++ codes "connections/");
     }
 
--- what comes before the stops of connections under this base
-abbrev pub stops_under : List ℕ → StopFronts
-stops_under base =
+-- what comes before a stop under this base, by what comes before the delay and between it and the stop's URL
+abbrev pub delay_under : List ℕ → List ℕ → List ℕ → DelayFronts
+delay_under base delay stop =
     record {
-      arrival = codes ",\"arrivalStop\":\"" ++ (base ++ codes "stops/");
-      departure = codes ",\"departureStop\":\"" ++ (base ++ codes "stops/");
+      before = delay;
+      after = stop ++ (base ++ codes "stops/");
+      on_time = delay ++ (codes "0" ++ (stop ++ (base ++ codes "stops/")));
+    }
+
+-- the texts of an end under this base, by what comes before its delay, its stop's URL and its moment
+abbrev pub end_under : List ℕ → List ℕ → List ℕ → List ℕ → EndFronts
+end_under base delay stop moment = record { delay = delay_under base delay stop; moment = moment }
+
+-- the texts of arrivals and departures under this base
+abbrev pub ends_under : List ℕ → EndsFronts
+ends_under base =
+    record {
+      arrival = end_under base (codes "\",\"@type\":\"Connection\",\"arrivalDelay\":") (codes ",\"arrivalStop\":\"") (codes "\",\"arrivalTime\":\"");
+      departure = end_under base (codes "\",\"departureDelay\":") (codes ",\"departureStop\":\"") (codes "\",\"departureTime\":\"");
+    }
+
+-- whether one may alight and board, and what comes before the trips of connections under this base
+abbrev pub uses_under : List ℕ → UseFronts
+uses_under base =
+    record {
+      both = codes "\",\"gtfs:dropOffType\":\"gtfs:Regular\",\"gtfs:pickupType\":\"gtfs:Regular\",\"gtfs:trip\":\"" ++ (base ++ codes "trips/");
+      alighting = codes "\",\"gtfs:dropOffType\":\"gtfs:Regular\",\"gtfs:pickupType\":\"gtfs:NotAvailable\",\"gtfs:trip\":\"" ++ (base ++ codes "trips/");
+      boarding = codes "\",\"gtfs:dropOffType\":\"gtfs:NotAvailable\",\"gtfs:pickupType\":\"gtfs:Regular\",\"gtfs:trip\":\"" ++ (base ++ codes "trips/");
+      neither = codes "\",\"gtfs:dropOffType\":\"gtfs:NotAvailable\",\"gtfs:pickupType\":\"gtfs:NotAvailable\",\"gtfs:trip\":\"" ++ (base ++ codes "trips/");
     }
 
 -- the texts of a page under this base, each up to what differs
@@ -26,6 +52,6 @@ fronts_under base =
     record {
       base = base;
       names = names_under base;
-      stops = stops_under base;
-      trip = codes "\",\"gtfs:trip\":\"" ++ (base ++ codes "trips/");
+      ends = ends_under base;
+      uses = uses_under base;
     }

@@ -1,19 +1,26 @@
 ghost use Rattle.std.specs.Prelude.{◌≡◌, ◌++◌, All, OnOk};
 ghost use Rattle.std.specs.Fmt.{signed_decimal};
 ghost use Rattle.std.specs.String.{string_bytes};
-ghost use Rattle.connection_uri.specs.Encoding.{encoded};
 ghost use Rattle.lc_time.specs.Iso.{iso_text_of};
-ghost use Rattle.page_json.specs.ConnectionWriting.{arrival_part, departure_part, list_part, members_part, name_part, rest_part, use_part, use_text};
+ghost use Rattle.page_json.specs.ConnectionWriting.{call_part, delay_part, end_part, late_part, list_part, members_part, name_part, rest_part, use_front, use_part};
 ghost use Rattle.page_json.specs.Sound.{IsSoundConnection};
 
-use crate::fronts::Fronts;
+use crate::fronts::{DelayFronts, EndFronts, Fronts, UseFronts};
+use crate::id_writing::{append_id, append_run};
+use crate::moment_text::MomentText;
 use crate::sound::sound_connection;
-use connection_uri::{append_encoded, append_run};
 use itoa::Buffer;
 use lc_model::{Connection, Id, Moment, NoMemory};
 use lc_time::iso_text;
 use percent_encoding::ascii_str;
 use std::alloc::Global;
+
+/// The texts of the moments of the last connection that was written.
+#[derive(Drop)]
+struct Times {
+    arrival: MomentText,
+    departure: MomentText,
+}
 
 /// Appends the list of connections, in order.
 pub fn append_connections(
@@ -47,11 +54,19 @@ fn append_list(
             Ok(())
         }
         [first, rest @ ..] => {
+            let mut times = times_of(first);
             out.push_str(fronts.names.first.as_str())?;
-            append_members(out, run, fronts, first)?;
-            append_rest(out, run, fronts, rest)?;
+            append_members(out, run, &mut times, fronts, first)?;
+            append_rest(out, run, &mut times, fronts, rest)?;
             Ok(())
         }
+    }
+}
+
+fn times_of(connection: &Connection) -> Times {
+    Times {
+        arrival: MomentText::new(connection.arr),
+        departure: MomentText::new(connection.dep),
     }
 }
 
@@ -59,6 +74,7 @@ fn append_list(
 fn append_rest(
     out: &mut String,
     run: &mut String,
+    times: &mut Times,
     fronts: &Fronts,
     connections: &[Connection],
 ) -> Result<(), NoMemory>
@@ -67,7 +83,7 @@ fn append_rest(
     ensures sound { OnOk result (All IsSoundConnection connections.now) }
 {
     for connection in connections {
-        append_next(out, run, fronts, connection)?;
+        append_next(out, run, times, fronts, connection)?;
     }
     out.push_str("\"}]")?;
     Ok(())
@@ -77,6 +93,7 @@ fn append_rest(
 fn append_next(
     out: &mut String,
     run: &mut String,
+    times: &mut Times,
     fronts: &Fronts,
     connection: &Connection,
 ) -> Result<(), NoMemory>
@@ -85,7 +102,7 @@ fn append_next(
     ensures sound { OnOk result (IsSoundConnection connection.now) }
 {
     out.push_str(fronts.names.next.as_str())?;
-    append_members(out, run, fronts, connection)?;
+    append_members(out, run, times, fronts, connection)?;
     Ok(())
 }
 
@@ -93,6 +110,7 @@ fn append_next(
 fn append_members(
     out: &mut String,
     run: &mut String,
+    times: &mut Times,
     fronts: &Fronts,
     connection: &Connection,
 ) -> Result<(), NoMemory>
@@ -104,9 +122,14 @@ fn append_members(
     run.clear();
     append_run(run, &connection.key)?;
     append_name(out, run.as_str(), connection.seq)?;
-    append_arrival(out, fronts.stops.arrival.as_str(), connection)?;
-    append_departure(out, fronts.stops.departure.as_str(), connection)?;
-    append_use(out, fronts.trip.as_str(), run.as_str(), connection)?;
+    append_arrival(out, &mut times.arrival, &fronts.ends.arrival, connection)?;
+    append_departure(
+        out,
+        &mut times.departure,
+        &fronts.ends.departure,
+        connection,
+    )?;
+    append_use(out, &fronts.uses, run.as_str(), connection)?;
     Ok(())
 }
 
@@ -116,83 +139,103 @@ fn append_name(out: &mut String, run: &str, sequence: u32) -> Result<(), NoMemor
     out.push_str(run)?;
     out.push_str("/")?;
     out.push_str(Buffer::new().format(sequence))?;
-    out.push_str("\",\"@type\":\"Connection\",\"arrivalDelay\":")?;
     Ok(())
 }
 
-fn append_arrival(out: &mut String, front: &str, connection: &Connection) -> Result<(), NoMemory>
-    ensures { OnOk result
-        (string_bytes out.new ≡ string_bytes out.old ++ arrival_part front.now connection.now) }
+fn append_arrival(
+    out: &mut String,
+    last: &mut MomentText,
+    fronts: &EndFronts,
+    connection: &Connection,
+) -> Result<(), NoMemory>
+    ensures { OnOk result (string_bytes out.new
+        ≡ string_bytes out.old ++ end_part fronts.now connection.now.arr_delay connection.now.arr_stop connection.now.arr) }
 {
-    append_delay(out, connection.arr_delay)?;
-    append_stop(out, front, &connection.arr_stop)?;
-    out.push_str("\",\"arrivalTime\":\"")?;
-    append_moment(out, connection.arr)?;
-    out.push_str("\",\"departureDelay\":")?;
+    append_delay(out, &fronts.delay, connection.arr_delay)?;
+    append_call(out, last, fronts, &connection.arr_stop, connection.arr)?;
     Ok(())
 }
 
-fn append_departure(out: &mut String, front: &str, connection: &Connection) -> Result<(), NoMemory>
-    ensures { OnOk result
-        (string_bytes out.new ≡ string_bytes out.old ++ departure_part front.now connection.now) }
+fn append_departure(
+    out: &mut String,
+    last: &mut MomentText,
+    fronts: &EndFronts,
+    connection: &Connection,
+) -> Result<(), NoMemory>
+    ensures { OnOk result (string_bytes out.new
+        ≡ string_bytes out.old ++ end_part fronts.now connection.now.dep_delay connection.now.dep_stop connection.now.dep) }
 {
-    append_delay(out, connection.dep_delay)?;
-    append_stop(out, front, &connection.dep_stop)?;
-    out.push_str("\",\"departureTime\":\"")?;
-    append_moment(out, connection.dep)?;
+    append_delay(out, &fronts.delay, connection.dep_delay)?;
+    append_call(out, last, fronts, &connection.dep_stop, connection.dep)?;
+    Ok(())
+}
+
+/// Appends a delay, with what comes before it and between it and the stop.
+fn append_delay(out: &mut String, fronts: &DelayFronts, delay: i64) -> Result<(), NoMemory>
+    ensures { OnOk result (string_bytes out.new ≡ string_bytes out.old ++ delay_part fronts.now delay) }
+{
+    match delay {
+        0 => {
+            out.push_str(fronts.on_time.as_str())?;
+            Ok(())
+        }
+        _ => append_late(out, fronts, delay),
+    }
+}
+
+/// Appends any delay so.
+fn append_late(out: &mut String, fronts: &DelayFronts, delay: i64) -> Result<(), NoMemory>
+    ensures { OnOk result (string_bytes out.new ≡ string_bytes out.old ++ late_part fronts.now delay) }
+{
+    out.push_str(fronts.before.as_str())?;
+    out.push_str(Buffer::new().format(delay))?;
+    out.push_str(fronts.after.as_str())?;
+    Ok(())
+}
+
+/// Appends the stop and the moment of an end.
+fn append_call(
+    out: &mut String,
+    last: &mut MomentText,
+    fronts: &EndFronts,
+    stop: &Id,
+    moment: Moment,
+) -> Result<(), NoMemory>
+    ensures { OnOk result
+        (string_bytes out.new ≡ string_bytes out.old ++ call_part fronts.now stop.now moment) }
+{
+    append_id(out, stop)?;
+    out.push_str(fronts.moment.as_str())?;
+    last.turn_to(moment);
+    out.push_str(last.as_str())?;
     Ok(())
 }
 
 /// Appends whether one may alight and board, and the trip.
 fn append_use(
     out: &mut String,
-    front: &str,
+    fronts: &UseFronts,
     run: &str,
     connection: &Connection,
 ) -> Result<(), NoMemory>
     ensures { OnOk result
-        (string_bytes out.new ≡ string_bytes out.old ++ use_part front.now run.now connection.now) }
+        (string_bytes out.new ≡ string_bytes out.old ++ use_part fronts.now run.now connection.now) }
 {
-    out.push_str(use_text(connection.alight, connection.board))?;
-    out.push_str(front)?;
+    out.push_str(use_front(fronts, connection.alight, connection.board))?;
     out.push_str(run)?;
     Ok(())
 }
 
-/// Whether one may alight and board, as the GTFS vocabulary says it.
-fn use_text(alight: bool, board: bool) -> &'static str
-    ensures { result.now ≡ use_text alight board }
+/// Whether one may alight and board, as the GTFS vocabulary says it, and what comes before the trip.
+fn use_front(fronts: &UseFronts, alight: bool, board: bool) -> &str
+    ensures { result.now ≡ use_front fronts.now alight board }
 {
     match (alight, board) {
-        (true, true) =>
-            "\",\"gtfs:dropOffType\":\"gtfs:Regular\",\"gtfs:pickupType\":\"gtfs:Regular",
-        (true, false) => {
-            "\",\"gtfs:dropOffType\":\"gtfs:Regular\",\"gtfs:pickupType\":\"gtfs:NotAvailable"
-        }
-        (false, true) => {
-            "\",\"gtfs:dropOffType\":\"gtfs:NotAvailable\",\"gtfs:pickupType\":\"gtfs:Regular"
-        }
-        (false, false) => {
-            "\",\"gtfs:dropOffType\":\"gtfs:NotAvailable\",\"gtfs:pickupType\":\"gtfs:NotAvailable"
-        }
+        (true, true) => fronts.both.as_str(),
+        (true, false) => fronts.alighting.as_str(),
+        (false, true) => fronts.boarding.as_str(),
+        (false, false) => fronts.neither.as_str(),
     }
-}
-
-fn append_delay(out: &mut String, delay: i64) -> Result<(), NoMemory>
-    ensures { OnOk result (string_bytes out.new ≡ string_bytes out.old ++ signed_decimal delay) }
-{
-    out.push_str(Buffer::new().format(delay))?;
-    Ok(())
-}
-
-/// Appends the URL of a stop after its front.
-fn append_stop(out: &mut String, front: &str, stop: &Id) -> Result<(), NoMemory>
-    ensures { OnOk result
-        (string_bytes out.new ≡ string_bytes out.old ++ (front.now ++ encoded stop.now)) }
-{
-    out.push_str(front)?;
-    append_encoded(out, stop.bytes())?;
-    Ok(())
 }
 
 pub fn append_moment(out: &mut String, moment: Moment) -> Result<(), NoMemory>

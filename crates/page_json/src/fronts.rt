@@ -2,7 +2,7 @@ ghost use Rattle.std.specs.Prelude.{◌≡◌, ◌++◌, All, IfOk, OnOk, true};
 ghost use Rattle.std.specs.String.{string_bytes};
 ghost use Rattle.connection_uri.specs.Base.{is_visible};
 ghost use Rattle.json.specs.Print.{escape, escape_byte};
-ghost use Rattle.page_json.specs.Fronts.{fronts_under, names_under, stops_under};
+ghost use Rattle.page_json.specs.Fronts.{delay_under, end_under, ends_under, fronts_under, names_under, uses_under};
 
 use connection_uri::Base;
 use lc_model::{NoMemory, Text};
@@ -13,8 +13,8 @@ use std::alloc::Global;
 pub struct Fronts {
     pub base: Text,
     pub names: NameFronts,
-    pub stops: StopFronts,
-    pub trip: Text,
+    pub ends: EndsFronts,
+    pub uses: UseFronts,
 }
 
 /// What comes before the run in the name of the first connection, and of each further one.
@@ -24,11 +24,35 @@ pub struct NameFronts {
     pub next: Text,
 }
 
-/// What comes before the stop of an arrival, and of a departure.
+/// The texts of an arrival, and of a departure.
 #[derive(Drop)]
-pub struct StopFronts {
-    pub arrival: Text,
-    pub departure: Text,
+pub struct EndsFronts {
+    pub arrival: EndFronts,
+    pub departure: EndFronts,
+}
+
+/// What comes before the stop there with the delay in it, and what comes between the stop and the moment.
+#[derive(Drop)]
+pub struct EndFronts {
+    pub delay: DelayFronts,
+    pub moment: Text,
+}
+
+/// What comes before a delay, and between it and a stop. Most are 0, so all of it with that delay is one text too.
+#[derive(Drop)]
+pub struct DelayFronts {
+    pub before: Text,
+    pub after: Text,
+    pub on_time: Text,
+}
+
+/// Whether one may alight and board, and what comes before the trip: where one may do both, one of them, or neither.
+#[derive(Drop)]
+pub struct UseFronts {
+    pub both: Text,
+    pub alighting: Text,
+    pub boarding: Text,
+    pub neither: Text,
 }
 
 /// The texts of pages under this base.
@@ -85,13 +109,13 @@ fn fronts_under(alloc: Global, base: Text) -> Result<Fronts, NoMemory>
     ensures { IfOk result (λ fronts. fronts ≡ fronts_under base) }
 {
     let names = names_under(alloc, base.as_str())?;
-    let stops = stops_under(alloc, base.as_str())?;
-    let trip = joined(alloc, "\",\"gtfs:trip\":\"", base.as_str(), "trips/")?;
+    let ends = ends_under(alloc, base.as_str())?;
+    let uses = uses_under(alloc, base.as_str())?;
     Ok(Fronts {
         base,
         names,
-        stops,
-        trip,
+        ends,
+        uses,
     })
 }
 
@@ -103,12 +127,87 @@ fn names_under(alloc: Global, base: &str) -> Result<NameFronts, NoMemory>
     Ok(NameFronts { first, next })
 }
 
-fn stops_under(alloc: Global, base: &str) -> Result<StopFronts, NoMemory>
-    ensures { IfOk result (λ stops. stops ≡ stops_under base.now) }
+fn ends_under(alloc: Global, base: &str) -> Result<EndsFronts, NoMemory>
+    ensures { IfOk result (λ ends. ends ≡ ends_under base.now) }
 {
-    let arrival = joined(alloc, ",\"arrivalStop\":\"", base, "stops/")?;
-    let departure = joined(alloc, ",\"departureStop\":\"", base, "stops/")?;
-    Ok(StopFronts { arrival, departure })
+    let arrival = end_under(
+        alloc,
+        base,
+        "\",\"@type\":\"Connection\",\"arrivalDelay\":",
+        ",\"arrivalStop\":\"",
+        "\",\"arrivalTime\":\"",
+    )?;
+    let departure = end_under(
+        alloc,
+        base,
+        "\",\"departureDelay\":",
+        ",\"departureStop\":\"",
+        "\",\"departureTime\":\"",
+    )?;
+    Ok(EndsFronts { arrival, departure })
+}
+
+/// The texts of an end, by what comes before its delay, its stop and its moment.
+fn end_under(
+    alloc: Global,
+    base: &str,
+    delay: &str,
+    stop: &str,
+    moment: &str,
+) -> Result<EndFronts, NoMemory>
+    ensures { IfOk result (λ end. end ≡ end_under base.now delay.now stop.now moment.now) }
+{
+    let delay = delay_under(alloc, base, delay, stop)?;
+    let moment = Text::from_string(String::from_str(alloc, moment)?);
+    Ok(EndFronts { delay, moment })
+}
+
+fn delay_under(alloc: Global, base: &str, delay: &str, stop: &str) -> Result<DelayFronts, NoMemory>
+    ensures { IfOk result (λ fronts. fronts ≡ delay_under base.now delay.now stop.now) }
+{
+    let after = joined(alloc, stop, base, "stops/")?;
+    let on_time = joined(alloc, delay, "0", after.as_str())?;
+    let before = Text::from_string(String::from_str(alloc, delay)?);
+    Ok(DelayFronts {
+        before,
+        after,
+        on_time,
+    })
+}
+
+fn uses_under(alloc: Global, base: &str) -> Result<UseFronts, NoMemory>
+    ensures { IfOk result (λ uses. uses ≡ uses_under base.now) }
+{
+    let both = joined(
+        alloc,
+        "\",\"gtfs:dropOffType\":\"gtfs:Regular\",\"gtfs:pickupType\":\"gtfs:Regular\",\"gtfs:trip\":\"",
+        base,
+        "trips/",
+    )?;
+    let alighting = joined(
+        alloc,
+        "\",\"gtfs:dropOffType\":\"gtfs:Regular\",\"gtfs:pickupType\":\"gtfs:NotAvailable\",\"gtfs:trip\":\"",
+        base,
+        "trips/",
+    )?;
+    let boarding = joined(
+        alloc,
+        "\",\"gtfs:dropOffType\":\"gtfs:NotAvailable\",\"gtfs:pickupType\":\"gtfs:Regular\",\"gtfs:trip\":\"",
+        base,
+        "trips/",
+    )?;
+    let neither = joined(
+        alloc,
+        "\",\"gtfs:dropOffType\":\"gtfs:NotAvailable\",\"gtfs:pickupType\":\"gtfs:NotAvailable\",\"gtfs:trip\":\"",
+        base,
+        "trips/",
+    )?;
+    Ok(UseFronts {
+        both,
+        alighting,
+        boarding,
+        neither,
+    })
 }
 
 /// The three texts, one after the other.
