@@ -8,9 +8,9 @@ use Rattle.std.proofs.lemmas.List.{drop_more, append-nil, append_assoc, map-appe
 use Rattle.std.proofs.lemmas.List.Elements.{Contains-append_right, Contains-push_cases, filter-append}
 use Rattle.std.proofs.lemmas.Slice.Eq.{bytes_eq-Decides}
 use Rattle.lc_model.specs.Change.{is_same_id}
-use Rattle.lc_versions.specs.History.{put, put_all, with_news}
+use Rattle.lc_versions.specs.History.{put, with_news}
 use Rattle.lc_versions.specs.News.{EntitySaid, TripSaid}
-use Rattle.version_store.specs.Kept.{PushesKept, entity_said, is_replaced, kept_of, survivors, then_all, then_entities, then_marked}
+use Rattle.version_store.specs.Kept.{entity_said, is_replaced, kept_of, survivors, then_all, then_entities, then_marked}
 use Rattle.version_store.specs.declared.kept.Marked.{Marked}
 
 -- one entity more at the end
@@ -31,12 +31,6 @@ entities_more false kept e rest = append_assoc kept (with_news (e ∷ [])) (with
 pub entities_none : (replaces : Bool) (kept : List EntitySaid) → then_entities replaces kept [] ≡ kept
 entities_none true kept = refl
 entities_none false kept = append-nil kept
-
--- a message after those before it
-pub update_after : (full : Bool) (kept entities : List EntitySaid) →
-    then_entities (not full) (if full then [] else kept) entities ≡ (if full then with_news entities else put_all kept entities)
-update_after true kept entities = refl
-update_after false kept entities = refl
 
 one_test : {X : Type 0} (p q r : X → Bool) (x : X) (xs : List X) → filter p (filter q xs) ≡ filter r xs → (b c d : Bool) → q x ≡ b → p x ≡ c → r x ≡ d → r x ≡ (q x && p x)
     → filter p (cond b (x ∷ filter q xs) (filter q xs)) ≡ cond d (x ∷ filter r xs) (filter r xs)
@@ -143,7 +137,8 @@ map_reverse f (x ∷ xs) =
     ap (map f) (reverse-append (x ∷ []) xs) ∙ map-append f (reverse xs) (x ∷ [])
     ∙ ap (λ v. v ++ f x ∷ []) (map_reverse f xs) ∙ sym (reverse-append (f x ∷ []) (map f xs))
 
-or_else : (b t : Bool) → cond b true t ≡ (b || t)
+-- a test that is true, or else another one
+pub or_else : (b t : Bool) → cond b true t ≡ (b || t)
 or_else true t = refl
 or_else false t = refl
 
@@ -153,16 +148,6 @@ put_among replaces key id entity t e f =
     or_else (is_eq (slice_cmp nat_cmp key id)) t
     ∙ ap (λ b. b || t) (sym (texts_ties key id) ∙ same_id_back key id ∙ ap (is_same_id id) f)
     ∙ ap (λ b. (b && is_same_id id entity) || t) (sym e)
-
--- an entity with news is kept where it is not replaced, and nothing else is
-pub kept_pushed : (marked : Marked) (old new : List Marked) → new ≡ old ++ marked ∷ [] → is_some (entity_said marked).news ≡ true → PushesKept false marked old new
-kept_pushed marked old new pushed some = record {
-  said = ap (map entity_said) pushed ∙ map-append entity_said old (marked ∷ []) ∙ ap (λ b. map entity_said old ++ (if b then entity_said marked ∷ [] else [])) (sym some);
-  of = λ m there. Contains-push_cases old marked m (subst (λ (v : List Marked). Contains v m) pushed there);
-}
-
-pub none_kept : (replaced : Bool) (marked : Marked) (old : List Marked) → kept_of replaced (entity_said marked) ≡ [] → PushesKept replaced marked old old
-none_kept replaced marked old none = record { said = sym (append-nil (map entity_said old)) ∙ ap (λ v. map entity_said old ++ v) (sym none); of = λ m there. inl there }
 
 -- one entity more, from the last one on
 pub dropped_one : (marks : List Marked) (place : ℕ) (marked : Marked) → 0 < place → place ≤ length marks → marked ≡ get_or marks (place - 1) marked → drop (place - 1) marks ≡ marked ∷ drop place marks

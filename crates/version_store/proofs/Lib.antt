@@ -2,6 +2,9 @@ pub mod CallsByLemmas
 pub mod ChangesLemmas
 pub mod CutLemmas
 pub mod DifferingLemmas
+pub mod ExchangeLemmas
+pub mod FiledLemmas
+pub mod ForceLemmas
 pub mod FurtherLemmas
 pub mod IndexedLemmas
 pub mod KeptLemmas
@@ -15,6 +18,7 @@ pub mod SameCallsLemmas
 pub mod SomeRowsLemmas
 pub mod SpotsLemmas
 pub mod StoreLemmas
+pub mod TakenLemmas
 pub mod TripsLemmas
 pub mod VersionLemmas
 pub mod WorkedLemmas

@@ -1,5 +1,5 @@
 -- What changes from one list of news to the next one: the keys that end, and the runs that begin.
-use Rattle.std.specs.Prelude.{◌≡◌, ℕ, ◌⊎◌, ◌↔◌, ◌∷◌, ◌++◌, List, [], Option, Some, None, if◌then◌else◌}
+use Rattle.std.specs.Prelude.{◌≡◌, ◌⊎◌, ◌↔◌, ◌∷◌, ◌++◌, List, [], Option, Some, None, if◌then◌else◌}
 use Rattle.std.specs.BTreeMap.{BTreeMap, get}
 use Rattle.std.specs.BTreeSet.{BTreeSet}
 use Rattle.std.specs.List.{Contains}
@@ -11,10 +11,7 @@ use Rattle.lc_model.specs.declared.call.Call.{Call}
 use Rattle.lc_model.specs.declared.key.RunKey.{RunKey}
 use Rattle.lc_model.specs.declared.run.Run.{Run}
 use Rattle.lc_model.specs.declared.stop.Stop.{Stop}
-use Rattle.lc_model.specs.declared.date.ServiceDate.{ServiceDate}
-use Rattle.lc_versions.specs.History.{kept_after}
 use Rattle.lc_versions.specs.News.{EntitySaid, TripSaid}
-use Rattle.lc_versions.specs.declared.update.Update.{Update}
 use Rattle.laws_index.specs.Held.{IsRunBy}
 use Rattle.laws_index.specs.Kept.{news_in}
 use Rattle.laws_index.specs.Touched.{AreChanges}
@@ -22,11 +19,11 @@ use Rattle.span_index.specs.Spans.{Indexed}
 use Rattle.span_index.specs.Updates.{IsUpdated}
 use Rattle.version_store.specs.CallsBy.{AreCallsBy, run_with}
 use Rattle.version_store.specs.Differing.{AreAlikeAt}
+use Rattle.version_store.specs.Force.{AreInForce}
 use Rattle.version_store.specs.Further.{GoForward}
-use Rattle.version_store.specs.Spots.{AreInForce}
 use Rattle.version_store.specs.TouchedKeys.{Has}
 use Rattle.version_store.specs.declared.changes.Changes.{Changes}
-use Rattle.version_store.specs.declared.spots.Spot.{Spot}
+use Rattle.version_store.specs.declared.force.Force.{Force}
 use Rattle.version_store.specs.declared.store.Admission.{Admission}
 
 -- the key ends, if it had a run
@@ -98,7 +95,7 @@ pub record HasTurned (runs : List Run) (stops : List Stop) (old new : List TripS
   pub changes : AreChanges runs stops old new ended begun
   pub updated : IsUpdated ended begun before after
 
--- The index is updated by what a message changes of what is in force. At the spots is then what is in force after it.
-pub record GoesOn (runs : List Run) (stops : List Stop) (date_of : ℕ → ServiceDate) (admitted : List Admission) (update : Update) (entities : List EntitySaid) (spots : List Spot) (before after : Indexed) : Type 0 where
-  pub turned : HasTurned runs stops (news_in entities) (news_in (kept_after date_of entities update)) before after
-  pub force : AreInForce admitted spots (kept_after date_of entities update)
+-- The index is updated by what a message changes of what is in force, and what is in force after it is at its places.
+pub record GoesOn (runs : List Run) (stops : List Stop) (admitted : List Admission) (entities later : List EntitySaid) (places : Force) (before after : Indexed) : Type 0 where
+  pub turned : HasTurned runs stops (news_in entities) (news_in later) before after
+  pub force : AreInForce admitted places later

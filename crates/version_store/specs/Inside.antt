@@ -5,8 +5,8 @@ use Rattle.lc_model.specs.declared.run.Run.{Run}
 use Rattle.lc_versions.specs.History.{IsRising, moments_of}
 use Rattle.laws_index.specs.Kept.{entities_after}
 use Rattle.version_store.specs.Dates.{date_in}
+use Rattle.version_store.specs.Force.{AreInForce}
 use Rattle.version_store.specs.Indexed.{AreIndexed}
-use Rattle.version_store.specs.Spots.{AreInForce}
 use Rattle.version_store.specs.Store.{Stored, bytes_of, entry_of}
 use Rattle.version_store.specs.declared.store.Admission.{Admission}
 use Rattle.version_store.specs.declared.store.Store.TheInside.{Inside}
@@ -22,12 +22,12 @@ stored_of store = record {
 }
 
 -- The trips of the runs are ids. The list of versions and the sum of bytes are those of the messages, which have no more bytes than may be.
--- What is in force is at its spots, and the index has the runs of each version.
+-- What is in force is at its places, and the index has the runs of each version.
 pub record IsKept (store : Inside) : Type 0 where
   pub trips : All (λ (r : Run). IsIdText r.key.trip) store.runs
   pub versions : store.versions.items ≡ store.base ∷ moments_of (stored_of store).history
   pub rising : IsRising store.base (moments_of (stored_of store).history)
   pub bytes : store.bytes ≡ bytes_of (stored_of store).history
   pub within : store.bytes ≤ 268_435_456
-  pub force : AreInForce store.admitted.items store.force.items (entities_after (date_in store.zone) (stored_of store).history)
+  pub force : AreInForce store.admitted.items store.force (entities_after (date_in store.zone) (stored_of store).history)
   pub indexed : AreIndexed (stored_of store) store.index

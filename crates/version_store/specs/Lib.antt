@@ -3,6 +3,8 @@ pub mod CallsBy
 pub mod Changes
 pub mod Dates
 pub mod Differing
+pub mod Filed
+pub mod Force
 pub mod Further
 pub mod Indexed
 pub mod Inside
@@ -11,10 +13,11 @@ pub mod LastNews
 pub mod Laws
 pub mod Named
 pub mod Near
+pub mod NearNews
 pub mod Rows
 pub mod Spots
 pub mod Store
 pub mod Texts
-pub mod Worked
 pub mod TouchedKeys
 pub mod Trips
+pub mod Worked

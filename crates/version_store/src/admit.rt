@@ -118,12 +118,11 @@ impl Store {
             &self.stops,
             &self.zone,
             self.admitted.as_slice(),
-            self.force.as_slice(),
+            &mut self.force,
             message,
         );
         match turned {
-            Ok(force) => {
-                self.force = force;
+            Ok(()) => {
                 self.bytes += bytes;
                 Ok(())
             }
@@ -135,9 +134,9 @@ impl Store {
     }
 
     /// Admits a message (GTFS Realtime): after it there is a version of its moment. Of the causes of a refusal the first one
-    /// in the order of `AdmitFault` counts. It takes the time of its bytes, and of a sort of the entities that were in force and of its own.
-    /// For each key that the news of these touch it takes the logarithm of the runs, and the time of the calls. Memory grows with the runs that
-    /// change.
+    /// in the order of `AdmitFault` counts. It takes the time of its bytes, and of a sort of its entities. For each key that they touch it takes
+    /// the logarithm of the runs and of what is in force, and the time of the calls and of the news in force of that trip. A full message takes
+    /// the time of all that was in force, too. Memory grows with the message and the runs that change.
     pub fn admit(&mut self, alloc: Global, bytes: &[u8]) -> Result<Admitted, AdmitFault>
         ensures taken { IfOk result (Admits self.old self.new bytes.now) }
         ensures refused { IfErr result (λ fault. (fault ≡ OutOfMemory) ⊎ IsRefused self.old bytes.now fault) }

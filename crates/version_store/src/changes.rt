@@ -2,18 +2,25 @@ ghost use Rattle.std.specs.Prelude.{◌≡◌, ◌⊎◌, All, IfOk, List, OnOk,
 ghost use Rattle.lc_model.specs.Run.{InKeyOrder};
 ghost use Rattle.lc_model.specs.Text.{IsIdText};
 ghost use Rattle.lc_model.specs.declared.run.Run.{Run as StatedRun};
-ghost use Rattle.lc_versions.specs.News.{TripSaid};
+ghost use Rattle.laws_index.specs.Kept.{news_in};
+ghost use Rattle.lc_versions.specs.News.{EntitySaid, TripSaid};
 ghost use Rattle.version_store.specs.Changes.{AreChangesAt, AreChangesBy, AreNearAt, PutsBegun, PutsChange, PutsEnded, TurnsKey};
 ghost use Rattle.version_store.specs.Differing.{DifferBy};
+ghost use Rattle.version_store.specs.Filed.{HasBy, spots_at, spots_over};
 ghost use Rattle.version_store.specs.Further.{GoForward};
-ghost use Rattle.version_store.specs.Kept.{news_said};
+ghost use Rattle.version_store.specs.Kept.{entity_said, news_said};
 ghost use Rattle.version_store.specs.LastNews.{HasLastAt, HasLastOf};
+ghost use Rattle.version_store.specs.declared.filed.By.TheVariants.{Trip as ByTrip};
 
 use crate::calls_by::calls_by;
 use crate::dated::DatedNews;
+use crate::kept::Marked;
 use crate::last_news::{LastNews, last_news};
+use crate::near::{FiledTrips, near_news};
+use crate::spots::news_of;
+use crate::store::Admission;
 use crate::touched_keys::touched_keys;
-use crate::trips::{news_of_trips, trips_of};
+use crate::trips::trips_of;
 use lc_model::{Call, Calls, NoMemory, PlainData, RunKey, Runs, Stops};
 use std::alloc::Global;
 use std::collections::{BTreeMap, BTreeSet};
@@ -152,41 +159,53 @@ fn changes_by(
     changes_at(alloc, runs, stops, &last_old, &last_new, keys)
 }
 
-/// What changes from the old news to the new at the keys of a set. The news of other trips are passed over. It takes the logarithm of the
-/// keys for each news, and for each key the logarithm of the runs and the time of its calls.
+/// What changes at the keys of a set from what was in force before a message to what is after it. It takes the logarithm of the trips in
+/// force for each key, that of the runs, and the time of the calls and of the news of its trip.
 fn near_changes(
     alloc: Global,
     runs: &Runs,
     stops: &Stops,
-    old: &[DatedNews<'_>],
-    new: &[DatedNews<'_>],
+    admitted: &[Admission],
+    filed: FiledTrips<'_>,
     keys: &BTreeSet<RunKey>,
 ) -> Result<Changes, NoMemory>
     requires { InKeyOrder runs.now }
-    ensures { IfOk result (AreChangesAt runs.now stops.now (map news_said old.now) (map news_said new.now) keys.now []) }
+    ensures forward { IfOk result (λ changes. GoForward changes.begun) }
+    ensures changes { IfOk result (λ changes. (before after : List EntitySaid) → HasBy ByTrip admitted.now (spots_at filed.entry.before.now) before
+        → HasBy ByTrip admitted.now (spots_over filed.entry.first.now filed.entry.rest.now) after
+        → AreChangesAt runs.now stops.now (news_in before) (news_in after) keys.now [] changes) }
 {
     let trips = trips_of(alloc, keys)?;
-    let old = news_of_trips(alloc, old, &trips)?;
-    let new = news_of_trips(alloc, new, &trips)?;
-    changes_by(alloc, runs, stops, old.as_slice(), new.as_slice(), keys)
+    let near = near_news(alloc, admitted, filed, trips)?;
+    changes_by(
+        alloc,
+        runs,
+        stops,
+        near.old.as_slice(),
+        near.new.as_slice(),
+        keys,
+    )
 }
 
-/// What changes from the old news to the new, by those that differ. It takes the time of a sort of these, and the logarithm of their number
-/// for each of the old and the new. For each key that they touch it takes the logarithm of the runs, and the time of its calls.
+/// What changes from what was in force before a message to what is after it, by the entities that it touches. It takes the time of a sort of
+/// these. For each key that their news touch it takes the time of `near_changes`.
 pub(crate) fn changes_of(
     alloc: Global,
     runs: &Runs,
     stops: &Stops,
-    differing: &[DatedNews<'_>],
-    old: &[DatedNews<'_>],
-    new: &[DatedNews<'_>],
+    admitted: &[Admission],
+    touched: &[Marked<'_>],
+    filed: FiledTrips<'_>,
 ) -> Result<Changes, NoMemory>
     requires in_order { InKeyOrder runs.now }
     requires trips { All (λ (r : StatedRun). IsIdText r.key.trip) runs.now }
     ensures forward { IfOk result (λ changes. GoForward changes.begun) }
-    ensures changes { IfOk result (λ changes. DifferBy (map news_said differing.now) (map news_said old.now) (map news_said new.now)
-        → AreChangesBy runs.now stops.now (map news_said old.now) (map news_said new.now) changes) }
+    ensures changes { IfOk result (λ changes. (before after : List EntitySaid) → HasBy ByTrip admitted.now (spots_at filed.entry.before.now) before
+        → HasBy ByTrip admitted.now (spots_over filed.entry.first.now filed.entry.rest.now) after
+        → DifferBy (news_in (map entity_said touched.now)) (news_in before) (news_in after)
+        → AreChangesBy runs.now stops.now (news_in before) (news_in after) changes) }
 {
-    let keys = touched_keys(alloc, differing)?;
-    near_changes(alloc, runs, stops, old, new, &keys)
+    let differing = news_of(alloc, touched)?;
+    let keys = touched_keys(alloc, differing.as_slice())?;
+    near_changes(alloc, runs, stops, admitted, filed, &keys)
 }

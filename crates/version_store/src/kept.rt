@@ -1,25 +1,22 @@
-ghost use Rattle.std.specs.Prelude.{◌≡◌, ◌&&◌, ◌||◌, [], ℕ, IfOk, List, OnOk, Some, if◌then◌else◌, map, not};
+ghost use Rattle.std.specs.Prelude.{◌≡◌, ◌&&◌, ◌||◌, [], ℕ, IfOk, List, OnOk, Some, map, not};
 ghost use Rattle.lc_time.specs.Zone.{date_shown};
 ghost use Rattle.std.specs.Borrow.{Bor};
 ghost use Rattle.std.specs.BTreeSet.{contains};
 ghost use Rattle.std.specs.Cmp.Lexicographic.{slice_cmp};
-ghost use Rattle.std.specs.List.{Contains, slice_get};
+ghost use Rattle.std.specs.List.{Contains};
 ghost use Rattle.std.specs.Ordering.{nat_cmp};
 ghost use Rattle.lc_model.specs.Change.{is_same_id};
-ghost use Rattle.lc_versions.specs.History.{filled, kept_after, with_news};
-ghost use Rattle.lc_versions.specs.News.{EntitySaid};
+ghost use Rattle.lc_versions.specs.History.{filled};
 ghost use Rattle.version_store.specs.Dates.{date_in};
 ghost use Rattle.version_store.specs.Kept.{PushesKept, entity_said, survivors, then_all, then_entities};
-ghost use Rattle.version_store.specs.Spots.{AreBeside, AreKept, PushesMessage, StayAt};
+ghost use Rattle.version_store.specs.Spots.{StayAt};
 ghost use Rattle.version_store.specs.declared.kept.Marked.{Marked as StatedMarked};
-ghost use Rattle.version_store.specs.declared.store.Admission.{Admission as StatedAdmission};
 
 use crate::spots::Spot;
-use crate::store::Admission;
 use lc_clock::civil_date;
 use lc_model::{Moment, NoMemory, ServiceDate};
 use lc_time::Zone;
-use lc_versions::{EntityNews, Update};
+use lc_versions::EntityNews;
 use std::alloc::Global;
 use std::collections::BTreeSet;
 
@@ -40,7 +37,7 @@ pub fn message_date(zone: &Zone, moment: Moment) -> ServiceDate
 }
 
 /// Adds the entities of the message of this number.
-fn push_entities<'a>(
+pub(crate) fn push_entities<'a>(
     marks: &mut Vec<Marked<'a>>,
     entities: &'a [EntityNews],
     message: usize,
@@ -65,46 +62,11 @@ fn push_entities<'a>(
     Ok(())
 }
 
-/// Adds the message of this number, of which a full one leaves nothing of those before.
-fn push_update<'a>(
-    marks: &mut Vec<Marked<'a>>,
-    update: &'a Update,
-    message: usize,
-    date: ServiceDate,
-) -> Result<(), NoMemory>
-    ensures all { OnOk result (then_all [] marks.new.items ≡
-        then_entities (not update.now.full) (if update.now.full then [] else then_all [] marks.old.items) (map (filled date) update.now.entities)) }
-    ensures at { OnOk result (StayAt message update.now.entities marks.old.items marks.new.items) }
-{
-    if update.full {
-        marks.clear();
-        return push_entities(marks, update.entities.as_slice(), message, date, false);
-    }
-    push_entities(marks, update.entities.as_slice(), message, date, true)
-}
-
-/// Adds the message of this number, if there is one.
-fn push_admission<'a>(
-    marks: &mut Vec<Marked<'a>>,
-    zone: &Zone,
-    admitted: &'a [Admission],
-    message: usize,
-) -> Result<(), NoMemory>
-    ensures { OnOk result ((a : StatedAdmission) → slice_get admitted.now message ≡ Some a
-        → PushesMessage (date_in zone.now) admitted.now a.update marks.old.items marks.new.items) }
-{
-    let Some(admission) = admitted.get(message) else {
-        return Ok(());
-    };
-    let update = &admission.update;
-    push_update(marks, update, message, message_date(zone, update.moment))
-}
-
 /// Whether one of these is the id. Takes the logarithm of their number.
-fn is_later<'a>(later: &BTreeSet<&'a [u8]>, id: &'a [u8]) -> bool
-    ensures { result ≡ contains (λ x y. slice_cmp nat_cmp x.now y.now) later.now id.entry }
+pub(crate) fn has_id<'a>(ids: &BTreeSet<&'a [u8]>, id: &'a [u8]) -> bool
+    ensures { result ≡ contains (λ x y. slice_cmp nat_cmp x.now y.now) ids.now id.entry }
 {
-    later.contains(&id)
+    ids.contains(&id)
 }
 
 /// Notes the id of an entity that takes the place of others.
@@ -139,7 +101,10 @@ fn push_kept<'a>(
 }
 
 /// The entities with news that no later one takes out. Takes the time of a sort of the entities.
-fn survivors_of<'a>(alloc: Global, marks: &[Marked<'a>]) -> Result<Vec<Marked<'a>>, NoMemory>
+pub(crate) fn survivors_of<'a>(
+    alloc: Global,
+    marks: &[Marked<'a>],
+) -> Result<Vec<Marked<'a>>, NoMemory>
     ensures said { IfOk result (λ kept. map entity_said kept.items ≡ survivors marks.now) }
     ensures of { IfOk result (λ kept. (m : StatedMarked) → Contains kept.items m → Contains marks.now m) }
 {
@@ -147,27 +112,10 @@ fn survivors_of<'a>(alloc: Global, marks: &[Marked<'a>]) -> Result<Vec<Marked<'a
     let mut later = BTreeSet::new(alloc);
     'marks: for place in (0..marks.len()).rev() {
         let marked = marks[place];
-        let replaced = is_later(&later, marked.entity.id());
+        let replaced = has_id(&later, marked.entity.id());
         push_kept(&mut kept, marked, replaced)?;
         put_later(&mut later, marked)?;
     }
     kept.reverse();
     Ok(kept)
-}
-
-/// What is in force after the message of this number, by what was in force before it. Takes the time of a sort of the message, and for
-/// each entity in force the logarithm of the message.
-pub(crate) fn force_after<'a>(
-    alloc: Global,
-    zone: &Zone,
-    admitted: &'a [Admission],
-    was: &[Marked<'a>],
-    message: usize,
-) -> Result<Vec<Marked<'a>>, NoMemory>
-    ensures { IfOk result (λ kept. (entities : List EntitySaid) (a : StatedAdmission) → with_news entities ≡ entities → AreBeside admitted.now entities was.now
-        → slice_get admitted.now message ≡ Some a → AreKept admitted.now (kept_after (date_in zone.now) entities a.update) kept.items) }
-{
-    let mut marks = Vec::from_slice(alloc, was)?;
-    push_admission(&mut marks, zone, admitted, message)?;
-    survivors_of(alloc, marks.as_slice())
 }

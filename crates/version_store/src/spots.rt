@@ -1,11 +1,10 @@
-ghost use Rattle.std.specs.Prelude.{◌≡◌, ◌++◌, IfOk, List, OnOk, map, option_map, option_to_list};
+ghost use Rattle.std.specs.Prelude.{◌≡◌, ◌++◌, ◌∷◌, [], IfOk, List, OnOk, Some, map, option_map, option_to_list};
+ghost use Rattle.std.specs.List.{filter_map};
 ghost use Rattle.std.specs.Option.{option_copied};
 ghost use Rattle.laws_index.specs.Kept.{news_in};
 ghost use Rattle.lc_versions.specs.History.{filled};
-ghost use Rattle.lc_versions.specs.News.{EntitySaid};
 ghost use Rattle.version_store.specs.Kept.{entity_said, news_said};
-ghost use Rattle.version_store.specs.Spots.{AreBeside, AreInForce, PushesSpot, said_in};
-ghost use Rattle.version_store.specs.declared.kept.Marked.{Marked as StatedMarked};
+ghost use Rattle.version_store.specs.Spots.{said_in};
 
 use crate::dated::{DatedNews, dated_news};
 use crate::kept::Marked;
@@ -13,6 +12,7 @@ use crate::store::Admission;
 use lc_model::{NoMemory, ServiceDate};
 use lc_versions::EntityNews;
 use std::alloc::Global;
+use std::marker::Model;
 
 /// Where an entity is: the number of its message, its own number there, and the date of the message.
 #[derive(Clone, Copy)]
@@ -22,8 +22,46 @@ pub(crate) struct Spot {
     pub(crate) date: ServiceDate,
 }
 
+/// Where some entities are. A contract sees the list.
+#[derive(Drop)]
+pub(crate) struct Spots {
+    list: Vec<Spot>,
+}
+
+impl Model for Spots {
+    ghost use Rattle.std.specs.Prelude.{List};
+    ghost use Rattle.version_store.specs.declared.spots.Spot.{Spot};
+
+    ghost Value = { List Spot };
+
+    ghost view = { λ s. s.list.items };
+}
+
+impl Spots {
+    pub(crate) fn new(alloc: Global) -> Spots
+        ensures { result ≡ [] }
+    {
+        Spots {
+            list: Vec::new(alloc),
+        }
+    }
+
+    pub(crate) fn as_slice(&self) -> &[Spot]
+        ensures { result.now ≡ self.now }
+    {
+        self.list.as_slice()
+    }
+
+    pub(crate) fn push(&mut self, spot: Spot) -> Result<(), NoMemory>
+        ensures { OnOk result (self.new ≡ self.old ++ spot ∷ []) }
+    {
+        self.list.push(spot)?;
+        Ok(())
+    }
+}
+
 /// The entity at a spot, if there is one.
-fn entity_at<'a>(admitted: &'a [Admission], spot: Spot) -> Option<&'a EntityNews>
+pub(crate) fn entity_at<'a>(admitted: &'a [Admission], spot: Spot) -> Option<&'a EntityNews>
     ensures { option_map (filled spot.date) (option_copied result) ≡ said_in admitted.now spot }
 {
     match admitted.get(spot.message) {
@@ -32,51 +70,49 @@ fn entity_at<'a>(admitted: &'a [Admission], spot: Spot) -> Option<&'a EntityNews
     }
 }
 
-/// Adds the entity at a spot, if there is one, as one that takes the place of no other.
+/// The entity at a spot, if there is one, as one that takes the place of no other.
+pub(crate) fn marked_at<'a>(admitted: &'a [Admission], spot: Spot) -> Option<Marked<'a>>
+    ensures { option_map entity_said result ≡ said_in admitted.now spot }
+{
+    match entity_at(admitted, spot) {
+        Some(entity) => Some(Marked {
+            entity,
+            spot,
+            replaces: false,
+        }),
+        None => None,
+    }
+}
+
+/// Adds the entity at a spot, if there is one.
 fn push_spot<'a>(
     marks: &mut Vec<Marked<'a>>,
     admitted: &'a [Admission],
     spot: Spot,
 ) -> Result<(), NoMemory>
-    ensures { OnOk result (PushesSpot admitted.now (said_in admitted.now spot) marks.old.items marks.new.items) }
+    ensures { OnOk result (map entity_said marks.new.items ≡ map entity_said marks.old.items ++ option_to_list (said_in admitted.now spot)) }
 {
-    match entity_at(admitted, spot) {
-        Some(entity) => {
-            marks.push(Marked {
-                entity,
-                spot,
-                replaces: false,
-            })?;
+    match marked_at(admitted, spot) {
+        Some(marked) => {
+            marks.push(marked)?;
             Ok(())
         }
         None => Ok(()),
     }
 }
 
-/// The entities in force, each as one that takes the place of no other. Linear in the spots.
-pub(crate) fn marks_in_force<'a>(
-    alloc: Global,
+/// Adds the entities at these spots. Linear in them.
+pub(crate) fn push_all_spots<'a>(
+    marks: &mut Vec<Marked<'a>>,
     admitted: &'a [Admission],
-    force: &[Spot],
-) -> Result<Vec<Marked<'a>>, NoMemory>
-    ensures { IfOk result (λ marks. (entities : List EntitySaid) → AreInForce admitted.now force.now entities → AreBeside admitted.now entities marks.items) }
+    spots: &[Spot],
+) -> Result<(), NoMemory>
+    ensures { OnOk result (map entity_said marks.new.items ≡ map entity_said marks.old.items ++ filter_map (said_in admitted.now) spots.now) }
 {
-    let mut marks = Vec::with_capacity(alloc, force.len())?;
-    'spots: for spot in force {
-        push_spot(&mut marks, admitted, *spot)?;
+    'spots: for spot in spots {
+        push_spot(marks, admitted, *spot)?;
     }
-    Ok(marks)
-}
-
-/// Where these are. Linear in them.
-pub(crate) fn spots_of(alloc: Global, marks: &[Marked<'_>]) -> Result<Vec<Spot>, NoMemory>
-    ensures { IfOk result (λ spots. spots.items ≡ map (λ (m : StatedMarked). m.spot) marks.now) }
-{
-    let mut spots = Vec::with_capacity(alloc, marks.len())?;
-    'marks: for marked in marks {
-        spots.push(marked.spot)?;
-    }
-    Ok(spots)
+    Ok(())
 }
 
 /// Adds the news of an entity, if it has some.

@@ -6,8 +6,8 @@ ghost use Rattle.lc_versions.specs.History.{IsRising, moments_of};
 ghost use Rattle.lc_versions.specs.Named.{is_by, version_named};
 ghost use Rattle.version_store.specs.Store.{newest_of, versions_of};
 
+use crate::force::Force;
 use crate::indexed::base_index;
-use crate::spots::Spot;
 use lc_model::{Moment, NoMemory, Runs, Stops};
 use lc_time::Zone;
 use lc_versions::Update;
@@ -34,7 +34,7 @@ pub struct Store {
     pub(crate) admitted: Vec<Admission>,
     pub(crate) bytes: usize,
     /// Where the entities in force in the newest version are.
-    pub(crate) force: Vec<Spot>,
+    pub(crate) force: Force,
     /// The runs of each version, by its place in `versions`.
     pub(crate) index: Index,
 }
@@ -63,8 +63,8 @@ impl Store {
         ensures store { IfOk result (λ store. store ≡ record { runs = runs; stops = stops; zone = zone; base = base; history = [] }) }
         ensures calls { OnOk result (All (λ (run : StatedRun). InSequence run.calls) runs) }
     {
-        let index = base_index(alloc, &runs, &stops)?;
         let versions = vec![in alloc; base]?;
+        let index = base_index(alloc, &runs, &stops)?;
         Ok(Store {
             runs,
             stops,
@@ -73,7 +73,7 @@ impl Store {
             versions,
             admitted: Vec::new(alloc),
             bytes: 0,
-            force: Vec::new(alloc),
+            force: Force::new(alloc),
             index,
         })
     }

@@ -14,13 +14,13 @@ marks-preserved c =
     let marked = c.index-marks-place.result in
     let later = drop place marks in
     let dropped : drop (place - 1) marks ≡ marked ∷ later = dropped_one marks place marked (omega arith) (omega arith) c.index-marks-place.is in
-    let replaced : c.is_later-replaced.result ≡ is_replaced marked.entity.now.id later =
-    c.is_later-replaced.ensures ∙ c.marks.invariant.later c.id.result ∙ ap (λ i. is_replaced i later) c.id.ensures in
+    let replaced : c.has_id-replaced.result ≡ is_replaced marked.entity.now.id later =
+    c.has_id-replaced.ensures ∙ c.marks.invariant.later c.id.result ∙ ap (λ i. is_replaced i later) c.id.ensures in
     record {
       later = λ id.
           c.in_ok-put_later.ensures id ∙ ap (λ b. (marked.replaces && is_same_id id.now marked.entity.now.id) || b) (c.marks.invariant.later id) ∙ ap (is_replaced id.now) (sym dropped);
       kept =
-          survivors_more (map entity_said c.marks.kept.items) (map entity_said c.push_kept.new.kept.items) c.is_later-replaced.result (entity_said marked) (survivors later) c.in_ok-push_kept.ensures.said c.marks.invariant.kept
+          survivors_more (map entity_said c.marks.kept.items) (map entity_said c.push_kept.new.kept.items) c.has_id-replaced.result (entity_said marked) (survivors later) c.in_ok-push_kept.ensures.said c.marks.invariant.kept
           ∙ ap (λ b. kept_of b (entity_said marked) ++ survivors later) replaced
           ∙ ap survivors (sym dropped);
       of = λ m there. elim (c.in_ok-push_kept.ensures.of m there) [
