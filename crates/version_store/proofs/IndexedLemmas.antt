@@ -1,8 +1,8 @@
 -- What an index gives of a number is what the store promises of the version of that number.
-use Rattle.std.proofs.Common.{◌≡◌, ◌∙◌, ◌⊎◌, inl, inr, ℕ, ◌+◌, ◌<◌, ◌≤◌, List, [], ◌∷◌, ◌++◌, get_or, length, Option, ap, sym, subst, subst₂, arith, ⊎_elim, take_all}
+use Rattle.std.proofs.Common.{◌≡◌, ◌∙◌, ◌⊎◌, inl, inr, ℕ, ◌+◌, ◌<◌, ◌≤◌, List, [], ◌∷◌, ◌++◌, length, Option, ap, sym, subst, subst₂, arith, ⊎_elim, take_all}
 use Rattle.std.specs.List.{Contains}
 use Rattle.std.proofs.lemmas.Bool.{cases_lt}
-use Rattle.std.proofs.lemmas.List.{get_or_default, length-map, length_push, take-append-le}
+use Rattle.std.proofs.lemmas.List.{length_push, take-append-le}
 use Rattle.lc_model.specs.declared.connection.Connection.{Connection}
 use Rattle.lc_model.specs.Run.{InKeyOrder}
 use Rattle.lc_model.specs.declared.key.RunKey.{RunKey}
@@ -23,7 +23,7 @@ use Rattle.version_store.specs.Changes.{HasTurned}
 use Rattle.version_store.specs.Dates.{date_in}
 use Rattle.version_store.specs.Indexed.{AreIndexed, IsNumberOf, news_after}
 use Rattle.version_store.specs.Rows.{AreConnectionsAt, AreDepartures, AreRows}
-use Rattle.version_store.specs.Store.{Stored, news_of, versions_of}
+use Rattle.version_store.specs.Store.{Stored, news_of}
 
 -- the news of a version are those in force after as many messages as its number says
 news_of_number : (store : Stored) (version number : ℕ) → IsRising store.base (moments_of store.history) → IsNumberOf store version number → news_after store number ≡ news_of store version
@@ -113,16 +113,6 @@ indexed_base store indexed live none newest runs are = record {
       subst (λ (n : ℕ). AreRunsBy store.runs store.stops (news_after store n) (runs_at indexed n)) zero
       (subst (AreRunsBy store.runs store.stops []) (sym runs) are.exactly);
 }
-
--- the place of a version is its number
-pub number_found : (store : Stored) (versions : List ℕ) (version number : ℕ) → versions ≡ versions_of store → number < length versions → get_or versions number 0 ≡ version → IsNumberOf store version number
-number_found store versions version number are inside is =
-    let long : length (moments_of store.history) ≡ length store.history = length-map store.history (λ (e : Entry). e.update.moment) in
-    let there : number < length (versions_of store) = subst (λ (v : List ℕ). number < length v) are inside in
-    record {
-      within = omega (arith, there, long);
-      is = get_or_default (versions_of store) number store.base 0 there ∙ ap (λ (v : List ℕ). get_or v number 0) (sym are) ∙ is;
-    }
 
 -- the news after all messages are those that are in force
 news_of_all : (store : Stored) → news_in (entities_after (date_in store.zone) store.history) ≡ news_after store (length store.history)

@@ -8,7 +8,6 @@ use Rattle.std.specs.Ordering.{is_eq}
 use Rattle.std.proofs.lemmas.Bool.{and_from, and_parts, eq-eqb, false_from_ne_true, or_cases}
 use Rattle.lc_model.specs.Change.{is_same_id}
 use Rattle.lc_model.specs.RunKey.{key_cmp}
-use Rattle.lc_model.specs.Text.{IsIdText}
 use Rattle.lc_model.specs.declared.date.ServiceDate.{ServiceDate}
 use Rattle.lc_model.specs.declared.key.RunKey.{RunKey}
 use Rattle.lc_model.proofs.KeyLemmas.{same_key_parts}
@@ -93,10 +92,6 @@ pub puts_plain_key : (news : TripSaid) (trip : List ℕ) (date : ServiceDate) (o
 puts_plain_key news trip date old new same on puts other named (inl had) = had_stays (key_of trip date) other old new puts had
 puts_plain_key news trip date old new same on puts other named (inr plain) =
     key_is_in (key_of trip date) other old new puts (same_key_parts (key_of trip date) other (same ∙ sym plain.trip) (some_is_one date other.date (sym on ∙ plain.date)) (sym plain.start))
-
-pub no_plain_key : (news : TripSaid) (keys : BTreeSet RunKey) → (IsIdText news.trip → ⊥) → PutsPlainKey news keys keys
-no_plain_key news keys not_named other named (inl had) = had
-no_plain_key news keys not_named other named (inr plain) = absurd (not_named (subst IsIdText plain.trip named))
 
 same_start : (start : Option ℕ) → is_start start start ≡ true
 same_start None = refl

@@ -1,5 +1,5 @@
 -- The version that a walk over the versions names, and the newest one.
-use Rattle.std.proofs.Common.{◌≡◌, ℕ, ◌-◌, ◌<◌, ◌≤◌, List, [], ◌∷◌, ◌++◌, length, get_or, filter, Bool, true, false, if◌then◌else◌, Option, Result, Ok, Err, refl, sym, ap, ◌∙◌, subst, arith, ⊎_elim}
+use Rattle.std.proofs.Common.{◌≡◌, ℕ, ◌-◌, ◌<◌, ◌≤◌, List, [], ◌∷◌, ◌++◌, length, get_or, Bool, true, false, Result, Ok, Err, refl, sym, ap, ◌∙◌, subst, arith, ⊎_elim}
 use Rattle.std.specs.Prelude.{IsTrue, is_ok}
 use Rattle.std.specs.List.{AllPairs, Contains}
 use Rattle.std.specs.List.Sorted.{IsBinarySearchResult, IsSearchInRange}
@@ -11,16 +11,7 @@ use Rattle.std.proofs.lemmas.Cmp.{ranked}
 use Rattle.std.proofs.lemmas.List.{get_or_default}
 use Rattle.std.proofs.lemmas.List.Quantifiers.{all_pairs_push}
 use Rattle.std.proofs.lemmas.List.Sorted.{searched}
-use Rattle.lc_versions.specs.Named.{is_by, last_of}
-
-step : (named version : ℕ) (rest : List ℕ) (t : Bool) → last_of (if t then version else named) rest ≡ last_of named (if t then version ∷ rest else rest)
-step named version rest true = refl
-step named version rest false = refl
-
--- a version more
-pub meant_then : (known : Option ℕ) (named version : ℕ) (rest : List ℕ) →
-    last_of (if is_by known version then version else named) (filter (is_by known) rest) ≡ last_of named (filter (is_by known) (version ∷ rest))
-meant_then known named version rest = step named version (filter (is_by known) rest) (is_by known version)
+use Rattle.lc_versions.specs.Named.{last_of}
 
 last_there : (first : ℕ) (rest : List ℕ) (d : ℕ) → get_or (first ∷ rest) (length rest) d ≡ last_of first rest
 last_there first [] d = refl

@@ -1,13 +1,9 @@
-use Rattle.std.proofs.Common.{Err, Ok, OnOk, Result}
+use Rattle.std.proofs.lemmas.Result.{on_ok_weaker}
 use Rattle.version_store.proofs.changes.put_turn.Goals as goal
-
-on_ok : {T E P Q : Type 0} (r : Result T E) → (P → Q) → OnOk r P → OnOk r Q
-on_ok (Ok x) f p = f p
-on_ok (Err e) f p = p
 
 pub returns : goal.returns
 returns c =
-    on_ok c.put_change.result
+    on_ok_weaker c.put_change.result
     (λ puts before after in_old in_new. record {
       was = c.in_ok-was.was';
       is_now = c.in_ok-is_now.is_now;
