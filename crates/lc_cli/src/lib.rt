@@ -9,6 +9,7 @@ mod command;
 mod course;
 mod drill;
 mod laws;
+mod plan;
 mod question;
 mod refusal;
 mod replay;

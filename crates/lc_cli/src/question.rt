@@ -1,7 +1,25 @@
+ghost use Rattle.std.specs.Prelude.{◌≡◌, ◌≢◌, [], ◌∷◌, IfErr, IfOk};
+ghost use Rattle.cli_ask.specs.Admission.{IsFaulty};
+ghost use Rattle.cli_inputs.specs.Inputs.{IsMessageRefusal, IsRefusedFor};
+ghost use Rattle.cli_inputs.specs.declared.refusal.Refusal.TheVariants.{Load};
+ghost use Rattle.gtfs_tables.specs.Reading.{Keeps};
+ghost use Rattle.lc_world.specs.GoneOn.{IsLeftByPasses};
+ghost use Rattle.timetable.specs.Scope.{IsWindow};
+ghost use Rattle.timetable.specs.declared.fault.LoadFault.TheVariants.{NoMemory as OutOfMemory};
+ghost use Rattle.version_store.specs.declared.message_fault.MessageFault.TheVariants as messages;
+ghost use Rattle.lc_cli.specs.Command.{IsQuestionBlock, arrive_question, ask_question, fewest_question};
+ghost use Rattle.lc_cli.specs.Question.{CachesPages, IsAskedSo, IsEndBlock, IsUnasked};
+
+use crate::block::Block;
+use crate::refusal::message_refusal;
 use back_scan::ArriveQuery;
-use cli_words::Publishing;
-use lc_model::{Query, Text};
-use timetable::Scope;
+use cli_ask::{Asked, MessageFault};
+use cli_inputs::{Inputs, Refusal, read_inputs};
+use cli_words::{Arrive, Ask, Fewest, Publishing};
+use lc_model::{NoMemory, Query, Text};
+use lc_world::{File, Folder, Link};
+use std::alloc::Global;
+use timetable::{Scope, Timetable};
 
 /// What a client asks an in-process publisher.
 #[derive(Drop)]
@@ -21,4 +39,164 @@ pub struct Question {
     pub update: Option<Text>,
     pub publishing: Publishing,
     pub asking: Asking,
+}
+
+/// What `ask` asks: for the earliest arrival.
+pub(crate) fn ask_question(ask: Ask) -> Question
+    ensures question { result ≡ ask_question ask }
+    ensures window { IsWindow result.scope.first result.scope.days }
+    ensures pages { CachesPages result.asking }
+{
+    Question {
+        scope: Scope {
+            feed: ask.feed,
+            zone: ask.zone,
+            first: ask.first,
+            days: ask.days,
+            change: ask.change,
+        },
+        update: ask.update,
+        publishing: ask.publishing,
+        asking: Asking::Earliest {
+            query: ask.query,
+            cache: ask.cache,
+        },
+    }
+}
+
+/// What `fewest` asks: for the fewest rides.
+pub(crate) fn fewest_question(fewest: Fewest) -> Question
+    ensures question { result ≡ fewest_question fewest }
+    ensures window { IsWindow result.scope.first result.scope.days }
+    ensures pages { CachesPages result.asking }
+{
+    Question {
+        scope: Scope {
+            feed: fewest.feed,
+            zone: fewest.zone,
+            first: fewest.first,
+            days: fewest.days,
+            change: fewest.change,
+        },
+        update: fewest.update,
+        publishing: fewest.publishing,
+        asking: Asking::Fewest(fewest.query),
+    }
+}
+
+/// What `arrive` asks: for the latest departure.
+pub(crate) fn arrive_question(arrive: Arrive) -> Question
+    ensures question { result ≡ arrive_question arrive }
+    ensures window { IsWindow result.scope.first result.scope.days }
+    ensures pages { CachesPages result.asking }
+{
+    Question {
+        scope: Scope {
+            feed: arrive.feed,
+            zone: arrive.zone,
+            first: arrive.first,
+            days: arrive.days,
+            change: arrive.change,
+        },
+        update: arrive.update,
+        publishing: arrive.publishing,
+        asking: Asking::Latest(arrive.query),
+    }
+}
+
+/// Reads what a question is asked of, and lets a client ask it.
+pub(crate) fn question_block<F: Folder, L: Link>(
+    alloc: Global,
+    folder: &mut F,
+    question: Question,
+    link: L,
+) -> (Result<Block, Refusal>, L)
+    requires window { IsWindow question.scope.first question.scope.days }
+    requires pages { CachesPages question.asking }
+    ensures block { IfOk result.0 (IsQuestionBlock question (F.seen folder.old) (F.seen folder.new) (L.seen link) (L.seen result.1)) }
+    ensures refused { IfErr result.0 (IsRefusedFor question.scope question.update (F.seen folder.old) (F.seen folder.new)) }
+    ensures kept { Keeps (F.seen folder.old) (F.seen folder.new) }
+    ensures refusal_leaves_link { IfErr result.0 (λ refusal. refusal ≢ Load OutOfMemory → result.1 ≡ link) }
+    ensures left { IsLeftByPasses (L.seen link) (L.seen result.1) }
+{
+    let Question {
+        scope,
+        update,
+        publishing,
+        asking,
+    } = question;
+    match read_inputs(alloc, folder, &scope, update) {
+        Ok(Inputs { made, file }) => {
+            let (ended, link) = ask_publisher(alloc, made, publishing, &file, asking, link);
+            (ended_block(alloc, ended, file), link)
+        }
+        Err(refusal) => (Err(refusal), link),
+    }
+}
+
+/// Publishes a timetable, gives the publisher the message of a file, if there is one, and lets a client ask it.
+fn ask_publisher<L: Link>(
+    alloc: Global,
+    made: Timetable,
+    publishing: Publishing,
+    file: &Option<File>,
+    asking: Asking,
+    link: L,
+) -> (Result<Asked, MessageFault>, L)
+    requires { CachesPages asking }
+    ensures asked { IfOk result.0 (λ asked. IsAskedSo asking made publishing file.now (L.seen link) (L.seen result.1) asked.text.items asked.end) }
+    ensures faulty { IfErr result.0 (IsFaulty file.now) }
+    ensures unasked { IfErr result.0 (λ fault. fault ≢ messages.NoMemory → result.1 ≡ link) }
+    ensures left { IsLeftByPasses (L.seen link) (L.seen result.1) }
+{
+    match asking {
+        Asking::Earliest { query, cache } => cli_ask::ask(
+            alloc,
+            made,
+            publishing,
+            file,
+            query,
+            cache as usize,
+            link,
+        ),
+        Asking::Fewest(query) => {
+            cli_fewest::ask_fewest(alloc, made, publishing, file, query, link)
+        }
+        Asking::Latest(query) => {
+            cli_arrive::ask_arrive(alloc, made, publishing, file, query, link)
+        }
+    }
+}
+
+/// What is printed of a question that ended so, or why the file is no message.
+fn ended_block(
+    alloc: Global,
+    ended: Result<Asked, MessageFault>,
+    file: Option<File>,
+) -> Result<Block, Refusal>
+    requires { IfErr ended (IsFaulty file) }
+    ensures block { IfOk result (IsEndBlock ended) }
+    ensures refused { IfErr result (IsMessageRefusal file) }
+    ensures unasked { IfErr result (λ refusal. refusal ≢ Load OutOfMemory → IsUnasked ended) }
+{
+    match ended {
+        Ok(asked) => match client_block(alloc, asked) {
+            Ok(block) => Ok(block),
+            Err(NoMemory) => Err(Refusal::from(NoMemory)),
+        },
+        Err(fault) => Err(message_refusal(fault, file)),
+    }
+}
+
+/// What is printed of a question.
+fn client_block(alloc: Global, asked: Asked) -> Result<Block, NoMemory>
+    ensures text { IfOk result (λ block. block.text ≡ asked.text) }
+    ensures ends { IfOk result (λ block. block.ends.items ≡ asked.end ∷ []) }
+{
+    let Asked { text, end } = asked;
+    let mut ends = Vec::new(alloc);
+    match ends.push(end) {
+        Ok(()) => Ok(Block { text, ends }),
+        Err(_) => Err(NoMemory),
+    }
 }

@@ -1,13 +1,19 @@
 ghost use Rattle.std.specs.Prelude.{◌≡◌, IfNone, IfOk, IfSome};
+ghost use Rattle.cli_ask.specs.Admission.{IsFaulty};
+ghost use Rattle.cli_inputs.specs.Inputs.{IsMessageRefusal};
+ghost use Rattle.cli_inputs.specs.declared.refusal.Refusal.TheVariants.{Load};
+ghost use Rattle.timetable.specs.declared.fault.LoadFault.TheVariants.{NoMemory as OutOfMemory};
+ghost use Rattle.version_store.specs.declared.message_fault.MessageFault.TheVariants as messages;
 ghost use Rattle.lc_cli.specs.Refusal.{HasMadeLine, IsRefusalEnd, error_line_of, feed_line_of, large_line_of, script_line_of, status_of, update_line_of};
 ghost use Rattle.cli_serve.specs.Written.{SinkNeverFell};
 ghost use Rattle.lc_cli.specs.Writing.{Said};
 
 use crate::status::Status;
+use cli_ask::MessageFault;
 use cli_inputs::Refusal;
 use gtfs_tables::What;
 use lc_model::NoMemory;
-use lc_world::{Sink, SinkFail, put_all};
+use lc_world::{File, Sink, SinkFail, put_all};
 use std::alloc::Global;
 use timetable::LoadFault;
 use trip_updates::RtFault;
@@ -134,4 +140,23 @@ fn update_line(alloc: Global, name: &str, fault: RtFault) -> Result<Vec<u8>, NoM
 {
     let line = format!(in alloc; "error update {name} {fault}\n")?;
     Ok(line.into_bytes())
+}
+
+/// Why a file is no message.
+pub(crate) fn message_refusal(fault: MessageFault, file: Option<File>) -> Refusal
+    requires { IsFaulty file fault }
+    ensures refusal { IsMessageRefusal file result }
+    ensures memory { fault ≡ messages.NoMemory → result ≡ Load OutOfMemory }
+{
+    match fault {
+        MessageFault::TooLong { bytes } => Refusal::LongUpdate { bytes },
+        MessageFault::Broken(fault) => match file {
+            Some(file) => Refusal::BrokenUpdate {
+                name: file.name,
+                fault,
+            },
+            None => unreachable!(),
+        },
+        MessageFault::NoMemory => Refusal::from(NoMemory),
+    }
 }

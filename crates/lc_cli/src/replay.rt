@@ -1,11 +1,14 @@
-ghost use Rattle.std.specs.Prelude.{IfErr, IfOk};
+ghost use Rattle.std.specs.Prelude.{◌≡◌, ◌≢◌, IfErr, IfOk};
 ghost use Rattle.cli_inputs.specs.Script.{IsReplayRefused};
+ghost use Rattle.cli_inputs.specs.declared.refusal.Refusal.TheVariants.{Load};
 ghost use Rattle.gtfs_tables.specs.Reading.{Keeps};
 ghost use Rattle.laws_replay.specs.Replayed.{IsReplayed};
 ghost use Rattle.laws_replay.specs.Versions.{HaveAdmitted};
 ghost use Rattle.lc_world.specs.GoneOn.{IsLeftByPasses};
-ghost use Rattle.lc_cli.specs.Replay.{IsCourse, replay_scope};
+ghost use Rattle.timetable.specs.declared.fault.LoadFault.TheVariants.{NoMemory as OutOfMemory};
+ghost use Rattle.lc_cli.specs.Replay.{IsCourse, IsReplayBlock, replay_scope};
 
+use crate::block::Block;
 use crate::course::Course;
 use cli_inputs::{Refusal, ReplayInputs, read_replay};
 use cli_replay::Replayed;
@@ -14,6 +17,40 @@ use lc_model::NoMemory;
 use lc_world::{Folder, Link};
 use std::alloc::Global;
 use timetable::Scope;
+
+/// Reads what an event sequence is played from, and plays it.
+pub(crate) fn replay_block<F: Folder, L: Link>(
+    alloc: Global,
+    folder: &mut F,
+    replay: Replay,
+    link: L,
+) -> (Result<Block, Refusal>, L)
+    ensures block { IfOk result.0 (IsReplayBlock replay (F.seen folder.old) (F.seen folder.new) (L.seen link) (L.seen result.1)) }
+    ensures refused { IfErr result.0 (IsReplayRefused (replay_scope replay) replay.script (F.seen folder.old) (F.seen folder.new)) }
+    ensures kept { Keeps (F.seen folder.old) (F.seen folder.new) }
+    ensures refusal_leaves_link { IfErr result.0 (λ refusal. refusal ≢ Load OutOfMemory → result.1 ≡ link) }
+    ensures left { IsLeftByPasses (L.seen link) (L.seen result.1) }
+{
+    match read_course(alloc, folder, replay) {
+        Ok(course) => {
+            let (played, link) = play_course(alloc, course, link);
+            match played {
+                Ok(replayed) => (Ok(course_block(replayed)), link),
+                Err(NoMemory) => (Err(Refusal::from(NoMemory)), link),
+            }
+        }
+        Err(refusal) => (Err(refusal), link),
+    }
+}
+
+/// The output of an event sequence that was played.
+fn course_block(replayed: Replayed) -> Block
+    ensures text { result.text ≡ replayed.text }
+    ensures ends { result.ends ≡ replayed.ends }
+{
+    let Replayed { text, ends, .. } = replayed;
+    Block { text, ends }
+}
 
 /// Reads what an event sequence is played from: the script, the timetable and the messages.
 pub(crate) fn read_course<F: Folder>(

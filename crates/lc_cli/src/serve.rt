@@ -1,13 +1,67 @@
+ghost use Rattle.std.specs.Prelude.{IfErr, IfOk};
+ghost use Rattle.cli_inputs.specs.Inputs.{IsRefusedFor};
 ghost use Rattle.cli_serve.specs.Serve.{DoorNeverFell};
 ghost use Rattle.lc_cli.specs.Serving.{IsServingEnd};
 ghost use Rattle.cli_serve.specs.Written.{SinkNeverFell};
+ghost use Rattle.gtfs_tables.specs.Reading.{Keeps};
+ghost use Rattle.lc_cli.specs.Command.{IsServer, serve_scope};
 
-use crate::refusal::{NO_MEMORY, say};
+use crate::refusal::{NO_MEMORY, message_refusal, say};
 use crate::server::Server;
 use crate::status::Status;
+use cli_ask::serving_publisher;
+use cli_inputs::{Inputs, Refusal, read_inputs};
 use cli_serve::ServeFault;
-use lc_world::{Door, Sink};
+use cli_words::Serve;
+use lc_world::{Door, Folder, Sink};
 use std::alloc::Global;
+use timetable::Scope;
+
+/// Reads what is to be served, and makes its publisher.
+pub(crate) fn server<F: Folder>(
+    alloc: Global,
+    folder: &mut F,
+    serve: Serve,
+) -> Result<Server, Refusal>
+    ensures server { IfOk result (IsServer serve (F.seen folder.old) (F.seen folder.new)) }
+    ensures refused { IfErr result (IsRefusedFor (serve_scope serve) serve.update (F.seen folder.old) (F.seen folder.new)) }
+    ensures kept { Keeps (F.seen folder.old) (F.seen folder.new) }
+{
+    let Serve {
+        feed,
+        first,
+        days,
+        zone,
+        change,
+        publishing,
+        update,
+        port,
+        connections,
+        accept_updates,
+        ..
+    } = serve;
+    let scope = Scope {
+        feed,
+        zone,
+        first,
+        days,
+        change,
+    };
+    match read_inputs(alloc, folder, &scope, update) {
+        Ok(Inputs { made, file }) => {
+            match serving_publisher(alloc, made, publishing, accept_updates, &file) {
+                Ok((publisher, line)) => Ok(Server {
+                    publisher,
+                    line,
+                    port,
+                    connections,
+                }),
+                Err(fault) => Err(message_refusal(fault, file)),
+            }
+        }
+        Err(refusal) => Err(refusal),
+    }
+}
 
 /// Serves the connections, and says in one line why they were not all served, which is tried once. After a fault of the sink it says nothing.
 pub(crate) fn serve<D: Door, S: Sink>(

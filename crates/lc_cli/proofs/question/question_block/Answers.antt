@@ -1,6 +1,6 @@
 use Rattle.lc_cli.proofs.CommandLemmas.{ended_printed, ended_refused, ended_unasked}
 use Rattle.lc_world.proofs.GoneOnLemmas.{no_passes}
-use Rattle.lc_cli.proofs.command.question_block.Goals as goal
+use Rattle.lc_cli.proofs.question.question_block.Goals as goal
 
 pub returns-in-Ok-clause-block : goal.returns-in-Ok-clause-block
 returns-in-Ok-clause-block g c =

@@ -2,7 +2,7 @@ use Rattle.std.proofs.Common.{inr, subst, sym}
 use Rattle.cli_inputs.specs.Script.{IsReplayRefused}
 use Rattle.lc_cli.specs.Command.{replay_scope}
 use Rattle.lc_cli.proofs.DrillLemmas.{replay_block_of}
-use Rattle.lc_cli.proofs.command.replay_block.Goals as goal
+use Rattle.lc_cli.proofs.replay.replay_block.Goals as goal
 
 pub returns-in-Ok-played-clause-block : goal.returns-in-Ok-played-clause-block
 returns-in-Ok-played-clause-block g c =

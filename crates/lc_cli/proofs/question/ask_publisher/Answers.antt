@@ -1,4 +1,4 @@
-use Rattle.lc_cli.proofs.command.ask_publisher.Goals as goal
+use Rattle.lc_cli.proofs.question.ask_publisher.Goals as goal
 
 pub returns-in-Earliest-clause-asked : goal.returns-in-Earliest-clause-asked
 returns-in-Earliest-clause-asked g c = rw c.in-Earliest.is c.ask.ensures.asked

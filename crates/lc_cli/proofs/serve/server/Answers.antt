@@ -1,6 +1,6 @@
 use Rattle.cli_inputs.proofs.InputsLemmas.{message_refused}
 use Rattle.lc_cli.proofs.WindowLemmas.{window_said}
-use Rattle.lc_cli.proofs.command.server.Goals as goal
+use Rattle.lc_cli.proofs.serve.server.Goals as goal
 
 pub read_inputs-requires : goal.read_inputs-requires
 read_inputs-requires g c = window_said c.args.serve.first c.args.serve.days c.args.serve.window
