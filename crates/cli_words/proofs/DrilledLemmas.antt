@@ -73,9 +73,9 @@ counted : days_from_civil (pos 2024) 5 1 ≡ pos 19_844
 unfolding days_from_civil day_count days_of_years days_of_months
 counted = refl
 
-window : (days : ℕ) → days ≤ 7 → IsWindow first_date days
+is_window : (days : ℕ) → days ≤ 7 → IsWindow first_date days
 unfolding first_date
-window days few = record {
+is_window days few = record {
   from_1970 = lit≤ tt;
   in_range = λ number bound at.
       let is = number_at_date number (pos 2024) 5 1 bound (ap pos at.year) at.month at.day in
@@ -120,18 +120,20 @@ publishing = record {
 
 replay_of : (days : ℕ) → 1 ≤ days → days ≤ 7 → Replay
 replay_of days low high = record {
-  feed = codes "feed";
-  first = first_date;
-  days = days;
-  zone = codes "utc";
-  change = 120;
+  window = record {
+    feed = codes "feed";
+    first = first_date;
+    days = days;
+    zone = codes "utc";
+    change = 120;
+    some_days = low;
+    two_months = omega (arith, high);
+    is_window = is_window days high;
+    within_a_day = lit≤ tt;
+  };
   publishing = publishing;
   cache = 100;
   script = codes "script.csv";
-  some_days = low;
-  two_months = omega (arith, high);
-  window = window days high;
-  within_a_day = lit≤ tt;
   some_pages = lit≤ tt;
   most_pages = lit≤ tt;
 }
@@ -145,15 +147,16 @@ drilled days low high =
       replay_of days low high,
       record {
         is_line = taken.0;
-        feed_window = record {
-          feed_is = at (codes "feed");
+        window = record {
           first_is = at (codes "first");
-          options = record {
-            days_said = ap (number_said 7 1 62) (at (codes "days")) ∙ word.said;
-            zone_is = ap zone_said (at (codes "zone"));
-            change_said = ap (number_said 120 0 86_400) (at (codes "change"));
+          has = record {
+            feed_is = at (codes "feed");
+            options = record {
+              days_said = ap (number_said 7 1 62) (at (codes "days")) ∙ word.said;
+              zone_is = ap zone_said (at (codes "zone"));
+              change_said = ap (number_said 120 0 86_400) (at (codes "change"));
+            };
           };
-          window = window days high;
         };
         publishing = record {
           base_said = subst (λ (v : Option (List ℕ)). SaysBase (text_said (codes "http://lc.example/") v) publishing.base) (sym (at (codes "base"))) default_base;

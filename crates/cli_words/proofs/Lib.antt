@@ -11,6 +11,7 @@ mod MadeLemmas
 mod OneCommandLemmas
 mod NearLemmas
 mod PassLemmas
+mod PublishedLemmas
 mod PublishingLemmas
 mod QuestionLemmas
 mod RowLemmas

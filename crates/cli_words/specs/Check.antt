@@ -7,4 +7,4 @@ use Rattle.cli_words.specs.declared.command.Check.{Check}
 -- the arguments after `check` say this
 pub record SaysCheck (words : List (List ℕ)) (check : Check) : Type 0 where
   pub is_line : IsLine check_line words
-  pub feed_window : SaysFeedWindow check_line words check.feed check.first check.days check.zone check.change
+  pub window : SaysFeedWindow check_line words check.window

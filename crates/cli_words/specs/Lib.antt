@@ -10,6 +10,7 @@ pub mod Line
 pub mod Options
 pub mod Plan
 pub mod Drill
+pub mod Published
 pub mod Publishing
 pub mod Question
 pub mod Relay

@@ -36,6 +36,10 @@ pub record SaysPublishingOr (default_base : List ℕ) (a : App) (words : List (L
   pub moment_said : SaysMoment (text_said (codes "1970-01-01T00:00:00Z") (value_at a words (codes "base-moment"))) publishing.base_moment
   pub cutting_said : SaysCutting (text_said (codes "span:1800") (value_at a words (codes "cuts"))) publishing.cutting
 
--- those of an in-process publisher, whose base need not be the address of a server
+-- the base of an in-process publisher where `--base` is not there: it need not be the address of a server
+abbrev pub example : List ℕ
+example = codes "http://lc.example/"
+
+-- the options of an in-process publisher
 abbrev pub SaysPublishing : App → List (List ℕ) → Publishing → Type 0
-SaysPublishing a words publishing = SaysPublishingOr (codes "http://lc.example/") a words publishing
+SaysPublishing a words publishing = SaysPublishingOr example a words publishing

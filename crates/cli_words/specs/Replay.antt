@@ -9,7 +9,7 @@ use Rattle.cli_words.specs.declared.command.Replay.{Replay}
 -- The arguments after `replay` say this. SCRIPT is any text.
 pub record SaysReplay (words : List (List ℕ)) (replay : Replay) : Type 0 where
   pub is_line : IsLine replay_line words
-  pub feed_window : SaysFeedWindow replay_line words replay.feed replay.first replay.days replay.zone replay.change
+  pub window : SaysFeedWindow replay_line words replay.window
   pub publishing : SaysPublishing replay_line words replay.publishing
   pub cache_is : cache_said replay_line words ≡ Some replay.cache
   pub script_is : value_at replay_line words (codes "script") ≡ Some replay.script

@@ -3,8 +3,7 @@ use Rattle.std.specs.Prelude.{◌≡◌, ℕ, Bool, List, ◌++◌, codes, decim
 use Rattle.cli_words.specs.FeedWindow.{SaysFeedWindow}
 use Rattle.cli_words.specs.Line.{IsLine, serve_line, value_at}
 use Rattle.cli_words.specs.Options.{flag_said, required_said}
-use Rattle.cli_words.specs.Publishing.{SaysPublishingOr}
-use Rattle.cli_words.specs.Update.{SaysUpdate}
+use Rattle.cli_words.specs.Published.{SaysPublished}
 use Rattle.cli_words.specs.declared.command.Serve.{Serve}
 
 -- the address of a server at this port of the same machine, the base where `--base` is not there
@@ -20,7 +19,6 @@ pub record SaysDoor (words : List (List ℕ)) (port connections : ℕ) (accepts 
 -- the arguments after `serve` say this
 pub record SaysServe (words : List (List ℕ)) (serve : Serve) : Type 0 where
   pub is_line : IsLine serve_line words
-  pub feed_window : SaysFeedWindow serve_line words serve.feed serve.first serve.days serve.zone serve.change
-  pub publishing : SaysPublishingOr (address_at serve.port) serve_line words serve.publishing
-  pub update : SaysUpdate serve_line words serve.update
+  pub window : SaysFeedWindow serve_line words serve.published.window
+  pub published : SaysPublished (address_at serve.port) serve_line words serve.published
   pub door : SaysDoor words serve.port serve.connections serve.accept_updates

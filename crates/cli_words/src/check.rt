@@ -4,7 +4,7 @@ ghost use Rattle.cli_words.specs.Line.{HasFound, IsLine, check_line, texts_of};
 ghost use Rattle.cli_words.specs.declared.command.Check.{Check as Checked};
 
 use crate::Check;
-use crate::feed_window::{read_feed_window, window_texts};
+use crate::feed_window::read_feed_window;
 use crate::line::read_line;
 use clap::ArgMatches;
 use lc_model::NoMemory;
@@ -31,15 +31,8 @@ fn found_check<'a>(alloc: Global, found: &ArgMatches<'a>) -> Result<Option<Check
     ensures { (words : List (List ℕ)) → IsLine check_line words → HasFound check_line words found.now → IfOk result (λ check.
         MatchOption check ((check : Checked) → SaysCheck words check → ⊥) (SaysCheck words)) }
 {
-    let Some(said) = read_feed_window(found) else {
-        return Ok(None);
-    };
-    let texts = window_texts(alloc, said.feed, said.options.zone)?;
-    Ok(Some(Check {
-        feed: texts.feed,
-        first: said.first,
-        days: said.options.days,
-        zone: texts.zone,
-        change: said.options.change,
-    }))
+    match read_feed_window(alloc, found)? {
+        Some(window) => Ok(Some(Check { window })),
+        None => Ok(None),
+    }
 }

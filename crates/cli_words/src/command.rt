@@ -20,11 +20,14 @@ pub enum Command {
     Relay(Relay),
 }
 
-/// `check`: the timetable of a feed in a window of dates.
+/// A feed, and the service dates of it that are looked at.
 #[derive(Drop)]
-pub struct Check {
+pub struct FeedWindow {
+    /// The name of the feed's directory.
     pub feed: Text,
+    /// The first date.
     pub first: ServiceDate,
+    /// How many dates there are.
     pub days: u32,
     /// The word of a zone, as it was said.
     pub zone: Text,
@@ -32,30 +35,32 @@ pub struct Check {
     pub change: u32,
     pub ghost some_days: { 1 ≤ days },
     pub ghost two_months: { days ≤ 62 },
-    pub ghost window: { IsWindow first days },
+    pub ghost is_window: { IsWindow first days },
     pub ghost within_a_day: { change ≤ 86_400 },
 }
 
-/// `ask`: a question to the timetable of a feed in a window of dates, which is asked through pages.
+/// The timetable of a feed in a window of dates, and how it is published.
 #[derive(Drop)]
-pub struct Ask {
-    pub feed: Text,
-    pub query: Query,
-    pub first: ServiceDate,
-    pub days: u32,
-    /// The word of a zone, as it was said.
-    pub zone: Text,
-    /// The seconds of a change of which the feed says none.
-    pub change: u32,
+pub struct Published {
+    pub window: FeedWindow,
     pub publishing: Publishing,
-    /// How many pages are cached at most.
-    pub cache: u32,
     /// The name of the file with a realtime message, if one is to be admitted.
     pub update: Option<Text>,
-    pub ghost some_days: { 1 ≤ days },
-    pub ghost two_months: { days ≤ 62 },
-    pub ghost window: { IsWindow first days },
-    pub ghost within_a_day: { change ≤ 86_400 },
+}
+
+/// `check`: the timetable of a feed in a window of dates.
+#[derive(Drop)]
+pub struct Check {
+    pub window: FeedWindow,
+}
+
+/// `ask`: a question to a timetable, which is asked through pages.
+#[derive(Drop)]
+pub struct Ask {
+    pub published: Published,
+    pub query: Query,
+    /// How many pages are cached at most.
+    pub cache: u32,
     pub ghost some_pages: { 1 ≤ cache },
     pub ghost most_pages: { cache ≤ 10_000 },
 }
@@ -64,48 +69,25 @@ pub struct Ask {
 /// pages.
 #[derive(Drop)]
 pub struct Replay {
-    pub feed: Text,
-    pub first: ServiceDate,
-    pub days: u32,
-    /// The word of a zone, as it was said.
-    pub zone: Text,
-    /// The seconds of a change of which the feed says none.
-    pub change: u32,
+    pub window: FeedWindow,
     pub publishing: Publishing,
     /// How many pages are cached at most.
     pub cache: u32,
     /// The name of the file with the script.
     pub script: Text,
-    pub ghost some_days: { 1 ≤ days },
-    pub ghost two_months: { days ≤ 62 },
-    pub ghost window: { IsWindow first days },
-    pub ghost within_a_day: { change ≤ 86_400 },
     pub ghost some_pages: { 1 ≤ cache },
     pub ghost most_pages: { cache ≤ 10_000 },
 }
 
-/// `serve`: the timetable of a feed in a window of dates, which is published at a port to clients of any kind.
+/// `serve`: a timetable, which is published at a port to clients of any kind.
 #[derive(Drop)]
 pub struct Serve {
-    pub feed: Text,
-    pub first: ServiceDate,
-    pub days: u32,
-    /// The word of a zone, as it was said.
-    pub zone: Text,
-    /// The seconds of a change of which the feed says none.
-    pub change: u32,
-    pub publishing: Publishing,
-    /// The name of the file with a realtime message, if one is to be admitted.
-    pub update: Option<Text>,
+    pub published: Published,
     pub port: u16,
     /// How many connections are served before the command ends.
     pub connections: u32,
     /// Whether clients may send realtime messages.
     pub accept_updates: bool,
-    pub ghost some_days: { 1 ≤ days },
-    pub ghost two_months: { days ≤ 62 },
-    pub ghost window: { IsWindow first days },
-    pub ghost within_a_day: { change ≤ 86_400 },
     pub ghost some_port: { 1 ≤ port },
     pub ghost some_connections: { 1 ≤ connections },
     pub ghost most_connections: { connections ≤ 1_000_000 },
@@ -135,44 +117,18 @@ pub struct Drill {
     pub ghost one_week: { days ≤ 7 },
 }
 
-/// `arrive`: a question for the latest departure to the timetable of a feed in a window of dates, which is asked through pages.
+/// `arrive`: a question for the latest departure to a timetable, which is asked through pages.
 #[derive(Drop)]
 pub struct Arrive {
-    pub feed: Text,
+    pub published: Published,
     pub query: ArriveQuery,
-    pub first: ServiceDate,
-    pub days: u32,
-    /// The word of a zone, as it was said.
-    pub zone: Text,
-    /// The seconds of a change of which the feed says none.
-    pub change: u32,
-    pub publishing: Publishing,
-    /// The name of the file with a realtime message, if one is to be admitted.
-    pub update: Option<Text>,
-    pub ghost some_days: { 1 ≤ days },
-    pub ghost two_months: { days ≤ 62 },
-    pub ghost window: { IsWindow first days },
-    pub ghost within_a_day: { change ≤ 86_400 },
 }
 
-/// `fewest`: a question for the fewest rides to the timetable of a feed in a window of dates, which is asked through pages.
+/// `fewest`: a question for the fewest rides to a timetable, which is asked through pages.
 #[derive(Drop)]
 pub struct Fewest {
-    pub feed: Text,
+    pub published: Published,
     pub query: Query,
-    pub first: ServiceDate,
-    pub days: u32,
-    /// The word of a zone, as it was said.
-    pub zone: Text,
-    /// The seconds of a change of which the feed says none.
-    pub change: u32,
-    pub publishing: Publishing,
-    /// The name of the file with a realtime message, if one is to be admitted.
-    pub update: Option<Text>,
-    pub ghost some_days: { 1 ≤ days },
-    pub ghost two_months: { days ≤ 62 },
-    pub ghost window: { IsWindow first days },
-    pub ghost within_a_day: { change ≤ 86_400 },
 }
 
 /// `relay`: questions to the publisher under a base, which are asked over the network through a relay that keeps documents.

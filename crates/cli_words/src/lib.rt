@@ -4,7 +4,6 @@
 
 mod arrive;
 mod ask;
-mod asked_window;
 mod cache;
 mod check;
 mod command;
@@ -15,8 +14,8 @@ mod fewest;
 mod laws;
 mod line;
 mod options;
-mod pages;
 mod plan;
+mod published;
 mod publishing;
 mod question;
 mod relay;
@@ -27,7 +26,8 @@ mod window;
 mod words;
 
 pub use command::{
-    Arrive, Ask, Check, Command, Drill, Fewest, Plan, Publishing, Relay, Replay, Serve,
+    Arrive, Ask, Check, Command, Drill, FeedWindow, Fewest, Plan, Published, Publishing, Relay,
+    Replay, Serve,
 };
 pub use drill::drilled_replay;
 pub use laws::{default_address, default_publishing, one_command, words_are_lines};

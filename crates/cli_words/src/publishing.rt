@@ -15,6 +15,9 @@ use lc_model::NoMemory;
 use lc_time::read_iso;
 use std::alloc::Global;
 
+/// The base of an in-process publisher where the arguments say none.
+pub(crate) const EXAMPLE: &str = "http://lc.example/";
+
 /// How a timetable is published by the options that were found in a line, with this base where they say none. None where one of them is
 /// said wrongly.
 pub(crate) fn read_publishing<'a>(

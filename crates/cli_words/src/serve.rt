@@ -1,20 +1,17 @@
-ghost use Rattle.std.specs.Prelude.{◌≡◌, ℕ, IfOk, List, MatchOption, option_map};
+ghost use Rattle.std.specs.Prelude.{◌≡◌, ℕ, IfOk, IfSome, List, MatchOption};
 ghost use Rattle.std.specs.String.{string_bytes};
 ghost use Rattle.clap.specs.Simple.{App};
-ghost use Rattle.cli_words.specs.FeedWindow.{SaysFeedWindow};
 ghost use Rattle.cli_words.specs.Line.{HasFound, IsLine, serve_line, texts_of};
-ghost use Rattle.cli_words.specs.Publishing.{SaysPublishingOr};
-ghost use Rattle.cli_words.specs.Serve.{SaysDoor, SaysServe, address_at};
-ghost use Rattle.cli_words.specs.Update.{SaysUpdate};
-ghost use Rattle.cli_words.specs.declared.command.Publishing.{Publishing as Published};
+ghost use Rattle.cli_words.specs.Published.{SaysPublished};
+ghost use Rattle.cli_words.specs.Serve.{SaysServe, address_at};
+ghost use Rattle.cli_words.specs.declared.command.Published.{Published as Said};
 ghost use Rattle.cli_words.specs.declared.command.Serve.{Serve as Served};
 
-use crate::door::{DoorOptions, read_door};
-use crate::feed_window::{FeedWindow, read_feed_window, window_texts};
+use crate::door::read_door;
+use crate::feed_window::read_feed_window;
 use crate::line::read_line;
-use crate::publishing::read_publishing;
-use crate::update::{copy_of, read_update};
-use crate::{Publishing, Serve};
+use crate::published::read_published;
+use crate::{FeedWindow, Published, Serve};
 use clap::ArgMatches;
 use lc_model::NoMemory;
 use std::alloc::Global;
@@ -52,33 +49,38 @@ fn found_serve<'a>(alloc: Global, found: &ArgMatches<'a>) -> Result<Option<Serve
     ensures { (words : List (List ℕ)) → IsLine serve_line words → HasFound serve_line words found.now → IfOk result (λ serve.
         MatchOption serve ((serve : Served) → SaysServe words serve → ⊥) (SaysServe words)) }
 {
-    let Some(said) = read_feed_window(found) else {
-        return Ok(None);
-    };
     let Some(door) = read_door(found) else {
         return Ok(None);
     };
-    let Some(update) = read_update(found) else {
+    let Some(window) = read_feed_window(alloc, found)? else {
         return Ok(None);
     };
-    match read_published(alloc, found, door.port)? {
-        Some(publishing) => serve_of(alloc, said, door, publishing, update),
+    match read_at_port(alloc, found, window, door.port)? {
+        Some(published) => Ok(Some(Serve {
+            published,
+            port: door.port,
+            connections: door.connections,
+            accept_updates: door.accept_updates,
+        })),
         None => Ok(None),
     }
 }
 
-/// How a timetable is published by the options that were found in a line, at the address of this port where they say no base.
-fn read_published<'a>(
+/// The timetable of a feed in this window, published by the options that were found in a line, at the address of this port where they say no
+/// base. None where one of them is said wrongly.
+fn read_at_port<'a>(
     alloc: Global,
     found: &ArgMatches<'a>,
+    window: FeedWindow,
     port: u16,
-) -> Result<Option<Publishing>, NoMemory>
-    ensures { (a : App) (words : List (List ℕ)) → HasFound a words found.now → IfOk result (λ publishing.
-        MatchOption publishing ((publishing : Published) → SaysPublishingOr (address_at port) a words publishing → ⊥)
-        (SaysPublishingOr (address_at port) a words)) }
+) -> Result<Option<Published>, NoMemory>
+    ensures window { IfOk result (λ published. IfSome published (λ published. published.window ≡ window)) }
+    ensures said { (a : App) (words : List (List ℕ)) → HasFound a words found.now → IfOk result (λ published.
+        MatchOption published ((published : Said) → SaysPublished (address_at port) a words published → ⊥)
+        (SaysPublished (address_at port) a words)) }
 {
     let address = address_of(alloc, port)?;
-    read_publishing(alloc, found, address.as_str())
+    read_published(alloc, found, window, address.as_str())
 }
 
 /// The address of a server at this port of the same machine.
@@ -86,33 +88,4 @@ fn address_of(alloc: Global, port: u16) -> Result<String, NoMemory>
     ensures { IfOk result (λ address. string_bytes address ≡ address_at port) }
 {
     Ok(format!(in alloc; "http://localhost:{port}/")?)
-}
-
-/// The command that publishes a feed in its window at this door.
-fn serve_of<'a>(
-    alloc: Global,
-    said: FeedWindow<'a>,
-    door: DoorOptions,
-    publishing: Publishing,
-    update: Option<&'a str>,
-) -> Result<Option<Serve>, NoMemory>
-    ensures { (words : List (List ℕ)) → IsLine serve_line words
-        → SaysFeedWindow serve_line words said.entry.feed.now said.entry.first said.entry.options.days said.entry.options.zone.now said.entry.options.change
-        → SaysDoor words door.port door.connections door.accept_updates → SaysPublishingOr (address_at door.port) serve_line words publishing
-        → SaysUpdate serve_line words (option_map (λ s. s.now) update.entry)
-        → IfOk result (λ serve. MatchOption serve ((serve : Served) → SaysServe words serve → ⊥) (SaysServe words)) }
-{
-    let texts = window_texts(alloc, said.feed, said.options.zone)?;
-    Ok(Some(Serve {
-        feed: texts.feed,
-        first: said.first,
-        days: said.options.days,
-        zone: texts.zone,
-        change: said.options.change,
-        publishing,
-        update: copy_of(alloc, update)?,
-        port: door.port,
-        connections: door.connections,
-        accept_updates: door.accept_updates,
-    }))
 }

@@ -22,30 +22,32 @@ use Rattle.version_store.specs.declared.message_fault.MessageFault.TheVariants a
 use Rattle.lc_cli.specs.Command.{IsQuestionBlock, IsRefusedAs, IsRightRefusal, IsRightWork, LeavesLink, Prints, ResultsIn}
 use Rattle.lc_cli.specs.Question.{IsAskedSo, IsEndBlock, IsUnasked}
 use Rattle.lc_cli.specs.declared.block.Block.{Block}
-use Rattle.lc_cli.specs.declared.question.Question.{Question}
 use Rattle.lc_cli.specs.declared.work.Work.{Work}
+use Rattle.lc_cli.specs.Scope.{scope_of}
+use Rattle.cli_words.specs.declared.command.Published.{Published}
+use Rattle.lc_cli.specs.declared.question.Asking.{Asking}
 use Rattle.lc_cli.specs.declared.work.Work.TheVariants as works
 
 -- what is printed of a question
-pub question_block_of : (question : Question) (old new : FolderSeen) (before after : LinkSeen) (made : Timetable) (file : Option File) → ReadsInputs question.scope question.update old new made file
-    → (text : _) (end : ClientEnd) (block : Block) → block.text ≡ text → block.ends.items ≡ end ∷ [] → IsAskedSo question.asking made question.publishing file before after text.items end
-    → IsQuestionBlock question old new before after block
-question_block_of question old new before after made file inputs text end block is client asked = record {
+pub question_block_of : (published : Published) (asking : Asking) (old new : FolderSeen) (before after : LinkSeen) (made : Timetable) (file : Option File) → ReadsInputs (scope_of published.window) published.update old new made file
+    → (text : _) (end : ClientEnd) (block : Block) → block.text ≡ text → block.ends.items ≡ end ∷ [] → IsAskedSo asking made published.publishing file before after text.items end
+    → IsQuestionBlock published asking old new before after block
+question_block_of published asking old new before after made file inputs text end block is client asked = record {
   made = made;
   file = file;
   inputs = inputs;
   end = end;
-  asked = subst (λ t. IsAskedSo question.asking made question.publishing file before after t.items end) (sym is) asked;
+  asked = subst (λ t. IsAskedSo asking made published.publishing file before after t.items end) (sym is) asked;
   client = client;
 }
 
 -- what is printed of a question that ended so
-pub ended_printed : (question : Question) (old new : FolderSeen) (before after : LinkSeen) (made : Timetable) (file : Option File) → ReadsInputs question.scope question.update old new made file
+pub ended_printed : (published : Published) (asking : Asking) (old new : FolderSeen) (before after : LinkSeen) (made : Timetable) (file : Option File) → ReadsInputs (scope_of published.window) published.update old new made file
     → (ended : Result Asked MessageFault) (result : Result Block Refusal) → IfOk result (IsEndBlock ended)
-    → IfOk ended (λ asked. IsAskedSo question.asking made question.publishing file before after asked.text.items asked.end) → IfOk result (IsQuestionBlock question old new before after)
-ended_printed question old new before after made file inputs (Ok asked) (Ok block) is so = question_block_of question old new before after made file inputs asked.text asked.end block is.0 is.1 so
-ended_printed question old new before after made file inputs (Err fault) (Ok block) is so = absurd is
-ended_printed question old new before after made file inputs ended (Err refusal) is so = tt
+    → IfOk ended (λ asked. IsAskedSo asking made published.publishing file before after asked.text.items asked.end) → IfOk result (IsQuestionBlock published asking old new before after)
+ended_printed published asking old new before after made file inputs (Ok asked) (Ok block) is so = question_block_of published asking old new before after made file inputs asked.text asked.end block is.0 is.1 so
+ended_printed published asking old new before after made file inputs (Err fault) (Ok block) is so = absurd is
+ended_printed published asking old new before after made file inputs ended (Err refusal) is so = tt
 
 -- why it is refused
 pub ended_refused : (scope : Scope) (update : Option (List ℕ)) (old new : FolderSeen) (made : Timetable) (file : Option File) → ReadsInputs scope update old new made file

@@ -26,7 +26,8 @@ use Rattle.timetable.specs.declared.timetable.Timetable.{Timetable}
 use Rattle.version_store.specs.Laws.{OneOutcome}
 use Rattle.lc_cli.specs.Block.{IsBlockEnd, client_status_of}
 use Rattle.lc_cli.specs.Clear.{IsAnswered, IsClear, IsFed, IsHeard}
-use Rattle.lc_cli.specs.Command.{IsRefusedAs, IsRightRefusal, Prints, arrive_question, arrive_scope, ask_question, ask_scope, check_scope, fewest_question, fewest_scope, replay_scope, serve_scope}
+use Rattle.lc_cli.specs.Command.{IsRefusedAs, IsRightRefusal, Prints}
+use Rattle.lc_cli.specs.Scope.{scope_of}
 use Rattle.lc_cli.specs.Drill.{IsDrillRefused, drill_folder, sure_seen}
 use Rattle.lc_cli.specs.Refusal.{IsRefusalEnd, status_of}
 use Rattle.lc_cli.specs.Top.{IsRight, Past}
@@ -35,6 +36,7 @@ use Rattle.lc_cli.specs.declared.status.Status.TheVariants.{NoMemory}
 use Rattle.lc_cli.proofs.PlanLemmas.{plan_fine, plan_never_refused, relay_fine}
 use Rattle.lc_cli.proofs.ReplayLemmas.{course_fine, never_refused}
 use Rattle.lc_cli.proofs.ServingLemmas.{served_answered}
+use Rattle.lc_cli.specs.declared.question.Asking.TheVariants as askings
 use Rattle.lc_cli.proofs.TopLemmas.{AreNoFaults, IsHeardBy, answered, heard, heard_nothing, no_fault, not_absent, not_broken_update, not_long}
 
 -- a command without a script whose feed and message are fine is refused for memory alone
@@ -66,13 +68,13 @@ module _ (one_command : OneCommand) (loads_recorded : LoadsRecorded) (not_broken
     fine : (command : Command) → SaysCommand p.words command → Prints command p.folder_before p.folder_after (seen p.link_before) (seen p.link_after) x.block → AreNoFaults x.block.ends.items
     fine (commands.Check check) says prints = subst AreNoFaults (sym prints.no_client) tt
     fine (commands.Ask ask) says prints =
-        no_fault loads_recorded clear.recorded (ask_question ask) p.folder_before p.folder_after (seen p.link_before) (seen p.link_after) x.block prints clear.unhindered.tells
+        no_fault loads_recorded clear.recorded ask.published (askings.Earliest ask.query ask.cache) p.folder_before p.folder_after (seen p.link_before) (seen p.link_after) x.block prints clear.unhindered.tells
         (clear.unhindered.fair ask says)
     fine (commands.Fewest fewest) says prints =
-        no_fault loads_recorded clear.recorded (fewest_question fewest) p.folder_before p.folder_after (seen p.link_before) (seen p.link_after) x.block prints clear.unhindered.tells
+        no_fault loads_recorded clear.recorded fewest.published (askings.Fewest fewest.query) p.folder_before p.folder_after (seen p.link_before) (seen p.link_after) x.block prints clear.unhindered.tells
         (clear.unhindered.fair_fewest fewest says)
     fine (commands.Arrive arrive) says prints =
-        no_fault loads_recorded clear.recorded (arrive_question arrive) p.folder_before p.folder_after (seen p.link_before) (seen p.link_after) x.block prints clear.unhindered.tells
+        no_fault loads_recorded clear.recorded arrive.published (askings.Latest arrive.query) p.folder_before p.folder_after (seen p.link_before) (seen p.link_after) x.block prints clear.unhindered.tells
         (clear.unhindered.fair_arrive arrive says)
     fine (commands.Replay replay) says prints =
         course_fine loads_recorded clear.recorded replay p.folder_before p.folder_after (seen p.link_before) (seen p.link_after) x.block.text.items x.block.ends.items prints clear.unhindered.tells
@@ -102,23 +104,23 @@ module _ (one_command : OneCommand) (loads_recorded : LoadsRecorded) (not_broken
     never_as : (command : Command) → IsFed clear.recorded command → IsHeard clear.recorded command → IsRefusedAs command p.folder_before p.folder_after x.refusal
         → (status_of x.refusal ≡ NoMemory) ⊎ ⊥
     never_as (commands.Check check) fed is refused_is =
-        never not_broken not_too_large one_outcome clear.recorded (check_scope check) None p.folder_before p.folder_after fed.made clear.unhindered.tells fed.sound
+        never not_broken not_too_large one_outcome clear.recorded (scope_of check.window) None p.folder_before p.folder_after fed.made clear.unhindered.tells fed.sound
         (heard_nothing clear.recorded (store_of fed.made 0)) clear.unhindered.no_folder_fault x.refusal refused_is
     never_as (commands.Ask ask) fed is refused_is =
-        never not_broken not_too_large one_outcome clear.recorded (ask_scope ask) ask.update p.folder_before p.folder_after fed.made clear.unhindered.tells fed.sound
-        (heard clear.recorded (ask_scope ask) ask.update ask.publishing false is.0 is.1) clear.unhindered.no_folder_fault x.refusal refused_is
+        never not_broken not_too_large one_outcome clear.recorded (scope_of ask.published.window) ask.published.update p.folder_before p.folder_after fed.made clear.unhindered.tells fed.sound
+        (heard clear.recorded ask.published false is.0 is.1) clear.unhindered.no_folder_fault x.refusal refused_is
     never_as (commands.Fewest fewest) fed is refused_is =
-        never not_broken not_too_large one_outcome clear.recorded (fewest_scope fewest) fewest.update p.folder_before p.folder_after fed.made clear.unhindered.tells fed.sound
-        (heard clear.recorded (fewest_scope fewest) fewest.update fewest.publishing false is.0 is.1) clear.unhindered.no_folder_fault x.refusal refused_is
+        never not_broken not_too_large one_outcome clear.recorded (scope_of fewest.published.window) fewest.published.update p.folder_before p.folder_after fed.made clear.unhindered.tells fed.sound
+        (heard clear.recorded fewest.published false is.0 is.1) clear.unhindered.no_folder_fault x.refusal refused_is
     never_as (commands.Arrive arrive) fed is refused_is =
-        never not_broken not_too_large one_outcome clear.recorded (arrive_scope arrive) arrive.update p.folder_before p.folder_after fed.made clear.unhindered.tells fed.sound
-        (heard clear.recorded (arrive_scope arrive) arrive.update arrive.publishing false is.0 is.1) clear.unhindered.no_folder_fault x.refusal refused_is
+        never not_broken not_too_large one_outcome clear.recorded (scope_of arrive.published.window) arrive.published.update p.folder_before p.folder_after fed.made clear.unhindered.tells fed.sound
+        (heard clear.recorded arrive.published false is.0 is.1) clear.unhindered.no_folder_fault x.refusal refused_is
     never_as (commands.Replay replay) fed (made, all, course) refused_is =
         never_refused one_script never_both not_broken not_too_large clear.recorded replay p.folder_before p.folder_after clear.unhindered.tells made all course
         clear.unhindered.no_folder_fault x.refusal refused_is
     never_as (commands.Serve serve) fed is refused_is =
-        never not_broken not_too_large one_outcome clear.recorded (serve_scope serve) serve.update p.folder_before p.folder_after fed.made clear.unhindered.tells fed.sound
-        (heard clear.recorded (serve_scope serve) serve.update serve.publishing serve.accept_updates is.0 is.1) clear.unhindered.no_folder_fault x.refusal refused_is
+        never not_broken not_too_large one_outcome clear.recorded (scope_of serve.published.window) serve.published.update p.folder_before p.folder_after fed.made clear.unhindered.tells fed.sound
+        (heard clear.recorded serve.published serve.accept_updates is.0 is.1) clear.unhindered.no_folder_fault x.refusal refused_is
     never_as (commands.Plan plan) fed (all, asks) refused_is =
         plan_never_refused never_both clear.recorded plan.asks p.folder_before p.folder_after clear.unhindered.tells all asks clear.unhindered.no_folder_fault x.refusal refused_is
     never_as (commands.Relay relay) fed (all, asks) refused_is =
@@ -130,7 +132,7 @@ module _ (one_command : OneCommand) (loads_recorded : LoadsRecorded) (not_broken
           let other : commands.Replay is.replay ≡ commands.Replay replay =
           one_command (codes "replay" ∷ drilled_words drill.days) (commands.Replay is.replay) (commands.Replay replay) is.drilled drilled in
           let same : is.replay ≡ replay = cc in
-          let refused_so = subst (λ (r : Replay). IsReplayRefused (replay_scope r) r.script (sure_seen (drill_folder drill)) (sure_seen is.read) x.refusal) same is.refused in
+          let refused_so = subst (λ (r : Replay). IsReplayRefused (scope_of r.window) r.script (sure_seen (drill_folder drill)) (sure_seen is.read) x.refusal) same is.refused in
           never_refused one_script never_both not_broken not_too_large (drill_files drill.seed drill.days) replay (sure_seen (drill_folder drill)) (sure_seen is.read) refl made all course
           (λ rose. omega (arith, rose)) x.refusal refused_so
 

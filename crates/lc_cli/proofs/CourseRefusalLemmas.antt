@@ -29,7 +29,7 @@ use Rattle.version_store.specs.Store.{Stored}
 use Rattle.version_store.specs.declared.admission.AdmitFault.{AdmitFault}
 use Rattle.version_store.specs.declared.admission.AdmitFault.TheVariants as faults
 use Rattle.lc_cli.specs.Clear.{AreRecordedEvents, IsRecordedCourse, IsRecordedEvent, IsRecordedScript}
-use Rattle.lc_cli.specs.Command.{replay_scope}
+use Rattle.lc_cli.specs.Scope.{scope_of}
 use Rattle.lc_cli.specs.Refusal.{status_of}
 use Rattle.lc_cli.specs.declared.status.Status.{Status}
 use Rattle.lc_cli.specs.declared.status.Status.TheVariants.{Done, FeedBroken, FolderFault, NoMemory, ScriptWrong, TooLarge, UpdateBroken}
@@ -124,7 +124,7 @@ pub record FailsRecorded (recorded : List File) (replay : Replay) (s : Status) :
   tells : old.files ≡ Some recorded
   found : LoadFault
   of_files : IsOfFiles (Err found)
-  loads : LoadsSo (replay_scope replay) old new (Err found)
+  loads : LoadsSo (scope_of replay.window) old new (Err found)
   status_is : s ≡ status_in found
 
 -- the script is recorded, and the timetable was loaded
@@ -133,7 +133,7 @@ pub record HasLoaded (recorded : List File) (replay : Replay) : Type 0 where
   pub new : FolderSeen
   pub tells : old.files ≡ Some recorded
   pub made : Timetable
-  pub loads : Loads (replay_scope replay) old new made
+  pub loads : Loads (scope_of replay.window) old new made
 
 -- and then a record of the script is no event
 pub record StopsBehind (recorded : List File) (replay : Replay) (s : Status) : Type 0 where
@@ -148,7 +148,7 @@ IsCourseRefused recorded replay s =
 
 module _ (recorded : List File) (replay : Replay) (old new : FolderSeen) (tells : old.files ≡ Some recorded) (no_fault : Rose old.faults new.faults → ⊥) (s : Status) where
   -- the record at which the reading stopped names a message that is wrong for this cause
-  stops_behind : (refusal : Refusal) (x : StopsAtRecord (replay_scope replay) replay.script old new refusal) (name : List ℕ) → x.stops.said ≡ records.Update name → (cause : Option AdmitFault)
+  stops_behind : (refusal : Refusal) (x : StopsAtRecord (scope_of replay.window) replay.script old new refusal) (name : List ℕ) → x.stops.said ≡ records.Update name → (cause : Option AdmitFault)
       → (x.stops.at.files ≡ Some recorded → IsRecordedCause recorded name cause) → s ≡ status_by (length x.stops.before + 1) name cause → IsCourseRefused recorded replay s
   stops_behind refusal x name names cause is status =
       let script = x.has.script in
@@ -180,7 +180,7 @@ module _ (recorded : List File) (replay : Replay) (old new : FolderSeen) (tells 
       })))
 
   -- the loading failed
-  fails : (found : LoadFault) → IsOfFiles (Err found) → IsReplayRefused (replay_scope replay) replay.script old new (refused.Load found) → s ≡ status_in found → IsCourseRefused recorded replay s
+  fails : (found : LoadFault) → IsOfFiles (Err found) → IsReplayRefused (scope_of replay.window) replay.script old new (refused.Load found) → s ≡ status_in found → IsCourseRefused recorded replay s
   fails (fault.Broken rule file row) of_files is status = inr (inr (inl (record {
     has = record {
       script = is.script.script;
@@ -219,7 +219,7 @@ module _ (recorded : List File) (replay : Replay) (old new : FolderSeen) (tells 
   fails fault.NoMemory of_files is status = absurd of_files
 
   -- an event sequence is refused by the recorded files, unless memory ran out
-  pub course_refused : (refusal : Refusal) → IsReplayRefused (replay_scope replay) replay.script old new refusal → s ≡ status_of refusal → (s ≡ NoMemory) ⊎ IsCourseRefused recorded replay s
+  pub course_refused : (refusal : Refusal) → IsReplayRefused (scope_of replay.window) replay.script old new refusal → s ≡ status_of refusal → (s ≡ NoMemory) ⊎ IsCourseRefused recorded replay s
   course_refused refused.Usage is status = absurd is
   course_refused (refused.Load (fault.Broken rule file row)) is status = inr (fails (fault.Broken rule file row) tt is status)
   course_refused (refused.Load (fault.TooLarge kind count)) is status = inr (fails (fault.TooLarge kind count) tt is status)
@@ -274,11 +274,11 @@ module _ (one_outcome : OneOutcome) (one_end : OneEnd) (one_script : OneScript) 
 
   -- the loading of the recorded files ends in one way
   not_loaded : (s : Status) → HasLoaded recorded replay → FailsRecorded recorded replay s → ⊥
-  not_loaded s x y = one_end recorded (replay_scope replay) x.old x.new y.old y.new (Ok x.made) (Err y.found) x.tells y.tells tt y.of_files x.loads y.loads
+  not_loaded s x y = one_end recorded (scope_of replay.window) x.old x.new y.old y.new (Ok x.made) (Err y.found) x.tells y.tells tt y.of_files x.loads y.loads
 
   both_fail : (s t : Status) → FailsRecorded recorded replay s → FailsRecorded recorded replay t → s ≡ t
   both_fail s t x y =
-      x.status_is ∙ ap status_in (one_end recorded (replay_scope replay) x.old x.new y.old y.new (Err x.found) (Err y.found) x.tells y.tells x.of_files y.of_files x.loads y.loads)
+      x.status_is ∙ ap status_in (one_end recorded (scope_of replay.window) x.old x.new y.old y.new (Err x.found) (Err y.found) x.tells y.tells x.of_files y.of_files x.loads y.loads)
       ∙ sym y.status_is
 
   -- a record that is an event names no message that is wrong

@@ -15,7 +15,8 @@ use Rattle.lc_io.specs.Folder.{FolderSeen}
 use Rattle.lc_io.specs.SureFolder.{SureFolderState}
 use Rattle.lc_world.specs.Link.{LinkSeen}
 use Rattle.lc_cli.specs.Drill.{IsDrillBlock, IsDrilled, IsRefusedReplay, IsSummary, IsSummed, drill_folder, drill_line_of, sure_seen}
-use Rattle.lc_cli.specs.Replay.{IsCourse, IsPlayedBy, IsReplayBlock, replay_scope}
+use Rattle.lc_cli.specs.Replay.{IsCourse, IsPlayedBy, IsReplayBlock}
+use Rattle.lc_cli.specs.Scope.{scope_of}
 use Rattle.lc_cli.specs.declared.block.Block.{Block}
 use Rattle.lc_cli.specs.declared.course.Course.{Course}
 use Rattle.lc_cli.specs.declared.drill.Opening.{Opening}
@@ -57,12 +58,12 @@ drill_block_of drill replay folder read before after course block first drilled 
 
 -- a drill that is refused as its replay
 pub refused_replay : (drill : Drill) (replay : Replay) (folder read : SureFolderState) (refusal : Refusal) → folder ≡ drill_folder drill → IsDrilled drill replay
-    → IsReplayRefused (replay_scope replay) replay.script (sure_seen folder) (sure_seen read) refusal → IsRefusedReplay drill refusal
+    → IsReplayRefused (scope_of replay.window) replay.script (sure_seen folder) (sure_seen read) refusal → IsRefusedReplay drill refusal
 refused_replay drill replay folder read refusal first drilled refused = record {
   replay = replay;
   drilled = drilled;
   read = read;
-  refused = subst (λ (f : SureFolderState). IsReplayRefused (replay_scope replay) replay.script (sure_seen f) (sure_seen read) refusal) first refused;
+  refused = subst (λ (f : SureFolderState). IsReplayRefused (scope_of replay.window) replay.script (sure_seen f) (sure_seen read) refusal) first refused;
 }
 
 -- the summary of an event sequence that was played

@@ -33,7 +33,7 @@ use Rattle.publisher_spec.specs.Side.{Side}
 use Rattle.timetable.specs.Laws.{LoadsRecorded}
 use Rattle.lc_cli.specs.Block.{IsBlockEnd, IsWrittenWhole, client_status_of, failed_status_of}
 use Rattle.lc_cli.specs.Clear.{IsAskedSide}
-use Rattle.lc_cli.specs.Command.{IsAskBlock, Prints, ask_question}
+use Rattle.lc_cli.specs.Command.{IsAskBlock, Prints}
 use Rattle.lc_cli.specs.Headline.{EndsBest, Headline, StaysShort, WroteBest, outcome_of, version_meant}
 use Rattle.lc_cli.specs.Top.{HasPrinted, HasServed, Past}
 use Rattle.cli_serve.specs.Written.{Wrote}
@@ -41,6 +41,7 @@ use Rattle.lc_cli.specs.declared.block.Block.{Block}
 use Rattle.lc_cli.specs.declared.status.Status.{Status}
 use Rattle.lc_cli.specs.declared.status.Status.TheVariants.{Done, NoMemory, SinkFault}
 use Rattle.lc_cli.proofs.OneStatusLemmas.{done_is_printed}
+use Rattle.lc_cli.specs.declared.question.Asking.TheVariants as askings
 use Rattle.lc_cli.proofs.TopLemmas.{side_asked}
 
 -- the outcome is that of an answer
@@ -140,9 +141,9 @@ module _ (loads_recorded : LoadsRecorded) {X : Type 0} (seen : X → LinkSeen) (
   -- what was written is the block of a best journey
   wrote_best : (block : Block) → IsAskBlock ask p.folder_before p.folder_after (seen p.link_before) (seen p.link_after) block → IsBlockEnd block p.sink_before p.sink_after Done → WroteBest p ask files
   wrote_best block x end =
-      let side = side_with x.made ask.publishing x.asked.store in
-      let asked : IsAskedSide files ask side =
-      side_asked loads_recorded files (ask_question ask) p.folder_before p.folder_after (seen p.link_before) (seen p.link_after) block x tells in
+      let side = side_with x.made ask.published.publishing x.asked.store in
+      let asked : IsAskedSide files ask.published side =
+      side_asked loads_recorded files ask.published (askings.Earliest ask.query ask.cache) p.folder_before p.folder_after (seen p.link_before) (seen p.link_after) block x tells in
       let right = x.asked.right clear (short side asked) in
       let whole = is_whole block p.sink_before p.sink_after end in
       let found = answer_at 1 block.ends.items 0 x.end whole.status_is (ap (λ (l : List ClientEnd). slice_get l 0) x.client) in
@@ -150,10 +151,10 @@ module _ (loads_recorded : LoadsRecorded) {X : Type 0} (seen : X → LinkSeen) (
         side = side;
         asked = asked;
         end = x.end;
-        best = ends_best side ask.publishing.base ask.query (seen p.link_before).recorded (seen p.link_after).recorded x.end right found;
-        pages = (has side ask.publishing.base ask.query (seen p.link_before).recorded (seen p.link_after).recorded x.end right found).names;
-        are_needed = needed side ask.publishing.base ask.query (seen p.link_before).recorded (seen p.link_after).recorded x.end right found;
-        exchanges = exchanges side ask.publishing.base ask.query (seen p.link_before).recorded (seen p.link_after).recorded x.end right found;
+        best = ends_best side ask.published.publishing.base ask.query (seen p.link_before).recorded (seen p.link_after).recorded x.end right found;
+        pages = (has side ask.published.publishing.base ask.query (seen p.link_before).recorded (seen p.link_after).recorded x.end right found).names;
+        are_needed = needed side ask.published.publishing.base ask.query (seen p.link_before).recorded (seen p.link_after).recorded x.end right found;
+        exchanges = exchanges side ask.published.publishing.base ask.query (seen p.link_before).recorded (seen p.link_after).recorded x.end right found;
         wrote = subst (Wrote p.sink_before p.sink_after) x.asked.text_is whole.wrote;
       }
 

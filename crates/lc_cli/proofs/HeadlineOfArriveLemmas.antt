@@ -35,8 +35,8 @@ use Rattle.publisher_spec.specs.Short.{IsShort}
 use Rattle.publisher_spec.specs.Side.{Side}
 use Rattle.timetable.specs.Laws.{LoadsRecorded}
 use Rattle.lc_cli.specs.Block.{IsBlockEnd}
-use Rattle.lc_cli.specs.Clear.{IsArriveSide}
-use Rattle.lc_cli.specs.Command.{IsArriveBlock, Prints, arrive_question}
+use Rattle.lc_cli.specs.Clear.{IsAskedSide}
+use Rattle.lc_cli.specs.Command.{IsArriveBlock, Prints}
 use Rattle.lc_cli.specs.Headline.{outcome_of}
 use Rattle.lc_cli.specs.HeadlineOfArrive.{EndsLatest, HeadlineOfArrive, WroteLatest}
 use Rattle.lc_cli.specs.Top.{HasPrinted, HasServed, Past}
@@ -44,6 +44,7 @@ use Rattle.lc_cli.specs.declared.block.Block.{Block}
 use Rattle.lc_cli.specs.declared.status.Status.TheVariants.{Done}
 use Rattle.lc_cli.proofs.HeadlineLemmas.{HasAnswer, answer_at, is_whole}
 use Rattle.lc_cli.proofs.OneStatusLemmas.{done_is_printed}
+use Rattle.lc_cli.specs.declared.question.Asking.TheVariants as askings
 use Rattle.lc_cli.proofs.TopLemmas.{side_asked}
 
 -- the time gate, the stops document and the pages
@@ -86,13 +87,13 @@ ends_latest base side asked recorded now_recorded faults now_faults end made rig
           (subst (λ (o : Outcome). EndsAt base side asked end.version right.requests faults now_faults o) is right.ends)
 
 module _ (loads_recorded : LoadsRecorded) {X : Type 0} (seen : X → LinkSeen) (p : Past X) (arrive : Arrive) (files : List File) (tells : p.folder_before.files ≡ Some files) (clear : (seen p.link_before).clear)
-    (short : (side : Side) → IsArriveSide files arrive side → IsShort side) where
+    (short : (side : Side) → IsAskedSide files arrive.published side → IsShort side) where
   -- what was written is the block of such a question
   wrote_latest : (block : Block) → IsArriveBlock arrive p.folder_before p.folder_after (seen p.link_before) (seen p.link_after) block → IsBlockEnd block p.sink_before p.sink_after Done → WroteLatest p arrive files
   wrote_latest block x end =
-      let side = side_with x.made arrive.publishing x.asked.store in
-      let asked : IsArriveSide files arrive side =
-      side_asked loads_recorded files (arrive_question arrive) p.folder_before p.folder_after (seen p.link_before) (seen p.link_after) block x tells in
+      let side = side_with x.made arrive.published.publishing x.asked.store in
+      let asked : IsAskedSide files arrive.published side =
+      side_asked loads_recorded files arrive.published (askings.Latest arrive.query) p.folder_before p.folder_after (seen p.link_before) (seen p.link_after) block x tells in
       let right = x.asked.right clear (short side asked) in
       let whole = is_whole block p.sink_before p.sink_after end in
       let found = answer_at 1 block.ends.items 0 x.end whole.status_is (ap (λ (l : List ClientEnd). slice_get l 0) x.client) in
@@ -100,7 +101,7 @@ module _ (loads_recorded : LoadsRecorded) {X : Type 0} (seen : X → LinkSeen) (
         side = side;
         asked = asked;
         end = x.end;
-        latest = ends_latest arrive.publishing.base side arrive.query (seen p.link_before).recorded (seen p.link_after).recorded (seen p.link_before).faults (seen p.link_after).faults x.end
+        latest = ends_latest arrive.published.publishing.base side arrive.query (seen p.link_before).recorded (seen p.link_after).recorded (seen p.link_before).faults (seen p.link_after).faults x.end
             x.asked.asks.made right x.asked.asks.ends found;
         wrote = subst (Wrote p.sink_before p.sink_after) x.asked.text_is whole.wrote;
       }

@@ -21,8 +21,8 @@ use Rattle.publisher_spec.specs.Short.{IsShort}
 use Rattle.publisher_spec.specs.Side.{Side}
 use Rattle.timetable.specs.Laws.{LoadsRecorded}
 use Rattle.lc_cli.specs.Block.{IsBlockEnd}
-use Rattle.lc_cli.specs.Clear.{IsFewestSide}
-use Rattle.lc_cli.specs.Command.{IsFewestBlock, Prints, fewest_question}
+use Rattle.lc_cli.specs.Clear.{IsAskedSide}
+use Rattle.lc_cli.specs.Command.{IsFewestBlock, Prints}
 use Rattle.lc_cli.specs.Headline.{EndsBest, outcome_of, version_meant}
 use Rattle.lc_cli.specs.HeadlineOfFewest.{EndsFewest, HeadlineOfFewest, WroteFewest}
 use Rattle.lc_cli.specs.Top.{HasPrinted, HasServed, Past}
@@ -30,6 +30,7 @@ use Rattle.lc_cli.specs.declared.block.Block.{Block}
 use Rattle.lc_cli.specs.declared.status.Status.TheVariants.{Done}
 use Rattle.lc_cli.proofs.HeadlineLemmas.{answer_at, ends_best, exchanges, has, is_whole, needed}
 use Rattle.lc_cli.proofs.OneStatusLemmas.{done_is_printed}
+use Rattle.lc_cli.specs.declared.question.Asking.TheVariants as askings
 use Rattle.lc_cli.proofs.TopLemmas.{side_asked}
 
 -- a client that ended best, with a journey of the fewest rides
@@ -43,26 +44,26 @@ ends_fewest side query end best rides =
           record { version_is = best.version_is; answer = None; is_fewest = record { live = is.live; are_live = is.are_live; is_fewest = is.is_answer }; outcome_is = outcome }
 
 module _ (loads_recorded : LoadsRecorded) {X : Type 0} (seen : X → LinkSeen) (p : Past X) (fewest : Fewest) (files : List File) (tells : p.folder_before.files ≡ Some files) (clear : (seen p.link_before).clear)
-    (short : (side : Side) → IsFewestSide files fewest side → IsShort side) where
+    (short : (side : Side) → IsAskedSide files fewest.published side → IsShort side) where
   -- what was written is the block of such a journey
   wrote_fewest : (block : Block) → IsFewestBlock fewest p.folder_before p.folder_after (seen p.link_before) (seen p.link_after) block → IsBlockEnd block p.sink_before p.sink_after Done → WroteFewest p fewest files
   wrote_fewest block x end =
-      let side = side_with x.made fewest.publishing x.asked.asked.store in
-      let asked : IsFewestSide files fewest side =
-      side_asked loads_recorded files (fewest_question fewest) p.folder_before p.folder_after (seen p.link_before) (seen p.link_after) block x tells in
+      let side = side_with x.made fewest.published.publishing x.asked.asked.store in
+      let asked : IsAskedSide files fewest.published side =
+      side_asked loads_recorded files fewest.published (askings.Fewest fewest.query) p.folder_before p.folder_after (seen p.link_before) (seen p.link_after) block x tells in
       let is_short = short side asked in
       let right = x.asked.asked.right clear is_short in
       let whole = is_whole block p.sink_before p.sink_after end in
       let found = answer_at 1 block.ends.items 0 x.end whole.status_is (ap (λ (l : List ClientEnd). slice_get l 0) x.client) in
-      let best = ends_best side fewest.publishing.base fewest.query (seen p.link_before).recorded (seen p.link_after).recorded x.end right found in
+      let best = ends_best side fewest.published.publishing.base fewest.query (seen p.link_before).recorded (seen p.link_after).recorded x.end right found in
       record {
         side = side;
         asked = asked;
         end = x.end;
         best = ends_fewest side fewest.query x.end best (x.asked.fewest clear is_short);
-        pages = (has side fewest.publishing.base fewest.query (seen p.link_before).recorded (seen p.link_after).recorded x.end right found).names;
-        are_needed = needed side fewest.publishing.base fewest.query (seen p.link_before).recorded (seen p.link_after).recorded x.end right found;
-        exchanges = exchanges side fewest.publishing.base fewest.query (seen p.link_before).recorded (seen p.link_after).recorded x.end right found;
+        pages = (has side fewest.published.publishing.base fewest.query (seen p.link_before).recorded (seen p.link_after).recorded x.end right found).names;
+        are_needed = needed side fewest.published.publishing.base fewest.query (seen p.link_before).recorded (seen p.link_after).recorded x.end right found;
+        exchanges = exchanges side fewest.published.publishing.base fewest.query (seen p.link_before).recorded (seen p.link_after).recorded x.end right found;
         wrote = subst (Wrote p.sink_before p.sink_after) x.asked.asked.text_is whole.wrote;
       }
 

@@ -27,7 +27,8 @@ use Rattle.script_text.specs.declared.script.Record.TheVariants as records
 use Rattle.timetable.specs.Laws.{LoadsRecorded, OneTimetable}
 use Rattle.timetable.specs.declared.timetable.Timetable.{Timetable}
 use Rattle.lc_cli.specs.Clear.{AreRecordedEvents, HasFairCourse, IsRecordedCourse, IsRecordedEvent, IsRecordedScript}
-use Rattle.lc_cli.specs.Command.{IsReplayBlock, replay_scope}
+use Rattle.lc_cli.specs.Command.{IsReplayBlock}
+use Rattle.lc_cli.specs.Scope.{scope_of}
 use Rattle.lc_cli.specs.Laws.{PrintOneCourse}
 use Rattle.lc_cli.specs.declared.block.Block.{Block}
 use Rattle.lc_cli.proofs.ReplayLemmas.{course_fine, course_recorded}
@@ -158,7 +159,7 @@ module _ (loads_recorded : LoadsRecorded) (one_timetable : OneTimetable) (one_sc
       let course = course_recorded loads_recorded recorded replay old new a.made a.all tells a.inputs in
       let other_course = course_recorded loads_recorded recorded replay other later b.made b.all tell b.inputs in
       let all : b.all ≡ a.all = one_recorded_course one_script recorded replay b.made a.made b.all a.all other_course course in
-      let made = one_timetable recorded (replay_scope replay) a.made b.made course.sound other_course.sound in
+      let made = one_timetable recorded (scope_of replay.window) a.made b.made course.sound other_course.sound in
       let one = one_course a.made b.made replay.publishing a.all replay.cache a.replayed.lines b.replayed.lines x.ends.items y.ends.items made
       (turns_recorded recorded replay a.made a.all course) (played_out recorded replay old new before after x a tells fair)
       (subst (λ (l : List Event). IsPlayedOut b.made replay.publishing l replay.cache b.replayed.lines y.ends.items) all (played_out recorded replay other later from to y b tell other_fair)) in

@@ -21,15 +21,16 @@ use Rattle.timetable.specs.Laws.{AreSame, LoadsRecorded, OneTimetable}
 use Rattle.timetable.specs.declared.timetable.Timetable.{Timetable}
 use Rattle.lc_cli.specs.CheckText.{check_text_of, count_line_of}
 use Rattle.lc_cli.specs.Clear.{HasFairLink, IsRecordedFile}
-use Rattle.lc_cli.specs.Command.{IsQuestionBlock, Prints, arrive_question, ask_question, check_scope, fewest_question}
+use Rattle.lc_cli.specs.Command.{IsQuestionBlock, Prints}
+use Rattle.lc_cli.specs.Scope.{scope_of}
 use Rattle.lc_cli.specs.Laws.{OneRun, PrintOne}
 use Rattle.lc_cli.specs.Question.{IsAskedSo}
 use Rattle.lc_cli.specs.declared.block.Block.{Block}
 use Rattle.lc_cli.specs.declared.question.Asking.{Asking}
 use Rattle.lc_cli.specs.declared.question.Asking.TheVariants as askings
-use Rattle.lc_cli.specs.declared.question.Question.{Question}
 use Rattle.lc_cli.proofs.InputsLemmas.{inputs_recorded}
 use Rattle.lc_cli.proofs.OneReplayLemmas.{one_replay}
+use Rattle.cli_words.specs.declared.command.Published.{Published}
 use Rattle.lc_cli.proofs.TopLemmas.{side_asked_with}
 
 -- the counts of timetables that are the same
@@ -56,31 +57,31 @@ one_file recorded (Some name) (Some a) (Some b) x y =
     λ i. file ((x.0 ∙ sym y.0) i) (same i)
 
 -- what was loaded and read for questions over the same files
-module _ (one_timetable : OneTimetable) (loads_recorded : LoadsRecorded) (recorded : List File) (question : Question) where
+module _ (one_timetable : OneTimetable) (loads_recorded : LoadsRecorded) (recorded : List File) (published : Published) (asking : Asking) where
   -- timetables that were loaded over the same files are the same
-  same_timetables : (old new other later : FolderSeen) (before after from to : LinkSeen) (x y : Block) (a : IsQuestionBlock question old new before after x)
-      (b : IsQuestionBlock question other later from to y) → old.files ≡ Some recorded → other.files ≡ Some recorded → AreSame a.made b.made
+  same_timetables : (old new other later : FolderSeen) (before after from to : LinkSeen) (x y : Block) (a : IsQuestionBlock published asking old new before after x)
+      (b : IsQuestionBlock published asking other later from to y) → old.files ≡ Some recorded → other.files ≡ Some recorded → AreSame a.made b.made
   same_timetables old new other later before after from to x y a b tells tell =
-      one_timetable recorded question.scope a.made b.made (loads_recorded recorded question.scope old a.inputs.between a.made tells a.inputs.loaded)
-      (loads_recorded recorded question.scope other b.inputs.between b.made tell b.inputs.loaded)
+      one_timetable recorded (scope_of published.window) a.made b.made (loads_recorded recorded (scope_of published.window) old a.inputs.between a.made tells a.inputs.loaded)
+      (loads_recorded recorded (scope_of published.window) other b.inputs.between b.made tell b.inputs.loaded)
 
   -- and so are the files of their messages
-  same_files : (old new other later : FolderSeen) (before after from to : LinkSeen) (x y : Block) (a : IsQuestionBlock question old new before after x)
-      (b : IsQuestionBlock question other later from to y) → old.files ≡ Some recorded → other.files ≡ Some recorded → b.file ≡ a.file
+  same_files : (old new other later : FolderSeen) (before after from to : LinkSeen) (x y : Block) (a : IsQuestionBlock published asking old new before after x)
+      (b : IsQuestionBlock published asking other later from to y) → old.files ≡ Some recorded → other.files ≡ Some recorded → b.file ≡ a.file
   same_files old new other later before after from to x y a b tells tell =
-      one_file recorded question.update b.file a.file (inputs_recorded recorded question.scope question.update other later b.made b.file tell b.inputs)
-      (inputs_recorded recorded question.scope question.update old new a.made a.file tells a.inputs)
+      one_file recorded published.update b.file a.file (inputs_recorded recorded (scope_of published.window) published.update other later b.made b.file tell b.inputs)
+      (inputs_recorded recorded (scope_of published.window) published.update old new a.made a.file tells a.inputs)
 
   -- a fair link is one for what was asked
-  fair_asked : (old new : FolderSeen) (before after : LinkSeen) (block : Block) (x : IsQuestionBlock question old new before after block) → old.files ≡ Some recorded
-      → HasFairLink recorded question.scope question.update question.publishing before.clear before.faults after.faults
-      → IsFair x.made question.publishing x.file before.clear before.faults after.faults
+  fair_asked : (old new : FolderSeen) (before after : LinkSeen) (block : Block) (x : IsQuestionBlock published asking old new before after block) → old.files ≡ Some recorded
+      → HasFairLink recorded published before.clear before.faults after.faults
+      → IsFair x.made published.publishing x.file before.clear before.faults after.faults
   fair_asked old new before after block x tells fair = record {
     was_clear = fair.link.was_clear;
     no_fault = fair.link.no_fault;
     short = λ store line behind.
-        fair.short (side_with x.made question.publishing store)
-        (side_asked_with loads_recorded recorded question old new before after block x tells store line behind);
+        fair.short (side_with x.made published.publishing store)
+        (side_asked_with loads_recorded recorded published asking old new before after block x tells store line behind);
   }
 
 -- the texts of two askings print one client, in the words of the question
@@ -103,19 +104,19 @@ module _ {X Y : Type 0} (seen : X → LinkSeen) (saw : Y → LinkSeen) (one_time
       one_latest_output m n publishing file query before after from to x y d e same fair other_fair a b
 
   -- what is printed of one question over the same files is one
-  pub one_client : (recorded : List File) (question : Question) (old new other later : FolderSeen) (before after : X) (from to : Y) (x y : Block)
-      (a : IsQuestionBlock question old new (seen before) (seen after) x) (b : IsQuestionBlock question other later (saw from) (saw to) y) → old.files ≡ Some recorded → other.files ≡ Some recorded
-      → HasFairLink recorded question.scope question.update question.publishing (seen before).clear (seen before).faults (seen after).faults
-      → HasFairLink recorded question.scope question.update question.publishing (saw from).clear (saw from).faults (saw to).faults
-      → PrintOneSo question.asking x.text.items y.text.items a.end b.end
-  one_client recorded question old new other later before after from to x y a b tells tell fair other_fair =
-      let file : b.file ≡ a.file = same_files one_timetable loads_recorded recorded question old new other later (seen before) (seen after) (saw from) (saw to) x y a b tells tell in
-      one_asking question.asking a.made b.made question.publishing a.file before after from to x.text.items y.text.items a.end b.end
-      (same_timetables one_timetable loads_recorded recorded question old new other later (seen before) (seen after) (saw from) (saw to) x y a b tells tell)
-      (fair_asked one_timetable loads_recorded recorded question old new (seen before) (seen after) x a tells fair)
-      (subst (λ f. IsFair b.made question.publishing f (saw from).clear (saw from).faults (saw to).faults) file
-      (fair_asked one_timetable loads_recorded recorded question other later (saw from) (saw to) y b tell other_fair)) a.asked
-      (subst (λ f. IsAskedSo question.asking b.made question.publishing f (saw from) (saw to) y.text.items b.end) file b.asked)
+  pub one_client : (recorded : List File) (published : Published) (asking : Asking) (old new other later : FolderSeen) (before after : X) (from to : Y) (x y : Block)
+      (a : IsQuestionBlock published asking old new (seen before) (seen after) x) (b : IsQuestionBlock published asking other later (saw from) (saw to) y) → old.files ≡ Some recorded → other.files ≡ Some recorded
+      → HasFairLink recorded published (seen before).clear (seen before).faults (seen after).faults
+      → HasFairLink recorded published (saw from).clear (saw from).faults (saw to).faults
+      → PrintOneSo asking x.text.items y.text.items a.end b.end
+  one_client recorded published asking old new other later before after from to x y a b tells tell fair other_fair =
+      let file : b.file ≡ a.file = same_files one_timetable loads_recorded recorded published asking old new other later (seen before) (seen after) (saw from) (saw to) x y a b tells tell in
+      one_asking asking a.made b.made published.publishing a.file before after from to x.text.items y.text.items a.end b.end
+      (same_timetables one_timetable loads_recorded recorded published asking old new other later (seen before) (seen after) (saw from) (saw to) x y a b tells tell)
+      (fair_asked one_timetable loads_recorded recorded published asking old new (seen before) (seen after) x a tells fair)
+      (subst (λ f. IsFair b.made published.publishing f (saw from).clear (saw from).faults (saw to).faults) file
+      (fair_asked one_timetable loads_recorded recorded published asking other later (saw from) (saw to) y b tell other_fair)) a.asked
+      (subst (λ f. IsAskedSo asking b.made published.publishing f (saw from) (saw to) y.text.items b.end) file b.asked)
 
   module _ (one_command : OneCommand) (one_script : OneScript) (one_course : OneCourse) where
     -- runs over these arguments and files that print something print one output
@@ -130,8 +131,8 @@ module _ {X Y : Type 0} (seen : X → LinkSeen) (saw : Y → LinkSeen) (one_time
       by : (command : Command) → SaysCommand p.words command → Prints command p.folder_before p.folder_after (seen p.link_before) (seen p.link_after) x.block
           → Prints command q.folder_before q.folder_after (saw q.link_before) (saw q.link_after) y.block → PrintOne command x.block y.block
       by (commands.Check check) says a b =
-          let made = one_timetable recorded (check_scope check) a.made b.made (loads_recorded recorded (check_scope check) p.folder_before p.folder_after a.made at.tells a.loaded)
-          (loads_recorded recorded (check_scope check) q.folder_before q.folder_after b.made to.tells b.loaded) in
+          let made = one_timetable recorded (scope_of check.window) a.made b.made (loads_recorded recorded (scope_of check.window) p.folder_before p.folder_after a.made at.tells a.loaded)
+          (loads_recorded recorded (scope_of check.window) q.folder_before q.folder_after b.made to.tells b.loaded) in
           a.text ∙ same_counts a.made b.made made ∙ sym b.text
       by (commands.Replay replay) says a b =
           one_replay loads_recorded one_timetable one_script one_course recorded replay p.folder_before p.folder_after q.folder_before q.folder_after (seen p.link_before) (seen p.link_after)
@@ -146,7 +147,7 @@ module _ {X Y : Type 0} (seen : X → LinkSeen) (saw : Y → LinkSeen) (one_time
           let other_fair = to.fair ask (subst (λ w. SaysCommand w (commands.Ask ask)) words says) in (
             a.end,
             b.end,
-            one_client recorded (ask_question ask) p.folder_before p.folder_after q.folder_before q.folder_after p.link_before p.link_after q.link_before q.link_after x.block y.block a b at.tells to.tells fair
+            one_client recorded ask.published (askings.Earliest ask.query ask.cache) p.folder_before p.folder_after q.folder_before q.folder_after p.link_before p.link_after q.link_before q.link_after x.block y.block a b at.tells to.tells fair
                 other_fair,
           )
       by (commands.Fewest fewest) says a b =
@@ -154,7 +155,7 @@ module _ {X Y : Type 0} (seen : X → LinkSeen) (saw : Y → LinkSeen) (one_time
           let other_fair = to.fair_fewest fewest (subst (λ w. SaysCommand w (commands.Fewest fewest)) words says) in (
             a.end,
             b.end,
-            one_client recorded (fewest_question fewest) p.folder_before p.folder_after q.folder_before q.folder_after p.link_before p.link_after q.link_before q.link_after x.block y.block a b at.tells to.tells fair
+            one_client recorded fewest.published (askings.Fewest fewest.query) p.folder_before p.folder_after q.folder_before q.folder_after p.link_before p.link_after q.link_before q.link_after x.block y.block a b at.tells to.tells fair
                 other_fair,
           )
       by (commands.Arrive arrive) says a b =
@@ -162,6 +163,6 @@ module _ {X Y : Type 0} (seen : X → LinkSeen) (saw : Y → LinkSeen) (one_time
           let other_fair = to.fair_arrive arrive (subst (λ w. SaysCommand w (commands.Arrive arrive)) words says) in (
             a.end,
             b.end,
-            one_client recorded (arrive_question arrive) p.folder_before p.folder_after q.folder_before q.folder_after p.link_before p.link_after q.link_before q.link_after x.block y.block a b at.tells to.tells fair
+            one_client recorded arrive.published (askings.Latest arrive.query) p.folder_before p.folder_after q.folder_before q.folder_after p.link_before p.link_after q.link_before q.link_after x.block y.block a b at.tells to.tells fair
                 other_fair,
           )

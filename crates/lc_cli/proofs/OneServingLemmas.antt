@@ -1,5 +1,5 @@
 -- A command begins from one side by its files, and servings of the same bytes are alike.
-use Rattle.std.proofs.Common.{◌≡◌, ◌∙◌, ℕ, Bool, false, List, None, Some, Option, Result, Ok, Err, ap, ap₂, refl, subst, sym}
+use Rattle.std.proofs.Common.{◌≡◌, ◌∙◌, ℕ, Bool, List, None, Some, Option, Result, Ok, Err, ap, ap₂, refl, subst, sym}
 use Rattle.cli_ask.proofs.AdmissionLemmas.{of_history, one_behind, store_with}
 use Rattle.cli_ask.proofs.SideLemmas.{dates_of}
 use Rattle.cli_ask.specs.Admission.{IsBehind}
@@ -26,17 +26,18 @@ use Rattle.lc_world.specs.Link.{LinkSeen}
 use Rattle.publisher.specs.Held.{side_of}
 use Rattle.publisher_spec.specs.Side.{Side, date_in}
 use Rattle.timetable.specs.Laws.{AreSame, LoadsRecorded, OneTimetable}
-use Rattle.timetable.specs.declared.scope.Scope.{Scope}
 use Rattle.timetable.specs.declared.timetable.Timetable.{Timetable}
 use Rattle.version_store.specs.Laws.{OneOutcome}
 use Rattle.version_store.specs.Store.{Stored}
 use Rattle.lc_cli.specs.Clear.{IsPublishedSide, IsRecordedFile, IsServedSide}
-use Rattle.lc_cli.specs.Command.{IsServer, arrive_scope, ask_scope, fewest_scope, serve_scope}
-use Rattle.lc_cli.specs.OneServing.{BeginsFromIt, NotAnotherBase, NotMadeUp, NotUnasked, OneArriveSide, OneAskedSide, OneFewestSide, OneServedSide, OneServing}
+use Rattle.lc_cli.specs.Command.{IsServer}
+use Rattle.lc_cli.specs.Scope.{scope_of}
+use Rattle.lc_cli.specs.OneServing.{BeginsFromIt, NotAnotherBase, NotMadeUp, NotUnasked, OneServing, OneSide}
 use Rattle.lc_cli.specs.Serving.{IsSaidLast, IsServingEnd, asked_of, served_status_of}
 use Rattle.lc_cli.specs.declared.server.Server.{Server}
 use Rattle.lc_cli.specs.declared.status.Status.TheVariants.{Done}
 use Rattle.lc_cli.proofs.InputsLemmas.{inputs_recorded}
+use Rattle.cli_words.specs.declared.command.Published.{Published}
 use Rattle.lc_cli.proofs.OneRunLemmas.{one_file}
 
 -- the sides of timetables that are the same differ in their zones alone
@@ -79,11 +80,12 @@ by_what_they_are a b x y first second one = subst (λ (s : Side). AreOneSide s b
 
 module _ (one_timetable : OneTimetable) (one_outcome : OneOutcome) where
   -- by recorded files a publisher has one side, and one line says what became of its message
-  published_alike : (recorded : List File) (scope : Scope) (update : Option (List ℕ)) (publishing : Publishing) (accepts : Bool) (a b : Side)
-      (x : IsPublishedSide recorded scope update publishing accepts a) (y : IsPublishedSide recorded scope update publishing accepts b) → ArePublishedAsOne a b x.line y.line
-  published_alike recorded scope update publishing accepts a b x y =
-      let made : AreSame x.made y.made = one_timetable recorded scope x.made y.made x.sound y.sound in
-      let file : y.file ≡ x.file = one_file recorded update y.file x.file y.is_recorded x.is_recorded in
+  published_alike : (recorded : List File) (published : Published) (accepts : Bool) (a b : Side)
+      (x : IsPublishedSide recorded published accepts a) (y : IsPublishedSide recorded published accepts b) → ArePublishedAsOne a b x.line y.line
+  published_alike recorded published accepts a b x y =
+      let publishing : Publishing = published.publishing in
+      let made : AreSame x.made y.made = one_timetable recorded (scope_of published.window) x.made y.made x.sound y.sound in
+      let file : y.file ≡ x.file = one_file recorded published.update y.file x.file y.is_recorded x.is_recorded in
       let behind = subst (λ (f : Option File). IsBehind f (store_of y.made publishing.base_moment) y.store y.line) file y.behind in
       let one = published_as_one one_outcome x.made y.made publishing accepts x.file x.store y.store x.line y.line made x.behind behind in
       record {
@@ -91,30 +93,21 @@ module _ (one_timetable : OneTimetable) (one_outcome : OneOutcome) where
         line_is = one.line_is;
       }
 
-  pub one_asked_side : OneAskedSide
-  one_asked_side recorded ask a b x y = (published_alike recorded (ask_scope ask) ask.update ask.publishing false a b x y).sides
-
-  pub one_fewest_side : OneFewestSide
-  one_fewest_side recorded fewest a b x y = (published_alike recorded (fewest_scope fewest) fewest.update fewest.publishing false a b x y).sides
-
-  pub one_arrive_side : OneArriveSide
-  one_arrive_side recorded arrive a b x y = (published_alike recorded (arrive_scope arrive) arrive.update arrive.publishing false a b x y).sides
+  pub one_side : OneSide
+  one_side recorded published accepts a b x y = (published_alike recorded published accepts a b x y).sides
 
   -- a server begins from one side, and writes one line of its message first
   begins_as_one : (recorded : List File) (serve : Serve) (a b : Side) (x : IsServedSide recorded serve a) (y : IsServedSide recorded serve b) → ArePublishedAsOne a b x.line y.line
-  begins_as_one recorded serve a b x y = published_alike recorded (serve_scope serve) serve.update serve.publishing serve.accept_updates a b x y
-
-  pub one_served_side : OneServedSide
-  one_served_side recorded serve a b x y = (begins_as_one recorded serve a b x y).sides
+  begins_as_one recorded serve a b x y = published_alike recorded serve.published serve.accept_updates a b x y
 
 -- a server was made by the recorded files
 server_recorded : LoadsRecorded → (recorded : List File) (serve : Serve) (old new : FolderSeen) (server : Server) → old.files ≡ Some recorded → IsServer serve old new server
     → IsServedSide recorded serve (asked_of server).first
 server_recorded loads_recorded recorded serve old new server tells is = record {
   made = is.made;
-  sound = loads_recorded recorded (serve_scope serve) old is.inputs.between is.made tells is.inputs.loaded;
+  sound = loads_recorded recorded (scope_of serve.published.window) old is.inputs.between is.made tells is.inputs.loaded;
   file = is.file;
-  is_recorded = inputs_recorded recorded (serve_scope serve) serve.update old new is.made is.file tells is.inputs;
+  is_recorded = inputs_recorded recorded (scope_of serve.published.window) serve.published.update old new is.made is.file tells is.inputs;
   store = is.publishes.store;
   line = server.line.items;
   behind = is.publishes.behind;
@@ -168,7 +161,7 @@ no_history recorded (Some file) old new line is behind = absurd is
 pub not_made_up : NotMadeUp
 not_made_up recorded serve side none some x =
     let is : IsRecordedFile recorded None x.file = subst (λ (name : Option (List ℕ)). IsRecordedFile recorded name x.file) none x.is_recorded in
-    let stays : x.store ≡ store_of x.made serve.publishing.base_moment = no_history recorded x.file (store_of x.made serve.publishing.base_moment) x.store x.line is x.behind in
+    let stays : x.store ≡ store_of x.made serve.published.publishing.base_moment = no_history recorded x.file (store_of x.made serve.published.publishing.base_moment) x.store x.line is x.behind in
     some (ap (λ (s : Side). s.history) x.is ∙ ap (λ (s : Stored). s.history) stays)
 
 pub not_unasked : NotUnasked
@@ -180,4 +173,4 @@ base_stays made moment file new line behind = ap (λ (s : Stored). s.base) (of_h
 
 pub not_another_base : NotAnotherBase
 not_another_base recorded serve side other x =
-    other (ap (λ (s : Side). s.base_moment) x.is ∙ base_stays x.made serve.publishing.base_moment x.file x.store x.line x.behind)
+    other (ap (λ (s : Side). s.base_moment) x.is ∙ base_stays x.made serve.published.publishing.base_moment x.file x.store x.line x.behind)

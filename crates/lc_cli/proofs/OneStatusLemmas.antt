@@ -37,7 +37,8 @@ use Rattle.version_store.specs.declared.admission.AdmitFault.{AdmitFault}
 use Rattle.version_store.specs.declared.admission.AdmitFault.TheVariants as faults
 use Rattle.lc_cli.specs.Block.{IsBlockEnd, client_status_of, failed_status_of}
 use Rattle.lc_cli.specs.Clear.{HasFairLink, HasTimetable, IsClear, IsRecordedCourse, IsRecordedFile, IsUnhindered}
-use Rattle.lc_cli.specs.Command.{IsQuestionBlock, IsRefusedAs, IsRightBlock, IsRightRefusal, Prints, arrive_question, arrive_scope, ask_question, ask_scope, check_scope, fewest_question, fewest_scope, serve_scope}
+use Rattle.lc_cli.specs.Command.{IsQuestionBlock, IsRefusedAs, IsRightBlock, IsRightRefusal, Prints}
+use Rattle.lc_cli.specs.Scope.{scope_of}
 use Rattle.lc_cli.specs.Drill.{drill_folder, sure_seen}
 use Rattle.cli_drill.specs.Files.{drill_files}
 use Rattle.cli_inputs.specs.Inputs.{AsksForUpdate, IsRefusedFor}
@@ -47,7 +48,6 @@ use Rattle.lc_cli.specs.Top.{HasPrinted, HasServed, IsRight, Past}
 use Rattle.lc_cli.specs.declared.block.Block.{Block}
 use Rattle.lc_cli.specs.declared.question.Asking.{Asking}
 use Rattle.lc_cli.specs.declared.question.Asking.TheVariants as askings
-use Rattle.lc_cli.specs.declared.question.Question.{Question}
 use Rattle.cli_inputs.specs.declared.refusal.Refusal.{Refusal}
 use Rattle.cli_inputs.specs.declared.refusal.Refusal.TheVariants as refused
 use Rattle.lc_cli.specs.declared.status.Status.{Status}
@@ -58,6 +58,7 @@ use Rattle.lc_cli.proofs.OneReplayLemmas.{one_replay}
 use Rattle.lc_cli.proofs.OneRunLemmas.{PrintOneSo, one_client}
 use Rattle.lc_cli.proofs.PlanLemmas.{asks_recorded}
 use Rattle.lc_cli.proofs.ReplayLemmas.{course_fine, course_recorded}
+use Rattle.cli_words.specs.declared.command.Published.{Published}
 use Rattle.lc_cli.proofs.TopLemmas.{AreNoFaults, IsHeardBy, IsNoFault, first_heard, heard_fine, heard_nothing, no_fault, side_asked, side_served}
 
 -- the block was printed whole
@@ -95,15 +96,15 @@ Fails scope update recorded p s = LoadFails scope p s ⊎ UpdateFails scope upda
 
 -- what the files refuse: the feed or the message of a command, or its event sequence
 abbrev IsRefusedSo : {X : Type 0} → List File → Past X → Status → Command → Type 0
-IsRefusedSo recorded p s (commands.Check check) = Fails (check_scope check) None recorded p s
-IsRefusedSo recorded p s (commands.Ask ask) = Fails (ask_scope ask) ask.update recorded p s
+IsRefusedSo recorded p s (commands.Check check) = Fails (scope_of check.window) None recorded p s
+IsRefusedSo recorded p s (commands.Ask ask) = Fails (scope_of ask.published.window) ask.published.update recorded p s
 IsRefusedSo recorded p s (commands.Replay replay) = IsCourseRefused recorded replay s
 IsRefusedSo recorded p s (commands.Serve serve) = Unit {0}
 IsRefusedSo recorded p s (commands.Plan plan) = Unit {0}
 IsRefusedSo recorded p s (commands.Relay relay) = Unit {0}
 IsRefusedSo recorded p s (commands.Drill drill) = Unit {0}
-IsRefusedSo recorded p s (commands.Fewest fewest) = Fails (fewest_scope fewest) fewest.update recorded p s
-IsRefusedSo recorded p s (commands.Arrive arrive) = Fails (arrive_scope arrive) arrive.update recorded p s
+IsRefusedSo recorded p s (commands.Fewest fewest) = Fails (scope_of fewest.published.window) fewest.published.update recorded p s
+IsRefusedSo recorded p s (commands.Arrive arrive) = Fails (scope_of arrive.published.window) arrive.published.update recorded p s
 
 -- a command is refused by its files
 record IsRefusedByFiles {X : Type 0} (recorded : List File) (p : Past X) (s : Status) : Type 0 where
@@ -156,15 +157,15 @@ module _ {X : Type 0} (seen : X → LinkSeen) (p : Past X) (recorded : List File
       (status ∙ ap (λ n. UpdateBroken n found) same)))
 
   refused_so : (command : Command) (refusal : Refusal) → s ≡ status_of refusal → IsRefusedAs command p.folder_before p.folder_after refusal → (s ≡ NoMemory) ⊎ IsRefusedSo recorded p s command
-  refused_so (commands.Check check) refusal status is = by_refusal (check_scope check) None refusal status is
-  refused_so (commands.Ask ask) refusal status is = by_refusal (ask_scope ask) ask.update refusal status is
+  refused_so (commands.Check check) refusal status is = by_refusal (scope_of check.window) None refusal status is
+  refused_so (commands.Ask ask) refusal status is = by_refusal (scope_of ask.published.window) ask.published.update refusal status is
   refused_so (commands.Replay replay) refusal status is = course_refused recorded replay p.folder_before p.folder_after at.tells at.no_folder_fault s refusal is status
   refused_so (commands.Serve serve) refusal status is = inr tt
   refused_so (commands.Plan plan) refusal status is = inr tt
   refused_so (commands.Relay relay) refusal status is = inr tt
   refused_so (commands.Drill drill) refusal status is = inr tt
-  refused_so (commands.Fewest fewest) refusal status is = by_refusal (fewest_scope fewest) fewest.update refusal status is
-  refused_so (commands.Arrive arrive) refusal status is = by_refusal (arrive_scope arrive) arrive.update refusal status is
+  refused_so (commands.Fewest fewest) refusal status is = by_refusal (scope_of fewest.published.window) fewest.published.update refusal status is
+  refused_so (commands.Arrive arrive) refusal status is = by_refusal (scope_of arrive.published.window) arrive.published.update refusal status is
 
   by_command : (command : Command) → SaysCommand p.words command → (s ≡ NoMemory) ⊎ IsRefusedSo recorded p s command → (s ≡ NoMemory) ⊎ Ended seen recorded p s
   by_command command says (inl memory) = inl memory
@@ -266,29 +267,29 @@ module _ {X Y : Type 0} (seen : X → LinkSeen) (saw : Y → LinkSeen) (one_comm
     loaded : HasLoaded recorded replay
 
   abbrev LoadedSo : {Z : Type 0} → Past Z → Command → Type 0
-  LoadedSo r (commands.Check check) = Loaded (check_scope check) None r
-  LoadedSo r (commands.Ask ask) = Loaded (ask_scope ask) ask.update r
+  LoadedSo r (commands.Check check) = Loaded (scope_of check.window) None r
+  LoadedSo r (commands.Ask ask) = Loaded (scope_of ask.published.window) ask.published.update r
   LoadedSo r (commands.Replay replay) = PlayedRecorded replay
   LoadedSo r (commands.Serve serve) = Unit {0}
   LoadedSo r (commands.Plan plan) = Unit {0}
   LoadedSo r (commands.Relay relay) = Unit {0}
   LoadedSo r (commands.Drill drill) = Unit {0}
-  LoadedSo r (commands.Fewest fewest) = Loaded (fewest_scope fewest) fewest.update r
-  LoadedSo r (commands.Arrive arrive) = Loaded (arrive_scope arrive) arrive.update r
+  LoadedSo r (commands.Fewest fewest) = Loaded (scope_of fewest.published.window) fewest.published.update r
+  LoadedSo r (commands.Arrive arrive) = Loaded (scope_of arrive.published.window) arrive.published.update r
 
   -- that of a question
-  loaded_question : {Z : Type 0} (look : Z → LinkSeen) (r : Past Z) (question : Question) (block : Block)
-      → IsQuestionBlock question r.folder_before r.folder_after (look r.link_before) (look r.link_after) block → r.folder_before.files ≡ Some recorded → Loaded question.scope question.update r
-  loaded_question look r question block prints tells =
-      let first = first_heard loads_recorded recorded question r.folder_before r.folder_after (look r.link_before) (look r.link_after) block prints tells in
+  loaded_question : {Z : Type 0} (look : Z → LinkSeen) (r : Past Z) (published : Published) (asking : Asking) (block : Block)
+      → IsQuestionBlock published asking r.folder_before r.folder_after (look r.link_before) (look r.link_after) block → r.folder_before.files ≡ Some recorded → Loaded (scope_of published.window) published.update r
+  loaded_question look r published asking block prints tells =
+      let first = first_heard loads_recorded recorded published asking r.folder_before r.folder_after (look r.link_before) (look r.link_after) block prints tells in
       record {
         between = prints.inputs.between;
         made = prints.made;
         loads = prints.inputs.loaded;
         heard = record {
           file = prints.file;
-          is_recorded = inputs_recorded recorded question.scope question.update r.folder_before r.folder_after prints.made prints.file tells prints.inputs;
-          old = store_of prints.made question.publishing.base_moment;
+          is_recorded = inputs_recorded recorded (scope_of published.window) published.update r.folder_before r.folder_after prints.made prints.file tells prints.inputs;
+          old = store_of prints.made published.publishing.base_moment;
           new = first.store;
           line = first.line;
           behind = first.behind;
@@ -313,11 +314,11 @@ module _ {X Y : Type 0} (seen : X → LinkSeen) (saw : Y → LinkSeen) (one_comm
   loaded look r block tells (commands.Plan plan) prints = tt
   loaded look r block tells (commands.Relay relay) prints = tt
   loaded look r block tells (commands.Drill drill) prints = tt
-  loaded look r block tells (commands.Fewest fewest) prints = loaded_question look r (fewest_question fewest) block prints tells
-  loaded look r block tells (commands.Arrive arrive) prints = loaded_question look r (arrive_question arrive) block prints tells
+  loaded look r block tells (commands.Fewest fewest) prints = loaded_question look r fewest.published (askings.Fewest fewest.query) block prints tells
+  loaded look r block tells (commands.Arrive arrive) prints = loaded_question look r arrive.published (askings.Latest arrive.query) block prints tells
   loaded look r block tells (commands.Check check) prints =
       record { between = r.folder_after; made = prints.made; loads = prints.loaded; heard = heard_nothing recorded (record { runs = prints.made.runs; stops = prints.made.doc.stops; zone = prints.made.zone; base = 0; history = [] }) }
-  loaded look r block tells (commands.Ask ask) prints = loaded_question look r (ask_question ask) block prints tells
+  loaded look r block tells (commands.Ask ask) prints = loaded_question look r ask.published (askings.Earliest ask.query ask.cache) block prints tells
 
   -- a recorded message that was heard is not wrong
   heard_or_wrong : (name : List ℕ) (cause : Option AdmitFault) → IsHeardBy recorded (Some name) → IsRecordedCause recorded name cause → ⊥
@@ -328,17 +329,17 @@ module _ {X Y : Type 0} (seen : X → LinkSeen) (saw : Y → LinkSeen) (one_comm
   heard_or_wrong name (Some found) is (bytes, same, wrong, other) = heard_fine one_outcome recorded name bytes found is same wrong other
 
   -- questions that print one client have one status
-  one_question : (question : Question) (x y : Block) (a : IsQuestionBlock question p.folder_before p.folder_after (seen p.link_before) (seen p.link_after) x)
-      (b : IsQuestionBlock question q.folder_before q.folder_after (saw q.link_before) (saw q.link_after) y)
-      → HasFairLink recorded question.scope question.update question.publishing (seen p.link_before).clear (seen p.link_before).faults (seen p.link_after).faults
-      → HasFairLink recorded question.scope question.update question.publishing (saw q.link_before).clear (saw q.link_before).faults (saw q.link_after).faults
+  one_question : (published : Published) (asking : Asking) (x y : Block) (a : IsQuestionBlock published asking p.folder_before p.folder_after (seen p.link_before) (seen p.link_after) x)
+      (b : IsQuestionBlock published asking q.folder_before q.folder_after (saw q.link_before) (saw q.link_after) y)
+      → HasFairLink recorded published (seen p.link_before).clear (seen p.link_before).faults (seen p.link_after).faults
+      → HasFairLink recorded published (saw q.link_before).clear (saw q.link_before).faults (saw q.link_after).faults
       → client_status_of 1 x.ends.items ≡ client_status_of 1 y.ends.items
-  one_question question x y a b fair other_fair =
-      let one = one_client seen saw one_timetable loads_recorded one_output one_fewest_output one_latest_output recorded question p.folder_before p.folder_after q.folder_before q.folder_after p.link_before
+  one_question published asking x y a b fair other_fair =
+      let one = one_client seen saw one_timetable loads_recorded one_output one_fewest_output one_latest_output recorded published asking p.folder_before p.folder_after q.folder_before q.folder_after p.link_before
       p.link_after q.link_before q.link_after x y a b at.tells to.tells fair other_fair in
-      let fine = subst AreNoFaults a.client (no_fault loads_recorded recorded question p.folder_before p.folder_after (seen p.link_before) (seen p.link_after) x a at.tells fair) in
+      let fine = subst AreNoFaults a.client (no_fault loads_recorded recorded published asking p.folder_before p.folder_after (seen p.link_before) (seen p.link_after) x a at.tells fair) in
       ap (client_status_of 1) a.client
-      ∙ ap (λ (f : Option Status). unwrap_or f Done) (one_asking_status question.asking x.text.items y.text.items a.end b.end one fine.0)
+      ∙ ap (λ (f : Option Status). unwrap_or f Done) (one_asking_status asking x.text.items y.text.items a.end b.end one fine.0)
       ∙ sym (ap (client_status_of 1) b.client)
 
   -- blocks that were printed whole
@@ -361,11 +362,11 @@ module _ {X Y : Type 0} (seen : X → LinkSeen) (saw : Y → LinkSeen) (one_comm
         one_clients_status 1 x.block.ends.items y.block.ends.items one.one_each
         (course_fine loads_recorded recorded replay p.folder_before p.folder_after (seen p.link_before) (seen p.link_after) x.block.text.items x.block.ends.items a at.tells fair)
     by (commands.Ask ask) says a b =
-        one_question (ask_question ask) x.block y.block a b (at.fair ask says) (to.fair ask (subst (λ w. SaysCommand w (commands.Ask ask)) words says))
+        one_question ask.published (askings.Earliest ask.query ask.cache) x.block y.block a b (at.fair ask says) (to.fair ask (subst (λ w. SaysCommand w (commands.Ask ask)) words says))
     by (commands.Fewest fewest) says a b =
-        one_question (fewest_question fewest) x.block y.block a b (at.fair_fewest fewest says) (to.fair_fewest fewest (subst (λ w. SaysCommand w (commands.Fewest fewest)) words says))
+        one_question fewest.published (askings.Fewest fewest.query) x.block y.block a b (at.fair_fewest fewest says) (to.fair_fewest fewest (subst (λ w. SaysCommand w (commands.Fewest fewest)) words says))
     by (commands.Arrive arrive) says a b =
-        one_question (arrive_question arrive) x.block y.block a b (at.fair_arrive arrive says) (to.fair_arrive arrive (subst (λ w. SaysCommand w (commands.Arrive arrive)) words says))
+        one_question arrive.published (askings.Latest arrive.query) x.block y.block a b (at.fair_arrive arrive says) (to.fair_arrive arrive (subst (λ w. SaysCommand w (commands.Arrive arrive)) words says))
 
   -- a block and a refusal by the files are no ends of one command
   clash_loaded : {Z W : Type 0} (r : Past Z) (u : Past W) (v : Status) → r.folder_before.files ≡ Some recorded → u.folder_before.files ≡ Some recorded → (scope : Scope) (update : Option (List ℕ))
@@ -376,16 +377,16 @@ module _ {X Y : Type 0} (seen : X → LinkSeen) (saw : Y → LinkSeen) (one_comm
 
   clash : {Z W : Type 0} (r : Past Z) (u : Past W) (v : Status) → r.folder_before.files ≡ Some recorded → u.folder_before.files ≡ Some recorded → (command : Command) → IsInProcess command
       → LoadedSo r command → IsRefusedSo recorded u v command → ⊥
-  clash r u v tells tell (commands.Check check) here x y = clash_loaded r u v tells tell (check_scope check) None x y
-  clash r u v tells tell (commands.Ask ask) here x y = clash_loaded r u v tells tell (ask_scope ask) ask.update x y
+  clash r u v tells tell (commands.Check check) here x y = clash_loaded r u v tells tell (scope_of check.window) None x y
+  clash r u v tells tell (commands.Ask ask) here x y = clash_loaded r u v tells tell (scope_of ask.published.window) ask.published.update x y
   clash r u v tells tell (commands.Replay replay) here x y =
       not_refused one_outcome one_end one_script one_fault never_both recorded replay x.made x.all v x.course x.loaded y
   clash r u v tells tell (commands.Serve serve) here x y = here
   clash r u v tells tell (commands.Plan plan) here x y = here
   clash r u v tells tell (commands.Relay relay) here x y = here
   clash r u v tells tell (commands.Drill drill) here x y = here
-  clash r u v tells tell (commands.Fewest fewest) here x y = clash_loaded r u v tells tell (fewest_scope fewest) fewest.update x y
-  clash r u v tells tell (commands.Arrive arrive) here x y = clash_loaded r u v tells tell (arrive_scope arrive) arrive.update x y
+  clash r u v tells tell (commands.Fewest fewest) here x y = clash_loaded r u v tells tell (scope_of fewest.published.window) fewest.published.update x y
+  clash r u v tells tell (commands.Arrive arrive) here x y = clash_loaded r u v tells tell (scope_of arrive.published.window) arrive.published.update x y
 
   whole_refused : (x : Whole seen p s) → IsRefusedByFiles recorded q t → ⊥
   whole_refused x y =
@@ -413,15 +414,15 @@ module _ {X Y : Type 0} (seen : X → LinkSeen) (saw : Y → LinkSeen) (one_comm
       x.status_is ∙ ap (λ n. status_by 0 n x.cause) name ∙ ap (status_by 0 y.name) cause ∙ sym y.status_is
 
   both_refused : (command : Command) → IsInProcess command → IsRefusedSo recorded p s command → IsRefusedSo recorded q t command → s ≡ t
-  both_refused (commands.Check check) here x y = both_fail (check_scope check) None x y
-  both_refused (commands.Ask ask) here x y = both_fail (ask_scope ask) ask.update x y
+  both_refused (commands.Check check) here x y = both_fail (scope_of check.window) None x y
+  both_refused (commands.Ask ask) here x y = both_fail (scope_of ask.published.window) ask.published.update x y
   both_refused (commands.Replay replay) here x y = one_course_refusal one_outcome one_end one_script one_fault never_both recorded replay s t x y
   both_refused (commands.Serve serve) here x y = absurd here
   both_refused (commands.Plan plan) here x y = absurd here
   both_refused (commands.Relay relay) here x y = absurd here
   both_refused (commands.Drill drill) here x y = absurd here
-  both_refused (commands.Fewest fewest) here x y = both_fail (fewest_scope fewest) fewest.update x y
-  both_refused (commands.Arrive arrive) here x y = both_fail (arrive_scope arrive) arrive.update x y
+  both_refused (commands.Fewest fewest) here x y = both_fail (scope_of fewest.published.window) fewest.published.update x y
+  both_refused (commands.Arrive arrive) here x y = both_fail (scope_of arrive.published.window) arrive.published.update x y
 
   one_ended : Ended seen recorded p s → Ended saw recorded q t → s ≡ t
   one_ended (inl x) (inl y) = both_whole x y
@@ -479,7 +480,7 @@ done_is_clear seen loads_recorded p recorded at right = by (done_is_printed seen
     says = says;
     recorded = recorded;
     unhindered = at;
-    fed = has_timetable loads_recorded recorded (check_scope check) p.folder_before p.folder_after prints.made at.tells prints.loaded;
+    fed = has_timetable loads_recorded recorded (scope_of check.window) p.folder_before p.folder_after prints.made at.tells prints.loaded;
     heard = tt;
   }
   of (commands.Replay replay) block says prints =
@@ -497,10 +498,10 @@ done_is_clear seen loads_recorded p recorded at right = by (done_is_printed seen
     says = says;
     recorded = recorded;
     unhindered = at;
-    fed = has_timetable loads_recorded recorded (ask_scope ask) p.folder_before prints.inputs.between prints.made at.tells prints.inputs.loaded;
+    fed = has_timetable loads_recorded recorded (scope_of ask.published.window) p.folder_before prints.inputs.between prints.made at.tells prints.inputs.loaded;
     heard = (
-      side_with prints.made ask.publishing prints.asked.store,
-      side_asked loads_recorded recorded (ask_question ask) p.folder_before p.folder_after (seen p.link_before) (seen p.link_after) block prints at.tells,
+      side_with prints.made ask.published.publishing prints.asked.store,
+      side_asked loads_recorded recorded ask.published (askings.Earliest ask.query ask.cache) p.folder_before p.folder_after (seen p.link_before) (seen p.link_after) block prints at.tells,
     );
   }
   of (commands.Fewest fewest) block says prints = record {
@@ -508,10 +509,10 @@ done_is_clear seen loads_recorded p recorded at right = by (done_is_printed seen
     says = says;
     recorded = recorded;
     unhindered = at;
-    fed = has_timetable loads_recorded recorded (fewest_scope fewest) p.folder_before prints.inputs.between prints.made at.tells prints.inputs.loaded;
+    fed = has_timetable loads_recorded recorded (scope_of fewest.published.window) p.folder_before prints.inputs.between prints.made at.tells prints.inputs.loaded;
     heard = (
-      side_with prints.made fewest.publishing prints.asked.asked.store,
-      side_asked loads_recorded recorded (fewest_question fewest) p.folder_before p.folder_after (seen p.link_before) (seen p.link_after) block prints at.tells,
+      side_with prints.made fewest.published.publishing prints.asked.asked.store,
+      side_asked loads_recorded recorded fewest.published (askings.Fewest fewest.query) p.folder_before p.folder_after (seen p.link_before) (seen p.link_after) block prints at.tells,
     );
   }
   of (commands.Arrive arrive) block says prints = record {
@@ -519,10 +520,10 @@ done_is_clear seen loads_recorded p recorded at right = by (done_is_printed seen
     says = says;
     recorded = recorded;
     unhindered = at;
-    fed = has_timetable loads_recorded recorded (arrive_scope arrive) p.folder_before prints.inputs.between prints.made at.tells prints.inputs.loaded;
+    fed = has_timetable loads_recorded recorded (scope_of arrive.published.window) p.folder_before prints.inputs.between prints.made at.tells prints.inputs.loaded;
     heard = (
-      side_with prints.made arrive.publishing prints.asked.store,
-      side_asked loads_recorded recorded (arrive_question arrive) p.folder_before p.folder_after (seen p.link_before) (seen p.link_after) block prints at.tells,
+      side_with prints.made arrive.published.publishing prints.asked.store,
+      side_asked loads_recorded recorded arrive.published (askings.Latest arrive.query) p.folder_before p.folder_after (seen p.link_before) (seen p.link_after) block prints at.tells,
     );
   }
   of (commands.Serve serve) block says prints = absurd prints
@@ -568,9 +569,9 @@ done_is_clear seen loads_recorded p recorded at right = by (done_is_printed seen
         says = x.right.says;
         recorded = recorded;
         unhindered = at;
-        fed = has_timetable loads_recorded recorded (serve_scope x.right.serve) p.folder_before is.inputs.between is.made at.tells is.inputs.loaded;
+        fed = has_timetable loads_recorded recorded (scope_of x.right.serve.published.window) p.folder_before is.inputs.between is.made at.tells is.inputs.loaded;
         heard = (
-          side_for is.made x.right.serve.publishing is.publishes.store x.right.serve.accept_updates,
+          side_for is.made x.right.serve.published.publishing is.publishes.store x.right.serve.accept_updates,
           side_served loads_recorded recorded x.right.serve p.folder_before p.folder_after x.server at.tells is,
         );
       }

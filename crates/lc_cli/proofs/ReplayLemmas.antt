@@ -35,7 +35,8 @@ use Rattle.timetable.specs.declared.timetable.Timetable.{Timetable}
 use Rattle.trip_updates.specs.Faults.{fault_of}
 use Rattle.trip_updates.specs.declared.fault.RtFault.{RtFault}
 use Rattle.lc_cli.specs.Clear.{AreRecordedEvents, HasFairCourse, IsRecordedCourse, IsRecordedEvent}
-use Rattle.lc_cli.specs.Command.{IsPlayedBy, replay_scope}
+use Rattle.lc_cli.specs.Command.{IsPlayedBy}
+use Rattle.lc_cli.specs.Scope.{scope_of}
 use Rattle.lc_cli.specs.Refusal.{status_of}
 use Rattle.lc_cli.specs.declared.status.Status.TheVariants.{NoMemory}
 use Rattle.lc_cli.proofs.InputsLemmas.{absent_recorded, bytes_recorded, still_recorded}
@@ -103,12 +104,12 @@ no_fault_of side given query end base before after version made (outcomes.PeerWr
 module _ (loads_recorded : LoadsRecorded) where
   -- the event sequence that was played is the one of the recorded files
   pub course_recorded : (recorded : List File) (replay : Replay) (old new : FolderSeen) (made : Timetable) (all : List Event) → old.files ≡ Some recorded
-      → ReadsReplay (replay_scope replay) replay.script old new made all → IsRecordedCourse recorded replay made all
+      → ReadsReplay (scope_of replay.window) replay.script old new made all → IsRecordedCourse recorded replay made all
   course_recorded recorded replay old new made all tells read =
       let script = read.has.script in
       let at = still_recorded recorded old read.has.between tells script.kept in
       record {
-        sound = subst (IsSound recorded (replay_scope replay)) (sym read.made_is) (loads_recorded recorded (replay_scope replay) read.has.between read.between read.has.made at read.has.loaded);
+        sound = subst (IsSound recorded (scope_of replay.window)) (sym read.made_is) (loads_recorded recorded (scope_of replay.window) read.has.between read.between read.has.made at read.has.loaded);
         script = script.script;
         is_recorded = record { bytes = script.read.bytes; is_recorded = bytes_recorded recorded old read.has.between replay.script script.read.bytes tells script.read.read; says = script.read.says };
         are = recorded_events recorded script.script read.between new all (still_recorded recorded read.has.between read.between at read.has.kept) read.read;
@@ -131,7 +132,7 @@ module _ (one_script : OneScript) (never_both : NeverBoth) (not_broken : NotBrok
   same_script bytes is = let e : Some bytes ≡ Some course.is_recorded.bytes = sym is ∙ course.is_recorded.is_recorded in cc
 
   -- the record at which the reading stopped is one of the recorded event sequence
-  stopped_at : (refusal : Refusal) (x : StopsAtRecord (replay_scope replay) replay.script old new refusal) → (event : Event) × IsRecordedEvent recorded x.stops.said event
+  stopped_at : (refusal : Refusal) (x : StopsAtRecord (scope_of replay.window) replay.script old new refusal) → (event : Event) × IsRecordedEvent recorded x.stops.said event
   stopped_at refusal x =
       let read = x.has.script.read in
       let bytes = same_script read.bytes (bytes_recorded recorded old x.has.between replay.script read.bytes tells read.read) in
@@ -139,15 +140,15 @@ module _ (one_script : OneScript) (never_both : NeverBoth) (not_broken : NotBrok
       recorded_at recorded x.stops.before x.stops.behind x.stops.said all (subst (λ s. AreRecordedEvents recorded s all) (sym same ∙ x.stops.parts) course.are)
 
   -- the directory records these files there, too
-  files_at : (refusal : Refusal) (x : StopsAtRecord (replay_scope replay) replay.script old new refusal) → x.stops.at.files ≡ Some recorded
+  files_at : (refusal : Refusal) (x : StopsAtRecord (scope_of replay.window) replay.script old new refusal) → x.stops.at.files ≡ Some recorded
   files_at refusal x =
       still_recorded recorded x.between x.stops.at (still_recorded recorded x.has.between x.between (still_recorded recorded old x.has.between tells x.has.script.kept) x.has.kept) x.stops.kept
 
   -- a recorded message is there
-  message_at : (refusal : Refusal) (x : StopsAtRecord (replay_scope replay) replay.script old new refusal) (name : List ℕ) → x.stops.said ≡ records.Update name → (message : Message) × (bytes_named recorded name ≡ Some message.file.bytes)
+  message_at : (refusal : Refusal) (x : StopsAtRecord (scope_of replay.window) replay.script old new refusal) (name : List ℕ) → x.stops.said ≡ records.Update name → (message : Message) × (bytes_named recorded name ≡ Some message.file.bytes)
   message_at refusal x name is = let event = stopped_at refusal x in recorded_message recorded x.stops.said name event.0 is event.1
 
-  same_bytes : (refusal : Refusal) (x : StopsAtRecord (replay_scope replay) replay.script old new refusal) (name bytes : List ℕ) → x.stops.said ≡ records.Update name
+  same_bytes : (refusal : Refusal) (x : StopsAtRecord (scope_of replay.window) replay.script old new refusal) (name bytes : List ℕ) → x.stops.said ≡ records.Update name
       → bytes_named recorded name ≡ Some bytes → (message : Message) × (message.file.bytes ≡ bytes)
   same_bytes refusal x name bytes is recorded_is =
       let message = message_at refusal x name is in
@@ -160,12 +161,12 @@ module _ (one_script : OneScript) (never_both : NeverBoth) (not_broken : NotBrok
   not_broken_message message bytes found is wrong = let whole = message.whole in let e : fault_of message.file.bytes ≡ Some found = subst (λ b. fault_of b ≡ Some found) (sym is) wrong in absurd (cc)
 
   -- an event sequence of recorded files is refused for no cause but memory
-  pub never_refused : (refusal : Refusal) → IsReplayRefused (replay_scope replay) replay.script old new refusal → (status_of refusal ≡ NoMemory) ⊎ ⊥
+  pub never_refused : (refusal : Refusal) → IsReplayRefused (scope_of replay.window) replay.script old new refusal → (status_of refusal ≡ NoMemory) ⊎ ⊥
   never_refused refused.Usage is = inr is
   never_refused (refused.Load (fault.Broken rule file row)) is =
-      inr (not_broken recorded (replay_scope replay) is.between new made rule file row (still_recorded recorded old is.between tells is.script.kept) course.sound is.ended)
+      inr (not_broken recorded (scope_of replay.window) is.between new made rule file row (still_recorded recorded old is.between tells is.script.kept) course.sound is.ended)
   never_refused (refused.Load (fault.TooLarge what count)) is =
-      inr (not_too_large recorded (replay_scope replay) is.between new made what count (still_recorded recorded old is.between tells is.script.kept) course.sound is.ended)
+      inr (not_too_large recorded (scope_of replay.window) is.between new made what count (still_recorded recorded old is.between tells is.script.kept) course.sound is.ended)
   never_refused (refused.Load (fault.Folder before after)) is =
       inr (no_fault (subst (λ count. Rose count new.faults) is.0.before_is (subst (λ count. Rose before count) is.0.after_is is.0.rose)))
   never_refused (refused.Load fault.NoMemory) is = inl refl

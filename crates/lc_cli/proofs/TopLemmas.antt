@@ -41,7 +41,8 @@ use Rattle.version_store.specs.declared.admission.AdmitFault.TheVariants as faul
 use Rattle.cli_ask.specs.declared.end.ClientEnd.{ClientEnd}
 use Rattle.lc_cli.specs.Block.{IsBlockEnd, client_status_of, failed_status_of}
 use Rattle.lc_cli.specs.Clear.{HasFairLink, IsAnswered, IsPublishedSide, IsServedSide, IsRecordedFile}
-use Rattle.lc_cli.specs.Command.{IsQuestionBlock, IsRightRefusal, IsServer, serve_scope}
+use Rattle.lc_cli.specs.Command.{IsQuestionBlock, IsRightRefusal, IsServer}
+use Rattle.lc_cli.specs.Scope.{scope_of}
 use Rattle.lc_cli.specs.Question.{IsAskedSo}
 use Rattle.cli_inputs.specs.Inputs.{AsksForUpdate, IsBrokenUpdate, IsLongUpdate}
 use Rattle.lc_cli.specs.Refusal.{IsRefusalEnd, status_of}
@@ -49,12 +50,12 @@ use Rattle.lc_cli.specs.Top.{IsEarlyRefusal, IsRight, Past}
 use Rattle.lc_cli.specs.declared.block.Block.{Block}
 use Rattle.lc_cli.specs.declared.question.Asking.{Asking}
 use Rattle.lc_cli.specs.declared.question.Asking.TheVariants as askings
-use Rattle.lc_cli.specs.declared.question.Question.{Question}
 use Rattle.lc_cli.specs.declared.server.Server.{Server}
 use Rattle.cli_inputs.specs.declared.refusal.Refusal.{Refusal}
 use Rattle.cli_inputs.specs.declared.refusal.Refusal.TheVariants as refused
 use Rattle.lc_cli.specs.declared.status.Status.{Status}
 use Rattle.lc_cli.specs.declared.status.Status.TheVariants.{Usage, NoMemory}
+use Rattle.cli_words.specs.declared.command.Published.{Published}
 use Rattle.lc_cli.proofs.InputsLemmas.{absent_recorded, bytes_recorded, inputs_recorded, still_recorded}
 
 -- every other status has a command that the arguments say
@@ -143,43 +144,43 @@ module _ (made : Timetable) (publishing : Publishing) (file : Option File) (befo
   of_asking (askings.Fewest query) x short = of_wants query x.asked short
   of_asking (askings.Latest query) x short = of_requests query x short
 
-module _ (loads_recorded : LoadsRecorded) (recorded : List File) (question : Question) (old new : FolderSeen) (before after : LinkSeen) (block : Block)
-    (x : IsQuestionBlock question old new before after block) (tells : old.files ≡ Some recorded) where
+module _ (loads_recorded : LoadsRecorded) (recorded : List File) (published : Published) (asking : Asking) (old new : FolderSeen) (before after : LinkSeen) (block : Block)
+    (x : IsQuestionBlock published asking old new before after block) (tells : old.files ≡ Some recorded) where
   -- the side that was asked is the one of the recorded files, also with another store after the message
-  abbrev pub side_asked_with : (store : Stored) (line : List ℕ) → IsBehind x.file (store_of x.made question.publishing.base_moment) store line
-      → IsPublishedSide recorded question.scope question.update question.publishing false (side_with x.made question.publishing store)
+  abbrev pub side_asked_with : (store : Stored) (line : List ℕ) → IsBehind x.file (store_of x.made published.publishing.base_moment) store line
+      → IsPublishedSide recorded published false (side_with x.made published.publishing store)
   side_asked_with store line behind = record {
     made = x.made;
-    sound = loads_recorded recorded question.scope old x.inputs.between x.made tells x.inputs.loaded;
+    sound = loads_recorded recorded (scope_of published.window) old x.inputs.between x.made tells x.inputs.loaded;
     file = x.file;
-    is_recorded = inputs_recorded recorded question.scope question.update old new x.made x.file tells x.inputs;
+    is_recorded = inputs_recorded recorded (scope_of published.window) published.update old new x.made x.file tells x.inputs;
     store = store;
     line = line;
     behind = behind;
     is = refl;
   }
 
-  abbrev pub first_heard : HasHeardFirst x.made question.publishing x.file
-  first_heard = heard_first question.asking x.made question.publishing x.file before after block.text.items x.end x.asked
+  abbrev pub first_heard : HasHeardFirst x.made published.publishing x.file
+  first_heard = heard_first asking x.made published.publishing x.file before after block.text.items x.end x.asked
 
-  abbrev pub side_asked : IsPublishedSide recorded question.scope question.update question.publishing false (side_with x.made question.publishing first_heard.store)
+  abbrev pub side_asked : IsPublishedSide recorded published false (side_with x.made published.publishing first_heard.store)
   side_asked = side_asked_with first_heard.store first_heard.line first_heard.behind
 
   -- over a fair link no exchange failed and no reply
-  pub no_fault : HasFairLink recorded question.scope question.update question.publishing before.clear before.faults after.faults → AreNoFaults block.ends.items
+  pub no_fault : HasFairLink recorded published before.clear before.faults after.faults → AreNoFaults block.ends.items
   no_fault fair =
-      let short = fair.short (side_with x.made question.publishing first_heard.store) side_asked in
+      let short = fair.short (side_with x.made published.publishing first_heard.store) side_asked in
       subst AreNoFaults (sym x.client)
-      (of_asking x.made question.publishing x.file before after block.text.items x.end fair.link.was_clear fair.link.no_fault question.asking x.asked short, tt)
+      (of_asking x.made published.publishing x.file before after block.text.items x.end fair.link.was_clear fair.link.no_fault asking x.asked short, tt)
 
 -- the side that is served first is the one of the recorded files
 pub side_served : LoadsRecorded → (recorded : List File) (serve : Serve) (old new : FolderSeen) (server : Server) → old.files ≡ Some recorded → (x : IsServer serve old new server)
-    → IsServedSide recorded serve (side_for x.made serve.publishing x.publishes.store serve.accept_updates)
+    → IsServedSide recorded serve (side_for x.made serve.published.publishing x.publishes.store serve.accept_updates)
 side_served loads_recorded recorded serve old new server tells x = record {
   made = x.made;
-  sound = loads_recorded recorded (serve_scope serve) old x.inputs.between x.made tells x.inputs.loaded;
+  sound = loads_recorded recorded (scope_of serve.published.window) old x.inputs.between x.made tells x.inputs.loaded;
   file = x.file;
-  is_recorded = inputs_recorded recorded (serve_scope serve) serve.update old new x.made x.file tells x.inputs;
+  is_recorded = inputs_recorded recorded (scope_of serve.published.window) serve.published.update old new x.made x.file tells x.inputs;
   store = x.publishes.store;
   line = server.line.items;
   behind = x.publishes.behind;
@@ -200,12 +201,11 @@ pub heard_nothing : (recorded : List File) (store : Stored) → IsHeardBy record
 heard_nothing recorded store = record { file = None; is_recorded = tt; old = store; new = store; line = []; behind = (refl, refl) }
 
 -- what a publisher has heard
-pub heard : (recorded : List File) (scope : Scope) (update : Option (List ℕ)) (publishing : Publishing) (accepts : Bool) (side : Side) → IsPublishedSide recorded scope update publishing accepts side
-    → IsHeardBy recorded update
-heard recorded scope update publishing accepts side is = record {
+pub heard : (recorded : List File) (published : Published) (accepts : Bool) (side : Side) → IsPublishedSide recorded published accepts side → IsHeardBy recorded published.update
+heard recorded published accepts side is = record {
   file = is.file;
   is_recorded = is.is_recorded;
-  old = store_of is.made publishing.base_moment;
+  old = store_of is.made published.publishing.base_moment;
   new = is.store;
   line = is.line;
   behind = is.behind;

@@ -10,7 +10,7 @@ use Rattle.cli_words.specs.declared.command.Ask.{Ask}
 use Rattle.cli_words.specs.declared.command.Drill.{Drill}
 use Rattle.cli_words.specs.declared.command.Fewest.{Fewest}
 use Rattle.cli_words.specs.declared.command.Plan.{Plan}
-use Rattle.cli_words.specs.declared.command.Publishing.{Publishing}
+use Rattle.cli_words.specs.declared.command.Published.{Published}
 use Rattle.cli_words.specs.declared.command.Relay.{Relay}
 use Rattle.cli_words.specs.declared.command.Replay.{Replay}
 use Rattle.cli_words.specs.declared.command.Serve.{Serve}
@@ -33,8 +33,8 @@ use Rattle.timetable.specs.Recorded.{IsSound}
 use Rattle.timetable.specs.declared.scope.Scope.{Scope}
 use Rattle.timetable.specs.declared.timetable.Timetable.{Timetable}
 use Rattle.version_store.specs.Store.{Stored}
-use Rattle.lc_cli.specs.Command.{arrive_scope, ask_scope, check_scope, fewest_scope, replay_scope, serve_scope}
 use Rattle.lc_cli.specs.Drill.{IsDrilled}
+use Rattle.lc_cli.specs.Scope.{scope_of}
 use Rattle.lc_cli.specs.Top.{Past}
 use Rattle.lc_cli.specs.declared.status.Status.{Status}
 use Rattle.lc_cli.specs.declared.status.Status.TheVariants.{Done, Usage, FeedBroken, UpdateBroken, FolderFault, SinkFault, LinkFault, PeerWrong, QueryRefused, DoorFault, ScriptWrong, TooLarge, NoMemory}
@@ -48,31 +48,23 @@ IsRecordedFile recorded (Some name) (Some file) = (file.name ≡ name) × (bytes
 
 -- By the recorded files, this is the side of a publisher of the feed's timetable. It has the message, if there is one, which is a message
 -- that is not too long. It takes messages from its clients, or not.
-pub record IsPublishedSide (recorded : List File) (scope : Scope) (update : Option (List ℕ)) (publishing : Publishing) (accepts : Bool) (side : Side) : Type 0 where
+pub record IsPublishedSide (recorded : List File) (published : Published) (accepts : Bool) (side : Side) : Type 0 where
   pub made : Timetable
-  pub sound : IsSound recorded scope made
+  pub sound : IsSound recorded (scope_of published.window) made
   pub file : Option File
-  pub is_recorded : IsRecordedFile recorded update file
+  pub is_recorded : IsRecordedFile recorded published.update file
   pub store : Stored
   pub line : List ℕ
-  pub behind : IsBehind file (store_of made publishing.base_moment) store line
-  pub is : side ≡ side_for made publishing store accepts
+  pub behind : IsBehind file (store_of made published.publishing.base_moment) store line
+  pub is : side ≡ side_for made published.publishing store accepts
 
--- the side to which `ask` puts its question
-abbrev pub IsAskedSide : List File → Ask → Side → Type 0
-IsAskedSide recorded ask = IsPublishedSide recorded (ask_scope ask) ask.update ask.publishing false
-
--- the side to which `fewest` puts its question
-abbrev pub IsFewestSide : List File → Fewest → Side → Type 0
-IsFewestSide recorded fewest = IsPublishedSide recorded (fewest_scope fewest) fewest.update fewest.publishing false
-
--- the side to which `arrive` puts its question
-abbrev pub IsArriveSide : List File → Arrive → Side → Type 0
-IsArriveSide recorded arrive = IsPublishedSide recorded (arrive_scope arrive) arrive.update arrive.publishing false
+-- the side to which `ask`, `fewest` or `arrive` puts its question
+abbrev pub IsAskedSide : List File → Published → Side → Type 0
+IsAskedSide recorded published = IsPublishedSide recorded published false
 
 -- the side that `serve` publishes first, which takes messages where the arguments say so
 abbrev pub IsServedSide : List File → Serve → Side → Type 0
-IsServedSide recorded serve = IsPublishedSide recorded (serve_scope serve) serve.update serve.publishing serve.accept_updates
+IsServedSide recorded serve = IsPublishedSide recorded serve.published serve.accept_updates
 
 -- the link was clear, and failed in no exchange
 pub record HasClearLink (clear : Type 0) (before after : ℕ) : Type 0 where
@@ -80,9 +72,9 @@ pub record HasClearLink (clear : Type 0) (before after : ℕ) : Type 0 where
   pub no_fault : Rose before after → ⊥
 
 -- what a question needs of its link: it was clear and did not fail, and the texts of the asked publisher fit into replies
-pub record HasFairLink (recorded : List File) (scope : Scope) (update : Option (List ℕ)) (publishing : Publishing) (clear : Type 0) (before after : ℕ) : Type 0 where
+pub record HasFairLink (recorded : List File) (published : Published) (clear : Type 0) (before after : ℕ) : Type 0 where
   pub link : HasClearLink clear before after
-  pub short : (side : Side) → IsPublishedSide recorded scope update publishing false side → IsShort side
+  pub short : (side : Side) → IsAskedSide recorded published side → IsShort side
 
 -- the script is recorded, and says this; it may name messages or not
 pub record IsRecordedScript (recorded : List File) (name : List ℕ) (updates : Bool) (script : List Record) : Type 0 where
@@ -111,7 +103,7 @@ AreRecordedEvents recorded (said ∷ script) (event ∷ more) = IsRecordedEvent 
 
 -- by the files that are recorded, these are the timetable and the event sequence of a replay
 pub record IsRecordedCourse (recorded : List File) (replay : Replay) (made : Timetable) (all : List Event) : Type 0 where
-  pub sound : IsSound recorded (replay_scope replay) made
+  pub sound : IsSound recorded (scope_of replay.window) made
   pub script : List Record
   pub is_recorded : IsRecordedScript recorded replay.script true script
   pub are : AreRecordedEvents recorded script all
@@ -140,11 +132,11 @@ pub record IsUnhindered {X : Type 0} (seen : X → LinkSeen) (p : Past X) (recor
   pub no_door_fault : Rose p.door_before.faults p.door_after.faults → ⊥
   pub no_sink_fault : Rose p.sink_before.faults p.sink_after.faults → ⊥
   pub fair : (ask : Ask) → SaysCommand p.words (commands.Ask ask)
-      → HasFairLink recorded (ask_scope ask) ask.update ask.publishing (seen p.link_before).clear (seen p.link_before).faults (seen p.link_after).faults
+      → HasFairLink recorded ask.published (seen p.link_before).clear (seen p.link_before).faults (seen p.link_after).faults
   pub fair_fewest : (fewest : Fewest) → SaysCommand p.words (commands.Fewest fewest)
-      → HasFairLink recorded (fewest_scope fewest) fewest.update fewest.publishing (seen p.link_before).clear (seen p.link_before).faults (seen p.link_after).faults
+      → HasFairLink recorded fewest.published (seen p.link_before).clear (seen p.link_before).faults (seen p.link_after).faults
   pub fair_arrive : (arrive : Arrive) → SaysCommand p.words (commands.Arrive arrive)
-      → HasFairLink recorded (arrive_scope arrive) arrive.update arrive.publishing (seen p.link_before).clear (seen p.link_before).faults (seen p.link_after).faults
+      → HasFairLink recorded arrive.published (seen p.link_before).clear (seen p.link_before).faults (seen p.link_after).faults
   pub fair_course : (replay : Replay) → SaysCommand p.words (commands.Replay replay)
       → HasFairCourse recorded replay (seen p.link_before).clear (seen p.link_before).faults (seen p.link_after).faults
   pub fair_drill : (drill : Drill) → SaysCommand p.words (commands.Drill drill) → (replay : Replay) → IsDrilled drill replay
@@ -159,28 +151,28 @@ pub record HasTimetable (recorded : List File) (scope : Scope) : Type 0 where
 
 -- by the files that are recorded, no rule and no limit refuses the feed of a command, if it has one
 abbrev pub IsFed : List File → Command → Type 0
-IsFed recorded (commands.Check check) = HasTimetable recorded (check_scope check)
-IsFed recorded (commands.Ask ask) = HasTimetable recorded (ask_scope ask)
-IsFed recorded (commands.Replay replay) = HasTimetable recorded (replay_scope replay)
-IsFed recorded (commands.Serve serve) = HasTimetable recorded (serve_scope serve)
+IsFed recorded (commands.Check check) = HasTimetable recorded (scope_of check.window)
+IsFed recorded (commands.Ask ask) = HasTimetable recorded (scope_of ask.published.window)
+IsFed recorded (commands.Replay replay) = HasTimetable recorded (scope_of replay.window)
+IsFed recorded (commands.Serve serve) = HasTimetable recorded (scope_of serve.published.window)
 IsFed recorded (commands.Plan plan) = Unit {0}
 IsFed recorded (commands.Drill drill) = Unit {0}
-IsFed recorded (commands.Fewest fewest) = HasTimetable recorded (fewest_scope fewest)
-IsFed recorded (commands.Arrive arrive) = HasTimetable recorded (arrive_scope arrive)
+IsFed recorded (commands.Fewest fewest) = HasTimetable recorded (scope_of fewest.published.window)
+IsFed recorded (commands.Arrive arrive) = HasTimetable recorded (scope_of arrive.published.window)
 IsFed recorded (commands.Relay relay) = Unit {0}
 
 -- The message of a question or of a server, if it has one, reads as a message. There is a publisher to ask or to serve. The messages
 -- of an event sequence do too. Its script reads as a script, and the questions and turns of `plan` and `relay` as such.
 abbrev pub IsHeard : List File → Command → Type 0
 IsHeard recorded (commands.Check check) = Unit {0}
-IsHeard recorded (commands.Ask ask) = (side : Side) × IsAskedSide recorded ask side
+IsHeard recorded (commands.Ask ask) = (side : Side) × IsAskedSide recorded ask.published side
 IsHeard recorded (commands.Replay replay) = (made : Timetable) × (all : List Event) × IsRecordedCourse recorded replay made all
 IsHeard recorded (commands.Serve serve) = (side : Side) × IsServedSide recorded serve side
 IsHeard recorded (commands.Plan plan) = (all : List Event) × AreRecordedAsks recorded plan.asks all
 IsHeard recorded (commands.Drill drill) =
     (replay : Replay) × (made : Timetable) × (all : List Event) × IsDrilled drill replay × IsRecordedCourse (drill_files drill.seed drill.days) replay made all
-IsHeard recorded (commands.Fewest fewest) = (side : Side) × IsFewestSide recorded fewest side
-IsHeard recorded (commands.Arrive arrive) = (side : Side) × IsArriveSide recorded arrive side
+IsHeard recorded (commands.Fewest fewest) = (side : Side) × IsAskedSide recorded fewest.published side
+IsHeard recorded (commands.Arrive arrive) = (side : Side) × IsAskedSide recorded arrive.published side
 IsHeard recorded (commands.Relay relay) = (all : List Event) × AreRecordedAsks recorded relay.asks all
 
 -- The arguments say a command, nothing hinders it, and by the recorded files no rule and no limit refuses what it reads.

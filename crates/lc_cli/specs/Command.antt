@@ -9,6 +9,7 @@ use Rattle.cli_words.specs.declared.command.Ask.{Ask}
 use Rattle.cli_words.specs.declared.command.Check.{Check}
 use Rattle.cli_words.specs.declared.command.Fewest.{Fewest}
 use Rattle.cli_words.specs.declared.command.Plan.{Plan}
+use Rattle.cli_words.specs.declared.command.Published.{Published}
 use Rattle.cli_words.specs.declared.command.Relay.{Relay}
 use Rattle.cli_words.specs.declared.command.Serve.{Serve}
 use Rattle.cli_words.specs.declared.command.Command.{Command}
@@ -21,84 +22,52 @@ use Rattle.cli_relay.specs.Planned.{IsPlanned}
 use Rattle.laws_replay.specs.declared.event.Event.{Event}
 use Rattle.timetable.specs.Loading.{Loads}
 use Rattle.timetable.specs.declared.fault.LoadFault.TheVariants as fault
-use Rattle.timetable.specs.declared.scope.Scope.{Scope}
 use Rattle.timetable.specs.declared.timetable.Timetable.{Timetable}
 use Rattle.lc_cli.specs.CheckText.{check_text_of}
 use Rattle.lc_cli.specs.Drill.{IsDrillBlock, IsDrillRefused}
-pub use Rattle.lc_cli.specs.Replay.{IsPlayedBy, IsReplayBlock, replay_scope}
+pub use Rattle.lc_cli.specs.Replay.{IsPlayedBy, IsReplayBlock}
 use Rattle.cli_inputs.specs.Inputs.{IsRefusedFor, ReadsInputs}
 use Rattle.cli_inputs.specs.Plan.{ReadsPlan}
 use Rattle.cli_inputs.specs.Script.{IsReplayRefused, IsScriptRefused}
 use Rattle.lc_cli.specs.Question.{IsAskedSo}
+use Rattle.lc_cli.specs.Scope.{scope_of}
 use Rattle.lc_cli.specs.declared.block.Block.{Block}
+use Rattle.lc_cli.specs.declared.question.Asking.{Asking}
 use Rattle.lc_cli.specs.declared.question.Asking.TheVariants as askings
-use Rattle.lc_cli.specs.declared.question.Question.{Question}
 use Rattle.lc_cli.specs.declared.server.Server.{Server}
 use Rattle.lc_cli.specs.declared.work.Work.{Work}
 use Rattle.lc_cli.specs.declared.work.Work.TheVariants as works
 use Rattle.cli_inputs.specs.declared.refusal.Refusal.{Refusal}
 use Rattle.cli_inputs.specs.declared.refusal.Refusal.TheVariants.{Usage, Load}
 
--- what `check` asks of its feed
-abbrev pub check_scope : Check → Scope
-check_scope check = record { feed = check.feed; zone = check.zone; first = check.first; days = check.days; change = check.change }
-
--- what `ask` asks of its feed
-abbrev pub ask_scope : Ask → Scope
-ask_scope ask = record { feed = ask.feed; zone = ask.zone; first = ask.first; days = ask.days; change = ask.change }
-
--- what `fewest` asks of its feed
-abbrev pub fewest_scope : Fewest → Scope
-fewest_scope fewest = record { feed = fewest.feed; zone = fewest.zone; first = fewest.first; days = fewest.days; change = fewest.change }
-
--- what `arrive` asks of its feed
-abbrev pub arrive_scope : Arrive → Scope
-arrive_scope arrive = record { feed = arrive.feed; zone = arrive.zone; first = arrive.first; days = arrive.days; change = arrive.change }
-
--- what `serve` asks of its feed
-abbrev pub serve_scope : Serve → Scope
-serve_scope serve = record { feed = serve.feed; zone = serve.zone; first = serve.first; days = serve.days; change = serve.change }
-
 -- the timetable of the command's feed was loaded, and what is printed are its counts
 pub record IsCheckBlock (check : Check) (old new : FolderSeen) (block : Block) : Type 0 where
   pub made : Timetable
-  pub loaded : Loads (check_scope check) old new made
+  pub loaded : Loads (scope_of check.window) old new made
   pub text : block.text.items ≡ check_text_of made
   pub no_client : block.ends.items ≡ []
 
--- the question of `ask`
-abbrev pub ask_question : Ask → Question
-ask_question ask = record { scope = ask_scope ask; update = ask.update; publishing = ask.publishing; asking = askings.Earliest ask.query ask.cache }
-
--- the question of `fewest`
-abbrev pub fewest_question : Fewest → Question
-fewest_question fewest = record { scope = fewest_scope fewest; update = fewest.update; publishing = fewest.publishing; asking = askings.Fewest fewest.query }
-
--- the question of `arrive`
-abbrev pub arrive_question : Arrive → Question
-arrive_question arrive = record { scope = arrive_scope arrive; update = arrive.update; publishing = arrive.publishing; asking = askings.Latest arrive.query }
-
--- The timetable and the message of the question were read, and a client asked a publisher of them. The block has the line of the message and
--- those of the client.
-pub record IsQuestionBlock (question : Question) (old new : FolderSeen) (before after : LinkSeen) (block : Block) : Type 0 where
+-- The timetable and the message were read, and a client asked a publisher of them. The block has the line of the message and those of the
+-- client.
+pub record IsQuestionBlock (published : Published) (asking : Asking) (old new : FolderSeen) (before after : LinkSeen) (block : Block) : Type 0 where
   pub made : Timetable
   pub file : Option File
-  pub inputs : ReadsInputs question.scope question.update old new made file
+  pub inputs : ReadsInputs (scope_of published.window) published.update old new made file
   pub end : ClientEnd
-  pub asked : IsAskedSo question.asking made question.publishing file before after block.text.items end
+  pub asked : IsAskedSo asking made published.publishing file before after block.text.items end
   pub client : block.ends.items ≡ end ∷ []
 
 -- it is that of `ask`
 abbrev pub IsAskBlock : Ask → FolderSeen → FolderSeen → LinkSeen → LinkSeen → Block → Type 0
-IsAskBlock ask = IsQuestionBlock (ask_question ask)
+IsAskBlock ask = IsQuestionBlock ask.published (askings.Earliest ask.query ask.cache)
 
 -- that of `fewest`
 abbrev pub IsFewestBlock : Fewest → FolderSeen → FolderSeen → LinkSeen → LinkSeen → Block → Type 0
-IsFewestBlock fewest = IsQuestionBlock (fewest_question fewest)
+IsFewestBlock fewest = IsQuestionBlock fewest.published (askings.Fewest fewest.query)
 
 -- and that of `arrive`
 abbrev pub IsArriveBlock : Arrive → FolderSeen → FolderSeen → LinkSeen → LinkSeen → Block → Type 0
-IsArriveBlock arrive = IsQuestionBlock (arrive_question arrive)
+IsArriveBlock arrive = IsQuestionBlock arrive.published (askings.Latest arrive.query)
 
 -- The questions and turns were read, and happened over the link. What is printed are the lines of the clients.
 pub record IsPlanBlock (plan : Plan) (old new : FolderSeen) (before after : LinkSeen) (block : Block) : Type 0 where
@@ -135,8 +104,8 @@ pub record IsRightBlock (words : List (List ℕ)) (old new : FolderSeen) (before
 pub record IsServer (serve : Serve) (old new : FolderSeen) (server : Server) : Type 0 where
   pub made : Timetable
   pub file : Option File
-  pub inputs : ReadsInputs (serve_scope serve) serve.update old new made file
-  pub publishes : PublishesAfter made serve.publishing serve.accept_updates file server.publisher server.line.items
+  pub inputs : ReadsInputs (scope_of serve.published.window) serve.published.update old new made file
+  pub publishes : PublishesAfter made serve.published.publishing serve.accept_updates file server.publisher server.line.items
   pub port_is : server.port ≡ serve.port
   pub connections_are : server.connections ≡ serve.connections
 
@@ -183,14 +152,14 @@ LeavesLink (commands.Relay relay) before after = IsLeftByGets before after
 
 -- why a command is refused
 abbrev pub IsRefusedAs : Command → FolderSeen → FolderSeen → Refusal → Type 0
-IsRefusedAs (commands.Check check) old new refusal = IsRefusedFor (check_scope check) None old new refusal
-IsRefusedAs (commands.Ask ask) old new refusal = IsRefusedFor (ask_scope ask) ask.update old new refusal
-IsRefusedAs (commands.Replay replay) old new refusal = IsReplayRefused (replay_scope replay) replay.script old new refusal
-IsRefusedAs (commands.Serve serve) old new refusal = IsRefusedFor (serve_scope serve) serve.update old new refusal
+IsRefusedAs (commands.Check check) old new refusal = IsRefusedFor (scope_of check.window) None old new refusal
+IsRefusedAs (commands.Ask ask) old new refusal = IsRefusedFor (scope_of ask.published.window) ask.published.update old new refusal
+IsRefusedAs (commands.Replay replay) old new refusal = IsReplayRefused (scope_of replay.window) replay.script old new refusal
+IsRefusedAs (commands.Serve serve) old new refusal = IsRefusedFor (scope_of serve.published.window) serve.published.update old new refusal
 IsRefusedAs (commands.Plan plan) old new refusal = IsScriptRefused false plan.asks old new refusal
 IsRefusedAs (commands.Drill drill) old new refusal = (new ≡ old) × IsDrillRefused drill refusal
-IsRefusedAs (commands.Fewest fewest) old new refusal = IsRefusedFor (fewest_scope fewest) fewest.update old new refusal
-IsRefusedAs (commands.Arrive arrive) old new refusal = IsRefusedFor (arrive_scope arrive) arrive.update old new refusal
+IsRefusedAs (commands.Fewest fewest) old new refusal = IsRefusedFor (scope_of fewest.published.window) fewest.published.update old new refusal
+IsRefusedAs (commands.Arrive arrive) old new refusal = IsRefusedFor (scope_of arrive.published.window) arrive.published.update old new refusal
 IsRefusedAs (commands.Relay relay) old new refusal = IsScriptRefused false relay.asks old new refusal
 
 -- the arguments say a command, which is refused for this

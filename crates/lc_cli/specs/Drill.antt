@@ -21,7 +21,8 @@ use Rattle.lc_io.specs.SureFolder.{SureFolderState}
 use Rattle.lc_world.specs.Link.{LinkSeen}
 use Rattle.timetable.specs.declared.fault.LoadFault.TheVariants as fault
 use Rattle.timetable.specs.declared.timetable.Timetable.{Timetable}
-use Rattle.lc_cli.specs.Replay.{IsPlayedBy, replay_scope}
+use Rattle.lc_cli.specs.Replay.{IsPlayedBy}
+use Rattle.lc_cli.specs.Scope.{scope_of}
 use Rattle.lc_cli.specs.declared.block.Block.{Block}
 use Rattle.lc_cli.specs.declared.course.Course.{Course}
 
@@ -72,7 +73,7 @@ pub record IsRefusedReplay (drill : Drill) (refusal : Refusal) : Type 0 where
   pub replay : Replay
   pub drilled : IsDrilled drill replay
   pub read : SureFolderState
-  pub refused : IsReplayRefused (replay_scope replay) replay.script (sure_seen (drill_folder drill)) (sure_seen read) refusal
+  pub refused : IsReplayRefused (scope_of replay.window) replay.script (sure_seen (drill_folder drill)) (sure_seen read) refusal
 
 -- why a drill is refused: as the replay of its files, or memory ran out
 abbrev pub IsDrillRefused : Drill → Refusal → Type 0

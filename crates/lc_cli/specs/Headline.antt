@@ -60,12 +60,12 @@ pub record EndsBest (side : Side) (query : Query) (end : ClientEnd) : Type 0 whe
 
 -- Each text of the publisher that is asked stays below 10,000,000,000 bytes.
 abbrev pub StaysShort : List File → Ask → Type 0
-StaysShort files ask = (side : Side) → IsAskedSide files ask side → IsShort side
+StaysShort files ask = (side : Side) → IsAskedSide files ask.published side → IsShort side
 
 -- `ask` wrote the line of its message, if it names one, and the block of a client that ended best after the needed exchanges.
 pub record WroteBest {X : Type 0} (p : Past X) (ask : Ask) (files : List File) : Type 0 where
   pub side : Side
-  pub asked : IsAskedSide files ask side
+  pub asked : IsAskedSide files ask.published side
   pub end : ClientEnd
   pub best : EndsBest side ask.query end
   pub pages : List PageName

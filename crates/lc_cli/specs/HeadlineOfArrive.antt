@@ -19,7 +19,7 @@ use Rattle.lc_world.specs.Link.{LinkSeen}
 use Rattle.page_client.specs.Shown.{answered}
 use Rattle.publisher_spec.specs.Short.{IsShort}
 use Rattle.publisher_spec.specs.Side.{Side}
-use Rattle.lc_cli.specs.Clear.{IsArriveSide}
+use Rattle.lc_cli.specs.Clear.{IsAskedSide}
 use Rattle.lc_cli.specs.Top.{IsRight, Past}
 use Rattle.lc_cli.specs.declared.status.Status.TheVariants.{Done}
 
@@ -38,7 +38,7 @@ pub record EndsLatest (side : Side) (asked : ArriveQuery) (end : ClientEnd) : Ty
 -- `arrive` wrote the line of its message, if it names one, and the block of a client that ended so.
 pub record WroteLatest {X : Type 0} (p : Past X) (arrive : Arrive) (files : List File) : Type 0 where
   pub side : Side
-  pub asked : IsArriveSide files arrive side
+  pub asked : IsAskedSide files arrive.published side
   pub end : ClientEnd
   pub latest : EndsLatest side arrive.query end
   pub wrote : Wrote p.sink_before p.sink_after (asked.line ++ client_text_of 1 end)
@@ -51,6 +51,6 @@ HeadlineOfArrive {X} seen =
     → SaysCommand p.words (commands.Arrive arrive)
     → p.folder_before.files ≡ Some files
     → (seen p.link_before).clear
-    → ((side : Side) → IsArriveSide files arrive side → IsShort side)
+    → ((side : Side) → IsAskedSide files arrive.published side → IsShort side)
     → IsRight seen p Done
     → WroteLatest p arrive files

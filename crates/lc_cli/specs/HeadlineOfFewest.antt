@@ -16,7 +16,7 @@ use Rattle.lc_world.specs.Link.{LinkSeen}
 use Rattle.page_client.specs.Shown.{answered}
 use Rattle.publisher_spec.specs.Short.{IsShort}
 use Rattle.publisher_spec.specs.Side.{Side}
-use Rattle.lc_cli.specs.Clear.{IsFewestSide}
+use Rattle.lc_cli.specs.Clear.{IsAskedSide}
 use Rattle.lc_cli.specs.Headline.{version_meant}
 use Rattle.lc_cli.specs.Top.{IsRight, Past}
 use Rattle.lc_cli.specs.declared.status.Status.TheVariants.{Done}
@@ -32,7 +32,7 @@ pub record EndsFewest (side : Side) (query : Query) (end : ClientEnd) : Type 0 w
 -- `fewest` wrote the line of its message, if it names one, and the block of a client that ended so after the needed exchanges.
 pub record WroteFewest {X : Type 0} (p : Past X) (fewest : Fewest) (files : List File) : Type 0 where
   pub side : Side
-  pub asked : IsFewestSide files fewest side
+  pub asked : IsAskedSide files fewest.published side
   pub end : ClientEnd
   pub best : EndsFewest side fewest.query end
   pub pages : List PageName
@@ -48,6 +48,6 @@ HeadlineOfFewest {X} seen =
     → SaysCommand p.words (commands.Fewest fewest)
     → p.folder_before.files ≡ Some files
     → (seen p.link_before).clear
-    → ((side : Side) → IsFewestSide files fewest side → IsShort side)
+    → ((side : Side) → IsAskedSide files fewest.published side → IsShort side)
     → IsRight seen p Done
     → WroteFewest p fewest files

@@ -1,35 +1,23 @@
 -- A command begins from one side by its files. Two runs of `serve` over the same files and the same bytes answer the same.
-use Rattle.std.specs.Prelude.{◌≡◌, ◌≢◌, [], List, None, Some}
+use Rattle.std.specs.Prelude.{◌≡◌, ◌≢◌, Bool, [], List, None, Some}
 use Rattle.cli_serve.specs.SameBytes.{AreOneSide, RecordsWell, ServeAlike}
-use Rattle.cli_words.specs.declared.command.Arrive.{Arrive}
-use Rattle.cli_words.specs.declared.command.Ask.{Ask}
-use Rattle.cli_words.specs.declared.command.Fewest.{Fewest}
+use Rattle.cli_words.specs.declared.command.Published.{Published}
 use Rattle.cli_words.specs.declared.command.Serve.{Serve}
 use Rattle.lc_doors.specs.Door.{DoorRecorded}
 use Rattle.lc_io.specs.declared.file.File.{File}
 use Rattle.lc_world.specs.Link.{LinkSeen}
 use Rattle.publisher_spec.specs.Side.{Side}
-use Rattle.lc_cli.specs.Clear.{IsArriveSide, IsAskedSide, IsFewestSide, IsServedSide}
+use Rattle.lc_cli.specs.Clear.{IsPublishedSide, IsServedSide}
 use Rattle.lc_cli.specs.Serving.{asked_of}
 use Rattle.lc_cli.specs.Top.{HasServed, Past}
 use Rattle.lc_cli.specs.declared.status.Status.{Status}
 use Rattle.lc_cli.specs.declared.status.Status.TheVariants.{Done}
 
--- by recorded files the question is put to one side
-abbrev pub OneAskedSide : Type 0
-OneAskedSide = (recorded : List File) (ask : Ask) (a b : Side) → IsAskedSide recorded ask a → IsAskedSide recorded ask b → AreOneSide a b
-
--- and so is that for the fewest rides
-abbrev pub OneFewestSide : Type 0
-OneFewestSide = (recorded : List File) (fewest : Fewest) (a b : Side) → IsFewestSide recorded fewest a → IsFewestSide recorded fewest b → AreOneSide a b
-
--- and that for the latest departure
-abbrev pub OneArriveSide : Type 0
-OneArriveSide = (recorded : List File) (arrive : Arrive) (a b : Side) → IsArriveSide recorded arrive a → IsArriveSide recorded arrive b → AreOneSide a b
-
--- by recorded files a server begins from one side
-abbrev pub OneServedSide : Type 0
-OneServedSide = (recorded : List File) (serve : Serve) (a b : Side) → IsServedSide recorded serve a → IsServedSide recorded serve b → AreOneSide a b
+-- by recorded files a question is put to one side, and a server begins from one
+abbrev pub OneSide : Type 0
+OneSide =
+    (recorded : List File) (published : Published) (accepts : Bool) (a b : Side)
+    → IsPublishedSide recorded published accepts a → IsPublishedSide recorded published accepts b → AreOneSide a b
 
 -- each run of `serve` over recorded files began from that side, however it ended
 abbrev pub BeginsFromIt : {X : Type 0} → (X → LinkSeen) → Type 0
@@ -48,7 +36,7 @@ OneServing {X} {Y} seen saw =
 
 -- a side that has a message, where the words name none
 abbrev pub NotMadeUp : Type 0
-NotMadeUp = (recorded : List File) (serve : Serve) (side : Side) → serve.update ≡ None → side.history ≢ [] → ¬ IsServedSide recorded serve side
+NotMadeUp = (recorded : List File) (serve : Serve) (side : Side) → serve.published.update ≡ None → side.history ≢ [] → ¬ IsServedSide recorded serve side
 
 -- a side that takes messages where the words do not say so, or takes none where they do
 abbrev pub NotUnasked : Type 0
@@ -56,4 +44,4 @@ NotUnasked = (recorded : List File) (serve : Serve) (side : Side) → side.accep
 
 -- a side whose base version is of another moment than the words say
 abbrev pub NotAnotherBase : Type 0
-NotAnotherBase = (recorded : List File) (serve : Serve) (side : Side) → side.base_moment ≢ serve.publishing.base_moment → ¬ IsServedSide recorded serve side
+NotAnotherBase = (recorded : List File) (serve : Serve) (side : Side) → side.base_moment ≢ serve.published.publishing.base_moment → ¬ IsServedSide recorded serve side

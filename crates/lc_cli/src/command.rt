@@ -7,19 +7,20 @@ ghost use Rattle.cli_words.specs.declared.command.Command.TheVariants as command
 ghost use Rattle.cli_words.specs.declared.command.Serve.{Serve as Served};
 ghost use Rattle.lc_world.specs.GoneOn.{HasGoneOn};
 ghost use Rattle.gtfs_tables.specs.Reading.{Keeps};
-ghost use Rattle.lc_cli.specs.Command.{IsCheckBlock, IsRefusedAs, IsRightRefusal, IsRightWork, LeavesLink, ResultsIn, check_scope};
+ghost use Rattle.lc_cli.specs.Command.{IsCheckBlock, IsRefusedAs, IsRightRefusal, IsRightWork, LeavesLink, ResultsIn};
+ghost use Rattle.lc_cli.specs.Scope.{scope_of};
 ghost use Rattle.lc_cli.specs.declared.work.Work.TheVariants as works;
 ghost use Rattle.cli_inputs.specs.Inputs.{IsRefusedFor};
 ghost use Rattle.cli_inputs.specs.declared.refusal.Refusal.TheVariants.{Load};
-ghost use Rattle.timetable.specs.Scope.{IsWindow};
 ghost use Rattle.timetable.specs.declared.fault.LoadFault.TheVariants.{NoMemory as OutOfMemory};
 
 use crate::block::Block;
 use crate::check_text::check_text;
 use crate::drill::drill_block;
 use crate::plan::{plan_block, relay_block};
-use crate::question::{arrive_question, ask_question, fewest_question, question_block};
+use crate::question::{Asking, question_block};
 use crate::replay::replay_block;
+use crate::scope::scope_of;
 use crate::serve::server;
 use crate::work::Work;
 use cli_inputs::Refusal;
@@ -27,7 +28,7 @@ use cli_words::{Check, Command, one_command, read_words};
 use lc_model::NoMemory;
 use lc_world::{Folder, Link};
 use std::alloc::Global;
-use timetable::{LoadFault, Scope, load};
+use timetable::{LoadFault, load};
 
 /// What the command of these arguments results in, and the link, as it is left. Nothing is written yet, and nothing is served.
 pub(crate) fn outcome<F: Folder, L: Link>(
@@ -74,7 +75,16 @@ fn result_of<F: Folder, L: Link>(
             Err(fault) => (Err(Refusal::Load(fault)), link),
         },
         Command::Ask(ask) => {
-            let (block, link) = question_block(alloc, folder, ask_question(ask), link);
+            let (block, link) = question_block(
+                alloc,
+                folder,
+                ask.published,
+                Asking::Earliest {
+                    query: ask.query,
+                    cache: ask.cache,
+                },
+                link,
+            );
             (printed(block), link)
         }
         Command::Replay(replay) => {
@@ -94,11 +104,23 @@ fn result_of<F: Folder, L: Link>(
             (printed(block), link)
         }
         Command::Fewest(fewest) => {
-            let (block, link) = question_block(alloc, folder, fewest_question(fewest), link);
+            let (block, link) = question_block(
+                alloc,
+                folder,
+                fewest.published,
+                Asking::Fewest(fewest.query),
+                link,
+            );
             (printed(block), link)
         }
         Command::Arrive(arrive) => {
-            let (block, link) = question_block(alloc, folder, arrive_question(arrive), link);
+            let (block, link) = question_block(
+                alloc,
+                folder,
+                arrive.published,
+                Asking::Latest(arrive.query),
+                link,
+            );
             (printed(block), link)
         }
         Command::Relay(relay) => {
@@ -122,10 +144,10 @@ fn printed(block: Result<Block, Refusal>) -> Result<Work, Refusal>
 /// Loads the timetable of a feed, and counts it.
 fn check_block<F: Folder>(alloc: Global, folder: &mut F, check: Check) -> Result<Block, LoadFault>
     ensures block { IfOk result (IsCheckBlock check (F.seen folder.old) (F.seen folder.new)) }
-    ensures refused { IfErr result (λ fault. IsRefusedFor (check_scope check) None (F.seen folder.old) (F.seen folder.new) (Load fault)) }
+    ensures refused { IfErr result (λ fault. IsRefusedFor (scope_of check.window) None (F.seen folder.old) (F.seen folder.new) (Load fault)) }
     ensures kept { Keeps (F.seen folder.old) (F.seen folder.new) }
 {
-    let scope = scope_of_check(check);
+    let scope = scope_of(check.window);
     match load(alloc, folder, &scope) {
         Ok(made) => match check_text(alloc, &made) {
             Ok(text) => Ok(Block {
@@ -135,19 +157,5 @@ fn check_block<F: Folder>(alloc: Global, folder: &mut F, check: Check) -> Result
             Err(NoMemory) => Err(LoadFault::NoMemory),
         },
         Err(fault) => Err(fault),
-    }
-}
-
-/// What `check` asks of its feed.
-fn scope_of_check(check: Check) -> Scope
-    ensures scope { result ≡ check_scope check }
-    ensures window { IsWindow result.first result.days }
-{
-    Scope {
-        feed: check.feed,
-        zone: check.zone,
-        first: check.first,
-        days: check.days,
-        change: check.change,
     }
 }

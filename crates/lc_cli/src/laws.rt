@@ -8,7 +8,7 @@ ghost use Rattle.lc_cli.specs.NearArrive.{NotAnotherOrder, NotEarlier, NotLater,
 ghost use Rattle.lc_cli.specs.NearFewest.{NotAnotherVersion, NotNoJourney, NotOneRideFewer, NotOneRideMore};
 ghost use Rattle.lc_cli.specs.OnePlan.{OneNamedPlan, OneQuietPlan};
 ghost use Rattle.lc_cli.specs.OneRelay.{OneNamedRelay, OneQuietRelay};
-ghost use Rattle.lc_cli.specs.OneServing.{BeginsFromIt, NotAnotherBase, NotMadeUp, NotUnasked, OneArriveSide, OneAskedSide, OneFewestSide, OneServedSide, OneServing};
+ghost use Rattle.lc_cli.specs.OneServing.{BeginsFromIt, NotAnotherBase, NotMadeUp, NotUnasked, OneServing, OneSide};
 
 use cli_arrive::one_latest_output;
 use cli_ask::one_output;
@@ -129,10 +129,7 @@ pub fn one_relayed<L: Link, M: Link>()
 /// By recorded files a command begins from one side: that to which `ask`, `fewest` or `arrive` puts its question, and that which `serve` publishes
 /// first. Other sides are refused: with a message that no argument names, with messages taken unasked, or with another base version.
 pub fn one_side<L: Link>()
-    ensures asked { OneAskedSide }
-    ensures fewest { OneFewestSide }
-    ensures arrive { OneArriveSide }
-    ensures served { OneServedSide }
+    ensures one { OneSide }
     ensures begins { BeginsFromIt L.seen }
     ensures made_up { NotMadeUp }
     ensures unasked { NotUnasked }

@@ -13,6 +13,7 @@ mod plan;
 mod question;
 mod refusal;
 mod replay;
+mod scope;
 mod serve;
 mod server;
 mod status;

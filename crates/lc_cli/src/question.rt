@@ -4,22 +4,23 @@ ghost use Rattle.cli_inputs.specs.Inputs.{IsMessageRefusal, IsRefusedFor};
 ghost use Rattle.cli_inputs.specs.declared.refusal.Refusal.TheVariants.{Load};
 ghost use Rattle.gtfs_tables.specs.Reading.{Keeps};
 ghost use Rattle.lc_world.specs.GoneOn.{IsLeftByPasses};
-ghost use Rattle.timetable.specs.Scope.{IsWindow};
 ghost use Rattle.timetable.specs.declared.fault.LoadFault.TheVariants.{NoMemory as OutOfMemory};
 ghost use Rattle.version_store.specs.declared.message_fault.MessageFault.TheVariants as messages;
-ghost use Rattle.lc_cli.specs.Command.{IsQuestionBlock, arrive_question, ask_question, fewest_question};
+ghost use Rattle.lc_cli.specs.Command.{IsQuestionBlock};
 ghost use Rattle.lc_cli.specs.Question.{CachesPages, IsAskedSo, IsEndBlock, IsUnasked};
+ghost use Rattle.lc_cli.specs.Scope.{scope_of};
 
 use crate::block::Block;
 use crate::refusal::message_refusal;
+use crate::scope::scope_of;
 use back_scan::ArriveQuery;
 use cli_ask::{Asked, MessageFault};
 use cli_inputs::{Inputs, Refusal, read_inputs};
-use cli_words::{Arrive, Ask, Fewest, Publishing};
-use lc_model::{NoMemory, Query, Text};
+use cli_words::{Published, Publishing};
+use lc_model::{NoMemory, Query};
 use lc_world::{File, Folder, Link};
 use std::alloc::Global;
-use timetable::{Scope, Timetable};
+use timetable::Timetable;
 
 /// What a client asks an in-process publisher.
 #[derive(Drop)]
@@ -32,99 +33,27 @@ pub enum Asking {
     Latest(ArriveQuery),
 }
 
-/// A question to the timetable of a feed, which is published after a message, if a file of one is named.
-#[derive(Drop)]
-pub struct Question {
-    pub scope: Scope,
-    pub update: Option<Text>,
-    pub publishing: Publishing,
-    pub asking: Asking,
-}
-
-/// What `ask` asks: for the earliest arrival.
-pub(crate) fn ask_question(ask: Ask) -> Question
-    ensures question { result ≡ ask_question ask }
-    ensures window { IsWindow result.scope.first result.scope.days }
-    ensures pages { CachesPages result.asking }
-{
-    Question {
-        scope: Scope {
-            feed: ask.feed,
-            zone: ask.zone,
-            first: ask.first,
-            days: ask.days,
-            change: ask.change,
-        },
-        update: ask.update,
-        publishing: ask.publishing,
-        asking: Asking::Earliest {
-            query: ask.query,
-            cache: ask.cache,
-        },
-    }
-}
-
-/// What `fewest` asks: for the fewest rides.
-pub(crate) fn fewest_question(fewest: Fewest) -> Question
-    ensures question { result ≡ fewest_question fewest }
-    ensures window { IsWindow result.scope.first result.scope.days }
-    ensures pages { CachesPages result.asking }
-{
-    Question {
-        scope: Scope {
-            feed: fewest.feed,
-            zone: fewest.zone,
-            first: fewest.first,
-            days: fewest.days,
-            change: fewest.change,
-        },
-        update: fewest.update,
-        publishing: fewest.publishing,
-        asking: Asking::Fewest(fewest.query),
-    }
-}
-
-/// What `arrive` asks: for the latest departure.
-pub(crate) fn arrive_question(arrive: Arrive) -> Question
-    ensures question { result ≡ arrive_question arrive }
-    ensures window { IsWindow result.scope.first result.scope.days }
-    ensures pages { CachesPages result.asking }
-{
-    Question {
-        scope: Scope {
-            feed: arrive.feed,
-            zone: arrive.zone,
-            first: arrive.first,
-            days: arrive.days,
-            change: arrive.change,
-        },
-        update: arrive.update,
-        publishing: arrive.publishing,
-        asking: Asking::Latest(arrive.query),
-    }
-}
-
 /// Reads what a question is asked of, and lets a client ask it.
 pub(crate) fn question_block<F: Folder, L: Link>(
     alloc: Global,
     folder: &mut F,
-    question: Question,
+    published: Published,
+    asking: Asking,
     link: L,
 ) -> (Result<Block, Refusal>, L)
-    requires window { IsWindow question.scope.first question.scope.days }
-    requires pages { CachesPages question.asking }
-    ensures block { IfOk result.0 (IsQuestionBlock question (F.seen folder.old) (F.seen folder.new) (L.seen link) (L.seen result.1)) }
-    ensures refused { IfErr result.0 (IsRefusedFor question.scope question.update (F.seen folder.old) (F.seen folder.new)) }
+    requires { CachesPages asking }
+    ensures block { IfOk result.0 (IsQuestionBlock published asking (F.seen folder.old) (F.seen folder.new) (L.seen link) (L.seen result.1)) }
+    ensures refused { IfErr result.0 (IsRefusedFor (scope_of published.window) published.update (F.seen folder.old) (F.seen folder.new)) }
     ensures kept { Keeps (F.seen folder.old) (F.seen folder.new) }
     ensures refusal_leaves_link { IfErr result.0 (λ refusal. refusal ≢ Load OutOfMemory → result.1 ≡ link) }
     ensures left { IsLeftByPasses (L.seen link) (L.seen result.1) }
 {
-    let Question {
-        scope,
-        update,
+    let Published {
+        window,
         publishing,
-        asking,
-    } = question;
+        update,
+    } = published;
+    let scope = scope_of(window);
     match read_inputs(alloc, folder, &scope, update) {
         Ok(Inputs { made, file }) => {
             let (ended, link) = ask_publisher(alloc, made, publishing, &file, asking, link);

@@ -6,17 +6,18 @@ ghost use Rattle.laws_replay.specs.Replayed.{IsReplayed};
 ghost use Rattle.laws_replay.specs.Versions.{HaveAdmitted};
 ghost use Rattle.lc_world.specs.GoneOn.{IsLeftByPasses};
 ghost use Rattle.timetable.specs.declared.fault.LoadFault.TheVariants.{NoMemory as OutOfMemory};
-ghost use Rattle.lc_cli.specs.Replay.{IsCourse, IsReplayBlock, replay_scope};
+ghost use Rattle.lc_cli.specs.Replay.{IsCourse, IsReplayBlock};
+ghost use Rattle.lc_cli.specs.Scope.{scope_of};
 
 use crate::block::Block;
 use crate::course::Course;
+use crate::scope::scope_of;
 use cli_inputs::{Refusal, ReplayInputs, read_replay};
 use cli_replay::Replayed;
 use cli_words::Replay;
 use lc_model::NoMemory;
 use lc_world::{Folder, Link};
 use std::alloc::Global;
-use timetable::Scope;
 
 /// Reads what an event sequence is played from, and plays it.
 pub(crate) fn replay_block<F: Folder, L: Link>(
@@ -26,7 +27,7 @@ pub(crate) fn replay_block<F: Folder, L: Link>(
     link: L,
 ) -> (Result<Block, Refusal>, L)
     ensures block { IfOk result.0 (IsReplayBlock replay (F.seen folder.old) (F.seen folder.new) (L.seen link) (L.seen result.1)) }
-    ensures refused { IfErr result.0 (IsReplayRefused (replay_scope replay) replay.script (F.seen folder.old) (F.seen folder.new)) }
+    ensures refused { IfErr result.0 (IsReplayRefused (scope_of replay.window) replay.script (F.seen folder.old) (F.seen folder.new)) }
     ensures kept { Keeps (F.seen folder.old) (F.seen folder.new) }
     ensures refusal_leaves_link { IfErr result.0 (λ refusal. refusal ≢ Load OutOfMemory → result.1 ≡ link) }
     ensures left { IsLeftByPasses (L.seen link) (L.seen result.1) }
@@ -59,27 +60,17 @@ pub(crate) fn read_course<F: Folder>(
     replay: Replay,
 ) -> Result<Course, Refusal>
     ensures course { IfOk result (IsCourse replay (F.seen folder.old) (F.seen folder.new)) }
-    ensures refused { IfErr result (IsReplayRefused (replay_scope replay) replay.script (F.seen folder.old) (F.seen folder.new)) }
+    ensures refused { IfErr result (IsReplayRefused (scope_of replay.window) replay.script (F.seen folder.old) (F.seen folder.new)) }
     ensures kept { Keeps (F.seen folder.old) (F.seen folder.new) }
 {
     let Replay {
-        feed,
-        first,
-        days,
-        zone,
-        change,
+        window,
         publishing,
         cache,
         script,
         ..
     } = replay;
-    let scope = Scope {
-        feed,
-        zone,
-        first,
-        days,
-        change,
-    };
+    let scope = scope_of(window);
     match read_replay(alloc, folder, &scope, script) {
         Ok(ReplayInputs { made, events }) => Ok(Course {
             made,

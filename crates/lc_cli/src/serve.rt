@@ -4,18 +4,19 @@ ghost use Rattle.cli_serve.specs.Serve.{DoorNeverFell};
 ghost use Rattle.lc_cli.specs.Serving.{IsServingEnd};
 ghost use Rattle.cli_serve.specs.Written.{SinkNeverFell};
 ghost use Rattle.gtfs_tables.specs.Reading.{Keeps};
-ghost use Rattle.lc_cli.specs.Command.{IsServer, serve_scope};
+ghost use Rattle.lc_cli.specs.Command.{IsServer};
+ghost use Rattle.lc_cli.specs.Scope.{scope_of};
 
 use crate::refusal::{NO_MEMORY, message_refusal, say};
+use crate::scope::scope_of;
 use crate::server::Server;
 use crate::status::Status;
 use cli_ask::serving_publisher;
 use cli_inputs::{Inputs, Refusal, read_inputs};
 use cli_serve::ServeFault;
-use cli_words::Serve;
+use cli_words::{Published, Serve};
 use lc_world::{Door, Folder, Sink};
 use std::alloc::Global;
-use timetable::Scope;
 
 /// Reads what is to be served, and makes its publisher.
 pub(crate) fn server<F: Folder>(
@@ -24,29 +25,22 @@ pub(crate) fn server<F: Folder>(
     serve: Serve,
 ) -> Result<Server, Refusal>
     ensures server { IfOk result (IsServer serve (F.seen folder.old) (F.seen folder.new)) }
-    ensures refused { IfErr result (IsRefusedFor (serve_scope serve) serve.update (F.seen folder.old) (F.seen folder.new)) }
+    ensures refused { IfErr result (IsRefusedFor (scope_of serve.published.window) serve.published.update (F.seen folder.old) (F.seen folder.new)) }
     ensures kept { Keeps (F.seen folder.old) (F.seen folder.new) }
 {
     let Serve {
-        feed,
-        first,
-        days,
-        zone,
-        change,
-        publishing,
-        update,
+        published,
         port,
         connections,
         accept_updates,
         ..
     } = serve;
-    let scope = Scope {
-        feed,
-        zone,
-        first,
-        days,
-        change,
-    };
+    let Published {
+        window,
+        publishing,
+        update,
+    } = published;
+    let scope = scope_of(window);
     match read_inputs(alloc, folder, &scope, update) {
         Ok(Inputs { made, file }) => {
             match serving_publisher(alloc, made, publishing, accept_updates, &file) {

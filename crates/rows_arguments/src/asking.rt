@@ -1,9 +1,9 @@
 //! What the arguments of the commands say that ask one question without a cache.
-use crate::commands::{put_date, put_question, put_word};
+use crate::commands::{put_question, put_window, put_word};
 use crate::options::put_known;
 use crate::words::put_publishing;
-use cli_words::{Arrive, Fewest};
-use lc_model::{ServiceDate, Text};
+use cli_words::{Arrive, Fewest, Published};
+use lc_model::Moment;
 use rows_common::Draft;
 
 /// Arguments of `fewest`.
@@ -85,37 +85,17 @@ pub const ARRIVES: [&str; 34] = [
 /// A question for the fewest rides: its feed, its question and window, how it is published, the message, and the known moment.
 pub fn put_fewest(draft: &mut Draft, fewest: &Fewest) {
     draft.put("fewest ");
-    draft.put(fewest.feed.as_str());
+    draft.put(fewest.published.window.feed.as_str());
     put_question(draft, &fewest.query);
-    put_window(
-        draft,
-        fewest.first,
-        fewest.days,
-        &fewest.zone,
-        fewest.change,
-    );
-    draft.put(" ");
-    put_publishing(draft, &fewest.publishing);
-    draft.put(" ");
-    put_known(draft, &fewest.update, fewest.query.known);
+    put_published(draft, &fewest.published, fewest.query.known);
 }
 
 /// A question for the latest departure: what one for the fewest rides has.
 pub fn put_arrive(draft: &mut Draft, arrive: &Arrive) {
     draft.put("arrive ");
-    draft.put(arrive.feed.as_str());
+    draft.put(arrive.published.window.feed.as_str());
     put_arrival(draft, arrive);
-    put_window(
-        draft,
-        arrive.first,
-        arrive.days,
-        &arrive.zone,
-        arrive.change,
-    );
-    draft.put(" ");
-    put_publishing(draft, &arrive.publishing);
-    draft.put(" ");
-    put_known(draft, &arrive.update, arrive.query.known);
+    put_published(draft, &arrive.published, arrive.query.known);
 }
 
 fn put_arrival(draft: &mut Draft, arrive: &Arrive) {
@@ -125,9 +105,11 @@ fn put_arrival(draft: &mut Draft, arrive: &Arrive) {
     put_word(draft, &arrive.query.horizon);
 }
 
-fn put_window(draft: &mut Draft, first: ServiceDate, days: u32, zone: &Text, change: u32) {
-    put_date(draft, first);
-    put_word(draft, &days);
-    put_word(draft, &zone.as_str());
-    put_word(draft, &change);
+/// The window, how it is published, the message, and the known moment.
+fn put_published(draft: &mut Draft, published: &Published, known: Option<Moment>) {
+    put_window(draft, &published.window);
+    draft.put(" ");
+    put_publishing(draft, &published.publishing);
+    draft.put(" ");
+    put_known(draft, &published.update, known);
 }

@@ -3,7 +3,7 @@ use crate::asking::{ARRIVES, FEWESTS, put_arrive, put_fewest};
 use crate::drills::{DRILLS, put_drill};
 use crate::network::{PLANS, RELAYS, SERVES, put_plan, put_relay, put_serve};
 use crate::words::{Side, command_of, put_publishing, put_read};
-use cli_words::{Ask, Check, Command, Replay, read_words};
+use cli_words::{Ask, Check, Command, FeedWindow, Replay, read_words};
 use lc_model::{NoMemory, Query, ServiceDate};
 use lc_time::date_text;
 use rows_common::Draft;
@@ -154,11 +154,16 @@ pub fn put_said(draft: &mut Draft, read: &Result<Option<Command>, NoMemory>) {
 
 fn put_check(draft: &mut Draft, check: &Check) {
     draft.put("check ");
-    draft.put(check.feed.as_str());
-    put_date(draft, check.first);
-    put_word(draft, &check.days);
-    put_word(draft, &check.zone.as_str());
-    put_word(draft, &check.change);
+    draft.put(check.window.feed.as_str());
+    put_window(draft, &check.window);
+}
+
+/// A window without its feed.
+pub fn put_window(draft: &mut Draft, window: &FeedWindow) {
+    put_date(draft, window.first);
+    put_word(draft, &window.days);
+    put_word(draft, &window.zone.as_str());
+    put_word(draft, &window.change);
 }
 
 /// A space, and what is shown after it.
@@ -168,7 +173,7 @@ pub fn put_word<T: Display>(draft: &mut Draft, shown: &T) {
 }
 
 /// A space, and a date.
-pub fn put_date(draft: &mut Draft, date: ServiceDate) {
+fn put_date(draft: &mut Draft, date: ServiceDate) {
     let date = date_text(date);
     draft.put(" ");
     draft.put(from_utf8(&date).unwrap_or("?"));
@@ -176,12 +181,9 @@ pub fn put_date(draft: &mut Draft, date: ServiceDate) {
 
 fn put_ask(draft: &mut Draft, ask: &Ask) {
     draft.put("ask ");
-    draft.put(ask.feed.as_str());
+    draft.put(ask.published.window.feed.as_str());
     put_question(draft, &ask.query);
-    put_date(draft, ask.first);
-    put_word(draft, &ask.days);
-    put_word(draft, &ask.zone.as_str());
-    put_word(draft, &ask.change);
+    put_window(draft, &ask.published.window);
 }
 
 /// A question: its stops, when it leaves, and its horizon.
@@ -194,12 +196,12 @@ pub fn put_question(draft: &mut Draft, query: &Query) {
 
 fn put_replay(draft: &mut Draft, replay: &Replay) {
     draft.put("replay ");
-    draft.put(replay.feed.as_str());
-    put_date(draft, replay.first);
+    draft.put(replay.window.feed.as_str());
+    put_date(draft, replay.window.first);
     put_word(draft, &replay.script.as_str());
-    put_word(draft, &replay.days);
-    put_word(draft, &replay.zone.as_str());
-    put_word(draft, &replay.change);
+    put_word(draft, &replay.window.days);
+    put_word(draft, &replay.window.zone.as_str());
+    put_word(draft, &replay.window.change);
     draft.put(" ");
     put_publishing(draft, &replay.publishing);
     put_word(draft, &replay.cache);

@@ -1,5 +1,5 @@
 //! What the arguments of the commands over the network say.
-use crate::commands::{put_date, put_word};
+use crate::commands::{put_window, put_word};
 use crate::words::put_publishing;
 use cli_words::{Plan, Relay, Serve};
 use rows_common::Draft;
@@ -130,13 +130,10 @@ pub const RELAYS: [&str; 32] = [
 /// A server: its feed and window, how it publishes, its port and connections, the message, and whether it takes messages.
 pub fn put_serve(draft: &mut Draft, serve: &Serve) {
     draft.put("serve ");
-    draft.put(serve.feed.as_str());
-    put_date(draft, serve.first);
-    put_word(draft, &serve.days);
-    put_word(draft, &serve.zone.as_str());
-    put_word(draft, &serve.change);
+    draft.put(serve.published.window.feed.as_str());
+    put_window(draft, &serve.published.window);
     draft.put(" ");
-    put_publishing(draft, &serve.publishing);
+    put_publishing(draft, &serve.published.publishing);
     put_door(draft, serve);
 }
 
@@ -144,7 +141,7 @@ fn put_door(draft: &mut Draft, serve: &Serve) {
     put_word(draft, &serve.port);
     put_word(draft, &serve.connections);
     draft.put(" ");
-    draft.put(match &serve.update {
+    draft.put(match &serve.published.update {
         Some(name) => name.as_str(),
         None => "-",
     });

@@ -89,7 +89,7 @@ fn put_published_by(alloc: Global, draft: &mut Draft, options: &str) {
 /// How the timetable is published.
 pub fn put_published(draft: &mut Draft, read: &Result<Option<Command>, NoMemory>) {
     match read {
-        Ok(Some(Command::Ask(ask))) => put_publishing(draft, &ask.publishing),
+        Ok(Some(Command::Ask(ask))) => put_publishing(draft, &ask.published.publishing),
         other => put_other(draft, other),
     }
 }
@@ -129,7 +129,7 @@ pub fn put_client(draft: &mut Draft, read: &Result<Option<Command>, NoMemory>) {
 fn put_client_of(draft: &mut Draft, ask: &Ask) {
     draft.put_shown(&ask.cache);
     draft.put(" ");
-    put_known(draft, &ask.update, ask.query.known);
+    put_known(draft, &ask.published.update, ask.query.known);
 }
 
 /// The name of the file with a message, and which moment's knowledge is meant.

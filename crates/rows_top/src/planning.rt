@@ -211,20 +211,16 @@ fn publisher_by(alloc: Global, words: &[String]) -> Result<Publisher<Cutting>, U
 
 fn publisher_for(alloc: Global, replay: Replay) -> Result<Publisher<Cutting>, Unmade> {
     let Replay {
-        feed,
-        first,
-        days,
-        zone,
-        change,
+        window,
         publishing,
         ..
     } = replay;
     let scope = Scope {
-        feed,
-        zone,
-        first,
-        days,
-        change,
+        feed: window.feed,
+        zone: window.zone,
+        first: window.first,
+        days: window.days,
+        change: window.change,
     };
     let made = tiny_in(alloc, &scope)?;
     Ok(publisher_of(alloc, made, publishing)?)

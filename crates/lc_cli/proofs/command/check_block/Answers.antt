@@ -9,7 +9,7 @@ returns-in-Ok-check_text-clause-block g c =
     let new = g.F.Folder.seen c.load.new.folder in
     record {
       made = c.in-Ok.made;
-      loaded = subst (λ (scope : Scope). Loads scope old new c.in-Ok.made) c.scope_of_check-scope.ensures.scope c.in-Ok.ensures.ends;
+      loaded = subst (λ (scope : Scope). Loads scope old new c.in-Ok.made) c.scope_of-scope.ensures.scope c.in-Ok.ensures.ends;
       text = c.in-Ok-check_text.ensures;
       no_client = c.new.ensures.items;
     }

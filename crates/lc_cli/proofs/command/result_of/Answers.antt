@@ -7,12 +7,12 @@ use Rattle.lc_cli.proofs.command.result_of.Goals as goal
 pub returns-in-Ask-clause-work : goal.returns-in-Ask-clause-work
 returns-in-Ask-clause-work g c =
     rw c.in-Ask.is
-    (results_printed _ _ _ _ (commands.Ask c.in-Ask.ask) c.question_block-block.result.0 c.printed.result (rw c.ask_question.ensures.question at c.question_block-block.ensures.block) c.printed.ensures.work c.printed.ensures.refused)
+    (results_printed _ _ _ _ (commands.Ask c.in-Ask.ask) c.question_block-block.result.0 c.printed.result c.question_block-block.ensures.block c.printed.ensures.work c.printed.ensures.refused)
 
 pub returns-in-Ask-clause-refused : goal.returns-in-Ask-clause-refused
 returns-in-Ask-clause-refused g c =
     rw c.in-Ask.is
-    (refused_printed _ _ (commands.Ask c.in-Ask.ask) c.question_block-block.result.0 c.printed.result (rw c.ask_question.ensures.question at c.question_block-block.ensures.refused) c.printed.ensures.work c.printed.ensures.refused)
+    (refused_printed _ _ (commands.Ask c.in-Ask.ask) c.question_block-block.result.0 c.printed.result c.question_block-block.ensures.refused c.printed.ensures.work c.printed.ensures.refused)
 
 pub returns-in-Replay-clause-work : goal.returns-in-Replay-clause-work
 returns-in-Replay-clause-work g c =
@@ -52,12 +52,12 @@ returns-in-Drill-clause-link g c = rw c.in-Drill.is c.drill_block-block.ensures.
 pub returns-in-Fewest-clause-work : goal.returns-in-Fewest-clause-work
 returns-in-Fewest-clause-work g c =
     rw c.in-Fewest.is
-    (results_printed _ _ _ _ (commands.Fewest c.in-Fewest.fewest) c.question_block-block-in-Fewest.result.0 c.printed-in-Fewest.result (rw c.fewest_question.ensures.question at c.question_block-block-in-Fewest.ensures.block) c.printed-in-Fewest.ensures.work c.printed-in-Fewest.ensures.refused)
+    (results_printed _ _ _ _ (commands.Fewest c.in-Fewest.fewest) c.question_block-block-in-Fewest.result.0 c.printed-in-Fewest.result c.question_block-block-in-Fewest.ensures.block c.printed-in-Fewest.ensures.work c.printed-in-Fewest.ensures.refused)
 
 pub returns-in-Fewest-clause-refused : goal.returns-in-Fewest-clause-refused
 returns-in-Fewest-clause-refused g c =
     rw c.in-Fewest.is
-    (refused_printed _ _ (commands.Fewest c.in-Fewest.fewest) c.question_block-block-in-Fewest.result.0 c.printed-in-Fewest.result (rw c.fewest_question.ensures.question at c.question_block-block-in-Fewest.ensures.refused) c.printed-in-Fewest.ensures.work c.printed-in-Fewest.ensures.refused)
+    (refused_printed _ _ (commands.Fewest c.in-Fewest.fewest) c.question_block-block-in-Fewest.result.0 c.printed-in-Fewest.result c.question_block-block-in-Fewest.ensures.refused c.printed-in-Fewest.ensures.work c.printed-in-Fewest.ensures.refused)
 
 pub returns-in-Fewest-clause-link : goal.returns-in-Fewest-clause-link
 returns-in-Fewest-clause-link g c = rw c.in-Fewest.is c.question_block-block-in-Fewest.ensures.left
@@ -65,12 +65,12 @@ returns-in-Fewest-clause-link g c = rw c.in-Fewest.is c.question_block-block-in-
 pub returns-in-Arrive-clause-work : goal.returns-in-Arrive-clause-work
 returns-in-Arrive-clause-work g c =
     rw c.in-Arrive.is
-    (results_printed _ _ _ _ (commands.Arrive c.in-Arrive.arrive) c.question_block-block-in-Arrive.result.0 c.printed-in-Arrive.result (rw c.arrive_question.ensures.question at c.question_block-block-in-Arrive.ensures.block) c.printed-in-Arrive.ensures.work c.printed-in-Arrive.ensures.refused)
+    (results_printed _ _ _ _ (commands.Arrive c.in-Arrive.arrive) c.question_block-block-in-Arrive.result.0 c.printed-in-Arrive.result c.question_block-block-in-Arrive.ensures.block c.printed-in-Arrive.ensures.work c.printed-in-Arrive.ensures.refused)
 
 pub returns-in-Arrive-clause-refused : goal.returns-in-Arrive-clause-refused
 returns-in-Arrive-clause-refused g c =
     rw c.in-Arrive.is
-    (refused_printed _ _ (commands.Arrive c.in-Arrive.arrive) c.question_block-block-in-Arrive.result.0 c.printed-in-Arrive.result (rw c.arrive_question.ensures.question at c.question_block-block-in-Arrive.ensures.refused) c.printed-in-Arrive.ensures.work c.printed-in-Arrive.ensures.refused)
+    (refused_printed _ _ (commands.Arrive c.in-Arrive.arrive) c.question_block-block-in-Arrive.result.0 c.printed-in-Arrive.result c.question_block-block-in-Arrive.ensures.refused c.printed-in-Arrive.ensures.work c.printed-in-Arrive.ensures.refused)
 
 pub returns-in-Arrive-clause-link : goal.returns-in-Arrive-clause-link
 returns-in-Arrive-clause-link g c = rw c.in-Arrive.is c.question_block-block-in-Arrive.ensures.left
@@ -108,3 +108,6 @@ returns-in-Ok-server-clause-link g c = leaves_alone c.args.command (g.L.Link.see
 
 pub returns-in-Err-server-clause-link : goal.returns-in-Err-server-clause-link
 returns-in-Err-server-clause-link g c = leaves_alone c.args.command (g.L.Link.seen c.args.link)
+
+pub question_block-block-requires : goal.question_block-block-requires
+question_block-block-requires g c = (c.in-Ask.ask.some_pages, c.in-Ask.ask.most_pages)

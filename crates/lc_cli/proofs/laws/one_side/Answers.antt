@@ -1,17 +1,8 @@
-use Rattle.lc_cli.proofs.OneServingLemmas.{begins_from_it, not_another_base, not_made_up, not_unasked, one_arrive_side, one_asked_side, one_fewest_side, one_served_side}
+use Rattle.lc_cli.proofs.OneServingLemmas.{begins_from_it, not_another_base, not_made_up, not_unasked, one_side}
 use Rattle.lc_cli.proofs.laws.one_side.Goals as goal
 
-pub returns-clause-asked : goal.returns-clause-asked
-returns-clause-asked g c = one_asked_side c.one_timetable.ensures.one c.one_outcome.ensures.one
-
-pub returns-clause-fewest : goal.returns-clause-fewest
-returns-clause-fewest g c = one_fewest_side c.one_timetable.ensures.one c.one_outcome.ensures.one
-
-pub returns-clause-arrive : goal.returns-clause-arrive
-returns-clause-arrive g c = one_arrive_side c.one_timetable.ensures.one c.one_outcome.ensures.one
-
-pub returns-clause-served : goal.returns-clause-served
-returns-clause-served g c = one_served_side c.one_timetable.ensures.one c.one_outcome.ensures.one
+pub returns-clause-one : goal.returns-clause-one
+returns-clause-one g c = one_side c.one_timetable.ensures.one c.one_outcome.ensures.one
 
 pub returns-clause-begins : goal.returns-clause-begins
 returns-clause-begins g c = begins_from_it g.L.Link.seen c.one_timetable.ensures.loads_recorded

@@ -1,6 +1,6 @@
 use Rattle.std.proofs.Common.{inr, subst, sym}
 use Rattle.cli_inputs.specs.Script.{IsReplayRefused}
-use Rattle.lc_cli.specs.Command.{replay_scope}
+use Rattle.lc_cli.specs.Scope.{scope_of}
 use Rattle.lc_cli.proofs.DrillLemmas.{replay_block_of}
 use Rattle.lc_cli.proofs.replay.replay_block.Goals as goal
 
@@ -12,5 +12,5 @@ returns-in-Ok-played-clause-block g c =
 
 pub returns-in-Err-played-clause-refused : goal.returns-in-Err-played-clause-refused
 returns-in-Err-played-clause-refused g c =
-    subst (IsReplayRefused (replay_scope c.args.replay) c.args.replay.script (g.F.Folder.seen c.args.folder.now) (g.F.Folder.seen c.read_course.new.folder)) (sym c.from.ensures)
+    subst (IsReplayRefused (scope_of c.args.replay.window) c.args.replay.script (g.F.Folder.seen c.args.folder.now) (g.F.Folder.seen c.read_course.new.folder)) (sym c.from.ensures)
     (inr (inr (inr (record { made = c.in-Ok.course.made; all = c.in-Ok.course.events.items; read = c.in-Ok.ensures.course.read }))))

@@ -3,4 +3,4 @@ use Rattle.lc_cli.proofs.WindowLemmas.{window_said}
 use Rattle.rows_top.proofs.planning.publisher_for.Goals as goal
 
 pub tiny_in-requires : goal.tiny_in-requires
-tiny_in-requires c = window_said c.args.replay.first c.args.replay.days c.args.replay.window
+tiny_in-requires c = window_said c.args.replay.window.first c.args.replay.window.days c.args.replay.window.is_window
