@@ -50,7 +50,10 @@ fn put_under(alloc: Global, draft: &mut Draft, base: &Base) {
 /// The line of a client. It is owned here alone, since that is dear to prove.
 fn put_client(alloc: Global, draft: &mut Draft, base: &Base, case: &Case, then: Then) {
     match client(alloc, case, then) {
-        Ok(mut client) => put_run(alloc, draft, base, &mut client, case, then),
+        Ok(mut client) => {
+            put_run(alloc, draft, base, &mut client, case, then);
+            drop(client);
+        }
         Err(Unmade) => draft.lose(),
     }
 }

@@ -90,4 +90,5 @@ fn put_kept(draft: &mut Draft, convoy: Convoy) {
     draft.put("kept: ");
     put_outcome(draft, outcome.as_ref());
     draft.put("\n");
+    drop(outcome);
 }
