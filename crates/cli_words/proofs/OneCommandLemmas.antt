@@ -1,5 +1,5 @@
 -- Arguments say one command at most.
-use Rattle.std.proofs.Common.{◌≡◌, ◌∙◌, ℕ, ◌/◌, ◌-◌, ◌≤◌, Bool, List, [], ◌∷◌, Option, ap, refl, subst, sym}
+use Rattle.std.proofs.Common.{◌≡◌, ◌∙◌, ℕ, ◌/◌, ◌-◌, ◌≤◌, Bool, List, [], ◌∷◌, ap, refl, subst, sym}
 use Rattle.std.proofs.Props.{props}
 use Rattle.back_scan.specs.declared.arrive_query.ArriveQuery.{ArriveQuery}
 use Rattle.clap.specs.Simple.{App}

@@ -1,5 +1,5 @@
 -- A timetable of a feed as it is published.
-use Rattle.std.specs.Prelude.{ℕ, List, codes}
+use Rattle.std.specs.Prelude.{ℕ, List}
 use Rattle.clap.specs.Simple.{App}
 use Rattle.cli_words.specs.FeedWindow.{AsksWindow}
 use Rattle.cli_words.specs.Publishing.{SaysPublishingOr, example}

@@ -86,8 +86,8 @@ pub fn run<F: Folder, L: Link, D: Door, S: Sink>(
     ensures door { ((serve : Served) → SaysCommand (texts_of words.now) (commands.Serve serve) → ⊥) → door.new ≡ door.old }
     ensures door_counts { DoorNeverFell (D.seen door.old) (D.seen door.new) }
 
-    // However it ended, the count of the link has not fallen, and nothing is lost of what it recorded. `ask`, `fewest`, `arrive` and `replay` hand
-    // answers on over it, and its side stays. `plan` and `relay` leave an honest link honest.
+    // However it ended, the count of the link has not fallen, and nothing is lost of what it recorded. `ask`, `fewest`, `arrive`, `replay` and
+    // `drill` hand answers on over it, and its side stays. `plan` and `relay` leave an honest link honest.
     ensures link { HasGoneOn (L.seen link) (L.seen result.1) }
     ensures command_leaves_link { (command : Command) → SaysCommand (texts_of words.now) command → LeavesLink command (L.seen link) (L.seen result.1) }
 
