@@ -6,6 +6,7 @@ use Rattle.connection_uri.specs.Name.{run_part_of}
 use Rattle.page_json.specs.ConnectionWriting.{end_part, list_part, members_part, name_part, use_part}
 use Rattle.page_json.specs.PageWriting.{page_part, search_part, view_part}
 use Rattle.page_json.specs.declared.fronts.Fronts.{Fronts}
+use Rattle.page_json.specs.declared.moment_text.End.TheVariants.{Arrival, Departure}
 use Rattle.page_json.specs.declared.page.Page.{Page}
 use Rattle.page_json.specs.declared.page_writing.TheConstants.{HEAD}
 
@@ -24,10 +25,10 @@ five a b c d e f x y z w v first second third fourth fifth = two a b f x (y ++ (
 
 -- a connection, by the text of its run
 pub members_by : (fronts : Fronts) (c : Connection) (old new run again : List ℕ) → run ≡ run_part_of c.key → again ≡ run_part_of c.key
-    → new ≡ old ++ (name_part run c.seq ++ (end_part fronts.ends.arrival c.arr_delay c.arr_stop c.arr ++ (end_part fronts.ends.departure c.dep_delay c.dep_stop c.dep ++ use_part fronts.uses again c)))
+    → new ≡ old ++ (name_part run c.seq ++ (end_part fronts.ends.arrival Arrival c.arr_delay c.arr_stop c.arr ++ (end_part fronts.ends.departure Departure c.dep_delay c.dep_stop c.dep ++ use_part fronts.uses again c)))
     → new ≡ old ++ members_part fronts c
 members_by fronts c old new run again e1 e2 h =
-    h ∙ (λ i. old ++ (name_part (e1 i) c.seq ++ (end_part fronts.ends.arrival c.arr_delay c.arr_stop c.arr ++ (end_part fronts.ends.departure c.dep_delay c.dep_stop c.dep ++ use_part fronts.uses (e2 i) c))))
+    h ∙ (λ i. old ++ (name_part (e1 i) c.seq ++ (end_part fronts.ends.arrival Arrival c.arr_delay c.arr_stop c.arr ++ (end_part fronts.ends.departure Departure c.dep_delay c.dep_stop c.dep ++ use_part fronts.uses (e2 i) c))))
 
 -- a page, by its list and the base
 pub page_by : (fronts : Fronts) (page : Page) (old new : List ℕ) (list : List Connection) (base again : List ℕ) → list ≡ page.list → base ≡ fronts.base → again ≡ fronts.base

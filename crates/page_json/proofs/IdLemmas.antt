@@ -1,7 +1,8 @@
 -- Ids and runs as URLs have them.
-use Rattle.std.proofs.Common.{◌≡◌, ℕ, ◌++◌, Bool, true, cond, List, [], ◌∷◌, IsAscii, codes, refl, ap, ap₂, append_assoc, arith}
+use Rattle.std.proofs.Common.{◌≡◌, ℕ, ◌+◌, ◌/◌, ◌%◌, ◌^◌, ◌<◌, ◌≤◌, ◌++◌, ◌∙◌, Bool, true, cond, List, [], ◌∷◌, IsAscii, codes, decimal, refl, sym, ap, ap₂, append_assoc, arith}
 use Rattle.std.specs.List.{list_all}
 use Rattle.std.proofs.lemmas.Bool.{and_parts}
+use Rattle.std.proofs.lemmas.Fmt.{IsAscii-decimal, decimal_digit, decimal_step}
 use Rattle.std.proofs.lemmas.Str.{IsAscii-append}
 use Rattle.std.proofs.lemmas.Str.Ascii.{IsAscii-nil, IsAscii-cons}
 use Rattle.percent_encoding.specs.Percent.{percent_encode_byte}
@@ -29,6 +30,20 @@ dash = IsAscii-cons 47 (codes "-") (omega arith) (IsAscii-cons 45 [] (omega arit
 -- a start after a slash
 pub started : (text : List ℕ) → IsAscii text → IsAscii (codes "/" ++ text)
 started text h = IsAscii-cons 47 text (omega arith) h
+
+-- a number of one digit
+pub one_digit_is : (n : ℕ) → n < 10 → (48 + n) ∷ [] ≡ decimal n
+one_digit_is n h = sym (decimal_digit n h)
+
+-- a number of two digits
+pub two_digits_are : (n : ℕ) → 10 ≤ n → n < 100 → (48 + n / 10) ∷ (48 + n % 10) ∷ [] ≡ decimal n
+two_digits_are n some few =
+    let tens = decimal_digit (n / 10) (omega arith) in
+    sym (decimal_step n some (omega arith) ∙ ap (λ (s : List ℕ). s ++ (48 + n % 10) ∷ []) tens)
+
+-- a number after a slash
+pub numbered : (n : ℕ) → n < 2 ^ 64 → IsAscii (codes "/" ++ decimal n)
+numbered n h = started (decimal n) (IsAscii-decimal n h)
 
 -- the parts of a run, grouped in two ways
 pub run_is : (trip slash date dash start : List ℕ) → trip ++ (slash ++ (date ++ (dash ++ start))) ≡ trip ++ slash ++ date ++ dash ++ start

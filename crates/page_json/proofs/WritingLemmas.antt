@@ -26,6 +26,7 @@ use Rattle.page_json.specs.Sound.{IsSoundConnection, IsSoundName, IsSoundPage}
 use Rattle.page_json.specs.Tree.{allowed_text, connection_tree, context_tree, link_at, mapping_tree, page_text_of, search_tree}
 use Rattle.page_json.specs.Urls.{stop_url_of, trip_url_of}
 use Rattle.page_json.specs.declared.fronts.Fronts.{Fronts}
+use Rattle.page_json.specs.declared.moment_text.End.TheVariants.{Arrival, Departure}
 use Rattle.page_json.specs.declared.page.Page.{Page}
 use Rattle.page_json.specs.declared.page_writing.TheConstants.{HEAD, SEARCH}
 use Rattle.page_json.proofs.PlainLemmas as plain
@@ -120,16 +121,16 @@ module _ (base : BaseParts) where
   use_is false false = refl
 
   -- the members and the parts of a connection, grouped in two ways
-  regrouped : (t id conn run slash seq t1 ad fs stops to k1 arr k2 dd gs off k3 dep u1 al u2 bo ft trips e : List ℕ)
-      → id ++ ((t ++ (conn ++ (run ++ (slash ++ seq)))) ++ (t1 ++ (ad ++ (fs ++ ((t ++ (stops ++ to)) ++ (k1 ++ (arr ++ (k2 ++ (dd ++ (gs ++ ((t ++ (stops ++ off)) ++ (k3 ++ (dep ++ (u1 ++ (al ++ (u2 ++ (bo ++ (ft ++ ((t ++ (trips ++ run)) ++ e)))))))))))))))))))
-      ≡ id ++ (t ++ (conn ++ (((run ++ (slash ++ seq)) ++ (((t1 ++ (ad ++ (fs ++ (t ++ stops)))) ++ (to ++ (k1 ++ arr))) ++ (((k2 ++ (dd ++ (gs ++ (t ++ stops)))) ++ (off ++ (k3 ++ dep))) ++ (((u1 ++ (al ++ (u2 ++ bo))) ++ (ft ++ (t ++ trips))) ++ run)))) ++ e)))
-  regrouped t id conn run slash seq t1 ad fs stops to k1 arr k2 dd gs off k3 dep u1 al u2 bo ft trips e = simp append_assoc
+  regrouped : (t id conn run slash seq t1 ad fs stops to k1 arr end k2 dd gs off k3 dep u1 al u2 bo ft trips e : List ℕ)
+      → id ++ ((t ++ (conn ++ (run ++ (slash ++ seq)))) ++ (t1 ++ (ad ++ (fs ++ ((t ++ (stops ++ to)) ++ (k1 ++ (arr ++ (end ++ (k2 ++ (dd ++ (gs ++ ((t ++ (stops ++ off)) ++ (k3 ++ (dep ++ (u1 ++ (al ++ (u2 ++ (bo ++ (ft ++ ((t ++ (trips ++ run)) ++ e))))))))))))))))))))
+      ≡ id ++ (t ++ (conn ++ (((run ++ (slash ++ seq)) ++ (((t1 ++ (ad ++ (fs ++ (t ++ stops)))) ++ (to ++ (k1 ++ (arr ++ end)))) ++ (((k2 ++ (dd ++ (gs ++ (t ++ stops)))) ++ (off ++ (k3 ++ dep))) ++ (((u1 ++ (al ++ (u2 ++ bo))) ++ (ft ++ (t ++ trips))) ++ run)))) ++ e)))
+  regrouped t id conn run slash seq t1 ad fs stops to k1 arr end k2 dd gs off k3 dep u1 al u2 bo ft trips e = simp append_assoc
 
   -- a connection by what is written of its two delays and before its trip
   abbrev written : Connection → List ℕ → List ℕ → List ℕ → List ℕ
   written c arrival departure usage =
       codes "{\"@id\":\"" ++ (text ++ (codes "connections/" ++ ((name_part (run_part_of c.key) c.seq
-      ++ ((arrival ++ call_part f.ends.arrival c.arr_stop c.arr) ++ ((departure ++ call_part f.ends.departure c.dep_stop c.dep) ++ (usage ++ run_part_of c.key)))) ++ codes "\"}")))
+      ++ ((arrival ++ call_part Arrival c.arr_stop c.arr) ++ ((departure ++ call_part Departure c.dep_stop c.dep) ++ (usage ++ run_part_of c.key)))) ++ codes "\"}")))
 
   written_same : (c : Connection) (a a' d d' u u' : List ℕ) → a' ≡ a → d' ≡ d → u' ≡ u → written c a d u ≡ written c a' d' u'
   written_same c a a' d d' u u' e1 e2 e3 = sym (λ i. written c (e1 i) (e2 i) (e3 i))
@@ -184,12 +185,12 @@ module _ (base : BaseParts) where
       ap (λ (s : List ℕ). codes "{\"@id\":" ++ s) (in_quotes (name_of base c.key c.seq) _ (members_text true (kind_on c)) (name_inside c.key c.seq run sound.seq))
       ∙ ap (λ (s : List ℕ). codes "{\"@id\":\"" ++ ((text ++ (codes "connections/" ++ (run_part_of c.key ++ (codes "/" ++ decimal c.seq)))) ++ 34 ∷ s)) kind
       ∙ regrouped text (codes "{\"@id\":\"") (codes "connections/") (run_part_of c.key) (codes "/") (decimal c.seq) (codes "\",\"@type\":\"Connection\",\"arrivalDelay\":")
-      (signed_decimal c.arr_delay) (codes ",\"arrivalStop\":\"") (codes "stops/") (encoded c.arr_stop) (codes "\",\"arrivalTime\":\"") (iso_text_of c.arr) (codes "\",\"departureDelay\":")
+      (signed_decimal c.arr_delay) (codes ",\"arrivalStop\":\"") (codes "stops/") (encoded c.arr_stop) (codes "\",\"arrivalTime\":\"") (iso_text_of c.arr) (codes "\",") (codes "\"departureDelay\":")
       (signed_decimal c.dep_delay) (codes ",\"departureStop\":\"") (encoded c.dep_stop) (codes "\",\"departureTime\":\"") (iso_text_of c.dep) (codes "\",\"gtfs:dropOffType\":\"")
       (allowed_text c.alight) (codes "\",\"gtfs:pickupType\":\"") (allowed_text c.board) (codes "\",\"gtfs:trip\":\"") (codes "trips/") (codes "\"}")
       ∙ written_same c _ _ _ _ _ _
       (delay_is (codes "\",\"@type\":\"Connection\",\"arrivalDelay\":") (codes ",\"arrivalStop\":\"") c.arr_delay)
-      (delay_is (codes "\",\"departureDelay\":") (codes ",\"departureStop\":\"") c.dep_delay)
+      (delay_is (codes "\"departureDelay\":") (codes ",\"departureStop\":\"") c.dep_delay)
       (use_is c.alight c.board)
 
   -- ---- the list of connections

@@ -2,13 +2,14 @@
 use Rattle.std.specs.Prelude.{ℕ, ℤ, pos, zero, List, [], ◌∷◌, ◌++◌, Bool, true, false, codes, decimal}
 use Rattle.std.specs.Fmt.{signed_decimal}
 use Rattle.lc_model.specs.declared.connection.Connection.{Connection}
-use Rattle.lc_time.specs.Iso.{iso_text_of}
 use Rattle.connection_uri.specs.Encoding.{encoded}
 use Rattle.connection_uri.specs.Name.{run_part_of}
+use Rattle.page_json.specs.MomentText.{end_text}
 use Rattle.page_json.specs.declared.fronts.DelayFronts.{DelayFronts}
-use Rattle.page_json.specs.declared.fronts.EndFronts.{EndFronts}
 use Rattle.page_json.specs.declared.fronts.Fronts.{Fronts}
 use Rattle.page_json.specs.declared.fronts.UseFronts.{UseFronts}
+use Rattle.page_json.specs.declared.moment_text.End.{End}
+use Rattle.page_json.specs.declared.moment_text.End.TheVariants.{Arrival, Departure}
 
 -- the run and the sequence in a connection's name
 abbrev pub name_part : List ℕ → ℕ → List ℕ
@@ -24,12 +25,12 @@ delay_part fronts (pos zero) = fronts.on_time
 delay_part fronts delay = late_part fronts delay
 
 -- the stop and the moment of an end
-abbrev pub call_part : EndFronts → List ℕ → ℕ → List ℕ
-call_part fronts stop moment = encoded stop ++ (fronts.moment ++ iso_text_of moment)
+abbrev pub call_part : End → List ℕ → ℕ → List ℕ
+call_part end stop moment = encoded stop ++ end_text end moment
 
 -- the arrival or the departure
-abbrev pub end_part : EndFronts → ℤ → List ℕ → ℕ → List ℕ
-end_part fronts delay stop moment = delay_part fronts.delay delay ++ call_part fronts stop moment
+abbrev pub end_part : DelayFronts → End → ℤ → List ℕ → ℕ → List ℕ
+end_part fronts end delay stop moment = delay_part fronts delay ++ call_part end stop moment
 
 -- whether one may alight and board, and what comes before the trip
 abbrev pub use_front : UseFronts → Bool → Bool → List ℕ
@@ -46,8 +47,8 @@ use_part fronts run c = use_front fronts c.alight c.board ++ run
 abbrev pub members_part : Fronts → Connection → List ℕ
 members_part fronts c =
     name_part (run_part_of c.key) c.seq
-    ++ (end_part fronts.ends.arrival c.arr_delay c.arr_stop c.arr
-    ++ (end_part fronts.ends.departure c.dep_delay c.dep_stop c.dep ++ use_part fronts.uses (run_part_of c.key) c))
+    ++ (end_part fronts.ends.arrival Arrival c.arr_delay c.arr_stop c.arr
+    ++ (end_part fronts.ends.departure Departure c.dep_delay c.dep_stop c.dep ++ use_part fronts.uses (run_part_of c.key) c))
 
 -- further connections, and the ends of the last one and of the list
 abbrev pub rest_part : Fronts → List Connection → List ℕ

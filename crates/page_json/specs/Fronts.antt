@@ -1,7 +1,6 @@
 -- The texts of a page that have its base, as JSON has it.
 use Rattle.std.specs.Prelude.{ℕ, List, ◌++◌, codes}
 use Rattle.page_json.specs.declared.fronts.DelayFronts.{DelayFronts}
-use Rattle.page_json.specs.declared.fronts.EndFronts.{EndFronts}
 use Rattle.page_json.specs.declared.fronts.EndsFronts.{EndsFronts}
 use Rattle.page_json.specs.declared.fronts.Fronts.{Fronts}
 use Rattle.page_json.specs.declared.fronts.NameFronts.{NameFronts}
@@ -24,16 +23,12 @@ delay_under base delay stop =
       on_time = delay ++ (codes "0" ++ (stop ++ (base ++ codes "stops/")));
     }
 
--- the texts of an end under this base, by what comes before its delay, its stop's URL and its moment
-abbrev pub end_under : List ℕ → List ℕ → List ℕ → List ℕ → EndFronts
-end_under base delay stop moment = record { delay = delay_under base delay stop; moment = moment }
-
--- the texts of arrivals and departures under this base
+-- what comes before the stops of arrivals and departures under this base
 abbrev pub ends_under : List ℕ → EndsFronts
 ends_under base =
     record {
-      arrival = end_under base (codes "\",\"@type\":\"Connection\",\"arrivalDelay\":") (codes ",\"arrivalStop\":\"") (codes "\",\"arrivalTime\":\"");
-      departure = end_under base (codes "\",\"departureDelay\":") (codes ",\"departureStop\":\"") (codes "\",\"departureTime\":\"");
+      arrival = delay_under base (codes "\",\"@type\":\"Connection\",\"arrivalDelay\":") (codes ",\"arrivalStop\":\"");
+      departure = delay_under base (codes "\"departureDelay\":") (codes ",\"departureStop\":\"");
     }
 
 -- whether one may alight and board, and what comes before the trips of connections under this base

@@ -1,5 +1,6 @@
 pub mod ConnectionWriting
 pub mod Fronts
+pub mod MomentText
 pub mod PageReading
 pub mod PageWriting
 pub mod Says

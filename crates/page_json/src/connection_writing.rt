@@ -5,9 +5,9 @@ ghost use Rattle.lc_time.specs.Iso.{iso_text_of};
 ghost use Rattle.page_json.specs.ConnectionWriting.{call_part, delay_part, end_part, late_part, list_part, members_part, name_part, rest_part, use_front, use_part};
 ghost use Rattle.page_json.specs.Sound.{IsSoundConnection};
 
-use crate::fronts::{DelayFronts, EndFronts, Fronts, UseFronts};
-use crate::id_writing::{append_id, append_run};
-use crate::moment_text::MomentText;
+use crate::fronts::{DelayFronts, Fronts, UseFronts};
+use crate::id_writing::{append_id, append_run, append_sequence};
+use crate::moment_text::{End, MomentText};
 use crate::sound::sound_connection;
 use itoa::Buffer;
 use lc_model::{Connection, Id, Moment, NoMemory};
@@ -65,8 +65,8 @@ fn append_list(
 
 fn times_of(connection: &Connection) -> Times {
     Times {
-        arrival: MomentText::new(connection.arr),
-        departure: MomentText::new(connection.dep),
+        arrival: MomentText::new(End::Arrival, connection.arr),
+        departure: MomentText::new(End::Departure, connection.dep),
     }
 }
 
@@ -137,36 +137,46 @@ fn append_name(out: &mut String, run: &str, sequence: u32) -> Result<(), NoMemor
     ensures { OnOk result (string_bytes out.new ≡ string_bytes out.old ++ name_part run.now sequence) }
 {
     out.push_str(run)?;
-    out.push_str("/")?;
-    out.push_str(Buffer::new().format(sequence))?;
-    Ok(())
+    append_sequence(out, sequence)
 }
 
 fn append_arrival(
     out: &mut String,
     last: &mut MomentText,
-    fronts: &EndFronts,
+    fronts: &DelayFronts,
     connection: &Connection,
 ) -> Result<(), NoMemory>
     ensures { OnOk result (string_bytes out.new
-        ≡ string_bytes out.old ++ end_part fronts.now connection.now.arr_delay connection.now.arr_stop connection.now.arr) }
+        ≡ string_bytes out.old ++ end_part fronts.now End.Arrival connection.now.arr_delay connection.now.arr_stop connection.now.arr) }
 {
-    append_delay(out, &fronts.delay, connection.arr_delay)?;
-    append_call(out, last, fronts, &connection.arr_stop, connection.arr)?;
+    append_delay(out, fronts, connection.arr_delay)?;
+    append_call(
+        out,
+        last,
+        End::Arrival,
+        &connection.arr_stop,
+        connection.arr,
+    )?;
     Ok(())
 }
 
 fn append_departure(
     out: &mut String,
     last: &mut MomentText,
-    fronts: &EndFronts,
+    fronts: &DelayFronts,
     connection: &Connection,
 ) -> Result<(), NoMemory>
     ensures { OnOk result (string_bytes out.new
-        ≡ string_bytes out.old ++ end_part fronts.now connection.now.dep_delay connection.now.dep_stop connection.now.dep) }
+        ≡ string_bytes out.old ++ end_part fronts.now End.Departure connection.now.dep_delay connection.now.dep_stop connection.now.dep) }
 {
-    append_delay(out, &fronts.delay, connection.dep_delay)?;
-    append_call(out, last, fronts, &connection.dep_stop, connection.dep)?;
+    append_delay(out, fronts, connection.dep_delay)?;
+    append_call(
+        out,
+        last,
+        End::Departure,
+        &connection.dep_stop,
+        connection.dep,
+    )?;
     Ok(())
 }
 
@@ -197,16 +207,15 @@ fn append_late(out: &mut String, fronts: &DelayFronts, delay: i64) -> Result<(),
 fn append_call(
     out: &mut String,
     last: &mut MomentText,
-    fronts: &EndFronts,
+    end: End,
     stop: &Id,
     moment: Moment,
 ) -> Result<(), NoMemory>
     ensures { OnOk result
-        (string_bytes out.new ≡ string_bytes out.old ++ call_part fronts.now stop.now moment) }
+        (string_bytes out.new ≡ string_bytes out.old ++ call_part end stop.now moment) }
 {
     append_id(out, stop)?;
-    out.push_str(fronts.moment.as_str())?;
-    last.turn_to(moment);
+    last.turn_to(end, moment);
     out.push_str(last.as_str())?;
     Ok(())
 }

@@ -2,7 +2,7 @@ ghost use Rattle.std.specs.Prelude.{◌≡◌, ◌++◌, All, IfOk, OnOk, true};
 ghost use Rattle.std.specs.String.{string_bytes};
 ghost use Rattle.connection_uri.specs.Base.{is_visible};
 ghost use Rattle.json.specs.Print.{escape, escape_byte};
-ghost use Rattle.page_json.specs.Fronts.{delay_under, end_under, ends_under, fronts_under, names_under, uses_under};
+ghost use Rattle.page_json.specs.Fronts.{delay_under, ends_under, fronts_under, names_under, uses_under};
 
 use connection_uri::Base;
 use lc_model::{NoMemory, Text};
@@ -24,18 +24,11 @@ pub struct NameFronts {
     pub next: Text,
 }
 
-/// The texts of an arrival, and of a departure.
+/// What comes before the stop of an arrival, and of a departure, with the delay in it.
 #[derive(Drop)]
 pub struct EndsFronts {
-    pub arrival: EndFronts,
-    pub departure: EndFronts,
-}
-
-/// What comes before the stop there with the delay in it, and what comes between the stop and the moment.
-#[derive(Drop)]
-pub struct EndFronts {
-    pub delay: DelayFronts,
-    pub moment: Text,
+    pub arrival: DelayFronts,
+    pub departure: DelayFronts,
 }
 
 /// What comes before a delay, and between it and a stop. Most are 0, so all of it with that delay is one text too.
@@ -130,36 +123,15 @@ fn names_under(alloc: Global, base: &str) -> Result<NameFronts, NoMemory>
 fn ends_under(alloc: Global, base: &str) -> Result<EndsFronts, NoMemory>
     ensures { IfOk result (λ ends. ends ≡ ends_under base.now) }
 {
-    let arrival = end_under(
+    let arrival = delay_under(
         alloc,
         base,
         "\",\"@type\":\"Connection\",\"arrivalDelay\":",
         ",\"arrivalStop\":\"",
-        "\",\"arrivalTime\":\"",
     )?;
-    let departure = end_under(
-        alloc,
-        base,
-        "\",\"departureDelay\":",
-        ",\"departureStop\":\"",
-        "\",\"departureTime\":\"",
-    )?;
+    // The text of the arrival's moment has the quotation mark and the comma before this.
+    let departure = delay_under(alloc, base, "\"departureDelay\":", ",\"departureStop\":\"")?;
     Ok(EndsFronts { arrival, departure })
-}
-
-/// The texts of an end, by what comes before its delay, its stop and its moment.
-fn end_under(
-    alloc: Global,
-    base: &str,
-    delay: &str,
-    stop: &str,
-    moment: &str,
-) -> Result<EndFronts, NoMemory>
-    ensures { IfOk result (λ end. end ≡ end_under base.now delay.now stop.now moment.now) }
-{
-    let delay = delay_under(alloc, base, delay, stop)?;
-    let moment = Text::from_string(String::from_str(alloc, moment)?);
-    Ok(EndFronts { delay, moment })
 }
 
 fn delay_under(alloc: Global, base: &str, delay: &str, stop: &str) -> Result<DelayFronts, NoMemory>

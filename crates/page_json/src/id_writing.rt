@@ -1,6 +1,6 @@
 //! Ids and runs as the URLs of a page have them.
 
-ghost use Rattle.std.specs.Prelude.{◌≡◌, ◌<◌, ◌++◌, codes, IsAscii, OnOk};
+ghost use Rattle.std.specs.Prelude.{◌≡◌, ◌<◌, ◌≤◌, ◌++◌, codes, decimal, IsAscii, OnOk};
 ghost use Rattle.std.specs.List.{list_all};
 ghost use Rattle.std.specs.Option.{ForSome};
 ghost use Rattle.std.specs.String.{string_bytes};
@@ -10,6 +10,7 @@ ghost use Rattle.lc_time.specs.Clock.{start_text_of};
 ghost use Rattle.lc_time.specs.Date.{date_text_of};
 
 use connection_uri::append_encoded;
+use itoa::Buffer;
 use lc_model::{Id, NoMemory, RunKey, ServiceDate};
 use lc_time::{date_text, start_text};
 use percent_encoding::ascii_str;
@@ -84,4 +85,46 @@ fn without_start(date: ServiceDate) -> [u8; 11]
 {
     let [y0, y1, y2, y3, m0, m1, d0, d1] = date_text(date);
     [b'/', y0, y1, y2, y3, m0, m1, d0, d1, b'/', b'-']
+}
+
+/// Appends a slash and the sequence of a connection. Most have one digit or two.
+pub fn append_sequence(out: &mut String, sequence: u32) -> Result<(), NoMemory>
+    ensures { OnOk result (string_bytes out.new ≡ string_bytes out.old ++ (codes "/" ++ decimal sequence)) }
+{
+    match sequence {
+        0..=9 => {
+            out.push_str(ascii_str(&one_digit(sequence as u8)))?;
+            Ok(())
+        }
+        10..=99 => {
+            out.push_str(ascii_str(&two_digits(sequence as u8)))?;
+            Ok(())
+        }
+        _ => append_digits(out, sequence),
+    }
+}
+
+fn append_digits(out: &mut String, sequence: u32) -> Result<(), NoMemory>
+    ensures { OnOk result (string_bytes out.new ≡ string_bytes out.old ++ (codes "/" ++ decimal sequence)) }
+{
+    out.push_str("/")?;
+    out.push_str(Buffer::new().format(sequence))?;
+    Ok(())
+}
+
+fn one_digit(n: u8) -> [u8; 2]
+    requires { n < 10 }
+    ensures text { result ≡ codes "/" ++ decimal n }
+    ensures ascii { IsAscii result }
+{
+    [b'/', b'0' + n]
+}
+
+fn two_digits(n: u8) -> [u8; 3]
+    requires two { 10 ≤ n }
+    requires no_more { n < 100 }
+    ensures text { result ≡ codes "/" ++ decimal n }
+    ensures ascii { IsAscii result }
+{
+    [b'/', b'0' + n / 10, b'0' + n % 10]
 }

@@ -1,7 +1,0 @@
--- Only the time of day is another one.
-use Rattle.page_json.proofs.MomentTextLemmas.{of_one_day}
-use Rattle.page_json.proofs.moment_text.with_clock.Goals as goal
-
-pub returns : goal.returns
-returns c = λ last moment is day clock.
-    rw (c.copy_from_slice.ensures.after, c.clock_text.ensures, is) (of_one_day last moment c.args.seconds day clock)
