@@ -15,6 +15,17 @@ use lc_model::{Id, NoMemory, RunKey, ServiceDate};
 use lc_time::{date_text, start_text};
 use percent_encoding::ascii_str;
 
+/// Each unreserved byte is at its own place, and a comma at every other place.
+static UNRESERVED: [u8; 256] = *b"\
+    ,,,,,,,,,,,,,,,,,,,,,,,,,,,,,,,,\
+    ,,,,,,,,,,,,,-.,0123456789,,,,,,\
+    ,ABCDEFGHIJKLMNOPQRSTUVWXYZ,,,,_\
+    ,abcdefghijklmnopqrstuvwxyz,,,~,\
+    ,,,,,,,,,,,,,,,,,,,,,,,,,,,,,,,,\
+    ,,,,,,,,,,,,,,,,,,,,,,,,,,,,,,,,\
+    ,,,,,,,,,,,,,,,,,,,,,,,,,,,,,,,,\
+    ,,,,,,,,,,,,,,,,,,,,,,,,,,,,,,,,";
+
 /// Appends the encoding of an id. Most ids need no escape, and are appended as they are.
 pub fn append_id(out: &mut String, id: &Id) -> Result<(), NoMemory>
     ensures { OnOk result (string_bytes out.new ≡ string_bytes out.old ++ encoded id.now) }
@@ -37,7 +48,7 @@ fn needs_no_escape(bytes: &[u8]) -> bool
 fn is_unreserved(byte: u8) -> bool
     ensures { result ≡ is_unreserved byte }
 {
-    byte.is_ascii_alphanumeric() || byte == b'-' || byte == b'.' || byte == b'_' || byte == b'~'
+    UNRESERVED[byte as usize] != b','
 }
 
 /// Appends trip/date/start of the run, as the names of connections and of runs have them.
