@@ -14,12 +14,12 @@ use Rattle.fragmenter.specs.Cutting.{chosen_cuts}
 use Rattle.fragmenter.specs.declared.cutting.Cutting.{Cutting}
 use Rattle.laws_arrive_replies.specs.Asked.{HasAskedLatest}
 use Rattle.lc_io.specs.declared.file.File.{File}
-use Rattle.lc_links.specs.HomeLink.{HomeLinkState}
-use Rattle.lc_world.specs.Link.{IsQuietWith, LinkSeen}
-use Rattle.publisher.specs.Held.{Held, side_of}
-use Rattle.publisher_spec.specs.Short.{IsShort, StandsUnder}
-use Rattle.publisher_spec.specs.Side.{Side}
-use Rattle.timetable.specs.declared.timetable.Timetable.{Timetable}
+use Rattle.cli_ask.specs.Below.LcLinks.HomeLink.{HomeLinkState}
+use Rattle.cli_ask.specs.Below.LcWorld.Link.{IsQuietWith, LinkSeen}
+use Rattle.cli_ask.specs.Below.Publisher.Held.{Held, side_of}
+use Rattle.cli_ask.specs.Below.PublisherSpec.Short.{IsShort, StandsUnder}
+use Rattle.cli_ask.specs.Below.PublisherSpec.Side.{Side}
+use Rattle.cli_ask.specs.Below.Timetable.declared.timetable.Timetable.{Timetable}
 
 module _ {L : Type 0} (seen : L → LinkSeen) (home left : HomeLinkState Cutting L) (base : BaseParts) where
   -- the question over the link at home was asked of its publisher over the outer link

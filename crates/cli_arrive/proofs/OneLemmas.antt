@@ -16,8 +16,8 @@ use Rattle.laws_arrive.specs.Laws.{OneDepartureAt, OneListOfNeededBackAt}
 use Rattle.laws_arrive.specs.Requests.{requests_of}
 use Rattle.laws_arrive.specs.Right.{EndsAt, HasLatest, IsRefused}
 use Rattle.laws_arrive_replies.specs.Laws.{SayOneLatest}
-use Rattle.laws_clients.specs.Published.{IsPublished, Published}
-use Rattle.laws_sides.specs.Stated.{version_at}
+use Rattle.cli_ask.specs.Below.LawsClients.Published.{IsPublished, Published}
+use Rattle.cli_ask.specs.Below.LawsSides.Stated.{version_at}
 use Rattle.lc_io.specs.Counts.{Rose}
 use Rattle.lc_model.specs.Journey.{leaves_at}
 use Rattle.lc_model.specs.declared.journey.Journey.{Journey}
@@ -25,14 +25,14 @@ use Rattle.lc_model.specs.declared.page.PageName.{PageName}
 use Rattle.lc_model.specs.declared.query.Query.{Query}
 use Rattle.back_scan.specs.Forward.{forward_query}
 use Rattle.lc_time.specs.declared.zone.Zone.{Zone}
-use Rattle.lc_world.specs.Link.{LinkSeen}
-use Rattle.lc_world.specs.declared.entry.Entry.{Entry}
-use Rattle.page_client.specs.Shown.{answered}
-use Rattle.page_client.specs.declared.fault.QueryFault.{QueryFault}
-use Rattle.page_client.specs.declared.fault.QueryFault.TheVariants.{HorizonRange, SameStop, UnknownFrom, UnknownTo}
-use Rattle.page_client.specs.declared.outcome.Outcome.{Outcome}
-use Rattle.page_client.specs.declared.outcome.Outcome.TheVariants as outcomes
-use Rattle.publisher_spec.specs.Side.{Side, date_in}
+use Rattle.cli_ask.specs.Below.LcWorld.Link.{LinkSeen}
+use Rattle.cli_ask.specs.Below.LcWorld.declared.entry.Entry.{Entry}
+use Rattle.cli_ask.specs.Below.PageClient.Shown.{answered}
+use Rattle.cli_ask.specs.Below.PageClient.declared.fault.QueryFault.{QueryFault}
+use Rattle.cli_ask.specs.Below.PageClient.declared.fault.QueryFault.TheVariants.{HorizonRange, SameStop, UnknownFrom, UnknownTo}
+use Rattle.cli_ask.specs.Below.PageClient.declared.outcome.Outcome.{Outcome}
+use Rattle.cli_ask.specs.Below.PageClient.declared.outcome.Outcome.TheVariants as outcomes
+use Rattle.cli_ask.specs.Below.PublisherSpec.Side.{Side, date_in}
 use Rattle.version_store.specs.Laws.{OneOutcome}
 
 -- the question was answered or refused by the side

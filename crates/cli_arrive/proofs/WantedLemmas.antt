@@ -9,9 +9,9 @@ use Rattle.cli_arrive.specs.Laws.{SomeWanted}
 use Rattle.cli_ask.proofs.WantsLemmas.{has_ends}
 use Rattle.laws_arrive.specs.Requests.{AreWanted}
 use Rattle.laws_back.specs.NeededBack.{needed_pages_back}
-use Rattle.laws_clients.specs.Answered.{names_at}
-use Rattle.laws_clients.specs.Wants.{HasEnds}
-use Rattle.laws_clients.proofs.PublishedLemmas.{is_lawful, is_timetable, made_of}
+use Rattle.cli_ask.specs.Below.LawsClients.Answered.{names_at}
+use Rattle.cli_ask.specs.Below.LawsClients.Wants.{HasEnds}
+use Rattle.cli_ask.proofs.BelowLemmas.LawsClients.PublishedLemmas.{is_lawful, is_timetable, made_of}
 use Rattle.laws_journeys.specs.Least.{SomeLeastArrival}
 use Rattle.laws_journeys.proofs.JourneysLemmas.{journey_is_chain, waits}
 use Rattle.laws_pages.proofs.LegLemmas.{in_time_forward, in_time_in_order, leg_goes_forward}
@@ -29,9 +29,9 @@ use Rattle.lc_model.specs.declared.query.TheConstants.{LAST_LEAVE}
 use Rattle.lc_model.specs.declared.ride.Ride.{Ride}
 use Rattle.lc_model.specs.declared.run.Run.{Run}
 use Rattle.lc_versions.specs.Pages.{CutPage}
-use Rattle.page_client.specs.Shown.{HasHorizon}
-use Rattle.publisher.specs.Laws.{SomeTimetable}
-use Rattle.publisher_spec.specs.Side.{IsValidSide, Side}
+use Rattle.cli_ask.specs.Below.PageClient.Shown.{HasHorizon}
+use Rattle.cli_ask.specs.Below.Publisher.Laws.{SomeTimetable}
+use Rattle.cli_ask.specs.Below.PublisherSpec.Side.{IsValidSide, Side}
 
 -- ---- a journey leaves no later than its last second
 

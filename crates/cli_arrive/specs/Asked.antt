@@ -12,10 +12,10 @@ use Rattle.fragmenter.specs.Cutting.{chosen_cuts}
 use Rattle.fragmenter.specs.declared.cutting.Cutting.{Cutting}
 use Rattle.laws_arrive_replies.specs.Asked.{HasAskedLatest}
 use Rattle.lc_io.specs.declared.file.File.{File}
-use Rattle.lc_world.specs.Link.{LinkSeen}
-use Rattle.publisher.specs.Held.{Held, side_of}
-use Rattle.publisher_spec.specs.Short.{IsShort, StandsUnder}
-use Rattle.timetable.specs.declared.timetable.Timetable.{Timetable}
+use Rattle.cli_ask.specs.Below.LcWorld.Link.{LinkSeen}
+use Rattle.cli_ask.specs.Below.Publisher.Held.{Held, side_of}
+use Rattle.cli_ask.specs.Below.PublisherSpec.Short.{IsShort, StandsUnder}
+use Rattle.cli_ask.specs.Below.Timetable.declared.timetable.Timetable.{Timetable}
 use Rattle.version_store.specs.Store.{Stored}
 
 -- The publisher has the store after the message, and was asked the question over the link. By the replies it ended so, whatever the link is.

@@ -11,11 +11,11 @@ use Rattle.laws_arrive.specs.Requests.{AreWanted}
 use Rattle.laws_arrive_replies.specs.Laws.{SayOneLatest}
 use Rattle.lc_io.specs.declared.file.File.{File}
 use Rattle.lc_model.specs.declared.page.PageName.{PageName}
-use Rattle.lc_world.specs.Link.{LinkSeen}
-use Rattle.page_client.specs.Shown.{IsRefusal}
-use Rattle.publisher_spec.specs.Side.{IsValidSide, Side}
-use Rattle.timetable.specs.Laws.{AreSame}
-use Rattle.timetable.specs.declared.timetable.Timetable.{Timetable}
+use Rattle.cli_ask.specs.Below.LcWorld.Link.{LinkSeen}
+use Rattle.cli_ask.specs.Below.PageClient.Shown.{IsRefusal}
+use Rattle.cli_ask.specs.Below.PublisherSpec.Side.{IsValidSide, Side}
+use Rattle.cli_ask.specs.Below.Timetable.Laws.{AreSame}
+use Rattle.cli_ask.specs.Below.Timetable.declared.timetable.Timetable.{Timetable}
 
 -- two ends are one: the same version, as many exchanges, and outcomes that say the same
 pub record AreOneLatest (a b : ClientEnd) : Type 0 where

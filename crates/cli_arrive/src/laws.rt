@@ -1,9 +1,9 @@
 ghost use Rattle.cli_arrive.specs.Laws.{OneLatestOutput, SomeWanted};
 
+use cli_ask::below::lc_world::Link;
+use cli_ask::below::publisher::some_timetable;
 use laws_arrive::one_latest_answer;
 use laws_journeys::some_least_arrival;
-use lc_world::Link;
-use publisher::some_timetable;
 use version_store::one_outcome;
 
 /// What is printed of a question for the latest departure is one, but for the journey, where the replies come as the publisher gave

@@ -2,6 +2,7 @@
 //! question, and the room says so. It builds on `cli_ask` and `back_client`.
 #![tactic(auto)]
 
+pub mod below;
 mod client;
 mod laws;
 mod question;

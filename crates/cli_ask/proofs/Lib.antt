@@ -1,4 +1,5 @@
 pub mod AdmissionLemmas
+pub mod BelowLemmas
 pub mod ClientLemmas
 pub mod HomeLemmas
 pub mod OneAnswerLemmas

@@ -1,5 +1,6 @@
 pub mod Admission
 pub mod Asked
+pub mod Below
 pub mod Block
 pub mod Client
 pub mod Laws

@@ -3,6 +3,7 @@
 #![tactic(auto)]
 
 mod admission;
+pub mod below;
 mod block;
 mod client;
 mod end;

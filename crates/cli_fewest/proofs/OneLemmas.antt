@@ -7,16 +7,16 @@ use Rattle.cli_ask.specs.Laws.{OneOutput}
 use Rattle.cli_ask.specs.Publishing.{side_with}
 use Rattle.cli_fewest.specs.Client.{HasFewestRides}
 use Rattle.cli_fewest.specs.Laws.{OneFewestOutput}
-use Rattle.laws_fewest.specs.Version.{AlikeAt, FewestAt}
+use Rattle.laws_rounds.specs.Below.LawsFewest.Version.{AlikeAt, FewestAt}
 use Rattle.laws_rounds_replies.specs.Laws.{HaveAsManyRides}
-use Rattle.laws_sides.specs.Stated.{version_at}
+use Rattle.cli_ask.specs.Below.LawsSides.Stated.{version_at}
 use Rattle.lc_model.specs.declared.journey.Journey.{Journey}
 use Rattle.lc_model.specs.declared.query.Query.{Query}
 use Rattle.lc_time.specs.declared.zone.Zone.{Zone}
-use Rattle.lc_world.specs.Link.{LinkSeen}
-use Rattle.page_client.specs.declared.outcome.Outcome.{Outcome}
-use Rattle.page_client.specs.declared.outcome.Outcome.TheVariants as outcomes
-use Rattle.publisher_spec.specs.Side.{Side, date_in}
+use Rattle.cli_ask.specs.Below.LcWorld.Link.{LinkSeen}
+use Rattle.cli_ask.specs.Below.PageClient.declared.outcome.Outcome.{Outcome}
+use Rattle.cli_ask.specs.Below.PageClient.declared.outcome.Outcome.TheVariants as outcomes
+use Rattle.cli_ask.specs.Below.PublisherSpec.Side.{Side, date_in}
 use Rattle.version_store.specs.Laws.{OneOutcome}
 
 module _ (alike_at : AlikeAt) (side : Side) (zone : Zone) (same : date_in zone ≡ date_in side.zone) (query : Query) where

@@ -6,10 +6,10 @@ use Rattle.lc_io.specs.Folder.{FolderSeen}
 use Rattle.lc_io.specs.declared.file.File.{File}
 use Rattle.lc_io.specs.declared.folder.FolderFail.{FolderFail}
 use Rattle.lc_io.specs.declared.folder.FolderFail.TheVariants.{Failed}
-use Rattle.timetable.specs.Loading.{Loads}
-use Rattle.timetable.specs.declared.fault.LoadFault.TheVariants as fault
-use Rattle.timetable.specs.declared.scope.Scope.{Scope}
-use Rattle.timetable.specs.declared.timetable.Timetable.{Timetable}
+use Rattle.laws_replay.specs.Below.Timetable.Loading.{Loads}
+use Rattle.laws_replay.specs.Below.Timetable.declared.fault.LoadFault.TheVariants as fault
+use Rattle.laws_replay.specs.Below.Timetable.declared.scope.Scope.{Scope}
+use Rattle.laws_replay.specs.Below.Timetable.declared.timetable.Timetable.{Timetable}
 use Rattle.cli_inputs.specs.Inputs.{AsksForUpdate, EndsUpdate, FailsAtUpdate, IsMessageRefusal, IsRefusedFor, ReadsInputs, ReadsUpdate, RunsOut}
 use Rattle.cli_inputs.specs.declared.refusal.Refusal.{Refusal}
 use Rattle.cli_inputs.specs.declared.refusal.Refusal.TheVariants.{Usage, Load, Script, Folder, LongUpdate, BrokenUpdate}

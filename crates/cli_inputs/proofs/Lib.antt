@@ -1,3 +1,4 @@
+pub mod BelowLemmas
 pub mod InputsLemmas
 mod OnePlanLemmas
 mod PlanLemmas

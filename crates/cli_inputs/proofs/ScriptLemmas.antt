@@ -11,11 +11,11 @@ use Rattle.laws_replay.specs.declared.event.Event.TheVariants as events
 use Rattle.script_text.specs.Script.{IsClient, TurnsAreOfClients as AreOfClients, clients_in, clients_of}
 use Rattle.script_text.specs.declared.script.Record.{Record}
 use Rattle.script_text.specs.declared.script.Record.TheVariants as records
-use Rattle.timetable.specs.Loading.{Loads, LoadsSo}
-use Rattle.timetable.specs.declared.fault.LoadFault.{LoadFault}
-use Rattle.timetable.specs.declared.fault.LoadFault.TheVariants as fault
-use Rattle.timetable.specs.declared.scope.Scope.{Scope}
-use Rattle.timetable.specs.declared.timetable.Timetable.{Timetable}
+use Rattle.laws_replay.specs.Below.Timetable.Loading.{Loads, LoadsSo}
+use Rattle.laws_replay.specs.Below.Timetable.declared.fault.LoadFault.{LoadFault}
+use Rattle.laws_replay.specs.Below.Timetable.declared.fault.LoadFault.TheVariants as fault
+use Rattle.laws_replay.specs.Below.Timetable.declared.scope.Scope.{Scope}
+use Rattle.laws_replay.specs.Below.Timetable.declared.timetable.Timetable.{Timetable}
 use Rattle.cli_inputs.specs.Inputs.{ReadsFile}
 use Rattle.cli_inputs.specs.Script.{HasScript, HasTimetable, IsEventOf, IsNone, IsRefusedAt, IsReplayRefused, IsScriptRefused, ReadsEvents, ReadsReplay, ReadsScript, RunsOutAt, StopsAt, fault_since}
 use Rattle.cli_inputs.specs.declared.refusal.Refusal.{Refusal}

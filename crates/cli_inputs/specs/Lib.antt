@@ -1,3 +1,4 @@
+pub mod Below
 pub mod Inputs
 pub mod Laws
 pub mod Plan

@@ -12,11 +12,11 @@ use Rattle.script_text.specs.Reading.{HasFault, SaysScript}
 use Rattle.script_text.specs.declared.fault.ScriptFault.TheVariants.{Wrong}
 use Rattle.script_text.specs.declared.script.Record.{Record}
 use Rattle.script_text.specs.declared.script.Record.TheVariants as records
-use Rattle.timetable.specs.Loading.{FailsAt, Loads, LoadsSo}
-use Rattle.timetable.specs.declared.fault.LoadFault.{LoadFault}
-use Rattle.timetable.specs.declared.fault.LoadFault.TheVariants as fault
-use Rattle.timetable.specs.declared.scope.Scope.{Scope}
-use Rattle.timetable.specs.declared.timetable.Timetable.{Timetable}
+use Rattle.laws_replay.specs.Below.Timetable.Loading.{FailsAt, Loads, LoadsSo}
+use Rattle.laws_replay.specs.Below.Timetable.declared.fault.LoadFault.{LoadFault}
+use Rattle.laws_replay.specs.Below.Timetable.declared.fault.LoadFault.TheVariants as fault
+use Rattle.laws_replay.specs.Below.Timetable.declared.scope.Scope.{Scope}
+use Rattle.laws_replay.specs.Below.Timetable.declared.timetable.Timetable.{Timetable}
 use Rattle.version_store.specs.Admission.{IsBroken}
 use Rattle.cli_inputs.specs.Inputs.{IsReadAs, ReadsFile}
 use Rattle.cli_inputs.specs.declared.refusal.Refusal.{Refusal}

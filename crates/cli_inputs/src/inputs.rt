@@ -1,13 +1,13 @@
 ghost use Rattle.std.specs.Prelude.{IfErr, IfOk};
 ghost use Rattle.gtfs_tables.specs.Reading.{Keeps};
 ghost use Rattle.cli_inputs.specs.Inputs.{EndsUpdate, IsRefusedFor, ReadsInputs};
-ghost use Rattle.timetable.specs.Scope.{IsWindow};
+ghost use Rattle.laws_replay.specs.Below.Timetable.Scope.{IsWindow};
 
 use crate::Refusal;
+use laws_replay::below::lc_world::{File, Folder, FolderFail};
+use laws_replay::below::timetable::{Scope, Timetable, load};
 use lc_model::{Bytes, NoMemory, Text};
-use lc_world::{File, Folder, FolderFail};
 use std::alloc::Global;
-use timetable::{Scope, Timetable, load};
 
 /// What a question is asked of: the timetable of its feed, and the file of a message, if there is one.
 #[derive(Drop)]

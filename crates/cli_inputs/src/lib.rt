@@ -3,6 +3,7 @@
 //! It builds on `timetable`, `script_text` and `laws_replay`.
 #![tactic(auto)]
 
+pub mod below;
 mod inputs;
 mod laws;
 mod plan;

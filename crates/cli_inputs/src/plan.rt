@@ -8,8 +8,8 @@ ghost use Rattle.script_text.specs.Script.{NamesNone};
 use crate::Refusal;
 use crate::script::read_records;
 use laws_replay::Event;
+use laws_replay::below::lc_world::Folder;
 use lc_model::{NoMemory, PlainData, Text};
-use lc_world::Folder;
 use script_text::{Record, Script};
 use std::alloc::Global;
 

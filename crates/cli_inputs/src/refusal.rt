@@ -1,6 +1,6 @@
+use laws_replay::below::timetable::LoadFault;
 use lc_model::{NoMemory, Text};
 use std::alloc::AllocFailed;
-use timetable::LoadFault;
 use trip_updates::RtFault;
 
 /// Why a command is not carried out, for a cause that is no client's.
@@ -34,7 +34,7 @@ impl From<LoadFault> for Refusal {
 
 impl From<NoMemory> for Refusal {
     ghost use Rattle.std.specs.Prelude.{◌≡◌};
-    ghost use Rattle.timetable.specs.declared.fault.LoadFault.TheVariants.{NoMemory as OutOfMemory};
+    ghost use Rattle.laws_replay.specs.Below.Timetable.declared.fault.LoadFault.TheVariants.{NoMemory as OutOfMemory};
     ghost use Rattle.cli_inputs.specs.declared.refusal.Refusal.TheVariants.{Load};
 
     ghost from_gives = { λ _ refusal. refusal ≡ Load OutOfMemory };
@@ -46,7 +46,7 @@ impl From<NoMemory> for Refusal {
 
 impl<T: Drop> From<AllocFailed<T>> for Refusal {
     ghost use Rattle.std.specs.Prelude.{◌≡◌};
-    ghost use Rattle.timetable.specs.declared.fault.LoadFault.TheVariants.{NoMemory as OutOfMemory};
+    ghost use Rattle.laws_replay.specs.Below.Timetable.declared.fault.LoadFault.TheVariants.{NoMemory as OutOfMemory};
     ghost use Rattle.cli_inputs.specs.declared.refusal.Refusal.TheVariants.{Load};
 
     ghost from_gives = { λ _ refusal. refusal ≡ Load OutOfMemory };

@@ -4,15 +4,15 @@ ghost use Rattle.cli_inputs.specs.Script.{IsEventOf, IsRefusedAt, IsReplayRefuse
 ghost use Rattle.gtfs_tables.specs.Reading.{Keeps};
 ghost use Rattle.laws_replay.specs.Events.{TurnsAreOfClients};
 ghost use Rattle.script_text.specs.Script.{NamesNone, TurnsAreOfClients as AreOfClients};
-ghost use Rattle.timetable.specs.Scope.{IsWindow};
+ghost use Rattle.laws_replay.specs.Below.Timetable.Scope.{IsWindow};
 
 use crate::Refusal;
+use laws_replay::below::lc_world::{File, Folder, FolderFail};
+use laws_replay::below::timetable::{LoadFault, Scope, Timetable, load};
 use laws_replay::{Event, Message, test_message};
 use lc_model::{Bytes, NoMemory, PlainData, Text};
-use lc_world::{File, Folder, FolderFail};
 use script_text::{Record, Script, ScriptFault, read_script};
 use std::alloc::Global;
-use timetable::{LoadFault, Scope, Timetable, load};
 use version_store::MessageFault;
 
 /// What a replay is played from: the timetable of the feed, and its event sequence.

@@ -1,3 +1,4 @@
+pub mod Below
 pub mod Planning
 pub use Rattle.laws_plan.specs.OneGrowing
 pub use Rattle.laws_plan.specs.OnePlan

@@ -2,6 +2,7 @@
 //! `laws_plan` and `cli_replay`, and hands on what its callers name of the former.
 #![tactic(auto)]
 
+pub mod below;
 mod events;
 mod planning;
 

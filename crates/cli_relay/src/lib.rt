@@ -2,6 +2,7 @@
 //! printed. It builds on `cli_plan` and `page_relay`, and hands on what is said of plans.
 #![tactic(auto)]
 
+pub mod below;
 mod laws;
 mod relaying;
 

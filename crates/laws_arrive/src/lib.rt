@@ -2,6 +2,7 @@
 //! `back_client`, `laws_back`, `laws_clients` and `laws_convoys`.
 #![tactic(auto)]
 
+pub mod below;
 mod laws;
 mod near;
 

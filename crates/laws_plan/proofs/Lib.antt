@@ -1,5 +1,6 @@
 mod AloneLemmas
 mod AsksLemmas
+pub mod BelowLemmas
 mod EachAlikeLemmas
 mod FaultVersionLemmas
 mod FaultsLemmas

@@ -2,6 +2,7 @@
 //! that they do. It builds on `laws_replay`.
 #![tactic(auto)]
 
+pub mod below;
 mod laws;
 mod near;
 

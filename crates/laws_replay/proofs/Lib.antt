@@ -1,4 +1,5 @@
 pub mod BeginsLemmas
+pub mod BelowLemmas
 mod CausedCourseLemmas
 pub mod CausedEndsLemmas
 pub mod EventLemmas

@@ -1,3 +1,4 @@
+pub mod Below
 pub mod Caused
 pub mod Events
 pub mod History

@@ -2,6 +2,7 @@
 //! and the laws that a sequence which was played over a link was played so. It builds on `cli_ask` and `script_text`.
 #![tactic(auto)]
 
+pub mod below;
 mod event;
 mod laws;
 mod message;

@@ -2,6 +2,7 @@
 //! `rounds_client`, `laws_clients`, `laws_convoys` and `laws_fewest`.
 #![tactic(auto)]
 
+pub mod below;
 mod laws;
 mod near;
 

@@ -11,12 +11,12 @@ use Rattle.cli_words.specs.declared.command.Command.{Command}
 use Rattle.cli_words.specs.declared.command.Command.TheVariants as commands
 use Rattle.lc_io.specs.Folder.{FolderSeen}
 use Rattle.lc_io.specs.declared.file.File.{File}
-use Rattle.lc_world.proofs.GoneOnLemmas.{no_gets, no_passes}
-use Rattle.lc_world.specs.GoneOn.{HasGoneOn}
-use Rattle.lc_world.specs.Link.{LinkSeen}
-use Rattle.timetable.specs.declared.fault.LoadFault.TheVariants.{NoMemory as OutOfMemory}
-use Rattle.timetable.specs.declared.scope.Scope.{Scope}
-use Rattle.timetable.specs.declared.timetable.Timetable.{Timetable}
+use Rattle.cli_ask.proofs.BelowLemmas.LcWorld.GoneOnLemmas.{no_gets, no_passes}
+use Rattle.cli_ask.specs.Below.LcWorld.GoneOn.{HasGoneOn}
+use Rattle.cli_ask.specs.Below.LcWorld.Link.{LinkSeen}
+use Rattle.cli_ask.specs.Below.Timetable.declared.fault.LoadFault.TheVariants.{NoMemory as OutOfMemory}
+use Rattle.cli_ask.specs.Below.Timetable.declared.scope.Scope.{Scope}
+use Rattle.cli_ask.specs.Below.Timetable.declared.timetable.Timetable.{Timetable}
 use Rattle.version_store.specs.declared.message_fault.MessageFault.{MessageFault}
 use Rattle.version_store.specs.declared.message_fault.MessageFault.TheVariants as messages
 use Rattle.lc_cli.specs.Command.{IsQuestionBlock, IsRefusedAs, IsRightRefusal, IsRightWork, LeavesLink, Prints, ResultsIn}

@@ -16,13 +16,13 @@ use Rattle.cli_words.specs.declared.command.Replay.{Replay}
 use Rattle.lc_io.specs.Counts.{Rose}
 use Rattle.lc_io.specs.Folder.{FolderSeen}
 use Rattle.lc_io.specs.declared.file.File.{File}
-use Rattle.lc_world.specs.Link.{LinkSeen}
+use Rattle.cli_ask.specs.Below.LcWorld.Link.{LinkSeen}
 use Rattle.script_text.specs.Laws.{NeverBoth, OneScript}
-use Rattle.timetable.specs.Recorded.{IsSound}
-use Rattle.timetable.specs.Laws.{LoadsRecorded, NotBroken, NotTooLarge}
-use Rattle.timetable.specs.declared.fault.LoadFault.TheVariants as fault
-use Rattle.timetable.specs.declared.scope.Scope.{Scope}
-use Rattle.timetable.specs.declared.timetable.Timetable.{Timetable}
+use Rattle.cli_ask.specs.Below.Timetable.Recorded.{IsSound}
+use Rattle.cli_ask.specs.Below.Timetable.Laws.{LoadsRecorded, NotBroken, NotTooLarge}
+use Rattle.cli_ask.specs.Below.Timetable.declared.fault.LoadFault.TheVariants as fault
+use Rattle.cli_ask.specs.Below.Timetable.declared.scope.Scope.{Scope}
+use Rattle.cli_ask.specs.Below.Timetable.declared.timetable.Timetable.{Timetable}
 use Rattle.version_store.specs.Laws.{OneOutcome}
 use Rattle.lc_cli.specs.Block.{IsBlockEnd, client_status_of}
 use Rattle.lc_cli.specs.Clear.{IsAnswered, IsClear, IsFed, IsHeard}

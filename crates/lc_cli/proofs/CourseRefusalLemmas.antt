@@ -10,18 +10,18 @@ use Rattle.gtfs_tables.specs.declared.what.What.TheVariants as what
 use Rattle.lc_io.specs.Counts.{Rose}
 use Rattle.lc_io.specs.Folder.{FolderSeen, bytes_named}
 use Rattle.lc_io.specs.declared.file.File.{File}
-use Rattle.laws_replay.specs.declared.event.Event.{Event}
-use Rattle.laws_replay.specs.declared.message.Message.{Message}
+use Rattle.cli_inputs.specs.Below.LawsReplay.declared.event.Event.{Event}
+use Rattle.cli_inputs.specs.Below.LawsReplay.declared.message.Message.{Message}
 use Rattle.script_text.specs.Laws.{NeverBoth, OneFault, OneScript}
 use Rattle.script_text.specs.Reading.{HasFault}
 use Rattle.script_text.specs.declared.fault.ScriptFault.TheVariants.{Wrong}
 use Rattle.script_text.specs.declared.script.Record.{Record}
 use Rattle.script_text.specs.declared.script.Record.TheVariants as records
-use Rattle.timetable.specs.Laws.{IsOfFiles, OneEnd}
-use Rattle.timetable.specs.Loading.{Loads, LoadsSo}
-use Rattle.timetable.specs.declared.fault.LoadFault.{LoadFault}
-use Rattle.timetable.specs.declared.fault.LoadFault.TheVariants as fault
-use Rattle.timetable.specs.declared.timetable.Timetable.{Timetable}
+use Rattle.cli_ask.specs.Below.Timetable.Laws.{IsOfFiles, OneEnd}
+use Rattle.cli_ask.specs.Below.Timetable.Loading.{Loads, LoadsSo}
+use Rattle.cli_ask.specs.Below.Timetable.declared.fault.LoadFault.{LoadFault}
+use Rattle.cli_ask.specs.Below.Timetable.declared.fault.LoadFault.TheVariants as fault
+use Rattle.cli_ask.specs.Below.Timetable.declared.timetable.Timetable.{Timetable}
 use Rattle.trip_updates.specs.Faults.{fault_of}
 use Rattle.version_store.specs.Admission.{IsRefused}
 use Rattle.version_store.specs.Laws.{OneOutcome}

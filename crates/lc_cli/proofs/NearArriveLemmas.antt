@@ -3,15 +3,15 @@ use Rattle.std.proofs.Common.{◌≡◌, ◌∙◌, ◌∷◌, ◌++◌, [], Lis
 use Rattle.back_scan.specs.Forward.{forward_query}
 use Rattle.back_scan.specs.declared.arrive_query.ArriveQuery.{ArriveQuery}
 use Rattle.cli_ask.specs.declared.end.ClientEnd.{ClientEnd}
-use Rattle.laws_arrive.specs.Latest.{LatestAt}
-use Rattle.laws_arrive.specs.Laws.{OneDepartureAt, OneListOfNeededBackAt}
-use Rattle.laws_sides.specs.Stated.{version_at}
+use Rattle.cli_arrive.specs.Below.LawsArrive.Latest.{LatestAt}
+use Rattle.cli_arrive.specs.Below.LawsArrive.Laws.{OneDepartureAt, OneListOfNeededBackAt}
+use Rattle.cli_ask.specs.Below.LawsSides.Stated.{version_at}
 use Rattle.lc_model.specs.Journey.{leaves_at}
 use Rattle.lc_model.specs.declared.journey.Journey.{Journey}
 use Rattle.lc_model.specs.declared.page.PageName.{PageName}
-use Rattle.page_client.specs.Shown.{answered}
-use Rattle.page_client.specs.declared.outcome.Outcome.TheVariants as outcomes
-use Rattle.publisher_spec.specs.Side.{Side}
+use Rattle.cli_ask.specs.Below.PageClient.Shown.{answered}
+use Rattle.cli_ask.specs.Below.PageClient.declared.outcome.Outcome.TheVariants as outcomes
+use Rattle.cli_ask.specs.Below.PublisherSpec.Side.{Side}
 use Rattle.lc_cli.specs.HeadlineOfArrive.{EndsLatest}
 use Rattle.lc_cli.specs.NearArrive.{NotAnotherOrder, NotEarlier, NotLater, NotNone, NotOneExchangeMore, NotVersion}
 use Rattle.lc_cli.proofs.NearFewestLemmas.{one_answer}

@@ -14,14 +14,14 @@ use Rattle.connection_uri.specs.Base.{BaseParts}
 use Rattle.cli_relay.specs.OneGrowing.{IsGrowingPlan, NameTheSame, OneGrowingPlan}
 use Rattle.cli_relay.specs.OnePlan.{IsQuietPlan, OnePlan}
 use Rattle.cli_relay.specs.Planned.{ArePlanned, IsPlanned}
-use Rattle.laws_replay.specs.Events.{TurnsAreOfClients, questions_in}
-use Rattle.laws_replay.specs.declared.event.Event.{Event}
-use Rattle.laws_replay.specs.declared.event.Event.TheVariants as events
+use Rattle.cli_inputs.specs.Below.LawsReplay.Events.{TurnsAreOfClients, questions_in}
+use Rattle.cli_inputs.specs.Below.LawsReplay.declared.event.Event.{Event}
+use Rattle.cli_inputs.specs.Below.LawsReplay.declared.event.Event.TheVariants as events
 use Rattle.lc_io.specs.Counts.{Rose}
 use Rattle.lc_io.specs.Folder.{FolderSeen}
 use Rattle.lc_io.specs.declared.file.File.{File}
-use Rattle.publisher_spec.specs.Side.{IsLater, IsValidSide, Side}
-use Rattle.lc_world.specs.Link.{LinkSeen}
+use Rattle.cli_ask.specs.Below.PublisherSpec.Side.{IsLater, IsValidSide, Side}
+use Rattle.cli_ask.specs.Below.LcWorld.Link.{LinkSeen}
 use Rattle.script_text.specs.Laws.{OneScript}
 use Rattle.script_text.specs.Script.{IsClient}
 use Rattle.script_text.specs.declared.script.Record.{Record}

@@ -14,11 +14,11 @@ use Rattle.lc_io.specs.Folder.{FolderSeen}
 use Rattle.lc_io.specs.declared.file.File.{File}
 use Rattle.lc_model.specs.declared.doc.StopsDoc.{StopsDoc}
 use Rattle.lc_model.specs.declared.run.Run.{Run}
-use Rattle.lc_world.specs.Link.{LinkSeen}
-use Rattle.laws_replay.specs.OneCourse.{OneCourse}
+use Rattle.cli_ask.specs.Below.LcWorld.Link.{LinkSeen}
+use Rattle.cli_inputs.specs.Below.LawsReplay.OneCourse.{OneCourse}
 use Rattle.script_text.specs.Laws.{OneScript}
-use Rattle.timetable.specs.Laws.{AreSame, LoadsRecorded, OneTimetable}
-use Rattle.timetable.specs.declared.timetable.Timetable.{Timetable}
+use Rattle.cli_ask.specs.Below.Timetable.Laws.{AreSame, LoadsRecorded, OneTimetable}
+use Rattle.cli_ask.specs.Below.Timetable.declared.timetable.Timetable.{Timetable}
 use Rattle.lc_cli.specs.CheckText.{check_text_of, count_line_of}
 use Rattle.lc_cli.specs.Clear.{HasFairLink, IsRecordedFile}
 use Rattle.lc_cli.specs.Command.{IsQuestionBlock, Prints}

@@ -7,8 +7,8 @@ use Rattle.cli_arrive.specs.Laws.{OneLatestOutput}
 use Rattle.cli_ask.specs.Laws.{AreOneEnd, OneOutput}
 use Rattle.cli_ask.specs.declared.end.ClientEnd.{ClientEnd}
 use Rattle.cli_fewest.specs.Laws.{OneFewestOutput}
-use Rattle.laws_arrive_replies.specs.Laws.{SayOneLatest}
-use Rattle.laws_replies.specs.Laws.{SayTheSame}
+use Rattle.cli_arrive.specs.Below.LawsArriveReplies.Laws.{SayOneLatest}
+use Rattle.cli_ask.specs.Below.LawsReplies.Laws.{SayTheSame}
 use Rattle.cli_words.specs.Laws.{OneCommand}
 use Rattle.cli_words.specs.Words.{SaysCommand}
 use Rattle.cli_words.specs.declared.command.Command.{Command}
@@ -19,19 +19,19 @@ use Rattle.lc_io.specs.Folder.{FolderSeen}
 use Rattle.lc_io.specs.declared.file.File.{File}
 use Rattle.lc_io.specs.declared.folder.FolderFail.{FolderFail}
 use Rattle.lc_io.specs.declared.folder.FolderFail.TheVariants.{Absent}
-use Rattle.lc_world.specs.Link.{LinkSeen}
-use Rattle.page_client.specs.declared.fault.QueryFault.{QueryFault}
-use Rattle.page_client.specs.declared.outcome.Outcome.{Outcome}
-use Rattle.page_client.specs.declared.outcome.Outcome.TheVariants as outcomes
-use Rattle.laws_replay.specs.OneCourse.{OneCourse}
-use Rattle.laws_replay.specs.declared.event.Event.{Event}
+use Rattle.cli_ask.specs.Below.LcWorld.Link.{LinkSeen}
+use Rattle.cli_ask.specs.Below.PageClient.declared.fault.QueryFault.{QueryFault}
+use Rattle.cli_ask.specs.Below.PageClient.declared.outcome.Outcome.{Outcome}
+use Rattle.cli_ask.specs.Below.PageClient.declared.outcome.Outcome.TheVariants as outcomes
+use Rattle.cli_inputs.specs.Below.LawsReplay.OneCourse.{OneCourse}
+use Rattle.cli_inputs.specs.Below.LawsReplay.declared.event.Event.{Event}
 use Rattle.script_text.specs.Laws.{NeverBoth, OneFault, OneScript}
-use Rattle.timetable.specs.Laws.{AreSameEnds, IsOfFiles, LoadsRecorded, OneEnd, OneTimetable}
-use Rattle.timetable.specs.Loading.{Loads, LoadsSo}
-use Rattle.timetable.specs.declared.fault.LoadFault.{LoadFault}
-use Rattle.timetable.specs.declared.fault.LoadFault.TheVariants as fault
-use Rattle.timetable.specs.declared.scope.Scope.{Scope}
-use Rattle.timetable.specs.declared.timetable.Timetable.{Timetable}
+use Rattle.cli_ask.specs.Below.Timetable.Laws.{AreSameEnds, IsOfFiles, LoadsRecorded, OneEnd, OneTimetable}
+use Rattle.cli_ask.specs.Below.Timetable.Loading.{Loads, LoadsSo}
+use Rattle.cli_ask.specs.Below.Timetable.declared.fault.LoadFault.{LoadFault}
+use Rattle.cli_ask.specs.Below.Timetable.declared.fault.LoadFault.TheVariants as fault
+use Rattle.cli_ask.specs.Below.Timetable.declared.scope.Scope.{Scope}
+use Rattle.cli_ask.specs.Below.Timetable.declared.timetable.Timetable.{Timetable}
 use Rattle.version_store.specs.Laws.{OneOutcome}
 use Rattle.version_store.specs.declared.admission.AdmitFault.{AdmitFault}
 use Rattle.version_store.specs.declared.admission.AdmitFault.TheVariants as faults

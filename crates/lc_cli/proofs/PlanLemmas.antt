@@ -10,17 +10,17 @@ use Rattle.cli_words.specs.declared.command.Plan.{Plan}
 use Rattle.cli_words.specs.declared.command.Relay.{Relay}
 use Rattle.connection_uri.specs.Base.{BaseParts}
 use Rattle.cli_relay.specs.Planned.{ArePlanned, IsPlanned}
-use Rattle.laws_replay.specs.Events.{questions_in}
-use Rattle.laws_replay.specs.declared.event.Event.{Event}
+use Rattle.cli_inputs.specs.Below.LawsReplay.Events.{questions_in}
+use Rattle.cli_inputs.specs.Below.LawsReplay.declared.event.Event.{Event}
 use Rattle.lc_io.specs.Counts.{Rose}
 use Rattle.lc_io.specs.Folder.{FolderSeen}
 use Rattle.lc_io.specs.declared.file.File.{File}
-use Rattle.lc_world.specs.Link.{LinkSeen}
-use Rattle.publisher_spec.specs.Side.{Side}
+use Rattle.cli_ask.specs.Below.LcWorld.Link.{LinkSeen}
+use Rattle.cli_ask.specs.Below.PublisherSpec.Side.{Side}
 use Rattle.script_text.specs.Laws.{NeverBoth}
 use Rattle.script_text.specs.Reading.{HasFault}
 use Rattle.script_text.specs.declared.fault.ScriptFault.TheVariants.{Wrong}
-use Rattle.timetable.specs.declared.fault.LoadFault.TheVariants as fault
+use Rattle.cli_ask.specs.Below.Timetable.declared.fault.LoadFault.TheVariants as fault
 use Rattle.lc_cli.specs.Clear.{AreRecordedAsks, HasHonestLink}
 use Rattle.lc_cli.specs.Command.{IsPlanBlock, IsRelayBlock}
 use Rattle.lc_cli.specs.Refusal.{status_of}

@@ -41,8 +41,8 @@ use Rattle.lc_model.specs.declared.ride.Ride.{Ride}
 use Rattle.lc_model.specs.declared.run.Run.{Run}
 use Rattle.lc_model.specs.declared.stop.Stop.{Stop}
 use Rattle.lc_model.specs.declared.walk.Walk.{Walk}
-use Rattle.timetable.specs.Tiny.{IsTiny, call, change_at, key_of, moment, run_of, stop_ids, stop_named, tiny_changes, tiny_runs, tiny_stops}
-use Rattle.timetable.specs.declared.timetable.Timetable.{Timetable}
+use Rattle.cli_ask.specs.Below.Timetable.Tiny.{IsTiny, call, change_at, key_of, moment, run_of, stop_ids, stop_named, tiny_changes, tiny_runs, tiny_stops}
+use Rattle.cli_ask.specs.Below.Timetable.declared.timetable.Timetable.{Timetable}
 use Rattle.lc_cli.specs.NearHeadline.{within}
 use Rattle.lc_cli.specs.Tiny.{AnswersNever, AnswersTiny, AreJourneyBy, AreRefused, AreTaken, IsMadeOf, MakeJourneys, from_a_to_d, in_place, nine_minutes_late, to_b, to_d_at, to_d_later, worked}
 

@@ -7,9 +7,9 @@ use Rattle.cli_ask.specs.Admission.{IsBehind, IsIgnored}
 use Rattle.cli_ask.specs.Asked.{IsAsked}
 use Rattle.cli_ask.specs.Client.{shown_of}
 use Rattle.cli_ask.specs.Publishing.{side_for, side_with, store_of}
-use Rattle.laws_arrive.specs.Right.{EndsAt}
-use Rattle.laws_clients.specs.Fits.{HasEnded}
-use Rattle.laws_replies.specs.Ends.{EndsBy}
+use Rattle.cli_arrive.specs.Below.LawsArrive.Right.{EndsAt}
+use Rattle.cli_ask.specs.Below.LawsClients.Fits.{HasEnded}
+use Rattle.cli_ask.specs.Below.LawsReplies.Ends.{EndsBy}
 use Rattle.cli_words.specs.Words.{SaysCommand}
 use Rattle.cli_words.specs.declared.command.Publishing.{Publishing}
 use Rattle.cli_words.specs.declared.command.Serve.{Serve}
@@ -22,16 +22,16 @@ use Rattle.lc_io.specs.declared.folder.FolderFail.{FolderFail}
 use Rattle.lc_io.specs.declared.folder.FolderFail.TheVariants.{Absent}
 use Rattle.lc_io.specs.Sink.{SinkSeen}
 use Rattle.lc_model.specs.declared.query.Query.{Query}
-use Rattle.lc_world.specs.Link.{LinkSeen}
-use Rattle.page_client.specs.declared.outcome.Outcome.{Outcome}
-use Rattle.page_client.specs.declared.outcome.Outcome.TheVariants as outcomes
-use Rattle.page_client.specs.declared.want.Want.{Want}
-use Rattle.publisher_spec.specs.Short.{IsShort}
-use Rattle.publisher_spec.specs.Side.{Side}
-use Rattle.timetable.specs.Laws.{LoadsRecorded}
-use Rattle.timetable.specs.declared.fault.LoadFault.TheVariants as fault
-use Rattle.timetable.specs.declared.scope.Scope.{Scope}
-use Rattle.timetable.specs.declared.timetable.Timetable.{Timetable}
+use Rattle.cli_ask.specs.Below.LcWorld.Link.{LinkSeen}
+use Rattle.cli_ask.specs.Below.PageClient.declared.outcome.Outcome.{Outcome}
+use Rattle.cli_ask.specs.Below.PageClient.declared.outcome.Outcome.TheVariants as outcomes
+use Rattle.cli_ask.specs.Below.PageClient.declared.want.Want.{Want}
+use Rattle.cli_ask.specs.Below.PublisherSpec.Short.{IsShort}
+use Rattle.cli_ask.specs.Below.PublisherSpec.Side.{Side}
+use Rattle.cli_ask.specs.Below.Timetable.Laws.{LoadsRecorded}
+use Rattle.cli_ask.specs.Below.Timetable.declared.fault.LoadFault.TheVariants as fault
+use Rattle.cli_ask.specs.Below.Timetable.declared.scope.Scope.{Scope}
+use Rattle.cli_ask.specs.Below.Timetable.declared.timetable.Timetable.{Timetable}
 use Rattle.trip_updates.specs.declared.fault.RtFault.{RtFault}
 use Rattle.version_store.specs.Admission.{IsRefused, IsTaken}
 use Rattle.version_store.specs.Laws.{OneOutcome}

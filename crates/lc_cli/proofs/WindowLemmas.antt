@@ -5,7 +5,7 @@ use Rattle.lc_model.specs.declared.date.ServiceDate.{ServiceDate}
 use Rattle.lc_time.proofs.CalendarLemmas.{from_1970, number_at_date}
 use Rattle.service_days.specs.Days.{day_number}
 use Rattle.cli_words.specs.Window.{IsWindow as IsSaidWindow}
-use Rattle.timetable.specs.Scope.{IsWindow}
+use Rattle.cli_ask.specs.Below.Timetable.Scope.{IsWindow}
 
 pub window_said : (first : ServiceDate) (days : ℕ) → IsSaidWindow first days → IsWindow first days
 window_said first days said =

@@ -12,7 +12,7 @@ use Rattle.lc_model.specs.declared.doc.StopsDoc.{StopsDoc}
 use Rattle.lc_model.specs.declared.journey.Journey.{Journey}
 use Rattle.lc_model.specs.declared.ride.Ride.{Ride}
 use Rattle.lc_model.specs.declared.run.Run.{Run}
-use Rattle.timetable.specs.Tiny.{call, key_of, moment}
+use Rattle.cli_ask.specs.Below.Timetable.Tiny.{call, key_of, moment}
 use Rattle.lc_cli.specs.Tiny.{AreJourneyBy, IsMadeOf, ride_of, to_b, to_d_at, worked}
 use Rattle.lc_cli.specs.WorkedQuestions.{AllLeaveAt, LatestAlways, LatestNever, LatestTiny, LeaveLatest, LeaveNotLatest, at_nine, at_ten, by_1010, by_831, by_a_second_before}
 use Rattle.lc_cli.proofs.TinyLemmas.{doc, from_first, in_order, is_tiny, journeys_after, journeys_before, just_before, live_are, rides_after, rides_before, rides_make, rides_to_b, rides_to_d, run_at, runs, runs_on_time, same_doc, the_worked, tiny, walks_nowhere, worked_arrives}

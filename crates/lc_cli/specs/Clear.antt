@@ -20,18 +20,18 @@ use Rattle.connection_uri.specs.Base.{BaseParts}
 use Rattle.lc_io.specs.Counts.{Rose}
 use Rattle.lc_io.specs.Folder.{bytes_named}
 use Rattle.lc_io.specs.declared.file.File.{File}
-use Rattle.lc_world.specs.Link.{IsHonestWith, LinkSeen}
-use Rattle.publisher_spec.specs.Short.{IsShort}
-use Rattle.publisher_spec.specs.Side.{Side}
-use Rattle.laws_replay.specs.Versions.{AreShort}
-use Rattle.laws_replay.specs.declared.event.Event.{Event}
-use Rattle.laws_replay.specs.declared.event.Event.TheVariants as events
+use Rattle.cli_ask.specs.Below.LcWorld.Link.{IsHonestWith, LinkSeen}
+use Rattle.cli_ask.specs.Below.PublisherSpec.Short.{IsShort}
+use Rattle.cli_ask.specs.Below.PublisherSpec.Side.{Side}
+use Rattle.cli_inputs.specs.Below.LawsReplay.Versions.{AreShort}
+use Rattle.cli_inputs.specs.Below.LawsReplay.declared.event.Event.{Event}
+use Rattle.cli_inputs.specs.Below.LawsReplay.declared.event.Event.TheVariants as events
 use Rattle.script_text.specs.Reading.{SaysScript}
 use Rattle.script_text.specs.declared.script.Record.{Record}
 use Rattle.script_text.specs.declared.script.Record.TheVariants as records
-use Rattle.timetable.specs.Recorded.{IsSound}
-use Rattle.timetable.specs.declared.scope.Scope.{Scope}
-use Rattle.timetable.specs.declared.timetable.Timetable.{Timetable}
+use Rattle.cli_ask.specs.Below.Timetable.Recorded.{IsSound}
+use Rattle.cli_ask.specs.Below.Timetable.declared.scope.Scope.{Scope}
+use Rattle.cli_ask.specs.Below.Timetable.declared.timetable.Timetable.{Timetable}
 use Rattle.version_store.specs.Store.{Stored}
 use Rattle.lc_cli.specs.Drill.{IsDrilled}
 use Rattle.lc_cli.specs.Scope.{scope_of}

@@ -16,13 +16,13 @@ use Rattle.cli_words.specs.declared.command.Command.{Command}
 use Rattle.cli_words.specs.declared.command.Command.TheVariants as commands
 use Rattle.lc_io.specs.Folder.{FolderSeen}
 use Rattle.lc_io.specs.declared.file.File.{File}
-use Rattle.lc_world.specs.GoneOn.{IsLeftByGets, IsLeftByPasses}
-use Rattle.lc_world.specs.Link.{LinkSeen}
+use Rattle.cli_ask.specs.Below.LcWorld.GoneOn.{IsLeftByGets, IsLeftByPasses}
+use Rattle.cli_ask.specs.Below.LcWorld.Link.{LinkSeen}
 use Rattle.cli_relay.specs.Planned.{IsPlanned}
-use Rattle.laws_replay.specs.declared.event.Event.{Event}
-use Rattle.timetable.specs.Loading.{Loads}
-use Rattle.timetable.specs.declared.fault.LoadFault.TheVariants as fault
-use Rattle.timetable.specs.declared.timetable.Timetable.{Timetable}
+use Rattle.cli_inputs.specs.Below.LawsReplay.declared.event.Event.{Event}
+use Rattle.cli_ask.specs.Below.Timetable.Loading.{Loads}
+use Rattle.cli_ask.specs.Below.Timetable.declared.fault.LoadFault.TheVariants as fault
+use Rattle.cli_ask.specs.Below.Timetable.declared.timetable.Timetable.{Timetable}
 use Rattle.lc_cli.specs.CheckText.{check_text_of}
 use Rattle.lc_cli.specs.Drill.{IsDrillBlock, IsDrillRefused}
 pub use Rattle.lc_cli.specs.Replay.{IsPlayedBy, IsReplayBlock}

@@ -10,17 +10,17 @@ use Rattle.cli_words.specs.declared.command.Plan.{Plan}
 use Rattle.cli_words.specs.declared.command.Publishing.{Publishing}
 use Rattle.cli_words.specs.declared.command.Replay.{Replay}
 use Rattle.connection_uri.specs.Base.{BaseParts}
-use Rattle.laws_clients.specs.Answered.{AnswersAt, NeededAt}
-use Rattle.laws_convoys.specs.Names.{Round}
+use Rattle.cli_ask.specs.Below.LawsClients.Answered.{AnswersAt, NeededAt}
+use Rattle.cli_ask.specs.Below.LawsConvoys.Names.{Round}
 use Rattle.cli_relay.specs.Planned.{ArePlanned}
 use Rattle.cli_relay.specs.Sides.{sides_of}
-use Rattle.laws_replay.specs.Events.{before_turn_of, questions_in}
-use Rattle.laws_replay.specs.OneCourse.{IsPlayedOut}
-use Rattle.laws_replay.specs.Replayed.{clients_text_of}
-use Rattle.laws_replay.specs.Turns.{order_of, rounds_of}
-use Rattle.laws_replay.specs.Versions.{AreShort, HasHeard}
-use Rattle.laws_replay.specs.declared.event.Event.{Event}
-use Rattle.laws_replies.specs.Met.{Met}
+use Rattle.cli_inputs.specs.Below.LawsReplay.Events.{before_turn_of, questions_in}
+use Rattle.cli_inputs.specs.Below.LawsReplay.OneCourse.{IsPlayedOut}
+use Rattle.cli_inputs.specs.Below.LawsReplay.Replayed.{clients_text_of}
+use Rattle.cli_inputs.specs.Below.LawsReplay.Turns.{order_of, rounds_of}
+use Rattle.cli_inputs.specs.Below.LawsReplay.Versions.{AreShort, HasHeard}
+use Rattle.cli_inputs.specs.Below.LawsReplay.declared.event.Event.{Event}
+use Rattle.cli_ask.specs.Below.LawsReplies.Met.{Met}
 use Rattle.lc_io.specs.declared.file.File.{File}
 use Rattle.lc_model.specs.declared.answer.Answer.{Answer}
 use Rattle.lc_model.specs.declared.answer.Answer.TheVariants as answers
@@ -28,14 +28,14 @@ use Rattle.lc_model.specs.declared.page.PageName.{PageName}
 use Rattle.lc_model.specs.declared.query.Query.{Query}
 use Rattle.lc_versions.specs.History.{moments_of}
 use Rattle.lc_versions.specs.Named.{version_named}
-use Rattle.lc_world.specs.Link.{IsHonestWith, LinkSeen}
-use Rattle.page_client.specs.declared.outcome.Outcome.{Outcome}
-use Rattle.page_client.specs.declared.outcome.Outcome.TheVariants as outcomes
-use Rattle.page_client.specs.declared.want.Want.{Want}
-use Rattle.page_client.specs.declared.want.Want.TheVariants as wants
-use Rattle.publisher_spec.specs.Short.{IsShort}
-use Rattle.publisher_spec.specs.Side.{Side}
-use Rattle.timetable.specs.declared.timetable.Timetable.{Timetable}
+use Rattle.cli_ask.specs.Below.LcWorld.Link.{IsHonestWith, LinkSeen}
+use Rattle.cli_ask.specs.Below.PageClient.declared.outcome.Outcome.{Outcome}
+use Rattle.cli_ask.specs.Below.PageClient.declared.outcome.Outcome.TheVariants as outcomes
+use Rattle.cli_ask.specs.Below.PageClient.declared.want.Want.{Want}
+use Rattle.cli_ask.specs.Below.PageClient.declared.want.Want.TheVariants as wants
+use Rattle.cli_ask.specs.Below.PublisherSpec.Short.{IsShort}
+use Rattle.cli_ask.specs.Below.PublisherSpec.Side.{Side}
+use Rattle.cli_ask.specs.Below.Timetable.declared.timetable.Timetable.{Timetable}
 use Rattle.version_store.specs.Store.{Stored}
 use Rattle.lc_cli.specs.Clear.{AreRecordedAsks, IsAskedSide, IsRecordedCourse}
 use Rattle.lc_cli.specs.Top.{IsRight, Past}

@@ -9,16 +9,16 @@ use Rattle.cli_serve.specs.Written.{Wrote}
 use Rattle.cli_words.specs.Words.{SaysCommand}
 use Rattle.cli_words.specs.declared.command.Arrive.{Arrive}
 use Rattle.cli_words.specs.declared.command.Command.TheVariants as commands
-use Rattle.laws_arrive.specs.Latest.{LatestAt, NeededBackAt}
-use Rattle.laws_sides.specs.Stated.{version_at}
+use Rattle.cli_arrive.specs.Below.LawsArrive.Latest.{LatestAt, NeededBackAt}
+use Rattle.cli_ask.specs.Below.LawsSides.Stated.{version_at}
 use Rattle.lc_io.specs.declared.file.File.{File}
 use Rattle.lc_model.specs.Journey.{arrives_at}
 use Rattle.lc_model.specs.declared.journey.Journey.{Journey}
 use Rattle.lc_model.specs.declared.page.PageName.{PageName}
-use Rattle.lc_world.specs.Link.{LinkSeen}
-use Rattle.page_client.specs.Shown.{answered}
-use Rattle.publisher_spec.specs.Short.{IsShort}
-use Rattle.publisher_spec.specs.Side.{Side}
+use Rattle.cli_ask.specs.Below.LcWorld.Link.{LinkSeen}
+use Rattle.cli_ask.specs.Below.PageClient.Shown.{answered}
+use Rattle.cli_ask.specs.Below.PublisherSpec.Short.{IsShort}
+use Rattle.cli_ask.specs.Below.PublisherSpec.Side.{Side}
 use Rattle.lc_cli.specs.Clear.{IsAskedSide}
 use Rattle.lc_cli.specs.Top.{IsRight, Past}
 use Rattle.lc_cli.specs.declared.status.Status.TheVariants.{Done}

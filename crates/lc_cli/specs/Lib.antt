@@ -1,3 +1,4 @@
+pub mod Below
 pub mod Scope
 pub mod Block
 pub mod CheckText

@@ -8,11 +8,11 @@ use Rattle.cli_words.specs.declared.command.Command.TheVariants as commands
 use Rattle.cli_words.specs.declared.command.Plan.{Plan}
 use Rattle.connection_uri.specs.Base.{BaseParts}
 use Rattle.cli_relay.specs.OneGrowing.{NameTheSame}
-use Rattle.laws_replay.specs.Replayed.{clients_text_of}
+use Rattle.cli_inputs.specs.Below.LawsReplay.Replayed.{clients_text_of}
 use Rattle.lc_io.specs.Counts.{Rose}
 use Rattle.lc_io.specs.declared.file.File.{File}
-use Rattle.lc_world.specs.Link.{IsHonestWith, IsQuietWith, LinkSeen}
-use Rattle.publisher_spec.specs.Side.{IsLater, IsValidSide, Side}
+use Rattle.cli_ask.specs.Below.LcWorld.Link.{IsHonestWith, IsQuietWith, LinkSeen}
+use Rattle.cli_ask.specs.Below.PublisherSpec.Side.{IsLater, IsValidSide, Side}
 use Rattle.lc_cli.specs.Top.{HasPrinted, Past}
 use Rattle.lc_cli.specs.declared.block.Block.{Block}
 use Rattle.lc_cli.specs.declared.status.Status.{Status}

@@ -5,8 +5,8 @@ use Rattle.cli_words.specs.declared.command.Published.{Published}
 use Rattle.cli_words.specs.declared.command.Serve.{Serve}
 use Rattle.lc_doors.specs.Door.{DoorRecorded}
 use Rattle.lc_io.specs.declared.file.File.{File}
-use Rattle.lc_world.specs.Link.{LinkSeen}
-use Rattle.publisher_spec.specs.Side.{Side}
+use Rattle.cli_ask.specs.Below.LcWorld.Link.{LinkSeen}
+use Rattle.cli_ask.specs.Below.PublisherSpec.Side.{Side}
 use Rattle.lc_cli.specs.Clear.{IsPublishedSide, IsServedSide}
 use Rattle.lc_cli.specs.Serving.{asked_of}
 use Rattle.lc_cli.specs.Top.{HasServed, Past}

@@ -7,8 +7,8 @@ use Rattle.cli_ask.specs.declared.question.Asked.{Asked}
 use Rattle.cli_fewest.specs.Asked.{IsAskedFewest}
 use Rattle.cli_words.specs.declared.command.Publishing.{Publishing}
 use Rattle.lc_io.specs.declared.file.File.{File}
-use Rattle.lc_world.specs.Link.{LinkSeen}
-use Rattle.timetable.specs.declared.timetable.Timetable.{Timetable}
+use Rattle.cli_ask.specs.Below.LcWorld.Link.{LinkSeen}
+use Rattle.cli_ask.specs.Below.Timetable.declared.timetable.Timetable.{Timetable}
 use Rattle.version_store.specs.declared.message_fault.MessageFault.{MessageFault}
 use Rattle.version_store.specs.declared.message_fault.MessageFault.TheVariants as messages
 use Rattle.lc_cli.specs.declared.block.Block.{Block}

@@ -4,7 +4,7 @@ use Rattle.lc_io.specs.Sink.{SinkSeen}
 use Rattle.gtfs_tables.specs.Texts.{what_text}
 use Rattle.gtfs_tables.specs.declared.what.What.{What}
 use Rattle.gtfs_tables.specs.declared.what.What.TheVariants as what
-use Rattle.timetable.specs.declared.fault.LoadFault.TheVariants as fault
+use Rattle.cli_ask.specs.Below.Timetable.declared.fault.LoadFault.TheVariants as fault
 use Rattle.trip_updates.specs.Texts as messages
 use Rattle.trip_updates.specs.declared.fault.RtFault.{RtFault}
 use Rattle.lc_cli.specs.Writing.{Said}

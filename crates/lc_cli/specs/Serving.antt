@@ -6,7 +6,7 @@ use Rattle.cli_serve.specs.declared.fault.ServeFault.TheVariants as faults
 use Rattle.fragmenter.specs.Cutting.{chosen_cuts}
 use Rattle.lc_doors.specs.Door.{DoorSeen}
 use Rattle.lc_io.specs.Sink.{SinkSeen}
-use Rattle.publisher.specs.Held.{side_of}
+use Rattle.cli_ask.specs.Below.Publisher.Held.{side_of}
 use Rattle.lc_cli.specs.Refusal.{no_memory_line}
 use Rattle.cli_serve.specs.Written.{SinkNeverFell}
 use Rattle.lc_cli.specs.Writing.{Said}

@@ -10,19 +10,19 @@ ghost use Rattle.lc_cli.specs.OnePlan.{OneNamedPlan, OneQuietPlan};
 ghost use Rattle.lc_cli.specs.OneRelay.{OneNamedRelay, OneQuietRelay};
 ghost use Rattle.lc_cli.specs.OneServing.{BeginsFromIt, NotAnotherBase, NotMadeUp, NotUnasked, OneServing, OneSide};
 
+use cli_arrive::below::laws_arrive::one_latest_answer;
 use cli_arrive::one_latest_output;
+use cli_ask::below::lc_world::Link;
+use cli_ask::below::timetable::{one_end, one_timetable};
 use cli_ask::one_output;
+use cli_fewest::below::laws_fewest::fewest_at_version;
 use cli_fewest::one_fewest_output;
+use cli_inputs::below::laws_replay::one_course;
+use cli_relay::below::page_relay::Relay;
 use cli_relay::{one_growing_plan, one_plan, relays_plan_right};
 use cli_serve::one_over_bytes;
 use cli_words::one_command;
-use laws_arrive::one_latest_answer;
-use laws_fewest::fewest_at_version;
-use laws_replay::one_course;
-use lc_world::Link;
-use page_relay::Relay;
 use script_text::one_script;
-use timetable::{one_end, one_timetable};
 use version_store::one_outcome;
 
 /// A run of `ask` with status Done wrote a best journey at the version that its question means, or that there is none. A run of `replay` did so for

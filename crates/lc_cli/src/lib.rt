@@ -3,6 +3,7 @@
 //! `cli_relay`.
 #![tactic(auto)]
 
+pub mod below;
 mod block;
 mod check_text;
 mod command;

@@ -11,11 +11,11 @@ use crate::refusal::{NO_MEMORY, message_refusal, say};
 use crate::scope::scope_of;
 use crate::server::Server;
 use crate::status::Status;
+use cli_ask::below::lc_world::{Door, Folder, Sink};
 use cli_ask::serving_publisher;
 use cli_inputs::{Inputs, Refusal, read_inputs};
 use cli_serve::ServeFault;
 use cli_words::{Published, Serve};
-use lc_world::{Door, Folder, Sink};
 use std::alloc::Global;
 
 /// Reads what is to be served, and makes its publisher.

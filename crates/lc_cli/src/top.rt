@@ -7,7 +7,7 @@ ghost use Rattle.cli_words.specs.declared.command.Command.TheVariants as command
 ghost use Rattle.cli_words.specs.declared.command.Serve.{Serve as Served};
 ghost use Rattle.cli_serve.specs.Serve.{DoorNeverFell};
 ghost use Rattle.gtfs_tables.specs.Reading.{Keeps};
-ghost use Rattle.lc_world.specs.GoneOn.{HasGoneOn};
+ghost use Rattle.cli_ask.specs.Below.LcWorld.GoneOn.{HasGoneOn};
 ghost use Rattle.lc_cli.specs.Clear.{IsAnswered, IsClear};
 ghost use Rattle.lc_cli.specs.Command.{LeavesLink};
 ghost use Rattle.lc_cli.specs.Top.{IsEarlyRefusal, IsRight};
@@ -19,12 +19,12 @@ use crate::refusal::refuse;
 use crate::serve::serve;
 use crate::status::Status;
 use crate::work::Work;
+use cli_ask::below::lc_world::{Door, Folder, Link, Sink};
+use cli_ask::below::timetable::one_timetable;
 use cli_relay::relays_plan_right;
 use cli_words::one_command;
-use lc_world::{Door, Folder, Link, Sink};
 use script_text::one_script;
 use std::alloc::Global;
-use timetable::one_timetable;
 use version_store::one_outcome;
 
 /// Runs the command of these arguments, over a directory, a link, a door and a sink, and gives the link back.

@@ -1,7 +1,7 @@
 ghost use Rattle.std.specs.Prelude.{◌+◌, None, Some};
 ghost use Rattle.back_scan.specs.Forward.{forward_query};
 ghost use Rattle.lc_model.specs.declared.answer.Answer.TheVariants.{NoJourney};
-ghost use Rattle.timetable.specs.Tiny.{moment};
+ghost use Rattle.cli_ask.specs.Below.Timetable.Tiny.{moment};
 ghost use Rattle.lc_cli.specs.Tiny.{AreJourneyBy, worked};
 ghost use Rattle.lc_cli.specs.WorkedQuestions.{AllLeaveAt, EndBest, EndFewest, EndFewestAtOneVersion, EndNotFewest, IsNoFewestEnd, LatestAlways, LatestNever, LeaveLatest, LeaveNotLatest, at_nine, at_ten, by_1010, by_831, by_a_second_before, direct, leaving_a_second_earlier, leaving_a_second_later};
 

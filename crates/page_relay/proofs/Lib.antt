@@ -1,3 +1,4 @@
+pub mod BelowLemmas
 mod DocumentLemmas
 mod ExchangeLemmas
 mod FitsLemmas

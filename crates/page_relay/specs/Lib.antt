@@ -1,3 +1,4 @@
+pub mod Below
 pub mod Exchanger
 pub mod Exchanges
 pub mod Fits

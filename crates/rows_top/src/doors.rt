@@ -1,7 +1,7 @@
 //! Doors in memory to which the connections of a case come, a line for each of them.
 use crate::messages::MESSAGES;
+use lc_cli::below::lc_world::{MemDoor, Pieces, SureDoor};
 use lc_model::Bytes;
-use lc_world::{MemDoor, Pieces, SureDoor};
 use rows_common::Unmade;
 use std::alloc::Global;
 

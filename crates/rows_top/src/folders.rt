@@ -1,8 +1,8 @@
 //! The directories that cases run over.
 use crate::messages::MESSAGES;
 use crate::running::Case;
+use lc_cli::below::lc_world::{File, MemFolder};
 use lc_model::{Bytes, Text};
-use lc_world::{File, MemFolder};
 use rows_common::Unmade;
 use std::alloc::Global;
 

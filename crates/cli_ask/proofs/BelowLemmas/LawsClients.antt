@@ -1,0 +1,4 @@
+-- What the crates above name of `laws_clients`.
+pub use Rattle.laws_clients.proofs.FitsLemmas
+pub use Rattle.laws_clients.proofs.PublishedLemmas
+pub use Rattle.laws_clients.proofs.WantsLemmas

@@ -1,0 +1,3 @@
+-- What the crates above name of `publisher_spec`.
+pub use Rattle.publisher_spec.specs.Short
+pub use Rattle.publisher_spec.specs.Side

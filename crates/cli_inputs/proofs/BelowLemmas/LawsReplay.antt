@@ -1,0 +1,2 @@
+-- What the crates above name of `laws_replay`.
+pub use Rattle.laws_replay.proofs.OneCourseLemmas

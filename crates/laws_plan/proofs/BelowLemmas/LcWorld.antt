@@ -1,0 +1,2 @@
+-- What the crates above name of `lc_world`.
+pub use Rattle.laws_replay.proofs.BelowLemmas.LcWorld.GoneOnLemmas

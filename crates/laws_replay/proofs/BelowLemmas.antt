@@ -1,0 +1,7 @@
+-- The lemmas of the crates below, for the crates above.
+pub mod CliAsk
+pub mod LawsClients
+pub mod LawsConvoys
+pub mod LawsReplies
+pub mod LcWorld
+pub mod PublisherSpec

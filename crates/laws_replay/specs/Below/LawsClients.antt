@@ -1,0 +1,4 @@
+-- What the crates above name of `laws_clients`.
+pub use Rattle.cli_ask.specs.Below.LawsClients.Fits
+pub use Rattle.cli_ask.specs.Below.LawsClients.Laws
+pub use Rattle.cli_ask.specs.Below.LawsClients.Wants

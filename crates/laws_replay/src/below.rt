@@ -1,0 +1,7 @@
+//! The crates below, for the crates above: what those list in crates.txt stays short.
+
+pub use cli_ask;
+pub use cli_ask::below::{
+    convoy, laws_clients, laws_convoys, laws_replies, lc_links, lc_world, page_client, publisher,
+    timetable,
+};

@@ -1,0 +1,3 @@
+-- What the crates above name of `timetable`.
+pub use Rattle.cli_ask.specs.Below.Timetable.Scope
+pub use Rattle.cli_ask.specs.Below.Timetable.declared
