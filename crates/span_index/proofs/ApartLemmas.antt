@@ -60,17 +60,17 @@ one_place calls i j a b rise is_a is_b same =
 abbrev Untied : Connection → Connection → Type 0
 Untied c d = departure_cmp c d ≢ Equal
 
-abbrev Before : Place → Place → Type 0
-Before p q = place_cmp p q ≡ Less
+abbrev Differ : Place → Place → Type 0
+Differ p q = place_cmp p q ≢ Equal
 
 -- the places have the departures of their connections
 abbrev pub Depart : List State → List Place → Type 0
 Depart states places = (p : Place) (c : Connection) → Contains places p → connection_at states p ≡ Some c → c.dep ≡ p.dep
 
 -- what two places show does not tie
-untied : (version : ℕ) (states : List State) → All (λ (s : State). GoesForward s.calls) states → AreApart states → (p q : Place) (c d : Connection) → Before p q
+untied : (version : ℕ) (states : List State) → All (λ (s : State). GoesForward s.calls) states → AreApart states → (p q : Place) (c d : Connection) → Differ p q
     → shown version states p ≡ Some c → shown version states q ≡ Some d → c.dep ≡ p.dep → d.dep ≡ q.dep → Untied c d
-untied version states forward apart p q c d before shows_p shows_q at_p at_q e =
+untied version states forward apart p q c d differ shows_p shows_q at_p at_q e =
     let sp = shown_from version states p c shows_p in
     let sq = shown_from version states q d shows_q in
     let s = sp.state in
@@ -87,16 +87,14 @@ untied version states forward apart p q c d before shows_p shows_q at_p at_q e =
     let one_call : p.at ≡ q.at = one_place t.calls p.at q.at lp.call lq.call rise (subst (λ (v : State). slice_get v.calls p.at ≡ Some lp.call) same lp.is) lq.is seqs in
     let deps : c.dep ≡ d.dep = same_number c.dep d.dep (both_tie (nat_cmp c.dep d.dep) (ordering_then (key_cmp c.key d.key) (nat_cmp c.seq d.seq)) e).0 in
     let one : p ≡ q = same_parts p q (sym at_p ∙ deps ∙ at_q) one_state one_call in
-    let less : place_cmp q q ≡ Less = subst (λ (v : Place). place_cmp v q ≡ Less) one before in
-    let equal : place_cmp q q ≡ Equal = tied_itself place_cmp_total q in
-    absurd (cc)
+    absurd (differ (ap (place_cmp p) (sym one) ∙ tied_itself place_cmp_total p))
 
--- what places one after the other show does not tie
+-- what different places show does not tie
 pub shown_apart : (version : ℕ) (states : List State) (places : List Place) → All (λ (s : State). GoesForward s.calls) states → AreApart states → Depart states places
-    → AllPairs Before places → AllPairs Untied (filter_map (shown version states) places)
+    → AllPairs Differ places → AllPairs Untied (filter_map (shown version states) places)
 shown_apart version states [] forward apart departs up = AllPairs-nil Untied
 shown_apart version states (p ∷ places) forward apart departs up =
-    go (shown version states p) refl (shown_apart version states places forward apart (λ q c h. departs q c (Contains-there p places q h)) (AllPairs-tail Before p places up)) where
+    go (shown version states p) refl (shown_apart version states places forward apart (λ q c h. departs q c (Contains-there p places q h)) (AllPairs-tail Differ p places up)) where
       go : (o : Option Connection) → shown version states p ≡ o → AllPairs Untied (filter_map (shown version states) places) → AllPairs Untied (cons_option o (filter_map (shown version states) places))
       go None e rest = rest
       go (Some c) e rest =
@@ -104,7 +102,7 @@ shown_apart version states (p ∷ places) forward apart departs up =
           (All-from_contains (Untied c) (filter_map (shown version states) places) (λ d h.
           let from = Gives-filter_map (shown version states) places d h in
           let q = from.from in
-          untied version states forward apart p q c d (All-contains (Before p) places q (AllPairs-head Before p places up) from.stands) e from.is
+          untied version states forward apart p q c d (All-contains (Differ p) places q (AllPairs-head Differ p places up) from.stands) e from.is
           (departs p c (Contains-here p places) (shown_is_there version states p c e))
           (departs q d (Contains-there p places q from.stands) (shown_is_there version states q d from.is))))
           rest

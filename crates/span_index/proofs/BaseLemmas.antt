@@ -3,7 +3,7 @@ use Rattle.std.proofs.Common.{◌≡◌, ℕ, ◌+◌, ◌<◌, ◌≤◌, ◌�
 use Rattle.std.specs.Prelude.{◌&&◌, nat_le}
 use Rattle.std.specs.BTreeMap.{BTreeMap, get}
 use Rattle.std.specs.BTreeSet.{BTreeSet, IsFromIterResult}
-use Rattle.std.specs.List.{All, filter, slice_get}
+use Rattle.std.specs.List.{All, Contains, filter, slice_get}
 use Rattle.std.specs.List.Sorted.{IsPermutation}
 use Rattle.std.specs.Map.{lookup}
 use Rattle.std.specs.Ordering.{is_eq, ordering_reverse}
@@ -109,14 +109,9 @@ base_kept runs states places numbers up forward e are numbered = record {
   are_open = base_open runs states numbers e numbered;
 }
 
--- a set that was made of the places has them
-pub placed_set : (states : List State) (list sorted : List Place) (places : BTreeSet Place) → AreOfStates states list → IsPermutation list sorted → IsFromIterResult place_cmp sorted places → AreOfStates states places.keys
-placed_set states list sorted places are moved made p =
-    let there = btree_set_contains_iff place_cmp_total place_exact places p in
-    let from = btree_set_contains_from_list place_cmp_total place_exact sorted places made p in (
-      λ h. (are p).0 (Contains-permutation sorted list p (IsPermutation-sym list sorted moved) (from.0 (there.1 h))),
-      λ of. there.0 (from.1 (Contains-permutation list sorted p moved ((are p).1 of))),
-    )
+-- a list of the same places has those of the states too
+pub are_also : (states : List State) (list places : List Place) → AreOfStates states list → ((p : Place) → Contains places p ↔ Contains list p) → AreOfStates states places
+are_also states list places are same p = (λ h. (are p).0 ((same p).0 h), λ of. (same p).1 ((are p).1 of))
 
 -- ---- the numbers of states, one after the other
 

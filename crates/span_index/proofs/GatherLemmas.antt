@@ -1,20 +1,23 @@
 -- The places of states: those of one after the other, and of all.
-use Rattle.std.proofs.Common.{◌≡◌, ℕ, zero, suc, ◌+◌, ◌<◌, ◌≤◌, ◌⊎◌, ◌↔◌, inl, inr, List, [], ◌∷◌, ◌++◌, length, get_or, take, Option, Some, None, refl, sym, ap, ◌∙◌, subst, arith, ⊎_elim}
-use Rattle.std.specs.List.{Contains, slice_get}
+use Rattle.std.proofs.Common.{◌≡◌, ◌≢◌, ℕ, zero, suc, ◌+◌, ◌<◌, ◌≤◌, ◌⊎◌, ◌↔◌, inl, inr, List, [], ◌∷◌, ◌++◌, length, get_or, take, Option, Some, None, refl, sym, ap, ◌∙◌, subst, arith, ⊎_elim}
+use Rattle.std.specs.List.{All, Contains, slice_get}
 use Rattle.std.specs.Option.{option_and_then}
+use Rattle.std.specs.declared.cmp.Ordering.TheVariants.{Equal}
 use Rattle.std.proofs.lemmas.Bool.{cases_lt}
 use Rattle.std.proofs.lemmas.List.{length-take, take_all, take_more}
-use Rattle.std.proofs.lemmas.List.Elements.{Contains-append_left, Contains-push, Contains-push_cases}
+use Rattle.std.proofs.lemmas.List.Elements.{All-contains, Contains-append_left, Contains-push, Contains-push_cases}
 use Rattle.std.proofs.lemmas.Option.{slice_get-get_or, slice_get_within}
 use Rattle.lc_model.specs.Connection.{connection_between}
 use Rattle.lc_model.specs.declared.call.Call.{Call}
 use Rattle.lc_model.specs.declared.connection.Connection.{Connection}
 use Rattle.lc_model.specs.declared.key.RunKey.{RunKey}
+use Rattle.lc_model.specs.Order.{AreApart}
+use Rattle.lc_model.proofs.ListLemmas.{All-from_contains, AllPairs-append, Contains-cases, Contains-nil}
 use Rattle.span_index.specs.Gathered.{AreOfStates, IsOf, IsOfStates}
-use Rattle.span_index.specs.Places.{between, connection_at, connection_of}
+use Rattle.span_index.specs.Places.{between, connection_at, connection_of, place_cmp}
 use Rattle.span_index.specs.declared.place.Place.{Place}
 use Rattle.span_index.specs.declared.state.State.{State}
-use Rattle.span_index.proofs.PlaceLemmas.{same_parts}
+use Rattle.span_index.proofs.PlaceLemmas.{place_exact, same_parts}
 
 -- ---- a list with an item more
 
@@ -117,6 +120,19 @@ up_to_all number state next old new past done p = (
   λ h. (done p).1 (⊎_elim (λ (o : Contains old p). inl o) (λ (of : IsOf number state p). inr (of, omega (arith, past, has_next state.key state.calls p.at of.connection of.is))) h),
 )
 
+-- a place that is pushed differs from those that are there
+pub up_to_apart : (number : ℕ) (state : State) (next at : ℕ) (old list new : List Place) (pushed : Place) → suc at ≡ next → pushed.state ≡ number → pushed.at ≡ at → new ≡ list ++ pushed ∷ []
+    → HasUpTo number state next old list → All (λ (p : Place). p.state < number) old → AreApart place_cmp list → AreApart place_cmp new
+up_to_apart number state next at old list new pushed follows of_number of_at e done below apart =
+    subst (AreApart place_cmp) (sym e)
+    (AllPairs-append (λ p q. place_cmp p q ≢ Equal) list (pushed ∷ []) apart (λ i j d before inside. absurd (omega arith)) (λ p q in_p in_q tie.
+    let one : pushed ≡ q = ⊎_elim (λ (same : pushed ≡ q). same) (λ (k : Contains [] q). absurd (Contains-nil q k)) (Contains-cases pushed [] q in_q) in
+    let same : p ≡ pushed = place_exact p q tie ∙ sym one in
+    ⊎_elim
+    (λ (o : Contains old p). absurd (omega (arith, All-contains (λ (r : Place). r.state < number) old p below o, ap (λ (r : Place). r.state) same, of_number)))
+    (λ (n : IsOf number state p × (suc p.at < next)). absurd (omega (arith, n.1, ap (λ (r : Place). r.at) same, of_at, follows)))
+    ((done p).0 in_p)))
+
 -- ---- the places of all states
 
 -- a place of a state, by the state
@@ -165,6 +181,13 @@ places_more states k s old new inside is done pushed =
     let more = take_more states k s inside ∙ ap (λ (v : State). take k states ++ v ∷ []) (sym is) in
     subst (λ (v : List State). AreOfStates v new) (sym more)
     (places_push (take k states) s old new done (subst (λ (n : ℕ). (p : Place) → Contains new p ↔ (Contains old p ⊎ IsOf n s p)) long pushed))
+
+-- the places of the states before this one
+pub places_below : (states : List State) (k : ℕ) (places : List Place) → k < length states → AreOfStates (take k states) places → All (λ (p : Place). p.state < k) places
+places_below states k places inside are = All-from_contains (λ (p : Place). p.state < k) places (λ p h.
+    let of = (are p).0 h in
+    let at = of_state (take k states) p of.connection of.is in
+    omega (arith, length-take k states, inside, slice_get_within (take k states) p.state at.state at.is))
 
 pub places_all : (states : List State) (k : ℕ) (places : List Place) → length states ≤ k → AreOfStates (take k states) places → AreOfStates states places
 places_all states k places past done = subst (λ (v : List State). AreOfStates v places) (take_all k states past) done

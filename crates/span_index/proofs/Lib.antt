@@ -5,6 +5,7 @@ pub mod GatherLemmas
 pub mod LawLemmas
 pub mod OrderedLemmas
 pub mod PlaceLemmas
+mod PlaceSetLemmas
 pub mod PlacedLemmas
 pub mod PrepareLemmas
 pub mod RowsLemmas

@@ -1,14 +1,12 @@
 -- A run that holds in no version is added with its places. What was stored is stored, and no version shows it.
 use Rattle.std.proofs.Common.{Result, Ok, Err, ◌≡◌, ℕ, ◌⊎◌, ◌↔◌, inl, inr, List, [], ◌∷◌, ◌++◌, append_assoc, length, map, Bool, true, false, cond, Some, None, refl, sym, ap, ◌∙◌, subst, arith, ⊎_elim}
 use Rattle.std.specs.Prelude.{IsSome, IsTrue, OnOk, is_some}
-use Rattle.std.specs.BTreeSet.{BTreeSet, contains}
 use Rattle.std.specs.List.{AllZip, Contains, filter, slice_get}
 use Rattle.std.specs.Ordering.{is_eq}
 use Rattle.std.specs.declared.cmp.Ordering.TheVariants.{Equal}
 use Rattle.std.proofs.lemmas.Cmp.{tied_itself}
 use Rattle.std.proofs.lemmas.List.{append-nil}
 use Rattle.std.proofs.lemmas.List.Elements.{All-push}
-use Rattle.std.proofs.lemmas.Map.Views.{btree_set_contains_iff}
 use Rattle.lc_model.specs.Call.{GoesForward}
 use Rattle.lc_model.specs.declared.connection.Connection.{Connection}
 use Rattle.lc_model.specs.declared.key.RunKey.{RunKey}
@@ -16,7 +14,7 @@ use Rattle.lc_model.specs.declared.run.Run.{Run}
 use Rattle.lc_model.proofs.ListLemmas.{Contains-cases, Contains-here, Contains-nil, Contains-there}
 use Rattle.span_index.specs.Gathered.{IsOf, IsOfStates}
 use Rattle.span_index.specs.Inside.{AreApart, AreKept, ArePlaced, IsPast}
-use Rattle.span_index.specs.Places.{place_cmp, shown}
+use Rattle.span_index.specs.Places.{shown}
 use Rattle.span_index.specs.Prepared.{Carries, Found, HasPlaces, HaveAlike, IsReady, KeepKeys, PutsState, put_at}
 use Rattle.span_index.specs.Spans.{held, holds, run_of}
 use Rattle.span_index.specs.Turns.{closed_state}
@@ -25,7 +23,6 @@ use Rattle.span_index.specs.declared.prepare.Ready.{Ready}
 use Rattle.span_index.specs.declared.state.State.{State}
 use Rattle.span_index.proofs.GatherLemmas.{at_state, get_before, get_cases, get_pushed, of_state}
 use Rattle.span_index.proofs.BaseLemmas.{tie_from}
-use Rattle.span_index.proofs.PlaceLemmas.{place_cmp_total, place_exact}
 use Rattle.span_index.proofs.ShownLemmas.{shown_at, shown_from}
 use Rattle.span_index.proofs.SpanLemmas.{closed_gone, past_closed}
 use Rattle.span_index.proofs.TurnLemmas.{has_put, put_here, put_other, tied_or_not}
@@ -161,29 +158,6 @@ module _ (key : RunKey) (found new : Found) (put : (q : RunKey) → new q ≡ pu
   key_stays q has = subst IsSome (sym (put q)) (has_put key None found q has)
 
 -- ---- places more
-
-pub set_more : (place : Place) (old new : BTreeSet Place) → ((q : Place) → contains place_cmp new q ≡ cond (is_eq (place_cmp place q)) true (contains place_cmp old q))
-    → (q : Place) → Contains new.keys q ↔ ((place ≡ q) ⊎ Contains old.keys q)
-set_more place old new updates q = (λ h. to (is_eq (place_cmp place q)) refl (sym (updates q) ∙ in_new.1 h), back) where
-  in_new : IsTrue (contains place_cmp new q) ↔ Contains new.keys q
-  in_new = btree_set_contains_iff place_cmp_total place_exact new q
-
-  in_old : IsTrue (contains place_cmp old q) ↔ Contains old.keys q
-  in_old = btree_set_contains_iff place_cmp_total place_exact old q
-
-  to : (b : Bool) → is_eq (place_cmp place q) ≡ b → cond b true (contains place_cmp old q) ≡ true → (place ≡ q) ⊎ Contains old.keys q
-  to true e f = inl (place_exact place q (tie_from (place_cmp place q) e))
-  to false e f = inr (in_old.0 f)
-
-  either : (b : Bool) → contains place_cmp old q ≡ true → cond b true (contains place_cmp old q) ≡ true
-  either true e = refl
-  either false e = e
-
-  back : (place ≡ q) ⊎ Contains old.keys q → Contains new.keys q
-  back (inl same) =
-      let tie : place_cmp place q ≡ Equal = ap (place_cmp place) (sym same) ∙ tied_itself place_cmp_total place in
-      in_new.0 (updates q ∙ ap (λ o. cond (is_eq o) true (contains place_cmp old q)) tie)
-  back (inr h) = in_new.0 (updates q ∙ either (is_eq (place_cmp place q)) (in_old.1 h))
 
 -- some of the places of a list were put beside those of a set, and these are left
 pub record PutsSome (old new more left : List Place) : Type 0 where

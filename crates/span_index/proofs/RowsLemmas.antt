@@ -1,19 +1,20 @@
 -- What a walk over the places shows are the connections of the runs that hold, and their departures.
-use Rattle.std.proofs.Common.{◌≡◌, ◌≢◌, ℕ, ◌≤◌, List, [], ◌∷◌, ◌++◌, append_assoc, map, cond, Option, Some, None, refl, sym, ap, ◌∙◌, subst, arith}
+use Rattle.std.proofs.Common.{◌≡◌, ◌≢◌, ℕ, ◌≤◌, List, [], ◌∷◌, ◌++◌, append_assoc, map, cond, Option, Some, None, refl, sym, ap, ◌∙◌, subst, arith, get_or, take, ◌+◌, ◌<◌, length, false}
 use Rattle.std.specs.Prelude.{◌&&◌, is_some, nat_le}
 use Rattle.std.specs.List.{All, AllPairs, Contains, cons_option, filter, filter_map}
-use Rattle.std.specs.List.Sorted.{IsPermutation, IsSorted, IsStrictlySortedBy}
-use Rattle.std.specs.Ordering.{nat_cmp, ordering_then}
+use Rattle.std.specs.List.Sorted.{IsPermutation, IsSorted}
+use Rattle.std.specs.Ordering.{is_lt, nat_cmp}
+use Rattle.std.specs.Cmp.{nat_cmp_total}
 use Rattle.std.specs.declared.cmp.Ordering.{Ordering}
 use Rattle.std.specs.declared.cmp.Ordering.TheVariants.{Equal, Greater, Less}
-use Rattle.std.proofs.lemmas.Cmp.{ranked}
-use Rattle.std.proofs.lemmas.List.{map-append}
+use Rattle.std.proofs.lemmas.Bool.Decides.{nat_tests}
+use Rattle.std.proofs.lemmas.List.{map-append, take_more}
 use Rattle.std.proofs.lemmas.List.Elements.{All-contains, filter-append}
 use Rattle.std.proofs.lemmas.List.Kept.{AllPairs-filter}
-use Rattle.std.proofs.lemmas.List.Sorted.{Contains-permutation, IsPermutation-map, IsPermutation-sym, sum_by-IsPermutation}
-use Rattle.std.proofs.lemmas.Map.Keys.{Less-from_sorted}
+use Rattle.std.proofs.lemmas.List.Sorted.{Contains-permutation, IsPermutation-map, IsPermutation-sym, ranks_by, sorted_far, sum_by-IsPermutation}
 use Rattle.lc_model.specs.Call.{GoesForward}
 use Rattle.lc_model.specs.Connection.{NoneArrivesEarly, connections_of, departure_cmp}
+use Rattle.lc_model.specs.Order.{AreApart}
 use Rattle.lc_model.specs.Run.{RunsForward}
 use Rattle.lc_model.specs.Totals.{departure_cmp_total}
 use Rattle.lc_model.specs.declared.connection.Connection.{Connection}
@@ -37,8 +38,8 @@ use Rattle.span_index.proofs.ShownLemmas.{Contains-filter_map, Contains-slice_ge
 abbrev Untied : Connection → Connection → Type 0
 Untied c d = departure_cmp c d ≢ Equal
 
-abbrev Before : Place → Place → Type 0
-Before p q = place_cmp p q ≡ Less
+abbrev Differ : Place → Place → Type 0
+Differ p q = place_cmp p q ≢ Equal
 
 -- the places have the departures of their connections
 departs_of : (states : List State) (places : List Place) → ArePlaced states places → Depart states places
@@ -59,20 +60,16 @@ held_forward version states forward =
 in_order : (version : ℕ) (states : List State) (places : List Place) → AreSpans states places → Ordered (held version states)
 in_order version states places spans = ordered (held version states) (keys_apart version states (spans.apart version)) (held_forward version states spans.forward)
 
--- the places are strictly in order
-pub places_rise : (places : List Place) → IsStrictlySortedBy place_cmp places → AllPairs Before places
-places_rise places up i j d before inside = Less-from_sorted place_cmp places i j d up before inside
-
 -- what a walk over the places of a span of departures shows, once it is sorted, are the rows of the span
-pub rows_are : (version from : ℕ) (to : Option ℕ) (states : List State) (places : List Place) (made sorted : List Connection) → AreSpans states places → IsStrictlySortedBy place_cmp places
+pub rows_are : (version from : ℕ) (to : Option ℕ) (states : List State) (places : List Place) (made sorted : List Connection) → AreSpans states places → AreApart place_cmp places
     → made ≡ filter_map (shown version states) (filter (is_between from to) places) → IsPermutation made sorted → IsSorted departure_cmp sorted → AreRows (held version states) from to sorted
-rows_are version from to states places made sorted spans up e moved by_departure =
+rows_are version from to states places made sorted spans once e moved by_departure =
     let p = λ (c : Connection). nat_le from c.dep && is_before to c.dep in
     let here = filter (is_between from to) places in
     let order = in_order version states places spans in
     let all = order.all in
     let departs : Depart states here = λ q c h at. departs_of states places spans.placed q c (IsKept-filter (is_between from to) places q h).stands at in
-    let apart = subst (AllPairs Untied) (sym e) (shown_apart version states here spans.forward spans.apart departs (AllPairs-filter Before (is_between from to) places (places_rise places up))) in
+    let apart = subst (AllPairs Untied) (sym e) (shown_apart version states here spans.forward spans.apart departs (AllPairs-filter Differ (is_between from to) places once)) in
     record {
       all = all;
       of_runs = record { live = order.live; are_runs = order.are_runs; are_connections = order.are_connections };
@@ -129,24 +126,42 @@ walk_more states version done new all p rest next is walked pushed =
     ∙ ap (λ (v : List ℕ). done ++ v) (sym (map-append dep (filter test (p ∷ [])) (filter test next)) ∙ ap (map dep) (sym (filter-append test (p ∷ []) next)))
     ∙ ap (λ (v : List Place). done ++ map dep (filter test v)) (sym is) ∙ walked
 
--- an earlier place departs no later
-place_departs_by : (p q : Place) → place_cmp p q ≡ Less → p.dep ≤ q.dep
-place_departs_by p q e = first_part (nat_cmp p.dep q.dep) refl e where
-  first_part : (o : Ordering) → nat_cmp p.dep q.dep ≡ o → ordering_then o (ordering_then (nat_cmp p.state q.state) (nat_cmp p.at q.at)) ≡ Less → p.dep ≤ q.dep
-  first_part Less f g = let h = ranked p.dep q.dep Less (sym f) in omega arith
-  first_part Equal f g = let h = ranked p.dep q.dep Equal (sym f) in omega arith
-  first_part Greater f g = absurd (cc)
+-- a walk over a list by its places takes the next item
+pub took_more : {X Y : Type 0} (f : List X → List Y) → ((xs ys : List X) → f (xs ++ ys) ≡ f xs ++ f ys) → (xs : List X) (k : ℕ) (x : X) (begun old new : List Y) → k < length xs → x ≡ get_or xs k x
+    → new ≡ old ++ f (x ∷ []) → old ≡ begun ++ f (take k xs) → new ≡ begun ++ f (take (k + 1) xs)
+took_more f parts xs k x begun old new inside is pushed done =
+    let one = take_more xs k x inside ∙ ap (λ v. take k xs ++ v ∷ []) (sym is) in
+    pushed ∙ ap (λ v. v ++ f (x ∷ [])) done ∙ append_assoc begun (f (take k xs)) (f (x ∷ [])) ∙ ap (λ v. begun ++ v) (sym (parts (take k xs) (x ∷ [])) ∙ ap f (sym one))
 
--- what a walk over all places shows depart in this order
-pub departures_are : (version : ℕ) (states : List State) (places : List Place) (made : List ℕ) → AreSpans states places → IsStrictlySortedBy place_cmp places
-    → made ≡ map (λ (p : Place). p.dep) (filter (is_shown version states) places) → AreDepartures (held version states) made
-departures_are version states places made spans up e =
-    let rise = places_rise places up in
+-- a walk over the one list and then over the other is one over both
+pub both_parts : {X Y : Type 0} (f : List X → List Y) → ((xs ys : List X) → f (xs ++ ys) ≡ f xs ++ f ys) → (first later now : List X) (begun made all : List Y) → first ++ later ≡ now → begun ≡ []
+    → made ≡ begun ++ f first → all ≡ made ++ f later → all ≡ f now
+both_parts f parts first later now begun made all both none one two =
+    two ∙ ap (λ v. v ++ f later) (one ∙ ap (λ v. v ++ f first) none) ∙ sym (parts first later) ∙ ap f both
+
+-- the departures of the places that show a connection
+abbrev pub departures_at : List State → ℕ → List Place → List ℕ
+departures_at states version places = map (λ (p : Place). p.dep) (filter (is_shown version states) places)
+
+pub departure_parts : (states : List State) (version : ℕ) (xs ys : List Place) → departures_at states version (xs ++ ys) ≡ departures_at states version xs ++ departures_at states version ys
+departure_parts states version xs ys =
+    ap (map (λ (p : Place). p.dep)) (filter-append (is_shown version states) xs ys) ∙ map-append (λ (p : Place). p.dep) (filter (is_shown version states) xs) (filter (is_shown version states) ys)
+
+-- a sorted list never falls
+never_falls : (list : List ℕ) → IsSorted nat_cmp list → AllPairs (λ (m n : ℕ). m ≤ n) list
+never_falls list up i j d before inside =
+    let far : is_lt (nat_cmp (get_or list j d) (get_or list i d)) ≡ false = sorted_far (λ x y. is_lt (nat_cmp x y)) (ranks_by nat_cmp_total (λ x. x)) list up i j d (omega arith) inside in
+    grind (far, arith, nat_tests)
+
+-- what a walk over all places shows, once it is sorted, are the departures in their order
+pub departures_are : (version : ℕ) (states : List State) (places : List Place) (walked made : List ℕ) → AreSpans states places → AreApart place_cmp places
+    → walked ≡ map (λ (p : Place). p.dep) (filter (is_shown version states) places) → IsPermutation walked made → IsSorted nat_cmp made → AreDepartures (held version states) made
+departures_are version states places walked made spans once e merged up =
     let order = in_order version states places spans in
     let all = order.all in
     let whole = filter_map (shown version states) places in
     let dep = λ (c : Connection). c.dep in
-    let apart = shown_apart version states places spans.forward spans.apart (departs_of states places spans.placed) rise in
+    let apart = shown_apart version states places spans.forward spans.apart (departs_of states places spans.placed) once in
     let sorted = in_strict_order departure_cmp departure_cmp_total whole apart in
     let moved : IsPermutation whole sorted.0 = sorted.1.0 in
     let same : sorted.0 ≡ all =
@@ -159,18 +174,14 @@ departures_are version states places made spans up e =
     let stands = spans.placed.there version has.place c has.shows has.departs in
     Contains-permutation whole sorted.0 c moved (Contains-filter_map (shown version states) places has.place c stands has.shows)) in
     let shuffled : IsPermutation whole all = subst (IsPermutation whole) same moved in
-    let falls : AllPairs (λ (m n : ℕ). m ≤ n) made =
-    subst (AllPairs (λ (m n : ℕ). m ≤ n)) (sym e)
-    (AllPairs-map (λ (m n : ℕ). m ≤ n) (λ (p : Place). p.dep) (filter (is_shown version states) places)
-    (AllPairs-filter (λ (p q : Place). p.dep ≤ q.dep) (is_shown version states) places
-    (AllPairs-weaker Before (λ (p q : Place). p.dep ≤ q.dep) places (λ p q in_p in_q less. place_departs_by p q less) rise))) in
     record {
       all = all;
       of_runs = record { live = order.live; are_runs = order.are_runs; are_connections = order.are_connections };
       one_each =
-          one_order made (departures_of all) falls
+          one_order made (departures_of all) (never_falls made up)
           (AllPairs-map (λ (m n : ℕ). m ≤ n) dep all (AllPairs-weaker (λ (c d : Connection). departure_cmp c d ≡ Less) (λ (c d : Connection). c.dep ≤ d.dep) all (λ c d in_c in_d less. departs_by c d less) order.are_connections.in_order))
           (λ k.
-          ap (count k) (e ∙ same_departures version states places (departs_of states places spans.placed))
+          sum_by-IsPermutation (is_it k) walked made merged
+          ∙ ap (count k) (e ∙ same_departures version states places (departs_of states places spans.placed))
           ∙ sym (sum_by-IsPermutation (is_it k) (departures_of whole) (departures_of all) (IsPermutation-map dep whole all shuffled)));
     }

@@ -60,4 +60,4 @@ pub record AreKept (newest : ℕ) (states : List State) (places : List Place) (f
 
 -- the fields are stored, with the newest version
 abbrev pub IsKept : Inside → Type 0
-IsKept index = AreKept index.newest index.spans.states.items index.spans.places.keys (get key_cmp index.spans.running)
+IsKept index = AreKept index.newest index.spans.states.items index.spans.places (get key_cmp index.spans.running)

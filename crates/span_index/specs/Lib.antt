@@ -2,6 +2,7 @@ pub mod Base
 pub mod Gathered
 pub mod Inside
 pub mod Laws
+pub mod PlaceSets
 pub mod Places
 pub mod Prepared
 pub mod Rows

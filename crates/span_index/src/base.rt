@@ -1,17 +1,16 @@
 ghost use Rattle.std.specs.Prelude.{◌≡◌, ℕ, IfOk, map};
 ghost use Rattle.lc_model.specs.Run.{InKeyOrder, RunsForward};
 ghost use Rattle.span_index.specs.Base.{AreKeysInOrder, AreNumbered, base_state};
-ghost use Rattle.span_index.specs.Gathered.{AreOfStates};
 ghost use Rattle.span_index.specs.Spans.{runs_at};
 
 use crate::Index;
 use crate::gather::{number, places_of};
-use crate::place::Place;
+use crate::place_set::PlaceSet;
 use crate::spans::Spans;
 use crate::state::State;
 use lc_model::{NoMemory, PlainData, Run, RunKey};
 use std::alloc::Global;
-use std::collections::{BTreeMap, BTreeSet};
+use std::collections::BTreeMap;
 
 /// The runs as states that hold from version 0 on.
 fn base_states(alloc: Global, runs: Vec<Run>) -> Result<Vec<State>, NoMemory>
@@ -45,15 +44,6 @@ fn numbers_by_key(
     Ok(numbers)
 }
 
-/// The places of the states in departure order.
-fn placed(alloc: Global, states: &[State]) -> Result<BTreeSet<Place>, NoMemory>
-    ensures { IfOk result (λ places. AreOfStates states.now places.keys) }
-{
-    let mut places = places_of(alloc, states)?;
-    places.sort_unstable();
-    Ok(places.into_iter().collect(alloc)?)
-}
-
 impl Index {
     /// The index of runs that hold in version 0, with no further version. It takes the time of a sort of their connections.
     pub fn new(alloc: Global, runs: Vec<Run>) -> Result<Index, NoMemory>
@@ -63,7 +53,7 @@ impl Index {
         ensures runs { IfOk result (λ index. (version : ℕ) → runs_at index version ≡ runs.items) }
     {
         let states = base_states(alloc, runs)?;
-        let places = placed(alloc, states.as_slice())?;
+        let places = PlaceSet::new(alloc, places_of(alloc, states.as_slice())?);
         let running = numbers_by_key(alloc, states.as_slice())?;
         let spans = Spans {
             states,

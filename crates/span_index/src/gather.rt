@@ -1,6 +1,8 @@
-ghost use Rattle.std.specs.Prelude.{◌≡◌, ℕ, ◌↔◌, ◌⊎◌, IfOk, OnOk};
+ghost use Rattle.std.specs.Prelude.{◌≡◌, ◌<◌, ℕ, ◌↔◌, ◌⊎◌, All, IfOk, OnOk};
 ghost use Rattle.std.specs.List.{Contains};
+ghost use Rattle.lc_model.specs.Order.{AreApart};
 ghost use Rattle.span_index.specs.Gathered.{AreOfStates, IsOf};
+ghost use Rattle.span_index.specs.Places.{place_cmp};
 ghost use Rattle.span_index.specs.declared.place.Place.{Place as Stood};
 
 use crate::place::Place;
@@ -17,7 +19,8 @@ pub(crate) fn number(place: usize) -> Result<u32, NoMemory>
 
 /// Adds the places of a state that has this number: one for each call that another one follows.
 pub(crate) fn push_places(places: &mut Vec<Place>, state: &State, of: u32) -> Result<(), NoMemory>
-    ensures { OnOk result ((p : Stood) → Contains places.new.items p ↔ (Contains places.old.items p ⊎ IsOf of state.now p)) }
+    ensures has { OnOk result ((p : Stood) → Contains places.new.items p ↔ (Contains places.old.items p ⊎ IsOf of state.now p)) }
+    ensures apart { OnOk result (All (λ (p : Stood). p.state < of) places.old.items → AreApart place_cmp places.old.items → AreApart place_cmp places.new.items) }
 {
     let calls = state.calls.as_slice();
     for next in 1..calls.len() {
@@ -28,9 +31,10 @@ pub(crate) fn push_places(places: &mut Vec<Place>, state: &State, of: u32) -> Re
     Ok(())
 }
 
-/// The places of the states.
+/// The places of the states, each once.
 pub(crate) fn places_of(alloc: Global, states: &[State]) -> Result<Vec<Place>, NoMemory>
-    ensures { IfOk result (λ places. AreOfStates states.now places.items) }
+    ensures has { IfOk result (λ places. AreOfStates states.now places.items) }
+    ensures apart { IfOk result (λ places. AreApart place_cmp places.items) }
 {
     let mut places = Vec::new(alloc);
     for (at, state) in states.iter().enumerate() {

@@ -7,6 +7,7 @@ mod gather;
 mod index;
 mod laws;
 mod place;
+mod place_set;
 mod prepare;
 mod rows;
 mod spans;

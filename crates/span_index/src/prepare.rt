@@ -11,11 +11,12 @@ ghost use Rattle.span_index.specs.declared.place.Place.{Place as Stood};
 
 use crate::gather::{number, push_places};
 use crate::place::Place;
+use crate::place_set::PlaceSet;
 use crate::spans::Spans;
 use crate::state::State;
 use lc_model::{NoMemory, PlainData, Run, RunKey};
 use std::alloc::Global;
-use std::collections::{BTreeMap, BTreeSet};
+use std::collections::BTreeMap;
 
 /// A run that is to begin in the next version: its key, and the number of its state.
 #[derive(Drop)]
@@ -47,10 +48,10 @@ fn places_of_one(alloc: Global, state: &State, of: u32) -> Result<Vec<Place>, No
 }
 
 /// Puts places beside those that are there. After a refusal some of them may be there.
-fn put_places(places: &mut BTreeSet<Place>, more: Vec<Place>) -> Result<(), NoMemory>
-    ensures kept { (p : Stood) → Contains places.old.keys p → Contains places.new.keys p }
-    ensures only { (p : Stood) → Contains places.new.keys p → Contains places.old.keys p ⊎ Contains more.items p }
-    ensures all { OnOk result ((p : Stood) → Contains more.items p → Contains places.new.keys p) }
+fn put_places(places: &mut PlaceSet, more: Vec<Place>) -> Result<(), NoMemory>
+    ensures kept { (p : Stood) → Contains places.old p → Contains places.new p }
+    ensures only { (p : Stood) → Contains places.new p → Contains places.old p ⊎ Contains more.items p }
+    ensures all { OnOk result ((p : Stood) → Contains more.items p → Contains places.new p) }
 {
     for place in more {
         places.insert(place)?;
@@ -78,13 +79,13 @@ fn put_key(
 fn put_state(
     alloc: Global,
     states: &mut Vec<State>,
-    places: &mut BTreeSet<Place>,
+    places: &mut PlaceSet,
     run: Run,
     number: u32,
 ) -> Result<(), NoMemory>
-    ensures puts { PutsState number run states.old.items places.old.keys states.new.items places.new.keys }
+    ensures puts { PutsState number run states.old.items places.old states.new.items places.new }
     ensures pushed { OnOk result (states.new.items ≡ states.old.items ++ closed_state run ∷ []) }
-    ensures has { OnOk result (HasPlaces number (closed_state run) places.new.keys) }
+    ensures has { OnOk result (HasPlaces number (closed_state run) places.new) }
 {
     let state = closed(run);
     let more = places_of_one(alloc, &state, number)?;
@@ -96,9 +97,9 @@ fn put_state(
 fn put_run(alloc: Global, spans: &mut Spans, run: Run, number: u32) -> Result<(), NoMemory>
     requires at { number ≡ length spans.old.states.items }
     requires forward { GoesForward run.calls }
-    ensures carries { Carries spans.old.states.items spans.old.places.keys (get key_cmp spans.old.running)
-        spans.new.states.items spans.new.places.keys (get key_cmp spans.new.running) }
-    ensures ready { OnOk result (IsReady spans.new.states.items spans.new.places.keys (get key_cmp spans.new.running) (record { key = run.key; number = number }) run) }
+    ensures carries { Carries spans.old.states.items spans.old.places (get key_cmp spans.old.running)
+        spans.new.states.items spans.new.places (get key_cmp spans.new.running) }
+    ensures ready { OnOk result (IsReady spans.new.states.items spans.new.places (get key_cmp spans.new.running) (record { key = run.key; number = number }) run) }
 {
     put_key(alloc, &mut spans.running, &run.key)?;
     put_state(alloc, &mut spans.states, &mut spans.places, run, number)
@@ -107,9 +108,9 @@ fn put_run(alloc: Global, spans: &mut Spans, run: Run, number: u32) -> Result<()
 /// Adds a run that is to begin in the next version. After a refusal there may be a part of it.
 fn prepare(alloc: Global, spans: &mut Spans, run: Run) -> Result<Ready, NoMemory>
     requires { GoesForward run.calls }
-    ensures carries { Carries spans.old.states.items spans.old.places.keys (get key_cmp spans.old.running)
-        spans.new.states.items spans.new.places.keys (get key_cmp spans.new.running) }
-    ensures ready { IfOk result (λ ready. IsReady spans.new.states.items spans.new.places.keys (get key_cmp spans.new.running) ready run) }
+    ensures carries { Carries spans.old.states.items spans.old.places (get key_cmp spans.old.running)
+        spans.new.states.items spans.new.places (get key_cmp spans.new.running) }
+    ensures ready { IfOk result (λ ready. IsReady spans.new.states.items spans.new.places (get key_cmp spans.new.running) ready run) }
 {
     let number = number(spans.states.len())?;
     let key = run.key.copy(alloc)?;
@@ -124,9 +125,9 @@ pub(crate) fn prepare_all(
     runs: Vec<Run>,
 ) -> Result<Vec<Ready>, NoMemory>
     requires { RunsForward runs.items }
-    ensures carries { Carries spans.old.states.items spans.old.places.keys (get key_cmp spans.old.running)
-        spans.new.states.items spans.new.places.keys (get key_cmp spans.new.running) }
-    ensures ready { IfOk result (λ list. AllZip (IsReady spans.new.states.items spans.new.places.keys (get key_cmp spans.new.running)) list.items runs.items) }
+    ensures carries { Carries spans.old.states.items spans.old.places (get key_cmp spans.old.running)
+        spans.new.states.items spans.new.places (get key_cmp spans.new.running) }
+    ensures ready { IfOk result (λ list. AllZip (IsReady spans.new.states.items spans.new.places (get key_cmp spans.new.running)) list.items runs.items) }
 {
     let mut list = Vec::with_capacity(alloc, runs.len())?;
     for run in runs {

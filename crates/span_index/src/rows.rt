@@ -1,6 +1,6 @@
 ghost use Rattle.std.specs.Prelude.{◌≡◌, ◌∷◌, ◌++◌, [], IfOk, OnOk, filter, filter_map, is_some, map};
-ghost use Rattle.std.specs.BTreeSet.{IsOrdered};
 ghost use Rattle.lc_model.specs.Connection.{NoneArrivesEarly};
+ghost use Rattle.lc_model.specs.Order.{AreApart};
 ghost use Rattle.span_index.specs.Inside.{AreSpans};
 ghost use Rattle.span_index.specs.Places.{connection_of, is_between, is_shown, place_cmp, shown, shown_of};
 ghost use Rattle.span_index.specs.Rows.{AreDepartures, AreRows};
@@ -9,6 +9,7 @@ ghost use Rattle.span_index.specs.declared.place.Place.{Place as Stood};
 
 use crate::Index;
 use crate::place::Place;
+use crate::place_set::{PlaceSet, between};
 use crate::state::State;
 use lc_model::{Connection, Connections, Moment, NoMemory, Ranked};
 use std::alloc::Global;
@@ -77,27 +78,63 @@ fn push_shown(
     Ok(())
 }
 
-/// The connections of the runs that hold in a version, in the order of their places. They depart from a moment on, and before the other
-/// one where there is one. Takes the time of a walk over the places of these departures, of all versions.
-fn all_between(
+/// Adds the connections at these places of the runs that hold in the version.
+fn push_first(
     alloc: Global,
+    list: &mut Vec<Connection>,
     states: &[State],
-    places: &BTreeSet<Place>,
     version: u32,
+    places: &[Place],
+) -> Result<(), NoMemory>
+    ensures { OnOk result (list.new.items ≡ list.old.items ++ filter_map (shown version states.now) places.now) }
+{
+    for place in places {
+        push_shown(alloc, list, states, version, *place)?;
+    }
+    Ok(())
+}
+
+/// Adds those of them that depart from a moment on, and before the other one where there is one.
+fn push_later(
+    alloc: Global,
+    list: &mut Vec<Connection>,
+    states: &[State],
+    version: u32,
+    places: &BTreeSet<Place>,
     from: Moment,
     to: Option<Moment>,
-) -> Result<Vec<Connection>, NoMemory>
-    ensures shown { IfOk result (λ list. list.items ≡ filter_map (shown version states.now) (filter (is_between from to) places.now.keys)) }
-    ensures ordered { IsOrdered place_cmp places.now }
+) -> Result<(), NoMemory>
+    ensures { OnOk result (list.new.items ≡ list.old.items ++ filter_map (shown version states.now) (filter (is_between from to) places.now.keys)) }
 {
-    let mut list = Vec::new(alloc);
     let span = (
         Bound::Included(Place::first_at(from)),
         Place::end_of(from, to),
     );
     for place in places.range(span) {
-        push_shown(alloc, &mut list, states, version, *place)?;
+        push_shown(alloc, list, states, version, *place)?;
     }
+    Ok(())
+}
+
+/// The connections of the runs that hold in a version: those at the places from the start, and then the others, each in departure
+/// order. They depart from a moment on, and before the other one where there is one. Takes the time of a walk over the places of
+/// these departures, of all versions.
+fn all_between(
+    alloc: Global,
+    states: &[State],
+    places: &PlaceSet,
+    version: u32,
+    from: Moment,
+    to: Option<Moment>,
+) -> Result<Vec<Connection>, NoMemory>
+    ensures shown { IfOk result (λ list. list.items ≡ filter_map (shown version states.now) (filter (is_between from to) places.now)) }
+    ensures apart { OnOk result (AreApart place_cmp places.now) }
+{
+    let mut list = Vec::new(alloc);
+    let (later, end) = (&places.later, to);
+    let first = between(places.first.as_slice(), from, to);
+    push_first(alloc, &mut list, states, version, first)?;
+    push_later(alloc, &mut list, states, version, later, from, end)?;
     Ok(list)
 }
 
@@ -105,18 +142,18 @@ fn all_between(
 fn sorted_between(
     alloc: Global,
     states: &[State],
-    places: &BTreeSet<Place>,
+    places: &PlaceSet,
     version: u32,
     from: Moment,
     to: Option<Moment>,
 ) -> Result<Vec<Connection>, NoMemory>
-    requires { AreSpans states.now places.now.keys }
+    requires { AreSpans states.now places.now }
     ensures are { IfOk result (λ list. AreRows (held version states.now) from to list.items) }
     ensures forward { IfOk result (λ list. NoneArrivesEarly list.items) }
 {
     let mut list = all_between(alloc, states, places, version, from, to)?;
-    // The places of runs that were there from the start are in this order, and a sort finds that out in one walk.
-    list.sort_unstable_by(|a, b| a.compare(b));
+    // Of runs that were there from the start they are in this order already. The sort finds that out in one walk, and puts the others in between.
+    list.sort_by(|a, b| a.compare(b))?;
     Ok(list)
 }
 
@@ -162,27 +199,57 @@ fn push_departure(
     Ok(())
 }
 
-/// The departures of the runs that hold in a version, in the order of their places. Takes the time of a walk over all places.
+/// Adds the departures at these places of the runs that hold in the version.
+fn push_first_departures(
+    departures: &mut Vec<Moment>,
+    states: &[State],
+    version: u32,
+    places: &[Place],
+) -> Result<(), NoMemory>
+    ensures { OnOk result (departures.new.items ≡ departures.old.items ++ map (λ (p : Stood). p.dep) (filter (is_shown version states.now) places.now)) }
+{
+    for place in places {
+        push_departure(departures, states, version, *place)?;
+    }
+    Ok(())
+}
+
+/// Adds those at the places of a set.
+fn push_later_departures(
+    departures: &mut Vec<Moment>,
+    states: &[State],
+    version: u32,
+    places: &BTreeSet<Place>,
+) -> Result<(), NoMemory>
+    ensures { OnOk result (departures.new.items ≡ departures.old.items ++ map (λ (p : Stood). p.dep) (filter (is_shown version states.now) places.now.keys)) }
+{
+    for place in places {
+        push_departure(departures, states, version, *place)?;
+    }
+    Ok(())
+}
+
+/// The departures of the runs that hold in a version, in their order. Takes the time of a walk over all places.
 fn all_departures(
     alloc: Global,
     states: &[State],
-    places: &BTreeSet<Place>,
+    places: &PlaceSet,
     version: u32,
 ) -> Result<Vec<Moment>, NoMemory>
-    requires { AreSpans states.now places.now.keys }
+    requires { AreSpans states.now places.now }
     ensures { IfOk result (λ departures. AreDepartures (held version states.now) departures.items) }
 {
-    let mut departures = Vec::new(alloc);
-    for place in places {
-        push_departure(&mut departures, states, version, *place)?;
-    }
+    let mut departures = Vec::with_capacity(alloc, places.first.len())?;
+    push_first_departures(&mut departures, states, version, places.first.as_slice())?;
+    push_later_departures(&mut departures, states, version, &places.later)?;
+    // Each of the two is in order, and the sort merges them.
+    departures.sort()?;
     Ok(departures)
 }
 
 impl Index {
     /// The connections of a version that depart from a moment on, and before the other one where there is one, in departure order. It
-    /// takes the time of a walk over the places of these departures, of all versions, and of a sort of the connections. The sort is one
-    /// walk where runs were neither added nor changed.
+    /// takes the time of a walk over the places of these departures, of all versions. Those of the start and the later ones are merged.
     pub fn rows(
         &self,
         alloc: Global,

@@ -87,9 +87,9 @@ fn put_number(running: &mut BTreeMap<RunKey, Option<u32>>, key: RunKey, number: 
 
 /// Ends the run of a key in the version that is being made, if there is one.
 fn end_run(spans: &mut Spans, key: RunKey, next: u32)
-    requires { AreKept next spans.old.states.items spans.old.places.keys (get key_cmp spans.old.running) }
-    ensures { EndsRun next key spans.old.states.items spans.old.places.keys (get key_cmp spans.old.running)
-        spans.new.states.items spans.new.places.keys (get key_cmp spans.new.running) }
+    requires { AreKept next spans.old.states.items spans.old.places (get key_cmp spans.old.running) }
+    ensures { EndsRun next key spans.old.states.items spans.old.places (get key_cmp spans.old.running)
+        spans.new.states.items spans.new.places (get key_cmp spans.new.running) }
 {
     end_state(&mut spans.states, &spans.running, &key, next);
     put_number(&mut spans.running, key, None);
@@ -97,10 +97,10 @@ fn end_run(spans: &mut Spans, key: RunKey, next: u32)
 
 /// Begins a run in the version that is being made, in the place of the one of its key.
 fn begin_run(spans: &mut Spans, ready: Ready, next: u32)
-    ensures { (run : StatedRun) → AreKept next spans.old.states.items spans.old.places.keys (get key_cmp spans.old.running)
-        → IsReady spans.old.states.items spans.old.places.keys (get key_cmp spans.old.running) ready run
-        → BeginsRun next run spans.old.states.items spans.old.places.keys (get key_cmp spans.old.running)
-        spans.new.states.items spans.new.places.keys (get key_cmp spans.new.running) }
+    ensures { (run : StatedRun) → AreKept next spans.old.states.items spans.old.places (get key_cmp spans.old.running)
+        → IsReady spans.old.states.items spans.old.places (get key_cmp spans.old.running) ready run
+        → BeginsRun next run spans.old.states.items spans.old.places (get key_cmp spans.old.running)
+        spans.new.states.items spans.new.places (get key_cmp spans.new.running) }
 {
     let Ready { key, number } = ready;
     end_state(&mut spans.states, &spans.running, &key, next);
@@ -110,9 +110,9 @@ fn begin_run(spans: &mut Spans, ready: Ready, next: u32)
 
 /// Ends the runs of these keys.
 pub(crate) fn end_all(spans: &mut Spans, keys: Vec<RunKey>, next: u32)
-    requires { AreKept next spans.old.states.items spans.old.places.keys (get key_cmp spans.old.running) }
-    ensures { EndsAll next keys.items spans.old.states.items spans.old.places.keys (get key_cmp spans.old.running)
-        spans.new.states.items spans.new.places.keys (get key_cmp spans.new.running) }
+    requires { AreKept next spans.old.states.items spans.old.places (get key_cmp spans.old.running) }
+    ensures { EndsAll next keys.items spans.old.states.items spans.old.places (get key_cmp spans.old.running)
+        spans.new.states.items spans.new.places (get key_cmp spans.new.running) }
 {
     for key in keys {
         end_run(spans, key, next);
@@ -122,9 +122,9 @@ pub(crate) fn end_all(spans: &mut Spans, keys: Vec<RunKey>, next: u32)
 /// Begins these runs.
 pub(crate) fn begin_all(spans: &mut Spans, list: Vec<Ready>, next: u32)
     ensures { (runs : List StatedRun) → InKeyOrder runs
-        → AreKept next spans.old.states.items spans.old.places.keys (get key_cmp spans.old.running)
-        → AllZip (IsReady spans.old.states.items spans.old.places.keys (get key_cmp spans.old.running)) list.items runs
-        → BeginsAll next runs spans.old.states.items spans.new.states.items spans.new.places.keys (get key_cmp spans.new.running) }
+        → AreKept next spans.old.states.items spans.old.places (get key_cmp spans.old.running)
+        → AllZip (IsReady spans.old.states.items spans.old.places (get key_cmp spans.old.running)) list.items runs
+        → BeginsAll next runs spans.old.states.items spans.new.states.items spans.new.places (get key_cmp spans.new.running) }
 {
     for ready in list {
         begin_run(spans, ready, next);

@@ -1,5 +1,12 @@
+use Rattle.std.specs.Prelude.{◌<◌, All}
+use Rattle.lc_model.specs.Order.{AreApart}
+use Rattle.span_index.specs.Places.{place_cmp}
+use Rattle.span_index.specs.declared.place.Place.{Place}
 use Rattle.span_index.proofs.GatherLemmas.{HasUpTo}
 use Rattle.span_index.proofs.gather.push_places.Given as goal
 
 abbrev pub invariant-loop-next : goal.invariant-loop-next
-invariant-loop-next l = HasUpTo l.of l.state l.next l.initial.places.items l.places.items
+invariant-loop-next l = record {
+  has : HasUpTo l.of l.state l.next l.initial.places.items l.places.items;
+  apart : All (λ (p : Place). p.state < l.of) l.initial.places.items → AreApart place_cmp l.initial.places.items → AreApart place_cmp l.places.items;
+}

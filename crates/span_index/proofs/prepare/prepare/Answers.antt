@@ -10,12 +10,12 @@ pub put_run-requires-clause-at : goal.put_run-requires-clause-at
 put_run-requires-clause-at c = c.in_ok-number.ensures ∙ c.len.ensures ∙ c.args.spans.now.states.ok.0
 
 pub returns-in_err-number-clause-carries : goal.returns-in_err-number-clause-carries
-returns-in_err-number-clause-carries c = let s = c.args.spans.now in carries_nothing s.states.items s.places.keys (get key_cmp s.running)
+returns-in_err-number-clause-carries c = let s = c.args.spans.now in carries_nothing s.states.items s.places (get key_cmp s.running)
 
 pub returns-in_err-key-clause-carries : goal.returns-in_err-key-clause-carries
-returns-in_err-key-clause-carries c = let s = c.args.spans.now in carries_nothing s.states.items s.places.keys (get key_cmp s.running)
+returns-in_err-key-clause-carries c = let s = c.args.spans.now in carries_nothing s.states.items s.places (get key_cmp s.running)
 
 pub returns-clause-ready : goal.returns-clause-ready
 returns-clause-ready c =
     let s = c.put_run.new.spans in
-    subst (λ (k : RunKey). IsReady s.states.items s.places.keys (get key_cmp s.running) (record { key = k; number = c.in_ok-number.number }) c.args.run) (sym c.in_ok-key.ensures) c.in_ok-put_run.ensures.ready
+    subst (λ (k : RunKey). IsReady s.states.items s.places (get key_cmp s.running) (record { key = k; number = c.in_ok-number.number }) c.args.run) (sym c.in_ok-key.ensures) c.in_ok-put_run.ensures.ready

@@ -17,8 +17,8 @@ loop-run-init c =
     let spans = c.args.spans.now in
     let here = c.into_iter-run-iterator.ensures.into_iter_gives.0 in
     record {
-      carries = carries_nothing spans.states.items spans.places.keys (get key_cmp spans.running);
-      ready = subst (λ (v : List Ready). AllZip (IsReady spans.states.items spans.places.keys (get key_cmp spans.running)) v []) (sym c.in_ok-list.ensures.items) (search rules);
+      carries = carries_nothing spans.states.items spans.places (get key_cmp spans.running);
+      ready = subst (λ (v : List Ready). AllZip (IsReady spans.states.items spans.places (get key_cmp spans.running)) v []) (sym c.in_ok-list.ensures.items) (search rules);
       rest = here;
       forward = subst RunsForward (sym here) c.requires;
     }
@@ -33,7 +33,7 @@ returns-in_err-prepare-clause-carries c =
     let old = c.args.spans.now in
     let now = c.loop-run.spans in
     let new = c.prepare.new.spans in
-    carries_then old.states.items now.states.items new.states.items old.places.keys now.places.keys new.places.keys (get key_cmp old.running) (get key_cmp now.running) (get key_cmp new.running)
+    carries_then old.states.items now.states.items new.states.items old.places now.places new.places (get key_cmp old.running) (get key_cmp now.running) (get key_cmp new.running)
     c.loop-run.invariant.carries c.prepare.ensures.carries
 
 pub returns-in_err-push-clause-carries : goal.returns-in_err-push-clause-carries
@@ -41,7 +41,7 @@ returns-in_err-push-clause-carries c =
     let old = c.args.spans.now in
     let now = c.loop-run.spans in
     let new = c.prepare.new.spans in
-    carries_then old.states.items now.states.items new.states.items old.places.keys now.places.keys new.places.keys (get key_cmp old.running) (get key_cmp now.running) (get key_cmp new.running)
+    carries_then old.states.items now.states.items new.states.items old.places now.places new.places (get key_cmp old.running) (get key_cmp now.running) (get key_cmp new.running)
     c.loop-run.invariant.carries c.prepare.ensures.carries
 
 pub loop-run-preserved : goal.loop-run-preserved
@@ -54,11 +54,11 @@ loop-run-preserved c =
     let list = c.loop-run.list.items in
     record {
       carries =
-          carries_then old.states.items now.states.items new.states.items old.places.keys now.places.keys new.places.keys (get key_cmp old.running) (get key_cmp now.running) (get key_cmp new.running)
+          carries_then old.states.items now.states.items new.states.items old.places now.places new.places (get key_cmp old.running) (get key_cmp now.running) (get key_cmp new.running)
           inv.carries c.prepare.ensures.carries;
       ready =
-          ready_push new.states.items new.places.keys (get key_cmp new.running) list c.push.new.self.items c.loop-run.yielded c.in_ok-prepare.field-0 c.in-Some.run' c.in_ok-push.ensures.items
-          (ready_still now.states.items new.states.items now.places.keys new.places.keys (get key_cmp now.running) (get key_cmp new.running) c.prepare.ensures.carries list c.loop-run.yielded inv.ready)
+          ready_push new.states.items new.places (get key_cmp new.running) list c.push.new.self.items c.loop-run.yielded c.in_ok-prepare.field-0 c.in-Some.run' c.in_ok-push.ensures.items
+          (ready_still now.states.items new.states.items now.places new.places (get key_cmp now.running) (get key_cmp new.running) c.prepare.ensures.carries list c.loop-run.yielded inv.ready)
           c.in_ok-prepare.ensures.ready;
       rest = one_more c.loop-run.yielded _ _ _ c.in-Some.run' is inv.rest;
       forward = All-rest (λ (r : Run). GoesForward r.calls) c.in-Some.run' (into_iter_items c.next.new.self) _ is inv.forward;
@@ -69,4 +69,4 @@ returns-clause-ready c =
     let spans = c.loop-run.spans in
     let it = c.loop-run.run-iterator in
     let done = nothing_left (into_iter_items it) (into_iter_len it) it.rest.ok.0 c.in-None.ensures.steps.0 in
-    subst (λ (v : List Run). AllZip (IsReady spans.states.items spans.places.keys (get key_cmp spans.running)) c.loop-run.list.items v) (no_more c.loop-run.yielded _ c.args.runs.items done c.loop-run.invariant.rest) c.loop-run.invariant.ready
+    subst (λ (v : List Run). AllZip (IsReady spans.states.items spans.places (get key_cmp spans.running)) c.loop-run.list.items v) (no_more c.loop-run.yielded _ c.args.runs.items done c.loop-run.invariant.rest) c.loop-run.invariant.ready

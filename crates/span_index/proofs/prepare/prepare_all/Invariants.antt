@@ -9,8 +9,8 @@ use Rattle.span_index.proofs.prepare.prepare_all.Given as goal
 
 abbrev pub invariant-loop-run : goal.invariant-loop-run
 invariant-loop-run l = record {
-  carries : Carries l.initial.spans.states.items l.initial.spans.places.keys (get key_cmp l.initial.spans.running) l.spans.states.items l.spans.places.keys (get key_cmp l.spans.running);
-  ready : AllZip (IsReady l.spans.states.items l.spans.places.keys (get key_cmp l.spans.running)) l.list.items l.yielded;
+  carries : Carries l.initial.spans.states.items l.initial.spans.places (get key_cmp l.initial.spans.running) l.spans.states.items l.spans.places (get key_cmp l.spans.running);
+  ready : AllZip (IsReady l.spans.states.items l.spans.places (get key_cmp l.spans.running)) l.list.items l.yielded;
   rest : l.yielded ++ into_iter_items l.run-iterator ≡ l.fn.runs.items;
   forward : RunsForward (into_iter_items l.run-iterator);
 }

@@ -3,4 +3,4 @@ use Rattle.span_index.proofs.PrepareLemmas.{PutsSome}
 use Rattle.span_index.proofs.prepare.put_places.Given as goal
 
 abbrev pub invariant-loop-place : goal.invariant-loop-place
-invariant-loop-place l = PutsSome l.initial.places.keys l.places.keys l.fn.more.items (into_iter_items l.place-iterator)
+invariant-loop-place l = PutsSome l.initial.places l.places l.fn.more.items (into_iter_items l.place-iterator)

@@ -12,7 +12,7 @@ returns-clause-puts c =
       pushed = inr (c.in_ok-push.ensures.items ∙ ap (λ (s : State). c.args.states.now.items ++ s ∷ []) c.closed-state.ensures);
       stay = c.put_places.ensures.kept;
       only = λ p h.
-          ⊎_elim (λ (o : Contains c.args.places.now.keys p). inl o)
+          ⊎_elim (λ (o : Contains c.args.places.now p). inl o)
           (λ (m : Contains more p). inr (subst (λ (s : State). IsOf c.args.number s p) c.closed-state.ensures ((c.in_ok-more.ensures p).0 m))) (c.put_places.ensures.only p h);
     }
 

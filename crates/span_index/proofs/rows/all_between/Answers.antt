@@ -1,24 +1,25 @@
-use Rattle.std.proofs.Common.{List, ◌++◌, ap, filter, ◌∙◌}
-use Rattle.std.specs.List.{filter_map}
-use Rattle.std.specs.BTreeMap.Range.{range_contains}
-use Rattle.std.specs.declared.ops.Bound.{Bound}
-use Rattle.std.specs.declared.ops.Bound.TheVariants.{Included}
-use Rattle.std.proofs.lemmas.List.Elements.{filter_agree}
-use Rattle.lc_model.specs.declared.connection.Connection.{Connection}
-use Rattle.span_index.specs.Places.{end_of, first_at, is_between, place_cmp, shown}
+use Rattle.std.proofs.Common.{List, ap, subst, sym, ◌≡◌, ◌++◌, ◌∙◌}
+use Rattle.std.specs.List.{filter, filter_map}
+use Rattle.std.proofs.lemmas.List.Elements.{filter-append, filter_map-append}
+use Rattle.lc_model.specs.Order.{AreApart, IsStrict}
+use Rattle.span_index.specs.Places.{is_between, place_cmp, shown}
 use Rattle.span_index.specs.declared.place.Place.{Place}
-use Rattle.span_index.proofs.PlaceLemmas.{in_span}
+use Rattle.span_index.proofs.PlaceSetLemmas.{once}
+use Rattle.span_index.proofs.RowsLemmas.{both_parts}
 use Rattle.span_index.proofs.rows.all_between.Goals as goal
 
-pub loop-place-init : goal.loop-place-init
-loop-place-init c =
-    let keys = c.args.places.now.keys in
-    let from = c.args.from in
-    let to = c.args.to in
-    let between = c.range-place-items.ensures.between tt in
-    let first = ap (λ (p : Place). filter (range_contains place_cmp (Included p) c.end_of.result) keys) c.first_at.ensures in
-    let last = ap (λ (b : Bound Place). filter (range_contains place_cmp (Included (first_at from)) b) keys) c.end_of.ensures in
-    let within = filter_agree (range_contains place_cmp (Included (first_at from)) (end_of from to)) (is_between from to) (in_span from to) keys in
-    let show = filter_map (shown c.args.version c.args.states.now) in
-    ap (λ (v : List Connection). v ++ show c.into_iter-place-iterator.result) c.new-list.ensures.items
-    ∙ ap show (c.into_iter-place-iterator.ensures.into_iter_gives ∙ between ∙ first ∙ last ∙ within)
+pub between-first-requires : goal.between-first-requires
+between-first-requires c = subst (IsStrict place_cmp) (sym c.as_slice.ensures.value) c.places.invariant.first
+
+pub returns-clause-shown : goal.returns-clause-shown
+returns-clause-shown c =
+    let show = shown c.args.version c.args.states.now in
+    let within = filter (is_between c.args.from c.args.to) in
+    let set = c.places.inside in
+    let first = c.between-first.ensures ∙ ap within c.as_slice.ensures.value in
+    let view = sym (filter-append (is_between c.args.from c.args.to) set.first.items set.later.keys) ∙ ap within c.places.view_is in
+    both_parts (filter_map show) (filter_map-append show) (within set.first.items) (within set.later.keys) (within c.args.places.now) c.new-list.result.items c.push_first.new.list.items
+    c.push_later.new.list.items view c.new-list.ensures.items (c.in_ok-push_first.ensures ∙ ap (λ (v : List Place). c.new-list.result.items ++ filter_map show v) first) c.in_ok-push_later.ensures
+
+pub returns-clause-apart : goal.returns-clause-apart
+returns-clause-apart c = subst (AreApart place_cmp) c.places.view_is (once c.places.inside c.places.invariant)

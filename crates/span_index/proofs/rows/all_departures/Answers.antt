@@ -1,20 +1,20 @@
-use Rattle.std.proofs.Common.{◌++◌, ◌∙◌, List, ap, filter, map, sym}
-use Rattle.std.specs.Map.Iter.{deref}
-use Rattle.std.proofs.lemmas.List.{append-nil}
-use Rattle.std.proofs.lemmas.Map.Iter.{rest_all, rest_more}
-use Rattle.span_index.specs.Places.{is_shown}
+use Rattle.std.proofs.Common.{List, ap, subst, ◌++◌, ◌∙◌}
+use Rattle.lc_model.specs.Order.{AreApart}
+use Rattle.span_index.specs.Places.{place_cmp}
 use Rattle.span_index.specs.declared.place.Place.{Place}
-use Rattle.span_index.proofs.RowsLemmas.{departures_are, walk_more}
+use Rattle.span_index.proofs.PlaceSetLemmas.{once}
+use Rattle.span_index.proofs.RowsLemmas.{both_parts, departure_parts, departures_are, departures_at}
 use Rattle.span_index.proofs.rows.all_departures.Goals as goal
-
-pub loop-place-preserved : goal.loop-place-preserved
-loop-place-preserved c =
-    walk_more c.args.states.now c.args.version c.loop-place.departures.items c.push_departure.new.departures.items _ c.in-Some.place.now _ _
-    (rest_more (deref {X = Place}) _ _ _ c.in-Some.place c.in-Some.is c.next.ensures.steps) c.loop-place.invariant c.in_ok-push_departure.ensures
 
 pub returns : goal.returns
 returns c =
-    let done = rest_all (deref {X = Place}) _ _ _ c.in-None.is c.next.ensures.steps in
-    let departures = c.loop-place.departures.items in
-    let made = sym (append-nil departures) ∙ ap (λ (v : List Place). departures ++ map (λ (p : Place). p.dep) (filter (is_shown c.args.version c.args.states.now) v)) (sym done) ∙ c.loop-place.invariant in
-    departures_are c.args.version c.args.states.now c.args.places.now.keys departures c.requires c.into_iter-place-iterator.ensures.into_iter_gives.4 made
+    let states = c.args.states.now in
+    let leaving = departures_at states c.args.version in
+    let set = c.places.inside in
+    let walked = c.push_later_departures.new.departures.items in
+    let walk =
+    both_parts leaving (departure_parts states c.args.version) set.first.items set.later.keys c.args.places.now c.in_ok-departures.departures.items c.push_first_departures.new.departures.items walked
+    c.places.view_is c.in_ok-departures.ensures.items
+    (c.in_ok-push_first_departures.ensures ∙ ap (λ (v : List Place). c.in_ok-departures.departures.items ++ leaving v) c.as_slice.ensures.value) c.in_ok-push_later_departures.ensures in
+    departures_are c.args.version states c.args.places.now walked c.sort.new.self.items c.requires (subst (AreApart place_cmp) c.places.view_is (once set c.places.invariant)) walk c.in_ok-sort.ensures.permutation
+    c.in_ok-sort.ensures.sorted

@@ -7,11 +7,11 @@ use Rattle.span_index.proofs.rows.sorted_between.Goals as goal
 
 pub returns-clause-are : goal.returns-clause-are
 returns-clause-are c =
-    let by_departure = IsSorted-from_closure departure_cmp departure_cmp_total c.sort_unstable_by.new.self.items c.sort_unstable_by.ensures.sorted (λ f a r f' k. search rules) in
-    rows_are c.args.version c.args.from c.args.to c.args.states.now c.args.places.now.keys c.in_ok-list.list.items c.sort_unstable_by.new.self.items c.requires c.in_ok-list.ensures.ordered
-    c.in_ok-list.ensures.shown c.sort_unstable_by.ensures.permutation by_departure
+    let by_departure = IsSorted-from_closure departure_cmp departure_cmp_total c.sort_by.new.self.items c.in_ok-sort_by.ensures.sorted (λ f a r f' k. search rules) in
+    rows_are c.args.version c.args.from c.args.to c.args.states.now c.args.places.now c.in_ok-list.list.items c.sort_by.new.self.items c.requires c.in_ok-list.ensures.apart
+    c.in_ok-list.ensures.shown c.sort_by.ensures.permutation by_departure
 
 pub returns-clause-forward : goal.returns-clause-forward
 returns-clause-forward c =
-    rows_forward c.args.version c.args.from c.args.to c.args.states.now c.args.places.now.keys c.in_ok-list.list.items c.sort_unstable_by.new.self.items c.requires
-    c.in_ok-list.ensures.shown c.sort_unstable_by.ensures.permutation
+    rows_forward c.args.version c.args.from c.args.to c.args.states.now c.args.places.now c.in_ok-list.list.items c.sort_by.new.self.items c.requires
+    c.in_ok-list.ensures.shown c.sort_by.ensures.permutation

@@ -12,6 +12,6 @@ use Rattle.span_index.proofs.turn.begin_all.Given as goal
 
 abbrev pub invariant-loop-ready : goal.invariant-loop-ready
 invariant-loop-ready l =
-    (runs : List Run) → InKeyOrder runs → AreKept l.next l.initial.spans.states.items l.initial.spans.places.keys (get key_cmp l.initial.spans.running)
-    → AllZip (IsReady l.initial.spans.states.items l.initial.spans.places.keys (get key_cmp l.initial.spans.running)) l.fn.list.items runs
-    → BeganSo l.next runs (into_iter_items l.ready-iterator) l.initial.spans.states.items l.spans.states.items l.spans.places.keys (get key_cmp l.spans.running)
+    (runs : List Run) → InKeyOrder runs → AreKept l.next l.initial.spans.states.items l.initial.spans.places (get key_cmp l.initial.spans.running)
+    → AllZip (IsReady l.initial.spans.states.items l.initial.spans.places (get key_cmp l.initial.spans.running)) l.fn.list.items runs
+    → BeganSo l.next runs (into_iter_items l.ready-iterator) l.initial.spans.states.items l.spans.states.items l.spans.places (get key_cmp l.spans.running)

@@ -11,5 +11,5 @@ returns c = λ run kept is_ready.
     let spans = c.args.spans.now in
     let found = get key_cmp spans.running in
     let has = subst (λ (k : RunKey). IsSome (found k)) (sym is_ready.same_key) is_ready.has_key in
-    begin_turn c.args.next run c.args.ready spans.states.items spans.places.keys found c.end_state.new.states.items c.begin_state.new.states.items (get key_cmp c.put_number.new.running) kept is_ready
+    begin_turn c.args.next run c.args.ready spans.states.items spans.places found c.end_state.new.states.items c.begin_state.new.states.items (get key_cmp c.put_number.new.running) kept is_ready
     c.end_state.ensures c.begin_state.ensures (c.put_number.ensures.alike (inr has)) c.put_number.ensures.stays

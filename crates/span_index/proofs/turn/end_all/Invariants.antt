@@ -8,6 +8,6 @@ use Rattle.span_index.proofs.turn.end_all.Given as goal
 abbrev pub invariant-loop-key : goal.invariant-loop-key
 invariant-loop-key l = record {
   ends :
-      EndsAll l.next l.yielded l.initial.spans.states.items l.initial.spans.places.keys (get key_cmp l.initial.spans.running) l.spans.states.items l.spans.places.keys (get key_cmp l.spans.running);
+      EndsAll l.next l.yielded l.initial.spans.states.items l.initial.spans.places (get key_cmp l.initial.spans.running) l.spans.states.items l.spans.places (get key_cmp l.spans.running);
   rest : l.yielded ++ into_iter_items l.key-iterator ≡ l.fn.keys.items;
 }
