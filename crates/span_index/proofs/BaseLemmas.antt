@@ -2,9 +2,7 @@
 use Rattle.std.proofs.Common.{◌≡◌, ℕ, ◌+◌, ◌<◌, ◌≤◌, ◌↔◌, inl, inr, List, [], ◌∷◌, length, get_or, map, Bool, true, false, cond, Option, Some, None, refl, sym, ap, ◌∙◌, subst, arith, ⊎_elim}
 use Rattle.std.specs.Prelude.{◌&&◌, nat_le}
 use Rattle.std.specs.BTreeMap.{BTreeMap, get}
-use Rattle.std.specs.BTreeSet.{BTreeSet, IsFromIterResult}
 use Rattle.std.specs.List.{All, Contains, filter, slice_get}
-use Rattle.std.specs.List.Sorted.{IsPermutation}
 use Rattle.std.specs.Map.{lookup}
 use Rattle.std.specs.Ordering.{is_eq, ordering_reverse}
 use Rattle.std.specs.declared.cmp.Ordering.{Ordering}
@@ -12,8 +10,6 @@ use Rattle.std.specs.declared.cmp.Ordering.TheVariants.{Equal, Greater, Less}
 use Rattle.std.proofs.lemmas.Bool.{cases_lt, cases_order}
 use Rattle.std.proofs.lemmas.List.Elements.{All-map}
 use Rattle.std.proofs.lemmas.Cmp.{tied_itself}
-use Rattle.std.proofs.lemmas.List.Sorted.{Contains-permutation, IsPermutation-sym}
-use Rattle.std.proofs.lemmas.Map.Views.{btree_set_contains_from_list, btree_set_contains_iff}
 use Rattle.std.proofs.lemmas.Option.{get_or_from_slice_get, slice_get_read, slice_get_within}
 use Rattle.lc_model.specs.Call.{GoesForward}
 use Rattle.lc_model.specs.Run.{InKeyOrder, RunsForward}
@@ -26,11 +22,9 @@ use Rattle.lc_model.proofs.ListLemmas.{AllPairs-map}
 use Rattle.span_index.specs.Base.{AreKeysInOrder, AreNumbered, IsNumbered, base_state}
 use Rattle.span_index.specs.Gathered.{AreOfStates}
 use Rattle.span_index.specs.Inside.{AreApart, AreKept, AreOpen, ArePlaced, AreSpans, IsPast}
-use Rattle.span_index.specs.Places.{place_cmp}
 use Rattle.span_index.specs.Spans.{held, holds, run_of}
 use Rattle.span_index.specs.declared.place.Place.{Place}
 use Rattle.span_index.specs.declared.state.State.{State}
-use Rattle.span_index.proofs.PlaceLemmas.{place_cmp_total, place_exact}
 use Rattle.span_index.proofs.ShownLemmas.{shown_is_there}
 
 from_start : (version : ℕ) → nat_le 0 version ≡ true

@@ -1,5 +1,5 @@
 -- Runs have one list of connections in departure order.
-use Rattle.std.proofs.Common.{◌≡◌, ℕ, List, Option, ap, sym, subst, ◌∙◌}
+use Rattle.std.proofs.Common.{◌≡◌, List, ap, sym, subst, ◌∙◌}
 use Rattle.std.specs.Ordering.{on}
 use Rattle.lc_model.specs.Connection.{AreConnectionsOf}
 use Rattle.lc_model.specs.RunKey.{key_cmp}

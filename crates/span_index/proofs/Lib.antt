@@ -2,6 +2,7 @@ pub mod ApartLemmas
 pub mod BaseLemmas
 pub mod CountLemmas
 pub mod GatherLemmas
+mod HeapsLemmas
 pub mod LawLemmas
 pub mod OrderedLemmas
 pub mod PlaceLemmas

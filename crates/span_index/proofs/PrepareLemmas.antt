@@ -1,10 +1,7 @@
 -- A run that holds in no version is added with its places. What was stored is stored, and no version shows it.
 use Rattle.std.proofs.Common.{Result, Ok, Err, ◌≡◌, ℕ, ◌⊎◌, ◌↔◌, inl, inr, List, [], ◌∷◌, ◌++◌, append_assoc, length, map, Bool, true, false, cond, Some, None, refl, sym, ap, ◌∙◌, subst, arith, ⊎_elim}
-use Rattle.std.specs.Prelude.{IsSome, IsTrue, OnOk, is_some}
+use Rattle.std.specs.Prelude.{IsSome, OnOk, is_some}
 use Rattle.std.specs.List.{AllZip, Contains, filter, slice_get}
-use Rattle.std.specs.Ordering.{is_eq}
-use Rattle.std.specs.declared.cmp.Ordering.TheVariants.{Equal}
-use Rattle.std.proofs.lemmas.Cmp.{tied_itself}
 use Rattle.std.proofs.lemmas.List.{append-nil}
 use Rattle.std.proofs.lemmas.List.Elements.{All-push}
 use Rattle.lc_model.specs.Call.{GoesForward}
@@ -22,7 +19,6 @@ use Rattle.span_index.specs.declared.place.Place.{Place}
 use Rattle.span_index.specs.declared.prepare.Ready.{Ready}
 use Rattle.span_index.specs.declared.state.State.{State}
 use Rattle.span_index.proofs.GatherLemmas.{at_state, get_before, get_cases, get_pushed, of_state}
-use Rattle.span_index.proofs.BaseLemmas.{tie_from}
 use Rattle.span_index.proofs.ShownLemmas.{shown_at, shown_from}
 use Rattle.span_index.proofs.SpanLemmas.{closed_gone, past_closed}
 use Rattle.span_index.proofs.TurnLemmas.{has_put, put_here, put_other, tied_or_not}

@@ -1,5 +1,6 @@
 pub mod Base
 pub mod Gathered
+pub mod Heaps
 pub mod Inside
 pub mod Laws
 pub mod PlaceSets

@@ -53,7 +53,7 @@ impl Index {
         ensures runs { IfOk result (λ index. (version : ℕ) → runs_at index version ≡ runs.items) }
     {
         let states = base_states(alloc, runs)?;
-        let places = PlaceSet::new(alloc, places_of(alloc, states.as_slice())?);
+        let places = PlaceSet::new(alloc, places_of(alloc, states.as_slice())?)?;
         let running = numbers_by_key(alloc, states.as_slice())?;
         let spans = Spans {
             states,

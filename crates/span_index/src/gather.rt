@@ -31,12 +31,21 @@ pub(crate) fn push_places(places: &mut Vec<Place>, state: &State, of: u32) -> Re
     Ok(())
 }
 
+/// How many places the states have. Where it is too many to count, there is no memory for so many.
+fn places_in(states: &[State]) -> usize {
+    let mut places: usize = 0;
+    for state in states {
+        places = places.saturating_add(state.calls.as_slice().len().saturating_sub(1));
+    }
+    places
+}
+
 /// The places of the states, each once.
 pub(crate) fn places_of(alloc: Global, states: &[State]) -> Result<Vec<Place>, NoMemory>
     ensures has { IfOk result (λ places. AreOfStates states.now places.items) }
     ensures apart { IfOk result (λ places. AreApart place_cmp places.items) }
 {
-    let mut places = Vec::new(alloc);
+    let mut places = Vec::with_capacity(alloc, places_in(states))?;
     for (at, state) in states.iter().enumerate() {
         push_places(&mut places, state, number(at)?)?;
     }

@@ -4,6 +4,7 @@
 
 mod base;
 mod gather;
+mod heaps;
 mod index;
 mod laws;
 mod place;

@@ -5,6 +5,7 @@ ghost use Rattle.lc_versions.specs.Pages.{is_before};
 ghost use Rattle.span_index.specs.Places.{is_between, place_cmp};
 ghost use Rattle.span_index.specs.declared.place.Place.{Place as Stood};
 
+use crate::heaps::by_departure;
 use crate::place::Place;
 use lc_model::{Moment, NoMemory};
 use std::alloc::Global;
@@ -33,16 +34,17 @@ impl Model for PlaceSet {
 
 impl PlaceSet {
     /// The places of a list, in which each is once. Takes the time of a sort.
-    pub(crate) fn new(alloc: Global, list: Vec<Place>) -> PlaceSet
+    pub(crate) fn new(alloc: Global, list: Vec<Place>) -> Result<PlaceSet, NoMemory>
         requires { AreApart place_cmp list.items }
-        ensures { (p : Stood) → Contains result p ↔ Contains list.items p }
+        ensures { IfOk result (λ set. (p : Stood) → Contains set p ↔ Contains list.items p) }
     {
-        let mut first = list;
+        let mut first = by_departure(alloc, list)?;
+        // Mostly it is in order by now, which the sort finds out in one walk.
         first.sort_unstable();
-        PlaceSet {
+        Ok(PlaceSet {
             first,
             later: BTreeSet::new(alloc),
-        }
+        })
     }
 
     /// Puts a place beside the others, if it is not there. After a refusal they are as they were. Takes the logarithm of the places.

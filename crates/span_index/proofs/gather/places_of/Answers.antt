@@ -1,4 +1,4 @@
-use Rattle.std.proofs.Common.{List, ℕ, ◌≢◌, ◌<◌, ◌⊎◌, ◌↔◌, [], subst, sym}
+use Rattle.std.proofs.Common.{ℕ, ◌≢◌, ◌<◌, ◌⊎◌, ◌↔◌, [], subst, sym}
 use Rattle.std.specs.List.{All, Contains}
 use Rattle.std.specs.declared.cmp.Ordering.TheVariants.{Equal}
 use Rattle.lc_model.specs.Order.{AreApart}
@@ -11,8 +11,8 @@ use Rattle.span_index.proofs.gather.places_of.Goals as goal
 
 pub loop-at-init : goal.loop-at-init
 loop-at-init c = record {
-  has = subst (AreOfStates []) (sym c.new-places.ensures.items) places_none;
-  apart = subst (AreApart place_cmp) (sym c.new-places.ensures.items) (AllPairs-nil (λ p q. place_cmp p q ≢ Equal));
+  has = subst (AreOfStates []) (sym c.in_ok-places.ensures.items) places_none;
+  apart = subst (AreApart place_cmp) (sym c.in_ok-places.ensures.items) (AllPairs-nil (λ p q. place_cmp p q ≢ Equal));
 }
 
 pub loop-at-preserved : goal.loop-at-preserved

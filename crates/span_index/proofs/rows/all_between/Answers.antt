@@ -1,4 +1,4 @@
-use Rattle.std.proofs.Common.{List, ap, subst, sym, ◌≡◌, ◌++◌, ◌∙◌}
+use Rattle.std.proofs.Common.{List, ap, subst, sym, ◌++◌, ◌∙◌}
 use Rattle.std.specs.List.{filter, filter_map}
 use Rattle.std.proofs.lemmas.List.Elements.{filter-append, filter_map-append}
 use Rattle.lc_model.specs.Order.{AreApart, IsStrict}

@@ -4,7 +4,6 @@ use Rattle.std.specs.BTreeMap.Range.{range_contains}
 use Rattle.std.specs.declared.ops.Bound.{Bound}
 use Rattle.std.specs.declared.ops.Bound.TheVariants.{Included}
 use Rattle.std.proofs.lemmas.List.Elements.{filter_agree}
-use Rattle.lc_model.specs.declared.connection.Connection.{Connection}
 use Rattle.span_index.specs.Places.{end_of, first_at, is_between, place_cmp, shown}
 use Rattle.span_index.specs.declared.place.Place.{Place}
 use Rattle.span_index.proofs.PlaceLemmas.{in_span}

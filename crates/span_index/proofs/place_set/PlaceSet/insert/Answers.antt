@@ -1,7 +1,6 @@
-use Rattle.std.proofs.Common.{List, ap, refl, subst, sym, ◌≡◌, ◌↔◌, ◌⊎◌, ◌++◌, ◌∙◌}
+use Rattle.std.proofs.Common.{List, refl, subst, sym, ◌≡◌, ◌↔◌, ◌⊎◌, ◌++◌, ◌∙◌}
 use Rattle.std.specs.List.{Contains}
 use Rattle.lc_model.specs.Order.{IsStrict}
-use Rattle.span_index.specs.PlaceSets.{AreOnce}
 use Rattle.span_index.specs.Places.{place_cmp}
 use Rattle.span_index.specs.declared.place.Place.{Place}
 use Rattle.span_index.specs.declared.place_set.PlaceSet.TheInside.{Inside}
