@@ -1,14 +1,15 @@
 -- The runs of version 0: they hold in every version, and their numbers are at their keys.
-use Rattle.std.proofs.Common.{◌≡◌, ℕ, ◌+◌, ◌<◌, ◌≤◌, ◌↔◌, inl, inr, List, [], ◌∷◌, length, get_or, map, Bool, true, false, cond, Option, Some, None, refl, sym, ap, ◌∙◌, subst, arith, ⊎_elim}
-use Rattle.std.specs.Prelude.{◌&&◌, nat_le}
-use Rattle.std.specs.BTreeMap.{BTreeMap, get}
+use Rattle.std.proofs.Common.{◌≡◌, ℕ, ◌+◌, ◌<◌, ◌≤◌, ◌↔◌, ◌⊎◌, inl, inr, List, [], ◌∷◌, ◌++◌, length, get_or, map, Bool, true, cond, Option, Some, None, refl, sym, ap, ◌∙◌, subst, arith, ⊎_elim}
+use Rattle.std.specs.Prelude.{◌&&◌, IfSome, IsSome, nat_le}
+use Rattle.std.specs.BTreeMap.{BTreeMap, IsFromIterResult, get}
 use Rattle.std.specs.List.{All, Contains, filter, slice_get}
-use Rattle.std.specs.Map.{lookup}
 use Rattle.std.specs.Ordering.{is_eq, ordering_reverse}
 use Rattle.std.specs.declared.cmp.Ordering.{Ordering}
 use Rattle.std.specs.declared.cmp.Ordering.TheVariants.{Equal, Greater, Less}
 use Rattle.std.proofs.lemmas.Bool.{cases_lt, cases_order}
-use Rattle.std.proofs.lemmas.List.Elements.{All-map}
+use Rattle.std.proofs.lemmas.Map.Lookups.{CmpEqualImpliesEq}
+use Rattle.std.proofs.lemmas.Map.Views.{IfSome-btree_map_get_from_list, btree_map_contains_key_from_list}
+use Rattle.std.proofs.lemmas.List.Elements.{All-map, Contains-append_left, Contains-push, Contains-push_cases}
 use Rattle.std.proofs.lemmas.Cmp.{tied_itself}
 use Rattle.std.proofs.lemmas.Option.{get_or_from_slice_get, slice_get_read, slice_get_within}
 use Rattle.lc_model.specs.Call.{GoesForward}
@@ -18,8 +19,8 @@ use Rattle.lc_model.specs.Totals.{key_cmp_total}
 use Rattle.lc_model.specs.declared.key.RunKey.{RunKey}
 use Rattle.lc_model.specs.declared.run.Run.{Run}
 use Rattle.lc_model.proofs.KeyLemmas.{same_keys}
-use Rattle.lc_model.proofs.ListLemmas.{AllPairs-map}
-use Rattle.span_index.specs.Base.{AreKeysInOrder, AreNumbered, IsNumbered, base_state}
+use Rattle.lc_model.proofs.ListLemmas.{AllPairs-map, Contains-map, Contains-nil}
+use Rattle.span_index.specs.Base.{AreKeysInOrder, AreNumbered, HasNumbers, IsNumbered, base_state}
 use Rattle.span_index.specs.Gathered.{AreOfStates}
 use Rattle.span_index.specs.Inside.{AreApart, AreKept, AreOpen, ArePlaced, AreSpans, IsPast}
 use Rattle.span_index.specs.Spans.{held, holds, run_of}
@@ -109,49 +110,99 @@ are_also states list places are same p = (λ h. (are p).0 ((same p).0 h), λ of.
 
 -- ---- the numbers of states, one after the other
 
--- the number of each state before this one is at its key
-abbrev pub NumberedUpTo : List State → ℕ → BTreeMap RunKey (Option ℕ) → Type 0
-NumberedUpTo states next numbers = (key : RunKey) (n : ℕ) → (get key_cmp numbers key ≡ Some (Some n)) ↔ ((n < next) × IsNumbered states key n)
-
 pub tie_from : (o : Ordering) → is_eq o ≡ true → o ≡ Equal
 tie_from Less e = absurd (cc)
 tie_from Equal e = refl
 tie_from Greater e = absurd (cc)
 
-pub numbered_none : (states : List State) (numbers : BTreeMap RunKey (Option ℕ)) → numbers.entries ≡ [] → NumberedUpTo states 0 numbers
-numbered_none states numbers e key n =
-    let none : get key_cmp numbers key ≡ None = ap (lookup (λ (k : RunKey). is_eq (key_cmp key k))) e in
-    (λ found. absurd (cc), λ h. absurd (omega (arith, h.0)))
+-- the number of each state before this one is with its key
+pub record HasUpTo (states : List State) (next : ℕ) (numbers : List (RunKey × Option ℕ)) : Type 0 where
+  pub exactly : (key : RunKey) (n : ℕ) → Contains numbers (key, Some n) ↔ ((n < next) × IsNumbered states key n)
+  pub none_lacks : (key : RunKey) → Contains numbers (key, None) → ⊥
 
-pub numbered_more : (states : List State) (k : ℕ) (s : State) (old new : BTreeMap RunKey (Option ℕ)) → AreKeysInOrder states → k < length states → s ≡ get_or states k s
-    → ((key : RunKey) → get key_cmp new key ≡ cond (is_eq (key_cmp s.key key)) (Some (Some k)) (get key_cmp old key)) → NumberedUpTo states k old → NumberedUpTo states (k + 1) new
-numbered_more states k s old new up inside is put done key n = (λ found. to (is_eq (key_cmp s.key key)) refl (sym (put key) ∙ found), λ h. back h.0 h.1) where
+pub none_numbered : (states : List State) (numbers : List (RunKey × Option ℕ)) → numbers ≡ [] → HasUpTo states 0 numbers
+none_numbered states numbers e = record {
+  exactly = λ key n. (λ h. absurd (Contains-nil (key, Some n) (subst (λ v. Contains v (key, Some n)) e h)), λ h. absurd (omega (arith, h.0)));
+  none_lacks = λ key h. Contains-nil (key, None) (subst (λ v. Contains v (key, None)) e h);
+}
+
+pub numbered_more : (states : List State) (k : ℕ) (s : State) (key : RunKey) (number : ℕ) (old new : List (RunKey × Option ℕ)) → k < length states → s ≡ get_or states k s → key ≡ s.key → number ≡ k
+    → new ≡ old ++ (key, Some number) ∷ [] → HasUpTo states k old → HasUpTo states (k + 1) new
+numbered_more states k s key number old new inside is same_key same pushed done = record { exactly = λ q n. (to q n, back q n); none_lacks = lacks } where
   is_s : slice_get states k ≡ Some s
   is_s = slice_get_read states (length states) k s refl inside is
 
-  to : (b : Bool) → is_eq (key_cmp s.key key) ≡ b → cond b (Some (Some k)) (get key_cmp old key) ≡ Some (Some n) → (n < k + 1) × IsNumbered states key n
-  to true tie e =
-      let at : k ≡ n = cc in
-      (omega (arith, at), record { state = s; is = ap (slice_get states) (sym at) ∙ is_s; same_key = same_keys s.key key (tie_from (key_cmp s.key key) tie) })
-  to false apart e = let h = (done key n).0 e in (omega (arith, h.0), h.1)
+  in_new : (x : RunKey × Option ℕ) → Contains new x → Contains old x ⊎ ((key, Some number) ≡ x)
+  in_new x h = Contains-push_cases old (key, Some number) x (subst (λ v. Contains v x) pushed h)
 
-  before : n < k → IsNumbered states key n → get key_cmp new key ≡ Some (Some n)
-  before under of =
-      let less : key_cmp of.state.key s.key ≡ Less = one_key states n k of.state s up of.is is_s under in
-      let more : key_cmp s.key key ≡ Greater = ap (key_cmp s.key) (sym of.same_key) ∙ key_cmp_total.antisymm s.key of.state.key ∙ ap ordering_reverse less in
-      put key ∙ ap (λ (o : Ordering). cond (is_eq o) (Some (Some k)) (get key_cmp old key)) more ∙ (done key n).1 (under, of)
+  was_old : (x : RunKey × Option ℕ) → Contains old x → Contains new x
+  was_old x h = subst (λ v. Contains v x) (sym pushed) (Contains-append_left old ((key, Some number) ∷ []) x h)
 
-  last : n ≡ k → IsNumbered states key n → get key_cmp new key ≡ Some (Some n)
-  last at of =
+  to : (q : RunKey) (n : ℕ) → Contains new (q, Some n) → (n < k + 1) × IsNumbered states q n
+  to q n h = elim (in_new (q, Some n) h) [
+    | inl o ↦ let was = (done.exactly q n).0 o in (omega (arith, was.0), was.1)
+    | inr e ↦
+        let keys : key ≡ q = ap (λ (x : RunKey × Option ℕ). x.0) e in
+        let some : Some number ≡ Some n = ap (λ (x : RunKey × Option ℕ). x.1) e in
+        let at : number ≡ n = cc in
+        let here : k ≡ n = sym same ∙ at in
+        (omega (arith, here), record { state = s; is = ap (slice_get states) (sym here) ∙ is_s; same_key = sym same_key ∙ keys })
+  ]
+
+  last : (q : RunKey) (n : ℕ) → n ≡ k → IsNumbered states q n → Contains new (q, Some n)
+  last q n at of =
       let both : Some of.state ≡ Some s = sym of.is ∙ ap (slice_get states) at ∙ is_s in
-      let same : of.state ≡ s = cc in
-      let keys : s.key ≡ key = sym (ap (λ (v : State). v.key) same) ∙ of.same_key in
-      let tie : key_cmp s.key key ≡ Equal = ap (key_cmp s.key) (sym keys) ∙ tied_itself key_cmp_total s.key in
-      put key ∙ ap (λ (o : Ordering). cond (is_eq o) (Some (Some k)) (get key_cmp old key)) tie ∙ ap (λ (m : ℕ). Some (Some m)) (sym at)
+      let one : of.state ≡ s = cc in
+      let keys : key ≡ q = same_key ∙ ap (λ (v : State). v.key) (sym one) ∙ of.same_key in
+      let there : Contains new (key, Some number) = subst (λ (v : List (RunKey × Option ℕ)). Contains v (key, Some number)) (sym pushed) (Contains-push old (key, Some number)) in
+      let with_key : Contains new (q, Some number) = subst (λ (k : RunKey). Contains new (k, Some number)) keys there in
+      subst (λ (m : ℕ). Contains new (q, Some m)) (same ∙ sym at) with_key
 
-  back : n < k + 1 → IsNumbered states key n → get key_cmp new key ≡ Some (Some n)
-  back low of = ⊎_elim (λ (under : n < k). before under of) (λ (high : k ≤ n). last (omega (arith, low, high)) of) (cases_lt n k)
+  back : (q : RunKey) (n : ℕ) → (n < k + 1) × IsNumbered states q n → Contains new (q, Some n)
+  back q n (low, of) =
+      ⊎_elim (λ (under : n < k). was_old (q, Some n) ((done.exactly q n).1 (under, of))) (λ (high : k ≤ n). last q n (omega (arith, low, high)) of) (cases_lt n k)
 
-pub numbered_all : (states : List State) (next : ℕ) (numbers : BTreeMap RunKey (Option ℕ)) → length states ≤ next → NumberedUpTo states next numbers → AreNumbered states numbers
-numbered_all states next numbers past done key n =
-    (λ found. ((done key n).0 found).1, λ (of : IsNumbered states key n). (done key n).1 (omega (arith, past, slice_get_within states n of.state of.is), of))
+  lacks : (q : RunKey) → Contains new (q, None) → ⊥
+  lacks q h = elim (in_new (q, None) h) [
+    | inl o ↦ done.none_lacks q o
+    | inr e ↦ let f : Some number ≡ None = ap (λ (x : RunKey × Option ℕ). x.1) e in cc
+  ]
+
+pub numbered_all : (states : List State) (next : ℕ) (numbers : List (RunKey × Option ℕ)) → length states ≤ next → HasUpTo states next numbers → HasNumbers states numbers
+numbered_all states next numbers past done = record {
+  exactly = λ key n. (λ h. ((done.exactly key n).0 h).1, λ (of : IsNumbered states key n). (done.exactly key n).1 (omega (arith, past, slice_get_within states n of.state of.is), of));
+  none_lacks = done.none_lacks;
+}
+
+key_exact : CmpEqualImpliesEq key_cmp
+key_exact a b e = same_keys a b e
+
+-- a map that is made of the list
+pub numbered_map : (states : List State) (list : List (RunKey × Option ℕ)) (numbers : BTreeMap RunKey (Option ℕ)) → AreKeysInOrder states → HasNumbers states list → IsFromIterResult key_cmp list numbers
+    → AreNumbered states numbers
+numbered_map states list numbers up has made key n = (to, λ of. back of (get key_cmp numbers key) refl) where
+  found : IfSome (get key_cmp numbers key) (λ v. Contains list (key, v))
+  found = IfSome-btree_map_get_from_list key_cmp_total key_exact list numbers made key
+
+  to : get key_cmp numbers key ≡ Some (Some n) → IsNumbered states key n
+  to e = (has.exactly key n).0 (subst (λ o. IfSome o (λ v. Contains list (key, v))) e found)
+
+  one_number : (m : ℕ) → IsNumbered states key m → IsNumbered states key n → m ≡ n
+  one_number m a b =
+      let tie : key_cmp a.state.key b.state.key ≡ Equal = ap (λ k. key_cmp k b.state.key) (a.same_key ∙ sym b.same_key) ∙ tied_itself key_cmp_total b.state.key in
+      elim (cases_order m n) [
+        | inl e ↦ e
+        | inr (inl before) ↦ let less = one_key states m n a.state b.state up a.is b.is before in absurd (let f : Less ≡ Equal = sym less ∙ tie in cc)
+        | inr (inr after) ↦
+            let less = one_key states n m b.state a.state up b.is a.is after in
+            absurd (let f : Equal ≡ ordering_reverse Less = sym tie ∙ key_cmp_total.antisymm a.state.key b.state.key ∙ ap ordering_reverse less in cc)
+      ]
+
+  back : IsNumbered states key n → (o : Option (Option ℕ)) → get key_cmp numbers key ≡ o → get key_cmp numbers key ≡ Some (Some n)
+  back of None e =
+      let is_some = (btree_map_contains_key_from_list key_cmp_total key_exact list numbers made key).1 (Contains-map (λ (x : RunKey × Option ℕ). x.0) list (key, Some n) ((has.exactly key n).1 of)) in
+      absurd (let f = subst IsSome e is_some in cc)
+  back of (Some None) e = absurd (has.none_lacks key (subst (λ o. IfSome o (λ v. Contains list (key, v))) e found))
+  back of (Some (Some m)) e =
+      let there = (has.exactly key m).0 (subst (λ o. IfSome o (λ v. Contains list (key, v))) e found) in
+      e ∙ ap (λ (i : ℕ). Some (Some i)) (one_number m there of)

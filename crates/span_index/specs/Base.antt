@@ -1,7 +1,7 @@
 -- The states of runs that hold from version 0 on, and their numbers.
 use Rattle.std.specs.Prelude.{◌≡◌, ℕ, ◌↔◌, List, Option, Some, None}
 use Rattle.std.specs.BTreeMap.{BTreeMap, get}
-use Rattle.std.specs.List.{slice_get}
+use Rattle.std.specs.List.{Contains, slice_get}
 use Rattle.std.specs.Ordering.{on}
 use Rattle.lc_model.specs.Order.{IsStrict}
 use Rattle.lc_model.specs.RunKey.{key_cmp}
@@ -22,6 +22,11 @@ pub record IsNumbered (states : List State) (key : RunKey) (number : ℕ) : Type
   pub state : State
   pub is : slice_get states number ≡ Some state
   pub same_key : state.key ≡ key
+
+-- the list has exactly the number of each state with its key
+pub record HasNumbers (states : List State) (numbers : List (RunKey × Option ℕ)) : Type 0 where
+  pub exactly : (key : RunKey) (number : ℕ) → Contains numbers (key, Some number) ↔ IsNumbered states key number
+  pub none_lacks : (key : RunKey) → Contains numbers (key, None) → ⊥
 
 -- the map has exactly the number of each state at its key
 abbrev pub AreNumbered : List State → BTreeMap RunKey (Option ℕ) → Type 0

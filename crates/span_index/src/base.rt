@@ -1,6 +1,6 @@
 ghost use Rattle.std.specs.Prelude.{◌≡◌, ℕ, IfOk, map};
 ghost use Rattle.lc_model.specs.Run.{InKeyOrder, RunsForward};
-ghost use Rattle.span_index.specs.Base.{AreKeysInOrder, AreNumbered, base_state};
+ghost use Rattle.span_index.specs.Base.{AreKeysInOrder, AreNumbered, HasNumbers, base_state};
 ghost use Rattle.span_index.specs.Spans.{runs_at};
 
 use crate::Index;
@@ -29,7 +29,19 @@ fn base_states(alloc: Global, runs: Vec<Run>) -> Result<Vec<State>, NoMemory>
     Ok(states)
 }
 
-/// The numbers of the states by their keys.
+/// The keys of the states, each with the number of its state.
+fn numbered_keys(alloc: Global, states: &[State]) -> Result<Vec<(RunKey, Option<u32>)>, NoMemory>
+    ensures { IfOk result (λ numbers. HasNumbers states.now numbers.items) }
+{
+    let mut numbers = Vec::with_capacity(alloc, states.len())?;
+    for (at, state) in states.iter().enumerate() {
+        let number = number(at)?;
+        numbers.push((state.key.copy(alloc)?, Some(number)))?;
+    }
+    Ok(numbers)
+}
+
+/// The numbers of the states by their keys. Linear in the states, since their keys come in order.
 fn numbers_by_key(
     alloc: Global,
     states: &[State],
@@ -37,11 +49,8 @@ fn numbers_by_key(
     requires { AreKeysInOrder states.now }
     ensures { IfOk result (AreNumbered states.now) }
 {
-    let mut numbers = BTreeMap::new(alloc);
-    for (at, state) in states.iter().enumerate() {
-        numbers.insert(state.key.copy(alloc)?, Some(number(at)?))?;
-    }
-    Ok(numbers)
+    let numbers = numbered_keys(alloc, states)?;
+    Ok(numbers.into_iter().collect(alloc)?)
 }
 
 impl Index {
