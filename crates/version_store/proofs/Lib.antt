@@ -1,3 +1,4 @@
+mod BaseRunsLemmas
 pub mod CallsByLemmas
 pub mod ChangesLemmas
 pub mod CutLemmas

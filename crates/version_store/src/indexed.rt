@@ -6,6 +6,7 @@ ghost use Rattle.lc_model.specs.Call.{InSequence};
 ghost use Rattle.lc_model.specs.Run.{InKeyOrder};
 ghost use Rattle.lc_model.specs.Text.{IsIdText};
 ghost use Rattle.lc_model.specs.declared.run.Run.{Run as StatedRun};
+ghost use Rattle.lc_model.specs.declared.stop.Stop.{Stop as StatedStop};
 ghost use Rattle.lc_versions.specs.History.{filled, kept_after, put_all, with_news};
 ghost use Rattle.lc_versions.specs.News.{EntitySaid};
 ghost use Rattle.lc_versions.specs.Timetable.{AreLiveRuns};
@@ -25,7 +26,7 @@ use crate::changes::{Changes, changes_of};
 use crate::exchange::{make_room, put_patch};
 use crate::force::{Force, Step, step_over, step_whole};
 use crate::kept::{Marked, message_date};
-use crate::live_runs::{live_list, runs_in};
+use crate::live_runs::{base_runs, runs_in};
 use crate::near::FiledTrips;
 use crate::store::Admission;
 use lc_model::{NoMemory, Runs, ServiceDate, Stops};
@@ -35,15 +36,13 @@ use span_index::Index;
 use std::alloc::Global;
 
 /// The index of the base version alone. Takes the time of a sort of the runs and of their connections.
-pub(crate) fn base_index(alloc: Global, runs: &Runs, stops: &Stops) -> Result<Index, NoMemory>
+pub(crate) fn base_index(alloc: Global, runs: &Runs) -> Result<Index, NoMemory>
     ensures newest { IfOk result (λ index. index.newest ≡ 0) }
-    ensures runs { IfOk result (λ index. AreLiveRuns runs.now stops.now [] (runs_at index 0)) }
+    ensures runs { IfOk result (λ index. (stops : List StatedStop) → AreLiveRuns runs.now stops [] (runs_at index 0)) }
     ensures trips { OnOk result (All (λ (r : StatedRun). IsIdText r.key.trip) runs.now) }
     ensures calls { OnOk result (All (λ (r : StatedRun). InSequence r.calls) runs.now) }
 {
-    let news = Vec::new(alloc);
-    let live = live_list(alloc, runs, stops, news.as_slice())?;
-    Index::new(alloc, live)
+    Index::new(alloc, base_runs(alloc, runs.as_slice())?)
 }
 
 /// Adds a version to an index, by these changes of the newest one. After a refusal each version is as it was.

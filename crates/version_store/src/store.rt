@@ -64,7 +64,7 @@ impl Store {
         ensures calls { OnOk result (All (λ (run : StatedRun). InSequence run.calls) runs) }
     {
         let versions = vec![in alloc; base]?;
-        let index = base_index(alloc, &runs, &stops)?;
+        let index = base_index(alloc, &runs)?;
         Ok(Store {
             runs,
             stops,

@@ -15,5 +15,5 @@ invariant_of-result c = record {
   bytes = search rules;
   within = search rules;
   force = none_in_force _ c.new-2.result _ c.new-2.ensures.ids c.new-2.ensures.trips (ap (λ (v : List Admission). entities_after (date_in c.args.zone) (map (λ (a : Admission). entry_of a.update a.bytes) v)) c.new.ensures.items);
-  indexed = indexed_base _ c.in_ok-index.index _ (ap (map (λ (a : Admission). entry_of a.update a.bytes)) c.new.ensures.items) c.in_ok-index.ensures.newest refl c.in_ok-index.ensures.runs;
+  indexed = indexed_base _ c.in_ok-index.index _ (ap (map (λ (a : Admission). entry_of a.update a.bytes)) c.new.ensures.items) c.in_ok-index.ensures.newest refl (c.in_ok-index.ensures.runs c.args.stops);
 }
