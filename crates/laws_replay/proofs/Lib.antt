@@ -12,7 +12,7 @@ pub mod HeardLemmas
 pub mod HearsLemmas
 mod HistoryLemmas
 pub mod OneCourseLemmas
-mod OneHeardLemmas
+pub mod OneHeardLemmas
 pub mod OneRoundsLemmas
 pub mod PlayedTo
 mod PlaysLemmas
