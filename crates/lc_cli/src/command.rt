@@ -75,16 +75,9 @@ fn result_of<F: Folder, L: Link>(
             Err(fault) => (Err(Refusal::Load(fault)), link),
         },
         Command::Ask(ask) => {
-            let (block, link) = question_block(
-                alloc,
-                folder,
-                ask.published,
-                Asking::Earliest {
-                    query: ask.query,
-                    cache: ask.cache,
-                },
-                link,
-            );
+            let (query, cache) = (ask.query, ask.cache);
+            let asking = Asking::Earliest { query, cache };
+            let (block, link) = question_block(alloc, folder, ask.published, asking, link);
             (printed(block), link)
         }
         Command::Replay(replay) => {
@@ -104,23 +97,13 @@ fn result_of<F: Folder, L: Link>(
             (printed(block), link)
         }
         Command::Fewest(fewest) => {
-            let (block, link) = question_block(
-                alloc,
-                folder,
-                fewest.published,
-                Asking::Fewest(fewest.query),
-                link,
-            );
+            let asking = Asking::Fewest(fewest.query);
+            let (block, link) = question_block(alloc, folder, fewest.published, asking, link);
             (printed(block), link)
         }
         Command::Arrive(arrive) => {
-            let (block, link) = question_block(
-                alloc,
-                folder,
-                arrive.published,
-                Asking::Latest(arrive.query),
-                link,
-            );
+            let asking = Asking::Latest(arrive.query);
+            let (block, link) = question_block(alloc, folder, arrive.published, asking, link);
             (printed(block), link)
         }
         Command::Relay(relay) => {
