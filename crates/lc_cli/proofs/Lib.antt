@@ -29,3 +29,4 @@ pub mod TopLemmas
 pub mod WindowLemmas
 mod WorkedFewestLemmas
 mod WorkedLatestLemmas
+pub mod OneDrillLemmas

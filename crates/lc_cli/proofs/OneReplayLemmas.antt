@@ -88,7 +88,7 @@ one_recorded_script one_script recorded name updates a b x y =
     let bytes : x.bytes ≡ y.bytes = cc in
     one_script y.bytes updates a b (subst (λ (c : List ℕ). SaysScript c updates a) bytes x.says) y.says
 
-one_recorded_course : OneScript → (recorded : List File) (replay : Replay) (made other : Timetable) (all others : List Event) → IsRecordedCourse recorded replay made all → IsRecordedCourse recorded replay other others → all ≡ others
+pub one_recorded_course : OneScript → (recorded : List File) (replay : Replay) (made other : Timetable) (all others : List Event) → IsRecordedCourse recorded replay made all → IsRecordedCourse recorded replay other others → all ≡ others
 one_recorded_course one_script recorded replay made other all others x y =
     one_list_of_events recorded y.script all others
     (subst (λ (script : List Record). AreRecordedEvents recorded script all) (one_recorded_script one_script recorded replay.script true x.script y.script x.is_recorded y.is_recorded) x.are) y.are
@@ -117,7 +117,7 @@ turn_at updates recorded clients (row ∷ rows) (said ∷ script) (event ∷ bef
       counted (records.Turn own) (events.Message message) is = absurd is
       counted (records.Turn own) (events.Turn client) is = omega arith
 
-turns_recorded : (recorded : List File) (replay : Replay) (made : Timetable) (all : List Event) → IsRecordedCourse recorded replay made all → TurnsAreOfClients all
+pub turns_recorded : (recorded : List File) (replay : Replay) (made : Timetable) (all : List Event) → IsRecordedCourse recorded replay made all → TurnsAreOfClients all
 turns_recorded recorded replay made all course before behind client is =
     let none : 0 + length (questions_in before) ≡ length (questions_in before) = omega arith in
     subst (λ (n : ℕ). IsClient n client) none

@@ -19,6 +19,7 @@ use Rattle.cli_inputs.specs.Below.LawsReplay.OneCourse.{OneCourse}
 use Rattle.script_text.specs.Laws.{OneScript}
 use Rattle.cli_ask.specs.Below.Timetable.Laws.{AreSame, LoadsRecorded, OneTimetable}
 use Rattle.cli_ask.specs.Below.Timetable.declared.timetable.Timetable.{Timetable}
+use Rattle.version_store.specs.Laws.{OneOutcome}
 use Rattle.lc_cli.specs.CheckText.{check_text_of, count_line_of}
 use Rattle.lc_cli.specs.Clear.{HasFairLink, IsRecordedFile}
 use Rattle.lc_cli.specs.Command.{IsQuestionBlock, Prints}
@@ -29,6 +30,7 @@ use Rattle.lc_cli.specs.declared.block.Block.{Block}
 use Rattle.lc_cli.specs.declared.question.Asking.{Asking}
 use Rattle.lc_cli.specs.declared.question.Asking.TheVariants as askings
 use Rattle.lc_cli.proofs.InputsLemmas.{inputs_recorded}
+use Rattle.lc_cli.proofs.OneDrillLemmas.{summed_alike, summed_out}
 use Rattle.lc_cli.proofs.OneReplayLemmas.{one_replay}
 use Rattle.cli_words.specs.declared.command.Published.{Published}
 use Rattle.lc_cli.proofs.TopLemmas.{side_asked_with}
@@ -118,7 +120,7 @@ module _ {X Y : Type 0} (seen : X → LinkSeen) (saw : Y → LinkSeen) (one_time
       (fair_asked one_timetable loads_recorded recorded published asking other later (saw from) (saw to) y b tell other_fair)) a.asked
       (subst (λ f. IsAskedSo asking b.made published.publishing f (saw from) (saw to) y.text.items b.end) file b.asked)
 
-  module _ (one_command : OneCommand) (one_script : OneScript) (one_course : OneCourse) where
+  module _ (one_command : OneCommand) (one_script : OneScript) (one_course : OneCourse) (one_outcome : OneOutcome) where
     -- runs over these arguments and files that print something print one output
     pub one_run : OneRun seen saw
     one_run p q recorded words home at to s t x y = by x.right.command x.right.says x.right.prints other where
@@ -141,7 +143,13 @@ module _ {X Y : Type 0} (seen : X → LinkSeen) (saw : Y → LinkSeen) (one_time
       by (commands.Serve serve) says a b = absurd a
       by (commands.Plan plan) says a b = absurd (home (commands.Plan plan) says)
       by (commands.Relay relay) says a b = absurd (home (commands.Relay relay) says)
-      by (commands.Drill drill) says a b = absurd (home (commands.Drill drill) says)
+      by (commands.Drill drill) says a b =
+          let x = a.1 in
+          let y = b.1 in
+          let fair = at.fair_drill drill says x.replay x.drilled in
+          let other_fair = to.fair_drill drill (subst (λ w. SaysCommand w (commands.Drill drill)) words says) y.replay y.drilled in
+          let alike = summed_alike one_command one_timetable one_script one_course one_outcome drill _ _ _ _ (summed_out loads_recorded drill _ _ _ x fair) (summed_out loads_recorded drill _ _ _ y other_fair) in
+          alike.text
       by (commands.Ask ask) says a b =
           let fair = at.fair ask says in
           let other_fair = to.fair ask (subst (λ w. SaysCommand w (commands.Ask ask)) words says) in (

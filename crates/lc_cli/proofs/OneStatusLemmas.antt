@@ -1,5 +1,5 @@
 -- Two runs of one command over the same files end with one status, memory apart.
-use Rattle.std.proofs.Common.{◌≡◌, ◌∙◌, ◌⊎◌, ◌+◌, ◌∷◌, ℕ, inl, inr, List, [], None, Some, Option, Result, Ok, Err, ap, ap₂, refl, subst, sym}
+use Rattle.std.proofs.Common.{◌≡◌, ◌∙◌, ◌⊎◌, ◌+◌, ◌∷◌, ℕ, arith, codes, inl, inr, List, [], None, Some, Option, Result, Ok, Err, ap, ap₂, refl, subst, sym}
 use Rattle.std.specs.List.{AllZip}
 use Rattle.std.specs.Option.{unwrap_or}
 use Rattle.cli_ask.specs.Publishing.{side_for, side_with, store_of}
@@ -13,7 +13,9 @@ use Rattle.cli_words.specs.Laws.{OneCommand}
 use Rattle.cli_words.specs.Words.{SaysCommand}
 use Rattle.cli_words.specs.declared.command.Command.{Command}
 use Rattle.cli_words.specs.declared.command.Command.TheVariants as commands
+use Rattle.cli_words.specs.declared.command.Drill.{Drill}
 use Rattle.cli_words.specs.declared.command.Replay.{Replay}
+use Rattle.cli_words.specs.Drill.{drilled_words}
 use Rattle.lc_io.specs.Counts.{Rose}
 use Rattle.lc_io.specs.Folder.{FolderSeen}
 use Rattle.lc_io.specs.declared.file.File.{File}
@@ -39,7 +41,7 @@ use Rattle.lc_cli.specs.Block.{IsBlockEnd, client_status_of, failed_status_of}
 use Rattle.lc_cli.specs.Clear.{HasFairLink, HasTimetable, IsClear, IsRecordedCourse, IsRecordedFile, IsUnhindered}
 use Rattle.lc_cli.specs.Command.{IsQuestionBlock, IsRefusedAs, IsRightBlock, IsRightRefusal, Prints}
 use Rattle.lc_cli.specs.Scope.{scope_of}
-use Rattle.lc_cli.specs.Drill.{drill_folder, sure_seen}
+use Rattle.lc_cli.specs.Drill.{IsDrillRefused, IsDrilled, drill_folder, sure_seen}
 use Rattle.cli_drill.specs.Files.{drill_files}
 use Rattle.cli_inputs.specs.Inputs.{AsksForUpdate, IsRefusedFor}
 use Rattle.lc_cli.specs.Laws.{AreInProcess, DoneIsClear, DoneIsPrinted, IsInProcess, OneStatus}
@@ -54,6 +56,7 @@ use Rattle.lc_cli.specs.declared.status.Status.{Status}
 use Rattle.lc_cli.specs.declared.status.Status.TheVariants.{Done, NoMemory, ScriptWrong, UpdateBroken, Usage}
 use Rattle.lc_cli.proofs.CourseRefusalLemmas.{HasLoaded, IsCourseRefused, IsRecordedCause, course_refused, not_refused, one_course_refusal, one_wrong, status_by, status_in}
 use Rattle.lc_cli.proofs.InputsLemmas.{absent_recorded, bytes_recorded, inputs_recorded, still_recorded}
+use Rattle.lc_cli.proofs.OneDrillLemmas.{summed_alike, summed_out}
 use Rattle.lc_cli.proofs.OneReplayLemmas.{one_replay}
 use Rattle.lc_cli.proofs.OneRunLemmas.{PrintOneSo, one_client}
 use Rattle.lc_cli.proofs.PlanLemmas.{asks_recorded}
@@ -94,6 +97,12 @@ record UpdateFails {X : Type 0} (scope : Scope) (update : Option (List ℕ)) (re
 abbrev Fails : {X : Type 0} → Scope → Option (List ℕ) → List File → Past X → Status → Type 0
 Fails scope update recorded p s = LoadFails scope p s ⊎ UpdateFails scope update recorded p s
 
+-- the generated files refuse the event sequence of a drill
+record DrillFails (drill : Drill) (s : Status) : Type 0 where
+  replay : Replay
+  drilled : IsDrilled drill replay
+  refused : IsCourseRefused (drill_files drill.seed drill.days) replay s
+
 -- what the files refuse: the feed or the message of a command, or its event sequence
 abbrev IsRefusedSo : {X : Type 0} → List File → Past X → Status → Command → Type 0
 IsRefusedSo recorded p s (commands.Check check) = Fails (scope_of check.window) None recorded p s
@@ -102,7 +111,7 @@ IsRefusedSo recorded p s (commands.Replay replay) = IsCourseRefused recorded rep
 IsRefusedSo recorded p s (commands.Serve serve) = Unit {0}
 IsRefusedSo recorded p s (commands.Plan plan) = Unit {0}
 IsRefusedSo recorded p s (commands.Relay relay) = Unit {0}
-IsRefusedSo recorded p s (commands.Drill drill) = Unit {0}
+IsRefusedSo recorded p s (commands.Drill drill) = DrillFails drill s
 IsRefusedSo recorded p s (commands.Fewest fewest) = Fails (scope_of fewest.published.window) fewest.published.update recorded p s
 IsRefusedSo recorded p s (commands.Arrive arrive) = Fails (scope_of arrive.published.window) arrive.published.update recorded p s
 
@@ -156,6 +165,14 @@ module _ {X : Type 0} (seen : X → LinkSeen) (p : Past X) (recorded : List File
       inr (inr (by_update scope update (Ok is.bytes) is.asks (Some (faults.Broken found)) (is.bytes, bytes, (λ store. is.broken), (λ ignored. ignored))
       (status ∙ ap (λ n. UpdateBroken n found) same)))
 
+  drill_refused : (drill : Drill) (refusal : Refusal) → s ≡ status_of refusal → IsDrillRefused drill refusal → (s ≡ NoMemory) ⊎ DrillFails drill s
+  drill_refused drill refusal status (inl memory) = inl (status ∙ ap status_of memory)
+  drill_refused drill refusal status (inr is) =
+      of (course_refused (drill_files drill.seed drill.days) is.replay (sure_seen (drill_folder drill)) (sure_seen is.read) refl (λ rose. omega (arith, rose)) s refusal is.refused status) where
+        of : (s ≡ NoMemory) ⊎ IsCourseRefused (drill_files drill.seed drill.days) is.replay s → (s ≡ NoMemory) ⊎ DrillFails drill s
+        of (inl memory) = inl memory
+        of (inr refused_is) = inr (record { replay = is.replay; drilled = is.drilled; refused = refused_is })
+
   refused_so : (command : Command) (refusal : Refusal) → s ≡ status_of refusal → IsRefusedAs command p.folder_before p.folder_after refusal → (s ≡ NoMemory) ⊎ IsRefusedSo recorded p s command
   refused_so (commands.Check check) refusal status is = by_refusal (scope_of check.window) None refusal status is
   refused_so (commands.Ask ask) refusal status is = by_refusal (scope_of ask.published.window) ask.published.update refusal status is
@@ -163,7 +180,7 @@ module _ {X : Type 0} (seen : X → LinkSeen) (p : Past X) (recorded : List File
   refused_so (commands.Serve serve) refusal status is = inr tt
   refused_so (commands.Plan plan) refusal status is = inr tt
   refused_so (commands.Relay relay) refusal status is = inr tt
-  refused_so (commands.Drill drill) refusal status is = inr tt
+  refused_so (commands.Drill drill) refusal status is = drill_refused drill refusal status is.1
   refused_so (commands.Fewest fewest) refusal status is = by_refusal (scope_of fewest.published.window) fewest.published.update refusal status is
   refused_so (commands.Arrive arrive) refusal status is = by_refusal (scope_of arrive.published.window) arrive.published.update refusal status is
 
@@ -266,6 +283,15 @@ module _ {X Y : Type 0} (seen : X → LinkSeen) (saw : Y → LinkSeen) (one_comm
     course : IsRecordedCourse recorded replay made all
     loaded : HasLoaded recorded replay
 
+  -- that of a drill was played over the generated files
+  record PlayedDrill (drill : Drill) : Type 0 where
+    replay : Replay
+    drilled : IsDrilled drill replay
+    made : Timetable
+    all : List Event
+    course : IsRecordedCourse (drill_files drill.seed drill.days) replay made all
+    loaded : HasLoaded (drill_files drill.seed drill.days) replay
+
   abbrev LoadedSo : {Z : Type 0} → Past Z → Command → Type 0
   LoadedSo r (commands.Check check) = Loaded (scope_of check.window) None r
   LoadedSo r (commands.Ask ask) = Loaded (scope_of ask.published.window) ask.published.update r
@@ -273,7 +299,7 @@ module _ {X Y : Type 0} (seen : X → LinkSeen) (saw : Y → LinkSeen) (one_comm
   LoadedSo r (commands.Serve serve) = Unit {0}
   LoadedSo r (commands.Plan plan) = Unit {0}
   LoadedSo r (commands.Relay relay) = Unit {0}
-  LoadedSo r (commands.Drill drill) = Unit {0}
+  LoadedSo r (commands.Drill drill) = PlayedDrill drill
   LoadedSo r (commands.Fewest fewest) = Loaded (scope_of fewest.published.window) fewest.published.update r
   LoadedSo r (commands.Arrive arrive) = Loaded (scope_of arrive.published.window) arrive.published.update r
 
@@ -313,7 +339,24 @@ module _ {X Y : Type 0} (seen : X → LinkSeen) (saw : Y → LinkSeen) (one_comm
   loaded look r block tells (commands.Serve serve) prints = tt
   loaded look r block tells (commands.Plan plan) prints = tt
   loaded look r block tells (commands.Relay relay) prints = tt
-  loaded look r block tells (commands.Drill drill) prints = tt
+  loaded look r block tells (commands.Drill drill) prints =
+      let x = prints.1 in
+      let files = drill_files drill.seed drill.days in
+      let inputs = x.played.inputs in
+      record {
+        replay = x.replay;
+        drilled = x.drilled;
+        made = x.played.made;
+        all = x.played.all;
+        course = course_recorded loads_recorded files x.replay (sure_seen (drill_folder drill)) (sure_seen x.read) x.played.made x.played.all refl inputs;
+        loaded = record {
+          old = inputs.has.between;
+          new = inputs.between;
+          tells = still_recorded files (sure_seen (drill_folder drill)) inputs.has.between refl inputs.has.script.kept;
+          made = inputs.has.made;
+          loads = inputs.has.loaded;
+        };
+      }
   loaded look r block tells (commands.Fewest fewest) prints = loaded_question look r fewest.published (askings.Fewest fewest.query) block prints tells
   loaded look r block tells (commands.Arrive arrive) prints = loaded_question look r arrive.published (askings.Latest arrive.query) block prints tells
   loaded look r block tells (commands.Check check) prints =
@@ -354,7 +397,14 @@ module _ {X Y : Type 0} (seen : X → LinkSeen) (saw : Y → LinkSeen) (one_comm
     by (commands.Serve serve) says a b = absurd a
     by (commands.Plan plan) says a b = absurd (home (commands.Plan plan) says)
     by (commands.Relay relay) says a b = absurd (home (commands.Relay relay) says)
-    by (commands.Drill drill) says a b = absurd (home (commands.Drill drill) says)
+    by (commands.Drill drill) says a b =
+        let x' = a.1 in
+        let y' = b.1 in
+        let fair = at.fair_drill drill says x'.replay x'.drilled in
+        let other_fair = to.fair_drill drill (subst (λ w. SaysCommand w (commands.Drill drill)) words says) y'.replay y'.drilled in
+        let alike = summed_alike one_command one_timetable one_script one_course one_outcome drill _ _ _ _ (summed_out loads_recorded drill _ _ _ x' fair) (summed_out loads_recorded drill _ _ _ y' other_fair) in
+        one_clients_status 1 x.block.ends.items y.block.ends.items alike.one_each
+        (course_fine loads_recorded (drill_files drill.seed drill.days) x'.replay (sure_seen (drill_folder drill)) (sure_seen x'.read) (seen p.link_before) (seen p.link_after) x'.text x.block.ends.items x'.played refl fair)
     by (commands.Replay replay) says a b =
         let fair = at.fair_course replay says in
         let one = one_replay loads_recorded one_timetable one_script one_course recorded replay p.folder_before p.folder_after q.folder_before q.folder_after (seen p.link_before) (seen p.link_after)
@@ -375,6 +425,12 @@ module _ {X Y : Type 0} (seen : X → LinkSeen) (saw : Y → LinkSeen) (one_comm
       one_end recorded scope r.folder_before x.between u.folder_before u.folder_after (Ok x.made) (Err y.found) tells tell tt y.of_files x.loads y.loads
   clash_loaded r u v tells tell scope update x (inr y) = heard_or_wrong y.name y.cause (subst (IsHeardBy recorded) y.named x.heard) y.is
 
+  -- the replay of a drill is one
+  same_replay : (drill : Drill) (a b : Replay) → IsDrilled drill a → IsDrilled drill b → b ≡ a
+  same_replay drill a b x y =
+      let other : commands.Replay b ≡ commands.Replay a = one_command (codes "replay" ∷ drilled_words drill.days) (commands.Replay b) (commands.Replay a) y x in
+      cc
+
   clash : {Z W : Type 0} (r : Past Z) (u : Past W) (v : Status) → r.folder_before.files ≡ Some recorded → u.folder_before.files ≡ Some recorded → (command : Command) → IsInProcess command
       → LoadedSo r command → IsRefusedSo recorded u v command → ⊥
   clash r u v tells tell (commands.Check check) here x y = clash_loaded r u v tells tell (scope_of check.window) None x y
@@ -384,7 +440,10 @@ module _ {X Y : Type 0} (seen : X → LinkSeen) (saw : Y → LinkSeen) (one_comm
   clash r u v tells tell (commands.Serve serve) here x y = here
   clash r u v tells tell (commands.Plan plan) here x y = here
   clash r u v tells tell (commands.Relay relay) here x y = here
-  clash r u v tells tell (commands.Drill drill) here x y = here
+  clash r u v tells tell (commands.Drill drill) here x y =
+      let files = drill_files drill.seed drill.days in
+      not_refused one_outcome one_end one_script one_fault never_both files x.replay x.made x.all v x.course x.loaded
+      (subst (λ (r : Replay). IsCourseRefused files r v) (same_replay drill x.replay y.replay x.drilled y.drilled) y.refused)
   clash r u v tells tell (commands.Fewest fewest) here x y = clash_loaded r u v tells tell (scope_of fewest.published.window) fewest.published.update x y
   clash r u v tells tell (commands.Arrive arrive) here x y = clash_loaded r u v tells tell (scope_of arrive.published.window) arrive.published.update x y
 
@@ -420,7 +479,10 @@ module _ {X Y : Type 0} (seen : X → LinkSeen) (saw : Y → LinkSeen) (one_comm
   both_refused (commands.Serve serve) here x y = absurd here
   both_refused (commands.Plan plan) here x y = absurd here
   both_refused (commands.Relay relay) here x y = absurd here
-  both_refused (commands.Drill drill) here x y = absurd here
+  both_refused (commands.Drill drill) here x y =
+      let files = drill_files drill.seed drill.days in
+      one_course_refusal one_outcome one_end one_script one_fault never_both files x.replay s t x.refused
+      (subst (λ (r : Replay). IsCourseRefused files r t) (same_replay drill x.replay y.replay x.drilled y.drilled) y.refused)
   both_refused (commands.Fewest fewest) here x y = both_fail (scope_of fewest.published.window) fewest.published.update x y
   both_refused (commands.Arrive arrive) here x y = both_fail (scope_of arrive.published.window) arrive.published.update x y
 

@@ -24,14 +24,14 @@ pub record PrintOneCourse (x y : Block) : Type 0 where
   pub second_is : y.text.items ≡ lines ++ clients_text_of 1 y.ends.items
   pub one_each : AllZip AreOneEnd x.ends.items y.ends.items
 
--- the command asks an in-process publisher, or none, and prints what each client found
+-- the command asks an in-process publisher, or none
 abbrev pub IsInProcess : Command → Type 0
 IsInProcess (commands.Check check) = Unit {0}
 IsInProcess (commands.Ask ask) = Unit {0}
 IsInProcess (commands.Replay replay) = Unit {0}
 IsInProcess (commands.Serve serve) = ⊥
 IsInProcess (commands.Plan plan) = ⊥
-IsInProcess (commands.Drill drill) = ⊥
+IsInProcess (commands.Drill drill) = Unit {0}
 IsInProcess (commands.Fewest fewest) = Unit {0}
 IsInProcess (commands.Arrive arrive) = Unit {0}
 IsInProcess (commands.Relay relay) = ⊥
@@ -40,12 +40,12 @@ IsInProcess (commands.Relay relay) = ⊥
 abbrev pub AreInProcess : List (List ℕ) → Type 0
 AreInProcess words = (command : Command) → SaysCommand words command → IsInProcess command
 
--- The outputs of such a command are one: the same counts, or the same lines of messages and clients whose ends are one. Journeys of `fewest`
--- have as many rides, and journeys of `arrive` leave at one moment.
+-- The outputs of such a command are one: the same counts or sums, or the same lines of messages and clients whose ends are one. Journeys of
+-- `fewest` have as many rides, and journeys of `arrive` leave at one moment.
 abbrev pub PrintOne : Command → Block → Block → Type 0
 PrintOne (commands.Serve serve) x y = ⊥
 PrintOne (commands.Plan plan) x y = ⊥
-PrintOne (commands.Drill drill) x y = ⊥
+PrintOne (commands.Drill drill) x y = x.text.items ≡ y.text.items
 PrintOne (commands.Relay relay) x y = ⊥
 PrintOne (commands.Check check) x y = x.text.items ≡ y.text.items
 PrintOne (commands.Replay replay) x y = PrintOneCourse x y

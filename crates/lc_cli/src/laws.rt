@@ -70,12 +70,13 @@ pub fn near_arrive()
 
 /// Runs of equal arguments over equal files, which nothing hindered, print one output: equal counts, or equal lines of messages. Clients have
 /// one version, one arrival and one number of exchanges, and journeys of `fewest` have as many rides. Those of `arrive` leave at one moment,
-/// and may arrive at others. It speaks of `check`, `ask`, `fewest`, `arrive` and `replay`.
+/// and may arrive at others. Those of `drill` print one text. It speaks of the commands that ask an in-process publisher, or none.
 pub fn one_run<L: Link, M: Link>()
     ensures { OneRun L.seen M.seen }
 {
     one_command();
     one_timetable();
+    one_outcome();
     one_script();
     one_course();
     one_output::<L, M>();
@@ -83,8 +84,8 @@ pub fn one_run<L: Link, M: Link>()
     one_latest_output::<L, M>();
 }
 
-/// Runs of equal arguments over equal files, which nothing hindered, end with one status, memory apart. They are of `check`, `ask`, `fewest`,
-/// `arrive` or `replay`. Of each command, a run that is done printed its output or served its connections, and nothing hindered it.
+/// Runs of equal arguments over equal files, which nothing hindered, end with one status, memory apart. They ask an in-process publisher
+/// or none. Of each command, a run that is done printed its output or served its connections, and nothing hindered it.
 pub fn one_status<L: Link, M: Link>()
     ensures one { OneStatus L.seen M.seen }
     ensures printed { DoneIsPrinted L.seen }
