@@ -3,6 +3,7 @@ pub mod Call
 pub mod Change
 pub mod Connection
 pub mod Disorder
+pub mod Held
 pub mod Journey
 pub mod Laws
 pub mod Leg

@@ -1,8 +1,9 @@
 -- Without news a run that goes forward and is not late has its own calls as its live ones.
-use Rattle.std.proofs.Common.{◌≡◌, ◌⊎◌, inl, inr, ◌∙◌, ℕ, suc, ◌<◌, ◌≤◌, max, ℤ, pos, List, [], ◌∷◌, Some, None, refl, sym, ap, ap₂, subst, arith}
+use Rattle.std.proofs.Common.{◌≡◌, ◌⊎◌, inl, inr, ◌∙◌, ℕ, suc, ◌+◌, ◌<◌, ◌≤◌, max, ℤ, pos, List, [], ◌∷◌, length, get_or, drop, Some, None, refl, sym, ap, ap₂, subst, add-one, arith}
 use Rattle.std.specs.Prelude.{◌+ℤ◌, ◌-ℤ◌}
 use Rattle.std.specs.List.{All, Contains}
 use Rattle.std.proofs.lemmas.Int.{ints}
+use Rattle.std.proofs.lemmas.List.{drop_more}
 use Rattle.std.proofs.lemmas.List.Elements.{All-head, All-tail}
 use Rattle.lc_model.specs.Call.{GoesForward}
 use Rattle.lc_model.specs.declared.call.Call.{Call}
@@ -13,6 +14,7 @@ use Rattle.lc_versions.specs.Added.{IsFurtherRun}
 use Rattle.lc_versions.specs.Live.{call_at, calls_with, in_range, raised, stated_calls}
 use Rattle.lc_versions.specs.Timetable.{IsLiveRun}
 use Rattle.live_calls.specs.Laws.{IsOnTime, LiveWithoutNews, RunsAreLive, RunsOnTime}
+use Rattle.live_calls.specs.Walk.{IsKeptAfter}
 use Rattle.live_calls.proofs.ForwardLemmas.{AllPairs-head, AllPairs-tail}
 use Rattle.live_calls.proofs.LawLemmas.{one_live_list}
 
@@ -41,23 +43,41 @@ raised_none before n le under =
     let same : in_range (pos n +ℤ pos 0) ≡ n = omega arith in
     omega (arith, same)
 
+-- a call that is kept, before those after its departure
+kept_call : (before place : ℕ) (call : Call) (rest : List Call) → IsKeptAfter before call
+    → raised before (stated_calls [] place (pos 0) (call ∷ rest)) ≡ call ∷ raised call.dep (stated_calls [] (suc place) (pos 0) rest)
+kept_call before place call rest kept =
+    let arr : max before (in_range (pos call.arr +ℤ pos 0)) ≡ call.arr = raised_none before call.arr kept.after kept.on_time.arr in
+    let dep : max call.arr (in_range (pos call.dep +ℤ pos 0)) ≡ call.dep = raised_none call.arr call.dep kept.stays kept.on_time.dep in
+    ap (λ a. call_at call a (max a (in_range (pos call.dep +ℤ pos 0))) ∷ raised (max a (in_range (pos call.dep +ℤ pos 0))) (stated_calls [] (suc place) (pos 0) rest)) arr
+    ∙ ap (λ d. call_at call call.arr d ∷ raised d (stated_calls [] (suc place) (pos 0) rest)) dep
+    ∙ ap (λ (c : Call). c ∷ raised call.dep (stated_calls [] (suc place) (pos 0) rest)) (own_moments call kept.on_time)
+
+-- where the calls after one that is kept are the live ones, so are they with it
+pub kept_more : (calls : List Call) (place before : ℕ) (call : Call) → place < length calls → call ≡ get_or calls place call → IsKeptAfter before call
+    → raised call.dep (stated_calls [] (place + 1) (pos 0) (drop (place + 1) calls)) ≡ drop (place + 1) calls
+    → raised before (stated_calls [] place (pos 0) (drop place calls)) ≡ drop place calls
+kept_more calls place before call inside is kept rest =
+    let later : List Call = drop (place + 1) calls in
+    let here : drop place calls ≡ call ∷ later = drop_more calls place call inside ∙ ap (λ (c : Call). c ∷ later) (sym is) in
+    subst (λ (list : List Call). raised before (stated_calls [] place (pos 0) list) ≡ list) (sym here)
+    (kept_call before place call later kept ∙ ap (λ (list : List Call). call ∷ list) (subst (λ n. raised call.dep (stated_calls [] n (pos 0) later) ≡ later) (add-one place) rest))
+
 same_calls : (before place : ℕ) (calls : List Call) → All (λ (c : Call). before ≤ c.arr) calls → GoesForward calls → All IsOnTime calls → raised before (stated_calls [] place (pos 0) calls) ≡ calls
 same_calls before place [] above forward on = refl
 same_calls before place (call ∷ rest) above forward on =
-    let here = All-head IsOnTime call rest on in
-    let le : before ≤ call.arr = All-head (λ (c : Call). before ≤ c.arr) call rest above in
-    let stay : call.arr ≤ call.dep = All-head (λ (x : Call). x.arr ≤ x.dep) call rest forward.at_a_stop in
-    let arr : max before (in_range (pos call.arr +ℤ pos 0)) ≡ call.arr = raised_none before call.arr le here.arr in
-    let dep : max call.arr (in_range (pos call.dep +ℤ pos 0)) ≡ call.dep = raised_none call.arr call.dep stay here.dep in
+    let kept : IsKeptAfter before call = record {
+      on_time = All-head IsOnTime call rest on;
+      after = All-head (λ (c : Call). before ≤ c.arr) call rest above;
+      stays = All-head (λ (x : Call). x.arr ≤ x.dep) call rest forward.at_a_stop;
+    } in
     let later = same_calls call.dep (suc place) rest (AllPairs-head (λ (x y : Call). x.dep ≤ y.arr) call rest forward.along)
     (record {
       in_sequence = AllPairs-tail (λ (x y : Call). x.seq < y.seq) call rest forward.in_sequence;
       at_a_stop = All-tail (λ (x : Call). x.arr ≤ x.dep) call rest forward.at_a_stop;
       along = AllPairs-tail (λ (x y : Call). x.dep ≤ y.arr) call rest forward.along;
     }) (All-tail IsOnTime call rest on) in
-    ap (λ a. call_at call a (max a (in_range (pos call.dep +ℤ pos 0))) ∷ raised (max a (in_range (pos call.dep +ℤ pos 0))) (stated_calls [] (suc place) (pos 0) rest)) arr
-    ∙ ap (λ d. call_at call call.arr d ∷ raised d (stated_calls [] (suc place) (pos 0) rest)) dep
-    ∙ ap₂ (λ (c : Call) (cs : List Call). c ∷ cs) (own_moments call here) later
+    kept_call before place call rest kept ∙ ap (λ (list : List Call). call ∷ list) later
 
 own_calls : (calls : List Call) → GoesForward calls → All IsOnTime calls → calls_with calls [] ≡ calls
 own_calls calls forward on = same_calls 0 0 calls (λ k d inside. omega arith) forward on

@@ -1,5 +1,5 @@
 -- How a call is stated by its news, one call at a time.
-use Rattle.std.specs.Prelude.{ℕ, ◌≤ℤ◌, ℤ, pos, negsuc, List, [], ◌∷◌, map, filter, ◌==◌, if◌then◌else◌, Option, Some, None}
+use Rattle.std.specs.Prelude.{ℕ, ◌≤◌, ◌≤ℤ◌, ℤ, pos, negsuc, List, [], ◌∷◌, map, filter, ◌==◌, if◌then◌else◌, Option, Some, None}
 use Rattle.std.specs.List.{last_or}
 use Rattle.lc_model.specs.declared.call.Call.{Call}
 use Rattle.lc_model.specs.declared.stop.Stop.{Stop}
@@ -7,12 +7,19 @@ use Rattle.lc_versions.specs.Added.{added_known, has_stop, is_skipped, time_of}
 use Rattle.lc_versions.specs.Live.{StatedCall}
 use Rattle.lc_versions.specs.Naming.{Naming}
 use Rattle.lc_versions.specs.News.{StopSaid}
+use Rattle.live_calls.specs.Laws.{IsOnTime}
 use Rattle.live_calls.specs.declared.stated.Times.{Times}
 
 -- as late or early as a call may be stated: by any 64 bits of seconds
 pub record IsLateness (late : ℤ) : Type 0 where
   pub low : negsuc 18_446_744_073_709_551_615 ≤ℤ late
   pub high : late ≤ℤ pos 18_446_744_073_709_551_616
+
+-- the call is on time, and not before a moment
+pub record IsKeptAfter (before : ℕ) (call : Call) : Type 0 where
+  pub on_time : IsOnTime call
+  pub after : before ≤ call.arr
+  pub stays : call.arr ≤ call.dep
 
 -- a call that is made in this way at its times, or none where it has none
 abbrev pub stated_list : (ℕ → ℕ → Call) → Option Times → List StatedCall

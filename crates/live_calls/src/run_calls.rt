@@ -1,9 +1,9 @@
-ghost use Rattle.std.specs.Prelude.{◌≡◌, ◌++◌, IfOk, List, Some};
+ghost use Rattle.std.specs.Prelude.{◌≡◌, ◌++◌, IfOk, IsTrue, List, None, Some};
 ghost use Rattle.std.specs.Option.{option_copied};
 ghost use Rattle.lc_model.specs.Call.{GoesForward, InSequence};
 ghost use Rattle.lc_versions.specs.Live.{StatedCall, call_at, calls_with, live_calls_of, raised};
 ghost use Rattle.lc_versions.specs.Naming.{is_canceled};
-ghost use Rattle.live_calls.specs.Walk.{stated_list};
+ghost use Rattle.live_calls.specs.Walk.{IsKeptAfter, stated_list};
 
 use crate::forward::{Raised, nearest, raise};
 use crate::naming::named_news;
@@ -88,23 +88,59 @@ fn calls_by(alloc: Global, calls: &[Call], news: &TripNews) -> Result<Vec<Call>,
     calls_with(alloc, calls, news.stops.as_slice())
 }
 
-/// The calls with the news of their run, or without.
-fn live_list(alloc: Global, calls: &[Call], news: Option<&TripNews>) -> Result<Vec<Call>, NoMemory>
-    requires { InSequence calls.now }
-    ensures { IfOk result (λ live. live.items ≡ live_calls_of calls.now (option_copied news.entry)) }
+/// Whether a call is on time, and not before a moment.
+fn is_kept(before: Moment, call: &Call) -> bool
+    ensures { IsTrue result → IsKeptAfter before call.now }
 {
-    match news {
-        None => calls_with(alloc, calls, &[]),
-        Some(news) => calls_by(alloc, calls, news),
+    let (arr, dep) = (call.arr.seconds(), call.dep.seconds());
+    before.seconds() <= arr && arr <= dep && call.arr_delay == 0 && call.dep_delay == 0
+}
+
+/// Whether the calls are the live ones where there are no news: they go forward, and none is late.
+fn are_kept(calls: &[Call]) -> bool
+    ensures { IsTrue result → live_calls_of calls.now None ≡ calls.now }
+{
+    let mut before = nearest(0);
+    'calls: for call in calls {
+        if !is_kept(before, call) {
+            return false;
+        }
+        before = call.dep;
     }
+    true
+}
+
+/// The calls without news of their run. Where these are the calls themselves, they are shared if copies share them.
+fn live_without(alloc: Global, calls: &Calls) -> Result<Calls, NoMemory>
+    ensures live { IfOk result (λ live. live ≡ live_calls_of calls.now None) }
+    ensures forward { IfOk result GoesForward }
+{
+    let own = calls.as_slice();
+    if are_kept(own) {
+        return Ok(calls.copy(alloc)?);
+    }
+    let live = calls_with(alloc, own, &[])?;
+    Ok(Calls::from_list(live))
+}
+
+/// The calls with the news of their run.
+fn live_with(alloc: Global, calls: &Calls, news: &TripNews) -> Result<Calls, NoMemory>
+    ensures live { IfOk result (λ live. live ≡ live_calls_of calls.now (Some news.now)) }
+    ensures forward { IfOk result GoesForward }
+{
+    let live = calls_by(alloc, calls.as_slice(), news)?;
+    Ok(Calls::from_list(live))
 }
 
 /// The live calls of a run with the news that name it, or without. It takes the time of the calls. News of stops take the time of a
-/// sort of the calls, and each of them the logarithm of the calls.
+/// sort of the calls, and each of them the logarithm of the calls. A run on time without news has its own calls, which take no memory where
+/// copies share them.
 pub fn live(alloc: Global, run: &Run, news: Option<&TripNews>) -> Result<Calls, NoMemory>
     ensures live { IfOk result (λ calls. calls ≡ live_calls_of run.now.calls (option_copied news.entry)) }
     ensures forward { IfOk result GoesForward }
 {
-    let calls = live_list(alloc, run.calls.as_slice(), news)?;
-    Ok(Calls::from_list(calls))
+    match news {
+        None => live_without(alloc, &run.calls),
+        Some(news) => live_with(alloc, &run.calls, news),
+    }
 }

@@ -72,7 +72,7 @@ fn calls_from(
     'rows: for place in 0..rows.len() {
         calls.push(call_from(alloc, &rows[place], stays[place], origin, first)?)?;
     }
-    Ok(Calls::from_list(calls))
+    Ok(Calls::shared(calls)?)
 }
 
 /// The calls of a run from this anchor on, with a start.

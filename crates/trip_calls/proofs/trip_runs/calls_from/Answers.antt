@@ -12,8 +12,8 @@ bounds-stays-place c =
     let size : length c.args.stays.now ≡ length c.args.rows.now = ap length c.requires.stays ∙ length-map-range_with_len (stay_at c.args.rows.now) 0 (length c.args.rows.now) in
     omega (arith, size)
 
-pub from_list-requires : goal.from_list-requires
-from_list-requires c =
+pub shared-requires : goal.shared-requires
+shared-requires c =
     let all = calls_from c.args.origin c.args.first c.args.rows.now in
     let whole : c.rows.calls.items ≡ all = c.rows.invariant ∙ take_all c.rows.place all (omega (arith, length-calls_from c.args.origin c.args.first c.args.rows.now)) in
     subst InSequence (sym whole) (in_sequence c.args.origin c.args.first c.args.rows.now c.requires.in_order)
@@ -21,7 +21,7 @@ from_list-requires c =
 pub returns : goal.returns
 returns c =
     let all = calls_from c.args.origin c.args.first c.args.rows.now in
-    c.from_list.ensures ∙ c.rows.invariant ∙ take_all c.rows.place all (omega (arith, length-calls_from c.args.origin c.args.first c.args.rows.now))
+    c.in_ok-shared.ensures ∙ c.rows.invariant ∙ take_all c.rows.place all (omega (arith, length-calls_from c.args.origin c.args.first c.args.rows.now))
 
 pub rows-preserved : goal.rows-preserved
 rows-preserved c =
