@@ -17,7 +17,7 @@ use Rattle.page_relay.specs.Below.LcWorld.Link.{LinkSeen}
 use Rattle.page_relay.specs.Below.LcWorld.declared.entry.Entry.{Entry}
 use Rattle.page_relay.specs.Laws.{CountsAreLengths, CountsAreSince, LeavesBelow, NewIsHonest}
 use Rattle.page_relay.specs.Relay.{HasRelayedOf, RelayState, beginning_of, new_relay, relay_seen, relayed_seen, transcript_in, transcript_of}
-use Rattle.page_relay.specs.Told.{HasRelayed, IsTold}
+use Rattle.page_relay.specs.Recorded.{HasRelayed, IsRecorded}
 
 same_list : (a b : List Entry) → Some a ≡ Some b → a ≡ b
 same_list a b e = cc
@@ -41,9 +41,9 @@ made_count : (base : BaseParts) (all : List Event) (cache entries : ℕ) (made :
     → AreCaused base all cache (Some (transcript_of base entries made [])) (Some (transcript_of base entries made own)) faults now_faults ends → exchanges_in ends ≡ length own
 made_count base all cache entries made own faults now_faults ends one_each caused =
     let met = caused.met in
-    let told = caused.by_replies.recorded in
+    let recorded = caused.by_replies.recorded in
     let front = beginning_of base entries made in
-    let grown : front ++ own ≡ front ++ told.entries = same_list (front ++ own) ((front ++ []) ++ told.entries) told.is ∙ ap (λ (list : List Entry). list ++ told.entries) (append-nil front) in
+    let grown : front ++ own ≡ front ++ recorded.entries = same_list (front ++ own) ((front ++ []) ++ recorded.entries) recorded.is ∙ ap (λ (list : List Entry). list ++ recorded.entries) (append-nil front) in
     let by_client : (place number : ℕ) (end : ClientEnd) → number ≡ (0 + place) + 1 → slice_get ends place ≡ Some end → end.exchanges ≡ exchanges_by number met =
     λ place number end e is.
     let query = some_at ends (questions_in all) place end one_each is in
@@ -52,8 +52,8 @@ made_count base all cache entries made own faults now_faults ends one_each cause
     ends_summed (λ k. exchanges_by k met) 0 ends by_client
     ∙ ap (λ (n : ℕ). sum_after (λ k. exchanges_by k met) 0 n) one_each
     ∙ all_asked (length (questions_in all)) met caused.by_replies.by_clients
-    ∙ recorded_len base (questions_in all) (asked_in met) told.entries told.are
-    ∙ ap length (sym (after_front front own told.entries grown))
+    ∙ recorded_len base (questions_in all) (asked_in met) recorded.entries recorded.are
+    ∙ ap length (sym (after_front front own recorded.entries grown))
 
 module _ {X : Type 0} (seen : X → LinkSeen) where
   -- what was planned over a new relay of a link, as it is said of the link
@@ -81,7 +81,7 @@ module _ {X : Type 0} (seen : X → LinkSeen) where
               relayed = relay.relayed;
               forwarded = relay.exchanger.forwarded;
               has = has;
-              relayed_is = has.told.relayed_is refl ∙ ap (λ (n : ℕ). min n (2 ^ 64 - 1)) (sym (made_count base all cache entries made own (seen before).faults (seen after).faults ends planned.one_each planned.caused));
+              relayed_is = has.recorded.relayed_is refl ∙ ap (λ (n : ℕ). min n (2 ^ 64 - 1)) (sym (made_count base all cache entries made own (seen before).faults (seen after).faults ends planned.one_each planned.caused));
               text_is = x.text_is;
             }
 
@@ -115,8 +115,8 @@ module _ {X : Type 0} (seen : X → LinkSeen) where
   pub counts_growth : CountsAreLengths → CountsAreGrowth seen
   counts_growth lengths base all cache entries before after text ends made now x made_is now_is =
       (lengths made now x.kept x.own x.relayed x.forwarded
-      (subst (λ (o : Option (List Entry)). IsTold o (Some now) x.kept x.own x.relayed x.forwarded true) made_is
-      (subst (λ (o : Option (List Entry)). IsTold (seen before).recorded o x.kept x.own x.relayed x.forwarded true) now_is x.has.told))).forwarded_is
+      (subst (λ (o : Option (List Entry)). IsRecorded o (Some now) x.kept x.own x.relayed x.forwarded true) made_is
+      (subst (λ (o : Option (List Entry)). IsRecorded (seen before).recorded o x.kept x.own x.relayed x.forwarded true) now_is x.has.recorded))).forwarded_is
 
 -- facts of a result that come together
 pub all_three : {T E : Type 0} (r : Result T E) (A : Type 0) (P Q R : T → Type 0) → (A → (v : T) → P v → Q v → R v) → OnOk r A → IfOk r P → IfOk r Q → IfOk r R

@@ -8,7 +8,7 @@ use Rattle.page_relay.specs.Below.LcWorld.Link.{LinkSeen}
 use Rattle.page_relay.specs.Below.LcWorld.declared.entry.Entry.{Entry}
 use Rattle.page_relay.specs.Kept.{Kept}
 use Rattle.page_relay.specs.Relay.{relayed_seen, transcript_of}
-use Rattle.page_relay.specs.Told.{HasRelayed}
+use Rattle.page_relay.specs.Recorded.{HasRelayed}
 
 -- `relayed {n} forwarded {n}`
 abbrev pub counts_line_of : ℕ → ℕ → List ℕ

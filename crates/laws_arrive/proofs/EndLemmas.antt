@@ -81,7 +81,7 @@ record IsSentOn {X : Type 0} (seen : X → LinkSeen) (base : BaseParts) (asked :
   accepted : IsRefusal (forward_query asked) None
   at : Side
   by_gate : LeavesHonest base side at (seen link) (seen mid)
-  told : TellsRequests (seen link).recorded (seen mid).recorded base.authority (gate_request base asked ∷ [])
+  recorded : TellsRequests (seen link).recorded (seen mid).recorded base.authority (gate_request base asked ∷ [])
   published : Published
   is_published : IsPublished at (version_at at asked.known) published
   is_first : first ≡ named (version_at at asked.known) (page_for published.first published.rest asked.arrive).departs
@@ -89,13 +89,13 @@ record IsSentOn {X : Type 0} (seen : X → LinkSeen) (base : BaseParts) (asked :
 
 sent_on : {X : Type 0} (seen : X → LinkSeen) (base : BaseParts) (asked : ArriveQuery) (side at : Side) (link mid : X) (first : PageName) → IsRefusal (forward_query asked) None → LeavesHonest base side at (seen link) (seen mid) →
     TellsRequests (seen link).recorded (seen mid).recorded base.authority (gate_request base asked ∷ []) → IsGatePage at (gate_query asked) first → IsSentOn seen base asked side link mid first
-sent_on seen base asked side at link mid first accepted by_gate told sent =
+sent_on seen base asked side at link mid first accepted by_gate recorded sent =
     let among : IsAmong at (version_at at asked.known) asked.arrive sent.page = pages_are_among at (version_at at asked.known) asked.arrive sent.page sent.is_page in
     record {
       accepted = accepted;
       at = at;
       by_gate = by_gate;
-      told = told;
+      recorded = recorded;
       published = among.published;
       is_published = among.is_published;
       is_first = sent.is ∙ ap (λ (p : Page). p.name) among.is;
@@ -132,14 +132,14 @@ module _ {X : Type 0} (seen : X → LinkSeen) (base : BaseParts) (asked : Arrive
       TellsRequests (seen mid).recorded (seen last).recorded base.authority requests → count ≡ length (gate_request base asked ∷ requests) →
       EndsAt base s.at asked (Some first.version) (gate_request base asked ∷ requests) (seen link).faults (seen last).faults outcome →
       IsRight seen base asked side link last (ended outcome (Some first.version) count)
-  right_after left last requests outcome count onward told many ends = record {
+  right_after left last requests outcome count onward recorded many ends = record {
     left = left;
     honest = leaves_then base side s.at left (seen link) (seen mid) (seen last) s.by_gate onward;
     requests = gate_request base asked ∷ requests;
-    recorded = requests_then (seen link).recorded (seen mid).recorded (seen last).recorded base.authority (gate_request base asked ∷ []) requests s.told told;
+    recorded = requests_then (seen link).recorded (seen mid).recorded (seen last).recorded base.authority (gate_request base asked ∷ []) requests s.recorded recorded;
     count = many;
     at = s.at;
-    named = record { link = mid; first = s.by_gate; recorded = s.told; is = version_is; behind = onward };
+    named = record { link = mid; first = s.by_gate; recorded = s.recorded; is = version_is; behind = onward };
     ends = ends;
   }
 

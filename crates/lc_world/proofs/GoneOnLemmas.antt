@@ -28,11 +28,11 @@ one_more : (before after : Option (List Entry)) (authority request : List ℕ) (
 one_more before after authority request given tells = record { more = record { authority = authority; request = request; reply = tells.reply } ∷ []; is = tells.is }
 
 -- an exchange is recorded behind the others, if it is
-told : {T : Type 0} (before after : Option (List Entry)) (authority request reply : List ℕ) (result : Result T LinkFail) → Tells before after authority request reply result → RecordsMore before after
-told before after authority request reply (Ok done) tells = one_more before after authority request (Some reply) tells
-told before after authority request reply (Err Failed) tells = one_more before after authority request None tells
-told before after authority request reply (Err NoMemory) (inl same) = subst (RecordsMore before) (sym same) (no_more before)
-told before after authority request reply (Err NoMemory) (inr tells) = one_more before after authority request None tells
+recorded_by : {T : Type 0} (before after : Option (List Entry)) (authority request reply : List ℕ) (result : Result T LinkFail) → Tells before after authority request reply result → RecordsMore before after
+recorded_by before after authority request reply (Ok done) tells = one_more before after authority request (Some reply) tells
+recorded_by before after authority request reply (Err Failed) tells = one_more before after authority request None tells
+recorded_by before after authority request reply (Err NoMemory) (inl same) = subst (RecordsMore before) (sym same) (no_more before)
+recorded_by before after authority request reply (Err NoMemory) (inr tells) = one_more before after authority request None tells
 
 no_less : (n : ℕ) → n ≤ n
 no_less n = omega arith
@@ -91,7 +91,7 @@ pub one_get :
     (before.clear → after.clear) → (before.still → after.still) → (before.still → IsGet request → after.side ≡ before.side) →
     Tells before.recorded after.recorded authority request reply result → before.faults ≤ after.faults → IsLeftByGets before after
 one_get before after authority request reply result get honest clear still side tells not_fallen = record {
-  gone_on = record { not_fallen = not_fallen; recorded_more = told before.recorded after.recorded authority request reply result tells; clear = clear };
+  gone_on = record { not_fallen = not_fallen; recorded_more = recorded_by before.recorded after.recorded authority request reply result tells; clear = clear };
   honest = λ base at is. let x = honest base at get is in record { left = x.side; honest = x.honest; later = x.later; same = x.same; quiet = x.quiet };
   still = still;
   side = λ was. side was get;

@@ -12,8 +12,8 @@ use Rattle.lc_world.specs.declared.link.LinkFail.TheVariants.{Failed, NoMemory}
 use Rattle.page_relay.specs.Exchanges.{AsksBelow, GoesOn, IsKeptAfter, reply_of}
 use Rattle.page_relay.specs.HandedOn.{AreRelayed, Follows, IsHandedOn, exchanged_of}
 use Rattle.page_relay.specs.Kept.{Kept, reply_for, sent_to}
-use Rattle.page_relay.specs.Told.{HasRelayed, Records, counted, known_of}
-use Rattle.page_relay.proofs.ToldLemmas.{RecordedMore, count_on, none_more, then_more, told_first}
+use Rattle.page_relay.specs.Recorded.{HasRelayed, Records, counted, known_of}
+use Rattle.page_relay.proofs.RecordedLemmas.{RecordedMore, count_on, none_more, then_more, recorded_first}
 
 -- what was handed on from an exchange on stands before what is handed on later
 on_and_on : (held : Option (List ℕ)) (entry : Entry) (rest handed_on more : List Entry) → IsHandedOn held entry rest handed_on → IsHandedOn held entry (rest ++ more) (handed_on ++ more)
@@ -124,7 +124,7 @@ module _ {X : Type 0} (seen : X → LinkSeen) (made : Option (List Entry)) (befo
 -- of a new relay
 pub relayed_first : (base : BaseParts) (entries : ℕ) (made : Option (List Entry)) → HasRelayed base entries made made [] [] 0 0 true
 relayed_first base entries made = record {
-  told = told_first made;
+  recorded = recorded_first made;
   follows = λ exact. record { handed_on = []; relayed = (refl, refl); is = none_more made; count_is = refl };
 }
 

@@ -8,7 +8,7 @@ mod KeepableLemmas
 mod MemoryLemmas
 mod NearLemmas
 mod NearRelayLemmas
+mod RecordedLemmas
 mod StatusLemmas
-mod ToldLemmas
 mod TranscriptLemmas
 mod WorkedLemmas

@@ -8,7 +8,7 @@ use Rattle.lc_world.specs.declared.entry.RecordedReply.TheVariants.{Reply}
 use Rattle.page_relay.specs.HandedOn.{AreRelayed}
 use Rattle.page_relay.specs.Kept.{Kept}
 use Rattle.page_relay.specs.Near.{NoneIsGivenUnasked, NoneIsHidden, NoneIsKeptUnasked, NotHandedOnAgain, NotInOtherOrder, NotOneMore, NothingIsLost}
-use Rattle.page_relay.specs.Told.{IsGiven, IsGivenOf, IsKeptOf, IsReplied}
+use Rattle.page_relay.specs.Recorded.{IsGiven, IsGivenOf, IsKeptOf, IsReplied}
 use Rattle.page_relay.specs.Worked.{example, replied, stops}
 use Rattle.page_relay.proofs.ExchangeLemmas.{one_memory}
 use Rattle.page_relay.proofs.TranscriptLemmas.{lengths}
@@ -26,31 +26,31 @@ no_reply : (authority request reply : List ℕ) → IsReplied [] authority reque
 no_reply authority request reply is = Contains-nil is.entry is.there
 
 pub none_is_kept_unasked : NoneIsKeptUnasked
-none_is_kept_unasked made sent reply kept own relayed forwarded exact told =
-    let none : told.handed_on ≡ [] = none_since made told.handed_on (same_list made (made ++ told.handed_on) told.is) in
+none_is_kept_unasked made sent reply kept own relayed forwarded exact recorded =
+    let none : recorded.handed_on ≡ [] = none_since made recorded.handed_on (same_list made (made ++ recorded.handed_on) recorded.is) in
     let first : Kept = (sent, reply) in
-    let by = All-head (IsKeptOf told.handed_on) first kept told.kept_of in
+    let by = All-head (IsKeptOf recorded.handed_on) first kept recorded.kept_of in
     no_reply sent.authority sent.request reply (subst (λ (handed_on : List Entry). IsReplied handed_on sent.authority sent.request reply) none by)
 
 pub none_is_given_unasked : NoneIsGivenUnasked
-none_is_given_unasked made kept entry reply own relayed forwarded exact is told =
-    let none : told.handed_on ≡ [] = none_since made told.handed_on (same_list made (made ++ told.handed_on) told.is) in
-    let by : IsGiven told.handed_on entry.authority entry.request (Reply reply) =
-    subst (IsGiven told.handed_on entry.authority entry.request) is (All-head (IsGivenOf told.handed_on) entry own told.given_of) in
+none_is_given_unasked made kept entry reply own relayed forwarded exact is recorded =
+    let none : recorded.handed_on ≡ [] = none_since made recorded.handed_on (same_list made (made ++ recorded.handed_on) recorded.is) in
+    let by : IsGiven recorded.handed_on entry.authority entry.request (Reply reply) =
+    subst (IsGiven recorded.handed_on entry.authority entry.request) is (All-head (IsGivenOf recorded.handed_on) entry own recorded.given_of) in
     no_reply entry.authority entry.request reply (subst (λ (handed_on : List Entry). IsReplied handed_on entry.authority entry.request reply) none by)
 
 pub nothing_is_lost : NothingIsLost
-nothing_is_lost made entry kept own relayed forwarded exact told =
-    let is : length made ≡ length (entry ∷ made) + length told.handed_on = ap length (same_list made ((entry ∷ made) ++ told.handed_on) told.is) ∙ length-append (entry ∷ made) told.handed_on in
+nothing_is_lost made entry kept own relayed forwarded exact recorded =
+    let is : length made ≡ length (entry ∷ made) + length recorded.handed_on = ap length (same_list made ((entry ∷ made) ++ recorded.handed_on) recorded.is) ∙ length-append (entry ∷ made) recorded.handed_on in
     omega (arith, is)
 
 one_more : (made now more most : ℕ) → now ≡ made + more → more < most → more + 1 ≡ min (now - made) most → ⊥
 one_more made now more most is bound counts = omega (arith, is, bound, counts)
 
 pub not_one_more : NotOneMore
-not_one_more made handed_on kept own relayed bound told =
+not_one_more made handed_on kept own relayed bound recorded =
     one_more (length made) (length (made ++ handed_on)) (length handed_on) (2 ^ 64 - 1) (length-append made handed_on) bound
-    (lengths made (made ++ handed_on) kept own relayed (length handed_on + 1) told).forwarded_is
+    (lengths made (made ++ handed_on) kept own relayed (length handed_on + 1) recorded).forwarded_is
 
 two_is_one : (m n most : ℕ) → m ≡ n → 1 ≡ min m most → 2 ≡ min n most → ⊥
 two_is_one m n most same one two = omega (arith, same, one, two)
@@ -62,8 +62,8 @@ not_handed_on_again reply kept made now keep again =
     two_is_one (length once.handed_on) (length again.handed_on) (2 ^ 64 - 1) one.count_is once.count_is again.count_is
 
 pub none_is_hidden : NoneIsHidden
-none_is_hidden made now kept own entry relayed forwarded exact there hidden told =
-    subst (IsGiven told.handed_on entry.authority entry.request) hidden (All-contains (IsGivenOf told.handed_on) own entry told.given_of there)
+none_is_hidden made now kept own entry relayed forwarded exact there hidden recorded =
+    subst (IsGiven recorded.handed_on entry.authority entry.request) hidden (All-contains (IsGivenOf recorded.handed_on) own entry recorded.given_of there)
 
 -- THE ORDER
 

@@ -11,7 +11,7 @@ use Rattle.page_relay.specs.HandedOn.{reply_in}
 use Rattle.page_relay.specs.Kept.{Kept}
 use Rattle.page_relay.specs.Laws.{AreOneRelay, CountsAreLengths, CountsAreSince, LeavesBelow, OneTranscript}
 use Rattle.page_relay.specs.Relay.{RelayState, beginning_of, transcript_in, transcript_of}
-use Rattle.page_relay.specs.Told.{HasRelayed, Records}
+use Rattle.page_relay.specs.Recorded.{HasRelayed, Records}
 use Rattle.page_relay.proofs.HonestLemmas.{below_is, new_is}
 use Rattle.std.specs.Prelude.{unwrap_or}
 
@@ -156,9 +156,9 @@ counts_since seen inner base entries after has more =
 
 pub leaves_below : {X : Type 0} (seen : X → LinkSeen) → LeavesBelow seen
 leaves_below seen inner base entries after has left =
-    let told = (counts_since seen inner base entries after has left.gone_on.recorded_more).has.told in
+    let recorded = (counts_since seen inner base entries after has left.gone_on.recorded_more).has.recorded in
     record {
-      gone_on = record { not_fallen = left.gone_on.not_fallen; recorded_more = record { more = told.handed_on; is = told.is }; clear = left.gone_on.clear };
+      gone_on = record { not_fallen = left.gone_on.not_fallen; recorded_more = record { more = recorded.handed_on; is = recorded.is }; clear = left.gone_on.clear };
       honest = λ under side honest.
           let l = left.honest under side (new_is under _ _ side honest) in
           record { left = l.left; honest = below_is under _ _ _ l.left l.honest; later = l.later; same = l.same; quiet = l.quiet };
@@ -170,9 +170,9 @@ grown : (made now more count most : ℕ) → now ≡ made + more → count ≡ m
 grown made now more count most is counts = omega (arith, is, counts)
 
 pub lengths : CountsAreLengths
-lengths made now kept own relayed forwarded told =
-    let is : now ≡ made ++ told.handed_on = same_list now (made ++ told.handed_on) told.is in
+lengths made now kept own relayed forwarded recorded =
+    let is : now ≡ made ++ recorded.handed_on = same_list now (made ++ recorded.handed_on) recorded.is in
     record {
-      relayed_is = told.relayed_is refl;
-      forwarded_is = grown (length made) (length now) (length told.handed_on) forwarded (2 ^ 64 - 1) (ap length is ∙ length-append made told.handed_on) (told.forwarded_is refl);
+      relayed_is = recorded.relayed_is refl;
+      forwarded_is = grown (length made) (length now) (length recorded.handed_on) forwarded (2 ^ 64 - 1) (ap length is ∙ length-append made recorded.handed_on) (recorded.forwarded_is refl);
     }

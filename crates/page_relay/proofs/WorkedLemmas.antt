@@ -10,8 +10,8 @@ use Rattle.lc_world.specs.declared.entry.RecordedReply.TheVariants.{Hidden, Repl
 use Rattle.page_relay.specs.HandedOn.{Follows, IsRecordedBelow}
 use Rattle.page_relay.specs.Keeping.{IsToKeep}
 use Rattle.page_relay.specs.Kept.{Kept}
-use Rattle.page_relay.specs.Told.{IsGivenOf, IsKeptOf, IsReplied}
-use Rattle.page_relay.specs.Worked.{WorkedTold, example, failed, replied, stops}
+use Rattle.page_relay.specs.Recorded.{IsGivenOf, IsKeptOf, IsReplied}
+use Rattle.page_relay.specs.Worked.{WorkedRecorded, example, failed, replied, stops}
 
 -- the one exchange that was handed on gave this reply
 module _ (reply : List ℕ) (recorded : RecordedReply) (is : (recorded ≡ Hidden) ⊎ (recorded ≡ Reply reply)) where
@@ -45,9 +45,9 @@ follows reply recorded is made keep =
       count_is = refl;
     }
 
-pub worked_told : (reply : List ℕ) → WorkedTold reply
-worked_told reply = record {
-  told = record {
+pub worked_recorded : (reply : List ℕ) → WorkedRecorded reply
+worked_recorded reply = record {
+  recorded = record {
     handed_on = replied reply ∷ [];
     is = refl;
     kept_of = keeps_it reply (Reply reply) (inr refl);

@@ -19,7 +19,7 @@ use Rattle.page_relay.specs.HandedOn.{AreRelayed}
 use Rattle.page_relay.specs.Keeping.{IsKeepable, IsToKeep}
 use Rattle.page_relay.specs.Kept.{Kept}
 use Rattle.page_relay.specs.Relay.{HasRelayedOf, RelayState, new_relay, relay_seen, transcript_of}
-use Rattle.page_relay.specs.Told.{HasRelayed, IsTold}
+use Rattle.page_relay.specs.Recorded.{HasRelayed, IsRecorded}
 
 -- these were recorded of one exchange: the same request to the same authority, with the same end, unless one of them hides that
 pub record IsAlike (a b : Entry) : Type 0 where
@@ -120,4 +120,4 @@ pub record AreLengths (made now own : List Entry) (relayed forwarded : ℕ) : Ty
 
 abbrev pub CountsAreLengths : Type 0
 CountsAreLengths =
-    (made now : List Entry) (kept : List Kept) (own : List Entry) (relayed forwarded : ℕ) → IsTold (Some made) (Some now) kept own relayed forwarded true → AreLengths made now own relayed forwarded
+    (made now : List Entry) (kept : List Kept) (own : List Entry) (relayed forwarded : ℕ) → IsRecorded (Some made) (Some now) kept own relayed forwarded true → AreLengths made now own relayed forwarded

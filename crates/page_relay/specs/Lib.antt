@@ -7,7 +7,7 @@ pub mod Keeping
 pub mod Kept
 pub mod Laws
 pub mod Near
+pub mod Recorded
 pub mod Relay
-pub mod Told
 pub mod Transcript
 pub mod Worked

@@ -14,7 +14,7 @@ use Rattle.page_relay.specs.Fits.{RelayFits}
 use Rattle.page_relay.specs.HandedOn.{Follows}
 use Rattle.page_relay.specs.Keeping.{IsKeepable, IsLastingReply, IsToKeep}
 use Rattle.page_relay.specs.Kept.{Kept, reply_for}
-use Rattle.page_relay.specs.Told.{IsTold}
+use Rattle.page_relay.specs.Recorded.{IsRecorded}
 use Rattle.page_relay.specs.Worked.{example, replied, stops}
 use Rattle.page_relay.specs.declared.sent.SentRequest.{SentRequest}
 
@@ -44,24 +44,24 @@ OthersAreNotFound = (sent other : SentRequest) (held reply : List ℕ) → reply
 abbrev pub NoneIsKeptUnasked : Type 0
 NoneIsKeptUnasked =
     (made : List Entry) (sent : SentRequest) (reply : List ℕ) (kept : List Kept) (own : List Entry) (relayed forwarded : ℕ) (exact : Bool)
-    → IsTold (Some made) (Some made) ((sent, reply) ∷ kept) own relayed forwarded exact → ⊥
+    → IsRecorded (Some made) (Some made) ((sent, reply) ∷ kept) own relayed forwarded exact → ⊥
 
 -- and none is given
 abbrev pub NoneIsGivenUnasked : Type 0
 NoneIsGivenUnasked =
     (made : List Entry) (kept : List Kept) (entry : Entry) (reply : List ℕ) (own : List Entry) (relayed forwarded : ℕ) (exact : Bool) → entry.reply ≡ recorded_replies.Reply reply
-    → IsTold (Some made) (Some made) kept (entry ∷ own) relayed forwarded exact → ⊥
+    → IsRecorded (Some made) (Some made) kept (entry ∷ own) relayed forwarded exact → ⊥
 
 -- nothing is lost of what the link below had recorded
 abbrev pub NothingIsLost : Type 0
 NothingIsLost =
-    (made : List Entry) (entry : Entry) (kept : List Kept) (own : List Entry) (relayed forwarded : ℕ) (exact : Bool) → IsTold (Some (entry ∷ made)) (Some made) kept own relayed forwarded exact → ⊥
+    (made : List Entry) (entry : Entry) (kept : List Kept) (own : List Entry) (relayed forwarded : ℕ) (exact : Bool) → IsRecorded (Some (entry ∷ made)) (Some made) kept own relayed forwarded exact → ⊥
 
 -- an exact count is not one more than what the link below has recorded since
 abbrev pub NotOneMore : Type 0
 NotOneMore =
     (made handed_on : List Entry) (kept : List Kept) (own : List Entry) (relayed : ℕ) → length handed_on < 2 ^ 64 - 1
-    → IsTold (Some made) (Some (made ++ handed_on)) kept own relayed (length handed_on + 1) true → ⊥
+    → IsRecorded (Some made) (Some (made ++ handed_on)) kept own relayed (length handed_on + 1) true → ⊥
 
 -- a request whose reply is kept is not handed on again
 abbrev pub NotHandedOnAgain : Type 0
@@ -73,7 +73,7 @@ NotHandedOnAgain =
 abbrev pub NoneIsHidden : Type 0
 NoneIsHidden =
     (made now : Option (List Entry)) (kept : List Kept) (own : List Entry) (entry : Entry) (relayed forwarded : ℕ) (exact : Bool)
-    → Contains own entry → entry.reply ≡ recorded_replies.Hidden → IsTold made now kept own relayed forwarded exact → ⊥
+    → Contains own entry → entry.reply ≡ recorded_replies.Hidden → IsRecorded made now kept own relayed forwarded exact → ⊥
 
 -- the link below has not recorded two exchanges in the other order, where their requests differ
 abbrev pub NotInOtherOrder : Type 0

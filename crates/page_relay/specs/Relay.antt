@@ -8,7 +8,7 @@ use Rattle.lc_world.specs.declared.entry.RecordedReply.TheVariants.{Hidden, Repl
 use Rattle.page_relay.specs.Exchanger.{ExchangerState, new_exchanger}
 use Rattle.page_relay.specs.Fits.{RelaysHonestly}
 use Rattle.page_relay.specs.Kept.{Kept}
-use Rattle.page_relay.specs.Told.{HasRelayed}
+use Rattle.page_relay.specs.Recorded.{HasRelayed}
 
 -- The link below with the replies that are kept of it, and that link as it was when the relay was made. The exchanges that were asked for with
 -- how each ended, how many there were, and whether both counts are exact.

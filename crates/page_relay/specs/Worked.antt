@@ -8,7 +8,7 @@ use Rattle.page_relay.specs.HandedOn.{Follows}
 use Rattle.page_relay.specs.Keeping.{IsToKeep}
 use Rattle.page_relay.specs.Kept.{Kept, reply_for, sent_to, with_kept, with_used}
 use Rattle.page_relay.specs.Relay.{transcript_of}
-use Rattle.page_relay.specs.Told.{IsTold}
+use Rattle.page_relay.specs.Recorded.{IsRecorded}
 use Rattle.page_relay.specs.declared.sent.SentRequest.{SentRequest}
 
 -- a request of this target at lc.example
@@ -73,9 +73,9 @@ pub record WorkedTranscripts : Type 0 where
 
 -- The stops document was asked for twice by a relay with one entry, and its reply was kept. So the link below was asked once: it recorded that
 -- exchange after the failure which it had recorded before, with the reply or without.
-pub record WorkedTold (reply : List ℕ) : Type 0 where
-  pub told : IsTold (Some (failed ∷ [])) (Some (failed ∷ replied reply ∷ [])) ((stops, reply) ∷ []) (replied reply ∷ replied reply ∷ []) 2 1 true
-  pub hidden : IsTold (Some []) (Some (entry_of stops.authority stops.request Hidden ∷ [])) ((stops, reply) ∷ []) (replied reply ∷ replied reply ∷ []) 2 1 true
+pub record WorkedRecorded (reply : List ℕ) : Type 0 where
+  pub recorded : IsRecorded (Some (failed ∷ [])) (Some (failed ∷ replied reply ∷ [])) ((stops, reply) ∷ []) (replied reply ∷ replied reply ∷ []) 2 1 true
+  pub hidden : IsRecorded (Some []) (Some (entry_of stops.authority stops.request Hidden ∷ [])) ((stops, reply) ∷ []) (replied reply ∷ replied reply ∷ []) 2 1 true
   pub follows : IsToKeep example stops.request reply
       → Follows example 1 (Some (failed ∷ [])) (Some (failed ∷ replied reply ∷ [])) (replied reply ∷ replied reply ∷ []) ((stops, reply) ∷ []) 1
   pub follows_hidden : IsToKeep example stops.request reply

@@ -9,9 +9,9 @@ mod keeping;
 mod laws;
 mod memory;
 mod near;
+mod recorded;
 mod relay;
 mod sent;
-mod told;
 mod transcript;
 mod worked;
 

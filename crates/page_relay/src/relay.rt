@@ -7,7 +7,7 @@ ghost use Rattle.page_relay.specs.Exchanges.{AsksBelow, IsKeptAfter, reply_of};
 ghost use Rattle.page_relay.specs.Exchanger.{exchanger_seen};
 ghost use Rattle.page_relay.specs.Kept.{reply_for, sent_to};
 ghost use Rattle.page_relay.specs.Relay.{HasRelayedOf, new_relay, relay_seen, transcript_in};
-ghost use Rattle.page_relay.specs.Told.{Records, known_of};
+ghost use Rattle.page_relay.specs.Recorded.{Records, known_of};
 ghost use Rattle.publisher_spec.specs.Side.{Side};
 
 use crate::SentRequest;
@@ -38,7 +38,7 @@ pub struct Relay<L: Link> {
 
 impl<L: Link> Model for Relay<L> {
     ghost use Rattle.page_relay.specs.Relay.{RelayState};
-    ghost use Rattle.page_relay.specs.Told.{HasRelayed};
+    ghost use Rattle.page_relay.specs.Recorded.{HasRelayed};
 
     ghost Value = { RelayState L };
 
@@ -132,7 +132,7 @@ impl<L: Link> Relay<L> {
         ensures faults { HasCause (L.seen self.old.exchanger.inner).faults (L.seen self.new.exchanger.inner).faults (IsErrOf result Failed) }
     {
         self.relayed = self.relayed.saturating_add(1);
-        let result = told_exchange(
+        let result = recorded_exchange(
             alloc,
             &mut self.exchanger,
             &mut self.transcript,
@@ -168,7 +168,7 @@ impl<L: Link> Relay<L> {
         ensures faults { HasCause (L.seen self.old.exchanger.inner).faults (L.seen self.new.exchanger.inner).faults (IsErrOf result Failed) }
     {
         self.exact = false;
-        told_pass(
+        recorded_pass(
             alloc,
             &mut self.exchanger,
             &mut self.transcript,
@@ -187,7 +187,7 @@ fn stays_exact(exact: bool, ended: &Result<(), LinkFail>) -> bool
 }
 
 /// Makes an exchange, and records it.
-fn told_exchange<L: Link>(
+fn recorded_exchange<L: Link>(
     alloc: Global,
     exchanger: &mut Exchanger<L>,
     transcript: &mut Transcript,
@@ -216,12 +216,12 @@ fn told_exchange<L: Link>(
     let sent = SentRequest::new(alloc, authority, request)?;
     let asked = Snapshot::of(&sent);
     let result = exchanger.exchange(alloc, sent, reply);
-    transcript.tell(asked, &result, reply);
+    transcript.add(asked, &result, reply);
     result
 }
 
 /// Hands on an answer, and records it.
-fn told_pass<L: Link>(
+fn recorded_pass<L: Link>(
     alloc: Global,
     exchanger: &mut Exchanger<L>,
     transcript: &mut Transcript,
@@ -244,7 +244,7 @@ fn told_pass<L: Link>(
     let sent = SentRequest::new(alloc, authority, request)?;
     let asked = Snapshot::of(&sent);
     let result = exchanger.pass(alloc, authority, request, reply);
-    transcript.tell(asked, &result, reply);
+    transcript.add(asked, &result, reply);
     result
 }
 

@@ -1,9 +1,9 @@
 ghost use Rattle.std.specs.Prelude.{◌≡◌, ◌∷◌, ◌++◌, []};
 ghost use Rattle.lc_world.specs.ListLink.{entry_of};
-ghost use Rattle.page_relay.specs.Told.{Records, told_of};
+ghost use Rattle.page_relay.specs.Recorded.{Records, recorded_reply};
 
 use crate::SentRequest;
-use crate::told::Told;
+use crate::recorded::Recorded;
 use http_server::Log;
 use lc_world::LinkFail;
 use std::marker::Model;
@@ -12,7 +12,7 @@ use std::snapshot::Snapshot;
 /// The exchanges that were asked for, with how each ended. It takes no memory, since only proofs read it.
 #[derive(Drop)]
 pub(crate) struct Transcript {
-    told: Log<Told, ()>,
+    recorded: Log<Recorded, ()>,
 }
 
 impl Model for Transcript {
@@ -22,18 +22,20 @@ impl Model for Transcript {
 
     ghost Value = { List Entry };
 
-    ghost view = { λ t. entries_of t.told.items };
+    ghost view = { λ t. entries_of t.recorded.items };
 }
 
 impl Transcript {
     pub(crate) fn new() -> Transcript
         ensures { result ≡ [] }
     {
-        Transcript { told: Log::new() }
+        Transcript {
+            recorded: Log::new(),
+        }
     }
 
     /// Records an exchange with the reply that it gave, or that it failed. One in which memory ran out is not recorded.
-    pub(crate) fn tell(
+    pub(crate) fn add(
         &mut self,
         sent: Snapshot<SentRequest>,
         ended: &Result<(), LinkFail>,
@@ -50,9 +52,9 @@ impl Transcript {
 
     /// Records an exchange: with this reply if one came, and else that it failed.
     fn push(&mut self, sent: Snapshot<SentRequest>, came: bool, reply: &Vec<u8>)
-        ensures { self.new ≡ self.old ++ entry_of sent.value.authority sent.value.request (told_of came reply.now.items) ∷ [] }
+        ensures { self.new ≡ self.old ++ entry_of sent.value.authority sent.value.request (recorded_reply came reply.now.items) ∷ [] }
     {
         let reply = Snapshot::of(reply);
-        self.told = self.told.and(&Told { sent, came, reply }, &());
+        self.recorded = self.recorded.and(&Recorded { sent, came, reply }, &());
     }
 }

@@ -1,5 +1,5 @@
 ghost use Rattle.std.specs.Prelude.{ℕ, List};
-ghost use Rattle.page_relay.specs.Worked.{WorkedFinds, WorkedTold, WorkedTranscripts, WorkedUses};
+ghost use Rattle.page_relay.specs.Worked.{WorkedFinds, WorkedRecorded, WorkedTranscripts, WorkedUses};
 
 /// Values that were worked out by hand, which the definitions take: which replies are found, and what is kept after one was used or kept.
 pub fn worked_memories()
@@ -11,5 +11,5 @@ pub fn worked_memories()
 /// a relay with one entry.
 pub fn worked_relays()
     ensures transcripts { WorkedTranscripts }
-    ensures told { (reply : List ℕ) → WorkedTold reply }
+    ensures recorded { (reply : List ℕ) → WorkedRecorded reply }
 {}

@@ -12,9 +12,9 @@ use Rattle.page_relay.specs.HandedOn.{Follows}
 use Rattle.page_relay.specs.Kept.{Kept}
 
 -- what is recorded of an exchange: the reply that it gave, or that it failed
-abbrev pub told_of : Bool → List ℕ → RecordedReply
-told_of true reply = recorded_replies.Reply reply
-told_of false reply = recorded_replies.Failed
+abbrev pub recorded_reply : Bool → List ℕ → RecordedReply
+recorded_reply true reply = recorded_replies.Reply reply
+recorded_reply false reply = recorded_replies.Failed
 
 -- An exchange with this result is recorded by the reply that it gave, or that it failed. One in which memory ran out is not recorded.
 abbrev pub Records : {T : Type 0} → List Entry → List Entry → List ℕ → List ℕ → List ℕ → Result T LinkFail → Type 0
@@ -57,7 +57,7 @@ counted entries = min (length entries) (2 ^ 64 - 1)
 -- What holds of every relay, over a link that had recorded the first list when the relay was made, and has recorded the second now, if it records
 -- any. It has recorded exchanges since, by which all came that the relay keeps and has given. If the counts are exact the one is that of the
 -- relay's own exchanges, and the other that of the exchanges which the link below has recorded since.
-pub record IsTold (made now : Option (List Entry)) (kept : List Kept) (own : List Entry) (relayed forwarded : ℕ) (exact : Bool) : Type 0 where
+pub record IsRecorded (made now : Option (List Entry)) (kept : List Kept) (own : List Entry) (relayed forwarded : ℕ) (exact : Bool) : Type 0 where
   pub handed_on : List Entry
   pub is : now ≡ option_map (λ (before : List Entry). before ++ handed_on) made
   pub kept_of : All (IsKeptOf handed_on) kept
@@ -68,5 +68,5 @@ pub record IsTold (made now : Option (List Entry)) (kept : List Kept) (own : Lis
 -- And of a relay that keeps so many replies under this base. If its counts are exact, what it keeps follows from its own exchanges, and so does
 -- which of them it handed on: those are what the link below has recorded since.
 pub record HasRelayed (base : BaseParts) (entries : ℕ) (made now : Option (List Entry)) (kept : List Kept) (own : List Entry) (relayed forwarded : ℕ) (exact : Bool) : Type 0 where
-  pub told : IsTold made now kept own relayed forwarded exact
+  pub recorded : IsRecorded made now kept own relayed forwarded exact
   pub follows : IsTrue exact → Follows base entries made now own kept forwarded

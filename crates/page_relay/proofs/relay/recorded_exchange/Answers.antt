@@ -1,5 +1,5 @@
 use Rattle.page_relay.proofs.HonestLemmas.{not_asked}
-use Rattle.page_relay.proofs.relay.told_exchange.Goals as goal
+use Rattle.page_relay.proofs.relay.recorded_exchange.Goals as goal
 
 pub returns-in_err-sent-clause-honest : goal.returns-in_err-sent-clause-honest
 returns-in_err-sent-clause-honest g c = λ base side get is. not_asked _ _ _ base side _ _ c.from_residual.result c.from_residual.ensures.0 is
