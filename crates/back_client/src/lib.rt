@@ -4,6 +4,7 @@
 #![tactic(auto)]
 
 mod asking;
+pub mod below;
 mod exchange;
 mod outcome;
 mod page;

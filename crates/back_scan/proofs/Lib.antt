@@ -1,3 +1,4 @@
+pub mod BelowLemmas
 pub mod GrowingLemmas
 pub mod KeepingLemmas
 pub mod DepartingLemmas

@@ -5,6 +5,7 @@
 
 mod alight;
 mod arrive_query;
+pub mod below;
 mod depart;
 mod forward;
 mod journey;

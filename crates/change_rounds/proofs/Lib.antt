@@ -1,6 +1,7 @@
 pub mod AfterLemmas
 pub mod AlikeLemmas
 pub mod BeginsLemmas
+pub mod BelowLemmas
 pub mod BoardingLemmas
 pub mod EndsLemmas
 pub mod OrderLemmas

@@ -1,3 +1,4 @@
+pub mod Below
 pub mod Best
 pub mod Boards
 pub mod Fewest

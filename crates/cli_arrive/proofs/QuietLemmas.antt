@@ -8,10 +8,10 @@ use Rattle.laws_arrive.specs.Below.BackClient.Steps.{Taken, WalksBack}
 use Rattle.laws_arrive.specs.Below.BackClient.declared.outcome.ArriveEnd.{ArriveEnd}
 use Rattle.laws_arrive.specs.Below.BackClient.declared.page.Place.{Place}
 use Rattle.laws_arrive.specs.Below.BackClient.declared.page.Place.TheVariants.{After}
-use Rattle.back_scan.specs.declared.arrive_query.ArriveQuery.{ArriveQuery}
+use Rattle.cli_ask.specs.Below.BackScan.declared.arrive_query.ArriveQuery.{ArriveQuery}
 use Rattle.cli_ask.specs.Block.{IsPrintable}
 use Rattle.cli_arrive.specs.Client.{EndsRightLatest, client_of}
-use Rattle.connection_uri.specs.Base.{BaseParts}
+use Rattle.cli_ask.specs.Below.ConnectionUri.Base.{BaseParts}
 use Rattle.cli_ask.specs.Below.Convoy.Exchange.{Got, bytes_of, result_of}
 use Rattle.laws_arrive.specs.Right.{EndsAt, IsNamed, IsRight}
 use Rattle.laws_arrive_replies.specs.Asked.{HasAskedLatest}

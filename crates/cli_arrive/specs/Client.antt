@@ -2,9 +2,9 @@
 use Rattle.std.specs.Prelude.{◌≡◌, ℕ, List, length, Option}
 use Rattle.std.specs.Option.{IfSome}
 use Rattle.laws_arrive.specs.Below.BackClient.declared.outcome.ArriveEnd.{ArriveEnd}
-use Rattle.back_scan.specs.declared.arrive_query.ArriveQuery.{ArriveQuery}
+use Rattle.cli_ask.specs.Below.BackScan.declared.arrive_query.ArriveQuery.{ArriveQuery}
 use Rattle.cli_ask.specs.declared.end.ClientEnd.{ClientEnd}
-use Rattle.connection_uri.specs.Base.{BaseParts}
+use Rattle.cli_ask.specs.Below.ConnectionUri.Base.{BaseParts}
 use Rattle.laws_arrive.specs.Right.{EndsAt}
 use Rattle.cli_ask.specs.Below.LawsConvoys.Replies.{TellsReplies}
 use Rattle.cli_ask.specs.Below.LawsConvoys.Requests.{TellsRequests}

@@ -1,12 +1,12 @@
 -- That the output of a question for the latest departure is one, where the replies come as the publisher gave them, and that it wants some pages.
 use Rattle.std.specs.Prelude.{◌≡◌, ℕ, List, ◌++◌, Option, None}
-use Rattle.back_scan.specs.Forward.{forward_query}
-use Rattle.back_scan.specs.declared.arrive_query.ArriveQuery.{ArriveQuery}
+use Rattle.cli_ask.specs.Below.BackScan.Forward.{forward_query}
+use Rattle.cli_ask.specs.Below.BackScan.declared.arrive_query.ArriveQuery.{ArriveQuery}
 use Rattle.cli_arrive.specs.Asked.{IsAskedLatest}
 use Rattle.cli_ask.specs.Block.{client_text_of}
 use Rattle.cli_ask.specs.Laws.{IsFair}
 use Rattle.cli_ask.specs.declared.end.ClientEnd.{ClientEnd}
-use Rattle.cli_words.specs.declared.command.Publishing.{Publishing}
+use Rattle.cli_ask.specs.Below.CliWords.declared.command.Publishing.{Publishing}
 use Rattle.laws_arrive.specs.Requests.{AreWanted}
 use Rattle.laws_arrive_replies.specs.Laws.{SayOneLatest}
 use Rattle.lc_io.specs.declared.file.File.{File}

@@ -6,10 +6,10 @@ ghost use Rattle.cli_ask.specs.Below.LcWorld.GoneOn.{IsLeftByGets};
 ghost use Rattle.cli_ask.specs.Below.LcWorld.Link.{IsQuietWith};
 ghost use Rattle.cli_ask.specs.Below.PublisherSpec.Side.{Side};
 
-use back_scan::ArriveQuery;
 use cli_ask::ClientEnd;
+use cli_ask::below::back_scan::ArriveQuery;
+use cli_ask::below::connection_uri::Base;
 use cli_ask::below::lc_world::Link;
-use connection_uri::Base;
 use laws_arrive::below::back_client::{ArriveEnd, arrive};
 use laws_arrive::latest_ends_right;
 use laws_arrive_replies::latest_by_its_replies;

@@ -2,9 +2,9 @@ ghost use Rattle.cli_arrive.specs.Laws.{OneLatestOutput, SomeWanted};
 
 use cli_ask::below::lc_world::Link;
 use cli_ask::below::publisher::some_timetable;
+use cli_ask::below::version_store::one_outcome;
+use laws_arrive::below::laws_journeys::some_least_arrival;
 use laws_arrive::one_latest_answer;
-use laws_journeys::some_least_arrival;
-use version_store::one_outcome;
 
 /// What is printed of a question for the latest departure is one, but for the journey, where the replies come as the publisher gave
 /// them. Journeys that may take each other's place leave at one moment.

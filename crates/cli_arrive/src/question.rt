@@ -2,14 +2,14 @@ ghost use Rattle.std.specs.Prelude.{◌≡◌, ◌≢◌, IfErr, IfOk};
 ghost use Rattle.cli_arrive.specs.Asked.{AsksPublisher, IsAskedLatest};
 ghost use Rattle.cli_ask.specs.Admission.{IsFaulty};
 ghost use Rattle.cli_ask.specs.Below.LcWorld.GoneOn.{IsLeftByPasses};
-ghost use Rattle.version_store.specs.declared.message_fault.MessageFault.TheVariants.{NoMemory as OutOfMemory};
+ghost use Rattle.cli_ask.specs.Below.VersionStore.declared.message_fault.MessageFault.TheVariants.{NoMemory as OutOfMemory};
 
 use crate::client::client_end;
-use back_scan::ArriveQuery;
+use cli_ask::below::back_scan::ArriveQuery;
+use cli_ask::below::cli_words::Publishing;
 use cli_ask::below::lc_world::{File, Link};
 use cli_ask::below::timetable::Timetable;
 use cli_ask::{Asked, MessageFault, Opened, Unopened, open_home, printed};
-use cli_words::Publishing;
 use std::alloc::Global;
 
 /// Publishes a timetable, and gives the publisher the message of a file, if there is one. Then a client asks it how to arrive by a moment and

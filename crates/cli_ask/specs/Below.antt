@@ -1,12 +1,25 @@
 -- The definitions of the crates below, for the crates above.
+pub mod BackScan
+pub mod CliWords
+pub mod ConnectionUri
 pub mod Convoy
+pub mod Fragmenter
+pub mod GtfsTables
 pub mod LawsClients
 pub mod LawsConvoys
 pub mod LawsReplies
 pub mod LawsSides
+pub mod LcDoors
 pub mod LcLinks
+pub mod LcTime
+pub mod LcVersions
 pub mod LcWorld
+pub mod LiveCalls
 pub mod PageClient
 pub mod Publisher
 pub mod PublisherSpec
+pub mod ScriptText
+pub mod ServiceDays
 pub mod Timetable
+pub mod TripUpdates
+pub mod VersionStore

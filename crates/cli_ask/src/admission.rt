@@ -1,14 +1,14 @@
 ghost use Rattle.std.specs.Prelude.{◌≡◌, ◌+◌, IfErr, IfOk, OnOk, Some, length};
 ghost use Rattle.cli_ask.specs.Admission.{IsBehind, IsFaultBy, IsFaulty, IsIgnored, admitted_line_of, ignored_line_of};
 
-use fragmenter::Cutting;
+use cli_words::below::fragmenter::Cutting;
+use cli_words::below::lc_time::iso_text;
+use lc_links::below::lc_world::File;
+use lc_links::below::publisher::{AdmitFault, Admitted, Publisher};
+use lc_links::below::version_store::MessageFault;
 use lc_model::NoMemory;
-use lc_time::iso_text;
-use lc_world::File;
 use percent_encoding::ascii_str;
-use publisher::{AdmitFault, Admitted, Publisher};
 use std::alloc::Global;
-use version_store::MessageFault;
 
 /// What became of messages that a publisher received: a line for each, and how many of them were admitted.
 #[derive(Drop)]

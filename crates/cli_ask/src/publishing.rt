@@ -4,13 +4,13 @@ ghost use Rattle.cli_ask.specs.Publishing.{PublishesAfter, held_for, held_with, 
 
 use crate::admission::admit;
 use cli_words::Publishing;
-use fragmenter::Cutting;
+use cli_words::below::fragmenter::Cutting;
+use lc_links::below::lc_world::File;
+use lc_links::below::publisher::{Options, Publisher};
+use lc_links::below::version_store::MessageFault;
 use lc_model::NoMemory;
-use lc_world::File;
-use publisher::{Options, Publisher};
 use std::alloc::Global;
 use timetable::Timetable;
-use version_store::MessageFault;
 
 /// The publisher of a timetable, to which no message was admitted. It takes none from its clients.
 pub fn publisher_of(

@@ -7,10 +7,10 @@ use Rattle.cli_ask.specs.Publishing.{held_with, side_with}
 use Rattle.cli_ask.specs.declared.end.ClientEnd.{ClientEnd}
 use Rattle.cli_fewest.specs.Asked.{AsksPublisher, IsAskedFewest}
 use Rattle.cli_fewest.specs.Client.{EndsRightFewest}
-use Rattle.cli_words.specs.declared.command.Publishing.{Publishing}
-use Rattle.connection_uri.specs.Base.{BaseParts}
-use Rattle.fragmenter.specs.Cutting.{chosen_cuts}
-use Rattle.fragmenter.specs.declared.cutting.Cutting.{Cutting}
+use Rattle.cli_ask.specs.Below.CliWords.declared.command.Publishing.{Publishing}
+use Rattle.cli_ask.specs.Below.ConnectionUri.Base.{BaseParts}
+use Rattle.cli_ask.specs.Below.Fragmenter.Cutting.{chosen_cuts}
+use Rattle.cli_ask.specs.Below.Fragmenter.declared.cutting.Cutting.{Cutting}
 use Rattle.laws_rounds_replies.specs.Asked.{HasAskedFewest}
 use Rattle.lc_io.specs.declared.file.File.{File}
 use Rattle.cli_ask.specs.Below.LcLinks.HomeLink.{HomeLinkState}

@@ -12,12 +12,12 @@ use Rattle.laws_rounds_replies.specs.Laws.{HaveAsManyRides}
 use Rattle.cli_ask.specs.Below.LawsSides.Stated.{version_at}
 use Rattle.lc_model.specs.declared.journey.Journey.{Journey}
 use Rattle.lc_model.specs.declared.query.Query.{Query}
-use Rattle.lc_time.specs.declared.zone.Zone.{Zone}
+use Rattle.cli_ask.specs.Below.LcTime.declared.zone.Zone.{Zone}
 use Rattle.cli_ask.specs.Below.LcWorld.Link.{LinkSeen}
 use Rattle.cli_ask.specs.Below.PageClient.declared.outcome.Outcome.{Outcome}
 use Rattle.cli_ask.specs.Below.PageClient.declared.outcome.Outcome.TheVariants as outcomes
 use Rattle.cli_ask.specs.Below.PublisherSpec.Side.{Side, date_in}
-use Rattle.version_store.specs.Laws.{OneOutcome}
+use Rattle.cli_ask.specs.Below.VersionStore.Laws.{OneOutcome}
 
 module _ (alike_at : AlikeAt) (side : Side) (zone : Zone) (same : date_in zone ≡ date_in side.zone) (query : Query) where
   -- a journey of the fewest rides by a side in another zone is one by the side

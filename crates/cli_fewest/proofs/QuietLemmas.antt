@@ -6,7 +6,7 @@ use Rattle.cli_ask.proofs.ClientLemmas.{at_end, same_end}
 use Rattle.cli_ask.specs.Block.{IsPrintable}
 use Rattle.cli_ask.specs.Client.{AsksFor, AsksOneMore, shown_of}
 use Rattle.cli_fewest.specs.Client.{EndsRightFewest, HasFewestRides, client_of}
-use Rattle.connection_uri.specs.Base.{BaseParts}
+use Rattle.cli_ask.specs.Below.ConnectionUri.Base.{BaseParts}
 use Rattle.cli_ask.specs.Below.Convoy.Exchange.{Got, IsExchange, bytes_of, result_of}
 use Rattle.cli_ask.specs.Below.LawsClients.Answered.{AnswersAt}
 use Rattle.cli_ask.specs.Below.LawsClients.Fits.{HasAnswered, HasEnded, HasFailed}

@@ -5,10 +5,10 @@ use Rattle.cli_ask.specs.Block.{client_text_of}
 use Rattle.cli_ask.specs.Publishing.{side_with}
 use Rattle.cli_ask.specs.declared.end.ClientEnd.{ClientEnd}
 use Rattle.cli_fewest.specs.Client.{EndsRightFewest, HasFewestRides}
-use Rattle.cli_words.specs.declared.command.Publishing.{Publishing}
-use Rattle.connection_uri.specs.Base.{BaseParts}
-use Rattle.fragmenter.specs.Cutting.{chosen_cuts}
-use Rattle.fragmenter.specs.declared.cutting.Cutting.{Cutting}
+use Rattle.cli_ask.specs.Below.CliWords.declared.command.Publishing.{Publishing}
+use Rattle.cli_ask.specs.Below.ConnectionUri.Base.{BaseParts}
+use Rattle.cli_ask.specs.Below.Fragmenter.Cutting.{chosen_cuts}
+use Rattle.cli_ask.specs.Below.Fragmenter.declared.cutting.Cutting.{Cutting}
 use Rattle.laws_rounds_replies.specs.Asked.{HasAskedFewest, HasFewestRead}
 use Rattle.lc_io.specs.declared.file.File.{File}
 use Rattle.lc_model.specs.declared.query.Query.{Query}

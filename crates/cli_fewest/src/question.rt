@@ -2,13 +2,13 @@ ghost use Rattle.std.specs.Prelude.{◌≡◌, ◌≢◌, IfErr, IfOk};
 ghost use Rattle.cli_ask.specs.Admission.{IsFaulty};
 ghost use Rattle.cli_fewest.specs.Asked.{AsksPublisher, IsAskedFewest};
 ghost use Rattle.cli_ask.specs.Below.LcWorld.GoneOn.{IsLeftByPasses};
-ghost use Rattle.version_store.specs.declared.message_fault.MessageFault.TheVariants.{NoMemory as OutOfMemory};
+ghost use Rattle.cli_ask.specs.Below.VersionStore.declared.message_fault.MessageFault.TheVariants.{NoMemory as OutOfMemory};
 
 use crate::client::client_end;
+use cli_ask::below::cli_words::Publishing;
 use cli_ask::below::lc_world::{File, Link};
 use cli_ask::below::timetable::Timetable;
 use cli_ask::{Asked, MessageFault, Opened, Unopened, open_home, printed};
-use cli_words::Publishing;
 use lc_model::Query;
 use std::alloc::Global;
 

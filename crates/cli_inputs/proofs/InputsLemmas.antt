@@ -1,6 +1,6 @@
 -- What was asked for of the message of a command, and why the command is refused.
 use Rattle.std.proofs.Common.{◌≡◌, ◌∙◌, ◌≤◌, inl, inr, ℕ, List, None, Some, Option, Ok, Err, ap, arith, refl, subst, sym}
-use Rattle.gtfs_tables.specs.Reading.{Keeps}
+use Rattle.laws_replay.specs.Below.GtfsTables.Reading.{Keeps}
 use Rattle.lc_io.specs.Counts.{Rose}
 use Rattle.lc_io.specs.Folder.{FolderSeen}
 use Rattle.lc_io.specs.declared.file.File.{File}

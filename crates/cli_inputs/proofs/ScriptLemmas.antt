@@ -2,15 +2,15 @@
 use Rattle.std.proofs.Common.{◌≡◌, ◌∙◌, ◌+◌, ◌<◌, ◌++◌, ◌∷◌, ℕ, zero, suc, inl, inr, IfErr, List, [], Some, Result, Ok, Err, ap, arith, length, refl, subst, sym, take, true}
 use Rattle.std.specs.List.{slice_get, slice_index_or}
 use Rattle.std.proofs.lemmas.List.Sums.{sum_by-cons}
-use Rattle.gtfs_tables.specs.Reading.{Keeps}
+use Rattle.laws_replay.specs.Below.GtfsTables.Reading.{Keeps}
 use Rattle.lc_io.specs.Counts.{Rose}
 use Rattle.lc_io.specs.Folder.{FolderSeen}
 use Rattle.laws_replay.specs.Events.{TurnsAreOfClients, questions_in}
 use Rattle.laws_replay.specs.declared.event.Event.{Event}
 use Rattle.laws_replay.specs.declared.event.Event.TheVariants as events
-use Rattle.script_text.specs.Script.{IsClient, TurnsAreOfClients as AreOfClients, clients_in, clients_of}
-use Rattle.script_text.specs.declared.script.Record.{Record}
-use Rattle.script_text.specs.declared.script.Record.TheVariants as records
+use Rattle.laws_replay.specs.Below.ScriptText.Script.{IsClient, TurnsAreOfClients as AreOfClients, clients_in, clients_of}
+use Rattle.laws_replay.specs.Below.ScriptText.declared.script.Record.{Record}
+use Rattle.laws_replay.specs.Below.ScriptText.declared.script.Record.TheVariants as records
 use Rattle.laws_replay.specs.Below.Timetable.Loading.{Loads, LoadsSo}
 use Rattle.laws_replay.specs.Below.Timetable.declared.fault.LoadFault.{LoadFault}
 use Rattle.laws_replay.specs.Below.Timetable.declared.fault.LoadFault.TheVariants as fault

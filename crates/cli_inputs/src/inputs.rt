@@ -1,5 +1,5 @@
 ghost use Rattle.std.specs.Prelude.{IfErr, IfOk};
-ghost use Rattle.gtfs_tables.specs.Reading.{Keeps};
+ghost use Rattle.laws_replay.specs.Below.GtfsTables.Reading.{Keeps};
 ghost use Rattle.cli_inputs.specs.Inputs.{EndsUpdate, IsRefusedFor, ReadsInputs};
 ghost use Rattle.laws_replay.specs.Below.Timetable.Scope.{IsWindow};
 

@@ -1,16 +1,16 @@
 ghost use Rattle.std.specs.Prelude.{◌≡◌, ◌++◌, ◌∷◌, [], All, IfErr, IfOk, OnOk, false};
 ghost use Rattle.cli_inputs.specs.Plan.{AddsSaid, IsNoMessage, ReadsPlan, SayEvents, SaysEvent};
 ghost use Rattle.cli_inputs.specs.Script.{IsScriptRefused};
-ghost use Rattle.gtfs_tables.specs.Reading.{Keeps};
+ghost use Rattle.laws_replay.specs.Below.GtfsTables.Reading.{Keeps};
 ghost use Rattle.laws_replay.specs.Events.{TurnsAreOfClients};
-ghost use Rattle.script_text.specs.Script.{NamesNone};
+ghost use Rattle.laws_replay.specs.Below.ScriptText.Script.{NamesNone};
 
 use crate::Refusal;
 use crate::script::read_records;
 use laws_replay::Event;
 use laws_replay::below::lc_world::Folder;
+use laws_replay::below::script_text::{Record, Script};
 use lc_model::{NoMemory, PlainData, Text};
-use script_text::{Record, Script};
 use std::alloc::Global;
 
 /// Reads a script of questions and turns, in which a message is no record. Linear in the script.

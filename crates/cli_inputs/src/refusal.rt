@@ -1,7 +1,7 @@
 use laws_replay::below::timetable::LoadFault;
+use laws_replay::below::trip_updates::RtFault;
 use lc_model::{NoMemory, Text};
 use std::alloc::AllocFailed;
-use trip_updates::RtFault;
 
 /// Why a command is not carried out, for a cause that is no client's.
 #[derive(Drop)]

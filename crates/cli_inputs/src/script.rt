@@ -1,19 +1,19 @@
 ghost use Rattle.std.specs.Prelude.{◌≡◌, All, IfErr, IfOk, IsFalse, length, ◌<◌, ◌+◌};
 ghost use Rattle.cli_inputs.specs.Inputs.{ReadsFile};
 ghost use Rattle.cli_inputs.specs.Script.{IsEventOf, IsRefusedAt, IsReplayRefused, IsScriptRefused, ReadsEvents, ReadsReplay, ReadsScript, StopsAt, IsMessageOf, IsNone, fault_since};
-ghost use Rattle.gtfs_tables.specs.Reading.{Keeps};
+ghost use Rattle.laws_replay.specs.Below.GtfsTables.Reading.{Keeps};
 ghost use Rattle.laws_replay.specs.Events.{TurnsAreOfClients};
-ghost use Rattle.script_text.specs.Script.{NamesNone, TurnsAreOfClients as AreOfClients};
+ghost use Rattle.laws_replay.specs.Below.ScriptText.Script.{NamesNone, TurnsAreOfClients as AreOfClients};
 ghost use Rattle.laws_replay.specs.Below.Timetable.Scope.{IsWindow};
 
 use crate::Refusal;
 use laws_replay::below::lc_world::{File, Folder, FolderFail};
+use laws_replay::below::script_text::{Record, Script, ScriptFault, read_script};
 use laws_replay::below::timetable::{LoadFault, Scope, Timetable, load};
+use laws_replay::below::version_store::MessageFault;
 use laws_replay::{Event, Message, test_message};
 use lc_model::{Bytes, NoMemory, PlainData, Text};
-use script_text::{Record, Script, ScriptFault, read_script};
 use std::alloc::Global;
-use version_store::MessageFault;
 
 /// What a replay is played from: the timetable of the feed, and its event sequence.
 #[derive(Drop)]

@@ -5,7 +5,7 @@ use Rattle.std.specs.List.{All}
 use Rattle.std.proofs.lemmas.List.Elements.{All-head, All-tail}
 use Rattle.laws_plan.specs.Below.CliAsk.Block.{IsPrintable}
 use Rattle.laws_plan.specs.Below.CliAsk.declared.end.ClientEnd.{ClientEnd}
-use Rattle.connection_uri.specs.Base.{BaseParts}
+use Rattle.laws_plan.specs.Below.ConnectionUri.Base.{BaseParts}
 use Rattle.laws_plan.specs.Below.Convoy.State.{begun}
 use Rattle.cli_plan.specs.Planning.{HaveHappened}
 use Rattle.laws_plan.specs.Laws.{PlanRecordsReplies, PlansRight}

@@ -1,7 +1,7 @@
 -- Events that happened over a link. X is the type of the link, and `seen` what is promised of it.
 use Rattle.std.specs.Prelude.{ℕ, List, [], length}
 use Rattle.laws_plan.specs.Below.CliAsk.declared.end.ClientEnd.{ClientEnd}
-use Rattle.connection_uri.specs.Base.{BaseParts}
+use Rattle.laws_plan.specs.Below.ConnectionUri.Base.{BaseParts}
 use Rattle.laws_plan.specs.Below.Convoy.Finish.{Rounds}
 use Rattle.laws_plan.specs.Below.Convoy.State.{ConvoyState, begun}
 use Rattle.laws_plan.specs.Below.LawsReplay.Played.{HaveEndedSo, Plays}

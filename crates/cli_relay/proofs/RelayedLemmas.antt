@@ -6,7 +6,7 @@ use Rattle.cli_relay.specs.Laws.{CountsAreGrowth, RelaysPlanRight}
 use Rattle.cli_relay.specs.Relayed.{IsRelayed, counts_line_of, exchanges_in, relay_over}
 use Rattle.cli_relay.specs.RelayedBy.{IsLeftBelow, IsRelayedBy}
 use Rattle.cli_relay.proofs.SumLemmas.{all_asked, ends_summed, recorded_len, sum_after}
-use Rattle.connection_uri.specs.Base.{BaseParts}
+use Rattle.page_relay.specs.Below.ConnectionUri.Base.{BaseParts}
 use Rattle.cli_plan.specs.Planned.{IsPlanned}
 use Rattle.cli_plan.specs.Below.LawsReplay.Caused.{AreCaused}
 use Rattle.cli_plan.specs.Below.LawsReplay.Events.{questions_in}

@@ -1,7 +1,7 @@
 -- That `relay` promises what `plan` does, and what its second count is. X is the type of the link handed in, and `seen` what is promised of it.
 use Rattle.std.specs.Prelude.{◌≡◌, ◌-◌, ◌^◌, ℕ, min, List, Some, length}
 use Rattle.cli_plan.specs.Below.CliAsk.declared.end.ClientEnd.{ClientEnd}
-use Rattle.connection_uri.specs.Base.{BaseParts}
+use Rattle.page_relay.specs.Below.ConnectionUri.Base.{BaseParts}
 use Rattle.cli_plan.specs.Planned.{ArePlanned}
 use Rattle.cli_plan.specs.Replied.{TellsAlong}
 use Rattle.cli_plan.specs.Below.LawsReplay.declared.event.Event.{Event}

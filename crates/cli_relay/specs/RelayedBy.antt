@@ -1,7 +1,7 @@
 -- Clients that plan over a relay, whatever was asked of it before. X is the type of the link below, and `seen` what is promised of it.
 use Rattle.std.specs.Prelude.{◌≡◌, ℕ, true, List, ◌++◌}
 use Rattle.cli_plan.specs.Below.CliAsk.declared.end.ClientEnd.{ClientEnd}
-use Rattle.connection_uri.specs.Base.{BaseParts}
+use Rattle.page_relay.specs.Below.ConnectionUri.Base.{BaseParts}
 use Rattle.cli_plan.specs.Planned.{IsPlanned}
 use Rattle.cli_plan.specs.Below.LawsReplay.declared.event.Event.{Event}
 use Rattle.page_relay.specs.Below.LcWorld.GoneOn.{IsLeftByGets}

@@ -7,8 +7,8 @@ ghost use Rattle.page_relay.specs.Below.LcWorld.GoneOn.{IsLeftByGets};
 
 use cli_plan::below::laws_replay::Event;
 use cli_plan::{Planned, plan};
-use connection_uri::Base;
 use lc_model::{NoMemory, PlainData};
+use page_relay::below::connection_uri::Base;
 use page_relay::below::lc_world::Link;
 use page_relay::{Relay, counts_are_since, relays_leave_below};
 use std::alloc::Global;

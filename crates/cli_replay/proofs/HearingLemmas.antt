@@ -4,8 +4,8 @@ use Rattle.laws_replay.specs.Below.CliAsk.Admission.{IsBehind}
 use Rattle.laws_replay.specs.Below.Convoy.Finish.{IsStep}
 use Rattle.laws_replay.specs.Below.Convoy.State.{ConvoyState}
 use Rattle.laws_replay.specs.Below.Convoy.declared.turn.Turn.{Turn}
-use Rattle.fragmenter.specs.Cutting.{chosen_cuts}
-use Rattle.fragmenter.specs.declared.cutting.Cutting.{Cutting}
+use Rattle.laws_replay.specs.Below.Fragmenter.Cutting.{chosen_cuts}
+use Rattle.laws_replay.specs.Below.Fragmenter.declared.cutting.Cutting.{Cutting}
 use Rattle.laws_replay.specs.Below.LcLinks.HomeLink.{HomeLinkState}
 use Rattle.lc_io.specs.declared.file.File.{File}
 use Rattle.laws_replay.specs.Below.LcWorld.Link.{LinkSeen}

@@ -2,9 +2,9 @@
 use Rattle.std.proofs.Common.{◌≡◌, ℕ, List, Some, ap, arith, subst, sym}
 use Rattle.laws_replay.specs.Below.CliAsk.Publishing.{held_with, side_with, store_of}
 use Rattle.laws_replay.specs.Below.CliAsk.declared.end.ClientEnd.{ClientEnd}
-use Rattle.cli_words.specs.declared.command.Publishing.{Publishing}
-use Rattle.fragmenter.specs.Cutting.{chosen_cuts}
-use Rattle.fragmenter.specs.declared.cutting.Cutting.{Cutting}
+use Rattle.laws_replay.specs.Below.CliWords.declared.command.Publishing.{Publishing}
+use Rattle.laws_replay.specs.Below.Fragmenter.Cutting.{chosen_cuts}
+use Rattle.laws_replay.specs.Below.Fragmenter.declared.cutting.Cutting.{Cutting}
 use Rattle.laws_replay.specs.Below.LcLinks.HomeLink.{HomeLinkState}
 use Rattle.laws_replay.specs.Below.LcWorld.GoneOn.{IsLeftByPasses}
 use Rattle.laws_replay.specs.Below.LcWorld.Link.{LinkSeen}

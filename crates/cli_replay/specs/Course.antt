@@ -1,7 +1,7 @@
 -- An event sequence that was played to its end over a link. X is the type of the link, and `seen` what is promised of it.
 use Rattle.std.specs.Prelude.{◌≡◌, ◌+◌, ℕ, List, ◌++◌, length, Some}
 use Rattle.laws_replay.specs.Below.CliAsk.declared.end.ClientEnd.{ClientEnd}
-use Rattle.connection_uri.specs.Base.{BaseParts}
+use Rattle.laws_replay.specs.Below.ConnectionUri.Base.{BaseParts}
 use Rattle.laws_replay.specs.Below.Convoy.Finish.{Rounds}
 use Rattle.laws_replay.specs.Below.Convoy.State.{ConvoyState, begun}
 use Rattle.laws_replay.specs.Below.LcWorld.Link.{LinkSeen}

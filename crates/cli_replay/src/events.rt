@@ -6,10 +6,10 @@ ghost use Rattle.cli_replay.specs.Home.{admitted_at, home_seen};
 ghost use Rattle.cli_replay.specs.Turns.{MayHappen};
 
 use crate::hearing::hear;
-use fragmenter::Cutting;
 use laws_replay::Event;
 use laws_replay::below::cli_ask::Heard;
 use laws_replay::below::convoy::Convoy;
+use laws_replay::below::fragmenter::Cutting;
 use laws_replay::below::lc_links::HomeLink;
 use laws_replay::below::lc_world::Link;
 use lc_model::NoMemory;

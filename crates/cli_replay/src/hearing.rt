@@ -1,15 +1,15 @@
 ghost use Rattle.std.specs.Prelude.{◌≡◌, ◌+◌, Some, IfOk, OnOk, length};
 ghost use Rattle.laws_replay.specs.Below.CliAsk.Admission.{IsBehind};
-ghost use Rattle.fragmenter.specs.Cutting.{chosen_cuts};
+ghost use Rattle.laws_replay.specs.Below.Fragmenter.Cutting.{chosen_cuts};
 ghost use Rattle.laws_replay.specs.Below.LcWorld.GoneOn.{IsLeftByPasses};
 ghost use Rattle.laws_replay.specs.Below.Publisher.Held.{side_of};
 ghost use Rattle.laws_replay.specs.Below.PublisherSpec.Side.{IsValidSide};
 ghost use Rattle.laws_replay.specs.Played.{IsGiven};
 ghost use Rattle.cli_replay.specs.Home.{admitted_at, home_seen};
 
-use fragmenter::Cutting;
 use laws_replay::Message;
 use laws_replay::below::cli_ask::{Heard, MessageFault, give};
+use laws_replay::below::fragmenter::Cutting;
 use laws_replay::below::lc_links::HomeLink;
 use laws_replay::below::lc_world::Link;
 use laws_replay::below::publisher::Publisher;

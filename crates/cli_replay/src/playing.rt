@@ -7,10 +7,10 @@ ghost use Rattle.laws_replay.specs.Replayed.{IsReplayed};
 ghost use Rattle.laws_replay.specs.Versions.{HaveAdmitted};
 
 use crate::course::play_out;
-use cli_words::Publishing;
-use connection_uri::Base;
-use fragmenter::Cutting;
 use laws_replay::below::cli_ask::{ClientEnd, publisher_of};
+use laws_replay::below::cli_words::Publishing;
+use laws_replay::below::connection_uri::Base;
+use laws_replay::below::fragmenter::Cutting;
 use laws_replay::below::lc_links::{HomeLink, LocalLink};
 use laws_replay::below::lc_world::Link;
 use laws_replay::below::timetable::Timetable;

@@ -1,15 +1,15 @@
 ghost use Rattle.std.specs.Prelude.{◌≤◌, IsErrOf, IsTrue};
-ghost use Rattle.fragmenter.specs.Cutting.{chosen_cuts};
-ghost use Rattle.lc_doors.specs.declared.door.DoorFail.TheVariants.{Failed};
+ghost use Rattle.serving.specs.Below.Fragmenter.Cutting.{chosen_cuts};
+ghost use Rattle.serving.specs.Below.LcDoors.declared.door.DoorFail.TheVariants.{Failed};
 ghost use Rattle.lc_io.specs.Counts.{HasCause};
-ghost use Rattle.publisher.specs.Held.{side_of};
+ghost use Rattle.serving.specs.Below.Publisher.Held.{side_of};
 ghost use Rattle.cli_serve.specs.Clients.{HasTaken};
 
 use crate::tally::Tally;
 use crate::visit::visit;
-use fragmenter::Cutting;
-use lc_doors::{Door, DoorFail, Next};
-use publisher::Publisher;
+use serving::below::fragmenter::Cutting;
+use serving::below::lc_doors::{Door, DoorFail, Next};
+use serving::below::publisher::Publisher;
 use std::alloc::Global;
 
 /// Serves so many clients, or all that come, one after the other, and counts them. The publisher is handed on from one to the next, and given

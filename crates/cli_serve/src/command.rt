@@ -1,7 +1,7 @@
 ghost use Rattle.std.specs.Prelude.{◌≡◌, ◌≤◌, ℕ, OnOk, true};
-ghost use Rattle.fragmenter.specs.Cutting.{chosen_cuts};
-ghost use Rattle.publisher.specs.Held.{side_of};
-ghost use Rattle.publisher_spec.specs.Side.{Side};
+ghost use Rattle.serving.specs.Below.Fragmenter.Cutting.{chosen_cuts};
+ghost use Rattle.serving.specs.Below.Publisher.Held.{side_of};
+ghost use Rattle.serving.specs.Below.PublisherSpec.Side.{Side};
 ghost use Rattle.cli_serve.specs.Serve.{DoorNeverFell, ServesTo};
 ghost use Rattle.cli_serve.specs.Steps.{Announces, Closes, StopsTo};
 ghost use Rattle.cli_serve.specs.Written.{SinkNeverFell};
@@ -11,10 +11,10 @@ use crate::clients::take_clients;
 use crate::lines::{put_opening, put_served};
 use crate::stop::Stop;
 use crate::tally::Tally;
-use fragmenter::Cutting;
-use lc_doors::{Door, DoorFail};
 use lc_io::Sink;
-use publisher::Publisher;
+use serving::below::fragmenter::Cutting;
+use serving::below::lc_doors::{Door, DoorFail};
+use serving::below::publisher::Publisher;
 use std::alloc::Global;
 
 /// Listens, and then says so after the opening.

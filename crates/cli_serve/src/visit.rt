@@ -1,16 +1,16 @@
 ghost use Rattle.std.specs.Prelude.{IsTrue};
-ghost use Rattle.fragmenter.specs.Cutting.{chosen_cuts};
-ghost use Rattle.publisher.specs.Held.{side_of};
+ghost use Rattle.serving.specs.Below.Fragmenter.Cutting.{chosen_cuts};
+ghost use Rattle.serving.specs.Below.Publisher.Held.{side_of};
 ghost use Rattle.cli_serve.specs.Visit.{Visit};
 ghost use Rattle.cli_serve.specs.Visiting.{Answers, Visits};
 
-use fragmenter::Cutting;
-use lc_doors::{Door, Served, serve_one};
 use lc_model::NoMemory;
-use publisher::Publisher;
 use serving::Serving;
+use serving::below::fragmenter::Cutting;
+use serving::below::lc_doors::{Door, Served, serve_one};
+use serving::below::publisher::Publisher;
+use serving::below::wire_session::Session;
 use std::alloc::Global;
-use wire_session::Session;
 
 /// Answers what comes on the current connection, and gives the publisher back. Where memory runs out it is the one that the session has left.
 fn answer<D: Door>(

@@ -1,4 +1,5 @@
 mod AddressLemmas
+pub mod BelowLemmas
 mod DefaultLemmas
 mod DrilledLemmas
 mod EndLemmas

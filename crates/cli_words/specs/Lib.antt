@@ -1,5 +1,6 @@
 pub mod Arrive
 pub mod Ask
+pub mod Below
 pub mod Cache
 pub mod Check
 pub mod FeedWindow

@@ -4,6 +4,7 @@
 
 mod arrive;
 mod ask;
+pub mod below;
 mod cache;
 mod check;
 mod command;

@@ -1,3 +1,4 @@
+pub mod Below
 pub mod Exchange
 pub mod Finish
 pub mod State

@@ -1,8 +1,8 @@
 -- What becomes of a client at its turn, and of the cache.
 use Rattle.std.specs.Prelude.{◌≡◌, ◌+◌, ◌⊎◌, None, IsSome}
-use Rattle.connection_uri.specs.Base.{BaseParts}
+use Rattle.page_client.specs.Below.ConnectionUri.Base.{BaseParts}
 use Rattle.lc_world.specs.Link.{LinkSeen}
-use Rattle.page_cache.specs.Kept.{Kept}
+use Rattle.page_client.specs.Below.PageCache.Kept.{Kept}
 use Rattle.page_client.specs.Client.{shown}
 use Rattle.page_client.specs.declared.client.Client.{Client}
 use Rattle.convoy.specs.Steps.{AsksGate, AsksPage, AsksStops, HoldsPage}

@@ -1,4 +1,5 @@
 pub mod AnswerText
+pub mod Below
 pub mod Laws
 pub mod Places
 pub mod Sound

@@ -4,6 +4,7 @@
 
 mod answer_reading;
 mod answer_writing;
+pub mod below;
 mod laws;
 mod ride_words;
 

@@ -1,4 +1,5 @@
 mod AnsweredLemmas
+pub mod BelowLemmas
 mod EndLemmas
 mod ExchangeLemmas
 mod FrontLemmas

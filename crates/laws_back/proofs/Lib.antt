@@ -1,3 +1,4 @@
+pub mod BelowLemmas
 pub mod EarlyLemmas
 pub mod BackLemmas
 pub mod TakenLemmas

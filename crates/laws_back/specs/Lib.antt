@@ -1,3 +1,4 @@
+pub mod Below
 pub mod Early
 pub mod LatestOf
 pub mod NeededBack

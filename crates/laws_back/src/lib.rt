@@ -2,6 +2,7 @@
 //! needs. It builds on `back_scan` and `laws_pages`.
 #![tactic(auto)]
 
+pub mod below;
 mod early;
 mod journeys;
 mod needed;

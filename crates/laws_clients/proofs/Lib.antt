@@ -1,4 +1,5 @@
 pub mod AnsweredLemmas
+pub mod BelowLemmas
 pub mod FitsLemmas
 pub mod LinkLemmas
 pub mod OwnPageLemmas

@@ -1,4 +1,5 @@
 pub mod Answered
+pub mod Below
 pub mod Fits
 pub mod Laws
 pub mod Links

@@ -2,6 +2,7 @@
 //! of its version, after exactly the needed pages. It builds on `page_client`, `laws_pages`, `publisher_spec` and `laws_sides`.
 #![tactic(auto)]
 
+pub mod below;
 mod laws;
 mod steps;
 

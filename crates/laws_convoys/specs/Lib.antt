@@ -1,4 +1,5 @@
 pub mod Agreement
+pub mod Below
 pub mod Laws
 pub mod Leaves
 pub mod Names

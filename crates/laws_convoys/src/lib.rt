@@ -2,6 +2,7 @@
 //! one client alone asks and finds. It builds on `convoy` and `laws_clients`.
 #![tactic(auto)]
 
+pub mod below;
 mod laws;
 mod worked;
 

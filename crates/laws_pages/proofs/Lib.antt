@@ -1,4 +1,5 @@
 pub mod AlongLemmas
+pub mod BelowLemmas
 pub mod ChainLemmas
 pub mod DeparturesLemmas
 pub mod FilterLemmas

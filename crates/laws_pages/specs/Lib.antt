@@ -1,3 +1,4 @@
+pub mod Below
 pub mod Chain
 pub mod Needed
 pub mod Rides

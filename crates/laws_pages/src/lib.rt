@@ -2,6 +2,7 @@
 //! They say where a page may be last and which are needed. It builds on `lc_model`, `lc_versions` and `laws_journeys`.
 #![tactic(auto)]
 
+pub mod below;
 mod chain;
 mod needed;
 mod rides;

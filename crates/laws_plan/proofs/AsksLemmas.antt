@@ -3,10 +3,10 @@ use Rattle.std.proofs.Common.{◌≡◌, ◌∙◌, ◌⊎◌, ◌+◌, ◌<◌,
 use Rattle.std.specs.List.{slice_get}
 use Rattle.std.proofs.lemmas.List.Elements.{All-nil}
 use Rattle.std.proofs.lemmas.Option.{slice_get_within}
-use Rattle.connection_uri.specs.Base.{BaseParts}
+use Rattle.laws_replay.specs.Below.ConnectionUri.Base.{BaseParts}
 use Rattle.laws_replay.specs.Below.Convoy.State.{Adds, ConvoyState, begun}
 use Rattle.laws_replay.specs.Below.Convoy.declared.member.Member.{Member}
-use Rattle.csa_scan.proofs.ListPlacesLemmas.{push_cases}
+use Rattle.laws_replay.proofs.BelowLemmas.CsaScan.ListPlacesLemmas.{push_cases}
 use Rattle.laws_replay.specs.Below.LawsConvoys.Agreement.{FitsConvoy}
 use Rattle.laws_replay.specs.Below.LawsConvoys.Laws.{AddedAgrees, NoneAgrees}
 use Rattle.laws_replay.specs.Below.LawsConvoys.Names.{Round}

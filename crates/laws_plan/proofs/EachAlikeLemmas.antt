@@ -4,8 +4,8 @@ use Rattle.std.specs.List.{AllZip, slice_get}
 use Rattle.std.proofs.lemmas.Option.{slice_get_within}
 use Rattle.laws_replay.specs.Below.CliAsk.Laws.{AreOneEnd}
 use Rattle.laws_replay.specs.Below.CliAsk.declared.end.ClientEnd.{ClientEnd}
-use Rattle.connection_uri.specs.Base.{BaseParts}
-use Rattle.csa_scan.proofs.ListPlacesLemmas.{item_within}
+use Rattle.laws_replay.specs.Below.ConnectionUri.Base.{BaseParts}
+use Rattle.laws_replay.proofs.BelowLemmas.CsaScan.ListPlacesLemmas.{item_within}
 use Rattle.laws_replay.specs.Below.LawsConvoys.Names.{Round}
 use Rattle.laws_plan.specs.Planned.{ArePlanned}
 use Rattle.laws_replay.proofs.OneCourseLemmas.{all_are_clients, zip_places}
@@ -18,7 +18,7 @@ use Rattle.laws_replay.specs.Below.LawsReplies.Met.{Met}
 use Rattle.lc_model.specs.declared.query.Query.{Query}
 use Rattle.laws_replay.specs.Below.LcWorld.Link.{LinkSeen}
 use Rattle.laws_replay.specs.Below.PublisherSpec.Side.{Side}
-use Rattle.script_text.specs.Script.{IsClient}
+use Rattle.laws_replay.specs.Below.ScriptText.Script.{IsClient}
 
 -- the ends of one client in two plans, and what it received in its turns
 pub record EndAlike (d e : ClientEnd) (rs ts : List Round) : Type 0 where

@@ -6,7 +6,7 @@ use Rattle.std.proofs.lemmas.List.{map-append}
 use Rattle.std.proofs.lemmas.List.Elements.{filter-append}
 use Rattle.laws_replay.specs.Below.CliAsk.Client.{shown_of}
 use Rattle.laws_replay.specs.Below.CliAsk.declared.end.ClientEnd.{ClientEnd}
-use Rattle.connection_uri.specs.Base.{BaseParts}
+use Rattle.laws_replay.specs.Below.ConnectionUri.Base.{BaseParts}
 use Rattle.laws_replay.specs.Below.LawsClients.Fits.{HasEnded, HasFailed}
 use Rattle.laws_replay.specs.Below.LawsConvoys.Names.{Round}
 use Rattle.laws_plan.specs.Planned.{VersionFitsFault}

@@ -14,8 +14,8 @@ use Rattle.laws_replay.specs.Turns.{failed_in, given_in}
 use Rattle.laws_replay.specs.Below.LawsSides.Stated.{version_at}
 use Rattle.lc_model.specs.declared.answer.Answer.{Answer}
 use Rattle.lc_model.specs.declared.query.Query.{Query}
-use Rattle.lc_versions.specs.History.{Entry, moments_of}
-use Rattle.lc_versions.specs.Named.{is_by, last_of}
+use Rattle.laws_replay.specs.Below.LcVersions.History.{Entry, moments_of}
+use Rattle.laws_replay.specs.Below.LcVersions.Named.{is_by, last_of}
 use Rattle.laws_replay.specs.Below.PageClient.Shown.{Shown}
 use Rattle.laws_replay.specs.Below.PageClient.declared.fault.QueryFault.{QueryFault}
 use Rattle.laws_replay.specs.Below.PageClient.declared.fault.QueryFault.TheVariants.{HorizonRange, SameStop, UnknownFrom, UnknownTo}

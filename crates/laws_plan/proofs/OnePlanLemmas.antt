@@ -7,7 +7,7 @@ use Rattle.laws_replay.proofs.BelowLemmas.CliAsk.OneAnswerLemmas.{alike}
 use Rattle.laws_replay.specs.Below.CliAsk.Client.{shown_of}
 use Rattle.laws_replay.specs.Below.CliAsk.Laws.{AreOneEnd, IsNoLinkFault}
 use Rattle.laws_replay.specs.Below.CliAsk.declared.end.ClientEnd.{ClientEnd}
-use Rattle.connection_uri.specs.Base.{BaseParts}
+use Rattle.laws_replay.specs.Below.ConnectionUri.Base.{BaseParts}
 use Rattle.laws_replay.specs.Below.LawsClients.Fits.{HasEnded, IsDenied}
 use Rattle.laws_replay.specs.Below.LawsClients.Laws.{OneArrivalAt, OneListOfNeededAt}
 use Rattle.laws_replay.specs.Below.LawsClients.Wants.{wants_of}

@@ -1,7 +1,7 @@
 -- How far clients planned rightly: what holds after the turns that are done.
 use Rattle.std.proofs.Common.{◌≡◌, ℕ, ◌+◌, List, [], Option, Some, None, length}
 use Rattle.std.specs.List.{All, slice_get}
-use Rattle.connection_uri.specs.Base.{BaseParts}
+use Rattle.laws_replay.specs.Below.ConnectionUri.Base.{BaseParts}
 use Rattle.laws_replay.specs.Below.Convoy.State.{ConvoyState}
 use Rattle.laws_replay.specs.Below.Convoy.declared.member.Member.{Member}
 use Rattle.laws_replay.specs.Below.LawsConvoys.Agreement.{FitsConvoy}

@@ -6,7 +6,7 @@ use Rattle.std.proofs.lemmas.Option.{slice_get_within}
 use Rattle.laws_replay.proofs.BelowLemmas.CliAsk.ClientLemmas.{at_end, same_end}
 use Rattle.laws_replay.specs.Below.CliAsk.Client.{shown_of}
 use Rattle.laws_replay.specs.Below.CliAsk.declared.end.ClientEnd.{ClientEnd}
-use Rattle.connection_uri.specs.Base.{BaseParts}
+use Rattle.laws_replay.specs.Below.ConnectionUri.Base.{BaseParts}
 use Rattle.laws_replay.specs.Below.Convoy.State.{ConvoyState, begun}
 use Rattle.laws_replay.specs.Below.Convoy.declared.member.Member.{Member}
 use Rattle.laws_replay.specs.Below.LawsClients.Fits.{FitsSide, HasEnded}

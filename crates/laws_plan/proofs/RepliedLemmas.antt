@@ -2,7 +2,7 @@
 use Rattle.std.proofs.Common.{◌≡◌, ◌∙◌, ℕ, zero, suc, inl, inr, List, [], ◌∷◌, ◌++◌, length, refl, ap, sym, subst}
 use Rattle.std.specs.Option.{option_map}
 use Rattle.std.proofs.lemmas.List.Elements.{All-head, All-tail}
-use Rattle.connection_uri.specs.Base.{BaseParts}
+use Rattle.laws_replay.specs.Below.ConnectionUri.Base.{BaseParts}
 use Rattle.laws_replay.specs.Below.Convoy.Exchange.{Got, IsExchange, bytes_of, result_of}
 use Rattle.laws_replay.specs.Below.Convoy.Finish.{IsStep, Rounds, Step, TurnsOf}
 use Rattle.laws_replay.specs.Below.Convoy.State.{ConvoyState, begun}

@@ -5,11 +5,11 @@ use Rattle.std.specs.List.{slice_get}
 use Rattle.std.proofs.lemmas.List.{length-set}
 use Rattle.std.proofs.lemmas.List.Elements.{All-push}
 use Rattle.std.proofs.lemmas.Option.{slice_get_within}
-use Rattle.connection_uri.specs.Base.{BaseParts}
+use Rattle.laws_replay.specs.Below.ConnectionUri.Base.{BaseParts}
 use Rattle.laws_replay.specs.Below.Convoy.Finish.{HasOutcome}
 use Rattle.laws_replay.specs.Below.Convoy.State.{ConvoyState}
 use Rattle.laws_replay.specs.Below.Convoy.declared.member.Member.{Member}
-use Rattle.csa_scan.proofs.ListPlacesLemmas.{item_within, same_place, slice_get-set_other, slice_get-set_same}
+use Rattle.laws_replay.proofs.BelowLemmas.CsaScan.ListPlacesLemmas.{item_within, same_place, slice_get-set_other, slice_get-set_same}
 use Rattle.laws_replay.specs.Below.LawsClients.Fits.{IsOfSide}
 use Rattle.laws_replay.specs.Below.LawsClients.Laws.{WantsStay}
 use Rattle.laws_replay.specs.Below.LawsClients.Wants.{AreWants}
@@ -41,7 +41,7 @@ use Rattle.laws_replay.specs.Below.PageClient.declared.want.Want.{Want}
 use Rattle.laws_replay.specs.Below.PageClient.declared.want.Want.TheVariants as wants
 use Rattle.laws_replay.proofs.BelowLemmas.PublisherSpec.LaterLemmas.{later_on}
 use Rattle.laws_replay.specs.Below.PublisherSpec.Side.{IsLater, Side}
-use Rattle.script_text.specs.Script.{IsClient}
+use Rattle.laws_replay.specs.Below.ScriptText.Script.{IsClient}
 
 -- a link that was left so, and then so
 pub leaves_then : (base : BaseParts) (side mid left : Side) (a b c : LinkSeen) → LeavesHonest base side mid a b → LeavesHonest base mid left b c → LeavesHonest base side left a c

@@ -1,7 +1,7 @@
 -- A client has its turn, and, when the events are over, is turned until it ends.
 use Rattle.std.proofs.Common.{◌≡◌, ◌⊎◌, ◌-◌, ◌<◌, ◌≤◌, ℕ, zero, suc, inl, inr, List, [], ◌∷◌, ◌++◌, Option, Some, None, length, ap₂, sym, subst, arith, append-nil, append_assoc}
 use Rattle.std.specs.Prelude.{IsSome}
-use Rattle.connection_uri.specs.Base.{BaseParts}
+use Rattle.laws_replay.specs.Below.ConnectionUri.Base.{BaseParts}
 use Rattle.laws_replay.specs.Below.Convoy.Finish.{Ends, HasOutcome, IsStep, Rounds}
 use Rattle.laws_replay.specs.Below.Convoy.State.{ConvoyState}
 use Rattle.laws_replay.specs.Below.Convoy.declared.turn.Turn.{Turn}
@@ -25,7 +25,7 @@ use Rattle.laws_replay.specs.Below.PageClient.Client.{shown}
 use Rattle.laws_replay.specs.Below.PageClient.declared.outcome.Outcome.{Outcome}
 use Rattle.laws_replay.specs.Below.PageClient.declared.want.Want.{Want}
 use Rattle.laws_replay.specs.Below.PublisherSpec.Side.{Side}
-use Rattle.script_text.specs.Script.{IsClient}
+use Rattle.laws_replay.specs.Below.ScriptText.Script.{IsClient}
 
 -- said in other words of the turns
 pub said_so : (Turns Next : ℕ → List Round → Option Outcome → Type 0) (base : BaseParts) (first : Side) (cache : ℕ) (questions : List Query) (order : List ℕ) (convoy : ConvoyState) (start now : LinkSeen)

@@ -1,5 +1,6 @@
 -- The definitions of the crates below, for the crates above.
 pub mod CliAsk
+pub mod ConnectionUri
 pub mod Convoy
 pub mod LawsReplay
 pub mod LawsReplies

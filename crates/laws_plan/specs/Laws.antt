@@ -2,7 +2,7 @@
 use Rattle.std.specs.Prelude.{◌≡◌, ℕ, ◌+◌, List, [], ◌∷◌, Some, length, slice_get}
 use Rattle.laws_replay.specs.Below.CliAsk.Client.{Asks}
 use Rattle.laws_replay.specs.Below.CliAsk.declared.end.ClientEnd.{ClientEnd}
-use Rattle.connection_uri.specs.Base.{BaseParts}
+use Rattle.laws_replay.specs.Below.ConnectionUri.Base.{BaseParts}
 use Rattle.laws_replay.specs.Below.Convoy.Finish.{Rounds}
 use Rattle.laws_replay.specs.Below.Convoy.State.{ConvoyState, begun}
 use Rattle.laws_plan.specs.Planned.{ArePlanned, IsPlanned, NoneIsMessage}

@@ -8,7 +8,7 @@ use Rattle.laws_plan.specs.Sides.{AreLater, sides_of}
 use Rattle.laws_replay.specs.Turns.{asked_in, failed_in, given_in}
 use Rattle.laws_replay.specs.Below.LawsSides.Stated.{version_at}
 use Rattle.lc_model.specs.declared.query.Query.{Query}
-use Rattle.lc_versions.specs.declared.update.Update.{Update}
+use Rattle.laws_replay.specs.Below.LcVersions.declared.update.Update.{Update}
 use Rattle.laws_replay.specs.Below.PageClient.declared.outcome.Outcome.TheVariants.{LinkFault}
 use Rattle.laws_replay.specs.Below.PageClient.declared.want.Want.{Want}
 use Rattle.laws_replay.specs.Below.PageClient.declared.want.Want.TheVariants as wants

@@ -3,7 +3,7 @@ use Rattle.std.specs.Prelude.{◌≡◌, ◌↔◌, ◌≤◌, ℕ, ◌+◌, Lis
 use Rattle.std.specs.List.{All}
 use Rattle.laws_replay.specs.Below.CliAsk.Client.{shown_of}
 use Rattle.laws_replay.specs.Below.CliAsk.declared.end.ClientEnd.{ClientEnd}
-use Rattle.connection_uri.specs.Base.{BaseParts}
+use Rattle.laws_replay.specs.Below.ConnectionUri.Base.{BaseParts}
 use Rattle.laws_replay.specs.Below.LawsClients.Fits.{HasEnded}
 use Rattle.laws_replay.specs.Below.LawsConvoys.Leaves.{LeavesHonest}
 use Rattle.laws_replay.specs.Below.LawsConvoys.Names.{AskByNames, Round, failures_in}

@@ -4,8 +4,8 @@ use Rattle.std.specs.List.{slice_get}
 use Rattle.std.proofs.lemmas.List.{length-append}
 use Rattle.std.proofs.lemmas.List.Elements.{All-nil}
 use Rattle.std.proofs.lemmas.Option.{slice_get_within}
-use Rattle.csa_scan.proofs.ListPlacesLemmas.{push_cases, slice_get-last}
-use Rattle.cli_words.specs.declared.command.Publishing.{Publishing}
+use Rattle.cli_ask.proofs.BelowLemmas.CsaScan.ListPlacesLemmas.{push_cases, slice_get-last}
+use Rattle.cli_ask.specs.Below.CliWords.declared.command.Publishing.{Publishing}
 use Rattle.cli_ask.specs.Below.Convoy.State.{Adds, ConvoyState, begun}
 use Rattle.cli_ask.specs.Below.Convoy.declared.member.Member.{Member}
 use Rattle.cli_ask.specs.Below.LawsConvoys.Agreement.{AllFit, FitsConvoy}
@@ -23,7 +23,7 @@ use Rattle.cli_ask.specs.Below.PageClient.declared.want.Want.{Want}
 use Rattle.cli_ask.specs.Below.PublisherSpec.Short.{IsShort}
 use Rattle.cli_ask.specs.Below.PublisherSpec.Side.{Side}
 use Rattle.cli_ask.specs.Below.Timetable.declared.timetable.Timetable.{Timetable}
-use Rattle.version_store.specs.Store.{Stored}
+use Rattle.cli_ask.specs.Below.VersionStore.Store.{Stored}
 use Rattle.cli_ask.specs.Publishing.{side_with, store_of}
 use Rattle.laws_replay.specs.Laws.{IsQuietAt}
 use Rattle.laws_replay.proofs.EventLemmas.{before_none, given_none, has_turn, heard_behind_ask, meant_on, no_turn_yet, questions_in-append, requests_of_more, rounds_of-none, slice_get-more, tells_none, turns_behind_ask, turns_of_clients}

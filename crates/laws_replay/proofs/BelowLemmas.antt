@@ -1,5 +1,6 @@
 -- The lemmas of the crates below, for the crates above.
 pub mod CliAsk
+pub mod CsaScan
 pub mod LawsClients
 pub mod LawsConvoys
 pub mod LawsReplies

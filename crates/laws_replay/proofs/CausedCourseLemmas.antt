@@ -5,14 +5,14 @@ use Rattle.std.proofs.lemmas.List.Elements.{All-append, All-cons, All-head, All-
 use Rattle.std.proofs.lemmas.Option.{slice_get_within}
 use Rattle.cli_ask.specs.Below.LawsReplies.Met.{Met}
 use Rattle.cli_ask.proofs.BelowLemmas.LawsReplies.ClientsLemmas.{AreSo, HasGrown, Meets, MeetsNone, MeetsOne, are_asked, are_later, not_yet, turn_meets}
-use Rattle.connection_uri.specs.Base.{BaseParts}
+use Rattle.cli_ask.specs.Below.ConnectionUri.Base.{BaseParts}
 use Rattle.cli_ask.specs.Below.Convoy.Finish.{HasOutcome, IsStep, Rounds, Step, TurnsOf}
 use Rattle.cli_ask.specs.Below.Convoy.State.{Adds, ConvoyState}
 use Rattle.cli_ask.specs.Below.Convoy.declared.member.Member.{Member}
 use Rattle.cli_ask.specs.Below.Convoy.declared.turn.Turn.{Turn}
 use Rattle.cli_ask.specs.Below.LawsConvoys.Names.{Round}
 use Rattle.cli_ask.specs.Below.LawsConvoys.Rounds.{round_at, round_in, round_then, rounds_up_to}
-use Rattle.csa_scan.proofs.ListPlacesLemmas.{same_place, slice_get-append, slice_get-set_other, slice_get-set_same}
+use Rattle.cli_ask.proofs.BelowLemmas.CsaScan.ListPlacesLemmas.{same_place, slice_get-append, slice_get-set_other, slice_get-set_same}
 use Rattle.lc_io.specs.declared.file.File.{File}
 use Rattle.lc_model.specs.declared.query.Query.{Query}
 use Rattle.cli_ask.specs.Below.LcWorld.Link.{LinkSeen}

@@ -11,11 +11,11 @@ use Rattle.cli_ask.specs.Below.LawsReplies.Made.{Made}
 use Rattle.cli_ask.specs.Below.LawsReplies.Met.{Met, met_by}
 use Rattle.cli_ask.proofs.BelowLemmas.LawsReplies.ClientsLemmas.{AreSo, IsClientSo, are_begun, has_ended}
 use Rattle.cli_ask.proofs.BelowLemmas.LawsReplies.StepLemmas.{AtEnd}
-use Rattle.connection_uri.specs.Base.{BaseParts}
+use Rattle.cli_ask.specs.Below.ConnectionUri.Base.{BaseParts}
 use Rattle.cli_ask.specs.Below.Convoy.State.{ConvoyState, begun}
 use Rattle.cli_ask.specs.Below.Convoy.declared.member.Member.{Member}
 use Rattle.cli_ask.specs.Below.LawsConvoys.Rounds.{rounds_up_to}
-use Rattle.csa_scan.proofs.ListPlacesLemmas.{item_within}
+use Rattle.cli_ask.proofs.BelowLemmas.CsaScan.ListPlacesLemmas.{item_within}
 use Rattle.lc_model.specs.Journey.{arrives_at}
 use Rattle.lc_model.specs.declared.moment.TheConstants.{MOMENTS_END}
 use Rattle.lc_model.specs.declared.query.Query.{Query}

@@ -9,7 +9,7 @@ use Rattle.cli_ask.specs.Publishing.{side_with, store_of}
 use Rattle.cli_ask.specs.declared.end.ClientEnd.{ClientEnd}
 use Rattle.cli_ask.specs.Below.LawsClients.Fits.{HasEnded, HasFailed, IsDenied}
 use Rattle.cli_ask.specs.Below.LawsClients.Wants.{AreWants}
-use Rattle.cli_words.specs.declared.command.Publishing.{Publishing}
+use Rattle.cli_ask.specs.Below.CliWords.declared.command.Publishing.{Publishing}
 use Rattle.cli_ask.specs.Below.Convoy.Finish.{HasOutcome}
 use Rattle.cli_ask.specs.Below.Convoy.State.{ConvoyState}
 use Rattle.cli_ask.specs.Below.Convoy.declared.member.Member.{Member}
@@ -30,7 +30,7 @@ use Rattle.cli_ask.specs.Below.PageClient.declared.want.Want.{Want}
 use Rattle.cli_ask.specs.Below.PageClient.declared.want.Want.TheVariants as wants
 use Rattle.cli_ask.specs.Below.PublisherSpec.Side.{Side}
 use Rattle.cli_ask.specs.Below.Timetable.declared.timetable.Timetable.{Timetable}
-use Rattle.version_store.specs.Store.{Stored}
+use Rattle.cli_ask.specs.Below.VersionStore.Store.{Stored}
 use Rattle.laws_replay.specs.Events.{before_turn_of}
 use Rattle.laws_replay.specs.Played.{HasEndedSo}
 use Rattle.laws_replay.specs.Right.{EndsSo, FailsWith}

@@ -5,8 +5,8 @@ use Rattle.std.proofs.lemmas.Option.{slice_get_within}
 use Rattle.cli_ask.specs.Publishing.{side_with}
 use Rattle.cli_ask.specs.declared.end.ClientEnd.{ClientEnd}
 use Rattle.cli_ask.specs.Below.LawsReplies.Met.{Met}
-use Rattle.cli_words.specs.declared.command.Publishing.{Publishing}
-use Rattle.connection_uri.specs.Base.{BaseParts}
+use Rattle.cli_ask.specs.Below.CliWords.declared.command.Publishing.{Publishing}
+use Rattle.cli_ask.specs.Below.ConnectionUri.Base.{BaseParts}
 use Rattle.cli_ask.specs.Below.Convoy.Finish.{Rounds}
 use Rattle.cli_ask.specs.Below.Convoy.State.{ConvoyState}
 use Rattle.cli_ask.specs.Below.Convoy.declared.member.Member.{Member}
@@ -17,7 +17,7 @@ use Rattle.cli_ask.specs.Below.LawsConvoys.Requests.{TellsRequests, requests_of}
 use Rattle.cli_ask.specs.Below.LawsConvoys.Rounds.{rounds_up_to}
 use Rattle.cli_ask.proofs.BelowLemmas.LawsConvoys.PlaceLemmas.{at_place}
 use Rattle.cli_ask.proofs.BelowLemmas.LawsConvoys.TurnLemmas.{honest_still, one_at}
-use Rattle.csa_scan.proofs.ListPlacesLemmas.{item_within}
+use Rattle.cli_ask.proofs.BelowLemmas.CsaScan.ListPlacesLemmas.{item_within}
 use Rattle.lc_io.specs.Counts.{RoseBy}
 use Rattle.lc_io.proofs.CountLemmas.{RoseBy-then}
 use Rattle.lc_model.specs.declared.page.PageName.{PageName}

@@ -4,7 +4,7 @@ use Rattle.std.specs.Prelude.{if◌then◌else◌}
 use Rattle.std.specs.List.{All, slice_get}
 use Rattle.std.proofs.lemmas.Bool.{ne_eqb}
 use Rattle.std.proofs.lemmas.List.Elements.{All-cons, All-head, All-nil, All-tail}
-use Rattle.connection_uri.specs.Base.{BaseParts}
+use Rattle.cli_ask.specs.Below.ConnectionUri.Base.{BaseParts}
 use Rattle.cli_ask.specs.Below.Convoy.declared.member.Member.{Member}
 use Rattle.cli_ask.specs.Below.LawsConvoys.Names.{Round}
 use Rattle.cli_ask.specs.Below.LawsConvoys.Requests.{requests_of}

@@ -4,22 +4,22 @@ use Rattle.std.specs.List.{slice_get}
 use Rattle.std.proofs.lemmas.List.{append-nil}
 use Rattle.cli_ask.specs.Below.LawsClients.Fits.{IsOfSide}
 use Rattle.cli_ask.specs.Below.LawsClients.Laws.{WantsStay}
-use Rattle.cli_words.specs.declared.command.Publishing.{Publishing}
+use Rattle.cli_ask.specs.Below.CliWords.declared.command.Publishing.{Publishing}
 use Rattle.cli_ask.specs.Below.Convoy.State.{ConvoyState}
 use Rattle.cli_ask.specs.Below.Convoy.declared.member.Member.{Member}
 use Rattle.cli_ask.specs.Below.LawsConvoys.Agreement.{AllFit}
 use Rattle.cli_ask.specs.Below.LawsConvoys.Laws.{LaterAgrees}
 use Rattle.cli_ask.specs.Below.LawsConvoys.Names.{Round, failures_in}
 use Rattle.cli_ask.specs.Below.LawsConvoys.Requests.{TellsRequests}
-use Rattle.fragmenter.specs.Cutting.{chosen_cuts}
-use Rattle.fragmenter.specs.declared.cutting.Cutting.{Cutting}
+use Rattle.cli_ask.specs.Below.Fragmenter.Cutting.{chosen_cuts}
+use Rattle.cli_ask.specs.Below.Fragmenter.declared.cutting.Cutting.{Cutting}
 use Rattle.lc_io.specs.Counts.{RoseBy}
 use Rattle.lc_io.specs.declared.file.File.{File}
 use Rattle.lc_model.specs.declared.query.Query.{Query}
 use Rattle.lc_model.specs.declared.run.Run.{Run}
 use Rattle.lc_model.specs.declared.stop.Stop.{Stop}
-use Rattle.lc_time.specs.declared.zone.Zone.{Zone}
-use Rattle.lc_versions.specs.History.{Entry}
+use Rattle.cli_ask.specs.Below.LcTime.declared.zone.Zone.{Zone}
+use Rattle.cli_ask.specs.Below.LcVersions.History.{Entry}
 use Rattle.cli_ask.specs.Below.LcWorld.Link.{LinkSeen}
 use Rattle.cli_ask.specs.Below.LcWorld.declared.entry.Entry.{Entry as RecordedEntry}
 use Rattle.cli_ask.specs.Below.PageClient.Client.{shown}
@@ -30,7 +30,7 @@ use Rattle.cli_ask.specs.Below.Publisher.Held.{Held, side_of}
 use Rattle.cli_ask.specs.Below.PublisherSpec.Short.{IsShort}
 use Rattle.cli_ask.specs.Below.PublisherSpec.Side.{IsLater, IsValidSide, Side}
 use Rattle.cli_ask.specs.Below.Timetable.declared.timetable.Timetable.{Timetable}
-use Rattle.version_store.specs.Store.{Stored, entry_of}
+use Rattle.cli_ask.specs.Below.VersionStore.Store.{Stored, entry_of}
 use Rattle.cli_ask.specs.Admission.{IsBehind}
 use Rattle.cli_ask.specs.Publishing.{side_with, store_of}
 use Rattle.laws_replay.proofs.EventLemmas.{given_none, heard_behind_message, meant_on, questions_behind_message, turns_behind_message}

@@ -13,23 +13,23 @@ use Rattle.cli_ask.specs.declared.end.ClientEnd.{ClientEnd}
 use Rattle.cli_ask.specs.Below.LawsClients.Fits.{HasEnded}
 use Rattle.cli_ask.specs.Below.LawsClients.Laws.{OneArrivalAt, OneListOfNeededAt}
 use Rattle.cli_ask.specs.Below.LawsReplies.Laws.{SayTheSame}
-use Rattle.cli_words.specs.declared.command.Publishing.{Publishing}
+use Rattle.cli_ask.specs.Below.CliWords.declared.command.Publishing.{Publishing}
 use Rattle.cli_ask.specs.Below.LawsConvoys.Names.{Round}
 use Rattle.cli_ask.specs.Below.LawsConvoys.OneClient.{version_of}
-use Rattle.csa_scan.proofs.ListPlacesLemmas.{item_within}
+use Rattle.cli_ask.proofs.BelowLemmas.CsaScan.ListPlacesLemmas.{item_within}
 use Rattle.lc_model.specs.declared.query.Query.{Query}
-use Rattle.lc_versions.specs.History.{Entry, moments_of}
-use Rattle.lc_versions.specs.Named.{version_named}
+use Rattle.cli_ask.specs.Below.LcVersions.History.{Entry, moments_of}
+use Rattle.cli_ask.specs.Below.LcVersions.Named.{version_named}
 use Rattle.cli_ask.specs.Below.PageClient.declared.outcome.Outcome.{Outcome}
 use Rattle.cli_ask.specs.Below.PageClient.declared.outcome.Outcome.TheVariants as outcomes
 use Rattle.cli_ask.specs.Below.PageClient.declared.want.Want.{Want}
 use Rattle.cli_ask.specs.Below.PublisherSpec.Side.{Side}
-use Rattle.script_text.specs.Script.{IsClient}
+use Rattle.cli_ask.specs.Below.ScriptText.Script.{IsClient}
 use Rattle.cli_ask.specs.Below.LawsSides.Stated.{version_at}
 use Rattle.cli_ask.specs.Below.Timetable.Laws.{AreSame}
 use Rattle.cli_ask.specs.Below.Timetable.declared.timetable.Timetable.{Timetable}
-use Rattle.version_store.specs.Laws.{OneOutcome}
-use Rattle.version_store.specs.Store.{Stored}
+use Rattle.cli_ask.specs.Below.VersionStore.Laws.{OneOutcome}
+use Rattle.cli_ask.specs.Below.VersionStore.Store.{Stored}
 use Rattle.laws_replay.specs.Events.{TurnsAreOfClients, before_turn_of, questions_in, turns_in}
 use Rattle.laws_replay.specs.OneCourse.{ComeToOne, IsPlayedOut, OneCourse}
 use Rattle.laws_replay.specs.Right.{EndsSo, FailsWith}

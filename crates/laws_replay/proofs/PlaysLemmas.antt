@@ -4,7 +4,7 @@ use Rattle.std.proofs.Math.Seq.{take-append_seam}
 use Rattle.std.proofs.lemmas.List.{append-nil, append_assoc}
 use Rattle.cli_ask.specs.Below.LawsClients.Laws.{WantsStay}
 use Rattle.cli_ask.specs.Below.LawsReplies.Met.{Met}
-use Rattle.cli_words.specs.declared.command.Publishing.{Publishing}
+use Rattle.cli_ask.specs.Below.CliWords.declared.command.Publishing.{Publishing}
 use Rattle.cli_ask.specs.Below.Convoy.Finish.{IsStep, Rounds}
 use Rattle.cli_ask.specs.Below.Convoy.State.{ConvoyState, begun}
 use Rattle.cli_ask.specs.Below.Convoy.declared.turn.Turn.{Turn}
@@ -14,9 +14,9 @@ use Rattle.cli_ask.specs.Below.LawsConvoys.Rounds.{round_at, rounds_up_to}
 use Rattle.cli_ask.specs.Below.LcWorld.Link.{LinkSeen}
 use Rattle.cli_ask.specs.Below.PageClient.Client.{shown}
 use Rattle.cli_ask.specs.Below.PublisherSpec.Short.{IsShort}
-use Rattle.script_text.specs.Script.{IsClient}
+use Rattle.cli_ask.specs.Below.ScriptText.Script.{IsClient}
 use Rattle.cli_ask.specs.Below.Timetable.declared.timetable.Timetable.{Timetable}
-use Rattle.version_store.specs.Store.{Stored}
+use Rattle.cli_ask.specs.Below.VersionStore.Store.{Stored}
 use Rattle.cli_ask.specs.Publishing.{side_with, store_of}
 use Rattle.cli_ask.specs.declared.end.ClientEnd.{ClientEnd}
 use Rattle.laws_replay.specs.Laws.{IsQuietAt, PlaysRight}

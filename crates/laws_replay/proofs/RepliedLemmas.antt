@@ -5,7 +5,7 @@ use Rattle.std.specs.Option.{option_map}
 use Rattle.std.proofs.lemmas.List.{append-nil, append_assoc}
 use Rattle.cli_ask.specs.Admission.{IsBehind}
 use Rattle.cli_ask.specs.Publishing.{side_with, store_of}
-use Rattle.cli_words.specs.declared.command.Publishing.{Publishing}
+use Rattle.cli_ask.specs.Below.CliWords.declared.command.Publishing.{Publishing}
 use Rattle.cli_ask.specs.Below.Convoy.Finish.{Rounds}
 use Rattle.cli_ask.specs.Below.Convoy.State.{ConvoyState, begun}
 use Rattle.cli_ask.specs.Below.LawsConvoys.Names.{Round}
@@ -17,7 +17,7 @@ use Rattle.cli_ask.specs.Below.LcWorld.declared.entry.Entry.{Entry}
 use Rattle.cli_ask.specs.Below.PublisherSpec.Short.{IsShort}
 use Rattle.cli_ask.specs.Below.PublisherSpec.Side.{IsValidSide}
 use Rattle.cli_ask.specs.Below.Timetable.declared.timetable.Timetable.{Timetable}
-use Rattle.version_store.specs.Store.{Stored}
+use Rattle.cli_ask.specs.Below.VersionStore.Store.{Stored}
 use Rattle.laws_replay.specs.Laws.{IsQuietAt}
 use Rattle.laws_replay.specs.Played.{Plays}
 use Rattle.laws_replay.specs.Replied.{AreReplied, TellsOwn}

@@ -5,7 +5,7 @@ use Rattle.std.specs.Option.{IsSome}
 use Rattle.std.proofs.lemmas.Grind.{flat_map-append}
 use Rattle.std.proofs.lemmas.List.{append-nil, append_assoc, length-append}
 use Rattle.std.proofs.lemmas.List.Elements.{All-append, All-cons, All-head, All-nil}
-use Rattle.cli_words.specs.declared.command.Publishing.{Publishing}
+use Rattle.cli_ask.specs.Below.CliWords.declared.command.Publishing.{Publishing}
 use Rattle.cli_ask.specs.Below.Convoy.declared.member.Member.{Member}
 use Rattle.cli_ask.specs.Below.Convoy.declared.turn.Turn.{Turn}
 use Rattle.cli_ask.specs.Below.Convoy.declared.turn.Turn.TheVariants.{Cached, Exchanged, Finished}
@@ -28,7 +28,7 @@ use Rattle.cli_ask.specs.Below.PageClient.declared.want.Want.TheVariants as want
 use Rattle.cli_ask.specs.Below.PublisherSpec.Side.{Side}
 use Rattle.cli_ask.specs.Below.LawsSides.Stated.{version_at}
 use Rattle.cli_ask.specs.Below.Timetable.declared.timetable.Timetable.{Timetable}
-use Rattle.version_store.specs.Store.{Stored}
+use Rattle.cli_ask.specs.Below.VersionStore.Store.{Stored}
 use Rattle.cli_ask.specs.Publishing.{side_with, store_of}
 use Rattle.laws_replay.specs.Events.{before_turn_of}
 use Rattle.laws_replay.specs.Turns.{IsIdle, IsOne, asked_in, failed_in, given_in}

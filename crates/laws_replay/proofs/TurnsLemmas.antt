@@ -5,9 +5,9 @@ use Rattle.std.specs.List.{slice_get}
 use Rattle.std.proofs.lemmas.Bool.{false≢true}
 use Rattle.std.proofs.lemmas.List.{length-append, length-set}
 use Rattle.std.proofs.lemmas.Option.{slice_get_within}
-use Rattle.csa_scan.proofs.ListPlacesLemmas.{item_within, same_place, slice_get-set_other, slice_get-set_same}
-use Rattle.cli_words.specs.declared.command.Publishing.{Publishing}
-use Rattle.connection_uri.specs.Base.{BaseParts}
+use Rattle.cli_ask.proofs.BelowLemmas.CsaScan.ListPlacesLemmas.{item_within, same_place, slice_get-set_other, slice_get-set_same}
+use Rattle.cli_ask.specs.Below.CliWords.declared.command.Publishing.{Publishing}
+use Rattle.cli_ask.specs.Below.ConnectionUri.Base.{BaseParts}
 use Rattle.cli_ask.specs.Below.Convoy.Finish.{IsStep}
 use Rattle.cli_ask.specs.Below.Convoy.State.{ConvoyState}
 use Rattle.cli_ask.specs.Below.Convoy.declared.member.Member.{Member}
@@ -27,9 +27,9 @@ use Rattle.cli_ask.specs.Below.LcWorld.Link.{IsHonestWith, IsQuietWith, LinkSeen
 use Rattle.cli_ask.specs.Below.PageClient.Client.{shown}
 use Rattle.cli_ask.specs.Below.PageClient.declared.want.Want.{Want}
 use Rattle.cli_ask.specs.Below.PublisherSpec.Side.{Side}
-use Rattle.script_text.specs.Script.{IsClient}
+use Rattle.cli_ask.specs.Below.ScriptText.Script.{IsClient}
 use Rattle.cli_ask.specs.Below.Timetable.declared.timetable.Timetable.{Timetable}
-use Rattle.version_store.specs.Store.{Stored}
+use Rattle.cli_ask.specs.Below.VersionStore.Store.{Stored}
 use Rattle.cli_ask.specs.Publishing.{side_with, store_of}
 use Rattle.laws_replay.specs.Events.{before_turn_of, questions_in, turns_in}
 use Rattle.laws_replay.specs.Turns.{given_in, requests_in, rounds_of}

@@ -1,13 +1,21 @@
 -- The definitions of the crates below, for the crates above.
 pub mod CliAsk
+pub mod CliWords
+pub mod ConnectionUri
 pub mod Convoy
+pub mod Fragmenter
+pub mod GtfsTables
 pub mod LawsClients
 pub mod LawsConvoys
 pub mod LawsReplies
 pub mod LawsSides
 pub mod LcLinks
+pub mod LcVersions
 pub mod LcWorld
 pub mod PageClient
 pub mod Publisher
 pub mod PublisherSpec
+pub mod ScriptText
 pub mod Timetable
+pub mod TripUpdates
+pub mod VersionStore

@@ -5,7 +5,7 @@ use Rattle.cli_ask.specs.declared.end.ClientEnd.{ClientEnd}
 use Rattle.cli_ask.specs.Below.LawsReplies.Cached.{AreCached}
 use Rattle.cli_ask.specs.Below.LawsReplies.Ends.{EndsBy}
 use Rattle.cli_ask.specs.Below.LawsReplies.Met.{AreMet, HasFailedBetween, Met, exchanges_by, met_by}
-use Rattle.connection_uri.specs.Base.{BaseParts}
+use Rattle.cli_ask.specs.Below.ConnectionUri.Base.{BaseParts}
 use Rattle.lc_model.specs.declared.query.Query.{Query}
 use Rattle.cli_ask.specs.Below.LcWorld.declared.entry.Entry.{Entry}
 use Rattle.cli_ask.specs.Below.PageClient.declared.outcome.Outcome.TheVariants.{LinkFault}

@@ -1,9 +1,9 @@
 -- What event sequences result in that were played over a link. X is the type of the link, and `seen` what is promised of it.
 use Rattle.std.specs.Prelude.{◌≡◌, ◌≤◌, ℕ, ◌+◌, List, Option, Some, length, slice_get}
 use Rattle.std.specs.List.{All}
-use Rattle.cli_words.specs.declared.command.Publishing.{Publishing}
+use Rattle.cli_ask.specs.Below.CliWords.declared.command.Publishing.{Publishing}
 use Rattle.cli_ask.specs.Below.LawsReplies.Met.{HasFailedBetween, Met}
-use Rattle.connection_uri.specs.Base.{BaseParts}
+use Rattle.cli_ask.specs.Below.ConnectionUri.Base.{BaseParts}
 use Rattle.cli_ask.specs.Below.Convoy.Finish.{Rounds}
 use Rattle.cli_ask.specs.Below.Convoy.State.{ConvoyState, begun}
 use Rattle.cli_ask.specs.Below.LawsConvoys.Names.{Round}

@@ -3,7 +3,7 @@ use Rattle.std.specs.Prelude.{◌≡◌, ℕ, ◌+◌, List, [], ◌∷◌, ◌+
 use Rattle.cli_ask.specs.Below.LawsClients.Fits.{HasEnded}
 use Rattle.cli_ask.specs.Below.LawsClients.Wants.{AreWants}
 use Rattle.cli_ask.specs.Below.LawsReplies.Met.{Met}
-use Rattle.cli_words.specs.declared.command.Publishing.{Publishing}
+use Rattle.cli_ask.specs.Below.CliWords.declared.command.Publishing.{Publishing}
 use Rattle.cli_ask.specs.Below.LawsConvoys.Names.{AskByNames, Round, failures_in}
 use Rattle.cli_ask.specs.Below.LawsConvoys.Requests.{TellsRequests}
 use Rattle.lc_io.specs.Counts.{RoseBy}
@@ -15,7 +15,7 @@ use Rattle.cli_ask.specs.Below.PageClient.declared.want.Want.{Want}
 use Rattle.cli_ask.specs.Below.PageClient.declared.want.Want.TheVariants as wants
 use Rattle.cli_ask.specs.Below.PublisherSpec.Side.{Side}
 use Rattle.cli_ask.specs.Below.Timetable.declared.timetable.Timetable.{Timetable}
-use Rattle.version_store.specs.Store.{Stored}
+use Rattle.cli_ask.specs.Below.VersionStore.Store.{Stored}
 use Rattle.cli_ask.specs.Client.{shown_of}
 use Rattle.cli_ask.specs.Publishing.{side_with, store_of}
 use Rattle.cli_ask.specs.declared.end.ClientEnd.{ClientEnd}

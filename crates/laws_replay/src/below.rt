@@ -2,6 +2,7 @@
 
 pub use cli_ask;
 pub use cli_ask::below::{
-    convoy, laws_clients, laws_convoys, laws_replies, lc_links, lc_world, page_client, publisher,
-    timetable,
+    cli_words, connection_uri, convoy, fragmenter, laws_clients, laws_convoys, laws_replies,
+    lc_links, lc_world, page_client, publisher, script_text, timetable, trip_updates,
+    version_store,
 };

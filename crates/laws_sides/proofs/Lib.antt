@@ -1,4 +1,5 @@
 pub mod AskedLemmas
+pub mod BelowLemmas
 pub mod CutPageLemmas
 pub mod GateLemmas
 pub mod PageLemmas

@@ -1,2 +1,3 @@
+pub mod Below
 pub mod Read
 pub mod Stated

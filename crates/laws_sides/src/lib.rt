@@ -2,6 +2,7 @@
 //! document and the pages. It builds on `publisher_spec`, `page_client` and `laws_pages`.
 #![tactic(auto)]
 
+pub mod below;
 mod laws;
 
 pub use laws::{gate_is_stated, pages_are_stated, replies_are_read, stops_are_stated};

@@ -5,9 +5,9 @@ use Rattle.cli_relay.specs.Below.CliReplay.Summary.{leaves_in, summary_of}
 use Rattle.cli_relay.specs.Below.CliReplay.declared.playing.Replayed.{Replayed}
 use Rattle.cli_inputs.specs.Script.{IsReplayRefused}
 use Rattle.cli_inputs.specs.declared.refusal.Refusal.{Refusal}
-use Rattle.cli_words.specs.declared.command.Drill.{Drill}
-use Rattle.cli_words.specs.declared.command.Publishing.{Publishing}
-use Rattle.cli_words.specs.declared.command.Replay.{Replay}
+use Rattle.cli_ask.specs.Below.CliWords.declared.command.Drill.{Drill}
+use Rattle.cli_ask.specs.Below.CliWords.declared.command.Publishing.{Publishing}
+use Rattle.cli_ask.specs.Below.CliWords.declared.command.Replay.{Replay}
 use Rattle.cli_inputs.specs.Below.LawsReplay.Events.{messages_in}
 use Rattle.cli_inputs.specs.Below.LawsReplay.Replayed.{IsReplayed}
 use Rattle.cli_inputs.specs.Below.LawsReplay.Versions.{HaveAdmitted}

@@ -8,11 +8,11 @@ use Rattle.cli_ask.specs.Client.{AsksFor, EndsRight, shown_of}
 use Rattle.cli_ask.specs.Laws.{IsNoLinkFault}
 use Rattle.cli_ask.specs.Publishing.{side_with}
 use Rattle.cli_ask.specs.declared.end.ClientEnd.{ClientEnd}
-use Rattle.cli_words.specs.Laws.{OneCommand}
-use Rattle.cli_words.specs.Words.{SaysCommand}
-use Rattle.cli_words.specs.declared.command.Ask.{Ask}
-use Rattle.cli_words.specs.declared.command.Command.{Command}
-use Rattle.cli_words.specs.declared.command.Command.TheVariants as commands
+use Rattle.cli_ask.specs.Below.CliWords.Laws.{OneCommand}
+use Rattle.cli_ask.specs.Below.CliWords.Words.{SaysCommand}
+use Rattle.cli_ask.specs.Below.CliWords.declared.command.Ask.{Ask}
+use Rattle.cli_ask.specs.Below.CliWords.declared.command.Command.{Command}
+use Rattle.cli_ask.specs.Below.CliWords.declared.command.Command.TheVariants as commands
 use Rattle.cli_ask.specs.Below.LawsClients.Answered.{AnswersAt, NeededAt}
 use Rattle.cli_ask.specs.Below.LawsClients.Fits.{HasAnswered, HasEnded}
 use Rattle.cli_ask.specs.Below.LawsClients.Wants.{wants_of}

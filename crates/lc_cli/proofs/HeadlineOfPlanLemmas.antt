@@ -2,15 +2,15 @@
 use Rattle.std.proofs.Common.{◌≡◌, ◌∙◌, ◌⊎◌, ◌∷◌, ℕ, suc, inl, inr, List, [], None, Some, Option, refl, subst, sym}
 use Rattle.cli_ask.specs.Client.{shown_of}
 use Rattle.cli_ask.specs.declared.end.ClientEnd.{ClientEnd}
-use Rattle.cli_words.specs.Laws.{OneCommand}
-use Rattle.cli_words.specs.Words.{SaysCommand}
-use Rattle.cli_words.specs.declared.command.Command.{Command}
-use Rattle.cli_words.specs.declared.command.Command.TheVariants as commands
-use Rattle.cli_words.specs.declared.command.Plan.{Plan}
+use Rattle.cli_ask.specs.Below.CliWords.Laws.{OneCommand}
+use Rattle.cli_ask.specs.Below.CliWords.Words.{SaysCommand}
+use Rattle.cli_ask.specs.Below.CliWords.declared.command.Command.{Command}
+use Rattle.cli_ask.specs.Below.CliWords.declared.command.Command.TheVariants as commands
+use Rattle.cli_ask.specs.Below.CliWords.declared.command.Plan.{Plan}
 use Rattle.cli_ask.specs.Below.LawsClients.Answered.{AnswersAt}
 use Rattle.cli_ask.specs.Below.LawsClients.Fits.{HasAnswered}
 use Rattle.cli_ask.specs.Below.LawsConvoys.Names.{Round}
-use Rattle.connection_uri.specs.Base.{BaseParts}
+use Rattle.cli_ask.specs.Below.ConnectionUri.Base.{BaseParts}
 use Rattle.cli_relay.specs.Planned.{ArePlanned, EndsAt, IsPlanned}
 use Rattle.cli_relay.specs.Sides.{version_after, version_with}
 use Rattle.cli_inputs.specs.Below.LawsReplay.Turns.{given_in}

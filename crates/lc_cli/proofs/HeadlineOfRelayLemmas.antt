@@ -2,11 +2,11 @@
 use Rattle.std.proofs.Common.{◌≡◌, ◌∙◌, ◌⊎◌, ◌++◌, ℕ, inl, inr, List, Some, ap, subst}
 use Rattle.cli_relay.specs.Laws.{RelaysPlanRight}
 use Rattle.cli_relay.specs.Relayed.{counts_line_of}
-use Rattle.cli_words.specs.Laws.{OneCommand}
-use Rattle.cli_words.specs.Words.{SaysCommand}
-use Rattle.cli_words.specs.declared.command.Command.{Command}
-use Rattle.cli_words.specs.declared.command.Command.TheVariants as commands
-use Rattle.cli_words.specs.declared.command.Relay.{Relay}
+use Rattle.cli_ask.specs.Below.CliWords.Laws.{OneCommand}
+use Rattle.cli_ask.specs.Below.CliWords.Words.{SaysCommand}
+use Rattle.cli_ask.specs.Below.CliWords.declared.command.Command.{Command}
+use Rattle.cli_ask.specs.Below.CliWords.declared.command.Command.TheVariants as commands
+use Rattle.cli_ask.specs.Below.CliWords.declared.command.Relay.{Relay}
 use Rattle.lc_io.specs.declared.file.File.{File}
 use Rattle.cli_ask.specs.Below.LcWorld.Link.{IsHonestWith, LinkSeen}
 use Rattle.cli_ask.specs.Below.PublisherSpec.Side.{Side}

@@ -3,12 +3,12 @@ use Rattle.std.proofs.Common.{◌≡◌, ◌⊎◌, ◌+◌, ℕ, inl, inr, List
 use Rattle.cli_ask.specs.Client.{shown_of}
 use Rattle.cli_ask.specs.Publishing.{side_with, store_of}
 use Rattle.cli_ask.specs.declared.end.ClientEnd.{ClientEnd}
-use Rattle.cli_words.specs.Laws.{OneCommand}
-use Rattle.cli_words.specs.Words.{SaysCommand}
-use Rattle.cli_words.specs.declared.command.Command.{Command}
-use Rattle.cli_words.specs.declared.command.Command.TheVariants as commands
-use Rattle.cli_words.specs.declared.command.Publishing.{Publishing}
-use Rattle.cli_words.specs.declared.command.Replay.{Replay}
+use Rattle.cli_ask.specs.Below.CliWords.Laws.{OneCommand}
+use Rattle.cli_ask.specs.Below.CliWords.Words.{SaysCommand}
+use Rattle.cli_ask.specs.Below.CliWords.declared.command.Command.{Command}
+use Rattle.cli_ask.specs.Below.CliWords.declared.command.Command.TheVariants as commands
+use Rattle.cli_ask.specs.Below.CliWords.declared.command.Publishing.{Publishing}
+use Rattle.cli_ask.specs.Below.CliWords.declared.command.Replay.{Replay}
 use Rattle.cli_ask.specs.Below.LawsClients.Answered.{AnswersAt}
 use Rattle.cli_ask.specs.Below.LawsClients.Fits.{HasAnswered}
 use Rattle.cli_inputs.specs.Below.LawsReplay.Right.{EndsSo}
@@ -20,8 +20,8 @@ use Rattle.lc_model.specs.declared.query.Query.{Query}
 use Rattle.cli_ask.specs.Below.LcWorld.Link.{LinkSeen}
 use Rattle.cli_ask.specs.Below.Timetable.Laws.{LoadsRecorded}
 use Rattle.cli_ask.specs.Below.Timetable.declared.timetable.Timetable.{Timetable}
-use Rattle.version_store.specs.Laws.{OneOutcome}
-use Rattle.version_store.specs.Store.{Stored}
+use Rattle.cli_ask.specs.Below.VersionStore.Laws.{OneOutcome}
+use Rattle.cli_ask.specs.Below.VersionStore.Store.{Stored}
 use Rattle.lc_cli.specs.Block.{IsBlockEnd}
 use Rattle.lc_cli.specs.Command.{IsReplayBlock, Prints}
 use Rattle.lc_cli.specs.Headline.{EndsBestThen, HeadlineOfReplay, StaysShortThroughout, WroteEachBest, version_meant}

@@ -1,7 +1,7 @@
 -- Two ends with the latest departure leave at one moment after as many exchanges, and what is near one of them is none.
 use Rattle.std.proofs.Common.{◌≡◌, ◌∙◌, ◌∷◌, ◌++◌, [], List, Option, Some, None, ap, arith, length, refl, subst, sym}
-use Rattle.back_scan.specs.Forward.{forward_query}
-use Rattle.back_scan.specs.declared.arrive_query.ArriveQuery.{ArriveQuery}
+use Rattle.cli_ask.specs.Below.BackScan.Forward.{forward_query}
+use Rattle.cli_ask.specs.Below.BackScan.declared.arrive_query.ArriveQuery.{ArriveQuery}
 use Rattle.cli_ask.specs.declared.end.ClientEnd.{ClientEnd}
 use Rattle.cli_arrive.specs.Below.LawsArrive.Latest.{LatestAt}
 use Rattle.cli_arrive.specs.Below.LawsArrive.Laws.{OneDepartureAt, OneListOfNeededBackAt}

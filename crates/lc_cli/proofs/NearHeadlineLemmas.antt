@@ -10,8 +10,8 @@ use Rattle.lc_model.specs.declared.answer.Answer.{Answer}
 use Rattle.lc_model.specs.declared.answer.Answer.TheVariants as answers
 use Rattle.lc_model.specs.declared.journey.Journey.{Journey}
 use Rattle.lc_model.specs.declared.query.Query.{Query}
-use Rattle.lc_versions.specs.Named.{last_of}
-use Rattle.live_calls.specs.Laws.{LiveWithoutNews, RunsAreLive}
+use Rattle.cli_ask.specs.Below.LcVersions.Named.{last_of}
+use Rattle.cli_ask.specs.Below.LiveCalls.Laws.{LiveWithoutNews, RunsAreLive}
 use Rattle.cli_ask.specs.Below.PageClient.declared.outcome.Outcome.TheVariants as outcomes
 use Rattle.cli_ask.specs.Below.Timetable.Tiny.{moment}
 use Rattle.lc_cli.specs.Headline.{outcome_of}

@@ -3,14 +3,14 @@ use Rattle.std.proofs.Common.{◌≡◌, ◌+◌, ◌∷◌, ℕ, false, List, [
 use Rattle.std.specs.List.{AllZip}
 use Rattle.cli_ask.specs.Laws.{AreOneEnd}
 use Rattle.cli_inputs.specs.Plan.{SayEvents, SaysEvent}
-use Rattle.cli_words.specs.Laws.{OneCommand}
-use Rattle.cli_words.specs.Words.{SaysCommand}
-use Rattle.cli_words.specs.declared.command.Command.{Command}
-use Rattle.cli_words.specs.declared.command.Command.TheVariants as commands
-use Rattle.cli_words.specs.declared.command.Plan.{Plan}
+use Rattle.cli_ask.specs.Below.CliWords.Laws.{OneCommand}
+use Rattle.cli_ask.specs.Below.CliWords.Words.{SaysCommand}
+use Rattle.cli_ask.specs.Below.CliWords.declared.command.Command.{Command}
+use Rattle.cli_ask.specs.Below.CliWords.declared.command.Command.TheVariants as commands
+use Rattle.cli_ask.specs.Below.CliWords.declared.command.Plan.{Plan}
 use Rattle.cli_ask.specs.declared.end.ClientEnd.{ClientEnd}
 use Rattle.cli_inputs.specs.Plan.{ReadsPlan}
-use Rattle.connection_uri.specs.Base.{BaseParts}
+use Rattle.cli_ask.specs.Below.ConnectionUri.Base.{BaseParts}
 use Rattle.cli_relay.specs.OneGrowing.{IsGrowingPlan, NameTheSame, OneGrowingPlan}
 use Rattle.cli_relay.specs.OnePlan.{IsQuietPlan, OnePlan}
 use Rattle.cli_relay.specs.Planned.{ArePlanned, IsPlanned}
@@ -22,10 +22,10 @@ use Rattle.lc_io.specs.Folder.{FolderSeen}
 use Rattle.lc_io.specs.declared.file.File.{File}
 use Rattle.cli_ask.specs.Below.PublisherSpec.Side.{IsLater, IsValidSide, Side}
 use Rattle.cli_ask.specs.Below.LcWorld.Link.{LinkSeen}
-use Rattle.script_text.specs.Laws.{OneScript}
-use Rattle.script_text.specs.Script.{IsClient}
-use Rattle.script_text.specs.declared.script.Record.{Record}
-use Rattle.script_text.specs.declared.script.Record.TheVariants as records
+use Rattle.cli_ask.specs.Below.ScriptText.Laws.{OneScript}
+use Rattle.cli_ask.specs.Below.ScriptText.Script.{IsClient}
+use Rattle.cli_ask.specs.Below.ScriptText.declared.script.Record.{Record}
+use Rattle.cli_ask.specs.Below.ScriptText.declared.script.Record.TheVariants as records
 use Rattle.lc_cli.specs.Clear.{AreRecordedAsks, AreRecordedEvents, IsRecordedEvent}
 use Rattle.lc_cli.specs.Command.{IsPlanBlock, Prints}
 use Rattle.lc_cli.specs.OnePlan.{OneNamedPlan, OneQuietPlan, PlanTheSame, PrintOnePlan}

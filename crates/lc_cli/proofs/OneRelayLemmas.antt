@@ -6,10 +6,10 @@ use Rattle.cli_ask.specs.Laws.{AreOneEnd}
 use Rattle.cli_ask.specs.declared.end.ClientEnd.{ClientEnd}
 use Rattle.cli_relay.specs.Laws.{RelaysPlanRight}
 use Rattle.cli_relay.specs.Relayed.{IsRelayed, counts_line_of, exchanges_in, relay_after, relay_over}
-use Rattle.cli_words.specs.Laws.{OneCommand}
-use Rattle.cli_words.specs.declared.command.Command.TheVariants as commands
-use Rattle.cli_words.specs.declared.command.Relay.{Relay}
-use Rattle.connection_uri.specs.Base.{BaseParts}
+use Rattle.cli_ask.specs.Below.CliWords.Laws.{OneCommand}
+use Rattle.cli_ask.specs.Below.CliWords.declared.command.Command.TheVariants as commands
+use Rattle.cli_ask.specs.Below.CliWords.declared.command.Relay.{Relay}
+use Rattle.cli_ask.specs.Below.ConnectionUri.Base.{BaseParts}
 use Rattle.cli_relay.specs.OneGrowing.{OneGrowingPlan}
 use Rattle.cli_relay.specs.OnePlan.{OnePlan}
 use Rattle.cli_inputs.specs.Below.LawsReplay.Replayed.{clients_text_of}
@@ -21,7 +21,7 @@ use Rattle.cli_ask.specs.Below.LcWorld.declared.entry.Entry.{Entry}
 use Rattle.cli_relay.specs.Below.PageRelay.Kept.{Kept}
 use Rattle.cli_relay.specs.Below.PageRelay.Relay.{RelayState, new_relay, relay_seen}
 use Rattle.cli_ask.specs.Below.PublisherSpec.Side.{Side}
-use Rattle.script_text.specs.Laws.{OneScript}
+use Rattle.cli_ask.specs.Below.ScriptText.Laws.{OneScript}
 use Rattle.lc_cli.specs.Command.{IsRelayBlock}
 use Rattle.lc_cli.specs.OnePlan.{PlanTheSame}
 use Rattle.lc_cli.specs.OneRelay.{OneNamedRelay, OneQuietRelay, PrintOneRelay}

@@ -5,7 +5,7 @@ use Rattle.std.proofs.lemmas.List.Elements.{All-cons, All-nil}
 use Rattle.std.specs.List.{All}
 use Rattle.cli_ask.specs.Laws.{IsNoLinkFault}
 use Rattle.cli_ask.specs.declared.end.ClientEnd.{ClientEnd}
-use Rattle.cli_words.specs.declared.command.Replay.{Replay}
+use Rattle.cli_ask.specs.Below.CliWords.declared.command.Replay.{Replay}
 use Rattle.lc_io.specs.Folder.{FolderSeen}
 use Rattle.lc_io.specs.declared.file.File.{File}
 use Rattle.lc_model.specs.declared.query.Query.{Query}
@@ -19,11 +19,11 @@ use Rattle.cli_inputs.specs.Below.LawsReplay.Replayed.{clients_text_of}
 use Rattle.cli_inputs.specs.Below.LawsReplay.declared.event.Event.{Event}
 use Rattle.cli_inputs.specs.Below.LawsReplay.declared.event.Event.TheVariants as events
 use Rattle.cli_inputs.specs.Below.LawsReplay.declared.message.Message.{Message}
-use Rattle.script_text.specs.Laws.{OneScript}
-use Rattle.script_text.specs.Reading.{SaysScript}
-use Rattle.script_text.specs.Script.{IsClient, SayRecords, clients_of}
-use Rattle.script_text.specs.declared.script.Record.{Record}
-use Rattle.script_text.specs.declared.script.Record.TheVariants as records
+use Rattle.cli_ask.specs.Below.ScriptText.Laws.{OneScript}
+use Rattle.cli_ask.specs.Below.ScriptText.Reading.{SaysScript}
+use Rattle.cli_ask.specs.Below.ScriptText.Script.{IsClient, SayRecords, clients_of}
+use Rattle.cli_ask.specs.Below.ScriptText.declared.script.Record.{Record}
+use Rattle.cli_ask.specs.Below.ScriptText.declared.script.Record.TheVariants as records
 use Rattle.cli_ask.specs.Below.Timetable.Laws.{LoadsRecorded, OneTimetable}
 use Rattle.cli_ask.specs.Below.Timetable.declared.timetable.Timetable.{Timetable}
 use Rattle.lc_cli.specs.Clear.{AreRecordedEvents, HasFairCourse, IsRecordedCourse, IsRecordedEvent, IsRecordedScript}

@@ -6,9 +6,9 @@ use Rattle.cli_inputs.specs.declared.refusal.Refusal.{Refusal}
 use Rattle.cli_inputs.specs.declared.refusal.Refusal.TheVariants as refused
 use Rattle.cli_ask.specs.declared.end.ClientEnd.{ClientEnd}
 use Rattle.cli_relay.specs.Laws.{RelaysPlanRight}
-use Rattle.cli_words.specs.declared.command.Plan.{Plan}
-use Rattle.cli_words.specs.declared.command.Relay.{Relay}
-use Rattle.connection_uri.specs.Base.{BaseParts}
+use Rattle.cli_ask.specs.Below.CliWords.declared.command.Plan.{Plan}
+use Rattle.cli_ask.specs.Below.CliWords.declared.command.Relay.{Relay}
+use Rattle.cli_ask.specs.Below.ConnectionUri.Base.{BaseParts}
 use Rattle.cli_relay.specs.Planned.{ArePlanned, IsPlanned}
 use Rattle.cli_inputs.specs.Below.LawsReplay.Events.{questions_in}
 use Rattle.cli_inputs.specs.Below.LawsReplay.declared.event.Event.{Event}
@@ -17,9 +17,9 @@ use Rattle.lc_io.specs.Folder.{FolderSeen}
 use Rattle.lc_io.specs.declared.file.File.{File}
 use Rattle.cli_ask.specs.Below.LcWorld.Link.{LinkSeen}
 use Rattle.cli_ask.specs.Below.PublisherSpec.Side.{Side}
-use Rattle.script_text.specs.Laws.{NeverBoth}
-use Rattle.script_text.specs.Reading.{HasFault}
-use Rattle.script_text.specs.declared.fault.ScriptFault.TheVariants.{Wrong}
+use Rattle.cli_ask.specs.Below.ScriptText.Laws.{NeverBoth}
+use Rattle.cli_ask.specs.Below.ScriptText.Reading.{HasFault}
+use Rattle.cli_ask.specs.Below.ScriptText.declared.fault.ScriptFault.TheVariants.{Wrong}
 use Rattle.cli_ask.specs.Below.Timetable.declared.fault.LoadFault.TheVariants as fault
 use Rattle.lc_cli.specs.Clear.{AreRecordedAsks, HasHonestLink}
 use Rattle.lc_cli.specs.Command.{IsPlanBlock, IsRelayBlock}

@@ -9,7 +9,7 @@ use Rattle.cli_ask.specs.Below.LawsReplies.Made.{Made}
 use Rattle.cli_inputs.specs.Script.{IsEventOf, IsReplayRefused, ReadsEvents, ReadsReplay, StopsAtRecord}
 use Rattle.cli_inputs.specs.declared.refusal.Refusal.{Refusal}
 use Rattle.cli_inputs.specs.declared.refusal.Refusal.TheVariants as refused
-use Rattle.cli_words.specs.declared.command.Replay.{Replay}
+use Rattle.cli_ask.specs.Below.CliWords.declared.command.Replay.{Replay}
 use Rattle.lc_io.specs.Counts.{Rose}
 use Rattle.lc_io.specs.Folder.{FolderSeen, bytes_named}
 use Rattle.lc_io.specs.declared.file.File.{File}
@@ -23,17 +23,17 @@ use Rattle.cli_inputs.specs.Below.LawsReplay.Events.{questions_in}
 use Rattle.cli_inputs.specs.Below.LawsReplay.declared.event.Event.{Event}
 use Rattle.cli_inputs.specs.Below.LawsReplay.declared.event.Event.TheVariants as events
 use Rattle.cli_inputs.specs.Below.LawsReplay.declared.message.Message.{Message}
-use Rattle.script_text.specs.Laws.{NeverBoth, OneScript}
-use Rattle.script_text.specs.Reading.{HasFault, SaysScript}
-use Rattle.script_text.specs.declared.fault.ScriptFault.TheVariants.{Wrong}
-use Rattle.script_text.specs.declared.script.Record.{Record}
-use Rattle.script_text.specs.declared.script.Record.TheVariants as records
+use Rattle.cli_ask.specs.Below.ScriptText.Laws.{NeverBoth, OneScript}
+use Rattle.cli_ask.specs.Below.ScriptText.Reading.{HasFault, SaysScript}
+use Rattle.cli_ask.specs.Below.ScriptText.declared.fault.ScriptFault.TheVariants.{Wrong}
+use Rattle.cli_ask.specs.Below.ScriptText.declared.script.Record.{Record}
+use Rattle.cli_ask.specs.Below.ScriptText.declared.script.Record.TheVariants as records
 use Rattle.cli_ask.specs.Below.Timetable.Recorded.{IsSound}
 use Rattle.cli_ask.specs.Below.Timetable.Laws.{LoadsRecorded, NotBroken, NotTooLarge}
 use Rattle.cli_ask.specs.Below.Timetable.declared.fault.LoadFault.TheVariants as fault
 use Rattle.cli_ask.specs.Below.Timetable.declared.timetable.Timetable.{Timetable}
-use Rattle.trip_updates.specs.Faults.{fault_of}
-use Rattle.trip_updates.specs.declared.fault.RtFault.{RtFault}
+use Rattle.cli_ask.specs.Below.TripUpdates.Faults.{fault_of}
+use Rattle.cli_ask.specs.Below.TripUpdates.declared.fault.RtFault.{RtFault}
 use Rattle.lc_cli.specs.Clear.{AreRecordedEvents, HasFairCourse, IsRecordedCourse, IsRecordedEvent}
 use Rattle.lc_cli.specs.Command.{IsPlayedBy}
 use Rattle.lc_cli.specs.Scope.{scope_of}

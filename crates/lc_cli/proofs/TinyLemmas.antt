@@ -17,9 +17,9 @@ use Rattle.lc_model.specs.RunKey.{key_cmp}
 use Rattle.std.specs.Ordering.{on}
 use Rattle.std.specs.declared.cmp.Ordering.TheVariants.{Less}
 use Rattle.lc_model.specs.declared.moment.TheConstants.{MOMENTS_END}
-use Rattle.lc_versions.specs.Timetable.{AreLiveRuns}
-use Rattle.live_calls.specs.Laws.{IsOnTime, LiveWithoutNews, RunsAreLive, RunsOnTime}
-use Rattle.cli_words.specs.declared.command.Publishing.{Publishing}
+use Rattle.cli_ask.specs.Below.LcVersions.Timetable.{AreLiveRuns}
+use Rattle.cli_ask.specs.Below.LiveCalls.Laws.{IsOnTime, LiveWithoutNews, RunsAreLive, RunsOnTime}
+use Rattle.cli_ask.specs.Below.CliWords.declared.command.Publishing.{Publishing}
 use Rattle.lc_model.specs.Change.{change_between, is_same_id}
 use Rattle.lc_model.specs.Journey.{AreRides, GoesOn, IsAnswer, IsJourney, alight_of, arrival_of_rides, arrives_at, board_of, departure_of, leaves_at}
 use Rattle.lc_model.specs.Question.{IsEnd, IsFrom, IsTo, latest_of}
@@ -27,7 +27,7 @@ use Rattle.lc_model.specs.Ride.{IsRideAt, IsRideOn}
 use Rattle.lc_model.specs.Stop.{HasStop}
 use Rattle.lc_model.specs.StopsDoc.{NamesItsStops}
 use Rattle.lc_model.proofs.OneValueLemmas.{documents_are_one}
-use Rattle.lc_time.specs.declared.zone.Zone.TheVariants.{Utc}
+use Rattle.cli_ask.specs.Below.LcTime.declared.zone.Zone.TheVariants.{Utc}
 use Rattle.lc_model.specs.Walk.{IsWalkAfter, IsWalkBefore, seconds_of}
 use Rattle.lc_model.specs.declared.answer.Answer.{Answer}
 use Rattle.lc_model.specs.declared.answer.Answer.TheVariants as answers

@@ -1,10 +1,10 @@
 -- Which journeys of the small feed leave latest.
 use Rattle.std.proofs.Common.{◌≡◌, ◌∙◌, ◌+◌, ◌-◌, ◌<◌, ◌≤◌, ℕ, inl, List, [], ◌∷◌, Some, None, ap, arith, codes, lit<, lit≤, refl, subst, sym}
-use Rattle.back_scan.specs.Forward.{forward_query}
-use Rattle.back_scan.specs.Latest.{IsLatest}
-use Rattle.back_scan.specs.declared.arrive_query.ArriveQuery.{ArriveQuery}
-use Rattle.cli_words.specs.declared.command.Publishing.{Publishing}
-use Rattle.live_calls.specs.Laws.{LiveWithoutNews, RunsAreLive}
+use Rattle.cli_ask.specs.Below.BackScan.Forward.{forward_query}
+use Rattle.cli_ask.specs.Below.BackScan.Latest.{IsLatest}
+use Rattle.cli_ask.specs.Below.BackScan.declared.arrive_query.ArriveQuery.{ArriveQuery}
+use Rattle.cli_ask.specs.Below.CliWords.declared.command.Publishing.{Publishing}
+use Rattle.cli_ask.specs.Below.LiveCalls.Laws.{LiveWithoutNews, RunsAreLive}
 use Rattle.lc_model.specs.Journey.{AreRides, IsJourney, arrives_at, departure_of, leaves_at}
 use Rattle.lc_model.specs.Ride.{IsRideAt}
 use Rattle.lc_model.specs.Walk.{seconds_of}

@@ -4,19 +4,19 @@ use Rattle.cli_ask.specs.Admission.{IsBehind}
 use Rattle.cli_ask.specs.Publishing.{side_for, store_of}
 use Rattle.cli_drill.specs.Files.{drill_files}
 use Rattle.cli_inputs.specs.Plan.{SayEvents}
-use Rattle.cli_words.specs.Words.{SaysCommand}
-use Rattle.cli_words.specs.declared.command.Arrive.{Arrive}
-use Rattle.cli_words.specs.declared.command.Ask.{Ask}
-use Rattle.cli_words.specs.declared.command.Drill.{Drill}
-use Rattle.cli_words.specs.declared.command.Fewest.{Fewest}
-use Rattle.cli_words.specs.declared.command.Plan.{Plan}
-use Rattle.cli_words.specs.declared.command.Published.{Published}
-use Rattle.cli_words.specs.declared.command.Relay.{Relay}
-use Rattle.cli_words.specs.declared.command.Replay.{Replay}
-use Rattle.cli_words.specs.declared.command.Serve.{Serve}
-use Rattle.cli_words.specs.declared.command.Command.{Command}
-use Rattle.cli_words.specs.declared.command.Command.TheVariants as commands
-use Rattle.connection_uri.specs.Base.{BaseParts}
+use Rattle.cli_ask.specs.Below.CliWords.Words.{SaysCommand}
+use Rattle.cli_ask.specs.Below.CliWords.declared.command.Arrive.{Arrive}
+use Rattle.cli_ask.specs.Below.CliWords.declared.command.Ask.{Ask}
+use Rattle.cli_ask.specs.Below.CliWords.declared.command.Drill.{Drill}
+use Rattle.cli_ask.specs.Below.CliWords.declared.command.Fewest.{Fewest}
+use Rattle.cli_ask.specs.Below.CliWords.declared.command.Plan.{Plan}
+use Rattle.cli_ask.specs.Below.CliWords.declared.command.Published.{Published}
+use Rattle.cli_ask.specs.Below.CliWords.declared.command.Relay.{Relay}
+use Rattle.cli_ask.specs.Below.CliWords.declared.command.Replay.{Replay}
+use Rattle.cli_ask.specs.Below.CliWords.declared.command.Serve.{Serve}
+use Rattle.cli_ask.specs.Below.CliWords.declared.command.Command.{Command}
+use Rattle.cli_ask.specs.Below.CliWords.declared.command.Command.TheVariants as commands
+use Rattle.cli_ask.specs.Below.ConnectionUri.Base.{BaseParts}
 use Rattle.lc_io.specs.Counts.{Rose}
 use Rattle.lc_io.specs.Folder.{bytes_named}
 use Rattle.lc_io.specs.declared.file.File.{File}
@@ -26,13 +26,13 @@ use Rattle.cli_ask.specs.Below.PublisherSpec.Side.{Side}
 use Rattle.cli_inputs.specs.Below.LawsReplay.Versions.{AreShort}
 use Rattle.cli_inputs.specs.Below.LawsReplay.declared.event.Event.{Event}
 use Rattle.cli_inputs.specs.Below.LawsReplay.declared.event.Event.TheVariants as events
-use Rattle.script_text.specs.Reading.{SaysScript}
-use Rattle.script_text.specs.declared.script.Record.{Record}
-use Rattle.script_text.specs.declared.script.Record.TheVariants as records
+use Rattle.cli_ask.specs.Below.ScriptText.Reading.{SaysScript}
+use Rattle.cli_ask.specs.Below.ScriptText.declared.script.Record.{Record}
+use Rattle.cli_ask.specs.Below.ScriptText.declared.script.Record.TheVariants as records
 use Rattle.cli_ask.specs.Below.Timetable.Recorded.{IsSound}
 use Rattle.cli_ask.specs.Below.Timetable.declared.scope.Scope.{Scope}
 use Rattle.cli_ask.specs.Below.Timetable.declared.timetable.Timetable.{Timetable}
-use Rattle.version_store.specs.Store.{Stored}
+use Rattle.cli_ask.specs.Below.VersionStore.Store.{Stored}
 use Rattle.lc_cli.specs.Drill.{IsDrilled}
 use Rattle.lc_cli.specs.Scope.{scope_of}
 use Rattle.lc_cli.specs.Top.{Past}

@@ -3,17 +3,17 @@ use Rattle.std.specs.Prelude.{◌≡◌, ◌⊎◌, ℕ, false, List, [], ◌∷
 use Rattle.cli_ask.specs.Publishing.{PublishesAfter}
 use Rattle.cli_ask.specs.declared.end.ClientEnd.{ClientEnd}
 use Rattle.cli_relay.specs.Relayed.{IsRelayed}
-use Rattle.cli_words.specs.Words.{SaysCommand}
-use Rattle.cli_words.specs.declared.command.Arrive.{Arrive}
-use Rattle.cli_words.specs.declared.command.Ask.{Ask}
-use Rattle.cli_words.specs.declared.command.Check.{Check}
-use Rattle.cli_words.specs.declared.command.Fewest.{Fewest}
-use Rattle.cli_words.specs.declared.command.Plan.{Plan}
-use Rattle.cli_words.specs.declared.command.Published.{Published}
-use Rattle.cli_words.specs.declared.command.Relay.{Relay}
-use Rattle.cli_words.specs.declared.command.Serve.{Serve}
-use Rattle.cli_words.specs.declared.command.Command.{Command}
-use Rattle.cli_words.specs.declared.command.Command.TheVariants as commands
+use Rattle.cli_ask.specs.Below.CliWords.Words.{SaysCommand}
+use Rattle.cli_ask.specs.Below.CliWords.declared.command.Arrive.{Arrive}
+use Rattle.cli_ask.specs.Below.CliWords.declared.command.Ask.{Ask}
+use Rattle.cli_ask.specs.Below.CliWords.declared.command.Check.{Check}
+use Rattle.cli_ask.specs.Below.CliWords.declared.command.Fewest.{Fewest}
+use Rattle.cli_ask.specs.Below.CliWords.declared.command.Plan.{Plan}
+use Rattle.cli_ask.specs.Below.CliWords.declared.command.Published.{Published}
+use Rattle.cli_ask.specs.Below.CliWords.declared.command.Relay.{Relay}
+use Rattle.cli_ask.specs.Below.CliWords.declared.command.Serve.{Serve}
+use Rattle.cli_ask.specs.Below.CliWords.declared.command.Command.{Command}
+use Rattle.cli_ask.specs.Below.CliWords.declared.command.Command.TheVariants as commands
 use Rattle.lc_io.specs.Folder.{FolderSeen}
 use Rattle.lc_io.specs.declared.file.File.{File}
 use Rattle.cli_ask.specs.Below.LcWorld.GoneOn.{IsLeftByGets, IsLeftByPasses}

@@ -3,13 +3,13 @@ use Rattle.std.specs.Prelude.{◌≡◌, ℕ, ◌+◌, List, ◌∷◌, ◌++◌
 use Rattle.cli_ask.specs.Block.{client_text_of}
 use Rattle.cli_ask.specs.Publishing.{side_with, store_of}
 use Rattle.cli_ask.specs.declared.end.ClientEnd.{ClientEnd}
-use Rattle.cli_words.specs.Words.{SaysCommand}
-use Rattle.cli_words.specs.declared.command.Ask.{Ask}
-use Rattle.cli_words.specs.declared.command.Command.TheVariants as commands
-use Rattle.cli_words.specs.declared.command.Plan.{Plan}
-use Rattle.cli_words.specs.declared.command.Publishing.{Publishing}
-use Rattle.cli_words.specs.declared.command.Replay.{Replay}
-use Rattle.connection_uri.specs.Base.{BaseParts}
+use Rattle.cli_ask.specs.Below.CliWords.Words.{SaysCommand}
+use Rattle.cli_ask.specs.Below.CliWords.declared.command.Ask.{Ask}
+use Rattle.cli_ask.specs.Below.CliWords.declared.command.Command.TheVariants as commands
+use Rattle.cli_ask.specs.Below.CliWords.declared.command.Plan.{Plan}
+use Rattle.cli_ask.specs.Below.CliWords.declared.command.Publishing.{Publishing}
+use Rattle.cli_ask.specs.Below.CliWords.declared.command.Replay.{Replay}
+use Rattle.cli_ask.specs.Below.ConnectionUri.Base.{BaseParts}
 use Rattle.cli_ask.specs.Below.LawsClients.Answered.{AnswersAt, NeededAt}
 use Rattle.cli_ask.specs.Below.LawsConvoys.Names.{Round}
 use Rattle.cli_relay.specs.Planned.{ArePlanned}
@@ -26,8 +26,8 @@ use Rattle.lc_model.specs.declared.answer.Answer.{Answer}
 use Rattle.lc_model.specs.declared.answer.Answer.TheVariants as answers
 use Rattle.lc_model.specs.declared.page.PageName.{PageName}
 use Rattle.lc_model.specs.declared.query.Query.{Query}
-use Rattle.lc_versions.specs.History.{moments_of}
-use Rattle.lc_versions.specs.Named.{version_named}
+use Rattle.cli_ask.specs.Below.LcVersions.History.{moments_of}
+use Rattle.cli_ask.specs.Below.LcVersions.Named.{version_named}
 use Rattle.cli_ask.specs.Below.LcWorld.Link.{IsHonestWith, LinkSeen}
 use Rattle.cli_ask.specs.Below.PageClient.declared.outcome.Outcome.{Outcome}
 use Rattle.cli_ask.specs.Below.PageClient.declared.outcome.Outcome.TheVariants as outcomes
@@ -36,7 +36,7 @@ use Rattle.cli_ask.specs.Below.PageClient.declared.want.Want.TheVariants as want
 use Rattle.cli_ask.specs.Below.PublisherSpec.Short.{IsShort}
 use Rattle.cli_ask.specs.Below.PublisherSpec.Side.{Side}
 use Rattle.cli_ask.specs.Below.Timetable.declared.timetable.Timetable.{Timetable}
-use Rattle.version_store.specs.Store.{Stored}
+use Rattle.cli_ask.specs.Below.VersionStore.Store.{Stored}
 use Rattle.lc_cli.specs.Clear.{AreRecordedAsks, IsAskedSide, IsRecordedCourse}
 use Rattle.lc_cli.specs.Top.{IsRight, Past}
 use Rattle.cli_serve.specs.Written.{Wrote}

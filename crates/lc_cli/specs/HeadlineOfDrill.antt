@@ -2,10 +2,10 @@
 use Rattle.std.specs.Prelude.{◌≡◌, ℕ, ◌+◌, List, Some, slice_get}
 use Rattle.cli_ask.specs.declared.end.ClientEnd.{ClientEnd}
 use Rattle.cli_drill.specs.Files.{drill_files}
-use Rattle.cli_words.specs.Words.{SaysCommand}
-use Rattle.cli_words.specs.declared.command.Command.TheVariants as commands
-use Rattle.cli_words.specs.declared.command.Drill.{Drill}
-use Rattle.cli_words.specs.declared.command.Replay.{Replay}
+use Rattle.cli_ask.specs.Below.CliWords.Words.{SaysCommand}
+use Rattle.cli_ask.specs.Below.CliWords.declared.command.Command.TheVariants as commands
+use Rattle.cli_ask.specs.Below.CliWords.declared.command.Drill.{Drill}
+use Rattle.cli_ask.specs.Below.CliWords.declared.command.Replay.{Replay}
 use Rattle.cli_inputs.specs.Below.LawsReplay.Events.{questions_in}
 use Rattle.cli_inputs.specs.Below.LawsReplay.OneCourse.{IsPlayedOut}
 use Rattle.cli_inputs.specs.Below.LawsReplay.declared.event.Event.{Event}

@@ -3,9 +3,9 @@ use Rattle.std.specs.Prelude.{◌≡◌, ◌+◌, List, ◌++◌, Option, Some, 
 use Rattle.cli_ask.specs.Block.{client_text_of}
 use Rattle.cli_ask.specs.declared.end.ClientEnd.{ClientEnd}
 use Rattle.cli_serve.specs.Written.{Wrote}
-use Rattle.cli_words.specs.Words.{SaysCommand}
-use Rattle.cli_words.specs.declared.command.Command.TheVariants as commands
-use Rattle.cli_words.specs.declared.command.Fewest.{Fewest}
+use Rattle.cli_ask.specs.Below.CliWords.Words.{SaysCommand}
+use Rattle.cli_ask.specs.Below.CliWords.declared.command.Command.TheVariants as commands
+use Rattle.cli_ask.specs.Below.CliWords.declared.command.Fewest.{Fewest}
 use Rattle.cli_ask.specs.Below.LawsClients.Answered.{NeededAt}
 use Rattle.cli_fewest.specs.Below.LawsFewest.Version.{FewestAt}
 use Rattle.lc_io.specs.declared.file.File.{File}

@@ -5,9 +5,9 @@ use Rattle.cli_arrive.specs.Laws.{PrintOneLatest}
 use Rattle.cli_ask.specs.Laws.{AreOneEnd, PrintOneClient}
 use Rattle.cli_ask.specs.declared.end.ClientEnd.{ClientEnd}
 use Rattle.cli_fewest.specs.Laws.{PrintOneFewest}
-use Rattle.cli_words.specs.Words.{SaysCommand}
-use Rattle.cli_words.specs.declared.command.Command.{Command}
-use Rattle.cli_words.specs.declared.command.Command.TheVariants as commands
+use Rattle.cli_ask.specs.Below.CliWords.Words.{SaysCommand}
+use Rattle.cli_ask.specs.Below.CliWords.declared.command.Command.{Command}
+use Rattle.cli_ask.specs.Below.CliWords.declared.command.Command.TheVariants as commands
 use Rattle.lc_io.specs.declared.file.File.{File}
 use Rattle.cli_ask.specs.Below.LcWorld.Link.{LinkSeen}
 use Rattle.cli_inputs.specs.Below.LawsReplay.Replayed.{clients_text_of}

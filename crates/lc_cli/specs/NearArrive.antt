@@ -1,8 +1,8 @@
 -- What is near the end of a question for the latest departure, and is none. It is a journey that leaves earlier or later, no journey, another
 -- version, an exchange more or less, or another order of the needed pages back.
 use Rattle.std.specs.Prelude.{◌≡◌, ◌≢◌, ◌+◌, ◌<◌, ◌∷◌, ◌++◌, ℕ, List, Some}
-use Rattle.back_scan.specs.Forward.{forward_query}
-use Rattle.back_scan.specs.declared.arrive_query.ArriveQuery.{ArriveQuery}
+use Rattle.cli_ask.specs.Below.BackScan.Forward.{forward_query}
+use Rattle.cli_ask.specs.Below.BackScan.declared.arrive_query.ArriveQuery.{ArriveQuery}
 use Rattle.cli_ask.specs.declared.end.ClientEnd.{ClientEnd}
 use Rattle.cli_arrive.specs.Below.LawsArrive.Latest.{NeededBackAt}
 use Rattle.cli_ask.specs.Below.LawsSides.Stated.{version_at}

@@ -2,7 +2,7 @@
 use Rattle.std.specs.Prelude.{◌≡◌, ℕ, List}
 use Rattle.cli_ask.specs.declared.end.ClientEnd.{ClientEnd}
 use Rattle.cli_inputs.specs.Script.{ReadsReplay}
-use Rattle.cli_words.specs.declared.command.Replay.{Replay}
+use Rattle.cli_ask.specs.Below.CliWords.declared.command.Replay.{Replay}
 use Rattle.cli_inputs.specs.Below.LawsReplay.Replayed.{IsReplayed}
 use Rattle.cli_inputs.specs.Below.LawsReplay.declared.event.Event.{Event}
 use Rattle.lc_io.specs.Folder.{FolderSeen}

@@ -1,5 +1,5 @@
 -- What a command asks of its feed.
-use Rattle.cli_words.specs.declared.command.FeedWindow.{FeedWindow}
+use Rattle.cli_ask.specs.Below.CliWords.declared.command.FeedWindow.{FeedWindow}
 use Rattle.cli_ask.specs.Below.Timetable.declared.scope.Scope.{Scope}
 
 -- its timetable in this window

@@ -3,7 +3,7 @@ use Rattle.std.specs.Prelude.{◌≡◌, ℕ, ◌+◌, List, [], ◌∷◌, Opti
 use Rattle.std.proofs.Common.{lit≤}
 use Rattle.cli_ask.specs.Publishing.{side_with, store_of}
 use Rattle.cli_ask.specs.Below.LawsClients.Answered.{AnswersAt}
-use Rattle.cli_words.specs.declared.command.Publishing.{Publishing}
+use Rattle.cli_ask.specs.Below.CliWords.declared.command.Publishing.{Publishing}
 use Rattle.lc_model.specs.Journey.{IsJourney}
 use Rattle.lc_model.specs.Ride.{IsRideAt}
 use Rattle.lc_model.specs.declared.answer.Answer.{Answer}

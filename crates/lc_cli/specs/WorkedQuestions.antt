@@ -1,11 +1,11 @@
 -- Questions of the small feed for the latest departure and for the fewest rides, with answers worked out by hand and answers that are wrong.
 use Rattle.std.specs.Prelude.{◌≡◌, ℕ, ◌+◌, List, [], ◌∷◌, Option, None, Some, codes}
 use Rattle.std.proofs.Common.{lit≤}
-use Rattle.back_scan.specs.Forward.{forward_query}
-use Rattle.back_scan.specs.declared.arrive_query.ArriveQuery.{ArriveQuery}
+use Rattle.cli_ask.specs.Below.BackScan.Forward.{forward_query}
+use Rattle.cli_ask.specs.Below.BackScan.declared.arrive_query.ArriveQuery.{ArriveQuery}
 use Rattle.cli_ask.specs.Publishing.{side_with, store_of}
 use Rattle.cli_ask.specs.declared.end.ClientEnd.{ClientEnd}
-use Rattle.cli_words.specs.declared.command.Publishing.{Publishing}
+use Rattle.cli_ask.specs.Below.CliWords.declared.command.Publishing.{Publishing}
 use Rattle.cli_arrive.specs.Below.LawsArrive.Latest.{LatestAt}
 use Rattle.lc_model.specs.Journey.{leaves_at}
 use Rattle.lc_model.specs.declared.answer.Answer.{Answer}

@@ -1,9 +1,9 @@
 ghost use Rattle.std.specs.Prelude.{◌≤◌};
 ghost use Rattle.cli_inputs.specs.Below.LawsReplay.Events.{TurnsAreOfClients};
 
+use cli_ask::below::cli_words::Publishing;
 use cli_ask::below::timetable::Timetable;
 use cli_inputs::below::laws_replay::Event;
-use cli_words::Publishing;
 
 /// An event sequence, with what it is played to and how.
 #[derive(Drop)]

@@ -12,8 +12,11 @@ ghost use Rattle.lc_cli.specs.OneServing.{BeginsFromIt, NotAnotherBase, NotMadeU
 
 use cli_arrive::below::laws_arrive::one_latest_answer;
 use cli_arrive::one_latest_output;
+use cli_ask::below::cli_words::one_command;
 use cli_ask::below::lc_world::Link;
+use cli_ask::below::script_text::one_script;
 use cli_ask::below::timetable::{one_end, one_timetable};
+use cli_ask::below::version_store::one_outcome;
 use cli_ask::one_output;
 use cli_fewest::below::laws_fewest::fewest_at_version;
 use cli_fewest::one_fewest_output;
@@ -21,9 +24,6 @@ use cli_inputs::below::laws_replay::one_course;
 use cli_relay::below::page_relay::Relay;
 use cli_relay::{one_growing_plan, one_plan, relays_plan_right};
 use cli_serve::one_over_bytes;
-use cli_words::one_command;
-use script_text::one_script;
-use version_store::one_outcome;
 
 /// A run of `ask` with status Done wrote a best journey at the version that its question means, or that there is none. A run of `replay` did so for
 /// each client that asked, at the version that its question meant before its first turn. A run of `plan` over an honest link did so for each

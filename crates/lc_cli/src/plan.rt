@@ -1,16 +1,16 @@
 ghost use Rattle.std.specs.Prelude.{◌≡◌, ◌≢◌, IfErr, IfOk, false};
 ghost use Rattle.cli_inputs.specs.Script.{IsScriptRefused};
 ghost use Rattle.cli_inputs.specs.declared.refusal.Refusal.TheVariants.{Load};
-ghost use Rattle.gtfs_tables.specs.Reading.{Keeps};
+ghost use Rattle.cli_ask.specs.Below.GtfsTables.Reading.{Keeps};
 ghost use Rattle.cli_ask.specs.Below.LcWorld.GoneOn.{IsLeftByGets};
 ghost use Rattle.cli_ask.specs.Below.Timetable.declared.fault.LoadFault.TheVariants.{NoMemory as OutOfMemory};
 ghost use Rattle.lc_cli.specs.Command.{IsPlanBlock, IsRelayBlock};
 
 use crate::block::Block;
+use cli_ask::below::cli_words::{Plan, Relay};
 use cli_ask::below::lc_world::{Folder, Link};
 use cli_inputs::{Refusal, read_plan};
 use cli_relay::Planned;
-use cli_words::{Plan, Relay};
 use lc_model::NoMemory;
 use std::alloc::Global;
 

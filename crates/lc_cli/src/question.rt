@@ -2,10 +2,10 @@ ghost use Rattle.std.specs.Prelude.{◌≡◌, ◌≢◌, [], ◌∷◌, IfErr, 
 ghost use Rattle.cli_ask.specs.Admission.{IsFaulty};
 ghost use Rattle.cli_inputs.specs.Inputs.{IsMessageRefusal, IsRefusedFor};
 ghost use Rattle.cli_inputs.specs.declared.refusal.Refusal.TheVariants.{Load};
-ghost use Rattle.gtfs_tables.specs.Reading.{Keeps};
+ghost use Rattle.cli_ask.specs.Below.GtfsTables.Reading.{Keeps};
 ghost use Rattle.cli_ask.specs.Below.LcWorld.GoneOn.{IsLeftByPasses};
 ghost use Rattle.cli_ask.specs.Below.Timetable.declared.fault.LoadFault.TheVariants.{NoMemory as OutOfMemory};
-ghost use Rattle.version_store.specs.declared.message_fault.MessageFault.TheVariants as messages;
+ghost use Rattle.cli_ask.specs.Below.VersionStore.declared.message_fault.MessageFault.TheVariants as messages;
 ghost use Rattle.lc_cli.specs.Command.{IsQuestionBlock};
 ghost use Rattle.lc_cli.specs.Question.{CachesPages, IsAskedSo, IsEndBlock, IsUnasked};
 ghost use Rattle.lc_cli.specs.Scope.{scope_of};
@@ -13,12 +13,12 @@ ghost use Rattle.lc_cli.specs.Scope.{scope_of};
 use crate::block::Block;
 use crate::refusal::message_refusal;
 use crate::scope::scope_of;
-use back_scan::ArriveQuery;
+use cli_ask::below::back_scan::ArriveQuery;
+use cli_ask::below::cli_words::{Published, Publishing};
 use cli_ask::below::lc_world::{File, Folder, Link};
 use cli_ask::below::timetable::Timetable;
 use cli_ask::{Asked, MessageFault};
 use cli_inputs::{Inputs, Refusal, read_inputs};
-use cli_words::{Published, Publishing};
 use lc_model::{NoMemory, Query};
 use std::alloc::Global;
 

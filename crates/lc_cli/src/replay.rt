@@ -1,7 +1,7 @@
 ghost use Rattle.std.specs.Prelude.{◌≡◌, ◌≢◌, IfErr, IfOk};
 ghost use Rattle.cli_inputs.specs.Script.{IsReplayRefused};
 ghost use Rattle.cli_inputs.specs.declared.refusal.Refusal.TheVariants.{Load};
-ghost use Rattle.gtfs_tables.specs.Reading.{Keeps};
+ghost use Rattle.cli_ask.specs.Below.GtfsTables.Reading.{Keeps};
 ghost use Rattle.cli_inputs.specs.Below.LawsReplay.Replayed.{IsReplayed};
 ghost use Rattle.cli_inputs.specs.Below.LawsReplay.Versions.{HaveAdmitted};
 ghost use Rattle.cli_ask.specs.Below.LcWorld.GoneOn.{IsLeftByPasses};
@@ -12,10 +12,10 @@ ghost use Rattle.lc_cli.specs.Scope.{scope_of};
 use crate::block::Block;
 use crate::course::Course;
 use crate::scope::scope_of;
+use cli_ask::below::cli_words::Replay;
 use cli_ask::below::lc_world::{Folder, Link};
 use cli_inputs::{Refusal, ReplayInputs, read_replay};
 use cli_relay::below::cli_replay::Replayed;
-use cli_words::Replay;
 use lc_model::NoMemory;
 use std::alloc::Global;
 

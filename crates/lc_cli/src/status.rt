@@ -1,11 +1,11 @@
 ghost use Rattle.std.specs.Prelude.{◌≡◌};
 ghost use Rattle.lc_cli.specs.Status.{code_of};
 
+use cli_ask::below::gtfs_tables::What;
 use cli_ask::below::page_client::{PeerFault, QueryFault};
-use gtfs_tables::What;
+use cli_ask::below::trip_updates::RtFault;
 use lc_model::{Bytes, NoMemory, PlainData, Text};
 use std::alloc::Global;
-use trip_updates::RtFault;
 
 /// How a run ended.
 #[derive(Drop)]

@@ -1,13 +1,13 @@
 ghost use Rattle.std.specs.Prelude.{◌≡◌, ◌≤◌, ◌↔◌, [], None, length, OnErr, OnOk, IsErrOf};
 ghost use Rattle.std.specs.declared.io.ErrorKind.TheVariants.{OutOfMemory};
 ghost use Rattle.lc_io.specs.Counts.{Counts, HasCause};
-ghost use Rattle.lc_world.specs.Link.{Exchanges, IsGet, IsHonestWith, Tells};
-ghost use Rattle.lc_world.specs.declared.link.LinkFail.TheVariants.{Failed, NoMemory as WantOfMemory};
-ghost use Rattle.connection_uri.specs.Base.{BaseParts};
-ghost use Rattle.publisher_spec.specs.Side.{Side};
+ghost use Rattle.lc_links.specs.Below.LcWorld.Link.{Exchanges, IsGet, IsHonestWith, Tells};
+ghost use Rattle.lc_links.specs.Below.LcWorld.declared.link.LinkFail.TheVariants.{Failed, NoMemory as WantOfMemory};
+ghost use Rattle.lc_links.specs.Below.ConnectionUri.Base.{BaseParts};
+ghost use Rattle.lc_links.specs.Below.PublisherSpec.Side.{Side};
 
 use crate::authority::host_and_port;
-use lc_world::{Link, LinkFail};
+use lc_links::below::lc_world::{Link, LinkFail};
 use std::alloc::Global;
 use std::io::{self, ErrorKind, Read, Write};
 use std::marker::Model;

@@ -1,3 +1,4 @@
+pub mod BelowLemmas
 mod GetLemmas
 mod HonestLemmas
 mod TakingLemmas

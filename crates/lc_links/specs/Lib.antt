@@ -1,3 +1,4 @@
+pub mod Below
 pub mod ClosedLink
 pub mod FaultyLink
 pub mod HomeLink

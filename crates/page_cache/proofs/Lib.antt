@@ -1,3 +1,4 @@
+pub mod BelowLemmas
 mod EntriesLemmas
 pub mod KeptLemmas
 mod KeyLemmas

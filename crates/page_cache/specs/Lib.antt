@@ -1,3 +1,4 @@
+pub mod Below
 pub mod Inside
 pub mod Kept
 pub mod Lending

@@ -2,6 +2,7 @@
 //! `lru` of the kit.
 #![tactic(auto)]
 
+pub mod below;
 mod cache;
 
 pub use cache::{MOST_PAGES, PageCache};

@@ -1,4 +1,5 @@
 pub mod BeginLemmas
+pub mod BelowLemmas
 pub mod BodyLemmas
 pub mod GateLemmas
 pub mod LastLemmas

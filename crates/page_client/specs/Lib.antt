@@ -1,3 +1,4 @@
+pub mod Below
 pub mod Client
 pub mod Course
 pub mod Fault

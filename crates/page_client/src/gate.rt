@@ -1,12 +1,12 @@
 ghost use Rattle.std.specs.Prelude.{◌≡◌, Some, IfOk, IfSome};
 ghost use Rattle.lc_model.specs.declared.page.PageName.{PageName as Named};
-ghost use Rattle.page_json.specs.Says.{SaysPage};
+ghost use Rattle.page_cache.specs.Below.PageJson.Says.{SaysPage};
 ghost use Rattle.page_client.specs.Gate.{IsGateReply, IsJoined, IsSent, LeadsTo};
 
 use crate::PeerFault;
 use crate::replied::replied;
-use connection_uri::{Base, read_page_url};
 use lc_model::{Moment, NoMemory, PageName, Text};
+use memento::below::connection_uri::{Base, read_page_url};
 use memento::gate_url;
 use std::alloc::Global;
 use url::{ParseError, Url};

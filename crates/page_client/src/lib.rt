@@ -5,6 +5,7 @@
 #![tactic(auto)]
 
 mod beginning;
+pub mod below;
 mod client;
 mod fault;
 mod gate;

@@ -1,15 +1,15 @@
 ghost use Rattle.std.specs.Prelude.{◌≡◌, true, IfOk};
-ghost use Rattle.page_json.specs.Valid.{IsValidPage};
+ghost use Rattle.page_cache.specs.Below.PageJson.Valid.{IsValidPage};
 ghost use Rattle.page_client.specs.Fault.{Meets};
 ghost use Rattle.lc_model.specs.Connection.{last_departure};
 ghost use Rattle.page_client.specs.Page.{Fits, IsPageReply, advances, begins_at, is_asked, is_of_version, is_on_from, tested_page};
 
 use crate::PeerFault;
 use crate::replied::{body_of, replied};
-use connection_uri::Base;
 use http_text::ReplyFault;
 use lc_model::{Connection, Moment, NoMemory, PageName};
-use page_json::{Page, PageFault, read_page};
+use memento::below::connection_uri::Base;
+use page_cache::below::page_json::{Page, PageFault, read_page};
 use std::alloc::Global;
 
 /// The page of this name that a reply says, or the first test that the reply fails. Linear in the reply.

@@ -1,15 +1,15 @@
 ghost use Rattle.std.specs.Prelude.{◌≡◌, ◌++◌, None, IfOk, OnOk};
 ghost use Rattle.std.specs.String.{string_bytes};
-ghost use Rattle.lc_time.specs.Iso.{iso_text_of};
-ghost use Rattle.connection_uri.specs.Page.{gate_target_of, page_target_of, stops_target_of};
-ghost use Rattle.connection_uri.specs.Base.{IsBase};
+ghost use Rattle.memento.specs.Below.LcTime.Iso.{iso_text_of};
+ghost use Rattle.memento.specs.Below.ConnectionUri.Page.{gate_target_of, page_target_of, stops_target_of};
+ghost use Rattle.memento.specs.Below.ConnectionUri.Base.{IsBase};
 ghost use Rattle.http_text.specs.Targets.{CanAskFor};
 ghost use Rattle.page_client.specs.Request.{Asks};
 
-use connection_uri::Base;
 use http_text::{request_text, targets_are_good};
 use lc_model::{Moment, NoMemory, PageName, Text};
-use lc_time::iso_text;
+use memento::below::connection_uri::Base;
+use memento::below::lc_time::iso_text;
 use memento::gate_target;
 use percent_encoding::ascii_str;
 use std::alloc::Global;

@@ -1,5 +1,6 @@
 pub mod AppendLemmas
 pub mod BaseLemmas
+pub mod BelowLemmas
 pub mod ConnectionLemmas
 pub mod IdLemmas
 pub mod MembersLemmas

@@ -1,3 +1,4 @@
+pub mod Below
 pub mod ConnectionWriting
 pub mod Fronts
 pub mod MomentText

@@ -1,3 +1,4 @@
 -- The definitions of the crates below, for the crates above.
+pub mod ConnectionUri
 pub mod LcWorld
 pub mod PublisherSpec

@@ -5,7 +5,7 @@ use Rattle.std.specs.Option.{IfSome}
 use Rattle.std.specs.Cmp.Lexicographic.{same_text}
 use lib.Pointwise.{pointwise}
 use Rattle.std.specs.Prelude.{codes}
-use Rattle.connection_uri.specs.Base.{BaseParts}
+use Rattle.publisher_spec.specs.Below.ConnectionUri.Base.{BaseParts}
 use Rattle.publisher_spec.specs.Asked.{asked_by_posting, asked_by_reading, asked_of, is_under}
 use Rattle.publisher_spec.specs.Response.{IsTheOne}
 use Rattle.publisher_spec.specs.declared.asked.Asked.TheVariants as kinds

@@ -1,5 +1,6 @@
 pub mod AnswerLemmas
 pub mod AskingLemmas
+pub mod BelowLemmas
 pub mod CutsLemmas
 pub mod PageLemmas
 pub mod PlaceLemmas

@@ -1,3 +1,4 @@
+pub mod Below
 pub mod Cuts
 pub mod Held
 pub mod Inside

@@ -1,4 +1,5 @@
 pub mod AskedLemmas
+pub mod BelowLemmas
 pub mod LaterLemmas
 pub mod NearLemmas
 pub mod NearReplyLemmas

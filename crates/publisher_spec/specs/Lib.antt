@@ -1,4 +1,5 @@
 pub mod Asked
+pub mod Below
 pub mod Laws
 pub mod Near
 pub mod PageAt

@@ -3,6 +3,7 @@
 #![tactic(auto)]
 
 mod asked;
+pub mod below;
 mod laws;
 mod response;
 mod worked;

@@ -1,3 +1,4 @@
+pub mod BelowLemmas
 pub mod CourseLemmas
 mod MomentLemmas
 pub mod StartLemmas

@@ -3,6 +3,7 @@
 #![tactic(auto)]
 
 mod asking;
+pub mod below;
 mod ending;
 mod given;
 

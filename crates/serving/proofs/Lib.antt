@@ -1,1 +1,2 @@
+pub mod BelowLemmas
 mod FedLemmas

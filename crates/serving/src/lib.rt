@@ -2,6 +2,7 @@
 //! builds on `wire_session`, which says what is replied, and on `lc_doors`, by whose trait a connection is served.
 #![tactic(auto)]
 
+pub mod below;
 mod serving;
 
 pub use serving::Serving;

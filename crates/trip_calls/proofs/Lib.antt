@@ -1,4 +1,5 @@
 pub mod AnchorLemmas
+pub mod BelowLemmas
 pub mod BlankLemmas
 pub mod CallLemmas
 pub mod ConnectionLemmas

@@ -3,6 +3,7 @@
 #![tactic(auto)]
 
 mod all_runs;
+pub mod below;
 mod counting;
 mod laws;
 mod load_fault;

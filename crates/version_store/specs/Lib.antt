@@ -1,5 +1,6 @@
 pub mod Admission
 pub mod BaseRuns
+pub mod Below
 pub mod CallsBy
 pub mod Changes
 pub mod Dates

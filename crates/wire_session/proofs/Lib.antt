@@ -1,3 +1,4 @@
+pub mod BelowLemmas
 pub mod EndLemmas
 pub mod GrowLemmas
 pub mod FrontLemmas

@@ -1,3 +1,4 @@
+pub mod Below
 pub mod Laws
 pub mod Phase
 pub mod Session

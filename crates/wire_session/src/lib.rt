@@ -3,6 +3,7 @@
 #![tactic(auto)]
 
 mod answering;
+pub mod below;
 mod fed;
 mod hearing;
 mod laws;

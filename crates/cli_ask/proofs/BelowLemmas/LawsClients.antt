@@ -1,4 +1,4 @@
 -- What the crates above name of `laws_clients`.
-pub use Rattle.laws_clients.proofs.FitsLemmas
-pub use Rattle.laws_clients.proofs.PublishedLemmas
-pub use Rattle.laws_clients.proofs.WantsLemmas
+pub use Rattle.laws_convoys.proofs.BelowLemmas.LawsClients.FitsLemmas
+pub use Rattle.laws_convoys.proofs.BelowLemmas.LawsClients.PublishedLemmas
+pub use Rattle.laws_convoys.proofs.BelowLemmas.LawsClients.WantsLemmas

@@ -1,2 +1,2 @@
 -- What the crates above name of `lc_world`.
-pub use Rattle.lc_world.proofs.GoneOnLemmas
+pub use Rattle.lc_links.proofs.BelowLemmas.LcWorld.GoneOnLemmas

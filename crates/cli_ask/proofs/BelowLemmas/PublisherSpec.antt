@@ -1,3 +1,3 @@
 -- What the crates above name of `publisher_spec`.
-pub use Rattle.publisher_spec.proofs.LaterLemmas
-pub use Rattle.publisher_spec.proofs.VersionLemmas
+pub use Rattle.lc_links.proofs.BelowLemmas.PublisherSpec.LaterLemmas
+pub use Rattle.lc_links.proofs.BelowLemmas.PublisherSpec.VersionLemmas

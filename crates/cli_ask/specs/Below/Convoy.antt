@@ -1,6 +1,6 @@
 -- What the crates above name of `convoy`.
-pub use Rattle.convoy.specs.Exchange
-pub use Rattle.convoy.specs.Finish
-pub use Rattle.convoy.specs.State
-pub use Rattle.convoy.specs.Turn
-pub use Rattle.convoy.specs.declared
+pub use Rattle.laws_convoys.specs.Below.Convoy.Exchange
+pub use Rattle.laws_convoys.specs.Below.Convoy.Finish
+pub use Rattle.laws_convoys.specs.Below.Convoy.State
+pub use Rattle.laws_convoys.specs.Below.Convoy.Turn
+pub use Rattle.laws_convoys.specs.Below.Convoy.declared

@@ -1,7 +1,7 @@
 -- What the crates above name of `laws_clients`.
-pub use Rattle.laws_clients.specs.Answered
-pub use Rattle.laws_clients.specs.Fits
-pub use Rattle.laws_clients.specs.Laws
-pub use Rattle.laws_clients.specs.Published
-pub use Rattle.laws_clients.specs.Steps
-pub use Rattle.laws_clients.specs.Wants
+pub use Rattle.laws_convoys.specs.Below.LawsClients.Answered
+pub use Rattle.laws_convoys.specs.Below.LawsClients.Fits
+pub use Rattle.laws_convoys.specs.Below.LawsClients.Laws
+pub use Rattle.laws_convoys.specs.Below.LawsClients.Published
+pub use Rattle.laws_convoys.specs.Below.LawsClients.Steps
+pub use Rattle.laws_convoys.specs.Below.LawsClients.Wants

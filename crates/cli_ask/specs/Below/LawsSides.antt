@@ -1,2 +1,2 @@
 -- What the crates above name of `laws_sides`.
-pub use Rattle.laws_sides.specs.Stated
+pub use Rattle.laws_convoys.specs.Below.LawsSides.Stated

@@ -1,4 +1,4 @@
 -- What the crates above name of `page_client`.
-pub use Rattle.page_client.specs.Client
-pub use Rattle.page_client.specs.Shown
-pub use Rattle.page_client.specs.declared
+pub use Rattle.laws_convoys.specs.Below.PageClient.Client
+pub use Rattle.laws_convoys.specs.Below.PageClient.Shown
+pub use Rattle.laws_convoys.specs.Below.PageClient.declared

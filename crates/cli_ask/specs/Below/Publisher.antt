@@ -1,3 +1,3 @@
 -- What the crates above name of `publisher`.
-pub use Rattle.publisher.specs.Held
-pub use Rattle.publisher.specs.Laws
+pub use Rattle.lc_links.specs.Below.Publisher.Held
+pub use Rattle.lc_links.specs.Below.Publisher.Laws

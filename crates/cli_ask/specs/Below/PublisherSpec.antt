@@ -1,3 +1,3 @@
 -- What the crates above name of `publisher_spec`.
-pub use Rattle.publisher_spec.specs.Short
-pub use Rattle.publisher_spec.specs.Side
+pub use Rattle.lc_links.specs.Below.PublisherSpec.Short
+pub use Rattle.lc_links.specs.Below.PublisherSpec.Side

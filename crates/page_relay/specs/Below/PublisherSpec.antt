@@ -1,2 +1,2 @@
 -- What the crates above name of `publisher_spec`.
-pub use Rattle.publisher_spec.specs.Side
+pub use Rattle.lc_world.specs.Below.PublisherSpec.Side

@@ -1,7 +1,7 @@
 use Rattle.std.proofs.Common.{◌∙◌, ap, subst}
 use Rattle.std.proofs.lemmas.Result.{IfOk-weaker}
-use Rattle.connection_uri.specs.Base.{BaseParts}
-use Rattle.fragmenter.specs.declared.cutting.Cutting.{Cutting}
+use Rattle.laws_replay.specs.Below.ConnectionUri.Base.{BaseParts}
+use Rattle.laws_replay.specs.Below.Fragmenter.declared.cutting.Cutting.{Cutting}
 use Rattle.laws_replay.specs.Below.LcLinks.HomeLink.{HomeLinkState}
 use Rattle.cli_replay.specs.Course.{IsPlayed}
 use Rattle.cli_replay.specs.Home.{home_seen}

@@ -1,6 +1,6 @@
 use Rattle.std.proofs.lemmas.Bool.Decides.{Decides-eqb}
 use Rattle.std.proofs.lemmas.Slice.Eq.{strip_prefix_is}
-use Rattle.connection_uri.proofs.NameLemmas.{stripped, front_said}
+use Rattle.lc_world.proofs.BelowLemmas.ConnectionUri.NameLemmas.{stripped, front_said}
 use Rattle.page_relay.proofs.keeping.behind.Goals as goal
 
 pub returns-clause-exact : goal.returns-clause-exact

@@ -1,6 +1,6 @@
 use Rattle.std.proofs.lemmas.Bool.Decides.{Decides-eqb}
 use Rattle.std.proofs.lemmas.Slice.Eq.{strip_prefix_is}
-use Rattle.connection_uri.proofs.NameLemmas.{stripped, front_said}
+use Rattle.publisher_spec.proofs.BelowLemmas.ConnectionUri.NameLemmas.{stripped, front_said}
 use Rattle.publisher.proofs.router.behind.Goals as goal
 
 pub returns-clause-exact : goal.returns-clause-exact

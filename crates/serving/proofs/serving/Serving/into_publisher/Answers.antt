@@ -1,5 +1,5 @@
 use Rattle.std.proofs.Common.{◌++◌, sym, ap, subst}
-use Rattle.publisher.specs.Held.{Held, side_of}
+use Rattle.wire_session.specs.Below.Publisher.Held.{Held, side_of}
 use Rattle.serving.specs.Said.{left_by}
 use Rattle.serving.specs.Serving.{ServingState}
 use Rattle.wire_session.specs.Phase.{is_ended}

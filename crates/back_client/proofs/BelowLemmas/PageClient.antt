@@ -1,0 +1,2 @@
+-- What the crates above name of `page_client`.
+pub use Rattle.convoy.proofs.BelowLemmas.PageClient.OneReplyLemmas

@@ -1,0 +1,2 @@
+-- What the crates above name of `convoy`.
+pub use Rattle.convoy.specs.Exchange

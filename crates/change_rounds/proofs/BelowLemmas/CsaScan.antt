@@ -1,0 +1,2 @@
+-- What the crates above name of `csa_scan`.
+pub use Rattle.csa_scan.proofs.ListPlacesLemmas

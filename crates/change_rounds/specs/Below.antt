@@ -1,0 +1,2 @@
+-- The definitions of the crates below, for the crates above.
+pub mod CsaScan

@@ -1,0 +1,3 @@
+-- What the crates above name of `fragmenter`.
+pub use Rattle.cli_words.specs.Below.Fragmenter.Cutting
+pub use Rattle.cli_words.specs.Below.Fragmenter.declared

@@ -1,0 +1,2 @@
+-- What the crates above name of `page_cache`.
+pub use Rattle.page_client.proofs.BelowLemmas.PageCache.KeptLemmas

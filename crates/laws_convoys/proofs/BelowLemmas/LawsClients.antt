@@ -1,0 +1,6 @@
+-- What the crates above name of `laws_clients`.
+pub use Rattle.laws_clients.proofs.FitsLemmas
+pub use Rattle.laws_clients.proofs.OwnPageLemmas
+pub use Rattle.laws_clients.proofs.PublishedLemmas
+pub use Rattle.laws_clients.proofs.StepLemmas
+pub use Rattle.laws_clients.proofs.WantsLemmas

@@ -1,0 +1,13 @@
+-- The definitions of the crates below, for the crates above.
+pub mod ConnectionUri
+pub mod Convoy
+pub mod HttpText
+pub mod LawsClients
+pub mod LawsJourneys
+pub mod LawsPages
+pub mod LawsSides
+pub mod LcWorld
+pub mod LiveCalls
+pub mod PageClient
+pub mod PageJson
+pub mod PublisherSpec

@@ -1,0 +1,3 @@
+-- What the crates above name of `laws_journeys`.
+pub use Rattle.laws_journeys.proofs.JourneysLemmas
+pub use Rattle.laws_journeys.proofs.RidesAreLegsLemmas

@@ -1,0 +1,3 @@
+-- The definitions of the crates below, for the crates above.
+pub mod LawsJourneys
+pub mod LcVersions

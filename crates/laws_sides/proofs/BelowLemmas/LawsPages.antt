@@ -1,0 +1,11 @@
+-- What the crates above name of `laws_pages`.
+pub use Rattle.laws_pages.proofs.AlongLemmas
+pub use Rattle.laws_pages.proofs.ChainLemmas
+pub use Rattle.laws_pages.proofs.FilterLemmas
+pub use Rattle.laws_pages.proofs.NameLemmas
+pub use Rattle.laws_pages.proofs.NeededLemmas
+pub use Rattle.laws_pages.proofs.PartJourneyLemmas
+pub use Rattle.laws_pages.proofs.RowLemmas
+pub use Rattle.laws_pages.proofs.StopLemmas
+pub use Rattle.laws_pages.proofs.TakenLemmas
+pub use Rattle.laws_pages.proofs.UpToLemmas

@@ -1,0 +1,3 @@
+-- What the crates above name of `live_calls`.
+pub use Rattle.live_calls.proofs.LawLemmas
+pub use Rattle.live_calls.proofs.LiveRunsLemmas

@@ -1,0 +1,2 @@
+-- What the crates above name of `live_calls`.
+pub use Rattle.live_calls.specs.Laws

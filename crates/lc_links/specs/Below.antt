@@ -1,0 +1,8 @@
+-- The definitions of the crates below, for the crates above.
+pub mod ConnectionUri
+pub mod LcDoors
+pub mod LcWorld
+pub mod Publisher
+pub mod PublisherSpec
+pub mod TripUpdates
+pub mod VersionStore

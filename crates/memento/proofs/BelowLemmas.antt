@@ -1,0 +1,2 @@
+-- The lemmas of the crates below, for the crates above.
+pub mod ConnectionUri

@@ -1,0 +1,3 @@
+-- What the crates above name of `connection_uri`.
+pub use Rattle.connection_uri.specs.Base
+pub use Rattle.connection_uri.specs.Page

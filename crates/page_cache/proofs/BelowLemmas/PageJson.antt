@@ -1,0 +1,3 @@
+-- What the crates above name of `page_json`.
+pub use Rattle.page_json.proofs.OneResultLemmas
+pub use Rattle.page_json.proofs.ValidResultLemmas

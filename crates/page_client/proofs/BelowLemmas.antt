@@ -1,0 +1,6 @@
+-- The lemmas of the crates below, for the crates above.
+pub mod ConnectionUri
+pub mod CsaScan
+pub mod HttpText
+pub mod PageCache
+pub mod PageJson

@@ -1,0 +1,3 @@
+-- What the crates above name of `csa_scan`.
+pub use Rattle.csa_scan.specs.Done
+pub use Rattle.csa_scan.specs.StandsFor

@@ -1,0 +1,4 @@
+-- The lemmas of the crates below, for the crates above.
+pub mod HttpText
+pub mod JsonMembers
+pub mod PublisherSpec

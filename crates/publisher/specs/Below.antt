@@ -1,0 +1,6 @@
+-- The definitions of the crates below, for the crates above.
+pub mod ConnectionUri
+pub mod HttpText
+pub mod PublisherSpec
+pub mod TripUpdates
+pub mod VersionStore

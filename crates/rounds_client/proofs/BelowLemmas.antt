@@ -1,0 +1,3 @@
+-- The lemmas of the crates below, for the crates above.
+pub mod CsaScan
+pub mod PageClient

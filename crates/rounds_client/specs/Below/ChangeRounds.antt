@@ -1,0 +1,2 @@
+-- What the crates above name of `change_rounds`.
+pub use Rattle.change_rounds.specs.Fewest

@@ -1,0 +1,2 @@
+-- What the crates above name of `gtfs_calendars`.
+pub use Rattle.gtfs_calendars.specs.declared

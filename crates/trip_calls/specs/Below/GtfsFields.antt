@@ -1,0 +1,2 @@
+-- What the crates above name of `gtfs_fields`.
+pub use Rattle.gtfs_fields.specs.declared

@@ -1,0 +1,3 @@
+-- The lemmas of the crates below, for the crates above.
+pub mod HttpText
+pub mod PublisherSpec

@@ -1,0 +1,3 @@
+-- What the crates above name of `publisher_spec`.
+pub use Rattle.publisher_spec.proofs.LaterLemmas
+pub use Rattle.publisher_spec.proofs.OneReplyLemmas

@@ -1,0 +1,2 @@
+-- What the crates above name of `publisher`.
+pub use Rattle.publisher.specs.Held

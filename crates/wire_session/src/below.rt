@@ -1,0 +1,4 @@
+//! The crates below, for the crates above: what those list in crates.txt stays short.
+
+pub use fragmenter;
+pub use publisher;
