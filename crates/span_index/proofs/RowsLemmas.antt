@@ -1,7 +1,8 @@
 -- What a walk over the places shows are the connections of the runs that hold, and their departures.
-use Rattle.std.proofs.Common.{◌≡◌, ◌≢◌, ℕ, ◌≤◌, List, [], ◌∷◌, ◌++◌, append_assoc, map, cond, Option, Some, None, refl, sym, ap, ◌∙◌, subst, arith, get_or, take, ◌+◌, ◌<◌, length, false}
-use Rattle.std.specs.Prelude.{◌&&◌, is_some, nat_le}
-use Rattle.std.specs.List.{All, AllPairs, Contains, cons_option, filter, filter_map}
+use Rattle.std.proofs.Common.{◌≡◌, ◌≢◌, ℕ, ◌≤◌, List, [], ◌∷◌, ◌++◌, append_assoc, map, cond, Bool, true, false, Option, Some, None, refl, sym, ap, ◌∙◌, subst, arith, get_or, take, ◌+◌, ◌<◌, length}
+use Rattle.std.specs.Prelude.{◌&&◌, if◌then◌else◌, is_some, nat_le}
+use Rattle.std.specs.List.{All, AllPairs, Contains, cons_option, filter, filter_map, slice_get}
+use Rattle.std.specs.Option.{option_and_then}
 use Rattle.std.specs.List.Sorted.{IsPermutation, IsSorted}
 use Rattle.std.specs.Ordering.{is_lt, nat_cmp}
 use Rattle.std.specs.Cmp.{nat_cmp_total}
@@ -22,10 +23,11 @@ use Rattle.lc_model.proofs.ConnectionLemmas.{NoneArrivesEarly-connections_of, de
 use Rattle.lc_model.proofs.ListLemmas.{All-from_contains, AllPairs-map, AllPairs-weaker, Contains-filter, Contains-here, Contains-there, IsKept-filter}
 use Rattle.lc_model.proofs.OrdersLemmas.{IsStrict-from_sorted, strict_lists_are_one}
 use Rattle.lc_versions.specs.Pages.{departing, departures_of, is_before}
+use Rattle.span_index.specs.Gathered.{IsOfStates}
 use Rattle.span_index.specs.Inside.{ArePlaced, AreSpans}
-use Rattle.span_index.specs.Places.{is_between, is_shown, place_cmp, shown}
+use Rattle.span_index.specs.Places.{connection_of, holds_there, is_between, is_held, place_cmp, shown, shown_of}
 use Rattle.span_index.specs.Rows.{AreDepartures, AreRows}
-use Rattle.span_index.specs.Spans.{held}
+use Rattle.span_index.specs.Spans.{held, holds}
 use Rattle.span_index.specs.declared.place.Place.{Place}
 use Rattle.span_index.specs.declared.state.State.{State}
 use Rattle.span_index.proofs.ApartLemmas.{Depart, keys_apart, shown_apart}
@@ -101,24 +103,37 @@ rows_forward version from to states places made sorted spans e moved =
     let from_place = Gives-filter_map (shown version states) here c (subst (λ (v : List Connection). Contains v c) e (Contains-permutation sorted made c (IsPermutation-sym made sorted moved) h)) in
     All-contains (λ (c : Connection). c.dep ≤ c.arr) (connections_of (held version states)) c forward (shown_is_of_held version states from_place.from c from_place.is))
 
--- the departures of the places that show a connection are those of the connections
-same_departures : (version : ℕ) (states : List State) (places : List Place) → Depart states places
-    → map (λ (p : Place). p.dep) (filter (is_shown version states) places) ≡ departures_of (filter_map (shown version states) places)
-same_departures version states [] departs = refl
-same_departures version states (p ∷ places) departs = go (shown version states p) refl (same_departures version states places (λ q c h. departs q c (Contains-there p places q h))) where
-  go : (o : Option Connection) → shown version states p ≡ o → map (λ (p : Place). p.dep) (filter (is_shown version states) places) ≡ departures_of (filter_map (shown version states) places)
-      → map (λ (p : Place). p.dep) (cond (is_some o) (p ∷ filter (is_shown version states) places) (filter (is_shown version states) places)) ≡ departures_of (cons_option o (filter_map (shown version states) places))
-  go None e rest = rest
-  go (Some c) e rest =
-      let dep : c.dep ≡ p.dep = departs p c (Contains-here p places) (shown_is_there version states p c e) in
-      rw (dep, rest) refl
+-- a place of a connection shows it where its state holds
+held_shows : (version : ℕ) (states : List State) (p : Place) → IsOfStates states p → is_held version states p ≡ is_some (shown version states p)
+held_shows version states p of = go (slice_get states p.state) of.is where
+  of_state : (b : Bool) (o : Option Connection) → o ≡ Some of.connection → b ≡ is_some (if b then o else None)
+  of_state true o is = sym (ap is_some is)
+  of_state false o is = refl
+
+  go : (o : Option State) → option_and_then (connection_of p.at) o ≡ Some of.connection → holds_there version o ≡ is_some (option_and_then (shown_of version p.at) o)
+  go None is = refl
+  go (Some state) is = of_state (holds version state) (connection_of p.at state) is
+
+-- the departures of the places whose states hold are those of the connections that are shown
+same_departures : (version : ℕ) (states : List State) (places : List Place) → ((p : Place) → Contains places p → IsOfStates states p) → Depart states places
+    → map (λ (p : Place). p.dep) (filter (is_held version states) places) ≡ departures_of (filter_map (shown version states) places)
+same_departures version states [] of departs = refl
+same_departures version states (p ∷ places) of departs =
+    ap (λ (b : Bool). map (λ (q : Place). q.dep) (cond b (p ∷ filter (is_held version states) places) (filter (is_held version states) places))) (held_shows version states p (of p (Contains-here p places)))
+    ∙ go (shown version states p) refl (same_departures version states places (λ q h. of q (Contains-there p places q h)) (λ q c h. departs q c (Contains-there p places q h))) where
+      go : (o : Option Connection) → shown version states p ≡ o → map (λ (p : Place). p.dep) (filter (is_held version states) places) ≡ departures_of (filter_map (shown version states) places)
+          → map (λ (p : Place). p.dep) (cond (is_some o) (p ∷ filter (is_held version states) places) (filter (is_held version states) places)) ≡ departures_of (cons_option o (filter_map (shown version states) places))
+      go None e rest = rest
+      go (Some c) e rest =
+          let dep : c.dep ≡ p.dep = departs p c (Contains-here p places) (shown_is_there version states p c e) in
+          rw (dep, rest) refl
 
 -- a walk over a list takes the next item
 pub walk_more : (states : List State) (version : ℕ) (done new all : List ℕ) (p : Place) (rest next : List Place) → rest ≡ p ∷ next
-    → done ++ map (λ (q : Place). q.dep) (filter (is_shown version states) rest) ≡ all → new ≡ done ++ map (λ (q : Place). q.dep) (filter (is_shown version states) (p ∷ []))
-    → new ++ map (λ (q : Place). q.dep) (filter (is_shown version states) next) ≡ all
+    → done ++ map (λ (q : Place). q.dep) (filter (is_held version states) rest) ≡ all → new ≡ done ++ map (λ (q : Place). q.dep) (filter (is_held version states) (p ∷ []))
+    → new ++ map (λ (q : Place). q.dep) (filter (is_held version states) next) ≡ all
 walk_more states version done new all p rest next is walked pushed =
-    let test = is_shown version states in
+    let test = is_held version states in
     let dep = λ (q : Place). q.dep in
     let tail = map dep (filter test next) in
     ap (λ (v : List ℕ). v ++ tail) pushed ∙ append_assoc done (map dep (filter test (p ∷ []))) tail
@@ -138,13 +153,13 @@ pub both_parts : {X Y : Type 0} (f : List X → List Y) → ((xs ys : List X) �
 both_parts f parts first later now begun made all both none one two =
     two ∙ ap (λ v. v ++ f later) (one ∙ ap (λ v. v ++ f first) none) ∙ sym (parts first later) ∙ ap f both
 
--- the departures of the places that show a connection
+-- the departures of the places whose states hold
 abbrev pub departures_at : List State → ℕ → List Place → List ℕ
-departures_at states version places = map (λ (p : Place). p.dep) (filter (is_shown version states) places)
+departures_at states version places = map (λ (p : Place). p.dep) (filter (is_held version states) places)
 
 pub departure_parts : (states : List State) (version : ℕ) (xs ys : List Place) → departures_at states version (xs ++ ys) ≡ departures_at states version xs ++ departures_at states version ys
 departure_parts states version xs ys =
-    ap (map (λ (p : Place). p.dep)) (filter-append (is_shown version states) xs ys) ∙ map-append (λ (p : Place). p.dep) (filter (is_shown version states) xs) (filter (is_shown version states) ys)
+    ap (map (λ (p : Place). p.dep)) (filter-append (is_held version states) xs ys) ∙ map-append (λ (p : Place). p.dep) (filter (is_held version states) xs) (filter (is_held version states) ys)
 
 -- a sorted list never falls
 never_falls : (list : List ℕ) → IsSorted nat_cmp list → AllPairs (λ (m n : ℕ). m ≤ n) list
@@ -154,7 +169,7 @@ never_falls list up i j d before inside =
 
 -- what a walk over all places shows, once it is sorted, are the departures in their order
 pub departures_are : (version : ℕ) (states : List State) (places : List Place) (walked made : List ℕ) → AreSpans states places → AreApart place_cmp places
-    → walked ≡ map (λ (p : Place). p.dep) (filter (is_shown version states) places) → IsPermutation walked made → IsSorted nat_cmp made → AreDepartures (held version states) made
+    → walked ≡ map (λ (p : Place). p.dep) (filter (is_held version states) places) → IsPermutation walked made → IsSorted nat_cmp made → AreDepartures (held version states) made
 departures_are version states places walked made spans once e merged up =
     let order = in_order version states places spans in
     let all = order.all in
@@ -181,6 +196,6 @@ departures_are version states places walked made spans once e merged up =
           (AllPairs-map (λ (m n : ℕ). m ≤ n) dep all (AllPairs-weaker (λ (c d : Connection). departure_cmp c d ≡ Less) (λ (c d : Connection). c.dep ≤ d.dep) all (λ c d in_c in_d less. departs_by c d less) order.are_connections.in_order))
           (λ k.
           sum_by-IsPermutation (is_it k) walked made merged
-          ∙ ap (count k) (e ∙ same_departures version states places (departs_of states places spans.placed))
+          ∙ ap (count k) (e ∙ same_departures version states places spans.placed.of_states (departs_of states places spans.placed))
           ∙ sym (sum_by-IsPermutation (is_it k) (departures_of whole) (departures_of all) (IsPermutation-map dep whole all shuffled)));
     }

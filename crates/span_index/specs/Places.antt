@@ -1,5 +1,5 @@
 -- The places of connections, in the order of departures.
-use Rattle.std.specs.Prelude.{ℕ, suc, max, Bool, List, Option, Some, None, ◌&&◌, nat_le, if◌then◌else◌, is_some}
+use Rattle.std.specs.Prelude.{ℕ, suc, max, Bool, List, Option, Some, None, ◌&&◌, nat_le, if◌then◌else◌, false}
 use Rattle.std.specs.List.{slice_get}
 use Rattle.std.specs.Option.{option_and_then}
 use Rattle.std.specs.Ordering.{nat_cmp, on, then_cmp}
@@ -54,6 +54,11 @@ connection_at states place = option_and_then (connection_of place.at) (slice_get
 abbrev pub shown : ℕ → List State → Place → Option Connection
 shown version states place = option_and_then (shown_of version place.at) (slice_get states place.state)
 
--- whether there is one
-abbrev pub is_shown : ℕ → List State → Place → Bool
-is_shown version states place = is_some (shown version states place)
+-- whether there is a state, and it holds in a version
+abbrev pub holds_there : ℕ → Option State → Bool
+holds_there version None = false
+holds_there version (Some state) = holds version state
+
+-- whether the state that has a place holds in a version
+abbrev pub is_held : ℕ → List State → Place → Bool
+is_held version states place = holds_there version (slice_get states place.state)

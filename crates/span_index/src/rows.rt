@@ -2,7 +2,7 @@ ghost use Rattle.std.specs.Prelude.{◌≡◌, ◌∷◌, ◌++◌, [], IfOk, On
 ghost use Rattle.lc_model.specs.Connection.{NoneArrivesEarly};
 ghost use Rattle.lc_model.specs.Order.{AreApart};
 ghost use Rattle.span_index.specs.Inside.{AreSpans};
-ghost use Rattle.span_index.specs.Places.{connection_of, is_between, is_shown, place_cmp, shown, shown_of};
+ghost use Rattle.span_index.specs.Places.{connection_of, is_between, is_held, place_cmp, shown, shown_of};
 ghost use Rattle.span_index.specs.Rows.{AreDepartures, AreRows};
 ghost use Rattle.span_index.specs.Spans.{held, runs_at};
 ghost use Rattle.span_index.specs.declared.place.Place.{Place as Stood};
@@ -157,28 +157,12 @@ fn sorted_between(
     Ok(list)
 }
 
-/// Whether a state has a call at a place, and a next one.
-fn has_next(state: &State, at: u32) -> bool
-    ensures { result ≡ is_some (connection_of at state.now) }
-{
-    let calls = state.calls.as_slice();
-    let at = at as usize;
-    calls.get(at).is_some() && calls.get(at + 1).is_some()
-}
-
-/// Whether the state holds in the version, and has a call at a place, and a next one.
-fn shows(state: &State, version: u32, at: u32) -> bool
-    ensures { result ≡ is_some (shown_of version at state.now) }
-{
-    state.holds(version) && has_next(state, at)
-}
-
-/// Whether there is a connection at a place of a run that holds in the version.
-fn is_shown(states: &[State], version: u32, place: Place) -> bool
-    ensures { result ≡ is_shown version states.now place }
+/// Whether the state that has a place holds in the version.
+fn is_held(states: &[State], version: u32, place: Place) -> bool
+    ensures { result ≡ is_held version states.now place }
 {
     match states.get(place.state as usize) {
-        Some(state) => shows(state, version, place.at),
+        Some(state) => state.holds(version),
         None => false,
     }
 }
@@ -190,10 +174,10 @@ fn push_departure(
     version: u32,
     place: Place,
 ) -> Result<(), NoMemory>
-    ensures { OnOk result (departures.new.items ≡ departures.old.items ++ map (λ (p : Stood). p.dep) (filter (is_shown version states.now) (place ∷ []))) }
+    ensures { OnOk result (departures.new.items ≡ departures.old.items ++ map (λ (p : Stood). p.dep) (filter (is_held version states.now) (place ∷ []))) }
 {
     let dep = place.dep;
-    if is_shown(states, version, place) {
+    if is_held(states, version, place) {
         departures.push(dep)?;
     }
     Ok(())
@@ -206,7 +190,7 @@ fn push_first_departures(
     version: u32,
     places: &[Place],
 ) -> Result<(), NoMemory>
-    ensures { OnOk result (departures.new.items ≡ departures.old.items ++ map (λ (p : Stood). p.dep) (filter (is_shown version states.now) places.now)) }
+    ensures { OnOk result (departures.new.items ≡ departures.old.items ++ map (λ (p : Stood). p.dep) (filter (is_held version states.now) places.now)) }
 {
     for place in places {
         push_departure(departures, states, version, *place)?;
@@ -221,7 +205,7 @@ fn push_later_departures(
     version: u32,
     places: &BTreeSet<Place>,
 ) -> Result<(), NoMemory>
-    ensures { OnOk result (departures.new.items ≡ departures.old.items ++ map (λ (p : Stood). p.dep) (filter (is_shown version states.now) places.now.keys)) }
+    ensures { OnOk result (departures.new.items ≡ departures.old.items ++ map (λ (p : Stood). p.dep) (filter (is_held version states.now) places.now.keys)) }
 {
     for place in places {
         push_departure(departures, states, version, *place)?;
