@@ -1,19 +1,18 @@
 -- Over a quiet link a client of the fewest rides ends rightly, as any client does, and with the fewest rides.
 use Rattle.std.proofs.Common.{◌≡◌, ◌∙◌, ◌⊎◌, ℕ, inl, inr, List, [], ◌∷◌, ◌++◌, length, map, Option, Some, None, ap, refl, subst, sym}
 use Rattle.std.specs.Prelude.{IsSome}
-use Rattle.std.proofs.lemmas.List.Elements.{All-cons, All-nil}
+use Rattle.std.proofs.lemmas.List.Elements.{All-nil}
 use Rattle.cli_ask.proofs.ClientLemmas.{at_end, same_end}
 use Rattle.cli_ask.specs.Block.{IsPrintable}
 use Rattle.cli_ask.specs.Client.{AsksFor, AsksOneMore, shown_of}
 use Rattle.cli_fewest.specs.Client.{EndsRightFewest, HasFewestRides, client_of}
 use Rattle.cli_ask.specs.Below.ConnectionUri.Base.{BaseParts}
-use Rattle.cli_ask.specs.Below.Convoy.Exchange.{Got, IsExchange, bytes_of, result_of}
+use Rattle.cli_ask.specs.Below.Convoy.Exchange.{Got, IsExchange}
 use Rattle.cli_ask.specs.Below.LawsClients.Answered.{AnswersAt}
 use Rattle.cli_ask.specs.Below.LawsClients.Fits.{HasAnswered, HasEnded, HasFailed}
 use Rattle.cli_ask.specs.Below.LawsClients.Steps.{BeginsInAgreement}
 use Rattle.cli_ask.specs.Below.LawsClients.Wants.{AreWants}
-use Rattle.cli_ask.proofs.BelowLemmas.LawsConvoys.HonestLemmas.{is_get}
-use Rattle.cli_ask.proofs.BelowLemmas.LawsConvoys.RepliesLemmas.{Replied, one_more, recorded_no_more, replied_by, tells_replies_then}
+use Rattle.cli_ask.proofs.BelowLemmas.LawsConvoys.RepliesLemmas.{Replied, exchange_replied, recorded_no_more, tells_replies_then}
 use Rattle.cli_ask.specs.Below.LawsConvoys.OneClient.{version_of}
 use Rattle.cli_ask.specs.Below.LawsConvoys.Replies.{IsRepliedBy, TellsReplies}
 use Rattle.cli_ask.specs.Below.LawsConvoys.Requests.{TellsAsked}
@@ -28,8 +27,7 @@ use Rattle.cli_ask.specs.Below.LawsSides.Stated.{version_at}
 use Rattle.lc_model.specs.declared.answer.Answer.TheVariants as answers
 use Rattle.lc_model.specs.declared.journey.Journey.{Journey}
 use Rattle.lc_model.specs.declared.query.Query.{Query}
-use Rattle.cli_ask.specs.Below.LcWorld.Link.{Exchanges, IsHonestWith, IsQuietWith, LinkSeen, TellsMore}
-use Rattle.cli_ask.specs.Below.LcWorld.declared.entry.Entry.{Entry}
+use Rattle.cli_ask.specs.Below.LcWorld.Link.{IsQuietWith, LinkSeen}
 use Rattle.cli_ask.specs.Below.PageClient.Client.{shown}
 use Rattle.cli_ask.specs.Below.PageClient.Shown.{IsRefusal, Shown}
 use Rattle.cli_ask.specs.Below.PageClient.declared.client.Client.{Client}
@@ -56,23 +54,15 @@ printable (outcomes.PeerWrong reply fault) moment = tt
 -- ---- what is recorded are replies of the side
 
 -- by an exchange over a quiet link
-exchange_replied : (base : BaseParts) (side : Side) (s : Shown) (before after : LinkSeen) (got : Got) → IsQuietWith before base side → IsExchange base s before after got → Replied base side before after
-exchange_replied base side s before after got quiet ex =
-    let x : Exchanges before after base side ex.request (bytes_of got) (result_of got) = ex.honest base side (is_get base _ _ ex.request ex.asks) quiet.as_honest in
-    let same : x.side ≡ side = x.same quiet.quiet in
-    let more : TellsMore before.recorded after.recorded base.authority ex.request got = one_more before.recorded after.recorded base.authority ex.request got ex.recorded in
-    let entry : Entry = record { authority = base.authority; request = ex.request; reply = more.reply } in
-    let own : IsRepliedBy side entry =
-    subst (λ (at : Side). IsRepliedBy at entry) same (λ reply is. replied_by x.side ex.request got more.reply reply x.replied more.is_given is) in
-    record {
-      tells = record { entries = entry ∷ []; own = All-cons (IsRepliedBy side) entry [] own (All-nil (IsRepliedBy side)); is = more.is };
-      quiet = record { as_honest = subst (λ (at : Side). IsHonestWith after base at) same x.honest; quiet = x.quiet quiet.quiet };
-    }
+by_exchange : (base : BaseParts) (side : Side) (s : Shown) (before after : LinkSeen) (got : Got) → IsQuietWith before base side → IsExchange base s before after got → Replied base side before after
+by_exchange base side s before after got quiet ex =
+    let one = exchange_replied base side s before after got quiet ex in
+    record { tells = one.tells.replies; quiet = one.quiet }
 
 gives_replied : (base : BaseParts) (side : Side) (old new : Client) (before after : LinkSeen) (given now : Was) → IsQuietWith before base side → Gives base old new before after given now → Replied base side before after
-gives_replied base side old new before after given now quiet (inl (gate, same)) = exchange_replied base side (shown old) before after gate.got quiet gate.exchange
-gives_replied base side old new before after given now quiet (inr (inl stops)) = exchange_replied base side (shown old) before after stops.got quiet stops.exchange
-gives_replied base side old new before after given now quiet (inr (inr page)) = exchange_replied base side (shown old) before after page.got quiet page.exchange
+gives_replied base side old new before after given now quiet (inl (gate, same)) = by_exchange base side (shown old) before after gate.got quiet gate.exchange
+gives_replied base side old new before after given now quiet (inr (inl stops)) = by_exchange base side (shown old) before after stops.got quiet stops.exchange
+gives_replied base side old new before after given now quiet (inr (inr page)) = by_exchange base side (shown old) before after page.got quiet page.exchange
 
 -- exchange after exchange
 all_replied : {X : Type 0} (seen : X → LinkSeen) (base : BaseParts) (side : Side) (points : List (Point X)) (start end : Point X) → IsQuietWith (seen start.link) base side → LeadsTo seen base points start end

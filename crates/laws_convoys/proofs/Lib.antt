@@ -6,7 +6,7 @@ pub mod HonestLemmas
 mod MemberLemmas
 pub mod NamedLemmas
 mod NamesLemmas
-mod NoFaultLemmas
+pub mod NoFaultLemmas
 pub mod OneClientLemmas
 pub mod PlaceLemmas
 pub mod RepliesLemmas

@@ -78,7 +78,7 @@ in_no_turn base side link quiet = record {
 }
 
 -- an exchange over a quiet link
-exchange_replied : (base : BaseParts) (side : Side) (s : Shown) (before after : LinkSeen) (got : Got) → IsQuietWith before base side → IsExchange base s before after got → RepliedInTurn base side 1 before after
+pub exchange_replied : (base : BaseParts) (side : Side) (s : Shown) (before after : LinkSeen) (got : Got) → IsQuietWith before base side → IsExchange base s before after got → RepliedInTurn base side 1 before after
 exchange_replied base side s before after got quiet ex =
     let x : Exchanges before after base side ex.request (bytes_of got) (result_of got) = ex.honest base side (is_get base _ _ ex.request ex.asks) quiet.as_honest in
     let same : x.side ≡ side = x.same quiet.quiet in

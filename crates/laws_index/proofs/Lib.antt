@@ -2,7 +2,6 @@ pub mod HeldLemmas
 pub mod InOrderLemmas
 pub mod ItemsLemmas
 pub mod KeptLemmas
-pub mod PlacedLemmas
 pub mod PutLemmas
 pub mod RowLemmas
 pub mod TouchedLemmas

@@ -284,25 +284,25 @@ not_both same = cc
 some_is_none : (reply : List ℕ) → Some reply ≡ None → ⊥
 some_is_none reply same = cc
 
-same_counts : (a b c d : ℕ) → Some (outcomes.LinkFault a b) ≡ Some (outcomes.LinkFault c d) → (a ≡ c) × (b ≡ d)
+pub same_counts : (a b c d : ℕ) → Some (outcomes.LinkFault a b) ≡ Some (outcomes.LinkFault c d) → (a ≡ c) × (b ≡ d)
 same_counts a b c d same = (cc, cc)
 
 no_less : (n : ℕ) → n ≤ n
 no_less n = omega arith
 
 -- who wants the time gate waits for it
-waits_at_gate : (phase : Phase) → want_of phase ≡ wants.Gate → phase ≡ phases.Gate
+pub waits_at_gate : (phase : Phase) → want_of phase ≡ wants.Gate → phase ≡ phases.Gate
 waits_at_gate phases.Gate is = refl
 waits_at_gate (phases.Stops first) is = absurd (cc)
 waits_at_gate (phases.Page name) is = absurd (cc)
 waits_at_gate phases.Finished is = absurd (cc)
 
 -- who wants the stops document waits for it
-record WaitsForStops (phase : Phase) : Type 0 where
-  first : PageName
-  is : phase ≡ phases.Stops first
+pub record WaitsForStops (phase : Phase) : Type 0 where
+  pub first : PageName
+  pub is : phase ≡ phases.Stops first
 
-waits_for_stops : (phase : Phase) → want_of phase ≡ wants.Stops → WaitsForStops phase
+pub waits_for_stops : (phase : Phase) → want_of phase ≡ wants.Stops → WaitsForStops phase
 waits_for_stops phases.Gate is = absurd (cc)
 waits_for_stops (phases.Stops first) is = record { first = first; is = refl }
 waits_for_stops (phases.Page name) is = absurd (cc)
@@ -319,7 +319,7 @@ has_ended base before now client made s (phases.Page name) at some = absurd (not
 has_ended base before now client made s phases.Finished at some = at
 
 -- who ended by a fault of the link had it in what it received last
-failed_last : (base : BaseParts) (before now : ℕ) (client : Client) (so_far : List Made) (last : Made) (low high : ℕ) → At base before now client (so_far ++ last ∷ []) (shown client) (shown client).phase →
+pub failed_last : (base : BaseParts) (before now : ℕ) (client : Client) (so_far : List Made) (last : Made) (low high : ℕ) → At base before now client (so_far ++ last ∷ []) (shown client) (shown client).phase →
     (shown client).outcome ≡ Some (outcomes.LinkFault low high) → last.got ≡ None
 failed_last base before now client so_far last low high at is =
     let some : IsSome (shown client).outcome = subst (λ (o : Option Outcome). IsSome o) (sym is) refl in

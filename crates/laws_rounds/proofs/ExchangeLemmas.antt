@@ -39,7 +39,7 @@ use Rattle.laws_convoys.proofs.AloneLemmas.{waits_at_first}
 use Rattle.laws_convoys.proofs.HonestLemmas.{is_get}
 use Rattle.rounds_client.specs.Given.{AfterReply, Gives, KeepsDoc, ReadsReply, TakesDoc, TakesGot, Was}
 use Rattle.laws_rounds.proofs.GivenLemmas.{Holds, doc_after_gate, doc_after_stops, doc_anyhow, doc_by_shown, doc_later, doc_of_reader, named_then, own_later, own_more}
-use Rattle.laws_rounds.proofs.NoFaultLemmas.{gate_no_fault, page_no_fault, stops_no_fault}
+use Rattle.laws_convoys.proofs.NoFaultLemmas.{gate_no_fault, page_no_fault, stops_no_fault}
 use Rattle.laws_rounds.proofs.RecordedLemmas.{asked_one}
 
 -- what the client wanted was replied to

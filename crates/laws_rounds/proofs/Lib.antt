@@ -4,5 +4,4 @@ pub mod ExchangeLemmas
 pub mod GivenLemmas
 pub mod NamedLemmas
 pub mod NearLemmas
-pub mod NoFaultLemmas
 pub mod RecordedLemmas

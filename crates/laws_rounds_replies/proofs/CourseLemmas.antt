@@ -1,6 +1,5 @@
 -- A client of the fewest rides, exchange after exchange, over any link.
 use Rattle.std.proofs.Common.{◌≡◌, ◌∙◌, ◌≤◌, ℕ, inl, inr, true, false, List, [], ◌∷◌, ◌++◌, Option, Some, None, Result, Ok, Err, IsErrOf, ap, arith, length, map, refl, subst, sym}
-use Rattle.std.specs.Prelude.{IsSome}
 use Rattle.std.proofs.lemmas.List.{length_push, map-append}
 use Rattle.rounds_client.specs.Below.ConnectionUri.Base.{BaseParts}
 use Rattle.rounds_client.specs.Below.Convoy.Exchange.{Got, IsExchange, result_of}
@@ -30,14 +29,13 @@ use Rattle.rounds_client.specs.Below.PageClient.declared.want.Want.{Want}
 use Rattle.rounds_client.specs.Below.PageClient.declared.want.Want.TheVariants as wants
 use Rattle.rounds_client.specs.Below.PageJson.declared.page.Page.{Page}
 use Rattle.laws_replies.specs.Course.{IsReading}
-use Rattle.laws_replies.specs.Ends.{EndsBy}
-use Rattle.laws_replies.specs.Made.{Made, TellsAll, failure_of, reply_to}
+use Rattle.laws_replies.specs.Made.{Made, TellsAll, reply_to}
 use Rattle.laws_replies.specs.Met.{CountAlong, HasFailedBetween, Met, failures_in}
-use Rattle.laws_replies.proofs.ClientsLemmas.{has_ended}
+use Rattle.laws_replies.proofs.ClientsLemmas.{failed_last, same_counts, waits_at_gate, waits_for_stops}
 use Rattle.laws_replies.proofs.CourseLemmas.{not_behind, stands_last}
 use Rattle.laws_replies.proofs.MadeLemmas.{tells_more, tells_none}
 use Rattle.laws_replies.proofs.MetLemmas.{along_more}
-use Rattle.laws_replies.proofs.StepLemmas.{At, AtEnd, AtGate, AtPage, AtStops, Moves, Spans, exchange_of, gate_asked, page_asked, page_taken, stops_asked}
+use Rattle.laws_replies.proofs.StepLemmas.{At, AtGate, AtPage, AtStops, Moves, Spans, exchange_of, gate_asked, page_asked, page_taken, stops_asked}
 use Rattle.rounds_client.specs.Course.{LeadsTo, Point}
 use Rattle.rounds_client.specs.Given.{AfterReply, Gives, GivesStops, GivesPage, KeepsDoc, ReadsReply, TakesDoc, TakesGot, Was}
 use Rattle.laws_rounds_replies.proofs.ReadLemmas.{ReadAt, ReadsGiven, kept_by_none, kept_by_reply, read_after_gate, read_after_page, read_after_stops}
@@ -68,39 +66,6 @@ no_pages = record { capacity = 0; pages = [] }
 
 not_both : {A : Type 0} (reply : A) → Some reply ≡ None → ⊥
 not_both reply same = cc
-
-same_counts : (a b c d : ℕ) → Some (outcomes.LinkFault a b) ≡ Some (outcomes.LinkFault c d) → (a ≡ c) × (b ≡ d)
-same_counts a b c d same = (cc, cc)
-
--- who wants the time gate waits for it
-waits_at_gate : (phase : Phase) → want_of phase ≡ wants.Gate → phase ≡ phases.Gate
-waits_at_gate phases.Gate is = refl
-waits_at_gate (phases.Stops first) is = absurd (cc)
-waits_at_gate (phases.Page name) is = absurd (cc)
-waits_at_gate phases.Finished is = absurd (cc)
-
--- who wants the stops document waits for it
-record WaitsForStops (phase : Phase) : Type 0 where
-  first : PageName
-  is : phase ≡ phases.Stops first
-
-waits_for_stops : (phase : Phase) → want_of phase ≡ wants.Stops → WaitsForStops phase
-waits_for_stops phases.Gate is = absurd (cc)
-waits_for_stops (phases.Stops first) is = record { first = first; is = refl }
-waits_for_stops (phases.Page name) is = absurd (cc)
-waits_for_stops phases.Finished is = absurd (cc)
-
--- who ended by a fault of the link had it in the last exchange
-failed_last : (base : BaseParts) (before now : ℕ) (client : Client) (made : List Made) (last : Made) (low high : ℕ) → At base before now client (made ++ last ∷ []) (shown client) (shown client).phase
-    → (shown client).outcome ≡ Some (outcomes.LinkFault low high) → last.got ≡ None
-failed_last base before now client made last low high at is =
-    let some : IsSome (shown client).outcome = subst (λ (o : Option Outcome). IsSome o) (sym is) refl in
-    let e : AtEnd base before now (shown client) (made ++ last ∷ []) = has_ended base before now client (made ++ last ∷ []) (shown client) (shown client).phase at some in
-    let both : Some e.outcome ≡ Some (outcomes.LinkFault low high) = sym e.ended ∙ is in
-    let same : e.outcome ≡ outcomes.LinkFault low high = cc in
-    let ends : EndsBy base (shown client).query before now (shown client).version (made ++ last ∷ []) (outcomes.LinkFault low high) =
-    subst (EndsBy base (shown client).query before now (shown client).version (made ++ last ∷ [])) same e.ends in
-    ap (λ (m : Made). m.got) (stands_last made ends.earlier last (failure_of ends.want) ends.was_made).1
 
 -- one exchange more
 module _ (base : BaseParts) (query : Query) (first link after : LinkSeen) (old new : Client) (given now : Was) (all : List Met) (so : SoFar base query first link old given all) where

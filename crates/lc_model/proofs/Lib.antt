@@ -5,6 +5,7 @@ pub mod KeyLemmas
 pub mod ListLemmas
 pub mod OneValueLemmas
 pub mod OrdersLemmas
+pub mod PlacedLemmas
 pub mod RangesLemmas
 pub mod SearchLemmas
 pub mod WalksLemmas

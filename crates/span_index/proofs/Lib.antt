@@ -7,7 +7,6 @@ pub mod LawLemmas
 pub mod OrderedLemmas
 pub mod PlaceLemmas
 mod PlaceSetLemmas
-pub mod PlacedLemmas
 pub mod PrepareLemmas
 pub mod RowsLemmas
 pub mod ShownLemmas

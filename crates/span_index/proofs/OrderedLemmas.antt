@@ -15,7 +15,7 @@ use Rattle.lc_model.specs.declared.run.Run.{Run}
 use Rattle.lc_model.proofs.ConnectionLemmas.{in_sequence, untied_connections}
 use Rattle.lc_model.proofs.ListLemmas.{Contains-flat_map, StandsIn-flat_map}
 use Rattle.span_index.specs.Rows.{AreInKeyOrder}
-use Rattle.span_index.proofs.PlacedLemmas.{in_strict_order}
+use Rattle.lc_model.proofs.PlacedLemmas.{in_strict_order}
 
 abbrev KeysApart : Run → Run → Type 0
 KeysApart r s = key_cmp r.key s.key ≢ Equal

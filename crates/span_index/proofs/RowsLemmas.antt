@@ -33,7 +33,7 @@ use Rattle.span_index.specs.declared.state.State.{State}
 use Rattle.span_index.proofs.ApartLemmas.{Depart, keys_apart, shown_apart}
 use Rattle.span_index.proofs.CountLemmas.{count, is_it, one_order}
 use Rattle.span_index.proofs.OrderedLemmas.{Ordered, ordered}
-use Rattle.span_index.proofs.PlacedLemmas.{in_strict_order}
+use Rattle.lc_model.proofs.PlacedLemmas.{in_strict_order}
 use Rattle.span_index.proofs.ShownLemmas.{Contains-filter_map, Contains-slice_get, Gives-filter_map, has_place, holding, shown_is_of_held, shown_is_there}
 
 abbrev Untied : Connection → Connection → Type 0

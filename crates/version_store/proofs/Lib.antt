@@ -14,7 +14,6 @@ pub mod NamedLemmas
 pub mod NearLemmas
 pub mod NoMemoryLemmas
 pub mod OutcomeLemmas
-pub mod PlacedLemmas
 pub mod SameCallsLemmas
 pub mod SomeRowsLemmas
 pub mod SpotsLemmas

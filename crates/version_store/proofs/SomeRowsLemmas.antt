@@ -48,7 +48,7 @@ use Rattle.version_store.specs.Further.{HasExactly, IsFurther, IsOfEither, PutsF
 use Rattle.version_store.specs.Laws.{SomeListOfRows}
 use Rattle.version_store.specs.Store.{news_of}
 use Rattle.version_store.proofs.FurtherLemmas.{IsLater, are_live, by_bool, further_more, later_run, live_more, no_further, none_put, run_of, runs_exactly, runs_in_order, same_from_tie, tie}
-use Rattle.version_store.proofs.PlacedLemmas.{in_strict_order}
+use Rattle.lc_model.proofs.PlacedLemmas.{in_strict_order}
 
 abbrev Entries : Type 0
 Entries = List (RunKey × List Call)
