@@ -58,6 +58,15 @@ impl Draft {
         }
     }
 
+    /// The text of a part, and whether it is whole.
+    pub fn put_part(&mut self, text: &str, made: Result<(), Unmade>) {
+        self.put(text);
+        match made {
+            Ok(()) => {}
+            Err(Unmade) => self.lose(),
+        }
+    }
+
     pub fn put(&mut self, piece: &str) {
         if self.text.push_str(piece).is_err() {
             self.lose();

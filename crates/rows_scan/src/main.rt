@@ -1,22 +1,19 @@
-//! Prints what scans of worked cases answer, a line each. The expected lines are in `stdout`.
+//! Prints what scans and rounds of worked cases answer, a line each. The expected lines are in `stdout`.
 #![tactic(auto)]
 
-mod backs;
 mod feeds;
+mod making;
+mod rounds;
 mod said;
 mod scans;
 
-use rows_common::{Unmade, exit_code};
-use std::alloc::Global;
+use rows_common::{Draft, exit_code};
 use std::process::ExitCode;
 
-fn put_all(alloc: Global, text: &mut String) -> Result<(), Unmade> {
-    scans::put_scans(alloc, text)?;
-    backs::put_backs(alloc, text)
-}
-
 fn main(rt: HostRuntime) -> ExitCode {
-    let mut text = String::new(rt.alloc());
-    let made = put_all(rt.alloc(), &mut text);
-    exit_code(made, print!(rt; "{text}"))
+    let mut draft = Draft::new(rt.alloc());
+    scans::put_scans(rt.alloc(), &mut draft);
+    rounds::put_rounds(rt.alloc(), &mut draft);
+    let printed = print!(rt; "{}", draft.as_str());
+    exit_code(draft.made(), printed)
 }

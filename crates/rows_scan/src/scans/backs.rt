@@ -1,10 +1,11 @@
 //! Scans that go backwards over small feeds, of which the journeys were worked out by hand.
-use crate::feeds::{
-    BESIDE, CHANGING, LATER, MISSED, MORNING, Row, SIX_STOPS, WITH_A_CHILD, WITH_B_TO_E,
-    WITH_D_TO_F, WITH_THREE_CHILDREN,
+use super::feeds::{
+    BESIDE, CHANGING, LATER, MISSED, MORNING, WITH_A_CHILD, WITH_B_TO_E, WITH_D_TO_F,
+    WITH_THREE_CHILDREN,
 };
-use crate::said::{put_journey, put_latest, put_over};
-use crate::scans::{connections, id, moment};
+use super::said::{put_journey, put_latest, put_over};
+use crate::feeds::{Row, SIX_STOPS};
+use crate::making::{connections, id, moment};
 use back_scan::{ArriveQuery, BackScan, LONGEST_HORIZON};
 use lc_model::StopsDoc;
 use page_json::read_stops;
@@ -100,7 +101,7 @@ const UNKNOWN: &[Case] = &[
 ];
 
 /// A line for each case.
-pub fn put_backs(alloc: Global, text: &mut String) -> Result<(), Unmade> {
+pub(super) fn put_backs(alloc: Global, text: &mut String) -> Result<(), Unmade> {
     put_over_doc(alloc, text, SIX_STOPS, &[LATER, MORNING], IN_THE_MORNING)?;
     put_over_doc(alloc, text, WITH_A_CHILD, &[CHANGING], CHANGES_AND_CHILDREN)?;
     put_over_doc(alloc, text, SIX_STOPS, &[MISSED], AFTER_A_MISS)?;

@@ -1,20 +1,8 @@
-//! The stops documents and the connections of the cases.
-
-/// A connection as trip, sequence, stop and second of departure, stop and second of arrival.
-pub type Row = (&'static str, u32, &'static str, u32, &'static str, u32);
-
-/// Six stops, and a change at each of them.
-pub const SIX_STOPS: &str = "{\"changes\":[\
-    {\"from\":\"A\",\"seconds\":120,\"to\":\"A\"},\
-    {\"from\":\"B\",\"seconds\":120,\"to\":\"B\"},\
-    {\"from\":\"C\",\"seconds\":120,\"to\":\"C\"},\
-    {\"from\":\"D\",\"seconds\":120,\"to\":\"D\"},\
-    {\"from\":\"E\",\"seconds\":120,\"to\":\"E\"},\
-    {\"from\":\"F\",\"seconds\":120,\"to\":\"F\"}],\
-    \"stops\":[{\"id\":\"A\"},{\"id\":\"B\"},{\"id\":\"C\"},{\"id\":\"D\"},{\"id\":\"E\"},{\"id\":\"F\"}]}";
+//! The stops document with walks, and the connections of the cases.
+use crate::feeds::Row;
 
 /// The six stops, with a change from B to E and one from D to F.
-pub const WITH_WALKS: &str = "{\"changes\":[\
+pub(super) const WITH_WALKS: &str = "{\"changes\":[\
     {\"from\":\"A\",\"seconds\":120,\"to\":\"A\"},\
     {\"from\":\"B\",\"seconds\":120,\"to\":\"B\"},\
     {\"from\":\"B\",\"seconds\":300,\"to\":\"E\"},\
@@ -25,7 +13,7 @@ pub const WITH_WALKS: &str = "{\"changes\":[\
     {\"from\":\"F\",\"seconds\":120,\"to\":\"F\"}],\
     \"stops\":[{\"id\":\"A\"},{\"id\":\"B\"},{\"id\":\"C\"},{\"id\":\"D\"},{\"id\":\"E\"},{\"id\":\"F\"}]}";
 
-pub const MORNING: &[Row] = &[
+pub(super) const MORNING: &[Row] = &[
     ("T1", 1, "A", 28_800, "B", 29_400),
     ("T1", 2, "B", 29_460, "C", 30_600),
     ("T3", 1, "B", 29_520, "D", 30_660),
@@ -35,7 +23,7 @@ pub const MORNING: &[Row] = &[
 ];
 
 /// T8 goes from A to D at once, and is there with T3.
-pub const WITH_T8: &[Row] = &[
+pub(super) const WITH_T8: &[Row] = &[
     ("T1", 1, "A", 28_800, "B", 29_400),
     ("T8", 1, "A", 28_800, "D", 30_660),
     ("T1", 2, "B", 29_460, "C", 30_600),
@@ -44,7 +32,7 @@ pub const WITH_T8: &[Row] = &[
 ];
 
 /// T8 is there a second after T3.
-pub const WITH_T8_LATER: &[Row] = &[
+pub(super) const WITH_T8_LATER: &[Row] = &[
     ("T1", 1, "A", 28_800, "B", 29_400),
     ("T8", 1, "A", 28_800, "D", 30_661),
     ("T1", 2, "B", 29_460, "C", 30_600),
@@ -53,7 +41,7 @@ pub const WITH_T8_LATER: &[Row] = &[
 ];
 
 /// By T6 and T7 one is at D after three rides. T9 goes from B to D by way of E, and its last connection departs after that of T7.
-pub const TWO_OR_THREE: &[Row] = &[
+pub(super) const TWO_OR_THREE: &[Row] = &[
     ("T1", 1, "A", 28_800, "B", 29_400),
     ("T6", 1, "B", 29_520, "C", 30_000),
     ("T9", 1, "B", 29_520, "E", 30_240),
@@ -62,7 +50,7 @@ pub const TWO_OR_THREE: &[Row] = &[
 ];
 
 /// T9 departs a second too early for the change at B.
-pub const ONLY_THREE: &[Row] = &[
+pub(super) const ONLY_THREE: &[Row] = &[
     ("T1", 1, "A", 28_800, "B", 29_400),
     ("T9", 1, "B", 29_519, "E", 30_240),
     ("T6", 1, "B", 29_520, "C", 30_000),
@@ -71,7 +59,7 @@ pub const ONLY_THREE: &[Row] = &[
 ];
 
 /// T6 and T7 arrive a second earlier than T9.
-pub const THREE_ARE_EARLIER: &[Row] = &[
+pub(super) const THREE_ARE_EARLIER: &[Row] = &[
     ("T1", 1, "A", 28_800, "B", 29_400),
     ("T6", 1, "B", 29_520, "C", 30_000),
     ("T9", 1, "B", 29_520, "E", 30_240),
@@ -80,7 +68,7 @@ pub const THREE_ARE_EARLIER: &[Row] = &[
 ];
 
 /// One is at C sooner by T1 and T6 than by T8, but by T8 in time for T7 too, with one ride less.
-pub const SOONER_BY_MORE: &[Row] = &[
+pub(super) const SOONER_BY_MORE: &[Row] = &[
     ("T1", 1, "A", 28_800, "B", 29_400),
     ("T8", 1, "A", 28_860, "C", 30_060),
     ("T6", 1, "B", 29_520, "C", 30_000),

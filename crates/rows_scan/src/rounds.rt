@@ -1,28 +1,18 @@
 //! Rounds over small feeds, of which the journeys were worked out by hand.
-ghost use Rattle.std.specs.Prelude.{◌≡◌, ◌+◌, IfOk, IsTrue};
-ghost use Rattle.lc_model.specs.Connection.{NoneArrivesEarly};
+mod feeds;
 
-use crate::feeds::{
-    MORNING, ONLY_THREE, Row, SIX_STOPS, SOONER_BY_MORE, THREE_ARE_EARLIER, TWO_OR_THREE, WITH_T8,
-    WITH_T8_LATER, WITH_WALKS,
-};
-use crate::said::put_journey;
+use crate::feeds::{Row, SIX_STOPS};
+use crate::making::{connections, question};
+use crate::said::put_parts;
 use change_rounds::fewest_of;
-use lc_model::{
-    Connection, Connections, Id, Moment, Query, RunKey, ServiceDate, StopsDoc, first_disorder,
+use feeds::{
+    MORNING, ONLY_THREE, SOONER_BY_MORE, THREE_ARE_EARLIER, TWO_OR_THREE, WITH_T8, WITH_T8_LATER,
+    WITH_WALKS,
 };
+use lc_model::{Connections, Journey, Query, StopsDoc, first_disorder};
 use page_json::read_stops;
-use rows_common::Unmade;
+use rows_common::{Draft, Unmade};
 use std::alloc::Global;
-
-/// 2024-05-01T00:00:00Z, from which the tables count their seconds.
-pub const MIDNIGHT: u64 = 1_714_521_600;
-
-const DATE: ServiceDate = ServiceDate {
-    year: 2024,
-    month: 5,
-    day: 1,
-};
 
 /// The name of a case, its connections, the ends of its question, the second at which it leaves, and its horizon.
 type Case = (
@@ -85,7 +75,13 @@ const OF_WALKS: &[Case] = &[
 ];
 
 /// A line for each case.
-pub fn put_rounds(alloc: Global, text: &mut String) -> Result<(), Unmade> {
+pub(crate) fn put_rounds(alloc: Global, draft: &mut Draft) {
+    let mut text = String::new(alloc);
+    let made = put_all(alloc, &mut text);
+    draft.put_part(text.as_str(), made);
+}
+
+fn put_all(alloc: Global, text: &mut String) -> Result<(), Unmade> {
     put_over(alloc, text, SIX_STOPS, OF_SIX_STOPS)?;
     put_over(alloc, text, WITH_WALKS, OF_WALKS)
 }
@@ -148,72 +144,9 @@ fn put_fewest(
     }
 }
 
-fn id(alloc: Global, text: &str) -> Result<Id, Unmade> {
-    Ok(Id::new(alloc, text.as_bytes())?.ok_or("an id")?)
-}
-
-fn moment(second: u32) -> Result<Moment, Unmade>
-    ensures { IfOk result (λ moment. moment ≡ MIDNIGHT + second) }
-{
-    Ok(Moment::new(MIDNIGHT + u64::from(second)).ok_or("a moment")?)
-}
-
-fn question(
-    alloc: Global,
-    from: &str,
-    to: &str,
-    leave: u32,
-    horizon: u32,
-) -> Result<Query, Unmade> {
-    let leave = moment(leave)?;
-    Ok(Query {
-        from: id(alloc, from)?,
-        to: id(alloc, to)?,
-        leave,
-        known: None,
-        horizon,
-    })
-}
-
-fn is_forward(list: &[Connection]) -> bool
-    ensures { IsTrue result → NoneArrivesEarly list.now }
-{
-    list.iter().all(|c| c.dep <= c.arr)
-}
-
-fn connections(alloc: Global, rows: &[Row]) -> Result<Connections, Unmade> {
-    let mut list = Vec::new(alloc);
-    for row in rows {
-        push(alloc, &mut list, row)?;
-    }
-    if !is_forward(list.as_slice()) {
-        return Err(Unmade);
-    }
-    Ok(Connections::from_list(list))
-}
-
-fn push(alloc: Global, list: &mut Vec<Connection>, row: &Row) -> Result<(), Unmade> {
-    let connection = connection(alloc, row)?;
-    Ok(list.push(connection)?)
-}
-
-fn connection(alloc: Global, row: &Row) -> Result<Connection, Unmade> {
-    let &(trip, seq, dep_stop, dep, arr_stop, arr) = row;
-    let (dep, arr) = (moment(dep)?, moment(arr)?);
-    Ok(Connection {
-        key: RunKey {
-            trip: id(alloc, trip)?,
-            date: DATE,
-            start: None,
-        },
-        seq,
-        dep_stop: id(alloc, dep_stop)?,
-        dep,
-        arr_stop: id(alloc, arr_stop)?,
-        arr,
-        board: true,
-        alight: true,
-        dep_delay: 0,
-        arr_delay: 0,
-    })
+/// How many rides the journey has, and its parts.
+fn put_journey(text: &mut String, journey: &Journey) -> Result<(), Unmade> {
+    let count = journey.rides.as_slice().len();
+    write!(text, "rides {count}")?;
+    put_parts(text, journey)
 }
