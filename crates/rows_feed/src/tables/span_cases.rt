@@ -1,5 +1,5 @@
 //! What frequencies.txt says of the trip T, or the first rule that it breaks.
-use crate::recorded::put_reported;
+use super::recorded::put_reported;
 use gtfs_calendars::{Frequency, read_frequencies};
 use gtfs_fields::TripRows;
 use gtfs_trips::read_trips;
@@ -24,7 +24,7 @@ const SPANS: &[u8] =
     b"trip_id,start_time,end_time,headway_secs\nT,8:00:00,25:10:00,4294967295\nT,08:00:00,09:00:00,0600\n";
 
 /// A line for each of `FILES` and for each row of `SPANS`: the trip, the first start, the end and the seconds between starts.
-pub fn put_spans(alloc: Global, draft: &mut Draft) {
+pub(super) fn put_spans(alloc: Global, draft: &mut Draft) {
     match read_trips(alloc, b"trip_id,service_id\nT,w\n".as_slice()) {
         Ok(trips) => put_spans_of(alloc, draft, &trips),
         Err(_) => draft.lose(),

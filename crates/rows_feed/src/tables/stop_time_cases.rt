@@ -1,5 +1,5 @@
 //! What stop_times.txt says, or the first rule that it breaks.
-use crate::recorded::put_reported;
+use super::recorded::put_reported;
 use gtfs_fields::FileFault;
 use gtfs_trips::{StopTime, TimedTrips, read_stop_times, read_stops, read_trips};
 use lc_model::Stops;
@@ -50,7 +50,7 @@ const FILES: [&str; 27] = [
 ];
 
 /// A line for each of `FILES`, and the lines of `ROWS`.
-pub fn put_files(alloc: Global, draft: &mut Draft) {
+pub(super) fn put_files(alloc: Global, draft: &mut Draft) {
     match read_stops(alloc, STOPS.as_bytes()) {
         Ok(stops) => put_files_at(alloc, draft, &stops),
         Err(_) => draft.lose(),

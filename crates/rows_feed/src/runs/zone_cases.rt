@@ -42,7 +42,7 @@ const TIMES: [(&str, &str, u64); 18] = [
 ];
 
 /// A line for each row of `TIMES`: its moment, or that the day has no anchor.
-pub fn put_times(alloc: Global, draft: &mut Draft) {
+pub(super) fn put_times(alloc: Global, draft: &mut Draft) {
     for &(word, day, seconds) in &TIMES {
         put_time(alloc, draft, word, day, seconds);
     }
@@ -83,7 +83,7 @@ fn put_second(draft: &mut Draft, second: u64) {
     draft.put("\n");
 }
 
-pub fn put_moment(draft: &mut Draft, moment: Moment) {
+pub(super) fn put_moment(draft: &mut Draft, moment: Moment) {
     let shown = iso_text(moment);
     draft.put_escaped(shown.as_slice());
 }
@@ -102,7 +102,7 @@ const MOMENTS: [(&str, &str); 9] = [
 ];
 
 /// A line for each row of `MOMENTS`: the date that a clock of the zone shows.
-pub fn put_civil_dates(alloc: Global, draft: &mut Draft) {
+pub(super) fn put_civil_dates(alloc: Global, draft: &mut Draft) {
     for &(word, moment) in &MOMENTS {
         put_civil_date(alloc, draft, word, moment);
     }
@@ -139,7 +139,7 @@ const WRONG: [&str; 8] = [
 ];
 
 /// A line for each word of `WRONG`, and for three with a file: why there is no zone.
-pub fn put_wrong_words(alloc: Global, draft: &mut Draft) {
+pub(super) fn put_wrong_words(alloc: Global, draft: &mut Draft) {
     for &word in &WRONG {
         put_wrong_word(alloc, draft, word, None);
     }
@@ -171,7 +171,7 @@ fn put_size(draft: &mut Draft, file: Option<&[u8]>) {
 }
 
 /// A line for each of three words: the name of the file that it asks for.
-pub fn put_files(draft: &mut Draft) {
+pub(super) fn put_files(draft: &mut Draft) {
     for &word in &["file:Europe/Berlin", "file:", "file"] {
         put_file(draft, word);
     }

@@ -24,7 +24,7 @@ const DATES: [&str; 7] = [
 ];
 
 /// A line for each of `DATES`: on which of 14 days from 2024-05-01 which services run.
-pub fn put_listed(alloc: Global, draft: &mut Draft) {
+pub(super) fn put_listed(alloc: Global, draft: &mut Draft) {
     match read_calendar(alloc, WEEKLY.as_bytes()) {
         Ok(weekly) => put_each(alloc, draft, weekly.as_slice()),
         Err(_) => draft.lose(),

@@ -1,5 +1,5 @@
 //! What transfers.txt says of the stops A and B, or the first rule that it breaks.
-use crate::recorded::put_reported;
+use super::recorded::put_reported;
 use gtfs_calendars::{Transfer, read_transfers};
 use gtfs_trips::read_stops;
 use lc_model::Stops;
@@ -26,7 +26,7 @@ const TRANSFERS: &[u8] =
     b"min_transfer_time,to_stop_id,from_stop_id,transfer_type\n300,B,A,2\n9,,A,2\n,B,B,\n4294967295,A,B,03\n1,A,A,4\n";
 
 /// A line for each of `FILES` and for each transfer of `TRANSFERS`: its ends, its type and its seconds.
-pub fn put_transfers(alloc: Global, draft: &mut Draft) {
+pub(super) fn put_transfers(alloc: Global, draft: &mut Draft) {
     match read_stops(alloc, b"stop_id,stop_name\nA,A\nB,B\n".as_slice()) {
         Ok(stops) => put_transfers_at(alloc, draft, &stops),
         Err(_) => draft.lose(),

@@ -1,5 +1,5 @@
 //! Runs and their connections, worked out by hand from the GTFS Schedule Reference and from calendars.
-use crate::zone_cases::put_moment;
+use super::zone_cases::put_moment;
 use gtfs_calendars::{Frequencies, read_calendar_dates, read_frequencies};
 use gtfs_trips::{TimedTrips, read_stop_times, read_stops, read_trips};
 use lc_model::{Call, Connection, Connections, Run, Runs, Stops};
@@ -165,7 +165,7 @@ const FEEDS: [(&str, &str, &str, &str, &str, &str, usize); 8] = [
 ];
 
 /// A line for each row of `FEEDS`: how many runs it has, and the calls of one of them, or its connections, a line each.
-pub fn put_feeds(alloc: Global, draft: &mut Draft) {
+pub(super) fn put_feeds(alloc: Global, draft: &mut Draft) {
     for &(trips, times, dates, frequencies, zone, first, place) in &FEEDS {
         let feed = Feed {
             trips,
@@ -337,7 +337,7 @@ fn put_call_at(draft: &mut Draft, stop: &str, second: u64) {
 }
 
 /// A line for each of five dates: whether runs may be planned on it.
-pub fn put_dates(draft: &mut Draft) {
+pub(super) fn put_dates(draft: &mut Draft) {
     for &day in &["19700109", "19700110", "99991215", "99991216", "00010101"] {
         put_date(draft, day);
     }

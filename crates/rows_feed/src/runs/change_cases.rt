@@ -44,7 +44,7 @@ const BY_ROWS: [(&str, &str, &str); 27] = [
 ];
 
 /// A line for each row of `BY_ROWS`: the seconds of the change, by a usual 120.
-pub fn put_by_rows(alloc: Global, draft: &mut Draft) {
+pub(super) fn put_by_rows(alloc: Global, draft: &mut Draft) {
     match read_stops(alloc, STATIONS.as_bytes()) {
         Ok(stops) => put_each(alloc, draft, &stops),
         Err(_) => draft.lose(),
@@ -158,7 +158,7 @@ fn id(alloc: Global, text: &str) -> Result<Id, Unmade> {
 const SIX_STOPS: &str = "stop_id,stop_name\nA,A\nB,B\nC,C\nD,D\nE,E\nF,F\n";
 
 /// A line for each of four usual seconds: the changes at six stops without a row.
-pub fn put_single_stops(alloc: Global, draft: &mut Draft) {
+pub(super) fn put_single_stops(alloc: Global, draft: &mut Draft) {
     match read_stops(alloc, SIX_STOPS.as_bytes()) {
         Ok(stops) => put_single_stops_at(alloc, draft, &stops),
         Err(_) => draft.lose(),
@@ -200,7 +200,7 @@ fn put_one(draft: &mut Draft, change: &Change) {
 }
 
 /// A line for a station: between its 1,000 children there are 1,000,000 changes, and the station itself is one more.
-pub fn put_large_station(alloc: Global, draft: &mut Draft) {
+pub(super) fn put_large_station(alloc: Global, draft: &mut Draft) {
     let mut file = Draft::new(alloc);
     put_station(&mut file);
     match read_stops(alloc, file.as_str().as_bytes()) {
@@ -236,7 +236,7 @@ fn put_large_station_of(alloc: Global, draft: &mut Draft, stops: &Stops) {
 }
 
 /// A line for each fault, as it is printed.
-pub fn put_faults(draft: &mut Draft) {
+pub(super) fn put_faults(draft: &mut Draft) {
     draft.put("too many changes: ");
     draft.put_shown(&ChangeFault::TooManyChanges { count: 1_000_001 });
     draft.put("\nout of memory: ");

@@ -1,5 +1,5 @@
 //! What calendar.txt and calendar_dates.txt say, or the first rule that each breaks.
-use crate::recorded::put_reported;
+use super::recorded::put_reported;
 use gtfs_calendars::{DateRow, Weekly, WeeklyList, read_calendar, read_calendar_dates};
 use gtfs_fields::FileFault;
 use lc_model::ServiceDate;
@@ -31,7 +31,7 @@ const ROWS: [&str; 9] = [
 ];
 
 /// A line for each of `FILES` and of `ROWS`.
-pub fn put_files(alloc: Global, draft: &mut Draft) {
+pub(super) fn put_files(alloc: Global, draft: &mut Draft) {
     for &bytes in &FILES {
         put_file(alloc, draft, bytes);
     }
@@ -63,7 +63,7 @@ const WEEKS: &str =
     20240531,0,0,0,0,1,0,0,20240401,w\n20241231,1,0,0,0,0,0,1,20240101,v\n";
 
 /// A line for each row of `WEEKS`: the service, the days from Monday to Sunday, and the first and the last date.
-pub fn put_weeks(alloc: Global, draft: &mut Draft) {
+pub(super) fn put_weeks(alloc: Global, draft: &mut Draft) {
     match read_calendar(alloc, WEEKS.as_bytes()) {
         Ok(weekly) => put_each_week(draft, weekly.as_slice()),
         Err(_) => draft.lose(),
@@ -113,7 +113,7 @@ const DATE_FILES: [&[u8]; 10] = [
 ];
 
 /// A line for each of `DATE_FILES`.
-pub fn put_date_files(alloc: Global, draft: &mut Draft) {
+pub(super) fn put_date_files(alloc: Global, draft: &mut Draft) {
     for &bytes in &DATE_FILES {
         put_date_file(alloc, draft, bytes);
     }
@@ -126,7 +126,7 @@ fn put_date_file(alloc: Global, draft: &mut Draft, bytes: &[u8]) {
 }
 
 /// A line for each date of a file.
-pub fn put_dates(alloc: Global, draft: &mut Draft) {
+pub(super) fn put_dates(alloc: Global, draft: &mut Draft) {
     let file = b"service_id,date,exception_type\nw,20240508,2\nv,20240508,1\n";
     match read_calendar_dates(alloc, file.as_slice()) {
         Ok(dates) => put_each_date(draft, dates.as_slice()),

@@ -1,5 +1,5 @@
 //! What stops.txt and trips.txt say, or the first rule that each breaks.
-use crate::recorded::put_reported;
+use super::recorded::put_reported;
 use gtfs_fields::TripRow;
 use gtfs_trips::{read_stops, read_trips};
 use lc_model::Stop;
@@ -26,7 +26,7 @@ const STOP_FILES: [&[u8]; 12] = [
 ];
 
 /// A line for each of `STOP_FILES`.
-pub fn put_stop_files(alloc: Global, draft: &mut Draft) {
+pub(super) fn put_stop_files(alloc: Global, draft: &mut Draft) {
     for &bytes in &STOP_FILES {
         put_stop_file(alloc, draft, bytes);
     }
@@ -39,7 +39,7 @@ fn put_stop_file(alloc: Global, draft: &mut Draft, bytes: &[u8]) {
 }
 
 /// A line for each stop of a file.
-pub fn put_stops(alloc: Global, draft: &mut Draft) {
+pub(super) fn put_stops(alloc: Global, draft: &mut Draft) {
     let file = "stop_name,stop_id,parent_station\nHall,B, A\nYard,A,\n";
     match read_stops(alloc, file.as_bytes()) {
         Ok(stops) => put_each_stop(draft, stops.as_slice()),
@@ -69,7 +69,7 @@ fn put_stop(draft: &mut Draft, stop: &Stop) {
 }
 
 /// A line for 100,000 stops, and one for a row more, which has the id of the first. The limit comes before the rules of rows.
-pub fn put_many_stops(alloc: Global, draft: &mut Draft) {
+pub(super) fn put_many_stops(alloc: Global, draft: &mut Draft) {
     let mut file = Draft::new(alloc);
     put_numbers(&mut file);
     put_count(alloc, draft, "100000 stops", &file);
@@ -102,7 +102,7 @@ const TRIP_FILES: [&[u8]; 8] = [
 ];
 
 /// A line for each of `TRIP_FILES`.
-pub fn put_trip_files(alloc: Global, draft: &mut Draft) {
+pub(super) fn put_trip_files(alloc: Global, draft: &mut Draft) {
     for &bytes in &TRIP_FILES {
         put_trip_file(alloc, draft, bytes);
     }
@@ -115,7 +115,7 @@ fn put_trip_file(alloc: Global, draft: &mut Draft, bytes: &[u8]) {
 }
 
 /// A line for each trip of a file: its service.
-pub fn put_trips(alloc: Global, draft: &mut Draft) {
+pub(super) fn put_trips(alloc: Global, draft: &mut Draft) {
     match read_trips(alloc, b"service_id,trip_id\nv,U\nw,T\n".as_slice()) {
         Ok(trips) => put_each_trip(draft, trips.as_slice()),
         Err(_) => draft.lose(),

@@ -30,7 +30,7 @@ const NO_STOP: &str = "from_stop_id,to_stop_id\nA,Z\n";
 
 /// A line for the whole feed: how many rows each table has, in the order of the files, and how many trips are left out. Or the
 /// fault. Then it says how many files the directory was asked for.
-pub fn put_whole(alloc: Global, draft: &mut Draft) {
+fn put_whole(alloc: Global, draft: &mut Draft) {
     draft.put("whole: ");
     put_said(alloc, draft, whole(alloc), 8);
 }
@@ -44,7 +44,7 @@ const ABSENT: [&str; 4] = [
 ];
 
 /// A line for each file of `ABSENT`, as for the whole feed.
-pub fn put_absent(alloc: Global, draft: &mut Draft) {
+fn put_absent(alloc: Global, draft: &mut Draft) {
     for &name in &ABSENT {
         draft.put(name);
         draft.put(" absent: ");
@@ -73,7 +73,7 @@ const CHANGED: [(&str, &str); 15] = [
 ];
 
 /// A line for each file of `CHANGED`, as for the whole feed.
-pub fn put_changed(alloc: Global, draft: &mut Draft) {
+fn put_changed(alloc: Global, draft: &mut Draft) {
     for &(name, file) in &CHANGED {
         put_change(alloc, draft, name, file);
     }
@@ -208,7 +208,7 @@ fn put_faults(draft: &mut Draft, before: u64, after: u64) {
 }
 
 /// A line for a feed with calendar.txt alone: one calendar is enough.
-pub fn put_other_calendar(alloc: Global, draft: &mut Draft) {
+fn put_other_calendar(alloc: Global, draft: &mut Draft) {
     draft.put("calendar.txt alone: ");
     put_said(alloc, draft, with_other_calendar(alloc), 8);
 }
@@ -220,7 +220,7 @@ fn with_other_calendar(alloc: Global) -> Result<Vec<File>, Unmade> {
 }
 
 /// A line for a trip with a row that names no stop: it is left out, and its frequencies are read.
-pub fn put_left_out(alloc: Global, draft: &mut Draft) {
+fn put_left_out(alloc: Global, draft: &mut Draft) {
     draft.put("a row without a stop: ");
     put_said(alloc, draft, with_row_without_stop(alloc), 8);
 }
@@ -238,7 +238,7 @@ fn push_left_out(alloc: Global, files: &mut Vec<File>) -> Result<(), Unmade> {
 }
 
 /// A line for each read of seven that fails.
-pub fn put_failed_reads(alloc: Global, draft: &mut Draft) {
+fn put_failed_reads(alloc: Global, draft: &mut Draft) {
     for read in 1..8 {
         draft.put("read ");
         draft.put_shown(&read);
@@ -248,7 +248,7 @@ pub fn put_failed_reads(alloc: Global, draft: &mut Draft) {
 }
 
 /// A line for 100,001 stops.
-pub fn put_too_many(alloc: Global, draft: &mut Draft) {
+fn put_too_many(alloc: Global, draft: &mut Draft) {
     let mut file = Draft::new(alloc);
     put_stops(&mut file);
     draft.put("100001 stops: ");
@@ -268,7 +268,7 @@ fn put_stops(file: &mut Draft) {
 }
 
 /// A line with the names that a whole feed is asked for, in turn.
-pub fn put_asked(alloc: Global, draft: &mut Draft) {
+fn put_asked(alloc: Global, draft: &mut Draft) {
     match whole_folder(alloc) {
         Ok(mut folder) => put_names(alloc, draft, &mut folder),
         Err(Unmade) => draft.lose(),
@@ -298,7 +298,7 @@ fn put_asked_names(draft: &mut Draft, names: &[Text]) {
 }
 
 /// A line for each thing of which there may be too much.
-pub fn put_words(draft: &mut Draft) {
+fn put_words(draft: &mut Draft) {
     for what in &[
         What::Stops,
         What::Trips,
@@ -311,4 +311,17 @@ pub fn put_words(draft: &mut Draft) {
         draft.put_shown(what);
         draft.put("\n");
     }
+}
+
+/// A line for each case.
+pub(crate) fn put_feeds(alloc: Global, draft: &mut Draft) {
+    put_whole(alloc, draft);
+    put_absent(alloc, draft);
+    put_changed(alloc, draft);
+    put_other_calendar(alloc, draft);
+    put_left_out(alloc, draft);
+    put_failed_reads(alloc, draft);
+    put_too_many(alloc, draft);
+    put_asked(alloc, draft);
+    put_words(draft);
 }

@@ -1,6 +1,4 @@
-//! Prints worked cases of the files of a feed, each read alone, a line each. The expected lines are in `stdout`.
-#![tactic(auto)]
-
+//! Worked cases of the files of a feed, each read alone.
 mod calendar_cases;
 mod recorded;
 mod row_cases;
@@ -9,18 +7,11 @@ mod stop_time_cases;
 mod transfer_cases;
 mod trip_cases;
 
-use rows_common::{Draft, exit_code};
+use rows_common::Draft;
 use std::alloc::Global;
-use std::process::ExitCode;
 
-fn main(rt: HostRuntime) -> ExitCode {
-    let mut draft = Draft::new(rt.alloc());
-    put_cases(rt.alloc(), &mut draft);
-    let printed = print!(rt; "{}", draft.as_str());
-    exit_code(draft.made(), printed)
-}
-
-fn put_cases(alloc: Global, draft: &mut Draft) {
+/// A line for each case.
+pub(crate) fn put_tables(alloc: Global, draft: &mut Draft) {
     row_cases::put_tables(alloc, draft);
     row_cases::put_texts(alloc, draft);
     row_cases::put_faults(alloc, draft);

@@ -1,24 +1,14 @@
-//! Prints worked cases of service days, of changes between stops and of runs, a line each. The expected lines are in
-//! `stdout`.
-#![tactic(auto)]
-
+//! Worked cases of service days, of changes between stops and of runs.
 mod change_cases;
 mod day_cases;
 mod run_cases;
 mod zone_cases;
 
-use rows_common::{Draft, exit_code};
+use rows_common::Draft;
 use std::alloc::Global;
-use std::process::ExitCode;
 
-fn main(rt: HostRuntime) -> ExitCode {
-    let mut draft = Draft::new(rt.alloc());
-    put_cases(rt.alloc(), &mut draft);
-    let printed = print!(rt; "{}", draft.as_str());
-    exit_code(draft.made(), printed)
-}
-
-fn put_cases(alloc: Global, draft: &mut Draft) {
+/// A line for each case.
+pub(crate) fn put_runs(alloc: Global, draft: &mut Draft) {
     zone_cases::put_times(alloc, draft);
     zone_cases::put_civil_dates(alloc, draft);
     zone_cases::put_wrong_words(alloc, draft);

@@ -27,7 +27,7 @@ fn table_with(alloc: Global, bytes: &[u8], columns: &str) -> Result<Rows, RowFau
 }
 
 /// A line for each row of `TABLES`: how many rows there are, and the field.
-pub fn put_tables(alloc: Global, draft: &mut Draft) {
+pub(super) fn put_tables(alloc: Global, draft: &mut Draft) {
     for &(name, file, columns, row, column) in &TABLES {
         draft.put(name);
         put_field_of(
@@ -111,7 +111,7 @@ const TEXTS: [(&str, usize, &str); 27] = [
 ];
 
 /// A line for each row of `TEXTS`: how many rows there are, and the field.
-pub fn put_texts(alloc: Global, draft: &mut Draft) {
+pub(super) fn put_texts(alloc: Global, draft: &mut Draft) {
     for &(file, row, column) in &TEXTS {
         draft.put_escaped(file.as_bytes());
         put_field_of(draft, &table(alloc, file.as_bytes(), &[]), row, column);
@@ -137,7 +137,7 @@ const FAULTS: [(&[u8], &str); 14] = [
 ];
 
 /// A line for each row of `FAULTS`: what the fault says, or that there is none.
-pub fn put_faults(alloc: Global, draft: &mut Draft) {
+pub(super) fn put_faults(alloc: Global, draft: &mut Draft) {
     for &(bytes, columns) in &FAULTS {
         draft.put_escaped(bytes);
         draft.put(" with ");
@@ -156,7 +156,7 @@ fn put_fault(draft: &mut Draft, read: &Result<Rows, RowFault>) {
 }
 
 /// Lines of a file that is longer than a buffer.
-pub fn put_long(alloc: Global, draft: &mut Draft) {
+pub(super) fn put_long(alloc: Global, draft: &mut Draft) {
     let mut file = Draft::new(alloc);
     put_long_file(&mut file);
     match table(alloc, file.as_str().as_bytes(), &["stop_id"]) {
