@@ -1,27 +1,20 @@
-//! Prints what the words of the timetable, directories and sinks, updates and cuts result in, in worked cases, a line a value.
-//! The expected lines are in `stdout`.
+//! Prints worked cases of the words of the timetable, of directories and sinks, of updates and cuts, and of doors. After these
+//! come texts as they are read and written. The expected lines are in `stdout`.
 #![tactic(auto)]
 
-mod cuts;
-mod files;
-mod journeys;
+mod doors;
+mod making;
 mod model;
-mod updates;
+mod words;
 
-use rows_common::{Unmade, exit_code};
-use std::alloc::Global;
+use rows_common::{Draft, exit_code};
 use std::process::ExitCode;
 
 fn main(rt: HostRuntime) -> ExitCode {
-    let mut text = String::new(rt.alloc());
-    let made = put_cases(rt.alloc(), &mut text);
-    exit_code(made, print!(rt; "{text}"))
-}
-
-fn put_cases(alloc: Global, text: &mut String) -> Result<(), Unmade> {
-    model::put_model(alloc, text)?;
-    journeys::put_journeys(alloc, text)?;
-    files::put_files(alloc, text)?;
-    updates::put_updates(alloc, text)?;
-    cuts::put_ways(alloc, text)
+    let mut draft = Draft::new(rt.alloc());
+    model::put_model(rt.alloc(), &mut draft);
+    doors::put_doors(rt.alloc(), &mut draft);
+    words::put_words(rt.alloc(), &mut draft);
+    let printed = print!(rt; "{}", draft.as_str());
+    exit_code(draft.made(), printed)
 }

@@ -1,16 +1,30 @@
-//! Moments, ids and changes.
+//! Moments, ids and changes; journeys, directories and sinks, updates and cuts in the files beside it.
+mod cuts;
+mod files;
+mod journeys;
+mod updates;
+
+use crate::making::id;
 use lc_model::{Change, Changes, Id, Moment, PlainData, Stop, Text, copy_each};
-use rows_common::{Unmade, put_bytes, put_count, put_flag, put_line, put_number};
+use rows_common::{Draft, Unmade, put_bytes, put_count, put_flag, put_line, put_number};
 use std::alloc::Global;
 
-pub fn id(alloc: Global, text: &str) -> Result<Id, Unmade> {
-    match Id::new(alloc, text.as_bytes()) {
-        Ok(Some(id)) => Ok(id),
-        _ => Err(Unmade),
-    }
+/// A line for each value.
+pub(crate) fn put_model(alloc: Global, draft: &mut Draft) {
+    let mut text = String::new(alloc);
+    let made = put_all(alloc, &mut text);
+    draft.put_part(text.as_str(), made);
 }
 
-pub fn put_model(alloc: Global, text: &mut String) -> Result<(), Unmade> {
+fn put_all(alloc: Global, text: &mut String) -> Result<(), Unmade> {
+    put_words(alloc, text)?;
+    journeys::put_journeys(alloc, text)?;
+    files::put_files(alloc, text)?;
+    updates::put_updates(alloc, text)?;
+    cuts::put_ways(alloc, text)
+}
+
+fn put_words(alloc: Global, text: &mut String) -> Result<(), Unmade> {
     put_moments(text)?;
     put_ids(alloc, text)?;
     put_changes(alloc, text)

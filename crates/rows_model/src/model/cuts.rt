@@ -63,7 +63,7 @@ const CUTS: [(&str, Way, &[u64]); 9] = [
 ];
 
 /// A line for each of `CUTS`, and one for each cut.
-pub fn put_ways(alloc: Global, text: &mut String) -> Result<(), Unmade> {
+pub(super) fn put_ways(alloc: Global, text: &mut String) -> Result<(), Unmade> {
     for &(name, way, minutes) in &CUTS {
         put_way(alloc, text, name, way, minutes)?;
     }

@@ -1,6 +1,6 @@
 //! Values from outside: RFC 9110, section 5.6.7, the GTFS Schedule Reference, and the seconds and dates that the program
 //! `date` of GNU prints.
-use crate::lines::{moment, put_input, put_read, seconds_of, wide};
+use super::lines::{moment, put_input, put_read, seconds_of, wide};
 use lc_model::ServiceDate;
 use lc_time::{
     date_text, http_date, iso_text, read_date, read_decimal, read_gtfs_time, read_http_date,
@@ -8,19 +8,19 @@ use lc_time::{
 };
 use rows_common::{Unmade, put_bytes, put_line};
 
-pub fn put_moments(text: &mut String) -> Result<(), Unmade> {
+pub(super) fn put_moments(text: &mut String) -> Result<(), Unmade> {
     put_written_moments(text)?;
     put_read_moments(text)?;
     put_http_dates(text)
 }
 
-pub fn put_days(text: &mut String) -> Result<(), Unmade> {
+pub(super) fn put_days(text: &mut String) -> Result<(), Unmade> {
     put_times(text)?;
     put_starts(text)?;
     put_dates(text)
 }
 
-pub fn put_decimals(text: &mut String) -> Result<(), Unmade> {
+pub(super) fn put_decimals(text: &mut String) -> Result<(), Unmade> {
     put_numbers(text)?;
     put_small_numbers(text)?;
     put_blanks(text)

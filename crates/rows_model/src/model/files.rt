@@ -6,7 +6,7 @@ use lc_model::{Bytes, Text};
 use rows_common::{Unmade, put_bytes, put_line, put_number};
 use std::alloc::Global;
 
-pub fn put_files(alloc: Global, text: &mut String) -> Result<(), Unmade> {
+pub(super) fn put_files(alloc: Global, text: &mut String) -> Result<(), Unmade> {
     put_sure_folder(alloc, text)?;
     put_folder(alloc, text)?;
     put_sure_sink(alloc, text)?;

@@ -1,5 +1,5 @@
 //! A journey and its copy.
-use crate::model::id;
+use crate::making::id;
 use lc_model::{Journey, Moment, PlainData, Ride, Rides, RunKey, ServiceDate, Walk};
 use rows_common::{Unmade, put_count, put_flag};
 use std::alloc::Global;
@@ -66,7 +66,7 @@ fn journey(alloc: Global) -> Result<Journey, Unmade> {
 }
 
 /// A journey of one ride with a walk before it, and whether each part of its copy is as it is.
-pub fn put_journeys(alloc: Global, text: &mut String) -> Result<(), Unmade> {
+pub(super) fn put_journeys(alloc: Global, text: &mut String) -> Result<(), Unmade> {
     let journey = journey(alloc)?;
     put_copied_journey(alloc, text, &journey)
 }

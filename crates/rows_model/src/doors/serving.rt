@@ -2,13 +2,13 @@
 ghost use Rattle.std.specs.Prelude.{◌≤◌, IsTrue};
 ghost use Rattle.std.specs.Option.{is_some};
 
-use crate::pieces::connections;
+use super::pieces::connections;
 use lc_doors::{Door, EchoTalk, MemDoor, Next, Served, serve_one};
 use rows_common::{Unmade, put_bytes, put_flag, put_line, put_number};
 use std::alloc::Global;
 
 /// Of the calls of a door the first is `listen`, the second `next`, the third reads a piece of six bytes, and the fourth writes.
-pub fn put_servings(alloc: Global, text: &mut String) -> Result<(), Unmade> {
+pub(super) fn put_servings(alloc: Global, text: &mut String) -> Result<(), Unmade> {
     put_serving(alloc, text, "all is served", 100, &[])?;
     put_serving(alloc, text, "the talk ends after three bytes", 3, &[])?;
     put_serving(alloc, text, "the first write fails", 100, &[4])?;

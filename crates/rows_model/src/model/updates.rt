@@ -1,5 +1,6 @@
 //! What realtime messages say.
-use lc_model::{Bytes, Moment, PlainData};
+use crate::making::bytes;
+use lc_model::{Moment, PlainData};
 use lc_versions::{
     EntityList, EntityNews, Event, Relation, StopNews, StopNewsList, TripKind, TripNews, Update,
     worked_versions,
@@ -11,13 +12,6 @@ const LATE: Event = Event {
     delay: Some(60),
     time: None,
 };
-
-fn bytes(alloc: Global, text: &str) -> Result<Bytes, Unmade> {
-    match text.as_bytes().to_vec(alloc) {
-        Ok(list) => Ok(Bytes::from_list(list)),
-        Err(_) => Err(Unmade),
-    }
-}
 
 /// The second stop, B, is reached late.
 fn late_stop(alloc: Global) -> Result<StopNews, Unmade> {
@@ -85,7 +79,7 @@ fn update(alloc: Global) -> Result<Update, Unmade> {
 }
 
 /// The copy of an update with one late trip and an entity without news.
-pub fn put_updates(alloc: Global, text: &mut String) -> Result<(), Unmade> {
+pub(super) fn put_updates(alloc: Global, text: &mut String) -> Result<(), Unmade> {
     worked_versions();
     let update = update(alloc)?;
     put_copied(alloc, text, &update)

@@ -1,5 +1,5 @@
 //! Which version a request means, and the URLs that name versions.
-use crate::lines::{moment, put_read, seconds_of};
+use super::lines::{moment, put_read, seconds_of};
 use connection_uri::Base;
 use lc_model::{Moment, PageName};
 use memento::{gate_target, negotiate, page_url, read_page_url};
@@ -16,7 +16,7 @@ const KNOWN: [&str; 5] = [
 ];
 
 /// Which version is meant of the base of 06:00:00 and the version of 07:00:00 of 2024-05-01.
-pub fn put_versions(text: &mut String) -> Result<(), Unmade> {
+pub(super) fn put_versions(text: &mut String) -> Result<(), Unmade> {
     let versions = [moment(1_714_543_200)?, moment(1_714_546_800)?];
     put_known(text, &versions)
 }
@@ -32,7 +32,7 @@ fn put_known(text: &mut String, versions: &[Moment; 2]) -> Result<(), Unmade> {
 }
 
 /// The target of the time gate, and the moments of the page that is read of the URL that it sends to.
-pub fn put_urls(alloc: Global, text: &mut String, base: &Base) -> Result<(), Unmade> {
+pub(super) fn put_urls(alloc: Global, text: &mut String, base: &Base) -> Result<(), Unmade> {
     let departs = moment(1_714_550_400)?;
     put_target(alloc, text, base, departs)?;
     let version = moment(1_714_546_800)?;

@@ -1,19 +1,20 @@
 //! Values from outside: the URL Standard, RFC 3986, and names written by hand.
-use crate::lines::{moment, put_flag, put_input, put_number, put_read};
+use super::lines::{moment, put_flag, put_input, put_number, put_read};
+use crate::making::id;
 use connection_uri::{Base, decode, encode, name, page_url, read_name, read_page_url};
 use lc_model::{Id, PageName, PlainData, RunKey};
 use lc_time::read_date;
 use rows_common::{Unmade, put_line};
 use std::alloc::Global;
 
-pub fn base(alloc: Global, text: &str) -> Result<Base, Unmade> {
+pub(super) fn base(alloc: Global, text: &str) -> Result<Base, Unmade> {
     match Base::read(alloc, text.as_bytes()) {
         Ok(Some(base)) => Ok(base),
         _ => Err(Unmade),
     }
 }
 
-pub fn put_bases_and_ids(alloc: Global, text: &mut String) -> Result<(), Unmade> {
+pub(super) fn put_bases_and_ids(alloc: Global, text: &mut String) -> Result<(), Unmade> {
     put_bases(alloc, text)?;
     put_long_bases(alloc, text)?;
     put_ids(alloc, text)
@@ -113,13 +114,6 @@ fn put_is_base(alloc: Global, text: &mut String, name: &str, input: &[u8]) -> Re
     }
 }
 
-fn id(alloc: Global, text: &str) -> Result<Id, Unmade> {
-    match Id::new(alloc, text.as_bytes()) {
-        Ok(Some(id)) => Ok(id),
-        _ => Err(Unmade),
-    }
-}
-
 const IDS: [&str; 4] = ["a/b ü", "100%", "A-z_0.9~", "T1:2+3"];
 
 /// Texts that are no encoding of an id.
@@ -158,7 +152,11 @@ fn put_decoded(alloc: Global, text: &mut String, encoding: &str) -> Result<(), U
 }
 
 /// The names and the pages under a base.
-pub fn put_names_and_pages(alloc: Global, text: &mut String, base: &Base) -> Result<(), Unmade> {
+pub(super) fn put_names_and_pages(
+    alloc: Global,
+    text: &mut String,
+    base: &Base,
+) -> Result<(), Unmade> {
     put_run(alloc, text, base)?;
     put_names(alloc, text, base)?;
     put_written_page(alloc, text, base)?;

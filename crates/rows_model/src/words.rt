@@ -1,23 +1,20 @@
-//! Prints texts of moments, dates, times, numbers, bases, ids, names, pages and versions, as they are read and written in worked
-//! cases, a line each. The expected lines are in `stdout`.
-#![tactic(auto)]
-
+//! Texts of moments, dates, times, numbers, bases, ids, names, pages and versions, as they are read and written.
 mod lines;
 mod times;
 mod uris;
 mod versions;
 
-use rows_common::{Unmade, exit_code};
+use rows_common::{Draft, Unmade};
 use std::alloc::Global;
-use std::process::ExitCode;
 
-fn main(rt: HostRuntime) -> ExitCode {
-    let mut text = String::new(rt.alloc());
-    let made = put_cases(rt.alloc(), &mut text);
-    exit_code(made, print!(rt; "{text}"))
+/// A line for each case.
+pub(crate) fn put_words(alloc: Global, draft: &mut Draft) {
+    let mut text = String::new(alloc);
+    let made = put_all(alloc, &mut text);
+    draft.put_part(text.as_str(), made);
 }
 
-fn put_cases(alloc: Global, text: &mut String) -> Result<(), Unmade> {
+fn put_all(alloc: Global, text: &mut String) -> Result<(), Unmade> {
     put_times(text)?;
     uris::put_bases_and_ids(alloc, text)?;
     put_names(alloc, text)?;

@@ -1,15 +1,9 @@
 //! The bytes of a client, which come in two pieces.
+use crate::making::bytes;
 use lc_doors::Pieces;
 use lc_model::Bytes;
 use rows_common::Unmade;
 use std::alloc::Global;
-
-fn bytes(alloc: Global, text: &str) -> Result<Bytes, Unmade> {
-    match text.as_bytes().to_vec(alloc) {
-        Ok(list) => Ok(Bytes::from_list(list)),
-        Err(_) => Err(Unmade),
-    }
-}
 
 fn pieces(alloc: Global) -> Result<Pieces, Unmade> {
     let first = bytes(alloc, "GET / ")?;
@@ -25,6 +19,6 @@ fn two_pieces(alloc: Global, first: Bytes, second: Bytes) -> Result<Pieces, Unma
 }
 
 /// One connection.
-pub fn connections(alloc: Global) -> Result<Vec<Pieces>, Unmade> {
+pub(super) fn connections(alloc: Global) -> Result<Vec<Pieces>, Unmade> {
     Ok(vec![in alloc; pieces(alloc)?]?)
 }

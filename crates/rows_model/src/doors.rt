@@ -1,14 +1,29 @@
-//! A door to a client whose bytes come in pieces.
+//! A door to a client whose bytes come in pieces, and how connections are served in the file beside it.
+mod pieces;
+mod serving;
+
 ghost use Rattle.std.specs.Prelude.{◌≡◌, IsTrue};
 ghost use Rattle.lc_doors.specs.Door.{DoorSeen};
 
-use crate::pieces::connections;
 use lc_doors::{Door, DoorFail, Next, SureDoor};
-use rows_common::{Unmade, put_bytes, put_count, put_flag, put_line, put_number};
+use pieces::connections;
+use rows_common::{Draft, Unmade, put_bytes, put_count, put_flag, put_line, put_number};
 use std::alloc::Global;
 
+/// A line for each value.
+pub(crate) fn put_doors(alloc: Global, draft: &mut Draft) {
+    let mut text = String::new(alloc);
+    let made = put_all(alloc, &mut text);
+    draft.put_part(text.as_str(), made);
+}
+
+fn put_all(alloc: Global, text: &mut String) -> Result<(), Unmade> {
+    put_sure_door(alloc, text)?;
+    serving::put_servings(alloc, text)
+}
+
 /// A client whose bytes come in two pieces, read four bytes at a time, and then no further client.
-pub fn put_doors(alloc: Global, text: &mut String) -> Result<(), Unmade> {
+fn put_sure_door(alloc: Global, text: &mut String) -> Result<(), Unmade> {
     let mut door = SureDoor::new(alloc, connections(alloc)?)?;
     put_door(text, &mut door)
 }
