@@ -1,9 +1,9 @@
 #!/usr/bin/env python3
-"""Prints the lines that the program rows_histories has to print: made histories of messages, worked out without Monteneem.
+"""Prints the last lines that the program rows_versions has to print: made histories of messages, worked out without Monteneem.
 
     histories.py
 
-The drawn messages are those of crates/rows_histories/src/messages.rt. The rules are those of GTFS Realtime: an entity of a full message is
+The drawn messages are those of crates/rows_versions/src/histories/messages.rt. The rules are those of GTFS Realtime: an entity of a full message is
 beside the others, another one takes the place of those of its id, and of the news of a trip the last ones count.
 """
 

@@ -1,33 +1,22 @@
-//! Prints what comes out of worked live calls, added trips, versions and an index of them, a line each, for the comparison with `stdout`.
+//! Prints what worked bytes say as trip updates, and what comes out of live calls, added trips, versions and an index of them.
+//! Then it compares the versions after made histories of messages with versions that are worked out anew. The expected lines
+//! are in `stdout`.
 #![tactic(auto)]
 
-mod live;
+mod histories;
+mod late;
+mod making;
 mod messages;
-mod news;
-mod spans;
-mod trips;
 mod versions;
 
-use rows_common::{Draft, Unmade, exit_code};
-use std::alloc::Global;
+use rows_common::{Draft, exit_code};
 use std::process::ExitCode;
 
 fn main(rt: HostRuntime) -> ExitCode {
     let mut draft = Draft::new(rt.alloc());
-    put_cases(rt.alloc(), &mut draft);
+    messages::put_messages(rt.alloc(), &mut draft);
+    versions::put_versions(rt.alloc(), &mut draft);
+    histories::put_histories(rt.alloc(), &mut draft);
     let printed = print!(rt; "{}", draft.as_str());
     exit_code(draft.made(), printed)
-}
-
-fn put_cases(alloc: Global, draft: &mut Draft) {
-    match trips::stops(alloc) {
-        Ok(stops) => live::put_live_calls(alloc, draft, &stops),
-        Err(Unmade) => draft.lose(),
-    }
-    versions::put_histories(alloc, draft);
-    versions::put_versions(alloc, draft);
-    match trips::stops(alloc) {
-        Ok(stops) => spans::put_spans(alloc, draft, &stops),
-        Err(Unmade) => draft.lose(),
-    }
 }

@@ -1,79 +1,23 @@
-//! Messages that were worked out by hand (GTFS Realtime Reference; Protocol Buffers, Encoding).
+//! What worked bytes say as fields and as trip updates.
+mod broken;
+mod putting;
+mod updates;
+mod wire;
+mod written;
 
-/// A full message of 07:00:00 whose entity 1 makes T1 60 seconds late at its arrival of sequence 2.
-const LATE: &[u8] =
-    b"\x0a\x0d\x0a\x032.0\x10\x00\x18\xf0\xd0\xc7\xb1\x06\x12\x1d\x0a\x011\x1a\x18\x0a\x0e\x0a\x02T1\x1a\x0820240501\x12\x06\x08\x02\x12\x02\x08\x3c";
+use rows_common::{Draft, Unmade};
+use std::alloc::Global;
 
-/// LATE with a field that no reader knows.
-const LONGER: &[u8] =
-    b"\x0a\x0d\x0a\x032.0\x10\x00\x18\xf0\xd0\xc7\xb1\x06\x12\x1d\x0a\x011\x1a\x18\x0a\x0e\x0a\x02T1\x1a\x0820240501\x12\x06\x08\x02\x12\x02\x08\x3c\xca\x3e\x00";
+/// A line for each case.
+pub(crate) fn put_messages(alloc: Global, draft: &mut Draft) {
+    let mut text = String::new(alloc);
+    let made = put_all(alloc, &mut text);
+    draft.put_part(text.as_str(), made);
+}
 
-/// A full message of 07:00:00 whose entity 1 has T1 leave out its stop of sequence 2.
-const SKIPPED: &[u8] =
-    b"\x0a\x0d\x0a\x032.0\x10\x00\x18\xf0\xd0\xc7\xb1\x06\x12\x1b\x0a\x011\x1a\x16\x0a\x0e\x0a\x02T1\x1a\x0820240501\x12\x04\x08\x02\x28\x01";
-
-/// A differential message of 07:10:00 that deletes entity 1.
-const DELETED: &[u8] =
-    b"\x0a\x0d\x0a\x032.0\x10\x01\x18\xc8\xd5\xc7\xb1\x06\x12\x05\x0a\x011\x10\x01";
-
-/// A differential message of 07:20:00 whose entity 2 cancels T2.
-const CANCELED: &[u8] =
-    b"\x0a\x0d\x0a\x032.0\x10\x01\x18\xa0\xda\xc7\xb1\x06\x12\x17\x0a\x012\x1a\x12\x0a\x10\x0a\x02T2\x1a\x0820240501\x20\x03";
-
-/// CANCELED as a full message.
-const ALL_CANCELED: &[u8] =
-    b"\x0a\x0d\x0a\x032.0\x10\x00\x18\xa0\xda\xc7\xb1\x06\x12\x17\x0a\x012\x1a\x12\x0a\x10\x0a\x02T2\x1a\x0820240501\x20\x03";
-
-/// A full message of 07:30:00 with the added trip X1: A at 08:05:00, the unknown stop Q, D at 08:25:00.
-const ADDED: &[u8] =
-    b"\x0a\x0d\x0a\x032.0\x10\x00\x18\xf8\xde\xc7\xb1\x06\x12\x3e\x0a\x013\x1a\x39\x0a\x10\x0a\x02X1\x1a\x0820240501\x20\x01\x12\x0b\x1a\x06\x10\xac\xef\xc7\xb1\x06\x22\x01A\x12\x0b\x12\x06\x10\x84\xf4\xc7\xb1\x06\x22\x01Q\x12\x0b\x12\x06\x10\xdc\xf8\xc7\xb1\x06\x22\x01D";
-
-/// ADDED without Q.
-const DIRECT: &[u8] =
-    b"\x0a\x0d\x0a\x032.0\x10\x00\x18\xf8\xde\xc7\xb1\x06\x12\x31\x0a\x013\x1a\x2c\x0a\x10\x0a\x02X1\x1a\x0820240501\x20\x01\x12\x0b\x1a\x06\x10\xac\xef\xc7\xb1\x06\x22\x01A\x12\x0b\x12\x06\x10\xdc\xf8\xc7\xb1\x06\x22\x01D";
-
-/// That with T1, which the timetable has.
-const KNOWN: &[u8] =
-    b"\x0a\x0d\x0a\x032.0\x10\x00\x18\xf8\xde\xc7\xb1\x06\x12\x31\x0a\x013\x1a\x2c\x0a\x10\x0a\x02T1\x1a\x0820240501\x20\x01\x12\x0b\x1a\x06\x10\xac\xef\xc7\xb1\x06\x22\x01A\x12\x0b\x12\x06\x10\xdc\xf8\xc7\xb1\x06\x22\x01D";
-
-/// DIRECT as a differential message.
-const BESIDE: &[u8] =
-    b"\x0a\x0d\x0a\x032.0\x10\x01\x18\xf8\xde\xc7\xb1\x06\x12\x31\x0a\x013\x1a\x2c\x0a\x10\x0a\x02X1\x1a\x0820240501\x20\x01\x12\x0b\x1a\x06\x10\xac\xef\xc7\xb1\x06\x22\x01A\x12\x0b\x12\x06\x10\xdc\xf8\xc7\xb1\x06\x22\x01D";
-
-/// A differential message of 07:40:00 that deletes entity 3.
-const GONE: &[u8] = b"\x0a\x0d\x0a\x032.0\x10\x01\x18\xd0\xe3\xc7\xb1\x06\x12\x05\x0a\x013\x10\x01";
-
-/// A differential message of 07:50:00 whose entity 2 says no more than that T2 runs.
-const BACK: &[u8] =
-    b"\x0a\x0d\x0a\x032.0\x10\x01\x18\xa8\xe8\xc7\xb1\x06\x12\x15\x0a\x012\x1a\x10\x0a\x0e\x0a\x02T2\x1a\x0820240501";
-
-/// The front of LATE.
-const CUT: &[u8] =
-    b"\x0a\x0d\x0a\x032.0\x10\x00\x18\xf0\xd0\xc7\xb1\x06\x12\x1d\x0a\x011\x1a\x18\x0a\x0e\x0a\x02T1\x1a\x0820240501\x12\x06";
-
-/// The messages by their words.
-static MESSAGES: [(&str, &[u8]); 13] = [
-    ("late", LATE),
-    ("longer", LONGER),
-    ("skipped", SKIPPED),
-    ("deleted", DELETED),
-    ("canceled", CANCELED),
-    ("all_canceled", ALL_CANCELED),
-    ("added", ADDED),
-    ("direct", DIRECT),
-    ("known", KNOWN),
-    ("beside", BESIDE),
-    ("gone", GONE),
-    ("back", BACK),
-    ("cut", CUT),
-];
-
-/// The message of a word, or no bytes.
-pub fn message(word: &str) -> &'static [u8] {
-    for row in &MESSAGES {
-        if row.0 == word {
-            return row.1;
-        }
-    }
-    b""
+fn put_all(alloc: Global, text: &mut String) -> Result<(), Unmade> {
+    wire::put_wire(text)?;
+    written::put_written(alloc, text)?;
+    updates::put_updates(alloc, text)?;
+    broken::put_faults(alloc, text)
 }

@@ -1,6 +1,7 @@
 //! Live calls and added trips, worked out by hand from their rules (GTFS Realtime Reference).
-use crate::news::{DATE, news};
-use crate::trips::{added, run, second};
+use super::news::news;
+use super::trips::{added, run, second};
+use crate::making::DATE;
 use lc_model::{Call, Connection, Run, Stops};
 use lc_versions::{TripKind, TripNews};
 use live_calls::{
@@ -12,7 +13,7 @@ use std::alloc::Global;
 use std::fmt::Display;
 
 /// The lines of live calls and of added trips.
-pub fn put_live_calls(alloc: Global, draft: &mut Draft, stops: &Stops) {
+pub(super) fn put_live_calls(alloc: Global, draft: &mut Draft, stops: &Stops) {
     put_live(alloc, draft, stops);
     put_named_by_stop(alloc, draft, stops);
     put_added(alloc, draft, stops);

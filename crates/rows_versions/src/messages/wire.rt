@@ -145,7 +145,7 @@ static FIELDS: [(&str, &[u8], usize); 31] = [
 ];
 
 /// A line for each row of `FIELDS`, and one where the bytes in hand end before the message does.
-pub fn put_wire(text: &mut String) -> Result<(), Unmade> {
+pub(super) fn put_wire(text: &mut String) -> Result<(), Unmade> {
     one_parting();
     for &(name, bytes, place) in &FIELDS {
         put_next(text, name, bytes, place, bytes.len())?;

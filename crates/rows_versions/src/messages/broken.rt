@@ -1,6 +1,6 @@
 //! Bytes that are no message of trip updates, with the first fault of each: messages cut or joined by hand.
-use crate::messages::LATE;
-use crate::putting::{put_each, put_fault, put_message};
+use super::putting::{put_each, put_fault, put_message};
+use crate::late::LATE;
 use rows_common::Unmade;
 use std::alloc::Global;
 use trip_updates::{Part, RtFault};
@@ -132,7 +132,7 @@ fn put_texts(text: &mut String) -> Result<(), Unmade> {
 }
 
 /// The lines of broken messages, and the texts of faults.
-pub fn put_faults(alloc: Global, text: &mut String) -> Result<(), Unmade> {
+pub(super) fn put_faults(alloc: Global, text: &mut String) -> Result<(), Unmade> {
     put_behind(alloc, text)?;
     put_each(alloc, text, &ALONE)?;
     put_fronts(alloc, text)?;

@@ -21,7 +21,7 @@ static TEXTS: [(&str, u32, &[u8]); 3] = [
 ];
 
 /// A line for each row of the tables, in hexadecimal digits, and one of two fields that are written one after the other.
-pub fn put_written(alloc: Global, text: &mut String) -> Result<(), Unmade> {
+pub(super) fn put_written(alloc: Global, text: &mut String) -> Result<(), Unmade> {
     for &(name, number, value) in &VARINTS {
         put_one(alloc, text, name, number, value)?;
     }

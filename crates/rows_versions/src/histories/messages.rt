@@ -1,6 +1,7 @@
 //! Messages whose entities are drawn (GTFS Realtime Reference; Protocol Buffers, Encoding).
-use crate::draws::Draws;
-use crate::timetable::{FURTHER, MIDNIGHT, STOPS, TRIPS};
+use super::draws::Draws;
+use super::timetable::{FURTHER, STOPS, TRIPS};
+use crate::making::MIDNIGHT;
 use rows_common::Unmade;
 use std::alloc::Global;
 
@@ -241,7 +242,7 @@ fn put_entities(alloc: Global, bytes: &mut Vec<u8>, draws: &mut Draws) -> Result
 }
 
 /// A message of a second of the day, with one to four entities. It is full in one of so many cases.
-pub fn message(
+pub(super) fn message(
     alloc: Global,
     draws: &mut Draws,
     second: u32,

@@ -8,7 +8,7 @@ use trip_updates::{
 };
 
 /// A line for each name and message.
-pub fn put_each(
+pub(super) fn put_each(
     alloc: Global,
     text: &mut String,
     messages: &[(&str, &[u8])],
@@ -20,7 +20,7 @@ pub fn put_each(
 }
 
 /// The line of a message.
-pub fn put_message(
+pub(super) fn put_message(
     alloc: Global,
     text: &mut String,
     name: &str,
@@ -32,7 +32,7 @@ pub fn put_message(
     }
 }
 
-pub fn put_fault(text: &mut String, name: &str, fault: RtFault) -> Result<(), Unmade> {
+pub(super) fn put_fault(text: &mut String, name: &str, fault: RtFault) -> Result<(), Unmade> {
     writeln!(text, "{name}: {fault}")?;
     Ok(())
 }
@@ -163,7 +163,7 @@ fn relation_word(relation: Relation) -> &'static str {
 }
 
 /// The moment of an update, how many trip updates were passed over, and how many of its entities have news.
-pub fn put_counts(text: &mut String, name: &str, update: &Update) -> Result<(), Unmade> {
+pub(super) fn put_counts(text: &mut String, name: &str, update: &Update) -> Result<(), Unmade> {
     let moment = update.moment.seconds();
     let passed = update.passed;
     let entities = update.entities.as_slice().iter();

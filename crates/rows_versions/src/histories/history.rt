@@ -1,8 +1,9 @@
 //! A history of fifty messages, and how many of its versions are alike.
-use crate::draws::Draws;
-use crate::messages::message;
-use crate::plain::connections_after;
-use crate::timetable::{MIDNIGHT, runs, stops};
+use super::draws::Draws;
+use super::messages::message;
+use super::plain::connections_after;
+use super::timetable::{runs, stops};
+use crate::making::MIDNIGHT;
 use lc_model::{Connection, Moment, Runs, Stops};
 use lc_time::Zone;
 use lc_versions::Update;
@@ -215,7 +216,7 @@ fn put_made(
 }
 
 /// A line with the connections of each version of a made history, and how many versions are alike.
-pub fn put_history(
+pub(super) fn put_history(
     alloc: Global,
     draft: &mut Draft,
     runs: &Runs,

@@ -2,17 +2,17 @@ ghost use Rattle.std.specs.Prelude.{◌<◌};
 
 /// Numbers that look drawn and are the same in each run: a linear congruential generator.
 #[derive(Drop)]
-pub struct Draws {
+pub(super) struct Draws {
     state: u32,
 }
 
 impl Draws {
-    pub fn new(seed: u32) -> Draws {
+    pub(super) fn new(seed: u32) -> Draws {
         Draws { state: seed }
     }
 
     /// The next number, below this one.
-    pub fn below(&mut self, end: u32) -> u32
+    pub(super) fn below(&mut self, end: u32) -> u32
         requires { 0 < end }
         ensures { result < end }
     {

@@ -1,18 +1,10 @@
 //! News of trips of 2024-05-01, by the names of lists of news of their stops.
+use crate::making::{DATE, MIDNIGHT, bytes};
 use When::{At, Late, Unsaid};
-use lc_model::{Bytes, ServiceDate};
+use lc_model::Bytes;
 use lc_versions::{Event, Relation, StopNews, StopNewsList, TripKind, TripNews};
 use rows_common::Unmade;
 use std::alloc::Global;
-
-/// The midnight of 2024-05-01 in UTC, from which all times of the tables count.
-pub const MIDNIGHT: u64 = 1_714_521_600;
-
-pub const DATE: ServiceDate = ServiceDate {
-    year: 2024,
-    month: 5,
-    day: 1,
-};
 
 /// What is said of an arrival or of a departure.
 #[derive(Clone, Copy)]
@@ -113,7 +105,12 @@ static SAID: [Said; 31] = [
 ];
 
 /// News of a trip with the list of this name.
-pub fn news(alloc: Global, trip: &str, kind: TripKind, name: &str) -> Result<TripNews, Unmade> {
+pub(super) fn news(
+    alloc: Global,
+    trip: &str,
+    kind: TripKind,
+    name: &str,
+) -> Result<TripNews, Unmade> {
     let trip = bytes(alloc, trip)?;
     let stops = said(alloc, name)?;
     Ok(TripNews {
@@ -157,10 +154,6 @@ fn stop_named(alloc: Global, stop: Option<&str>) -> Result<Option<Bytes>, Unmade
         Some(id) => Ok(Some(bytes(alloc, id)?)),
         None => Ok(None),
     }
-}
-
-fn bytes(alloc: Global, text: &str) -> Result<Bytes, Unmade> {
-    Ok(Bytes::from_list(text.as_bytes().to_vec(alloc)?))
 }
 
 fn event(when: When) -> Option<Event> {

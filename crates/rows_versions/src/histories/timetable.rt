@@ -1,55 +1,20 @@
 //! A timetable of ten trips of 2024-05-01 over six stops, and the names of five more trips.
-use lc_model::{Bytes, Id, Run, Runs, ServiceDate, Stop, Stops, Text};
+use crate::making::{DATE, MIDNIGHT, bytes, stops_of};
+use lc_model::{Run, Runs, Stops};
 use lc_versions::{Event, Relation, StopNews, StopNewsList, TripKind, TripNews};
 use live_calls::added_run;
 use rows_common::Unmade;
 use std::alloc::Global;
 
-/// The midnight of 2024-05-01 in UTC.
-pub const MIDNIGHT: u64 = 1_714_521_600;
+pub(super) static STOPS: [&str; 6] = ["S0", "S1", "S2", "S3", "S4", "S5"];
 
-pub const DATE: ServiceDate = ServiceDate {
-    year: 2024,
-    month: 5,
-    day: 1,
-};
-
-pub static STOPS: [&str; 6] = ["S0", "S1", "S2", "S3", "S4", "S5"];
-
-pub static TRIPS: [&str; 10] = ["T0", "T1", "T2", "T3", "T4", "T5", "T6", "T7", "T8", "T9"];
+pub(super) static TRIPS: [&str; 10] = ["T0", "T1", "T2", "T3", "T4", "T5", "T6", "T7", "T8", "T9"];
 
 /// Trips that the timetable does not have.
-pub static FURTHER: [&str; 5] = ["X0", "X1", "X2", "X3", "X4"];
+pub(super) static FURTHER: [&str; 5] = ["X0", "X1", "X2", "X3", "X4"];
 
-fn stop(alloc: Global, id: &str) -> Result<Stop, Unmade> {
-    match Id::new(alloc, id.as_bytes()) {
-        Ok(Some(id)) => Ok(Stop {
-            id,
-            name: Text::from_string(String::new(alloc)),
-            parent: None,
-        }),
-        _ => Err(Unmade),
-    }
-}
-
-fn push_stops(alloc: Global, list: &mut Vec<Stop>) -> Result<(), Unmade> {
-    for id in &STOPS {
-        list.push(stop(alloc, id)?)?;
-    }
-    Ok(())
-}
-
-pub fn stops(alloc: Global) -> Result<Stops, Unmade> {
-    let mut list = Vec::new(alloc);
-    push_stops(alloc, &mut list)?;
-    match Stops::try_from_list(list) {
-        Ok(stops) => Ok(stops),
-        Err(_) => Err(Unmade),
-    }
-}
-
-fn bytes(alloc: Global, text: &str) -> Result<Bytes, Unmade> {
-    Ok(Bytes::from_list(text.as_bytes().to_vec(alloc)?))
+pub(super) fn stops(alloc: Global) -> Result<Stops, Unmade> {
+    stops_of(alloc, &STOPS)
 }
 
 fn at(second: usize) -> Option<Event> {
@@ -108,7 +73,7 @@ fn push_runs(alloc: Global, list: &mut Vec<Run>, stops: &Stops) -> Result<(), Un
     Ok(())
 }
 
-pub fn runs(alloc: Global, stops: &Stops) -> Result<Runs, Unmade> {
+pub(super) fn runs(alloc: Global, stops: &Stops) -> Result<Runs, Unmade> {
     let mut list = Vec::new(alloc);
     push_runs(alloc, &mut list, stops)?;
     match Runs::try_from_list(list) {

@@ -1,7 +1,4 @@
-//! Compares the versions of a store, after made histories of messages, with versions that are worked out anew from the runs and the messages.
-//! Prints how many are alike, and how many connections each has.
-#![tactic(auto)]
-
+//! Versions of a store after made histories of messages, beside versions that are worked out anew from the runs and the messages.
 mod draws;
 mod history;
 mod messages;
@@ -10,16 +7,8 @@ mod timetable;
 
 use history::put_history;
 use lc_model::{Runs, Stops};
-use rows_common::{Draft, Unmade, exit_code};
+use rows_common::{Draft, Unmade};
 use std::alloc::Global;
-use std::process::ExitCode;
-
-fn main(rt: HostRuntime) -> ExitCode {
-    let mut draft = Draft::new(rt.alloc());
-    put_histories(rt.alloc(), &mut draft);
-    let printed = print!(rt; "{}", draft.as_str());
-    exit_code(draft.made(), printed)
-}
 
 /// A history of changes alone, and one of which about a third of the messages are full.
 fn put_both(alloc: Global, draft: &mut Draft, runs: &Runs, stops: &Stops) {
@@ -34,7 +23,8 @@ fn put_over(alloc: Global, draft: &mut Draft, stops: &Stops) {
     }
 }
 
-fn put_histories(alloc: Global, draft: &mut Draft) {
+/// How many versions are alike, and how many connections each has.
+pub(crate) fn put_histories(alloc: Global, draft: &mut Draft) {
     match timetable::stops(alloc) {
         Ok(stops) => put_over(alloc, draft, &stops),
         Err(Unmade) => draft.lose(),

@@ -4,9 +4,9 @@ ghost use Rattle.lc_model.specs.Call.{GoesForward};
 ghost use Rattle.lc_model.specs.Run.{InKeyOrder, RunsForward};
 ghost use Rattle.lc_model.specs.declared.run.Run.{Run as StatedRun};
 
-use crate::news::MIDNIGHT;
-use crate::trips::run;
-use crate::versions::{put_connections, put_moments};
+use super::stores::{put_connections, put_moments};
+use super::trips::run;
+use crate::making::MIDNIGHT;
 use lc_model::{Moment, Run, Stops};
 use live_calls::live;
 use rows_common::{Draft, Unmade};
@@ -131,7 +131,7 @@ fn index_of(alloc: Global, stops: &Stops) -> Result<Index, Unmade> {
 }
 
 /// The rows of T1, then with T3, then with the calls of T2, then without T3, then as at first.
-pub fn put_spans(alloc: Global, draft: &mut Draft, stops: &Stops) {
+pub(super) fn put_spans(alloc: Global, draft: &mut Draft, stops: &Stops) {
     one_list_of_rows();
     match index_of(alloc, stops) {
         Ok(index) => put_index(alloc, draft, &index),

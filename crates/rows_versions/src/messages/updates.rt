@@ -1,18 +1,10 @@
 //! What trip updates say (GTFS Realtime Reference). The bytes were written by protoc 3.21 from a schema of the fields that are
 //! read, with `protoc --encode=FeedMessage`, from the text above each.
-use crate::putting::{put_counts, put_each};
+use super::putting::{put_counts, put_each};
+use crate::late::{DELETED, LATE, LONGER};
 use rows_common::Unmade;
 use std::alloc::Global;
 use trip_updates::{one_meaning, read_message};
-
-// header { gtfs_realtime_version: "2.0" incrementality: 0 timestamp: 1714546800 } entity { id: "1" trip_update {
-// trip { trip_id: "T1" start_date: "20240501" } stop_time_update { stop_sequence: 2 arrival { delay: 60 } } } }
-pub const LATE: &[u8; 46] =
-    b"\x0a\x0d\x0a\x032.0\x10\x00\x18\xf0\xd0\xc7\xb1\x06\x12\x1d\x0a\x011\x1a\x18\x0a\x0e\x0a\x02T1\x1a\x0820240501\x12\x06\x08\x02\x12\x02\x08\x3c";
-
-// LATE and the field of an empty text that no reader knows.
-const LONGER: &[u8] =
-    b"\x0a\x0d\x0a\x032.0\x10\x00\x18\xf0\xd0\xc7\xb1\x06\x12\x1d\x0a\x011\x1a\x18\x0a\x0e\x0a\x02T1\x1a\x0820240501\x12\x06\x08\x02\x12\x02\x08\x3c\xca\x3e\x00";
 
 // LATE with a field of each wire type that no reader knows in every message, of the numbers 1001 to 1004:
 // odd_varint: 300 odd_eight: 5 odd_text: "abc" odd_four: 7.
@@ -53,10 +45,6 @@ const PASSED: &[u8] =
 const WIDE: &[u8] =
     b"\x0a\x12\x0a\x032.0\x10\x80\x80\x80\x80\x10\x18\xff\xbc\xc6\xff\xaf\x07\x12\x31\x0a\x01b\x1a\x2c\x0a\x09\x0a\x01T\x20\x83\x80\x80\x80\x10\x12\x1f\x08\x82\x80\x80\x80\x10\x12\x11\x08\xa6\xff\xff\xff\x0f\x10\xff\xff\xff\xff\xff\xff\xff\xff\xff\x01\x28\x81\x80\x80\x80\x10\x12\x10\x0a\x01c\x1a\x0b\x0a\x09\x0a\x01T\x20\x81\x80\x80\x80\x10";
 
-// header { gtfs_realtime_version: "2.0" incrementality: 1 timestamp: 1714547400 } entity { id: "1" is_deleted: true }
-const DELETED: &[u8] =
-    b"\x0a\x0d\x0a\x032.0\x10\x01\x18\xc8\xd5\xc7\xb1\x06\x12\x05\x0a\x011\x10\x01";
-
 // DELETED as a full message with a passed trip update in its entity.
 const FULL_DELETED: &[u8] =
     b"\x0a\x0d\x0a\x032.0\x10\x00\x18\xc8\xd5\xc7\xb1\x06\x12\x09\x0a\x011\x10\x01\x1a\x02\x0a\x00";
@@ -86,7 +74,7 @@ static MESSAGES: [(&str, &[u8]); 13] = [
 ];
 
 /// A line for each row of `MESSAGES`, and one for ten thousand entities.
-pub fn put_messages(alloc: Global, text: &mut String) -> Result<(), Unmade> {
+pub(super) fn put_updates(alloc: Global, text: &mut String) -> Result<(), Unmade> {
     one_meaning();
     put_each(alloc, text, &MESSAGES)?;
     put_many_entities(alloc, text)

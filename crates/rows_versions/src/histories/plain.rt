@@ -1,5 +1,6 @@
 //! A version worked out anew: the news in force by its messages, the live runs by these, and their connections sorted.
-use crate::timetable::{DATE, FURTHER};
+use super::timetable::FURTHER;
+use crate::making::DATE;
 use lc_model::{Connection, PlainData, Ranked, Run, Runs, Stops};
 use lc_versions::{EntityNews, TripKind, TripNews, Update};
 use live_calls::{added_run_on, connections, live};
@@ -113,7 +114,7 @@ fn push_all(
 }
 
 /// The connections after these messages, in departure order.
-pub fn connections_after(
+pub(super) fn connections_after(
     alloc: Global,
     runs: &Runs,
     stops: &Stops,
