@@ -1,7 +1,7 @@
 //! The page of `TINY` as others may write it: read as the same page, or its first fault.
 ghost use Rattle.page_json.specs.Valid.{IsValidPage};
 
-use crate::page_texts::TINY;
+use super::page_texts::TINY;
 use connection_uri::Base;
 use page_json::{Page, page_text, read_page};
 use rows_common::Draft;
@@ -50,7 +50,7 @@ const CHANGES: [(&str, &str, &str); 14] = [
 ];
 
 /// A line for each change.
-pub fn put_other_pages(alloc: Global, draft: &mut Draft, base: &Base) {
+pub(super) fn put_other_pages(alloc: Global, draft: &mut Draft, base: &Base) {
     for &(name, part, other) in &CHANGES {
         draft.put_all(&["page with ", name, ": "]);
         match TINY.replace(alloc, part, other) {

@@ -31,7 +31,7 @@ const REPLIES: [&str; 20] = [
 ];
 
 /// A line for each of the replies, and for one whose location is no UTF-8.
-pub fn put_replies_read(alloc: Global, draft: &mut Draft) {
+pub(super) fn put_replies_read(alloc: Global, draft: &mut Draft) {
     for bytes in &REPLIES {
         put_reply(alloc, draft, bytes.as_bytes());
     }

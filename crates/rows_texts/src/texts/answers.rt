@@ -54,7 +54,7 @@ const OTHER: [(&str, &str, &str); 19] = [
 ];
 
 /// Lines for answers that are read back, and for texts that are none.
-pub fn put_answers(alloc: Global, draft: &mut Draft) {
+pub(super) fn put_answers(alloc: Global, draft: &mut Draft) {
     for said in &["no journey\n", FIRST, WALK_FIRST, WALK_LAST] {
         put_answer_again(alloc, draft, said.as_bytes());
     }

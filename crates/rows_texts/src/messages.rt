@@ -1,7 +1,4 @@
-//! Prints what is taken, read and written of messages of HTTP, a line a case. There are heads as real clients send them,
-//! and rows after RFC 9112 and RFC 9110. The expected lines are in `stdout`.
-#![tactic(auto)]
-
+//! What is taken, read and written of messages of HTTP. There are heads as real clients send them, and rows after RFC 9112 and RFC 9110.
 mod limits;
 mod recorded;
 mod replies;
@@ -11,18 +8,11 @@ mod taking;
 mod waiting;
 
 use http_text::HeadRoom;
-use rows_common::{Draft, exit_code};
+use rows_common::Draft;
 use std::alloc::Global;
-use std::process::ExitCode;
 
-fn main(rt: HostRuntime) -> ExitCode {
-    let mut draft = Draft::new(rt.alloc());
-    put_cases(rt.alloc(), &mut draft);
-    let printed = print!(rt; "{}", draft.as_str());
-    exit_code(draft.made(), printed)
-}
-
-fn put_cases(alloc: Global, draft: &mut Draft) {
+/// A line for each case.
+pub(crate) fn put_messages(alloc: Global, draft: &mut Draft) {
     match HeadRoom::new(alloc) {
         Ok(mut room) => put_requests(alloc, draft, &mut room),
         Err(_) => draft.lose(),

@@ -1,5 +1,5 @@
 //! What is said of bytes that may be the front of a request: within a target, and how many are waited for.
-use crate::taking::{put_answer, put_taken_of};
+use super::taking::{put_answer, put_taken_of};
 use http_text::HeadRoom;
 use rows_common::{Draft, Unmade};
 use std::alloc::Global;
@@ -29,7 +29,7 @@ const WAITS: [&str; 5] = [
 ];
 
 /// A line for each row of these tables.
-pub fn put_waiting(alloc: Global, draft: &mut Draft, room: &mut HeadRoom) {
+pub(super) fn put_waiting(alloc: Global, draft: &mut Draft, room: &mut HeadRoom) {
     for bytes in &NO_TEXT {
         put_taken_of(draft, room, *bytes);
     }

@@ -41,7 +41,7 @@ const TEXTS: [&str; 5] = [
 ];
 
 /// Lines for each of these tables, and for members that are written.
-pub fn put_members(alloc: Global, draft: &mut Draft) {
+pub(super) fn put_members(alloc: Global, draft: &mut Draft) {
     for levels in &LEVELS {
         put_nested(alloc, draft, *levels);
     }

@@ -2,9 +2,9 @@
 ghost use Rattle.std.specs.Prelude.{IfOk};
 ghost use Rattle.page_json.specs.Valid.{IsValidPage};
 
-use crate::document_texts::{DOCUMENTS, STOPS};
-use crate::other_pages::put_other_pages;
-use crate::page_texts::{EMPTY, PAGES, THREE, TINY, WORDS};
+use super::document_texts::{DOCUMENTS, STOPS};
+use super::other_pages::put_other_pages;
+use super::page_texts::{EMPTY, PAGES, THREE, TINY, WORDS};
 use connection_uri::Base;
 use lc_model::{Connection, PlainData, StopsDoc};
 use page_json::{Page, page_text, read_page, read_stops, stops_text};
@@ -14,7 +14,7 @@ use std::alloc::Global;
 const NO_STOPS: &str = "{\"@id\":\"http://lc.example/stops\",\"changes\":[],\"stops\":[]}";
 
 /// Lines for texts that are read and written again, for the pages and the documents, and for what a page's connections say.
-pub fn put_pages(alloc: Global, draft: &mut Draft) {
+pub(super) fn put_pages(alloc: Global, draft: &mut Draft) {
     match Base::read(alloc, b"http://lc.example/") {
         Ok(Some(base)) => put_pages_under(alloc, draft, &base),
         _ => draft.lose(),

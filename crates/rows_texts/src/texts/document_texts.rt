@@ -1,11 +1,11 @@
 //! Texts of outside: each is what Python 3 writes by
 //! json.dumps(document, sort_keys=True, separators=(',', ':'), ensure_ascii=False).
 
-pub const STOPS: &str =
+pub(super) const STOPS: &str =
     "{\"@id\":\"http://lc.example/stops\",\"changes\":[{\"from\":\"A\",\"seconds\":120,\"to\":\"B\"},{\"from\":\"A\",\"seconds\":4294967295,\"to\":\"京\"},{\"from\":\"B\",\"seconds\":1,\"to\":\"A\"}],\"stops\":[{\"id\":\"A\",\"name\":\"Alpha\",\"parent\":\"P\"},{\"id\":\"B\",\"name\":\"quote \\\" backslash \\\\ tab\\t bell\\u0007 line\\n del\x7f é ü 😀\"},{\"id\":\"P\",\"name\":\"\"},{\"id\":\"京\",\"name\":\"xxxxxxxxxxxxxxxxxxxxxxxxxxxxxxxxxxxxxxxxxxxxxxxxxxxxxxxxxxxxxxxxxxxxxxxxxxxxxxxxxxxxxxxxxxxxxxxxxxxxxxxxxxxxxxxxxxxxxxxxxxxxxxxxxxxxxxxxxxxxxxxxxxxxxxxxxxxxxxxxxxxxxxxxxxxxxxxxxxxxxxxxxxxxxxxxxxxxxxxxxxxxxxxxxxxxxxxxxxxxxxxxxxxxxxxxxxxxxxxxxxxxxxxxxxxxxxxxxxxxxxxxxxxxxxxxxxxxxxxxxxxxxxxxxxxxxxxxxxxx\"}]}";
 
 // Texts of which is said what is read: the counts of stops and of changes, or the first fault.
-pub const DOCUMENTS: [&str; 44] = [
+pub(super) const DOCUMENTS: [&str; 44] = [
     "",
     "[1",
     "[]",

@@ -1,5 +1,5 @@
 //! Requests that are taken from the bytes that have come.
-use crate::recorded::{CURL, CURL_1_0, CURL_HEAD, CURL_POST, CURL_PROXY, NGINX, WGET, WRK};
+use super::recorded::{CURL, CURL_1_0, CURL_HEAD, CURL_POST, CURL_PROXY, NGINX, WGET, WRK};
 use http_text::{HeadRoom, Taken, take_request};
 use rows_common::Draft;
 use std::alloc::Global;
@@ -65,7 +65,7 @@ const RECORDED: [&str; 8] = [
 ];
 
 /// A line for each of these texts, and for the fronts of two requests.
-pub fn put_taken(alloc: Global, draft: &mut Draft, room: &mut HeadRoom) {
+pub(super) fn put_taken(alloc: Global, draft: &mut Draft, room: &mut HeadRoom) {
     put_each(draft, room, &WHOLE);
     put_each(draft, room, &OPEN);
     put_each(draft, room, &REFUSED);
@@ -81,13 +81,13 @@ fn put_each(draft: &mut Draft, room: &mut HeadRoom, table: &[&str]) {
 }
 
 /// A line with what is at the front of the bytes.
-pub fn put_taken_of(draft: &mut Draft, room: &mut HeadRoom, bytes: &[u8]) {
+pub(super) fn put_taken_of(draft: &mut Draft, room: &mut HeadRoom, bytes: &[u8]) {
     draft.put_quoted(bytes);
     put_answer(draft, room.take_request(bytes));
 }
 
 /// The end of the line of a case: what was taken.
-pub fn put_answer(draft: &mut Draft, taken: Taken) {
+pub(super) fn put_answer(draft: &mut Draft, taken: Taken) {
     match taken {
         Taken::Whole { length } => put_number(draft, ": whole, ", length),
         Taken::NotYet => draft.put(": not yet\n"),

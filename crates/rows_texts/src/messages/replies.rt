@@ -15,7 +15,7 @@ const PAGE: &str =
 const GATE: &str = "http://lc.example/connections?departureTime=2024-05-01T08:00:00.000Z";
 
 /// A line for each reply.
-pub fn put_replies(alloc: Global, draft: &mut Draft) {
+pub(super) fn put_replies(alloc: Global, draft: &mut Draft) {
     put_redirect(alloc, draft);
     put_page(alloc, draft);
     put_stops(alloc, draft);

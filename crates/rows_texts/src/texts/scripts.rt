@@ -108,7 +108,7 @@ const NO_MESSAGES: [&str; 3] = [
 ];
 
 /// Lines for each of these tables.
-pub fn put_scripts(alloc: Global, draft: &mut Draft) {
+pub(super) fn put_scripts(alloc: Global, draft: &mut Draft) {
     for row in &SCRIPTS {
         put_script(alloc, draft, row.as_bytes());
     }

@@ -2,7 +2,7 @@
 ghost use Rattle.std.specs.Prelude.{◌≡◌, IfSome};
 ghost use Rattle.http_text.specs.declared.taken.Taken.TheVariants.{Whole as WholeRequest};
 
-use crate::recorded::{CURL, CURL_1_0, CURL_HEAD, CURL_POST, CURL_PROXY, NGINX, WGET, WRK};
+use super::recorded::{CURL, CURL_1_0, CURL_HEAD, CURL_POST, CURL_PROXY, NGINX, WGET, WRK};
 use connection_uri::Base;
 use http_text::{Field, HeadRoom, Member, Request, Taken, read_request, request_text};
 use lc_model::{Moment, PlainData};
@@ -35,7 +35,7 @@ const POSTED: &str =
     "POST /a?b=1&b=%C3%BC+x&&c HTTP/1.1\r\nHost:\tx \r\nContent-Length: 2\r\n\r\nab";
 
 /// A line for each of the requests, lines for the query and the fields of one, and lines for two that are written.
-pub fn put_requests(alloc: Global, draft: &mut Draft, room: &mut HeadRoom) {
+pub(super) fn put_requests(alloc: Global, draft: &mut Draft, room: &mut HeadRoom) {
     for bytes in &REQUESTS {
         put_request(alloc, draft, room, bytes.as_bytes());
     }

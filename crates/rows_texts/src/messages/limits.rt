@@ -1,5 +1,5 @@
 //! The limits of a head.
-use crate::taking::put_answer;
+use super::taking::put_answer;
 use http_text::{HeadRoom, Reply, ReplyFault, read_reply};
 use rows_common::Draft;
 use std::alloc::Global;
@@ -27,7 +27,7 @@ const WIDE_HEADS: [(&str, usize); 5] = [
 ];
 
 /// Lines for heads near each of the limits.
-pub fn put_limits(alloc: Global, draft: &mut Draft, room: &mut HeadRoom) {
+pub(super) fn put_limits(alloc: Global, draft: &mut Draft, room: &mut HeadRoom) {
     for &(value, end) in &LONG_HEADS {
         put_long_head(alloc, draft, room, value, end);
     }
