@@ -1,5 +1,5 @@
 #!/usr/bin/env python3
-"""Prints what crates/rows_drill has to print, by another program: python3 bench/drill_input.py
+"""Prints the last lines that crates/rows_commands has to print, by another program: python3 bench/drill_input.py
 
 It writes the generated files of three drills by itself, with the tag, length and number of each field of a message by hand, and says how
 many bytes each has and what they sum up to (FNV-1a, 64 bits). The script of the first drill is printed whole.

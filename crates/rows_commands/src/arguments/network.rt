@@ -1,11 +1,11 @@
 //! What the arguments of the commands over the network say.
-use crate::commands::{put_window, put_word};
-use crate::words::put_publishing;
+use super::commands::{put_window, put_word};
+use super::words::put_publishing;
 use cli_words::{Plan, Relay, Serve};
 use rows_common::Draft;
 
 /// Arguments of `serve`.
-pub const SERVES: [&str; 49] = [
+pub(super) const SERVES: [&str; 49] = [
     "serve tiny 20240501 --port 8080 --connections 3",
     "serve --port=80 --connections=1 tiny 20240501",
     "serve tiny --port 08080 20240501 --connections 0001000000",
@@ -58,7 +58,7 @@ pub const SERVES: [&str; 49] = [
 ];
 
 /// Arguments of `plan`.
-pub const PLANS: [&str; 30] = [
+pub(super) const PLANS: [&str; 30] = [
     "plan http://localhost:8080/ asks.csv",
     "plan http://localhost:80/ asks.csv --cache 1",
     "plan HTTP://LocalHost:8080 asks.csv",
@@ -92,7 +92,7 @@ pub const PLANS: [&str; 30] = [
 ];
 
 /// Arguments of `relay`, and its option at other commands.
-pub const RELAYS: [&str; 32] = [
+pub(super) const RELAYS: [&str; 32] = [
     "relay http://lc.example/ a.csv",
     "relay http://localhost:8080/ a.csv --cache 1",
     "relay --entries=1 http://x a.csv",
@@ -128,7 +128,7 @@ pub const RELAYS: [&str; 32] = [
 ];
 
 /// A server: its feed and window, how it publishes, its port and connections, the message, and whether it takes messages.
-pub fn put_serve(draft: &mut Draft, serve: &Serve) {
+pub(super) fn put_serve(draft: &mut Draft, serve: &Serve) {
     draft.put("serve ");
     draft.put(serve.published.window.feed.as_str());
     put_window(draft, &serve.published.window);
@@ -149,7 +149,7 @@ fn put_door(draft: &mut Draft, serve: &Serve) {
 }
 
 /// A plan: its base, the name of its questions, and how many pages it caches.
-pub fn put_plan(draft: &mut Draft, plan: &Plan) {
+pub(super) fn put_plan(draft: &mut Draft, plan: &Plan) {
     draft.put("plan ");
     draft.put(plan.base.text());
     put_word(draft, &plan.asks.as_str());
@@ -157,7 +157,7 @@ pub fn put_plan(draft: &mut Draft, plan: &Plan) {
 }
 
 /// A plan through a relay: its base, the name of its questions, how many pages it caches, and how many documents the relay keeps.
-pub fn put_relay(draft: &mut Draft, relay: &Relay) {
+pub(super) fn put_relay(draft: &mut Draft, relay: &Relay) {
     draft.put("relay ");
     draft.put(relay.base.text());
     put_word(draft, &relay.asks.as_str());

@@ -1,12 +1,12 @@
 //! Arguments of `drill`, and of the replay that it plays.
-use crate::commands::{put_said, put_word};
+use super::commands::{put_said, put_word};
 use cli_words::{Command, Drill, drilled_replay};
 use lc_model::NoMemory;
 use rows_common::Draft;
 use std::alloc::Global;
 
 /// Arguments of `drill`.
-pub static DRILLS: [&str; 28] = [
+pub(super) static DRILLS: [&str; 28] = [
     "drill 1",
     "drill 20 --days 7",
     "drill --days=2 1000000",
@@ -38,14 +38,14 @@ pub static DRILLS: [&str; 28] = [
 ];
 
 /// A drill: its number and its days.
-pub fn put_drill(draft: &mut Draft, drill: &Drill) {
+pub(super) fn put_drill(draft: &mut Draft, drill: &Drill) {
     draft.put("drill ");
     draft.put_shown(&drill.seed);
     put_word(draft, &drill.days);
 }
 
 /// The line of the replay that a drill of so many days plays.
-pub fn put_drilled(alloc: Global, draft: &mut Draft) {
+pub(super) fn put_drilled(alloc: Global, draft: &mut Draft) {
     let drill = Drill { seed: 1, days: 3 };
     draft.put("played by drill 1 --days 3: ");
     put_said(draft, &drilled(alloc, &drill));

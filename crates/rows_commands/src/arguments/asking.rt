@@ -1,13 +1,13 @@
 //! What the arguments of the commands say that ask one question without a cache.
-use crate::commands::{put_question, put_window, put_word};
-use crate::options::put_known;
-use crate::words::put_publishing;
+use super::commands::{put_question, put_window, put_word};
+use super::options::put_known;
+use super::words::put_publishing;
 use cli_words::{Arrive, Fewest, Published};
 use lc_model::Moment;
 use rows_common::Draft;
 
 /// Arguments of `fewest`.
-pub const FEWESTS: [&str; 34] = [
+pub(super) const FEWESTS: [&str; 34] = [
     "fewest tiny A D 2024-05-01T08:00:00Z",
     "fewest -- tiny A D 2024-05-01T08:00:00Z",
     "fewest --days=3 tiny A D 2024-05-01T08:00:00Z --zone utc",
@@ -45,7 +45,7 @@ pub const FEWESTS: [&str; 34] = [
 ];
 
 /// Arguments of `arrive`. The first moment by which a question may ask to arrive is a week after the first at which one may leave.
-pub const ARRIVES: [&str; 34] = [
+pub(super) const ARRIVES: [&str; 34] = [
     "arrive tiny A D 2024-05-01T08:00:00Z",
     "arrive tiny A -- D 2024-05-01T08:00:00Z",
     "arrive --days=3 tiny A D 2024-05-01T08:00:00Z --zone utc",
@@ -83,7 +83,7 @@ pub const ARRIVES: [&str; 34] = [
 ];
 
 /// A question for the fewest rides: its feed, its question and window, how it is published, the message, and the known moment.
-pub fn put_fewest(draft: &mut Draft, fewest: &Fewest) {
+pub(super) fn put_fewest(draft: &mut Draft, fewest: &Fewest) {
     draft.put("fewest ");
     draft.put(fewest.published.window.feed.as_str());
     put_question(draft, &fewest.query);
@@ -91,7 +91,7 @@ pub fn put_fewest(draft: &mut Draft, fewest: &Fewest) {
 }
 
 /// A question for the latest departure: what one for the fewest rides has.
-pub fn put_arrive(draft: &mut Draft, arrive: &Arrive) {
+pub(super) fn put_arrive(draft: &mut Draft, arrive: &Arrive) {
     draft.put("arrive ");
     draft.put(arrive.published.window.feed.as_str());
     put_arrival(draft, arrive);

@@ -1,5 +1,5 @@
-use crate::commands::put_said;
-use crate::options::{put_client, put_published};
+use super::commands::put_said;
+use super::options::{put_client, put_published};
 use cli_words::{Command, Publishing, read_words};
 use fragmenter::Cutting;
 use lc_model::NoMemory;
@@ -7,7 +7,7 @@ use rows_common::Draft;
 use std::alloc::Global;
 
 /// The command that the arguments of a text say, which spaces part.
-pub fn command_of(alloc: Global, words: &str) -> Result<Option<Command>, NoMemory> {
+pub(super) fn command_of(alloc: Global, words: &str) -> Result<Option<Command>, NoMemory> {
     let mut list = Vec::new(alloc);
     push_words(alloc, &mut list, words)?;
     read_words(alloc, list.as_slice())
@@ -22,14 +22,14 @@ fn push_words(alloc: Global, list: &mut Vec<String>, words: &str) -> Result<(), 
 
 /// What is said of a command.
 #[derive(Clone, Copy)]
-pub enum Side {
+pub(super) enum Side {
     Words,
     Publishing,
     Client,
 }
 
 /// The end of a line: what was read. One function lets go of each command that was read.
-pub fn put_read(draft: &mut Draft, read: Result<Option<Command>, NoMemory>, side: Side) {
+pub(super) fn put_read(draft: &mut Draft, read: Result<Option<Command>, NoMemory>, side: Side) {
     put_side(draft, &read, side);
     draft.put("\n");
 }
@@ -43,7 +43,7 @@ fn put_side(draft: &mut Draft, read: &Result<Option<Command>, NoMemory>, side: S
 }
 
 /// How the timetable is published.
-pub fn put_publishing(draft: &mut Draft, publishing: &Publishing) {
+pub(super) fn put_publishing(draft: &mut Draft, publishing: &Publishing) {
     draft.put(publishing.base.text());
     draft.put(" ");
     draft.put_shown(&publishing.base_moment.seconds());

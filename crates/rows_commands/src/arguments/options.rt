@@ -1,5 +1,5 @@
 //! What the options of a question say.
-use crate::words::{Side, command_of, put_publishing, put_read};
+use super::words::{Side, command_of, put_publishing, put_read};
 use cli_words::{Ask, Command};
 use lc_model::{Moment, NoMemory, Text};
 use rows_common::{Draft, Unmade};
@@ -59,7 +59,7 @@ const CLIENT: [&str; 18] = [
 ];
 
 /// A line for each row of these tables.
-pub fn put_options(alloc: Global, draft: &mut Draft) {
+pub(super) fn put_options(alloc: Global, draft: &mut Draft) {
     for options in &PUBLISHING {
         put_published_by(alloc, draft, *options);
     }
@@ -87,7 +87,7 @@ fn put_published_by(alloc: Global, draft: &mut Draft, options: &str) {
 }
 
 /// How the timetable is published.
-pub fn put_published(draft: &mut Draft, read: &Result<Option<Command>, NoMemory>) {
+pub(super) fn put_published(draft: &mut Draft, read: &Result<Option<Command>, NoMemory>) {
     match read {
         Ok(Some(Command::Ask(ask))) => put_publishing(draft, &ask.published.publishing),
         other => put_other(draft, other),
@@ -119,7 +119,7 @@ fn put_client_by(alloc: Global, draft: &mut Draft, options: &str) {
 }
 
 /// What the options of a client say, and which moment's knowledge is meant.
-pub fn put_client(draft: &mut Draft, read: &Result<Option<Command>, NoMemory>) {
+pub(super) fn put_client(draft: &mut Draft, read: &Result<Option<Command>, NoMemory>) {
     match read {
         Ok(Some(Command::Ask(ask))) => put_client_of(draft, ask),
         other => put_other(draft, other),
@@ -133,7 +133,7 @@ fn put_client_of(draft: &mut Draft, ask: &Ask) {
 }
 
 /// The name of the file with a message, and which moment's knowledge is meant.
-pub fn put_known(draft: &mut Draft, update: &Option<Text>, known: Option<Moment>) {
+pub(super) fn put_known(draft: &mut Draft, update: &Option<Text>, known: Option<Moment>) {
     draft.put(match update {
         Some(name) => name.as_str(),
         None => "-",

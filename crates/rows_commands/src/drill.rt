@@ -1,23 +1,20 @@
-//! Prints how many bytes the generated files of drills have, and what they sum up to. The expected lines are in `stdout`, and
-//! `bench/drill_input.py` made them.
-#![tactic(auto)]
-
+//! How many bytes the generated files of drills have, and what they sum up to. `bench/drill_input.py` made the expected lines.
 use cli_drill::drill_files;
 use lc_io::File;
-use rows_common::{Unmade, exit_code};
+use rows_common::{Draft, Unmade};
 use std::alloc::Global;
-use std::process::ExitCode;
 
 /// The number of a drill, and its days.
 static DRILLS: [(u32, u32); 3] = [(1, 1), (25, 7), (1_000_000, 3)];
 
-fn main(rt: HostRuntime) -> ExitCode {
-    let mut text = String::new(rt.alloc());
-    let made = put_cases(rt.alloc(), &mut text);
-    exit_code(made, print!(rt; "{text}"))
+/// A line for each drill and for each of its files.
+pub(crate) fn put_drills(alloc: Global, draft: &mut Draft) {
+    let mut text = String::new(alloc);
+    let made = put_all(alloc, &mut text);
+    draft.put_part(text.as_str(), made);
 }
 
-fn put_cases(alloc: Global, text: &mut String) -> Result<(), Unmade> {
+fn put_all(alloc: Global, text: &mut String) -> Result<(), Unmade> {
     for &(seed, days) in &DRILLS {
         put_drill(alloc, text, seed, days)?;
     }

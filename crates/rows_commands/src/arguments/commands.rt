@@ -1,8 +1,8 @@
 //! What the arguments of each command say.
-use crate::asking::{ARRIVES, FEWESTS, put_arrive, put_fewest};
-use crate::drills::{DRILLS, put_drill};
-use crate::network::{PLANS, RELAYS, SERVES, put_plan, put_relay, put_serve};
-use crate::words::{Side, command_of, put_publishing, put_read};
+use super::asking::{ARRIVES, FEWESTS, put_arrive, put_fewest};
+use super::drills::{DRILLS, put_drill};
+use super::network::{PLANS, RELAYS, SERVES, put_plan, put_relay, put_serve};
+use super::words::{Side, command_of, put_publishing, put_read};
 use cli_words::{Ask, Check, Command, FeedWindow, Replay, read_words};
 use lc_model::{NoMemory, Query, ServiceDate};
 use lc_time::date_text;
@@ -109,7 +109,7 @@ const REPLAYS: [&str; 32] = [
 ];
 
 /// A line for each row of these tables, and one for no argument.
-pub fn put_commands(alloc: Global, draft: &mut Draft) {
+pub(super) fn put_commands(alloc: Global, draft: &mut Draft) {
     put_table(alloc, draft, &COMMANDS);
     put_table(alloc, draft, &REPLAYS);
     put_table(alloc, draft, &SERVES);
@@ -136,7 +136,7 @@ fn put_words(alloc: Global, draft: &mut Draft, words: &str) {
 }
 
 /// What the arguments of a command say.
-pub fn put_said(draft: &mut Draft, read: &Result<Option<Command>, NoMemory>) {
+pub(super) fn put_said(draft: &mut Draft, read: &Result<Option<Command>, NoMemory>) {
     match read {
         Ok(Some(Command::Check(check))) => put_check(draft, check),
         Ok(Some(Command::Ask(ask))) => put_ask(draft, ask),
@@ -159,7 +159,7 @@ fn put_check(draft: &mut Draft, check: &Check) {
 }
 
 /// A window without its feed.
-pub fn put_window(draft: &mut Draft, window: &FeedWindow) {
+pub(super) fn put_window(draft: &mut Draft, window: &FeedWindow) {
     put_date(draft, window.first);
     put_word(draft, &window.days);
     put_word(draft, &window.zone.as_str());
@@ -167,7 +167,7 @@ pub fn put_window(draft: &mut Draft, window: &FeedWindow) {
 }
 
 /// A space, and what is shown after it.
-pub fn put_word<T: Display>(draft: &mut Draft, shown: &T) {
+pub(super) fn put_word<T: Display>(draft: &mut Draft, shown: &T) {
     draft.put(" ");
     draft.put_shown(shown);
 }
@@ -187,7 +187,7 @@ fn put_ask(draft: &mut Draft, ask: &Ask) {
 }
 
 /// A question: its stops, when it leaves, and its horizon.
-pub fn put_question(draft: &mut Draft, query: &Query) {
+pub(super) fn put_question(draft: &mut Draft, query: &Query) {
     put_word(draft, &query.from.as_str());
     put_word(draft, &query.to.as_str());
     put_word(draft, &query.leave.seconds());
