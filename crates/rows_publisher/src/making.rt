@@ -53,7 +53,7 @@ enum Pages {
 }
 
 /// What a publisher under `http://lc.example/` is made of.
-pub struct Plan {
+pub(crate) struct Plan {
     /// How many of the trips it has, from the first one on.
     trips: usize,
     stops: &'static str,
@@ -64,7 +64,7 @@ pub struct Plan {
 }
 
 /// With pages by half hours, and with messages taken.
-pub static BY_HALF_HOURS: Plan = Plan {
+pub(crate) static BY_HALF_HOURS: Plan = Plan {
     trips: 5,
     stops: STOPS,
     start: AT_SIX,
@@ -73,7 +73,7 @@ pub static BY_HALF_HOURS: Plan = Plan {
 };
 
 /// With a page for each connection.
-pub static ONE_BY_ONE: Plan = Plan {
+pub(crate) static ONE_BY_ONE: Plan = Plan {
     trips: 5,
     stops: STOPS,
     start: AT_SIX,
@@ -82,7 +82,7 @@ pub static ONE_BY_ONE: Plan = Plan {
 };
 
 /// With one page for all connections.
-pub static WHOLE: Plan = Plan {
+pub(crate) static WHOLE: Plan = Plan {
     trips: 5,
     stops: STOPS,
     start: AT_SIX,
@@ -91,7 +91,7 @@ pub static WHOLE: Plan = Plan {
 };
 
 /// With the trip T1 alone.
-pub static ALONE: Plan = Plan {
+pub(crate) static ALONE: Plan = Plan {
     trips: 1,
     stops: STOPS,
     start: AT_SIX,
@@ -100,7 +100,7 @@ pub static ALONE: Plan = Plan {
 };
 
 /// Without trips and stops.
-pub static OF_NOTHING: Plan = Plan {
+pub(crate) static OF_NOTHING: Plan = Plan {
     trips: 0,
     stops: NO_STOPS,
     start: AT_SIX,
@@ -109,7 +109,7 @@ pub static OF_NOTHING: Plan = Plan {
 };
 
 /// Without trips and stops, from the first moment on.
-pub static AT_FIRST: Plan = Plan {
+pub(crate) static AT_FIRST: Plan = Plan {
     trips: 0,
     stops: NO_STOPS,
     start: 0,
@@ -117,7 +117,16 @@ pub static AT_FIRST: Plan = Plan {
     accept_updates: false,
 };
 
-pub fn publisher(alloc: Global, plan: &Plan) -> Result<Publisher<Cutting>, Unmade> {
+/// Without trips and stops, and with messages taken.
+pub(crate) static TAKING: Plan = Plan {
+    trips: 0,
+    stops: NO_STOPS,
+    start: AT_SIX,
+    pages: Pages::Whole,
+    accept_updates: true,
+};
+
+pub(crate) fn publisher(alloc: Global, plan: &Plan) -> Result<Publisher<Cutting>, Unmade> {
     let options = options(alloc, plan.accept_updates)?;
     let doc = read_stops(alloc, plan.stops.as_bytes())?;
     publisher_of(alloc, plan, doc, options)
@@ -246,6 +255,6 @@ fn timed(second: u32) -> Option<Event> {
     })
 }
 
-pub fn bytes(alloc: Global, text: &str) -> Result<Bytes, Unmade> {
+pub(crate) fn bytes(alloc: Global, text: &str) -> Result<Bytes, Unmade> {
     Ok(Bytes::from_list(text.as_bytes().to_vec(alloc)?))
 }

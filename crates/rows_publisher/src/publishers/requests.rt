@@ -1,10 +1,10 @@
 //! The requests of the publishers' cases.
 
 /// The head of a request with its empty line, the word of its message, and so many characters of its reply that are shown.
-pub type Asked = (&'static str, &'static str, usize);
+pub(super) type Asked = (&'static str, &'static str, usize);
 
 /// More than a reply has characters.
-pub const ALL: usize = 1_000_000;
+pub(super) const ALL: usize = 1_000_000;
 
 /// A message of 07:00:00 by which T1 arrives at its second call 60 seconds late.
 const LATE: &[u8] =
@@ -19,7 +19,7 @@ const SKIPPED: &[u8] =
     b"\x0a\x0d\x0a\x032.0\x10\x00\x18\xf0\xd0\xc7\xb1\x06\x12\x1b\x0a\x011\x1a\x16\x0a\x0e\x0a\x02T1\x1a\x0820240501\x12\x04\x08\x02\x28\x01";
 
 /// The message of a word, or no bytes.
-pub fn message(word: &str) -> &'static [u8] {
+pub(super) fn message(word: &str) -> &'static [u8] {
     match word {
         "late" => LATE,
         "cut" => CUT,
@@ -29,7 +29,7 @@ pub fn message(word: &str) -> &'static [u8] {
 }
 
 /// Messages; the time gate, of pages by half hours; and those pages, and other documents.
-pub static BY_HALF_HOURS: [Asked; 17] = [
+pub(super) static BY_HALF_HOURS: [Asked; 17] = [
     ("POST /updates HTTP/1.1\r\nHost: x\r\n\r\n", "", ALL),
     (
         "POST /updates HTTP/1.1\r\nHost: x\r\nContent-Length: 40\r\n\r\n",
@@ -102,7 +102,7 @@ pub static BY_HALF_HOURS: [Asked; 17] = [
 ];
 
 /// A page for each connection: those of the base.
-pub static ONE_BY_ONE: [Asked; 3] = [
+pub(super) static ONE_BY_ONE: [Asked; 3] = [
     (
         "GET /connections?departureTime=2024-05-01T08:30:00Z HTTP/1.1\r\nHost: x\r\n\r\n",
         "",
@@ -121,14 +121,14 @@ pub static ONE_BY_ONE: [Asked; 3] = [
 ];
 
 /// One page for all connections.
-pub static WHOLE: [Asked; 1] = [(
+pub(super) static WHOLE: [Asked; 1] = [(
     "HEAD /memento/connections?version=2024-05-01T06:00:00Z&departureTime=2024-05-01T08:30:00Z HTTP/1.1\r\nHost: x\r\n\r\n",
     "",
     ALL,
 )];
 
 /// Without trips and stops, and with no messages taken.
-pub static OF_NOTHING: [Asked; 4] = [
+pub(super) static OF_NOTHING: [Asked; 4] = [
     ("GET /stops HTTP/1.1\r\nHost: x\r\n\r\n", "", ALL),
     (
         "HEAD /connections?departureTime=2024-05-01T08:00:00Z HTTP/1.1\r\nHost: x\r\n\r\n",

@@ -9,7 +9,7 @@ use std::str;
 static NAMES: [&str; 4] = ["stops.txt", "absent.txt", "stops\0.txt", "."];
 
 /// A line for each row of `NAMES`.
-pub fn put_files(alloc: Global, draft: &mut Draft, rt: &HostRuntime) {
+pub(super) fn put_files(alloc: Global, draft: &mut Draft, rt: &HostRuntime) {
     let mut folder = DirFolder::new(rt);
     for name in &NAMES {
         draft.put_escaped(name.as_bytes());
@@ -48,7 +48,7 @@ fn put_file(draft: &mut Draft, bytes: &[u8]) {
 }
 
 /// The system's standard output takes a line, which comes before all others.
-pub fn put_output(draft: &mut Draft, rt: &HostRuntime) {
+pub(super) fn put_output(draft: &mut Draft, rt: &HostRuntime) {
     let mut out = StdSink::new(rt);
     let written = put_all(&mut out, b"a line of a test\n").is_ok();
     draft.put("standard output: written ");

@@ -1,5 +1,5 @@
 //! What happens on the connections of the cases, each with a session of its own over one publisher.
-use crate::tables::{Case, Step};
+use super::tables::{Case, Step};
 use fragmenter::Cutting;
 use lc_model::NoMemory;
 use publisher::Publisher;
@@ -8,7 +8,7 @@ use std::alloc::Global;
 use wire_session::{Fed, Session};
 
 /// The lines of a connection.
-pub fn put_case(
+pub(super) fn put_case(
     alloc: Global,
     draft: &mut Draft,
     publisher: &mut Publisher<Cutting>,
@@ -102,7 +102,7 @@ fn put_session(draft: &mut Draft, session: &Session) {
 const LONG_HEADS: [(usize, usize); 2] = [(16_383, 16_355), (16_384, 16_356)];
 
 /// Lines for heads that do not end, a byte below the limit of 16,384 bytes and at it, in pieces of a thousand bytes.
-pub fn put_long_heads(alloc: Global, draft: &mut Draft, publisher: &mut Publisher<Cutting>) {
+pub(super) fn put_long_heads(alloc: Global, draft: &mut Draft, publisher: &mut Publisher<Cutting>) {
     for &(length, value) in &LONG_HEADS {
         put_long_head(alloc, draft, publisher, length, value);
     }
@@ -144,7 +144,7 @@ fn put_in_pieces(
 const PLAIN: &str = "GET / HTTP/1.1\r\nHost: x\r\n\r\n";
 
 /// Lines for 99 requests, and for two more.
-pub fn put_hundred(alloc: Global, draft: &mut Draft, publisher: &mut Publisher<Cutting>) {
+pub(super) fn put_hundred(alloc: Global, draft: &mut Draft, publisher: &mut Publisher<Cutting>) {
     let mut requests = Draft::new(alloc);
     requests.put_times(PLAIN, 99);
     draft.also(&requests);

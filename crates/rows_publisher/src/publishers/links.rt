@@ -17,7 +17,7 @@ const NOT_WHOLE: &[u8] = b"GET /stops HTTP/1.1\r\nHost: lc.example\r\n";
 const NOT_FOUND: &str = "HTTP/1.1 404 Not Found\r\nContent-Length: 0\r\n\r\n";
 
 /// The lines of the links, each of which leaves its replies at one place.
-pub fn put_links(alloc: Global, draft: &mut Draft) {
+pub(super) fn put_links(alloc: Global, draft: &mut Draft) {
     let mut reply = Vec::new(alloc);
     put_local(alloc, draft, &mut reply);
     put_faulty(alloc, draft, &mut reply);

@@ -1,26 +1,17 @@
-//! Prints what sessions of HTTP connections reply, however the bytes are cut, a line for what comes, for the comparison with `stdout`.
-#![tactic(auto)]
-
-mod making;
+//! What sessions of HTTP connections reply, however the bytes are cut.
 mod steps;
 mod tables;
 
+use crate::making::{TAKING, publisher};
 use fragmenter::Cutting;
 use publisher::Publisher;
-use rows_common::{Draft, Unmade, exit_code};
+use rows_common::{Draft, Unmade};
 use std::alloc::Global;
-use std::process::ExitCode;
 use tables::{Case, OF_MESSAGES, OF_REQUESTS};
 
-fn main(rt: HostRuntime) -> ExitCode {
-    let mut draft = Draft::new(rt.alloc());
-    put_cases(rt.alloc(), &mut draft);
-    let printed = print!(rt; "{}", draft.as_str());
-    exit_code(draft.made(), printed)
-}
-
-fn put_cases(alloc: Global, draft: &mut Draft) {
-    match making::publisher(alloc) {
+/// A line for what comes in each case.
+pub(crate) fn put_sessions(alloc: Global, draft: &mut Draft) {
+    match publisher(alloc, &TAKING) {
         Ok(mut publisher) => put_tables(alloc, draft, &mut publisher),
         Err(Unmade) => draft.lose(),
     }

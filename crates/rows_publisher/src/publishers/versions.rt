@@ -1,7 +1,7 @@
 //! What a publisher replies where more versions are asked for than it caches the cuts of.
+use super::replies::put_reply;
+use super::requests::ALL;
 use crate::making::{BY_HALF_HOURS, publisher};
-use crate::replies::put_reply;
-use crate::requests::ALL;
 use fragmenter::Cutting;
 use http_text::HeadRoom;
 use publisher::Publisher;
@@ -18,7 +18,7 @@ const AT_SIX: u32 = 1_714_543_200;
 const PLACE: usize = 158;
 
 /// The versions are asked in turn twice. By the message of each, T1 departs from its second stop another minute later, where a page begins.
-pub fn put_versions(alloc: Global, draft: &mut Draft, room: &mut HeadRoom) {
+pub(super) fn put_versions(alloc: Global, draft: &mut Draft, room: &mut HeadRoom) {
     match publisher(alloc, &BY_HALF_HOURS) {
         Ok(mut publisher) => put_rounds(alloc, draft, room, &mut publisher),
         Err(Unmade) => draft.lose(),

@@ -2,7 +2,7 @@
 
 /// What happens on a connection.
 #[derive(Clone, Copy)]
-pub enum Step {
+pub(super) enum Step {
     /// These bytes come in one piece.
     Comes(&'static [u8]),
     /// These bytes come, so many in each piece.
@@ -14,7 +14,7 @@ pub enum Step {
 }
 
 /// The name of a connection, and what happens on it.
-pub type Case = (&'static str, &'static [Step]);
+pub(super) type Case = (&'static str, &'static [Step]);
 
 /// Two requests.
 const TWO: &[u8] = b"GET / HTTP/1.1\r\nHost: x\r\n\r\nGET /stops HTTP/1.1\r\nHost: x\r\n\r\n";
@@ -53,7 +53,7 @@ const POSTED: &[u8] =
 const GATE: &[u8] = b"GET /connections HTTP/1.1\r\nHost: x\r\n\r\n";
 
 /// Requests that leave the publisher as it is.
-pub static OF_REQUESTS: [Case; 11] = [
+pub(super) static OF_REQUESTS: [Case; 11] = [
     ("two in one piece", &[Step::Comes(TWO)]),
     ("two in pieces of one byte", &[Step::ComesBy(TWO, 1)]),
     ("two in pieces of seven", &[Step::ComesBy(TWO, 7)]),
@@ -83,7 +83,7 @@ pub static OF_REQUESTS: [Case; 11] = [
 ];
 
 /// Messages that are posted on one connection, and what is replied on the next ones.
-pub static OF_MESSAGES: [Case; 3] = [
+pub(super) static OF_MESSAGES: [Case; 3] = [
     ("before a message", &[Step::Comes(GATE)]),
     (
         "a message in pieces of four",

@@ -1,7 +1,7 @@
 //! What publishers reply, each request after the others (RFC 9110; RFC 7089; Linked Connections 1.0).
+use super::requests;
+use super::requests::{ALL, Asked, message};
 use crate::making::{ALONE, BY_HALF_HOURS, OF_NOTHING, ONE_BY_ONE, Plan, WHOLE, publisher};
-use crate::requests;
-use crate::requests::{ALL, Asked, message};
 use fragmenter::Cutting;
 use http_text::{HeadRoom, Taken};
 use lc_model::NoMemory;
@@ -20,7 +20,7 @@ enum Then {
 }
 
 /// The lines of the publishers.
-pub fn put_replies(alloc: Global, draft: &mut Draft, room: &mut HeadRoom) {
+pub(super) fn put_replies(alloc: Global, draft: &mut Draft, room: &mut HeadRoom) {
     put_over(
         alloc,
         draft,
@@ -117,7 +117,7 @@ fn request(alloc: Global, head: &str, body: &[u8]) -> Result<Vec<u8>, Unmade> {
 }
 
 /// The reply to a whole request up to some length, with the ends of its lines written out.
-pub fn put_reply(
+pub(super) fn put_reply(
     alloc: Global,
     draft: &mut Draft,
     room: &mut HeadRoom,
