@@ -1,19 +1,21 @@
 //! A client over replies that were worked out by hand (Linked Connections 1.0; RFC 7089), honest ones and ones that lie.
-ghost use Rattle.std.specs.Prelude.{◌≡◌, ◌≢◌, ◌+◌, IfOk};
+mod asked;
+mod replies;
+
+ghost use Rattle.std.specs.Prelude.{◌≡◌, ◌≢◌};
 ghost use Rattle.page_client.specs.Client.{shown};
 ghost use Rattle.page_client.specs.Shown.{want_of};
 ghost use Rattle.page_client.specs.declared.want.Want.{Want as Wanted};
 
-use crate::asked::{CASES, CUT_OFF, Case, REQUESTS, replies_of};
-use crate::replies::put_reply;
+use crate::making::{MIDNIGHT, id, moment};
+use crate::said::put_faults;
+use asked::{CASES, CUT_OFF, Case, REQUESTS, replies_of};
 use connection_uri::Base;
-use lc_model::{Id, Journey, Moment, PageName, Query};
+use lc_model::{Journey, Moment, PageName, Query};
 use page_client::{Client, Outcome, PeerFault, Want, one_reply, page_of};
+use replies::put_reply;
 use rows_common::{Draft, Unmade};
 use std::alloc::Global;
-
-/// 2024-05-01T00:00:00Z, from which the tables count their seconds.
-const MIDNIGHT: u64 = 1_714_521_600;
 
 /// What is asked of a client after its replies.
 #[derive(Clone, Copy)]
@@ -27,7 +29,7 @@ enum Then {
 }
 
 /// A line for each client.
-pub fn put_clients(alloc: Global, draft: &mut Draft) {
+pub(crate) fn put_clients(alloc: Global, draft: &mut Draft) {
     one_reply();
     match Base::read(alloc, b"http://lc.example/") {
         Ok(Some(base)) => put_under(alloc, draft, &base),
@@ -82,22 +84,6 @@ fn question(alloc: Global, case: &Case, known: Option<Moment>) -> Result<Query, 
         known,
         horizon,
     })
-}
-
-fn id(alloc: Global, text: &str) -> Result<Id, Unmade> {
-    match Id::new(alloc, text.as_bytes()) {
-        Ok(Some(id)) => Ok(id),
-        _ => Err(Unmade),
-    }
-}
-
-fn moment(second: u32) -> Result<Moment, Unmade>
-    ensures { IfOk result (λ moment. moment ≡ MIDNIGHT + second) }
-{
-    match Moment::new(MIDNIGHT + u64::from(second)) {
-        Some(moment) => Ok(moment),
-        None => Err(Unmade),
-    }
 }
 
 fn put_run(
@@ -200,13 +186,6 @@ fn put_outcome(draft: &mut Draft, outcome: Option<&Outcome>) {
         Some(Outcome::LinkFault { before, after }) => put_faults(draft, *before, *after),
         Some(Outcome::PeerWrong { fault, .. }) => draft.put_shown(fault),
     }
-}
-
-fn put_faults(draft: &mut Draft, before: u64, after: u64) {
-    draft.put("link fault ");
-    draft.put_shown(&before);
-    draft.put(" ");
-    draft.put_shown(&after);
 }
 
 fn put_journey(draft: &mut Draft, journey: &Journey) {

@@ -1,0 +1,175 @@
+//! Questions for a journey of the fewest rides, over links to publishers and over a list of replies.
+mod said;
+
+use crate::making::{NOT_FOUND, base, bytes, id, moment};
+use crate::publishing::{Served, link};
+use connection_uri::Base;
+use fragmenter::Cutting;
+use lc_links::{FaultyLink, LocalLink};
+use lc_model::Query;
+use lc_world::{Link, ListLink};
+use rounds_client::fewest;
+use rows_common::{Draft, Unmade};
+use said::{put_end, put_requests};
+use std::alloc::Global;
+
+/// T8 is at D with T3.
+const IN_TIME: &[Served] = &[("T8", "A", 28_800, 28_800), ("T8", "D", 30_660, 30_660)];
+
+/// T8 is at D a second after T3.
+const A_SECOND_LATER: &[Served] = &[("T8", "A", 28_800, 28_800), ("T8", "D", 30_661, 30_661)];
+
+/// A question from A, over Tiny with these calls too.
+struct Case {
+    name: &'static str,
+    more: &'static [Served],
+    to: &'static str,
+    /// The second of the day at which it leaves.
+    leave: u32,
+    horizon: u32,
+}
+
+static CASES: [Case; 7] = [
+    Case {
+        name: "at once and in time",
+        more: IN_TIME,
+        to: "D",
+        leave: 28_800,
+        horizon: 86_400,
+    },
+    Case {
+        name: "no other way",
+        more: &[],
+        to: "D",
+        leave: 28_800,
+        horizon: 86_400,
+    },
+    Case {
+        name: "at once, but later",
+        more: A_SECOND_LATER,
+        to: "D",
+        leave: 28_800,
+        horizon: 86_400,
+    },
+    Case {
+        name: "a second late",
+        more: &[],
+        to: "D",
+        leave: 28_801,
+        horizon: 86_400,
+    },
+    Case {
+        name: "no such stop",
+        more: &[],
+        to: "X",
+        leave: 28_800,
+        horizon: 86_400,
+    },
+    Case {
+        name: "to where it begins",
+        more: &[],
+        to: "A",
+        leave: 28_800,
+        horizon: 86_400,
+    },
+    Case {
+        name: "no horizon",
+        more: &[],
+        to: "D",
+        leave: 28_800,
+        horizon: 0,
+    },
+];
+
+/// The lines of the cases.
+pub(crate) fn put_rounds(alloc: Global, draft: &mut Draft) {
+    for case in &CASES {
+        put_case(alloc, draft, case);
+    }
+    put_faulty(alloc, draft);
+    put_list(alloc, draft);
+}
+
+fn put_case(alloc: Global, draft: &mut Draft, case: &Case) {
+    match link(alloc, case.more, false) {
+        Ok(mut link) => put_over(alloc, draft, case, &mut link),
+        Err(Unmade) => draft.lose(),
+    }
+}
+
+fn put_over(alloc: Global, draft: &mut Draft, case: &Case, link: &mut LocalLink<Cutting>) {
+    put_asking(alloc, draft, case, link);
+    put_requests(draft, link.recorded());
+}
+
+/// How the question ends over the link.
+fn put_asking<L: Link>(alloc: Global, draft: &mut Draft, case: &Case, link: &mut L) {
+    draft.put(case.name);
+    draft.put(": ");
+    match question(alloc, case) {
+        Ok(query) => put_asking_of(alloc, draft, query, link),
+        Err(Unmade) => draft.lose(),
+    }
+}
+
+fn put_asking_of<L: Link>(alloc: Global, draft: &mut Draft, query: Query, link: &mut L) {
+    match base(alloc) {
+        Ok(base) => put_answer(alloc, draft, query, &base, link),
+        Err(Unmade) => draft.lose(),
+    }
+}
+
+fn put_answer<L: Link>(alloc: Global, draft: &mut Draft, query: Query, base: &Base, link: &mut L) {
+    match fewest(alloc, query, base, link) {
+        Ok(end) => put_end(alloc, draft, &end),
+        Err(_) => draft.lose(),
+    }
+}
+
+fn question(alloc: Global, case: &Case) -> Result<Query, Unmade> {
+    let leave = moment(case.leave)?;
+    let from = id(alloc, "A")?;
+    let to = id(alloc, case.to)?;
+    Ok(Query {
+        from,
+        to,
+        leave,
+        known: None,
+        horizon: case.horizon,
+    })
+}
+
+/// The third exchange fails, which is for the first page.
+fn put_faulty(alloc: Global, draft: &mut Draft) {
+    draft.put("a link that fails, ");
+    match faulty(alloc) {
+        Ok(mut link) => put_asking(alloc, draft, &CASES[0], &mut link),
+        Err(Unmade) => draft.lose(),
+    }
+}
+
+fn faulty(alloc: Global) -> Result<FaultyLink<LocalLink<Cutting>>, Unmade> {
+    let fails = vec![in alloc; 3]?;
+    let inner = link(alloc, IN_TIME, false)?;
+    Ok(FaultyLink::new(inner, fails))
+}
+
+/// The first reply is that there is no such resource.
+fn put_list(alloc: Global, draft: &mut Draft) {
+    draft.put("a reply of another status, ");
+    match not_found(alloc) {
+        Ok(mut link) => put_over_list(alloc, draft, &mut link),
+        Err(Unmade) => draft.lose(),
+    }
+}
+
+fn not_found(alloc: Global) -> Result<ListLink, Unmade> {
+    let reply = bytes(alloc, NOT_FOUND)?;
+    let replies = vec![in alloc; reply]?;
+    Ok(ListLink::new(replies)?)
+}
+
+fn put_over_list(alloc: Global, draft: &mut Draft, link: &mut ListLink) {
+    put_asking(alloc, draft, &CASES[1], link);
+    put_requests(draft, link.recorded());
+}
