@@ -1,6 +1,6 @@
 -- What a text says, computed, is what it is the text of.
 use Rattle.std.proofs.Common.{◌≡◌, ◌∙◌, ℕ, ◌+◌, ◌-◌, ◌*◌, ◌/◌, ◌%◌, ◌<◌, ◌≤◌, inl, inr, Bool, true, false, cond, List, [], ◌∷◌, ◌++◌, length, take, drop, Option, Some, None, ap, refl, sym, arith}
-use Rattle.std.specs.Prelude.{nat_le, nat_lt, ◌==◌, ◌&&◌, slice_range, unwrap_or}
+use Rattle.std.specs.Prelude.{nat_le, nat_lt, ◌==◌, ◌&&◌, IfSome, slice_range, unwrap_or}
 use Rattle.std.specs.List.{list_all}
 use Rattle.std.specs.Char.{is_ascii_digit, digit_value}
 use Rattle.std.specs.Str.Parse.{digits_value}
@@ -237,6 +237,26 @@ clock_written (a ∷ b ∷ c ∷ d ∷ e ∷ f ∷ g ∷ h ∷ []) s is =
     let v = and_parts (c == 58) (f == 58) u.0 in
     clock_of_eight a b c d e f g h s v.0 v.1 u.1 (some_number _ s t.1)
 clock_written _ s is = absurd (none≢some s is)
+
+-- what a clock's text says is below 100 hours, and written there
+pub clock_in_range : (text : List ℕ) (said : Option ℕ) → said ≡ clock_said text → IfSome said (λ s. s < 360_000)
+clock_in_range text (Some s) e = (clock_written text s (sym e)).small
+clock_in_range text None e = tt
+
+pub clock_is_text : (text : List ℕ) (said : Option ℕ) → said ≡ clock_said text → IfSome said (λ s. text ≡ clock_text_of s)
+clock_is_text text (Some s) e = (clock_written text s (sym e)).written
+clock_is_text text None e = tt
+
+-- each number of a clock is of two digits
+pub clock_pairs : (a b d e g h : ℕ) → are_clock_digits a b d e g h ≡ true
+    → (list_all is_ascii_digit (a ∷ b ∷ []) ≡ true) × (list_all is_ascii_digit (d ∷ e ∷ []) ≡ true) × (list_all is_ascii_digit (g ∷ h ∷ []) ≡ true)
+clock_pairs a b d e g h test =
+    let t = and_parts (list_all is_ascii_digit (a ∷ b ∷ d ∷ e ∷ g ∷ h ∷ [])) (nat_lt (number_of d e) 60 && nat_lt (number_of g h) 60) test in
+    let p0 = first a (b ∷ d ∷ e ∷ g ∷ h ∷ []) t.0 in
+    let p1 = first b (d ∷ e ∷ g ∷ h ∷ []) p0.1 in
+    let p2 = first d (e ∷ g ∷ h ∷ []) p1.1 in
+    let p3 = first e (g ∷ h ∷ []) p2.1 in
+    (and_first a (b ∷ []) p0.0 (and_first b [] p1.0 refl), and_first d (e ∷ []) p2.0 (and_first e [] p3.0 refl), p3.1)
 
 six_digits : (h m s : ℕ) → h < 100 → m < 60 → s < 60
     → are_clock_digits (48 + h / 10) (48 + h % 10) (48 + m / 10) (48 + m % 10) (48 + s / 10) (48 + s % 10) ≡ true

@@ -1,7 +1,8 @@
-ghost use Rattle.std.specs.Prelude.{◌≡◌, ℕ, ◌<◌, Some, IfSome, IsAscii};
-ghost use Rattle.lc_time.specs.Clock.{clock_text_of, start_text_of, SaysGtfsTime};
+ghost use Rattle.std.specs.Prelude.{◌≡◌, ℕ, ◌+◌, ◌*◌, ◌<◌, Some, IfSome, IsAscii, IsTrue};
+ghost use Rattle.lc_time.specs.Clock.{are_clock_digits, clock_said, clock_text_of, start_text_of, SaysGtfsTime};
+ghost use Rattle.lc_time.specs.Digits.{number_of};
 
-use crate::digits::{number, two_digits};
+use crate::digits::{are_digits, number, two_digits};
 
 /// The first number of seconds whose hours two digits cannot count, 100 hours.
 pub const CLOCK_END: u32 = 360_000;
@@ -23,25 +24,35 @@ pub(crate) fn read_clock(text: &[u8]) -> Option<u32>
     ensures said { IfSome result (λ seconds. text.now ≡ clock_text_of seconds) }
     ensures exact { (seconds : ℕ) → seconds < CLOCK_END → text.now ≡ clock_text_of seconds → result ≡ Some seconds }
 {
-    let &[h0, h1, _, m0, m1, _, s0, s1] = text else {
+    clock_seconds(text)
+}
+
+// The seconds that the digits say. Digits are tested, and not written again: most of a feed are times.
+fn clock_seconds(text: &[u8]) -> Option<u32>
+    ensures { result ≡ clock_said text.now }
+{
+    let &[h0, h1, c0, m0, m1, c1, s0, s1] = text else {
         return None;
     };
-    let seconds = written_seconds([h0, h1, m0, m1, s0, s1]);
-    if seconds >= CLOCK_END {
-        return None;
-    }
-    if clock_text(seconds).as_slice() == text {
-        Some(seconds)
+    if c0 == b':' && c1 == b':' && is_clock(h0, h1, m0, m1, s0, s1) {
+        Some(seconds_of(h0, h1, m0, m1, s0, s1))
     } else {
         None
     }
 }
 
-/// The seconds that these digits would write. Whether they are digits is not tested.
-fn written_seconds(text: [u8; 6]) -> u32
-    ensures { (seconds : ℕ) → seconds < CLOCK_END → text ≡ start_text_of seconds → result ≡ seconds }
+// Whether these are two digits of hours, and two of minutes and of seconds up to 59.
+fn is_clock(h0: u8, h1: u8, m0: u8, m1: u8, s0: u8, s1: u8) -> bool
+    ensures { result ≡ are_clock_digits h0 h1 m0 m1 s0 s1 }
 {
-    let [h0, h1, m0, m1, s0, s1] = text;
+    are_digits(&[h0, h1, m0, m1, s0, s1]) && number(m0, m1) < 60 && number(s0, s1) < 60
+}
+
+// The seconds that these digits write.
+fn seconds_of(h0: u8, h1: u8, m0: u8, m1: u8, s0: u8, s1: u8) -> u32
+    requires { IsTrue (are_clock_digits h0 h1 m0 m1 s0 s1) }
+    ensures { result ≡ number_of h0 h1 * 3600 + number_of m0 m1 * 60 + number_of s0 s1 }
+{
     u32::from(number(h0, h1)) * 3600 + u32::from(number(m0, m1)) * 60 + u32::from(number(s0, s1))
 }
 

@@ -58,7 +58,7 @@ fn is_decimal(text: &[u8]) -> bool
     !text.is_empty() && text.len() <= 10 && are_digits(text)
 }
 
-fn are_digits(text: &[u8]) -> bool
+pub(crate) fn are_digits(text: &[u8]) -> bool
     ensures { result ≡ list_all is_ascii_digit text.now }
 {
     text.iter().all(|byte| byte.is_ascii_digit())
