@@ -9,8 +9,9 @@ use Rattle.std.specs.Cmp.{IsTotalOrder}
 use Rattle.std.specs.List.{AllPairs}
 use Rattle.std.specs.List.Sorted.{IsPermutation, IsSorted}
 use Rattle.std.specs.Option.{option_eq}
-use Rattle.std.specs.Ordering.{nat_cmp}
-use Rattle.std.specs.declared.cmp.Ordering.TheVariants.{Equal}
+use Rattle.std.specs.Ordering.{is_eq, nat_cmp, ordering_then}
+use Rattle.std.specs.declared.cmp.Ordering.{Ordering}
+use Rattle.std.specs.declared.cmp.Ordering.TheVariants.{Less, Equal, Greater}
 use Rattle.gtfs_rows.specs.Sheet.{Sheet}
 use Rattle.lc_model.specs.Order.{AreApart, IsStrict}
 use Rattle.lc_model.specs.Text.{id_cmp}
@@ -25,6 +26,17 @@ use Rattle.gtfs_trips.specs.StopTimeRows.{key_of, same_key, sequence_of, stop_ti
 use Rattle.gtfs_trips.specs.Trips.{trip_id_of}
 use Rattle.gtfs_trips.specs.Visits.{visit_at, visit_cmp, visits_of_rows}
 use Rattle.gtfs_trips.specs.declared.visits.Visit.{Visit}
+
+-- of two orders the second decides where the first ties, and else the first does
+pub then_tied : (o p : Ordering) → is_eq o ≡ true → ordering_then o p ≡ p
+then_tied Equal p tied = refl
+then_tied Less p tied = absurd (false≢true tied)
+then_tied Greater p tied = absurd (false≢true tied)
+
+pub then_apart : (o p : Ordering) → is_eq o ≡ false → ordering_then o p ≡ o
+then_apart Equal p apart = absurd (false≢true (sym apart))
+then_apart Less p apart = refl
+then_apart Greater p apart = refl
 
 pub visit_total : IsTotalOrder visit_cmp
 visit_total = then_total (on_total (λ (v : Visit). v.trip) nat_list_cmp_total) (on_total (λ (v : Visit). v.seq) nat_cmp_total)

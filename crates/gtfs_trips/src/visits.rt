@@ -117,5 +117,9 @@ pub(crate) fn by_trip(visits: Vec<Visit>) -> Result<Vec<Visit>, NoMemory>
 pub(crate) fn compare(x: &Visit, y: &Visit) -> Ordering
     ensures { result ≡ visit_cmp x.now y.now }
 {
-    x.trip.cmp(&y.trip).then(x.seq.cmp(&y.seq))
+    // Most rows are of the trip of the row before, and two ids are sooner seen to be one than put in order.
+    if x.trip == y.trip {
+        return x.seq.cmp(&y.seq);
+    }
+    x.trip.cmp(&y.trip)
 }
