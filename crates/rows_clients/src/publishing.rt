@@ -1,4 +1,4 @@
-//! Links to publishers of the small feed Tiny, with its own trips alone or with the trip T8, which goes from A to D at once.
+//! Links to publishers of the small feed Tiny, with its own trips alone or with T8, which goes from A to D at once.
 use crate::making::{MIDNIGHT, base, bytes};
 use fragmenter::{BySpan, Cutting};
 use lc_links::LocalLink;

@@ -1,4 +1,5 @@
-//! Messages about entity 1, written by protoc 3.21 from the text above each: T1 is late, and that is deleted.
+//! A message by which T1 is late, that with a field more, and one that deletes its entity. They were written by protoc 3.21 from the
+//! text above each.
 
 // A full message of 07:00:00 whose entity 1 makes T1 60 seconds late at its arrival of sequence 2:
 // header { gtfs_realtime_version: "2.0" incrementality: 0 timestamp: 1714546800 } entity { id: "1" trip_update {
