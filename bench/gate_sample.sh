@@ -48,17 +48,20 @@ def children():
             continue
         crate = re.search(r"--crate-name (\w+)", command)
         used = (int(stats[number][11]) + int(stats[number][12])) / TICKS
-        yield (number, stats[number][19]), used, crate[1] if crate else "other", "rt-edit" in at
+        yield (number, stats[number][19]), used, crate[1] if crate else "", "rt-edit" in at
 
 
 while gate.poll() is None:
     for key, used, crate, is_mutant in children():
+        # A large process takes a while to end, and has no command line by then.
+        if not crate and key in last:
+            crate, is_mutant = last[key][1:]
         last[key] = used, crate, is_mutant
     time.sleep(1)
 
 rows = collections.defaultdict(lambda: [0, 0])
 for used, crate, is_mutant in last.values():
-    rows[crate][is_mutant] += used
+    rows[crate or "other"][is_mutant] += used
 print("| crate | proof and builds | mutants | together |\n|---|---:|---:|---:|")
 for crate, (proof, mutants) in sorted(rows.items(), key=lambda it: -sum(it[1])):
     print(f"| `{crate}` | {proof:,.0f} | {mutants:,.0f} | {proof + mutants:,.0f} |")
