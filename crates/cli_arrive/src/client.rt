@@ -7,9 +7,7 @@ ghost use Rattle.cli_ask.specs.Below.LcWorld.Link.{IsQuietWith};
 ghost use Rattle.cli_ask.specs.Below.PublisherSpec.Side.{Side};
 
 use cli_ask::ClientEnd;
-use cli_ask::below::back_scan::ArriveQuery;
-use cli_ask::below::connection_uri::Base;
-use cli_ask::below::lc_world::Link;
+use cli_ask::below::{ArriveQuery, Base, Link};
 use laws_arrive::below::back_client::{ArriveEnd, arrive};
 use laws_arrive::latest_ends_right;
 use laws_arrive_replies::latest_by_its_replies;

@@ -1,8 +1,6 @@
 ghost use Rattle.cli_arrive.specs.Laws.{OneLatestOutput, SomeWanted};
 
-use cli_ask::below::lc_world::Link;
-use cli_ask::below::publisher::some_timetable;
-use cli_ask::below::version_store::one_outcome;
+use cli_ask::below::{Link, one_outcome, some_timetable};
 use laws_arrive::below::laws_journeys::some_least_arrival;
 use laws_arrive::one_latest_answer;
 

@@ -5,10 +5,7 @@ ghost use Rattle.cli_ask.specs.Below.LcWorld.GoneOn.{IsLeftByPasses};
 ghost use Rattle.cli_ask.specs.Below.VersionStore.declared.message_fault.MessageFault.TheVariants.{NoMemory as OutOfMemory};
 
 use crate::client::client_end;
-use cli_ask::below::back_scan::ArriveQuery;
-use cli_ask::below::cli_words::Publishing;
-use cli_ask::below::lc_world::{File, Link};
-use cli_ask::below::timetable::Timetable;
+use cli_ask::below::{ArriveQuery, File, Link, Publishing, Timetable};
 use cli_ask::{Asked, MessageFault, Opened, Unopened, open_home, printed};
 use std::alloc::Global;
 

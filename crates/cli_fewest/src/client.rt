@@ -7,9 +7,7 @@ ghost use Rattle.cli_ask.specs.Below.LcWorld.Link.{IsQuietWith};
 ghost use Rattle.cli_ask.specs.Below.PublisherSpec.Side.{Side};
 
 use cli_ask::ClientEnd;
-use cli_ask::below::connection_uri::Base;
-use cli_ask::below::laws_clients::steps_keep_agreement;
-use cli_ask::below::lc_world::Link;
+use cli_ask::below::{Base, Link, steps_keep_agreement};
 use laws_rounds::below::laws_fewest::fewest_at_version;
 use laws_rounds::below::rounds_client::{FewestEnd, fewest};
 use laws_rounds_replies::fewest_by_its_replies;

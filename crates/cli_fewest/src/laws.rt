@@ -1,7 +1,6 @@
 ghost use Rattle.cli_fewest.specs.Laws.{OneFewestOutput};
 
-use cli_ask::below::lc_world::Link;
-use cli_ask::below::version_store::one_outcome;
+use cli_ask::below::{Link, one_outcome};
 use cli_ask::one_output;
 use laws_rounds::below::laws_fewest::fewest_at_version;
 

@@ -4,8 +4,7 @@ ghost use Rattle.cli_inputs.specs.Inputs.{EndsUpdate, IsRefusedFor, ReadsInputs}
 ghost use Rattle.laws_replay.specs.Below.Timetable.Scope.{IsWindow};
 
 use crate::Refusal;
-use laws_replay::below::lc_world::{File, Folder, FolderFail};
-use laws_replay::below::timetable::{Scope, Timetable, load};
+use laws_replay::below::{File, Folder, FolderFail, Scope, Timetable, load};
 use lc_model::{Bytes, NoMemory, Text};
 use std::alloc::Global;
 

@@ -1,6 +1,6 @@
 ghost use Rattle.cli_inputs.specs.Laws.{OnePlan};
 
-use laws_replay::below::script_text::one_script;
+use laws_replay::below::one_script;
 
 /// Equal files say one script of questions and turns.
 pub fn one_plan()

@@ -8,8 +8,7 @@ ghost use Rattle.laws_replay.specs.Below.ScriptText.Script.{NamesNone};
 use crate::Refusal;
 use crate::script::read_records;
 use laws_replay::Event;
-use laws_replay::below::lc_world::Folder;
-use laws_replay::below::script_text::{Record, Script};
+use laws_replay::below::{Folder, Record, Script};
 use lc_model::{NoMemory, PlainData, Text};
 use std::alloc::Global;
 

@@ -1,5 +1,4 @@
-use laws_replay::below::timetable::LoadFault;
-use laws_replay::below::trip_updates::RtFault;
+use laws_replay::below::{LoadFault, RtFault};
 use lc_model::{NoMemory, Text};
 use std::alloc::AllocFailed;
 

@@ -7,10 +7,10 @@ ghost use Rattle.laws_replay.specs.Below.ScriptText.Script.{NamesNone, TurnsAreO
 ghost use Rattle.laws_replay.specs.Below.Timetable.Scope.{IsWindow};
 
 use crate::Refusal;
-use laws_replay::below::lc_world::{File, Folder, FolderFail};
-use laws_replay::below::script_text::{Record, Script, ScriptFault, read_script};
-use laws_replay::below::timetable::{LoadFault, Scope, Timetable, load};
-use laws_replay::below::version_store::MessageFault;
+use laws_replay::below::{
+    File, Folder, FolderFail, LoadFault, MessageFault, Record, Scope, Script, ScriptFault,
+    Timetable, load, read_script,
+};
 use laws_replay::{Event, Message, test_message};
 use lc_model::{Bytes, NoMemory, PlainData, Text};
 use std::alloc::Global;

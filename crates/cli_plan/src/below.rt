@@ -1,4 +1,4 @@
-//! The crates below, for the crates above: what those list in crates.txt stays short.
+//! What the crates above name of the crates below.
 
-pub use cli_replay;
-pub use laws_plan::below::laws_replay;
+pub use cli_replay::{Measures, Replayed, measures_of, replay, summary_text};
+pub use laws_plan::below::Event;

@@ -5,9 +5,7 @@ ghost use Rattle.laws_plan.specs.Below.LawsReplay.Events.{TurnsAreOfClients};
 ghost use Rattle.laws_plan.specs.Below.LawsReplay.Played.{Plays};
 ghost use Rattle.laws_plan.specs.Below.LcWorld.GoneOn.{IsLeftByGets};
 
-use laws_plan::below::convoy::Convoy;
-use laws_plan::below::laws_replay::Event;
-use laws_plan::below::lc_world::Link;
+use laws_plan::below::{Convoy, Event, Link};
 use lc_model::NoMemory;
 use std::alloc::Global;
 

@@ -10,11 +10,7 @@ ghost use Rattle.laws_plan.specs.Below.LcWorld.GoneOn.{IsLeftByGets};
 
 use crate::events::happen;
 use cli_replay::{ends_of, text_of};
-use laws_plan::below::cli_ask::ClientEnd;
-use laws_plan::below::connection_uri::Base;
-use laws_plan::below::convoy::Convoy;
-use laws_plan::below::laws_replay::{Event, courses_are_caused};
-use laws_plan::below::lc_world::Link;
+use laws_plan::below::{Base, ClientEnd, Convoy, Event, Link, courses_are_caused};
 use laws_plan::{plan_records_replies, plans_are_right};
 use lc_model::NoMemory;
 use std::alloc::Global;

@@ -1,4 +1,4 @@
-//! The crates below, for the crates above: what those list in crates.txt stays short.
+//! What the crates above name of the crates below.
 
-pub use cli_plan::below::cli_replay;
-pub use page_relay;
+pub use cli_plan::below::{Measures, Replayed, measures_of, replay, summary_text};
+pub use page_relay::Relay;

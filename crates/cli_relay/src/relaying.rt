@@ -5,7 +5,7 @@ ghost use Rattle.cli_plan.specs.Planned.{NoneIsMessage};
 ghost use Rattle.cli_plan.specs.Below.LawsReplay.Events.{TurnsAreOfClients};
 ghost use Rattle.page_relay.specs.Below.LcWorld.GoneOn.{IsLeftByGets};
 
-use cli_plan::below::laws_replay::Event;
+use cli_plan::below::Event;
 use cli_plan::{Planned, plan};
 use lc_model::{NoMemory, PlainData};
 use page_relay::below::connection_uri::Base;

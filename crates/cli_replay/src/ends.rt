@@ -3,8 +3,7 @@ ghost use Rattle.std.specs.List.{All};
 ghost use Rattle.laws_replay.specs.Below.Convoy.Finish.{HasOutcome};
 ghost use Rattle.laws_replay.specs.Played.{HasEndedSo, HaveEndedSo};
 
-use laws_replay::below::cli_ask::ClientEnd;
-use laws_replay::below::convoy::{Convoy, Member};
+use laws_replay::below::{ClientEnd, Convoy, Member};
 use lc_model::NoMemory;
 use std::alloc::Global;
 

@@ -7,11 +7,7 @@ ghost use Rattle.cli_replay.specs.Turns.{MayHappen};
 
 use crate::hearing::hear;
 use laws_replay::Event;
-use laws_replay::below::cli_ask::Heard;
-use laws_replay::below::convoy::Convoy;
-use laws_replay::below::fragmenter::Cutting;
-use laws_replay::below::lc_links::HomeLink;
-use laws_replay::below::lc_world::Link;
+use laws_replay::below::{Convoy, Cutting, Heard, HomeLink, Link};
 use lc_model::NoMemory;
 use std::alloc::Global;
 

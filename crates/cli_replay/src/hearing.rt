@@ -8,11 +8,7 @@ ghost use Rattle.laws_replay.specs.Played.{IsGiven};
 ghost use Rattle.cli_replay.specs.Home.{admitted_at, home_seen};
 
 use laws_replay::Message;
-use laws_replay::below::cli_ask::{Heard, MessageFault, give};
-use laws_replay::below::fragmenter::Cutting;
-use laws_replay::below::lc_links::HomeLink;
-use laws_replay::below::lc_world::Link;
-use laws_replay::below::publisher::Publisher;
+use laws_replay::below::{Cutting, Heard, HomeLink, Link, MessageFault, Publisher, give};
 use lc_model::NoMemory;
 use std::alloc::Global;
 

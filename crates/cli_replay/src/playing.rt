@@ -7,13 +7,9 @@ ghost use Rattle.laws_replay.specs.Replayed.{IsReplayed};
 ghost use Rattle.laws_replay.specs.Versions.{HaveAdmitted};
 
 use crate::course::play_out;
-use laws_replay::below::cli_ask::{ClientEnd, publisher_of};
-use laws_replay::below::cli_words::Publishing;
-use laws_replay::below::connection_uri::Base;
-use laws_replay::below::fragmenter::Cutting;
-use laws_replay::below::lc_links::{HomeLink, LocalLink};
-use laws_replay::below::lc_world::Link;
-use laws_replay::below::timetable::Timetable;
+use laws_replay::below::{
+    Base, ClientEnd, Cutting, HomeLink, Link, LocalLink, Publishing, Timetable, publisher_of,
+};
 use laws_replay::{Event, courses_are_caused, courses_are_heard, courses_are_right};
 use lc_model::{NoMemory, PlainData};
 use std::alloc::Global;

@@ -6,8 +6,7 @@ ghost use Rattle.cli_replay.specs.Summary.{arrivals_line_of, arrivals_of, exchan
 
 use crate::Replayed;
 use laws_replay::Event;
-use laws_replay::below::cli_ask::ClientEnd;
-use laws_replay::below::page_client::Outcome;
+use laws_replay::below::{ClientEnd, Outcome};
 use lc_model::{Journey, Moment, NoMemory, Ride, Walk};
 use std::alloc::Global;
 

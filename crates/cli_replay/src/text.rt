@@ -4,7 +4,7 @@ ghost use Rattle.laws_replay.specs.Below.CliAsk.Block.{IsPrintable};
 ghost use Rattle.laws_replay.specs.Below.CliAsk.declared.end.ClientEnd.{ClientEnd as End};
 ghost use Rattle.laws_replay.specs.Replayed.{clients_text_of};
 
-use laws_replay::below::cli_ask::{ClientEnd, push_client};
+use laws_replay::below::{ClientEnd, push_client};
 use lc_model::NoMemory;
 use std::alloc::Global;
 

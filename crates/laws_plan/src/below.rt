@@ -1,4 +1,4 @@
-//! The crates below, for the crates above: what those list in crates.txt stays short.
+//! What the crates above name of the crates below.
 
-pub use laws_replay;
-pub use laws_replay::below::{cli_ask, connection_uri, convoy, lc_world};
+pub use laws_replay::below::{Base, ClientEnd, Convoy, Link};
+pub use laws_replay::{Event, courses_are_caused};

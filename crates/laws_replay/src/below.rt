@@ -1,8 +1,9 @@
-//! The crates below, for the crates above: what those list in crates.txt stays short.
+//! What the crates above name of the crates below.
 
-pub use cli_ask;
 pub use cli_ask::below::{
-    cli_words, connection_uri, convoy, fragmenter, laws_clients, laws_convoys, laws_replies,
-    lc_links, lc_world, page_client, publisher, script_text, timetable, trip_updates,
-    version_store,
+    Base, Convoy, Cutting, File, Folder, FolderFail, HomeLink, Link, LoadFault, LocalLink, Member,
+    MessageFault, Outcome, Publisher, Publishing, Record, RtFault, Scope, Script, ScriptFault,
+    Timetable, agreement_begins, alone_asks_all, load, one_answer, one_script, read_script,
+    steps_keep_agreement, turns_keep_agreement, versions_stay,
 };
+pub use cli_ask::{ClientEnd, Heard, give, publisher_of, push_client};

@@ -1,10 +1,9 @@
 ghost use Rattle.laws_replay.specs.Laws.{FaultsAreOwn, OneHearing, PlaysCaused, PlaysHeard, PlaysRight};
 ghost use Rattle.laws_replay.specs.OneCourse.{OneCourse};
 
-use cli_ask::below::laws_clients::{one_answer, steps_keep_agreement};
-use cli_ask::below::laws_convoys::{agreement_begins, turns_keep_agreement};
-use cli_ask::below::lc_world::Link;
-use cli_ask::below::version_store::one_outcome;
+use cli_ask::below::{
+    Link, agreement_begins, one_answer, one_outcome, steps_keep_agreement, turns_keep_agreement,
+};
 
 /// An event sequence that was played to its end over a quiet link was played rightly. Each client ended with a best journey by the
 /// timetable of the version that it meant when it first asked, or with none.

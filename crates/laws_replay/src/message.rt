@@ -2,9 +2,7 @@ ghost use Rattle.std.specs.Prelude.{length, ◌≤◌, IfErr, IsTrue, OnOk};
 ghost use Rattle.cli_ask.specs.Below.VersionStore.declared.message_fault.MessageFault.TheVariants.{NoMemory as OutOfMemory};
 ghost use Rattle.laws_replay.specs.Message.{IsMessageText, IsNoText, has_no_fault};
 
-use cli_ask::below::lc_world::File;
-use cli_ask::below::trip_updates::{RtFault, one_meaning, read_message};
-use cli_ask::below::version_store::{MOST_MESSAGE_BYTES, MessageFault};
+use cli_ask::below::{File, MOST_MESSAGE_BYTES, MessageFault, RtFault, one_meaning, read_message};
 use std::alloc::Global;
 
 /// A file with a realtime message: 16 MiB at most, and without a fault.

@@ -3,7 +3,7 @@ ghost use Rattle.lc_cli.specs.Below.Timetable.declared.fault.LoadFault.TheVarian
 ghost use Rattle.std.specs.declared.io.ErrorKind.TheVariants.{OutOfMemory};
 ghost use Rattle.lc_cli.specs.Below.CliInputs.declared.refusal.Refusal.TheVariants.{Load, Usage};
 
-use lc_cli::below::cli_inputs::Refusal;
+use lc_cli::below::Refusal;
 use lc_model::NoMemory;
 use std::env;
 use std::io::ErrorKind;

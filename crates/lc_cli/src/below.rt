@@ -1,5 +1,9 @@
-//! The crates below, for the crates above: what those list in crates.txt stays short.
+//! What the crates above name of the crates below.
 
-pub use cli_ask;
-pub use cli_ask::below::{cli_words, fragmenter, lc_links, lc_world, publisher, timetable};
-pub use cli_inputs;
+pub use cli_ask::below::{
+    ClosedLink, Command, Cutting, Door, FaultyLink, File, Link, ListLink, LocalLink, MemDoor,
+    MemFolder, MemSink, Pieces, Publisher, RecordedReply, Replay, Scope, SureDoor, Timetable, load,
+    read_words,
+};
+pub use cli_ask::publisher_of;
+pub use cli_inputs::Refusal;

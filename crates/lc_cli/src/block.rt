@@ -4,8 +4,7 @@ ghost use Rattle.cli_serve.specs.Written.{SinkNeverFell};
 
 use crate::status::Status;
 use cli_ask::ClientEnd;
-use cli_ask::below::lc_world::{Sink, SinkFail, put_all};
-use cli_ask::below::page_client::Outcome;
+use cli_ask::below::{Outcome, Sink, SinkFail, put_all};
 
 /// What is printed, and how the clients ended, if there are any, in the order in which they asked.
 #[derive(Drop)]

@@ -1,7 +1,7 @@
 ghost use Rattle.std.specs.Prelude.{◌≡◌, ◌++◌, IfOk, OnOk};
 ghost use Rattle.lc_cli.specs.CheckText.{check_text_of, count_line_of};
 
-use cli_ask::below::timetable::Timetable;
+use cli_ask::below::Timetable;
 use lc_model::NoMemory;
 use std::alloc::Global;
 

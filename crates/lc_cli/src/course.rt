@@ -1,9 +1,8 @@
 ghost use Rattle.std.specs.Prelude.{◌≤◌};
 ghost use Rattle.cli_inputs.specs.Below.LawsReplay.Events.{TurnsAreOfClients};
 
-use cli_ask::below::cli_words::Publishing;
-use cli_ask::below::timetable::Timetable;
-use cli_inputs::below::laws_replay::Event;
+use cli_ask::below::{Publishing, Timetable};
+use cli_inputs::below::Event;
 
 /// An event sequence, with what it is played to and how.
 #[derive(Drop)]

@@ -9,12 +9,10 @@ ghost use Rattle.lc_cli.specs.Drill.{IsDrillBlock, IsDrillRefused, IsDrilled, Is
 use crate::block::Block;
 use crate::course::Course;
 use crate::replay::{play_course, read_course};
-use cli_ask::below::cli_words::{Drill, Replay, drilled_replay};
-use cli_ask::below::lc_world::{Link, SureFolder};
-use cli_ask::below::timetable::Timetable;
+use cli_ask::below::{Drill, Link, Replay, SureFolder, Timetable, drilled_replay};
 use cli_drill::drill_files;
 use cli_inputs::Refusal;
-use cli_relay::below::cli_replay::{Measures, Replayed, measures_of, summary_text};
+use cli_relay::below::{Measures, Replayed, measures_of, summary_text};
 use lc_model::NoMemory;
 use std::alloc::Global;
 

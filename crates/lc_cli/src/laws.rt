@@ -10,18 +10,14 @@ ghost use Rattle.lc_cli.specs.OnePlan.{OneNamedPlan, OneQuietPlan};
 ghost use Rattle.lc_cli.specs.OneRelay.{OneNamedRelay, OneQuietRelay};
 ghost use Rattle.lc_cli.specs.OneServing.{BeginsFromIt, NotAnotherBase, NotMadeUp, NotUnasked, OneServing, OneSide};
 
-use cli_arrive::below::laws_arrive::one_latest_answer;
+use cli_arrive::below::one_latest_answer;
 use cli_arrive::one_latest_output;
-use cli_ask::below::cli_words::one_command;
-use cli_ask::below::lc_world::Link;
-use cli_ask::below::script_text::one_script;
-use cli_ask::below::timetable::{one_end, one_timetable};
-use cli_ask::below::version_store::one_outcome;
+use cli_ask::below::{Link, one_command, one_end, one_outcome, one_script, one_timetable};
 use cli_ask::one_output;
-use cli_fewest::below::laws_fewest::fewest_at_version;
+use cli_fewest::below::fewest_at_version;
 use cli_fewest::one_fewest_output;
-use cli_inputs::below::laws_replay::one_course;
-use cli_relay::below::page_relay::Relay;
+use cli_inputs::below::one_course;
+use cli_relay::below::Relay;
 use cli_relay::{one_growing_plan, one_plan, relays_plan_right};
 use cli_serve::one_over_bytes;
 

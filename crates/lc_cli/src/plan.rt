@@ -7,8 +7,7 @@ ghost use Rattle.cli_ask.specs.Below.Timetable.declared.fault.LoadFault.TheVaria
 ghost use Rattle.lc_cli.specs.Command.{IsPlanBlock, IsRelayBlock};
 
 use crate::block::Block;
-use cli_ask::below::cli_words::{Plan, Relay};
-use cli_ask::below::lc_world::{Folder, Link};
+use cli_ask::below::{Folder, Link, Plan, Relay};
 use cli_inputs::{Refusal, read_plan};
 use cli_relay::Planned;
 use lc_model::NoMemory;

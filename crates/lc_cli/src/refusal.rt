@@ -10,10 +10,7 @@ ghost use Rattle.lc_cli.specs.Writing.{Said};
 
 use crate::status::Status;
 use cli_ask::MessageFault;
-use cli_ask::below::gtfs_tables::What;
-use cli_ask::below::lc_world::{File, Sink, SinkFail, put_all};
-use cli_ask::below::timetable::LoadFault;
-use cli_ask::below::trip_updates::RtFault;
+use cli_ask::below::{File, LoadFault, RtFault, Sink, SinkFail, What, put_all};
 use cli_inputs::Refusal;
 use lc_model::NoMemory;
 use std::alloc::Global;

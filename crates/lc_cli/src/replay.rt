@@ -12,10 +12,9 @@ ghost use Rattle.lc_cli.specs.Scope.{scope_of};
 use crate::block::Block;
 use crate::course::Course;
 use crate::scope::scope_of;
-use cli_ask::below::cli_words::Replay;
-use cli_ask::below::lc_world::{Folder, Link};
+use cli_ask::below::{Folder, Link, Replay};
 use cli_inputs::{Refusal, ReplayInputs, read_replay};
-use cli_relay::below::cli_replay::Replayed;
+use cli_relay::below::Replayed;
 use lc_model::NoMemory;
 use std::alloc::Global;
 
@@ -99,5 +98,5 @@ pub(crate) fn play_course<L: Link>(
         cache,
         ..
     } = course;
-    cli_relay::below::cli_replay::replay(alloc, made, publishing, events, cache as usize, link)
+    cli_relay::below::replay(alloc, made, publishing, events, cache as usize, link)
 }

@@ -2,8 +2,7 @@ ghost use Rattle.std.specs.Prelude.{◌≡◌};
 ghost use Rattle.cli_ask.specs.Below.Timetable.Scope.{IsWindow};
 ghost use Rattle.lc_cli.specs.Scope.{scope_of};
 
-use cli_ask::below::cli_words::FeedWindow;
-use cli_ask::below::timetable::Scope;
+use cli_ask::below::{FeedWindow, Scope};
 
 /// What a command asks of its feed.
 pub(crate) fn scope_of(window: FeedWindow) -> Scope

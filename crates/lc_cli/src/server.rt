@@ -1,7 +1,6 @@
 ghost use Rattle.std.specs.Prelude.{◌≤◌};
 
-use cli_ask::below::fragmenter::Cutting;
-use cli_ask::below::publisher::Publisher;
+use cli_ask::below::{Cutting, Publisher};
 
 /// What is served: a publisher at a port, to so many connections, after the line of its message, if it has one.
 #[derive(Drop)]

@@ -1,9 +1,7 @@
 ghost use Rattle.std.specs.Prelude.{◌≡◌};
 ghost use Rattle.lc_cli.specs.Status.{code_of};
 
-use cli_ask::below::gtfs_tables::What;
-use cli_ask::below::page_client::{PeerFault, QueryFault};
-use cli_ask::below::trip_updates::RtFault;
+use cli_ask::below::{PeerFault, QueryFault, RtFault, What};
 use lc_model::{Bytes, NoMemory, PlainData, Text};
 use std::alloc::Global;
 

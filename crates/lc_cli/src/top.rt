@@ -19,11 +19,9 @@ use crate::refusal::refuse;
 use crate::serve::serve;
 use crate::status::Status;
 use crate::work::Work;
-use cli_ask::below::cli_words::one_command;
-use cli_ask::below::lc_world::{Door, Folder, Link, Sink};
-use cli_ask::below::script_text::one_script;
-use cli_ask::below::timetable::one_timetable;
-use cli_ask::below::version_store::one_outcome;
+use cli_ask::below::{
+    Door, Folder, Link, Sink, one_command, one_outcome, one_script, one_timetable,
+};
 use cli_relay::relays_plan_right;
 use std::alloc::Global;
 

@@ -5,12 +5,10 @@ use crate::folders::folder_of;
 use crate::running::{
     Fails, NONE, Stage, over_tiny, put_failing, put_line, put_linked, put_list, stage_of, words_of,
 };
-use lc_cli::below::cli_ask::publisher_of;
-use lc_cli::below::cli_words::{Command, Replay, read_words};
-use lc_cli::below::fragmenter::Cutting;
-use lc_cli::below::lc_links::{FaultyLink, LocalLink};
-use lc_cli::below::publisher::Publisher;
-use lc_cli::below::timetable::{Scope, Timetable, load};
+use lc_cli::below::{
+    Command, Cutting, FaultyLink, LocalLink, Publisher, Replay, Scope, Timetable, load,
+    publisher_of, read_words,
+};
 use rows_common::{Draft, Unmade};
 use std::alloc::Global;
 

@@ -1,7 +1,6 @@
 //! How a case is run, and what is printed of it.
 use crate::folders::folder_of;
-use lc_cli::below::lc_links::{ClosedLink, FaultyLink};
-use lc_cli::below::lc_world::{Door, Link, ListLink, MemFolder, MemSink, SureDoor};
+use lc_cli::below::{ClosedLink, Door, FaultyLink, Link, ListLink, MemFolder, MemSink, SureDoor};
 use lc_cli::{Status, code, run};
 use lc_model::Bytes;
 use rows_common::{Draft, Unmade};

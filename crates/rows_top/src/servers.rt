@@ -1,8 +1,7 @@
 //! A server of Tiny: what it prints, and what it sends on each connection.
 use crate::doors::{WHOLE, mem_door, sure_door};
 use crate::running::{Fails, NONE, Stage, over_tiny, put_line, put_over, stage_of};
-use lc_cli::below::lc_links::ClosedLink;
-use lc_cli::below::lc_world::{MemDoor, SureDoor};
+use lc_cli::below::{ClosedLink, MemDoor, SureDoor};
 use rows_common::{Draft, Unmade};
 use std::alloc::Global;
 
