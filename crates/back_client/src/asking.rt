@@ -8,12 +8,10 @@ use crate::ArriveEnd;
 use crate::exchange::exchanged;
 use crate::refusal::refusal_of;
 use crate::walk::walk_back;
-use back_scan::below::csa_scan::BeginFault;
+use back_scan::below::BeginFault;
 use back_scan::{ArriveQuery, BackScan};
-use convoy::below::connection_uri::Base;
-use convoy::below::lc_world::Link;
-use convoy::below::page_client::{
-    Outcome, QueryFault, ask_gate, ask_stops, gate_said, stops_said, wrong,
+use convoy::below::{
+    Base, Link, Outcome, QueryFault, ask_gate, ask_stops, gate_said, stops_said, wrong,
 };
 use lc_model::{Bytes, Moment, NoMemory, PageName, StopsDoc};
 use std::alloc::Global;

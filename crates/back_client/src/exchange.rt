@@ -4,9 +4,7 @@ ghost use Rattle.convoy.specs.Below.PageClient.Request.{Asks};
 ghost use Rattle.convoy.specs.Below.PageClient.declared.outcome.Outcome.TheVariants as outcomes;
 ghost use Rattle.back_client.specs.Exchange.{IsExchange};
 
-use convoy::below::connection_uri::Base;
-use convoy::below::lc_world::{Link, LinkFail};
-use convoy::below::page_client::Outcome;
+use convoy::below::{Base, Link, LinkFail, Outcome};
 use lc_model::NoMemory;
 use std::alloc::Global;
 

@@ -1,4 +1,4 @@
-use convoy::below::page_client::Outcome;
+use convoy::below::Outcome;
 use lc_model::Moment;
 
 /// The end of a question for the latest departure. The version is the one that the time gate named; none before. The fault of a reply is

@@ -1,8 +1,7 @@
 ghost use Rattle.std.specs.Prelude.{◌≡◌, IfOk};
 ghost use Rattle.back_client.specs.Wrong.{is_by, is_level, is_off, reaches, retreats, wrong_of};
 
-use convoy::below::page_client::{Outcome, PeerFault, last_departure, wrong};
-use convoy::below::page_json::Page;
+use convoy::below::{Outcome, Page, PeerFault, last_departure, wrong};
 use lc_model::{Bytes, Connection, Moment, NoMemory, PageName, PlainData};
 use std::alloc::Global;
 

@@ -10,9 +10,7 @@ ghost use Rattle.back_client.specs.Wrong.{wrong_of};
 
 use crate::page::{Place, wrong_of};
 use back_scan::BackScan;
-use convoy::below::connection_uri::Base;
-use convoy::below::page_client::{Outcome, answered, page_of, wrong};
-use convoy::below::page_json::Page;
+use convoy::below::{Base, Outcome, Page, answered, page_of, wrong};
 use lc_model::{Moment, NoMemory, PageName};
 use std::alloc::Global;
 

@@ -8,7 +8,7 @@ ghost use Rattle.cli_ask.specs.Below.PublisherSpec.Side.{Side};
 
 use cli_ask::ClientEnd;
 use cli_ask::below::{ArriveQuery, Base, Link};
-use laws_arrive::below::back_client::{ArriveEnd, arrive};
+use laws_arrive::below::{ArriveEnd, arrive};
 use laws_arrive::latest_ends_right;
 use laws_arrive_replies::latest_by_its_replies;
 use lc_model::NoMemory;

@@ -1,7 +1,7 @@
 ghost use Rattle.cli_arrive.specs.Laws.{OneLatestOutput, SomeWanted};
 
 use cli_ask::below::{Link, one_outcome, some_timetable};
-use laws_arrive::below::laws_journeys::some_least_arrival;
+use laws_arrive::below::some_least_arrival;
 use laws_arrive::one_latest_answer;
 
 /// What is printed of a question for the latest departure is one, but for the journey, where the replies come as the publisher gave

@@ -1,11 +1,8 @@
 ghost use Rattle.std.specs.Prelude.{◌≡◌, ◌+◌, IfErr, IfOk, OnOk, Some, length};
 ghost use Rattle.cli_ask.specs.Admission.{IsBehind, IsFaultBy, IsFaulty, IsIgnored, admitted_line_of, ignored_line_of};
 
-use cli_words::below::fragmenter::Cutting;
-use cli_words::below::lc_time::iso_text;
-use lc_links::below::lc_world::File;
-use lc_links::below::publisher::{AdmitFault, Admitted, Publisher};
-use lc_links::below::version_store::MessageFault;
+use cli_words::below::{Cutting, iso_text};
+use lc_links::below::{AdmitFault, Admitted, File, MessageFault, Publisher};
 use lc_model::NoMemory;
 use percent_encoding::ascii_str;
 use std::alloc::Global;

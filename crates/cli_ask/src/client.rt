@@ -6,11 +6,11 @@ ghost use Rattle.lc_links.specs.Below.LcWorld.Link.{IsQuietWith};
 ghost use Rattle.lc_links.specs.Below.PublisherSpec.Side.{Side};
 
 use crate::ClientEnd;
-use cli_words::below::connection_uri::Base;
-use laws_convoys::below::convoy::Convoy;
+use cli_words::below::Base;
+use laws_convoys::below::Convoy;
 use laws_convoys::one_client;
 use laws_replies::alone_over_any_link;
-use lc_links::below::lc_world::Link;
+use lc_links::below::Link;
 use lc_model::{NoMemory, Query};
 use std::alloc::Global;
 

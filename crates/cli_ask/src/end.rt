@@ -1,4 +1,4 @@
-use laws_convoys::below::page_client::Outcome;
+use laws_convoys::below::Outcome;
 use lc_model::Moment;
 
 /// How a client ended.

@@ -1,10 +1,7 @@
 ghost use Rattle.cli_ask.specs.Laws.{AreGivenInOrder, OneOutput, OnePublisher, SomeFront, SomeWants};
 
-use laws_convoys::below::laws_clients::one_answer;
-use laws_convoys::below::laws_journeys::some_least_arrival;
-use lc_links::below::lc_world::Link;
-use lc_links::below::publisher::some_timetable;
-use lc_links::below::version_store::one_outcome;
+use laws_convoys::below::{one_answer, some_least_arrival};
+use lc_links::below::{Link, one_outcome, some_timetable};
 
 /// What is printed of a question is one, but for the way of the journey, where the replies come as the publisher gave them.
 pub fn one_output<L: Link, M: Link>()

@@ -16,7 +16,7 @@ pub use admission::{Heard, give};
 pub use block::push_client;
 pub use end::ClientEnd;
 pub use laws::{one_output, one_publisher, some_wants};
-pub use lc_links::below::version_store::MessageFault;
+pub use lc_links::below::MessageFault;
 pub use opening::{Opened, Unopened, open_home};
 pub use publishing::{publisher_of, serving_publisher};
 pub use question::{Asked, ask, printed};

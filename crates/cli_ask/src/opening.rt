@@ -8,11 +8,8 @@ ghost use Rattle.lc_links.specs.Below.VersionStore.declared.message_fault.Messag
 
 use crate::publishing::serving_publisher;
 use cli_words::Publishing;
-use cli_words::below::connection_uri::Base;
-use cli_words::below::fragmenter::Cutting;
-use lc_links::below::lc_world::{File, Link};
-use lc_links::below::publisher::Publisher;
-use lc_links::below::version_store::MessageFault;
+use cli_words::below::{Base, Cutting};
+use lc_links::below::{File, Link, MessageFault, Publisher};
 use lc_links::{HomeLink, LocalLink};
 use lc_model::{NoMemory, PlainData};
 use std::alloc::Global;

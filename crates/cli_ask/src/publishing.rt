@@ -4,10 +4,8 @@ ghost use Rattle.cli_ask.specs.Publishing.{PublishesAfter, held_for, held_with, 
 
 use crate::admission::admit;
 use cli_words::Publishing;
-use cli_words::below::fragmenter::Cutting;
-use lc_links::below::lc_world::File;
-use lc_links::below::publisher::{Options, Publisher};
-use lc_links::below::version_store::MessageFault;
+use cli_words::below::Cutting;
+use lc_links::below::{File, MessageFault, Options, Publisher};
 use lc_model::NoMemory;
 use std::alloc::Global;
 use timetable::Timetable;

@@ -8,8 +8,7 @@ ghost use Rattle.cli_ask.specs.Below.PublisherSpec.Side.{Side};
 
 use cli_ask::ClientEnd;
 use cli_ask::below::{Base, Link, steps_keep_agreement};
-use laws_rounds::below::laws_fewest::fewest_at_version;
-use laws_rounds::below::rounds_client::{FewestEnd, fewest};
+use laws_rounds::below::{FewestEnd, fewest, fewest_at_version};
 use laws_rounds_replies::fewest_by_its_replies;
 use lc_model::{NoMemory, Query};
 use std::alloc::Global;

@@ -8,8 +8,7 @@ ghost use Rattle.page_relay.specs.Below.LcWorld.GoneOn.{IsLeftByGets};
 use cli_plan::below::Event;
 use cli_plan::{Planned, plan};
 use lc_model::{NoMemory, PlainData};
-use page_relay::below::connection_uri::Base;
-use page_relay::below::lc_world::Link;
+use page_relay::below::{Base, Link};
 use page_relay::{Relay, counts_are_since, relays_leave_below};
 use std::alloc::Global;
 

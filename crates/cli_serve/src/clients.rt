@@ -7,9 +7,7 @@ ghost use Rattle.cli_serve.specs.Clients.{HasTaken};
 
 use crate::tally::Tally;
 use crate::visit::visit;
-use serving::below::fragmenter::Cutting;
-use serving::below::lc_doors::{Door, DoorFail, Next};
-use serving::below::publisher::Publisher;
+use serving::below::{Cutting, Door, DoorFail, Next, Publisher};
 use std::alloc::Global;
 
 /// Serves so many clients, or all that come, one after the other, and counts them. The publisher is handed on from one to the next, and given

@@ -12,9 +12,7 @@ use crate::lines::{put_opening, put_served};
 use crate::stop::Stop;
 use crate::tally::Tally;
 use lc_io::Sink;
-use serving::below::fragmenter::Cutting;
-use serving::below::lc_doors::{Door, DoorFail};
-use serving::below::publisher::Publisher;
+use serving::below::{Cutting, Door, DoorFail, Publisher};
 use std::alloc::Global;
 
 /// Listens, and then says so after the opening.

@@ -4,7 +4,7 @@ ghost use Rattle.cli_serve.specs.Visit.{Visit};
 ghost use Rattle.cli_serve.specs.Visiting.{CameOut};
 
 use lc_model::NoMemory;
-use serving::below::lc_doors::{DoorFail, Served};
+use serving::below::{DoorFail, Served};
 
 /// What is counted of the connections so far.
 #[derive(Clone, Copy)]

@@ -6,10 +6,7 @@ ghost use Rattle.cli_serve.specs.Visiting.{Answers, Visits};
 
 use lc_model::NoMemory;
 use serving::Serving;
-use serving::below::fragmenter::Cutting;
-use serving::below::lc_doors::{Door, Served, serve_one};
-use serving::below::publisher::Publisher;
-use serving::below::wire_session::Session;
+use serving::below::{Cutting, Door, Publisher, Served, Session, serve_one};
 use std::alloc::Global;
 
 /// Answers what comes on the current connection, and gives the publisher back. Where memory runs out it is the one that the session has left.

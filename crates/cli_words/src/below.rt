@@ -1,6 +1,6 @@
-//! The crates below, for the crates above: what those list in crates.txt stays short.
+//! What the crates above name of the crates below.
 
-pub use back_scan;
-pub use connection_uri;
-pub use fragmenter;
-pub use lc_time;
+pub use back_scan::ArriveQuery;
+pub use connection_uri::Base;
+pub use fragmenter::Cutting;
+pub use lc_time::iso_text;

@@ -8,7 +8,7 @@ ghost use Rattle.convoy.specs.Exchange.{IsAsked};
 use lc_model::NoMemory;
 use lc_world::{Link, LinkFail};
 use page_client::Client;
-use page_client::below::connection_uri::Base;
+use page_client::below::Base;
 use std::alloc::Global;
 
 /// Asks for what the client wants, once. Where the exchange fails the client ends, and there is no reply.

@@ -13,9 +13,7 @@ ghost use Rattle.convoy.specs.Turn.{Asks};
 use crate::exchange::exchanged;
 use lc_model::{NoMemory, PageName};
 use lc_world::Link;
-use page_client::below::connection_uri::Base;
-use page_client::below::page_cache::PageCache;
-use page_client::below::page_json::Page;
+use page_client::below::{Base, Page, PageCache};
 use page_client::{Client, Outcome, Want, page_of};
 use std::alloc::Global;
 

@@ -14,9 +14,7 @@ use crate::steps::ask;
 use lc_model::{NoMemory, PageName};
 use lc_world::Link;
 use page_client::Want;
-use page_client::below::connection_uri::Base;
-use page_client::below::page_cache::PageCache;
-use page_client::below::page_json::Page;
+use page_client::below::{Base, Page, PageCache};
 use std::alloc::Global;
 
 /// The turn of a member: it takes the reply to what it wants, or a cached page.

@@ -1,3 +1,3 @@
-//! The crates below, for the crates above: what those list in crates.txt stays short.
+//! What the crates above name of the crates below.
 
-pub use script_text;
+pub use script_text::{Record, Script, ScriptFault, one_script, read_script};

@@ -1,4 +1,4 @@
-//! The crates below, for the crates above: what those list in crates.txt stays short.
+//! What the crates above name of the crates below.
 
-pub use back_client;
-pub use laws_back::below::laws_journeys;
+pub use back_client::{ArriveEnd, arrive};
+pub use laws_back::below::some_least_arrival;

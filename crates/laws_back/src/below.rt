@@ -1,3 +1,3 @@
-//! The crates below, for the crates above: what those list in crates.txt stays short.
+//! What the crates above name of the crates below.
 
-pub use laws_journeys;
+pub use laws_journeys::some_least_arrival;

@@ -1,3 +1,3 @@
-//! The crates below, for the crates above: what those list in crates.txt stays short.
+//! What the crates above name of the crates below.
 
-pub use laws_sides::below::{laws_journeys, laws_pages, live_calls};
+pub use laws_sides::below::{journeys_along_next, live_without_news, some_least_arrival};

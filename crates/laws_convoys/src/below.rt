@@ -1,6 +1,6 @@
-//! The crates below, for the crates above: what those list in crates.txt stays short.
+//! What the crates above name of the crates below.
 
-pub use convoy;
-pub use convoy::below::{lc_world, page_client};
-pub use laws_clients;
-pub use laws_clients::below::{laws_journeys, live_calls};
+pub use convoy::below::{Link, Outcome, PeerFault, QueryFault};
+pub use convoy::{Convoy, Member};
+pub use laws_clients::below::{live_without_news, some_least_arrival};
+pub use laws_clients::{one_answer, steps_keep_agreement, versions_stay};

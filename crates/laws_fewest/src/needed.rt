@@ -11,7 +11,7 @@ ghost use Rattle.laws_clients.specs.Below.LawsPages.Chain.{ArePagesOf, connectio
 ghost use Rattle.laws_clients.specs.Below.LawsPages.Needed.{AreNeeded};
 ghost use Rattle.laws_fewest.specs.Needed.{BestAreInNeeded, FewestAreInNeeded};
 
-use laws_clients::below::laws_pages::journeys_along_next;
+use laws_clients::below::journeys_along_next;
 use lc_model::{Connections, Query, Runs, StopsDoc};
 
 /// Every connection of every best journey is on the needed pages: it departs no later than the best arrival, and no second is split.

@@ -1,4 +1,4 @@
-//! The crates below, for the crates above: what those list in crates.txt stays short.
+//! What the crates above name of the crates below.
 
-pub use laws_fewest;
-pub use rounds_client;
+pub use laws_fewest::fewest_at_version;
+pub use rounds_client::{FewestEnd, fewest};

@@ -1,7 +1,6 @@
 ghost use Rattle.laws_rounds.specs.Near.{NotAnotherVersion, NotNone, NotOneExchangeMore, NotOneRideFewer, NotOneRideMore};
 
-use laws_convoys::below::laws_clients::one_answer;
-use laws_convoys::below::lc_world::Link;
+use laws_convoys::below::{Link, one_answer};
 use laws_fewest::fewest_at_version;
 
 /// What is near a right end is none: a ride more or less, no journey, an exchange more, or another version.

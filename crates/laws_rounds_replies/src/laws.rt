@@ -1,6 +1,6 @@
 ghost use Rattle.laws_rounds_replies.specs.Laws.{FewestByItsReplies, OneFewestByReplies};
 
-use rounds_client::below::lc_world::Link;
+use rounds_client::below::Link;
 
 /// A client of the fewest rides ends by the replies that it got, whatever the link is. It asks as a client that asks alone. Where that has a
 /// best journey of the pages that the replies say, its own has the fewest rides of them.

@@ -1,5 +1,5 @@
-//! The crates below, for the crates above: what those list in crates.txt stays short.
+//! What the crates above name of the crates below.
 
-pub use laws_pages;
-pub use laws_pages::below::laws_journeys;
-pub use live_calls;
+pub use laws_pages::below::some_least_arrival;
+pub use laws_pages::journeys_along_next;
+pub use live_calls::live_without_news;

@@ -2,7 +2,7 @@ ghost use Rattle.std.specs.Prelude.{◌≡◌, ◌↔◌, None};
 ghost use Rattle.std.specs.declared.io.ErrorKind.TheVariants.{NotFound, OutOfMemory};
 ghost use Rattle.lc_io.specs.declared.folder.FolderFail.TheVariants.{Absent, NoMemory as WantOfMemory};
 
-use lc_links::below::lc_world::{Folder, FolderFail};
+use lc_links::below::{Folder, FolderFail};
 use std::alloc::Global;
 use std::fs;
 use std::io::ErrorKind;

@@ -5,7 +5,7 @@ ghost use Rattle.lc_links.specs.Below.LcDoors.declared.door.DoorFail.TheVariants
 ghost use Rattle.lc_links.specs.Below.LcDoors.declared.door.Next.TheVariants.{Connection};
 
 use crate::caller::Caller;
-use lc_links::below::lc_world::{Door, DoorFail, Next};
+use lc_links::below::{Door, DoorFail, Next};
 use std::io::{self, ErrorKind, Read, Write};
 use std::marker::Model;
 use std::net::{Ipv4Addr, Net, OpenListener, OpenStream, TcpListener};

@@ -7,7 +7,7 @@ ghost use Rattle.lc_links.specs.Below.ConnectionUri.Base.{BaseParts};
 ghost use Rattle.lc_links.specs.Below.PublisherSpec.Side.{Side};
 
 use crate::authority::host_and_port;
-use lc_links::below::lc_world::{Link, LinkFail};
+use lc_links::below::{Link, LinkFail};
 use std::alloc::Global;
 use std::io::{self, ErrorKind, Read, Write};
 use std::marker::Model;

@@ -3,7 +3,7 @@ ghost use Rattle.std.specs.Prelude.{◌≡◌};
 use crate::LocalLink;
 use lc_world::{Link, LinkFail};
 use publisher::Publisher;
-use publisher::below::fragmenter::Fragmenter;
+use publisher::below::Fragmenter;
 use std::alloc::Global;
 use std::marker::Model;
 

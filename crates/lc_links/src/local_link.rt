@@ -13,7 +13,7 @@ use crate::taking::{is_whole, tell};
 use lc_model::NoMemory;
 use lc_world::{Entry, Link, LinkFail};
 use publisher::Publisher;
-use publisher::below::fragmenter::Fragmenter;
+use publisher::below::Fragmenter;
 use std::alloc::Global;
 use std::marker::Model;
 

@@ -5,7 +5,7 @@ ghost use Rattle.lc_links.specs.Taking.{asked_entry};
 
 use lc_model::{Bytes, NoMemory, Text};
 use lc_world::{Entry, RecordedReply};
-use publisher::below::http_text::{Taken, take_request};
+use publisher::below::{Taken, take_request};
 use std::alloc::Global;
 
 /// Whether the bytes are one whole request. Linear in their first 16,384 bytes.

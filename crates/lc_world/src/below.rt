@@ -1,3 +1,3 @@
-//! The crates below, for the crates above: what those list in crates.txt stays short.
+//! What the crates above name of the crates below.
 
-pub use publisher_spec::below::{connection_uri, http_text};
+pub use publisher_spec::below::{Base, HeadRoom, ReplyFault, Request, Taken, read_request};

@@ -1,4 +1,4 @@
-//! The crates below, for the crates above: what those list in crates.txt stays short.
+//! What the crates above name of the crates below.
 
-pub use connection_uri;
-pub use lc_time;
+pub use connection_uri::{Base, page_url, read_page_url};
+pub use lc_time::iso_text;

@@ -1,3 +1,3 @@
-//! The crates below, for the crates above: what those list in crates.txt stays short.
+//! What the crates above name of the crates below.
 
-pub use page_json;
+pub use page_json::{Page, PageFault, read_page, read_stops};

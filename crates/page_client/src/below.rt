@@ -1,5 +1,5 @@
-//! The crates below, for the crates above: what those list in crates.txt stays short.
+//! What the crates above name of the crates below.
 
-pub use memento::below::connection_uri;
-pub use page_cache;
-pub use page_cache::below::page_json;
+pub use memento::below::Base;
+pub use page_cache::PageCache;
+pub use page_cache::below::Page;

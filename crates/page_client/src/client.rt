@@ -10,8 +10,8 @@ use crate::stops_reply::stops_said;
 use crate::{Outcome, PeerFault, QueryFault, Want};
 use csa_scan::{BeginFault, Scan};
 use lc_model::{Bytes, Moment, NoMemory, PageName, Query, StopsDoc};
-use memento::below::connection_uri::Base;
-use page_cache::below::page_json::Page;
+use memento::below::Base;
+use page_cache::below::Page;
 use std::alloc::Global;
 
 /// A client of one question. It wants the reply of the time gate, then that of the stops document, then page after page. It

@@ -8,8 +8,8 @@ use crate::PeerFault;
 use crate::replied::{body_of, replied};
 use http_text::ReplyFault;
 use lc_model::{Connection, Moment, NoMemory, PageName};
-use memento::below::connection_uri::Base;
-use page_cache::below::page_json::{Page, PageFault, read_page};
+use memento::below::Base;
+use page_cache::below::{Page, PageFault, read_page};
 use std::alloc::Global;
 
 /// The page of this name that a reply says, or the first test that the reply fails. Linear in the reply.

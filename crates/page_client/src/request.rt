@@ -8,8 +8,7 @@ ghost use Rattle.page_client.specs.Request.{Asks};
 
 use http_text::{request_text, targets_are_good};
 use lc_model::{Moment, NoMemory, PageName, Text};
-use memento::below::connection_uri::Base;
-use memento::below::lc_time::iso_text;
+use memento::below::{Base, iso_text};
 use memento::gate_target;
 use percent_encoding::ascii_str;
 use std::alloc::Global;

@@ -1,4 +1,4 @@
-//! The crates below, for the crates above: what those list in crates.txt stays short.
+//! What the crates above name of the crates below.
 
-pub use lc_world;
-pub use lc_world::below::connection_uri;
+pub use lc_world::Link;
+pub use lc_world::below::Base;

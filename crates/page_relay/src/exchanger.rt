@@ -11,7 +11,7 @@ ghost use Rattle.lc_world.specs.Below.PublisherSpec.Side.{Side};
 use crate::SentRequest;
 use crate::keeper::Keeper;
 use lc_model::NoMemory;
-use lc_world::below::connection_uri::Base;
+use lc_world::below::Base;
 use lc_world::{Link, LinkFail};
 use std::alloc::Global;
 use std::marker::Model;

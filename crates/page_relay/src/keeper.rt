@@ -6,8 +6,7 @@ use crate::SentRequest;
 use crate::keeping::is_to_keep;
 use crate::memory::Memory;
 use lc_model::{Bytes, NoMemory};
-use lc_world::below::connection_uri::Base;
-use lc_world::below::http_text::HeadRoom;
+use lc_world::below::{Base, HeadRoom};
 use std::alloc::Global;
 use std::marker::Model;
 

@@ -5,8 +5,7 @@ ghost use Rattle.lc_world.specs.Below.HttpText.declared.taken.Taken.TheVariants.
 ghost use Rattle.page_relay.specs.Keeping.{IsKeepable, IsLastingPath, IsLastingReply, IsToKeep};
 
 use lc_model::NoMemory;
-use lc_world::below::connection_uri::Base;
-use lc_world::below::http_text::{HeadRoom, ReplyFault, Request, Taken, read_request};
+use lc_world::below::{Base, HeadRoom, ReplyFault, Request, Taken, read_request};
 use std::alloc::Global;
 
 /// The most bytes of a reply that is kept.

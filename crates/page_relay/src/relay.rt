@@ -14,7 +14,7 @@ use crate::SentRequest;
 use crate::exchanger::Exchanger;
 use crate::transcript::Transcript;
 use lc_model::NoMemory;
-use lc_world::below::connection_uri::Base;
+use lc_world::below::Base;
 use lc_world::{Link, LinkFail};
 use std::alloc::Global;
 use std::marker::Model;

@@ -1,5 +1,5 @@
-//! The crates below, for the crates above: what those list in crates.txt stays short.
+//! What the crates above name of the crates below.
 
-pub use fragmenter;
-pub use publisher_spec::below::{http_text, trip_updates};
-pub use version_store;
+pub use fragmenter::Fragmenter;
+pub use publisher_spec::below::{RtFault, Taken, one_meaning, read_message, take_request};
+pub use version_store::{MOST_MESSAGE_BYTES, MessageFault, one_outcome};

@@ -1,5 +1,5 @@
 use lc_model::{NoMemory, PlainData};
-use publisher_spec::below::connection_uri::Base;
+use publisher_spec::below::Base;
 use std::alloc::Global;
 
 /// How a publisher publishes: under which base, and whether it takes messages.

@@ -12,7 +12,7 @@ use crate::Publisher;
 use crate::place::{Place, place_of};
 use fragmenter::Fragmenter;
 use lc_model::{Moment, NoMemory, PageName};
-use publisher_spec::below::page_json::Page;
+use publisher_spec::below::Page;
 use std::alloc::Global;
 
 /// The page of a version that begins there, if a departure is named.

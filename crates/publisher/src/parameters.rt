@@ -8,8 +8,7 @@ ghost use Rattle.publisher_spec.specs.Response.{IsDeparture, IsVersion, says_len
 
 use crate::place::first_moment;
 use lc_model::Moment;
-use publisher_spec::below::http_text::{Field, Member, Request};
-use publisher_spec::below::lc_time::read_iso;
+use publisher_spec::below::{Field, Member, Request, read_iso};
 
 /// The moment of departure that a request says, moment 0 where it says none. None where what it says is no moment.
 pub(crate) fn departure(request: &Request) -> Option<Moment>

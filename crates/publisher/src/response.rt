@@ -14,10 +14,9 @@ use crate::router::is_head;
 use fragmenter::Fragmenter;
 use lc_model::{Bytes, Moment, NoMemory, PageName};
 use publisher_spec::Response;
-use publisher_spec::below::connection_uri::{Base, page_url};
-use publisher_spec::below::http_text::{Allow, BodyKind, ReplyParts, Request, reply_text};
-use publisher_spec::below::memento::gate_url;
-use publisher_spec::below::page_json::{Page, page_text};
+use publisher_spec::below::{
+    Allow, Base, BodyKind, Page, ReplyParts, Request, gate_url, page_text, page_url, reply_text,
+};
 use std::alloc::Global;
 
 /// A status and nothing else.

@@ -13,9 +13,7 @@ use crate::Publisher;
 use crate::parameters::{departure, field_value, is_same, version_said};
 use fragmenter::Fragmenter;
 use lc_model::{Moment, NoMemory, PageName};
-use publisher_spec::below::connection_uri::Base;
-use publisher_spec::below::http_text::{Allow, Request, read_request};
-use publisher_spec::below::memento::negotiate;
+use publisher_spec::below::{Allow, Base, Request, negotiate, read_request};
 use publisher_spec::{Asked, Response};
 use std::alloc::Global;
 

@@ -12,7 +12,7 @@ use crate::parameters::says_length;
 use fragmenter::Fragmenter;
 use lc_model::NoMemory;
 use publisher_spec::Response;
-use publisher_spec::below::http_text::Request;
+use publisher_spec::below::Request;
 use std::alloc::Global;
 use version_store::{AdmitFault, Admitted};
 

@@ -11,10 +11,7 @@ ghost use Rattle.convoy.specs.Steps.{AsksGate, GoesDown, IsDecided};
 ghost use Rattle.rounds_client.specs.Given.{Gives, GivesPage, GivesStops, ReadsReply, TakesDoc, was_given};
 
 use crate::given::Given;
-use convoy::below::connection_uri::Base;
-use convoy::below::lc_world::Link;
-use convoy::below::page_client::{Client, Want, page_of};
-use convoy::below::page_json::Page;
+use convoy::below::{Base, Client, Link, Page, Want, page_of};
 use convoy::exchanged;
 use lc_model::{NoMemory, PageName, PlainData};
 use std::alloc::Global;

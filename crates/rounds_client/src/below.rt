@@ -1,3 +1,3 @@
-//! The crates below, for the crates above: what those list in crates.txt stays short.
+//! What the crates above name of the crates below.
 
-pub use convoy::below::lc_world;
+pub use convoy::below::Link;

@@ -12,10 +12,7 @@ ghost use Rattle.rounds_client.specs.Given.{connections_of_pages, was_given};
 use crate::asking::ask;
 use crate::given::Given;
 use change_rounds::fewest_of;
-use convoy::below::connection_uri::Base;
-use convoy::below::lc_world::Link;
-use convoy::below::page_client::{Client, Outcome};
-use convoy::below::page_json::Page;
+use convoy::below::{Base, Client, Link, Outcome, Page};
 use lc_model::{Connection, Connections, Journey, Moment, NoMemory, PlainData, Query};
 use std::alloc::Global;
 

@@ -1,4 +1,4 @@
-use convoy::below::page_json::Page;
+use convoy::below::Page;
 use lc_model::StopsDoc;
 
 /// What a client was given: the stops document, once it took that, and the pages that it took, one after the other.

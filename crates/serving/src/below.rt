@@ -1,5 +1,5 @@
-//! The crates below, for the crates above: what those list in crates.txt stays short.
+//! What the crates above name of the crates below.
 
-pub use lc_doors;
-pub use wire_session;
-pub use wire_session::below::{fragmenter, publisher};
+pub use lc_doors::{Door, DoorFail, Next, Served, serve_one};
+pub use wire_session::below::{Cutting, Publisher};
+pub use wire_session::{Session, one_output};

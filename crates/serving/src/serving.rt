@@ -10,8 +10,7 @@ use lc_model::NoMemory;
 use std::alloc::Global;
 use std::marker::Model;
 use wire_session::Session;
-use wire_session::below::fragmenter::Fragmenter;
-use wire_session::below::publisher::Publisher;
+use wire_session::below::{Fragmenter, Publisher};
 
 /// A talk that owns the session of a connection and the publisher that answers its requests. It holds nothing of what it was fed.
 #[derive(Drop)]

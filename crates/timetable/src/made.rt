@@ -14,7 +14,7 @@ use gtfs_tables::{Tables, What};
 use lc_model::{Call, Changes, Run, Runs, StopsDoc};
 use std::alloc::Global;
 use trip_calls::LoadFault as RunsFault;
-use trip_calls::below::lc_time::Zone;
+use trip_calls::below::Zone;
 
 // The runs of a timetable, how many connections they have, and the changes between its stops.
 #[derive(Drop)]

@@ -19,8 +19,7 @@ use gtfs_tables::Tables;
 use lc_model::{Changes, NoMemory, Runs, ServiceDate};
 use std::alloc::Global;
 use trip_calls::LoadFault as RunsFault;
-use trip_calls::below::lc_time::Zone;
-use trip_calls::below::service_days::Days;
+use trip_calls::below::{Days, Zone};
 
 /// The dates, of so many from the first on, on which the services of the tables run. It takes the time of a sort of the days that it
 /// finds. It takes two looks at each row of calendar.txt for each date, and a sort of the rows of calendar_dates.txt.
@@ -33,7 +32,7 @@ pub fn days(
     ensures { IfOk result (AreDays tables.now.services.weekly tables.now.services.dates first count) }
 {
     let services = &tables.services;
-    trip_calls::below::service_days::days(
+    trip_calls::below::days(
         alloc,
         services.weekly.as_slice(),
         services.dates.as_slice(),

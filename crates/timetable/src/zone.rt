@@ -8,8 +8,7 @@ use crate::zone_end::ZoneEnd;
 use lc_io::{Folder, FolderFail};
 use lc_model::Bytes;
 use std::alloc::Global;
-use trip_calls::below::lc_time::Zone;
-use trip_calls::below::service_days::{ZoneFault, read_zone};
+use trip_calls::below::{Zone, ZoneFault, read_zone};
 
 /// The zone that the word says, with the file that it names.
 pub(crate) fn find_zone<F: Folder>(

@@ -1,4 +1,4 @@
-//! The crates below, for the crates above: what those list in crates.txt stays short.
+//! What the crates above name of the crates below.
 
-pub use lc_time;
-pub use service_days;
+pub use lc_time::Zone;
+pub use service_days::{Days, ZoneFault, days, one_list_of_days, one_zone_a_word, read_zone};

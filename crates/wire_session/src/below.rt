@@ -1,4 +1,4 @@
-//! The crates below, for the crates above: what those list in crates.txt stays short.
+//! What the crates above name of the crates below.
 
-pub use fragmenter;
-pub use publisher;
+pub use fragmenter::{Cutting, Fragmenter};
+pub use publisher::Publisher;
