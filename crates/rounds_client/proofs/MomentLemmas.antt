@@ -1,5 +1,5 @@
 -- That a journey which was found arrives at a moment.
-use Rattle.std.proofs.Common.{◌≡◌, ℕ, ◌+◌, ◌<◌, ◌≤◌, List, Some, arith}
+use Rattle.std.proofs.Common.{ℕ, ◌+◌, ◌<◌, ◌≤◌, List, Some, arith}
 use Rattle.lc_model.specs.Journey.{arrives_at}
 use Rattle.lc_model.specs.declared.connection.Connection.{Connection}
 use Rattle.lc_model.specs.declared.doc.StopsDoc.{StopsDoc}

@@ -1,5 +1,5 @@
 -- How a client that asks for the fewest rides ends.
-use Rattle.std.specs.Prelude.{◌≡◌, ◌<◌, List, [], Some, None, length}
+use Rattle.std.specs.Prelude.{◌≡◌, ◌<◌, ℕ, List, [], Some, None, length}
 use Rattle.lc_model.specs.Journey.{arrives_at}
 use Rattle.lc_model.specs.declared.moment.TheConstants.{MOMENTS_END}
 use Rattle.lc_model.specs.declared.query.Query.{Query}
@@ -11,7 +11,25 @@ use Rattle.convoy.specs.Below.PageClient.declared.client.Client.{Client}
 use Rattle.convoy.specs.Below.PageClient.declared.outcome.Outcome.{Outcome}
 use Rattle.convoy.specs.Below.PageClient.declared.outcome.Outcome.TheVariants as outcomes
 use Rattle.rounds_client.specs.Course.{AnswersFewest, LeadsTo, Point}
+use Rattle.rounds_client.specs.Given.{Was}
 use Rattle.rounds_client.specs.declared.ending.FewestEnd.{FewestEnd}
+
+-- How a client ended that has its outcome: where it found a best journey, one of the fewest rides over what it was given is answered, and
+-- else its own outcome.
+pub record IsEndOf (query : Query) (client : Client) (given : Was) (count : ℕ) (end : FewestEnd) : Type 0 where
+  pub outcome : Outcome
+  pub ended : (shown client).outcome ≡ Some outcome
+  pub version : end.version ≡ (shown client).version
+  pub exchanges : end.exchanges ≡ count
+  pub answer : AnswersFewest query given outcome end.outcome
+
+-- the client made exchange after exchange from here up to its outcome, and ended so
+pub record EndsFrom {X : Type 0} (seen : X → LinkSeen) (base : BaseParts) (query : Query) (start : Client) (given : Was) (before after : X) (end : FewestEnd) : Type 0 where
+  pub points : List (Point X)
+  pub last : Client
+  pub had : Was
+  pub leads : LeadsTo seen base points (record { client = start; given = given; link = before }) (record { client = last; given = had; link = after })
+  pub ends : IsEndOf query last had (length points) end
 
 -- A client of the question began, and made exchange after exchange up to its outcome, without a cache. The version is its own, and each
 -- exchange is counted. Where it found a best journey, one of the fewest rides over what it was given is answered, and else its own outcome.

@@ -6,7 +6,7 @@ ghost use Rattle.convoy.specs.Below.PageClient.Shown.{exchanges_left};
 ghost use Rattle.convoy.specs.Below.PageClient.declared.outcome.Outcome.TheVariants as outcomes;
 ghost use Rattle.convoy.specs.Steps.{IsDecided};
 ghost use Rattle.rounds_client.specs.Course.{AnswersFewest, HasEnded, HasFound, HasRead, Reads};
-ghost use Rattle.rounds_client.specs.End.{ArrivesAtAMoment, EndsSo};
+ghost use Rattle.rounds_client.specs.End.{ArrivesAtAMoment, EndsFrom, EndsSo, IsEndOf};
 ghost use Rattle.rounds_client.specs.Given.{connections_of_pages, was_given};
 
 use crate::asking::ask;
@@ -112,6 +112,60 @@ fn answer(
     }
 }
 
+/// The end of a client that has its outcome.
+fn end(
+    alloc: Global,
+    query: &Query,
+    client: Client,
+    given: &Given,
+    exchanges: u64,
+) -> Result<FewestEnd, NoMemory>
+    requires { HasRead query.now (was_given given.now) (shown client).outcome }
+    ensures ends { IfOk result (IsEndOf query.now client (was_given given.now) exchanges) }
+    ensures moment { IfOk result (λ end. ArrivesAtAMoment end.outcome) }
+{
+    let version = client.version();
+    match client.into_outcome() {
+        Some(outcome) => Ok(FewestEnd {
+            outcome: answer(alloc, query, given, outcome)?,
+            version,
+            exchanges,
+        }),
+        None => Err(NoMemory),
+    }
+}
+
+/// Lets the client of this question make its exchanges. It and what it is given are owned apart, which keeps the proof short.
+fn fewest_by<L: Link>(
+    alloc: Global,
+    query: &Query,
+    base: &Base,
+    mut client: Client,
+    given: &mut Given,
+    link: &mut L,
+) -> Result<FewestEnd, NoMemory>
+    requires decided { IsDecided (shown client) }
+    requires small { exchanges_left (shown client) < 2 ^ 33 }
+    requires asks { (shown client).query ≡ query.now }
+    requires reads { Reads client (was_given given.old) }
+    ensures ends { IfOk result (EndsFrom L.seen base.now query.now client (was_given given.old) link.old link.new) }
+    ensures moment { IfOk result (λ end. ArrivesAtAMoment end.outcome) }
+    ensures left { IsLeftByGets (L.seen link.old) (L.seen link.new) }
+    ensures behind { L.behind link.new ≡ L.behind link.old }
+{
+    match finish(alloc, base, &mut client, given, link) {
+        Ok(exchanges) => {
+            let ended = end(alloc, query, client, given, exchanges)?;
+            Ok(ended)
+        }
+        // To end a client here would make the proof long.
+        Err(NoMemory) => {
+            drop(client);
+            Err(NoMemory)
+        }
+    }
+}
+
 /// Asks by a client without a cache up to its outcome, and answers a journey of the fewest rides among the earliest arrivals where it
 /// found one. A client makes `horizon + 3` exchanges at most. Takes the time of the client, and that of `fewest_of`.
 pub fn fewest<L: Link>(
@@ -126,19 +180,11 @@ pub fn fewest<L: Link>(
     ensures behind { L.behind link.new ≡ L.behind link.old }
 {
     let asked = query.copy(alloc)?;
-    let mut client = Client::new(asked);
     let mut given = Given {
         doc: None,
         pages: Vec::new(alloc),
     };
-    let exchanges = finish(alloc, base, &mut client, &mut given, link)?;
-    let version = client.version();
-    match client.into_outcome() {
-        Some(outcome) => Ok(FewestEnd {
-            outcome: answer(alloc, &query, &given, outcome)?,
-            version,
-            exchanges,
-        }),
-        None => Err(NoMemory),
-    }
+    let client = Client::new(asked);
+    let end = fewest_by(alloc, &query, base, client, &mut given, link)?;
+    Ok(end)
 }
