@@ -47,7 +47,9 @@ impl<G: Fragmenter + Drop, L: Link> HomeLink<G, L> {
     pub fn into_outer(self) -> L
         ensures { result ≡ self.outer }
     {
-        let HomeLink { local: _, outer } = self;
+        let HomeLink { local, outer } = self;
+        // Its publisher ends in there. To end it here would make the proof long.
+        drop(local);
         outer
     }
 }

@@ -1,6 +1,8 @@
 ghost use Rattle.std.specs.Prelude.{◌≡◌, ◌++◌, IfOk, OnOk};
 ghost use Rattle.std.specs.Str.{IsUtf8};
 ghost use Rattle.std.specs.String.{string_bytes};
+ghost use Rattle.json.specs.Print.{escape};
+ghost use Rattle.page_json.specs.Fronts.{fronts_under};
 ghost use Rattle.page_json.specs.PageReading.{page_of_bytes};
 ghost use Rattle.page_json.specs.PageWriting.{link_part, page_part, search_part, url_part, view_part};
 ghost use Rattle.page_json.specs.Sound.{IsSoundPage};
@@ -76,7 +78,25 @@ pub fn page_text_in(
     ensures sound { OnOk result (IsSoundPage page.now) }
 {
     let fronts = fronts_of(alloc, base)?;
-    let text = text_by(alloc, &fronts, page, room)?;
+    text_under(alloc, base, &fronts, page, room)
+}
+
+/// The text of the page by the texts of its base. Those are owned elsewhere, since a dozen texts that end here would make the proof long.
+fn text_under(
+    alloc: Global,
+    base: &Base,
+    fronts: &Fronts,
+    page: &Page,
+    room: usize,
+) -> Result<Vec<u8>, NoMemory>
+    requires valid { IsValidPage page.now }
+    requires fronts { fronts.now ≡ fronts_under (escape base.now.text) }
+    ensures text { IfOk result (λ text. text.items ≡ page_text_of base.now page.now) }
+    ensures utf8 { IfOk result (λ text. IsUtf8 text.items) }
+    ensures read { IfOk result (λ text. page_of_bytes base.now text.items (Ok page.now)) }
+    ensures sound { OnOk result (IsSoundPage page.now) }
+{
+    let text = text_by(alloc, fronts, page, room)?;
     Ok(text)
 }
 
