@@ -49,15 +49,25 @@ fn put_under(alloc: Global, draft: &mut Draft, base: &Base) {
     }
 }
 
-/// The line of a client. It is owned here alone, since that is dear to prove.
+/// The line of a client.
 fn put_client(alloc: Global, draft: &mut Draft, base: &Base, case: &Case, then: Then) {
     match client(alloc, case, then) {
-        Ok(mut client) => {
-            put_run(alloc, draft, base, &mut client, case, then);
-            drop(client);
-        }
+        Ok(client) => put_owned(alloc, draft, base, client, case, then),
         Err(Unmade) => draft.lose(),
     }
+}
+
+/// A client is owned here alone, and ends elsewhere, since that is dear to prove.
+fn put_owned(
+    alloc: Global,
+    draft: &mut Draft,
+    base: &Base,
+    mut client: Client,
+    case: &Case,
+    then: Then,
+) {
+    put_run(alloc, draft, base, &mut client, case, then);
+    drop(client);
 }
 
 fn client(alloc: Global, case: &Case, then: Then) -> Result<Client, Unmade> {

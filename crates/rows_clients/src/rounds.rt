@@ -143,9 +143,14 @@ fn question(alloc: Global, case: &Case) -> Result<Query, Unmade> {
 fn put_faulty(alloc: Global, draft: &mut Draft) {
     draft.put("a link that fails, ");
     match faulty(alloc) {
-        Ok(mut link) => put_asking(alloc, draft, &CASES[0], &mut link),
+        Ok(link) => put_asking_once(alloc, draft, &CASES[0], link),
         Err(Unmade) => draft.lose(),
     }
+}
+
+/// As before, and the link ends here, whatever it is.
+fn put_asking_once<L: Link + Drop>(alloc: Global, draft: &mut Draft, case: &Case, mut link: L) {
+    put_asking(alloc, draft, case, &mut link);
 }
 
 fn faulty(alloc: Global) -> Result<FaultyLink<LocalLink<Cutting>>, Unmade> {

@@ -1,5 +1,6 @@
 //! Arguments of `drill`, and of the replay that it plays.
-use super::commands::{put_said, put_word};
+use super::commands::put_word;
+use super::words::{Side, put_read};
 use cli_words::{Command, Drill, drilled_replay};
 use lc_model::NoMemory;
 use rows_common::Draft;
@@ -48,8 +49,7 @@ pub(super) fn put_drill(draft: &mut Draft, drill: &Drill) {
 pub(super) fn put_drilled(alloc: Global, draft: &mut Draft) {
     let drill = Drill { seed: 1, days: 3 };
     draft.put("played by drill 1 --days 3: ");
-    put_said(draft, &drilled(alloc, &drill));
-    draft.put("\n");
+    put_read(draft, drilled(alloc, &drill), Side::Words);
 }
 
 fn drilled(alloc: Global, drill: &Drill) -> Result<Option<Command>, NoMemory> {

@@ -75,7 +75,15 @@ fn push_live(
 ) -> Result<(), Unmade> {
     let calls = live(alloc, run, news)?;
     let connections = connections(alloc, run, &calls)?;
-    for connection in connections.as_slice() {
+    push_each(alloc, list, connections.as_slice())
+}
+
+fn push_each(
+    alloc: Global,
+    list: &mut Vec<Connection>,
+    connections: &[Connection],
+) -> Result<(), Unmade> {
+    for connection in connections {
         list.push(connection.copy(alloc)?)?;
     }
     Ok(())
