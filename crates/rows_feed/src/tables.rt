@@ -16,15 +16,12 @@ pub(crate) fn put_tables(alloc: Global, draft: &mut Draft) {
     row_cases::put_texts(alloc, draft);
     row_cases::put_faults(alloc, draft);
     row_cases::put_long(alloc, draft);
-    trip_cases::put_stop_files(alloc, draft);
     trip_cases::put_stops(alloc, draft);
     trip_cases::put_many_stops(alloc, draft);
-    trip_cases::put_trip_files(alloc, draft);
     trip_cases::put_trips(alloc, draft);
     stop_time_cases::put_files(alloc, draft);
     calendar_cases::put_files(alloc, draft);
     calendar_cases::put_weeks(alloc, draft);
-    calendar_cases::put_date_files(alloc, draft);
     calendar_cases::put_dates(alloc, draft);
     span_cases::put_spans(alloc, draft);
     transfer_cases::put_transfers(alloc, draft);

@@ -46,43 +46,29 @@ const BY_ROWS: [(&str, &str, &str); 27] = [
 /// A line for each row of `BY_ROWS`: the seconds of the change, by a usual 120.
 pub(super) fn put_by_rows(alloc: Global, draft: &mut Draft) {
     match read_stops(alloc, STATIONS.as_bytes()) {
-        Ok(stops) => put_each(alloc, draft, &stops),
+        Ok(stops) => {
+            for &(rows, from, to) in &BY_ROWS {
+                put_change(alloc, draft, &stops, rows, from, to);
+            }
+        }
         Err(_) => draft.lose(),
-    }
-}
-
-fn put_each(alloc: Global, draft: &mut Draft, stops: &Stops) {
-    for &(rows, from, to) in &BY_ROWS {
-        put_change(alloc, draft, stops, rows, from, to);
     }
 }
 
 fn put_change(alloc: Global, draft: &mut Draft, stops: &Stops, rows: &str, from: &str, to: &str) {
-    draft.put("'");
-    draft.put(rows);
-    draft.put("' from ");
-    draft.put(from);
-    draft.put(" to ");
-    draft.put(to);
-    draft.put(": ");
-    match transfers_of(alloc, rows) {
-        Ok(transfers) => put_change_by(alloc, draft, stops, &transfers, from, to),
+    draft.put_all(&["'", rows, "' from ", from, " to ", to, ": "]);
+    match changes_by(alloc, stops, rows) {
+        Ok(changes) => put_between(draft, &changes, id_of(stops, from), id_of(stops, to)),
         Err(Unmade) => draft.lose(),
     }
 }
 
-fn put_change_by(
-    alloc: Global,
-    draft: &mut Draft,
-    stops: &Stops,
-    transfers: &Transfers,
-    from: &str,
-    to: &str,
-) {
-    match changes(alloc, stops, transfers, 120) {
-        Ok(changes) => put_between(draft, &changes, id_of(stops, from), id_of(stops, to)),
-        Err(_) => draft.lose(),
-    }
+/// The changes at these stops by these rows, and by a usual 120 seconds.
+fn changes_by(alloc: Global, stops: &Stops, rows: &str) -> Result<Changes, Unmade> {
+    let mut list = Vec::new(alloc);
+    push_rows(alloc, &mut list, rows)?;
+    let transfers = Transfers::from_list(list);
+    Ok(changes(alloc, stops, &transfers, 120)?)
 }
 
 /// The id of the stop of this name.
@@ -104,12 +90,6 @@ fn put_between(draft: &mut Draft, changes: &Changes, from: Option<&Id>, to: Opti
         None => draft.put("no change"),
     }
     draft.put("\n");
-}
-
-fn transfers_of(alloc: Global, rows: &str) -> Result<Transfers, Unmade> {
-    let mut list = Vec::new(alloc);
-    push_rows(alloc, &mut list, rows)?;
-    Ok(Transfers::from_list(list))
 }
 
 fn push_rows(alloc: Global, list: &mut Vec<Transfer>, rows: &str) -> Result<(), Unmade> {
@@ -159,16 +139,12 @@ const SIX_STOPS: &str = "stop_id,stop_name\nA,A\nB,B\nC,C\nD,D\nE,E\nF,F\n";
 
 /// A line for each of four usual seconds: the changes at six stops without a row.
 pub(super) fn put_single_stops(alloc: Global, draft: &mut Draft) {
-    match read_stops(alloc, SIX_STOPS.as_bytes()) {
-        Ok(stops) => put_single_stops_at(alloc, draft, &stops),
-        Err(_) => draft.lose(),
-    }
-}
-
-fn put_single_stops_at(alloc: Global, draft: &mut Draft, stops: &Stops) {
+    let Ok(stops) = read_stops(alloc, SIX_STOPS.as_bytes()) else {
+        return draft.lose();
+    };
     let no_transfers = Transfers::from_list(Vec::new(alloc));
     for &default in &[120, 1, 0, u32::MAX] {
-        put_all(alloc, draft, stops, &no_transfers, default);
+        put_all(alloc, draft, &stops, &no_transfers, default);
     }
 }
 
@@ -185,43 +161,28 @@ fn put_changes(draft: &mut Draft, changes: &[Change]) {
     draft.put_shown(&changes.len());
     draft.put(" changes; ");
     for change in changes {
-        put_one(draft, change);
+        draft.put_all(&[change.from.as_str(), " ", change.to.as_str(), " "]);
+        draft.put_shown(&change.seconds);
+        draft.put("; ");
     }
     draft.put("\n");
-}
-
-fn put_one(draft: &mut Draft, change: &Change) {
-    draft.put(change.from.as_str());
-    draft.put(" ");
-    draft.put(change.to.as_str());
-    draft.put(" ");
-    draft.put_shown(&change.seconds);
-    draft.put("; ");
 }
 
 /// A line for a station: between its 1,000 children there are 1,000,000 changes, and the station itself is one more.
 pub(super) fn put_large_station(alloc: Global, draft: &mut Draft) {
     let mut file = Draft::new(alloc);
-    put_station(&mut file);
-    match read_stops(alloc, file.as_str().as_bytes()) {
+    file.put("stop_id,stop_name,parent_station\nP,P,\n");
+    for number in 1_000..2_000u32 {
+        file.put("P");
+        file.put_shown(&number);
+        file.put(",P");
+        file.put_shown(&number);
+        file.put(",P\n");
+    }
+    match read_stops(alloc, file.as_bytes()) {
         Ok(stops) => put_large_station_of(alloc, draft, &stops),
         Err(_) => draft.lose(),
     }
-}
-
-fn put_station(file: &mut Draft) {
-    file.put("stop_id,stop_name,parent_station\nP,P,\n");
-    for number in 1_000..2_000u32 {
-        put_child(file, number);
-    }
-}
-
-fn put_child(file: &mut Draft, number: u32) {
-    file.put("P");
-    file.put_shown(&number);
-    file.put(",P");
-    file.put_shown(&number);
-    file.put(",P\n");
 }
 
 fn put_large_station_of(alloc: Global, draft: &mut Draft, stops: &Stops) {

@@ -26,14 +26,12 @@ const DATES: [&str; 7] = [
 /// A line for each of `DATES`: on which of 14 days from 2024-05-01 which services run.
 pub(super) fn put_listed(alloc: Global, draft: &mut Draft) {
     match read_calendar(alloc, WEEKLY.as_bytes()) {
-        Ok(weekly) => put_each(alloc, draft, weekly.as_slice()),
+        Ok(weekly) => {
+            for &file in &DATES {
+                put_listed_under(alloc, draft, weekly.as_slice(), file);
+            }
+        }
         Err(_) => draft.lose(),
-    }
-}
-
-fn put_each(alloc: Global, draft: &mut Draft, weekly: &[Weekly]) {
-    for &file in &DATES {
-        put_listed_under(alloc, draft, weekly, file);
     }
 }
 
@@ -53,17 +51,13 @@ fn put_found(alloc: Global, draft: &mut Draft, weekly: &[Weekly], dates: &[DateR
     match days(alloc, weekly, dates, first, 14) {
         Ok(found) => {
             draft.need(found.copy(alloc));
-            put_days(draft, found.as_slice());
+            for day in found.as_slice() {
+                put_day(draft, day);
+            }
+            draft.put("\n");
         }
         Err(_) => draft.lose(),
     }
-}
-
-fn put_days(draft: &mut Draft, days: &[ServiceDay]) {
-    for day in days {
-        put_day(draft, day);
-    }
-    draft.put("\n");
 }
 
 /// The service and the day of the month.

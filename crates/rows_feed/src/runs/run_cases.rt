@@ -180,15 +180,11 @@ pub(super) fn put_feeds(alloc: Global, draft: &mut Draft) {
 }
 
 fn put_feed(alloc: Global, draft: &mut Draft, feed: Feed, place: usize) {
-    match read_zone(alloc, feed.zone.as_bytes(), None) {
-        Ok(zone) => put_feed_in(alloc, draft, feed, &zone, place),
-        Err(_) => draft.lose(),
-    }
-}
-
-fn put_feed_in(alloc: Global, draft: &mut Draft, feed: Feed, zone: &Zone, place: usize) {
+    let Ok(zone) = read_zone(alloc, feed.zone.as_bytes(), None) else {
+        return draft.lose();
+    };
     match days_of(alloc, feed) {
-        Ok(days) => put_feed_on(alloc, draft, feed, zone, &days, place),
+        Ok(days) => put_feed_on(alloc, draft, feed, &zone, &days, place),
         Err(Unmade) => draft.lose(),
     }
 }
@@ -210,7 +206,10 @@ fn put_feed_on(
     place: usize,
 ) {
     match frequencies_of(alloc, feed) {
-        Ok(frequencies) => put_feed_by(alloc, draft, feed, zone, days, &frequencies, place),
+        Ok(frequencies) => match timed_of(alloc, feed) {
+            Ok(timed) => put_runs(alloc, draft, &timed, zone, days, &frequencies, place),
+            Err(Unmade) => draft.lose(),
+        },
         Err(Unmade) => draft.lose(),
     }
 }
@@ -218,21 +217,6 @@ fn put_feed_on(
 fn frequencies_of(alloc: Global, feed: Feed) -> Result<Frequencies, Unmade> {
     let trips = read_trips(alloc, feed.trips.as_bytes())?;
     Ok(read_frequencies(alloc, feed.frequencies.as_bytes(), &trips)?)
-}
-
-fn put_feed_by(
-    alloc: Global,
-    draft: &mut Draft,
-    feed: Feed,
-    zone: &Zone,
-    days: &Days,
-    frequencies: &Frequencies,
-    place: usize,
-) {
-    match timed_of(alloc, feed) {
-        Ok(timed) => put_runs(alloc, draft, &timed, zone, days, frequencies, place),
-        Err(Unmade) => draft.lose(),
-    }
 }
 
 fn timed_of(alloc: Global, feed: Feed) -> Result<TimedTrips, Unmade> {
@@ -339,16 +323,13 @@ fn put_call_at(draft: &mut Draft, stop: &str, second: u64) {
 /// A line for each of five dates: whether runs may be planned on it.
 pub(super) fn put_dates(draft: &mut Draft) {
     for &day in &["19700109", "19700110", "99991215", "99991216", "00010101"] {
-        put_date(draft, day);
+        match read_date(day.as_bytes()) {
+            Some(date) => {
+                draft.put_all(&[day, " is plannable: "]);
+                draft.put_shown(&is_plannable(date));
+                draft.put("\n");
+            }
+            None => draft.lose(),
+        }
     }
-}
-
-fn put_date(draft: &mut Draft, day: &str) {
-    let Some(date) = read_date(day.as_bytes()) else {
-        return draft.lose();
-    };
-    draft.put(day);
-    draft.put(" is plannable: ");
-    draft.put_shown(&is_plannable(date));
-    draft.put("\n");
 }

@@ -44,25 +44,14 @@ const TIMES: [(&str, &str, u64); 18] = [
 /// A line for each row of `TIMES`: its moment, or that the day has no anchor.
 pub(super) fn put_times(alloc: Global, draft: &mut Draft) {
     for &(word, day, seconds) in &TIMES {
-        put_time(alloc, draft, word, day, seconds);
+        draft.put_all(&[word, ", ", day, ", "]);
+        draft.put_shown(&seconds);
+        draft.put(" seconds: ");
+        match zone(alloc, word) {
+            Ok(zone) => put_time_in(draft, &zone, day, seconds),
+            Err(_) => draft.lose(),
+        }
     }
-}
-
-fn put_time(alloc: Global, draft: &mut Draft, word: &str, day: &str, seconds: u64) {
-    put_name(draft, word, day);
-    draft.put(", ");
-    draft.put_shown(&seconds);
-    draft.put(" seconds: ");
-    match zone(alloc, word) {
-        Ok(zone) => put_time_in(draft, &zone, day, seconds),
-        Err(_) => draft.lose(),
-    }
-}
-
-fn put_name(draft: &mut Draft, word: &str, day: &str) {
-    draft.put(word);
-    draft.put(", ");
-    draft.put(day);
 }
 
 fn put_time_in(draft: &mut Draft, zone: &Zone, day: &str, seconds: u64) {
@@ -70,15 +59,11 @@ fn put_time_in(draft: &mut Draft, zone: &Zone, day: &str, seconds: u64) {
         return draft.lose();
     };
     match anchor(zone, date) {
-        Some(anchor) => put_second(draft, anchor.seconds().saturating_add(seconds)),
-        None => draft.put("no anchor\n"),
-    }
-}
-
-fn put_second(draft: &mut Draft, second: u64) {
-    match Moment::new(second) {
-        Some(moment) => put_moment(draft, moment),
-        None => draft.lose(),
+        Some(anchor) => match Moment::new(anchor.seconds().saturating_add(seconds)) {
+            Some(moment) => put_moment(draft, moment),
+            None => draft.lose(),
+        },
+        None => draft.put("no anchor"),
     }
     draft.put("\n");
 }
@@ -104,16 +89,11 @@ const MOMENTS: [(&str, &str); 9] = [
 /// A line for each row of `MOMENTS`: the date that a clock of the zone shows.
 pub(super) fn put_civil_dates(alloc: Global, draft: &mut Draft) {
     for &(word, moment) in &MOMENTS {
-        put_civil_date(alloc, draft, word, moment);
-    }
-}
-
-fn put_civil_date(alloc: Global, draft: &mut Draft, word: &str, moment: &str) {
-    put_name(draft, word, moment);
-    draft.put(": ");
-    match zone(alloc, word) {
-        Ok(zone) => put_civil_date_in(draft, &zone, moment),
-        Err(_) => draft.lose(),
+        draft.put_all(&[word, ", ", moment, ": "]);
+        match zone(alloc, word) {
+            Ok(zone) => put_civil_date_in(draft, &zone, moment),
+            Err(_) => draft.lose(),
+        }
     }
 }
 
@@ -149,9 +129,15 @@ pub(super) fn put_wrong_words(alloc: Global, draft: &mut Draft) {
 }
 
 fn put_wrong_word(alloc: Global, draft: &mut Draft, word: &str, file: Option<&[u8]>) {
-    draft.put("'");
-    draft.put(word);
-    put_size(draft, file);
+    draft.put_all(&["'", word, "'"]);
+    match file {
+        Some(bytes) => {
+            draft.put(" with a file of ");
+            draft.put_shown(&bytes.len());
+        }
+        None => draft.put(" without a file"),
+    }
+    draft.put(": ");
     match read_zone(alloc, word.as_bytes(), file) {
         Ok(_) => draft.put("a zone"),
         Err(fault) => draft.put_shown(&fault),
@@ -159,32 +145,17 @@ fn put_wrong_word(alloc: Global, draft: &mut Draft, word: &str, file: Option<&[u
     draft.put("\n");
 }
 
-fn put_size(draft: &mut Draft, file: Option<&[u8]>) {
-    match file {
-        Some(bytes) => {
-            draft.put("' with a file of ");
-            draft.put_shown(&bytes.len());
-        }
-        None => draft.put("' without a file"),
-    }
-    draft.put(": ");
-}
-
 /// A line for each of three words: the name of the file that it asks for.
 pub(super) fn put_files(draft: &mut Draft) {
     for &word in &["file:Europe/Berlin", "file:", "file"] {
-        put_file(draft, word);
-    }
-}
-
-fn put_file(draft: &mut Draft, word: &str) {
-    draft.put(word);
-    match zone_file(word.as_bytes()) {
-        Some(name) => {
-            draft.put(" asks for '");
-            draft.put_escaped(name);
-            draft.put("'\n");
+        draft.put(word);
+        match zone_file(word.as_bytes()) {
+            Some(name) => {
+                draft.put(" asks for '");
+                draft.put_escaped(name);
+                draft.put("'\n");
+            }
+            None => draft.put(" asks for no file\n"),
         }
-        None => draft.put(" asks for no file\n"),
     }
 }

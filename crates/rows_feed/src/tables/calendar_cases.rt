@@ -1,5 +1,5 @@
 //! What calendar.txt and calendar_dates.txt say, or the first rule that each breaks.
-use super::recorded::put_reported;
+use super::recorded::put_file;
 use gtfs_calendars::{DateRow, Weekly, WeeklyList, read_calendar, read_calendar_dates};
 use gtfs_fields::FileFault;
 use lc_model::ServiceDate;
@@ -33,23 +33,12 @@ const ROWS: [&str; 9] = [
 /// A line for each of `FILES` and of `ROWS`.
 pub(super) fn put_files(alloc: Global, draft: &mut Draft) {
     for &bytes in &FILES {
-        put_file(alloc, draft, bytes);
+        put_file(draft, "calendar.txt ", bytes, &read_calendar(alloc, bytes));
     }
     for &rows in &ROWS {
-        put_rows(alloc, draft, rows);
+        let read = read_rows(alloc, rows);
+        put_file(draft, "calendar.txt, rows ", rows.as_bytes(), &read);
     }
-}
-
-fn put_file(alloc: Global, draft: &mut Draft, bytes: &[u8]) {
-    draft.put("calendar.txt ");
-    draft.put_escaped(bytes);
-    put_reported(draft, &read_calendar(alloc, bytes));
-}
-
-fn put_rows(alloc: Global, draft: &mut Draft, rows: &str) {
-    draft.put("calendar.txt, rows ");
-    draft.put_escaped(rows.as_bytes());
-    put_reported(draft, &read_rows(alloc, rows));
 }
 
 fn read_rows(alloc: Global, rows: &str) -> Result<WeeklyList, FileFault> {
@@ -65,21 +54,17 @@ const WEEKS: &str =
 /// A line for each row of `WEEKS`: the service, the days from Monday to Sunday, and the first and the last date.
 pub(super) fn put_weeks(alloc: Global, draft: &mut Draft) {
     match read_calendar(alloc, WEEKS.as_bytes()) {
-        Ok(weekly) => put_each_week(draft, weekly.as_slice()),
+        Ok(weekly) => {
+            for row in weekly.as_slice() {
+                put_week(draft, row);
+            }
+        }
         Err(_) => draft.lose(),
     }
 }
 
-fn put_each_week(draft: &mut Draft, weekly: &[Weekly]) {
-    for row in weekly {
-        put_week(draft, row);
-    }
-}
-
 fn put_week(draft: &mut Draft, row: &Weekly) {
-    draft.put("weekly ");
-    draft.put(row.service.as_str());
-    draft.put(": ");
+    draft.put_all(&["weekly ", row.service.as_str(), ": "]);
     for day in &row.days {
         draft.put_shown(day);
         draft.put(" ");
@@ -112,38 +97,25 @@ const DATE_FILES: [&[u8]; 10] = [
     b"\xEF\xBB\xBFservice_id,date,exception_type\nw,20240229,1\n",
 ];
 
-/// A line for each of `DATE_FILES`.
-pub(super) fn put_date_files(alloc: Global, draft: &mut Draft) {
-    for &bytes in &DATE_FILES {
-        put_date_file(alloc, draft, bytes);
-    }
-}
-
-fn put_date_file(alloc: Global, draft: &mut Draft, bytes: &[u8]) {
-    draft.put("calendar_dates.txt ");
-    draft.put_escaped(bytes);
-    put_reported(draft, &read_calendar_dates(alloc, bytes));
-}
-
-/// A line for each date of a file.
+/// A line for each of `DATE_FILES`, and for each date of a file.
 pub(super) fn put_dates(alloc: Global, draft: &mut Draft) {
+    for &bytes in &DATE_FILES {
+        let read = read_calendar_dates(alloc, bytes);
+        put_file(draft, "calendar_dates.txt ", bytes, &read);
+    }
     let file = b"service_id,date,exception_type\nw,20240508,2\nv,20240508,1\n";
     match read_calendar_dates(alloc, file.as_slice()) {
-        Ok(dates) => put_each_date(draft, dates.as_slice()),
+        Ok(dates) => {
+            for row in dates.as_slice() {
+                put_date_row(draft, row);
+            }
+        }
         Err(_) => draft.lose(),
     }
 }
 
-fn put_each_date(draft: &mut Draft, dates: &[DateRow]) {
-    for row in dates {
-        put_date_row(draft, row);
-    }
-}
-
 fn put_date_row(draft: &mut Draft, row: &DateRow) {
-    draft.put("date ");
-    draft.put(row.service.as_str());
-    draft.put(", added ");
+    draft.put_all(&["date ", row.service.as_str(), ", added "]);
     draft.put_shown(&row.added);
     draft.put(": ");
     put_date(draft, row.date);

@@ -2,8 +2,15 @@
 use gtfs_fields::FileFault;
 use rows_common::Draft;
 
-/// Ends the line of a file: it is read, or this is what is wrong first with it.
-pub(super) fn put_reported<T>(draft: &mut Draft, read: &Result<T, FileFault>) {
+/// A line for a file: its name and its bytes, and that it is read or what is wrong first with it.
+pub(super) fn put_file<T>(
+    draft: &mut Draft,
+    name: &str,
+    bytes: &[u8],
+    read: &Result<T, FileFault>,
+) {
+    draft.put(name);
+    draft.put_escaped(bytes);
     draft.put(": ");
     match read {
         Ok(_) => draft.put("read"),

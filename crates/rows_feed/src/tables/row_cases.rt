@@ -140,35 +140,25 @@ const FAULTS: [(&[u8], &str); 14] = [
 pub(super) fn put_faults(alloc: Global, draft: &mut Draft) {
     for &(bytes, columns) in &FAULTS {
         draft.put_escaped(bytes);
-        draft.put(" with ");
-        draft.put(columns);
-        put_fault(draft, &table_with(alloc, bytes, columns));
+        draft.put_all(&[" with ", columns, ": "]);
+        match table_with(alloc, bytes, columns) {
+            Ok(_) => draft.put("none"),
+            Err(fault) => draft.put_owned(fault),
+        }
+        draft.put("\n");
     }
-}
-
-fn put_fault(draft: &mut Draft, read: &Result<Rows, RowFault>) {
-    draft.put(": ");
-    match read {
-        Ok(_) => draft.put("none"),
-        Err(fault) => draft.put_shown(fault),
-    }
-    draft.put("\n");
 }
 
 /// Lines of a file that is longer than a buffer.
 pub(super) fn put_long(alloc: Global, draft: &mut Draft) {
     let mut file = Draft::new(alloc);
-    put_long_file(&mut file);
-    match table(alloc, file.as_str().as_bytes(), &["stop_id"]) {
-        Ok(rows) => put_long_rows(draft, &rows),
-        Err(_) => draft.lose(),
-    }
-}
-
-fn put_long_file(file: &mut Draft) {
     file.put("trip_id,stop_id\n");
     for row in 1..=3_000u32 {
-        put_long_row(file, row);
+        put_long_row(&mut file, row);
+    }
+    match table(alloc, file.as_bytes(), &["stop_id"]) {
+        Ok(rows) => put_long_rows(draft, &rows),
+        Err(_) => draft.lose(),
     }
 }
 

@@ -1,7 +1,6 @@
 //! What frequencies.txt says of the trip T, or the first rule that it breaks.
-use super::recorded::put_reported;
+use super::recorded::put_file;
 use gtfs_calendars::{Frequency, read_frequencies};
-use gtfs_fields::TripRows;
 use gtfs_trips::read_trips;
 use rows_common::Draft;
 use std::alloc::Global;
@@ -25,38 +24,25 @@ const SPANS: &[u8] =
 
 /// A line for each of `FILES` and for each row of `SPANS`: the trip, the first start, the end and the seconds between starts.
 pub(super) fn put_spans(alloc: Global, draft: &mut Draft) {
-    match read_trips(alloc, b"trip_id,service_id\nT,w\n".as_slice()) {
-        Ok(trips) => put_spans_of(alloc, draft, &trips),
-        Err(_) => draft.lose(),
-    }
-}
-
-fn put_spans_of(alloc: Global, draft: &mut Draft, trips: &TripRows) {
+    let Ok(trips) = read_trips(alloc, b"trip_id,service_id\nT,w\n".as_slice()) else {
+        return draft.lose();
+    };
     for &bytes in &FILES {
-        put_file(alloc, draft, trips, bytes);
+        let read = read_frequencies(alloc, bytes, &trips);
+        put_file(draft, "frequencies.txt ", bytes, &read);
     }
-    match read_frequencies(alloc, SPANS, trips) {
-        Ok(frequencies) => put_each(draft, frequencies.as_slice()),
+    match read_frequencies(alloc, SPANS, &trips) {
+        Ok(frequencies) => {
+            for span in frequencies.as_slice() {
+                put_span(draft, span);
+            }
+        }
         Err(_) => draft.lose(),
-    }
-}
-
-fn put_file(alloc: Global, draft: &mut Draft, trips: &TripRows, bytes: &[u8]) {
-    draft.put("frequencies.txt ");
-    draft.put_escaped(bytes);
-    put_reported(draft, &read_frequencies(alloc, bytes, trips));
-}
-
-fn put_each(draft: &mut Draft, frequencies: &[Frequency]) {
-    for span in frequencies {
-        put_span(draft, span);
     }
 }
 
 fn put_span(draft: &mut Draft, span: &Frequency) {
-    draft.put("frequency ");
-    draft.put(span.trip.as_str());
-    draft.put(": ");
+    draft.put_all(&["frequency ", span.trip.as_str(), ": "]);
     draft.put_shown(&span.from);
     draft.put(" ");
     draft.put_shown(&span.to);

@@ -1,5 +1,5 @@
 //! What stop_times.txt says, or the first rule that it breaks.
-use super::recorded::put_reported;
+use super::recorded::put_file;
 use gtfs_fields::FileFault;
 use gtfs_trips::{StopTime, TimedTrips, read_stop_times, read_stops, read_trips};
 use lc_model::Stops;
@@ -51,23 +51,17 @@ const FILES: [&str; 27] = [
 
 /// A line for each of `FILES`, and the lines of `ROWS`.
 pub(super) fn put_files(alloc: Global, draft: &mut Draft) {
-    match read_stops(alloc, STOPS.as_bytes()) {
-        Ok(stops) => put_files_at(alloc, draft, &stops),
+    let Ok(stops) = read_stops(alloc, STOPS.as_bytes()) else {
+        return draft.lose();
+    };
+    for &rows in &FILES {
+        let read = read_rows(alloc, &stops, rows);
+        put_file(draft, "stop_times.txt, rows ", rows.as_bytes(), &read);
+    }
+    match read_rows(alloc, &stops, ROWS) {
+        Ok(timed) => put_timed(draft, &timed),
         Err(_) => draft.lose(),
     }
-}
-
-fn put_files_at(alloc: Global, draft: &mut Draft, stops: &Stops) {
-    for &rows in &FILES {
-        put_file(alloc, draft, stops, rows);
-    }
-    put_times(draft, &read_rows(alloc, stops, ROWS));
-}
-
-fn put_file(alloc: Global, draft: &mut Draft, stops: &Stops, rows: &str) {
-    draft.put("stop_times.txt, rows ");
-    draft.put_escaped(rows.as_bytes());
-    put_reported(draft, &read_rows(alloc, stops, rows));
 }
 
 fn read_rows(alloc: Global, stops: &Stops, rows: &str) -> Result<TimedTrips, FileFault> {
@@ -85,21 +79,12 @@ const ROWS: &str =
     "T2,B,9,08:20:00,,,\nT1,C,10,8:30:00,8:30:00,1,0\nT3,,1,,,,\nT1,A,9,08:00:00,,11,1\nT3,A,2,08:00:00,,,\n";
 
 /// A line for each stop time, by trip and sequence, one for each trip, and one for those left out.
-fn put_times(draft: &mut Draft, read: &Result<TimedTrips, FileFault>) {
-    match read {
-        Ok(timed) => put_timed(draft, timed),
-        Err(_) => draft.lose(),
-    }
-}
-
 fn put_timed(draft: &mut Draft, timed: &TimedTrips) {
     for time in timed.times.as_slice() {
         put_time(draft, time);
     }
     for trip in timed.trips.as_slice() {
-        draft.put("timed trip: ");
-        draft.put(trip.trip.as_str());
-        draft.put("\n");
+        draft.put_all(&["timed trip: ", trip.trip.as_str(), "\n"]);
     }
     draft.put("left out: ");
     draft.put_shown(&timed.left_out);
@@ -108,21 +93,14 @@ fn put_timed(draft: &mut Draft, timed: &TimedTrips) {
 
 /// The trip, the stop, the sequence, the arrival and the departure, where 1 means none, and whether one may board and alight.
 fn put_time(draft: &mut Draft, time: &StopTime) {
-    draft.put("stop time: ");
-    draft.put(time.trip.as_str());
+    draft.put_all(&["stop time: ", time.trip.as_str(), " ", time.stop.as_str()]);
+    for number in &[time.seq, time.arr.unwrap_or(1), time.dep.unwrap_or(1)] {
+        draft.put(" ");
+        draft.put_shown(number);
+    }
     draft.put(" ");
-    draft.put(time.stop.as_str());
-    draft.put(" ");
-    put_number(draft, time.seq);
-    put_number(draft, time.arr.unwrap_or(1));
-    put_number(draft, time.dep.unwrap_or(1));
     draft.put_shown(&time.board);
     draft.put(" ");
     draft.put_shown(&time.alight);
     draft.put("\n");
-}
-
-fn put_number(draft: &mut Draft, number: u32) {
-    draft.put_shown(&number);
-    draft.put(" ");
 }

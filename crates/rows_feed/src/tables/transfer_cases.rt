@@ -1,8 +1,7 @@
 //! What transfers.txt says of the stops A and B, or the first rule that it breaks.
-use super::recorded::put_reported;
+use super::recorded::put_file;
 use gtfs_calendars::{Transfer, read_transfers};
 use gtfs_trips::read_stops;
-use lc_model::Stops;
 use rows_common::Draft;
 use std::alloc::Global;
 
@@ -27,40 +26,26 @@ const TRANSFERS: &[u8] =
 
 /// A line for each of `FILES` and for each transfer of `TRANSFERS`: its ends, its type and its seconds.
 pub(super) fn put_transfers(alloc: Global, draft: &mut Draft) {
-    match read_stops(alloc, b"stop_id,stop_name\nA,A\nB,B\n".as_slice()) {
-        Ok(stops) => put_transfers_at(alloc, draft, &stops),
-        Err(_) => draft.lose(),
-    }
-}
-
-fn put_transfers_at(alloc: Global, draft: &mut Draft, stops: &Stops) {
+    let Ok(stops) = read_stops(alloc, b"stop_id,stop_name\nA,A\nB,B\n".as_slice()) else {
+        return draft.lose();
+    };
     for &bytes in &FILES {
-        put_file(alloc, draft, stops, bytes);
+        let read = read_transfers(alloc, bytes, &stops);
+        put_file(draft, "transfers.txt ", bytes, &read);
     }
-    match read_transfers(alloc, TRANSFERS, stops) {
-        Ok(transfers) => put_each(draft, transfers.as_slice()),
+    match read_transfers(alloc, TRANSFERS, &stops) {
+        Ok(transfers) => {
+            for transfer in transfers.as_slice() {
+                put_transfer(draft, transfer);
+            }
+        }
         Err(_) => draft.lose(),
-    }
-}
-
-fn put_file(alloc: Global, draft: &mut Draft, stops: &Stops, bytes: &[u8]) {
-    draft.put("transfers.txt ");
-    draft.put_escaped(bytes);
-    put_reported(draft, &read_transfers(alloc, bytes, stops));
-}
-
-fn put_each(draft: &mut Draft, transfers: &[Transfer]) {
-    for transfer in transfers {
-        put_transfer(draft, transfer);
     }
 }
 
 fn put_transfer(draft: &mut Draft, transfer: &Transfer) {
-    draft.put("transfer ");
-    draft.put(transfer.from.as_str());
-    draft.put(" ");
-    draft.put(transfer.to.as_str());
-    draft.put(": ");
+    let (from, to) = (transfer.from.as_str(), transfer.to.as_str());
+    draft.put_all(&["transfer ", from, " ", to, ": "]);
     draft.put_shown(&transfer.kind);
     match transfer.seconds {
         Some(seconds) => {
