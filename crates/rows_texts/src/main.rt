@@ -4,6 +4,7 @@
 
 mod messages;
 mod texts;
+mod written;
 
 use rows_common::{Draft, exit_code};
 use std::process::ExitCode;

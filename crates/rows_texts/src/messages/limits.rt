@@ -34,10 +34,7 @@ pub(super) fn put_limits(alloc: Global, draft: &mut Draft, room: &mut HeadRoom) 
     for &(front, fields) in &WIDE_HEADS {
         put_wide_head(alloc, draft, room, front, fields);
     }
-    put_wide_reply(alloc, draft);
-    put_request_as_reply(alloc, draft, room);
-    put_long_reply(alloc, draft, room, 16_363);
-    put_long_reply(alloc, draft, room, 16_364);
+    put_replies(alloc, draft, room);
 }
 
 fn put_long_head(alloc: Global, draft: &mut Draft, room: &mut HeadRoom, value: usize, end: &str) {
@@ -85,18 +82,18 @@ fn wide_head(alloc: Global, line: &str, fields: usize) -> Draft {
     head
 }
 
-fn put_wide_reply(alloc: Global, draft: &mut Draft) {
+/// Lines for heads that are no reply's: with many fields, of a request, and long ones.
+fn put_replies(alloc: Global, draft: &mut Draft, room: &mut HeadRoom) {
     draft.put("a reply of 101 fields");
-    let head = wide_head(alloc, "HTTP/1.1 200 OK\r\n", 101);
-    draft.also(&head);
-    put_fault(draft, read_reply(alloc, head.as_bytes()));
-}
-
-fn put_request_as_reply(alloc: Global, draft: &mut Draft, room: &mut HeadRoom) {
+    let wide = wide_head(alloc, "HTTP/1.1 200 OK\r\n", 101);
+    draft.also(&wide);
+    put_fault(draft, read_reply(alloc, wide.as_bytes()));
     draft.put("a request of 16357 bytes in a value, as a reply");
-    let head = long_head(alloc, 16_357, "");
-    draft.also(&head);
-    put_fault(draft, room.read_reply(alloc, head.as_bytes()));
+    let long = long_head(alloc, 16_357, "");
+    draft.also(&long);
+    put_fault(draft, room.read_reply(alloc, long.as_bytes()));
+    put_long_reply(alloc, draft, room, 16_363);
+    put_long_reply(alloc, draft, room, 16_364);
 }
 
 /// A line for the head of a reply that ends within its field.

@@ -2,6 +2,7 @@
 ghost use Rattle.std.specs.Prelude.{◌≡◌};
 ghost use Rattle.http_text.specs.ReplyText.{HasReason};
 
+use crate::written::put_written;
 use http_text::{Allow, BodyKind, ReplyParts, reply_text};
 use lc_model::{Bytes, Moment, PlainData, Text};
 use rows_common::Draft;
@@ -18,8 +19,7 @@ const GATE: &str = "http://lc.example/connections?departureTime=2024-05-01T08:00
 pub(super) fn put_replies(alloc: Global, draft: &mut Draft) {
     put_redirect(alloc, draft);
     put_page(alloc, draft);
-    put_stops(alloc, draft);
-    put_nothing(alloc, draft);
+    put_empty(alloc, draft);
     put_allowed(alloc, draft);
 }
 
@@ -40,23 +40,11 @@ fn empty(alloc: Global, status: u16) -> ReplyParts
     }
 }
 
-/// A line with the text of a reply.
-fn put_reply(alloc: Global, draft: &mut Draft, name: &str, reply: &ReplyParts)
-    requires { HasReason reply.now.status }
-{
-    draft.put(name);
-    match reply_text(alloc, reply) {
-        Ok(written) => draft.put_escaped(written.as_slice()),
-        Err(_) => draft.lose(),
-    }
-    draft.put("\n");
-}
-
 fn put_redirect(alloc: Global, draft: &mut Draft) {
     let mut found = empty(alloc, 302);
     found.location = owned(alloc, draft, PAGE);
     found.original = owned(alloc, draft, GATE);
-    put_reply(alloc, draft, "a redirect: ", &found);
+    put_written(draft, "a redirect: ", reply_text(alloc, &found));
 }
 
 fn owned(alloc: Global, draft: &mut Draft, text: &str) -> Option<Text> {
@@ -85,28 +73,27 @@ fn put_copy(alloc: Global, draft: &mut Draft, name: &str, reply: &ReplyParts)
     requires { HasReason reply.now.status }
 {
     match reply.copy(alloc) {
-        Ok(reply) => put_reply(alloc, draft, name, &reply),
+        Ok(copy) => put_written(draft, name, reply_text(alloc, &copy)),
         Err(_) => draft.lose(),
     }
 }
 
-fn put_stops(alloc: Global, draft: &mut Draft) {
+/// Lines for replies without a body: of stops, and of nothing.
+fn put_empty(alloc: Global, draft: &mut Draft) {
     let mut stops = empty(alloc, 200);
     stops.kind = Some(BodyKind::Stops);
-    put_reply(alloc, draft, "stops: ", &stops);
-}
-
-fn put_nothing(alloc: Global, draft: &mut Draft) {
+    put_written(draft, "stops: ", reply_text(alloc, &stops));
     let mut stored = empty(alloc, 204);
     stored.length = None;
-    put_reply(alloc, draft, "nothing: ", &stored);
+    put_written(draft, "nothing: ", reply_text(alloc, &stored));
 }
 
+/// Lines for two refusals that say which methods are allowed.
 fn put_allowed(alloc: Global, draft: &mut Draft) {
-    let mut reply = empty(alloc, 405);
-    reply.allow = Some(Allow::Reading);
-    put_reply(alloc, draft, "allows reading: ", &reply);
-    reply.allow = Some(Allow::Posting);
-    reply.close = true;
-    put_reply(alloc, draft, "allows posting: ", &reply);
+    let mut refused = empty(alloc, 405);
+    refused.allow = Some(Allow::Reading);
+    put_written(draft, "allows reading: ", reply_text(alloc, &refused));
+    refused.allow = Some(Allow::Posting);
+    refused.close = true;
+    put_written(draft, "allows posting: ", reply_text(alloc, &refused));
 }

@@ -46,26 +46,27 @@ fn put_reply(alloc: Global, draft: &mut Draft, bytes: &[u8]) {
     draft.put_quoted(bytes);
     draft.put(": ");
     match read_reply(alloc, bytes) {
-        Ok(reply) => put_copy(alloc, draft, bytes, &reply),
+        Ok(reply) => match reply.copy(alloc) {
+            Ok(copy) => put_said(draft, bytes, &copy),
+            Err(_) => draft.lose(),
+        },
         Err(fault) => draft.put_shown(&fault),
     }
     draft.put("\n");
-}
-
-fn put_copy(alloc: Global, draft: &mut Draft, bytes: &[u8], reply: &Reply) {
-    match reply.copy(alloc) {
-        Ok(reply) => put_said(draft, bytes, &reply),
-        Err(_) => draft.lose(),
-    }
 }
 
 /// The status, the location, the moment and the body.
 fn put_said(draft: &mut Draft, bytes: &[u8], reply: &Reply) {
     draft.put_shown(&reply.status);
     draft.put(" <");
-    draft.put(reply.location.as_ref().map_or("", |url| url.as_str()));
+    if let Some(url) = &reply.location {
+        draft.put(url.as_str());
+    }
     draft.put("> ");
-    draft.put_shown(&reply.memento.map_or(0, |moment| moment.seconds()));
+    match reply.memento {
+        Some(moment) => draft.put_shown(&moment.seconds()),
+        None => draft.put("0"),
+    }
     draft.put(" [");
     draft.put_escaped(
         bytes

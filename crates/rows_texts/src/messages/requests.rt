@@ -3,8 +3,9 @@ ghost use Rattle.std.specs.Prelude.{◌≡◌, IfSome};
 ghost use Rattle.http_text.specs.declared.taken.Taken.TheVariants.{Whole as WholeRequest};
 
 use super::recorded::{CURL, CURL_1_0, CURL_HEAD, CURL_POST, CURL_PROXY, NGINX, WGET, WRK};
+use crate::written::put_written;
 use connection_uri::Base;
-use http_text::{Field, HeadRoom, Member, Request, Taken, read_request, request_text};
+use http_text::{Field, HeadRoom, Request, Taken, read_request, request_text};
 use lc_model::{Moment, PlainData};
 use rows_common::{Draft, Unmade};
 use std::alloc::Global;
@@ -37,35 +38,23 @@ const POSTED: &str =
 /// A line for each of the requests, lines for the query and the fields of one, and lines for two that are written.
 pub(super) fn put_requests(alloc: Global, draft: &mut Draft, room: &mut HeadRoom) {
     for bytes in &REQUESTS {
-        put_request(alloc, draft, room, bytes.as_bytes());
+        draft.put_quoted(bytes.as_bytes());
+        match request_in(alloc, room, bytes.as_bytes()) {
+            Ok(request) => put_request_said(draft, &request),
+            Err(Unmade) => draft.lose(),
+        }
     }
-    put_posted(alloc, draft, room);
-    put_asked(alloc, draft);
-}
-
-fn put_posted(alloc: Global, draft: &mut Draft, room: &mut HeadRoom) {
     match request_in(alloc, room, POSTED.as_bytes()) {
         Ok(request) => put_parts(draft, &request),
         Err(Unmade) => draft.lose(),
     }
-}
-
-fn put_request(alloc: Global, draft: &mut Draft, room: &mut HeadRoom, bytes: &[u8]) {
-    draft.put_quoted(bytes);
-    match request_in(alloc, room, bytes) {
-        Ok(request) => put_request_said(draft, &request),
-        Err(Unmade) => draft.lose(),
-    }
+    put_asked(alloc, draft);
 }
 
 /// What the whole request at the front of the bytes says.
 fn request_in(alloc: Global, room: &mut HeadRoom, bytes: &[u8]) -> Result<Request, Unmade> {
     let length = whole_length(room.take_request(bytes)).ok_or("a whole request")?;
     let request = read_request(alloc, &bytes[..length])?;
-    copied(alloc, &request)
-}
-
-fn copied(alloc: Global, request: &Request) -> Result<Request, Unmade> {
     Ok(request.copy(alloc)?)
 }
 
@@ -91,7 +80,7 @@ fn put_request_said(draft: &mut Draft, request: &Request) {
 fn put_parts(draft: &mut Draft, request: &Request) {
     draft.put("query: ");
     for member in request.query.as_slice() {
-        put_member(draft, member);
+        draft.put_all(&[member.name.as_str(), "=", member.value.as_str(), ";"]);
     }
     draft.put("\nfields: ");
     for field in request.fields.as_slice() {
@@ -100,13 +89,6 @@ fn put_parts(draft: &mut Draft, request: &Request) {
     draft.put("\nbody from: ");
     draft.put_shown(&request.body_from);
     draft.put("\n");
-}
-
-fn put_member(draft: &mut Draft, member: &Member) {
-    draft.put(member.name.as_str());
-    draft.put("=");
-    draft.put(member.value.as_str());
-    draft.put(";");
 }
 
 fn put_field(draft: &mut Draft, field: &Field) {
@@ -119,30 +101,13 @@ fn put_field(draft: &mut Draft, field: &Field) {
 /// Requests as they are written under a base: of a page, known up to a moment, and of the stops.
 fn put_asked(alloc: Global, draft: &mut Draft) {
     match Base::read(alloc, b"http://lc.example:8080/lc/") {
-        Ok(Some(base)) => put_asked_under(alloc, draft, &base),
+        Ok(Some(base)) => {
+            let target = "/lc/connections?departureTime=2024-05-01T08:00:00.000Z";
+            let page = request_text(alloc, &base, target, Moment::new(1_714_546_800));
+            put_written(draft, "asked for a page: ", page);
+            let stops = request_text(alloc, &base, "/lc/stops", None);
+            put_written(draft, "asked for stops: ", stops);
+        }
         _ => draft.lose(),
     }
-}
-
-fn put_asked_under(alloc: Global, draft: &mut Draft, base: &Base) {
-    let target = "/lc/connections?departureTime=2024-05-01T08:00:00.000Z";
-    let known = Moment::new(1_714_546_800);
-    put_written(alloc, draft, "asked for a page: ", base, target, known);
-    put_written(alloc, draft, "asked for stops: ", base, "/lc/stops", None);
-}
-
-fn put_written(
-    alloc: Global,
-    draft: &mut Draft,
-    name: &str,
-    base: &Base,
-    target: &str,
-    known: Option<Moment>,
-) {
-    draft.put(name);
-    match request_text(alloc, base, target, known) {
-        Ok(written) => draft.put_escaped(written.as_slice()),
-        Err(_) => draft.lose(),
-    }
-    draft.put("\n");
 }

@@ -70,7 +70,11 @@ pub(super) fn put_taken(alloc: Global, draft: &mut Draft, room: &mut HeadRoom) {
     put_each(draft, room, &OPEN);
     put_each(draft, room, &REFUSED);
     put_each(draft, room, &RECORDED);
-    put_alone(alloc, draft);
+    draft.put("in room of its own");
+    match take_request(alloc, WRK.as_bytes()) {
+        Ok(taken) => put_answer(draft, taken),
+        Err(_) => draft.lose(),
+    }
     put_fronts(alloc, draft, room);
 }
 
@@ -99,14 +103,6 @@ fn put_number(draft: &mut Draft, name: &str, number: usize) {
     draft.put(name);
     draft.put_shown(&number);
     draft.put("\n");
-}
-
-fn put_alone(alloc: Global, draft: &mut Draft) {
-    draft.put("in room of its own");
-    match take_request(alloc, WRK.as_bytes()) {
-        Ok(taken) => put_answer(draft, taken),
-        Err(_) => draft.lose(),
-    }
 }
 
 /// Lines for the fronts of two requests, one after the other.

@@ -37,7 +37,12 @@ pub(super) fn put_waiting(alloc: Global, draft: &mut Draft, room: &mut HeadRoom)
         put_long_target(alloc, draft, room, *length);
     }
     for bytes in &WAITS {
-        put_waits(draft, room, bytes.as_bytes());
+        // How many bytes in all another answer than "not yet" needs.
+        let _taken = room.take_request(bytes.as_bytes());
+        draft.put_quoted(bytes.as_bytes());
+        draft.put(": waits for ");
+        draft.put_shown(&room.waits_for());
+        draft.put("\n");
     }
 }
 
@@ -57,13 +62,4 @@ fn long_target(alloc: Global, length: usize) -> Result<Vec<u8>, Unmade> {
         bytes.push(b"GET /".get(place).copied().unwrap_or(0xff))?;
     }
     Ok(bytes)
-}
-
-/// A line with how many bytes in all another answer than "not yet" needs.
-fn put_waits(draft: &mut Draft, room: &mut HeadRoom, bytes: &[u8]) {
-    let _taken = room.take_request(bytes);
-    draft.put_quoted(bytes);
-    draft.put(": waits for ");
-    draft.put_shown(&room.waits_for());
-    draft.put("\n");
 }

@@ -1,9 +1,7 @@
 //! Texts that are an answer's, by hand from the small feed, and texts near them that are none.
-ghost use Rattle.std.specs.Prelude.{IfOk, IfSome};
-ghost use Rattle.journey_text.specs.AnswerText.{ArrivesAtAMoment};
-
+use crate::written::put_written;
 use journey_text::{answer_text, read_answer};
-use lc_model::{Answer, NoMemory};
+use lc_model::Answer;
 use rows_common::Draft;
 use std::alloc::Global;
 
@@ -66,36 +64,8 @@ pub(super) fn put_answers(alloc: Global, draft: &mut Draft) {
 
 fn put_no_journey(alloc: Global, draft: &mut Draft) {
     draft.put("no journey is said: ");
-    put_is_no_journey(draft, &read_answer(alloc, b"no journey\n"));
-    draft.put("\n");
-}
-
-fn put_is_no_journey(draft: &mut Draft, read: &Result<Option<Answer>, NoMemory>) {
+    let read = read_answer(alloc, b"no journey\n");
     draft.put_shown(&matches!(read, Ok(Some(Answer::NoJourney))));
-}
-
-/// A line with the text of the answer that was read of a text.
-fn put_answer_again(alloc: Global, draft: &mut Draft, said: &[u8]) {
-    put_answer_of(alloc, draft, &read_answer(alloc, said));
-}
-
-fn put_answer_of(alloc: Global, draft: &mut Draft, read: &Result<Option<Answer>, NoMemory>)
-    requires { IfOk read.now (λ answer. IfSome answer ArrivesAtAMoment) }
-{
-    match read {
-        Ok(Some(answer)) => put_answer_text(alloc, draft, answer),
-        _ => draft.lose(),
-    }
-}
-
-fn put_answer_text(alloc: Global, draft: &mut Draft, answer: &Answer)
-    requires { ArrivesAtAMoment answer.now }
-{
-    draft.put("answer written again: ");
-    match answer_text(alloc, answer) {
-        Ok(again) => draft.put_escaped(again.as_slice()),
-        Err(_) => draft.lose(),
-    }
     draft.put("\n");
 }
 
@@ -106,14 +76,20 @@ fn put_other(alloc: Global, draft: &mut Draft, whole: &str, from: &str, to: &str
     }
 }
 
+/// A line with the text of the answer that was read of a text.
+fn put_answer_again(alloc: Global, draft: &mut Draft, said: &[u8]) {
+    match read_answer(alloc, said) {
+        Ok(Some(answer)) => {
+            put_written(draft, "answer written again: ", answer_text(alloc, &answer));
+        }
+        _ => draft.lose(),
+    }
+}
+
 /// A line with whether an answer is read.
 fn put_read(alloc: Global, draft: &mut Draft, bytes: &[u8]) {
     draft.put_quoted(bytes);
-    put_is_none(draft, &read_answer(alloc, bytes));
-}
-
-fn put_is_none(draft: &mut Draft, read: &Result<Option<Answer>, NoMemory>) {
-    match read {
+    match read_answer(alloc, bytes) {
         Ok(Some(_)) => draft.put(": an answer\n"),
         Ok(None) => draft.put(": none\n"),
         Err(_) => draft.lose(),

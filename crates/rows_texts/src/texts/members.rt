@@ -1,11 +1,11 @@
 //! Members of JSON as they are read and written.
-use json::{Scratch, Value, Writer};
+use json::{Scratch, Writer};
 use json_members::{
     delay_at, id_at, json_in, moment_at, needed_text, seconds_at, write_moment, write_number,
     write_text,
 };
 use lc_model::{Moment, NoMemory};
-use rows_common::{Draft, Unmade};
+use rows_common::Draft;
 use std::alloc::Global;
 
 /// How deep a text of JSON nests, of which 127 levels are the most.
@@ -46,7 +46,8 @@ pub(super) fn put_members(alloc: Global, draft: &mut Draft) {
         put_nested(alloc, draft, *levels);
     }
     for json in &NO_JSON {
-        put_is_json(alloc, draft, *json);
+        draft.put_all(&[*json, " is JSON: "]);
+        put_whether_json(alloc, draft, json.as_bytes());
     }
     for json in &NUMBERS {
         put_numbers(alloc, draft, *json);
@@ -67,64 +68,38 @@ fn put_nested(alloc: Global, draft: &mut Draft, levels: usize) {
     put_whether_json(alloc, draft, json.as_bytes());
 }
 
-fn put_is_json(alloc: Global, draft: &mut Draft, json: &str) {
-    draft.put(json);
-    draft.put(" is JSON: ");
-    put_whether_json(alloc, draft, json.as_bytes());
-}
-
 fn put_whether_json(alloc: Global, draft: &mut Draft, bytes: &[u8]) {
     let mut scratch = Scratch::new(alloc);
     draft.put_is_read(json_in(alloc, bytes, &mut scratch));
 }
 
+/// What is read as a delay and as seconds.
 fn put_numbers(alloc: Global, draft: &mut Draft, json: &str) {
     let mut scratch = Scratch::new(alloc);
-    match value_in(alloc, json.as_bytes(), &mut scratch) {
-        Ok(value) => put_numbers_of(alloc, draft, json, &value),
-        Err(Unmade) => draft.lose(),
-    }
-}
-
-fn value_in<'t>(
-    alloc: Global,
-    json: &'t [u8],
-    scratch: &'t mut Scratch,
-) -> Result<Value<'t>, Unmade> {
-    Ok(json_in(alloc, json, scratch)?)
-}
-
-/// What is read as a delay and as seconds.
-fn put_numbers_of(alloc: Global, draft: &mut Draft, json: &str, value: &Value<'_>) {
-    draft.put("delay of ");
-    draft.put(json);
-    draft.put(": ");
-    draft.put_read(delay_at(alloc, value, "x"));
-    draft.put("\nseconds of ");
-    draft.put(json);
-    draft.put(": ");
-    draft.put_read(seconds_at(alloc, value, "x"));
-    draft.put("\n");
-}
-
-fn put_text(alloc: Global, draft: &mut Draft, json: &str) {
-    let mut scratch = Scratch::new(alloc);
-    match value_in(alloc, json.as_bytes(), &mut scratch) {
-        Ok(value) => put_text_of(alloc, draft, json, &value),
-        Err(Unmade) => draft.lose(),
+    match json_in(alloc, json.as_bytes(), &mut scratch) {
+        Ok(value) => {
+            draft.put_all(&["delay of ", json, ": "]);
+            draft.put_read(delay_at(alloc, &value, "x"));
+            draft.put_all(&["\nseconds of ", json, ": "]);
+            draft.put_read(seconds_at(alloc, &value, "x"));
+            draft.put("\n");
+        }
+        Err(_) => draft.lose(),
     }
 }
 
 /// What is read as a text, and whether it is an id.
-fn put_text_of(alloc: Global, draft: &mut Draft, json: &str, value: &Value<'_>) {
-    draft.put("text of ");
-    draft.put(json);
-    draft.put(": ");
-    draft.put_read(needed_text(alloc, value, "x"));
-    draft.put("\n");
-    draft.put(json);
-    draft.put(" has an id: ");
-    draft.put_is_read(id_at(alloc, value, "x"));
+fn put_text(alloc: Global, draft: &mut Draft, json: &str) {
+    let mut scratch = Scratch::new(alloc);
+    match json_in(alloc, json.as_bytes(), &mut scratch) {
+        Ok(value) => {
+            draft.put_all(&["text of ", json, ": "]);
+            draft.put_read(needed_text(alloc, &value, "x"));
+            draft.put_all(&["\n", json, " has an id: "]);
+            draft.put_is_read(id_at(alloc, &value, "x"));
+        }
+        Err(_) => draft.lose(),
+    }
 }
 
 /// Members as they are written, and the moment that is read of them.
@@ -153,17 +128,15 @@ fn put_written_text(alloc: Global, draft: &mut Draft, written: &[u8]) {
     draft.put_escaped(written);
     draft.put("\n");
     let mut scratch = Scratch::new(alloc);
-    match value_in(alloc, written, &mut scratch) {
-        Ok(value) => put_moment(alloc, draft, &value),
-        Err(Unmade) => draft.lose(),
+    match json_in(alloc, written, &mut scratch) {
+        Ok(value) => {
+            draft.put("moment of what is written: ");
+            match moment_at(alloc, &value, "c") {
+                Ok(moment) => draft.put_shown(&moment.seconds()),
+                Err(fault) => draft.put_owned(fault),
+            }
+            draft.put("\n");
+        }
+        Err(_) => draft.lose(),
     }
-}
-
-fn put_moment(alloc: Global, draft: &mut Draft, value: &Value<'_>) {
-    draft.put("moment of what is written: ");
-    match moment_at(alloc, value, "c") {
-        Ok(moment) => draft.put_shown(&moment.seconds()),
-        Err(fault) => draft.put_owned(fault),
-    }
-    draft.put("\n");
 }

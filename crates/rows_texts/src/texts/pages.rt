@@ -1,12 +1,12 @@
 //! Pages and stops documents: read and written again, and their first faults.
-ghost use Rattle.std.specs.Prelude.{IfOk};
 ghost use Rattle.page_json.specs.Valid.{IsValidPage};
 
 use super::document_texts::{DOCUMENTS, STOPS};
 use super::other_pages::put_other_pages;
 use super::page_texts::{EMPTY, PAGES, THREE, TINY, WORDS};
+use crate::written::put_written;
 use connection_uri::Base;
-use lc_model::{Connection, PlainData, StopsDoc};
+use lc_model::{Connection, PlainData};
 use page_json::{Page, page_text, read_page, read_stops, stops_text};
 use rows_common::{Draft, Unmade};
 use std::alloc::Global;
@@ -46,60 +46,35 @@ fn put_faults_under(alloc: Global, draft: &mut Draft, base: &Base) {
 
 /// A line with the text of the page that was read of a text.
 fn put_page_again(alloc: Global, draft: &mut Draft, base: &Base, json: &[u8]) {
-    match page_in(alloc, base, json) {
+    match read_page(alloc, base, json) {
         Ok(page) => put_copy_again(alloc, draft, base, &page),
-        Err(Unmade) => draft.lose(),
+        Err(_) => draft.lose(),
     }
-}
-
-fn page_in(alloc: Global, base: &Base, json: &[u8]) -> Result<Page, Unmade>
-    ensures { IfOk result IsValidPage }
-{
-    Ok(read_page(alloc, base, json)?)
 }
 
 fn put_copy_again(alloc: Global, draft: &mut Draft, base: &Base, page: &Page)
     requires { IsValidPage page.now }
 {
     match page.copy(alloc) {
-        Ok(page) => put_page_text(alloc, draft, base, &page),
+        Ok(page) => put_written(draft, "page written again: ", page_text(alloc, base, &page)),
         Err(_) => draft.lose(),
     }
-}
-
-fn put_page_text(alloc: Global, draft: &mut Draft, base: &Base, page: &Page)
-    requires { IsValidPage page.now }
-{
-    draft.put("page written again: ");
-    match page_text(alloc, base, page) {
-        Ok(again) => draft.put_escaped(again.as_slice()),
-        Err(_) => draft.lose(),
-    }
-    draft.put("\n");
 }
 
 /// A line with the text of the document that was read of a text.
 fn put_stops_again(alloc: Global, draft: &mut Draft, base: &Base, json: &[u8]) {
     match read_stops(alloc, json) {
-        Ok(doc) => put_stops_text(alloc, draft, base, &doc),
+        Ok(doc) => {
+            let again = stops_text(alloc, base, &doc);
+            put_written(draft, "stops written again: ", again);
+        }
         Err(_) => draft.lose(),
     }
-}
-
-fn put_stops_text(alloc: Global, draft: &mut Draft, base: &Base, doc: &StopsDoc) {
-    draft.put("stops written again: ");
-    match stops_text(alloc, base, doc) {
-        Ok(again) => draft.put_escaped(again.as_slice()),
-        Err(_) => draft.lose(),
-    }
-    draft.put("\n");
 }
 
 /// A line with what is read of a text in which words are short for long parts.
 fn put_page(alloc: Global, draft: &mut Draft, base: &Base, json: &str) {
-    draft.put("page ");
-    draft.put(json);
-    draft.put(": ");
+    draft.put_all(&["page ", json, ": "]);
     match written_out(alloc, json) {
         Ok(whole) => put_page_said(alloc, draft, base, whole.as_str().as_bytes()),
         Err(Unmade) => draft.lose(),
@@ -118,14 +93,10 @@ fn written_out(alloc: Global, json: &str) -> Result<String, Unmade> {
 /// The end of a line: how many connections the page has that the bytes are, or their first fault.
 fn put_page_said(alloc: Global, draft: &mut Draft, base: &Base, bytes: &[u8]) {
     match read_page(alloc, base, bytes) {
-        Ok(page) => put_size(draft, page),
+        Ok(page) => put_count(draft, page.list.as_slice().len(), " connections"),
         Err(fault) => draft.put_owned(fault),
     }
     draft.put("\n");
-}
-
-fn put_size(draft: &mut Draft, page: Page) {
-    put_count(draft, page.list.as_slice().len(), " connections");
 }
 
 fn put_count(draft: &mut Draft, count: usize, name: &str) {
@@ -135,26 +106,22 @@ fn put_count(draft: &mut Draft, count: usize, name: &str) {
 
 /// A line with how many stops and changes the document has that the text is, or its first fault.
 fn put_stops(alloc: Global, draft: &mut Draft, json: &str) {
-    draft.put("stops ");
-    draft.put(json);
-    draft.put(": ");
+    draft.put_all(&["stops ", json, ": "]);
     match read_stops(alloc, json.as_bytes()) {
-        Ok(doc) => put_sizes(draft, doc),
+        Ok(doc) => {
+            put_count(draft, doc.stops.as_slice().len(), " stops ");
+            put_count(draft, doc.changes.as_slice().len(), " changes");
+        }
         Err(fault) => draft.put_owned(fault),
     }
     draft.put("\n");
 }
 
-fn put_sizes(draft: &mut Draft, doc: StopsDoc) {
-    put_count(draft, doc.stops.as_slice().len(), " stops ");
-    put_count(draft, doc.changes.as_slice().len(), " changes");
-}
-
 /// What the page `THREE` and its connections say.
 fn put_three(alloc: Global, draft: &mut Draft, base: &Base) {
-    match page_in(alloc, base, THREE.as_bytes()) {
+    match read_page(alloc, base, THREE.as_bytes()) {
         Ok(page) => put_parts(draft, &page),
-        Err(Unmade) => draft.lose(),
+        Err(_) => draft.lose(),
     }
 }
 
@@ -164,12 +131,7 @@ fn put_parts(draft: &mut Draft, page: &Page) {
     for connection in page.list.as_slice() {
         put_connection(draft, connection);
     }
-    draft.put("\n");
-    put_name_and_links(draft, page);
-}
-
-fn put_name_and_links(draft: &mut Draft, page: &Page) {
-    draft.put("departs: ");
+    draft.put("\ndeparts: ");
     draft.put_shown(&page.name.departs.seconds());
     draft.put("\nhas no next page: ");
     draft.put_shown(&page.next.is_none());

@@ -117,14 +117,10 @@ pub(super) fn put_scripts(alloc: Global, draft: &mut Draft) {
         put_row(alloc, draft, *row, true);
     }
     for row in &NO_MESSAGES {
-        put_unnamed(alloc, draft, row.as_bytes());
+        draft.put_quoted(row.as_bytes());
+        draft.put(" where no message may be named");
+        put_row(alloc, draft, row.as_bytes(), false);
     }
-}
-
-fn put_unnamed(alloc: Global, draft: &mut Draft, row: &[u8]) {
-    draft.put_quoted(row);
-    draft.put(" where no message may be named");
-    put_row(alloc, draft, row, false);
 }
 
 /// The end of a line: what a row says, or its fault.
@@ -167,17 +163,13 @@ fn said(alloc: Global, bytes: &[u8], updates: bool) -> Draft {
     match read_script(alloc, bytes, updates) {
         Ok(script) => {
             said.need(script.copy(alloc));
-            put_records(&mut said, script.as_slice());
+            for record in script.as_slice() {
+                put_record(&mut said, record);
+            }
         }
         Err(fault) => said.put_shown(&fault),
     }
     said
-}
-
-fn put_records(said: &mut Draft, records: &[Record]) {
-    for record in records {
-        put_record(said, record);
-    }
 }
 
 fn put_record(said: &mut Draft, record: &Record) {
@@ -196,23 +188,15 @@ fn put_record(said: &mut Draft, record: &Record) {
 }
 
 fn put_question(said: &mut Draft, query: &Query) {
-    said.put("ask ");
-    said.put(query.from.as_str());
-    said.put(" ");
-    said.put(query.to.as_str());
-    said.put(" ");
+    said.put_all(&["ask ", query.from.as_str(), " ", query.to.as_str(), " "]);
     said.put_shown(&query.leave.seconds());
+    said.put(" ");
     match query.known {
-        Some(known) => put_known(said, known.seconds()),
-        None => said.put(" - "),
+        Some(known) => said.put_shown(&known.seconds()),
+        None => said.put("-"),
     }
+    said.put(" ");
     said.put_shown(&query.horizon);
-}
-
-fn put_known(said: &mut Draft, seconds: u64) {
-    said.put(" ");
-    said.put_shown(&seconds);
-    said.put(" ");
 }
 
 fn put_script(alloc: Global, draft: &mut Draft, row: &[u8]) {
