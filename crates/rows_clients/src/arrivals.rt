@@ -2,11 +2,10 @@
 mod linked;
 mod said;
 
-use crate::making::{MIDNIGHT, id};
+use crate::making::{MIDNIGHT, base, id};
 use back_client::{ArriveEnd, arrive};
 use back_scan::{ArriveQuery, FIRST_ARRIVE, LAST_ARRIVE};
-use connection_uri::Base;
-use lc_model::{Moment, NoMemory};
+use lc_model::Moment;
 use lc_world::ListLink;
 use linked::link_of;
 use rows_common::{Draft, Unmade};
@@ -182,15 +181,11 @@ pub(crate) fn put_arrivals(alloc: Global, draft: &mut Draft) {
 }
 
 fn put_case(alloc: Global, draft: &mut Draft, case: &Case) {
-    match link_of(alloc, draft, case.replies) {
-        Ok(mut link) => put_over(alloc, draft, case, &mut link),
-        Err(NoMemory) => draft.lose(),
-    }
-}
-
-fn put_over(alloc: Global, draft: &mut Draft, case: &Case, link: &mut ListLink) {
+    let Ok(mut link) = link_of(alloc, draft, case.replies) else {
+        return draft.lose();
+    };
     draft.put(case.name);
-    put_asked(alloc, draft, case, link);
+    put_asked(alloc, draft, case, &mut link);
     put_requests(draft, link.recorded());
     draft.put("\n");
 }
@@ -204,10 +199,8 @@ fn put_asked(alloc: Global, draft: &mut Draft, case: &Case, link: &mut ListLink)
 
 fn end_of(alloc: Global, case: &Case, link: &mut ListLink) -> Result<ArriveEnd, Unmade> {
     let query = question(alloc, case)?;
-    match Base::read(alloc, b"http://lc.example/") {
-        Ok(Some(base)) => Ok(arrive(alloc, query, &base, link)?),
-        _ => Err(Unmade),
-    }
+    let base = base(alloc)?;
+    Ok(arrive(alloc, query, &base, link)?)
 }
 
 fn question(alloc: Global, case: &Case) -> Result<ArriveQuery, Unmade> {

@@ -7,11 +7,11 @@ ghost use Rattle.page_client.specs.Client.{shown};
 ghost use Rattle.page_client.specs.Shown.{want_of};
 ghost use Rattle.page_client.specs.declared.want.Want.{Want as Wanted};
 
-use crate::making::{MIDNIGHT, id, moment};
-use crate::said::put_faults;
+use crate::making::{MIDNIGHT, base, question};
+use crate::said::{put_arrival, put_named, put_no_journey};
 use asked::{CASES, CUT_OFF, Case, REQUESTS, replies_of};
 use connection_uri::Base;
-use lc_model::{Journey, Moment, PageName, Query};
+use lc_model::{Journey, Moment, PageName};
 use page_client::{Client, Outcome, PeerFault, Want, one_reply, page_of};
 use replies::put_reply;
 use rows_common::{Draft, Unmade};
@@ -31,28 +31,27 @@ enum Then {
 /// A line for each client.
 pub(crate) fn put_clients(alloc: Global, draft: &mut Draft) {
     one_reply();
-    match Base::read(alloc, b"http://lc.example/") {
-        Ok(Some(base)) => put_under(alloc, draft, &base),
-        _ => draft.lose(),
-    }
-}
-
-fn put_under(alloc: Global, draft: &mut Draft, base: &Base) {
+    let base = match base(alloc) {
+        Ok(base) => base,
+        Err(Unmade) => return draft.lose(),
+    };
     for case in &CASES {
-        put_client(alloc, draft, base, case, Then::Outcome);
+        put_client(alloc, draft, &base, case, Then::Outcome);
     }
     for case in &REQUESTS {
-        put_client(alloc, draft, base, case, Then::Request);
+        put_client(alloc, draft, &base, case, Then::Request);
     }
     for case in &CUT_OFF {
-        put_client(alloc, draft, base, case, Then::LinkFault);
+        put_client(alloc, draft, &base, case, Then::LinkFault);
     }
 }
 
 /// The line of a client.
 fn put_client(alloc: Global, draft: &mut Draft, base: &Base, case: &Case, then: Then) {
-    match client(alloc, case, then) {
-        Ok(client) => put_owned(alloc, draft, base, client, case, then),
+    let &(from, to, second, horizon, _) = case;
+    let leave = MIDNIGHT.saturating_add(u64::from(second));
+    match question(alloc, from, to, leave, known(then), horizon) {
+        Ok(query) => put_owned(alloc, draft, base, Client::new(query), case, then),
         Err(Unmade) => draft.lose(),
     }
 }
@@ -70,30 +69,11 @@ fn put_owned(
     drop(client);
 }
 
-fn client(alloc: Global, case: &Case, then: Then) -> Result<Client, Unmade> {
-    let query = question(alloc, case, known(then))?;
-    Ok(Client::new(query))
-}
-
 fn known(then: Then) -> Option<Moment> {
     match then {
         Then::Request => Moment::new(MIDNIGHT + 25_200),
         Then::Outcome | Then::LinkFault => None,
     }
-}
-
-fn question(alloc: Global, case: &Case, known: Option<Moment>) -> Result<Query, Unmade> {
-    let &(from, to, leave, horizon, _) = case;
-    let leave = moment(leave)?;
-    let from = id(alloc, from)?;
-    let to = id(alloc, to)?;
-    Ok(Query {
-        from,
-        to,
-        leave,
-        known,
-        horizon,
-    })
 }
 
 fn put_run(
@@ -115,19 +95,27 @@ fn put_run(
 /// What a client of a question says after its replies, and how many it received.
 fn put_ended(draft: &mut Draft, client: &Client, case: &Case, given: u64) {
     put_asked(draft, case);
-    put_outcome(draft, client.outcome());
-    draft.put(", ");
-    draft.put_shown(&given);
+    match client.outcome() {
+        Some(Outcome::Found(journey)) => put_journey(draft, journey),
+        outcome => put_no_journey(draft, outcome),
+    }
+    put_named(draft, ", ", &given);
     draft.put("\n");
 }
 
 fn put_asked(draft: &mut Draft, case: &Case) {
     let &(from, to, leave, horizon, words) = case;
-    draft.put_all(&[from, " ", to, " "]);
-    draft.put_shown(&leave);
-    draft.put(" ");
-    draft.put_shown(&horizon);
+    draft.put_all(&[from, " ", to]);
+    put_named(draft, " ", &leave);
+    put_named(draft, " ", &horizon);
     draft.put_all(&[": ", words, " => "]);
+}
+
+/// A journey by its number of rides, and when the last one arrives.
+fn put_journey(draft: &mut Draft, journey: &Journey) {
+    draft.put_shown(&journey.rides.as_slice().len());
+    draft.put(" rides to ");
+    put_arrival(draft, journey, MIDNIGHT);
 }
 
 /// Gives the client the replies of these words, as many as it wants, and counts them.
@@ -186,27 +174,6 @@ fn give_fault(draft: &mut Draft, client: &mut Client, reply: Vec<u8>, fault: Pee
     }
 }
 
-/// How the client ended; a journey by its number of rides, and when the last one arrives.
-fn put_outcome(draft: &mut Draft, outcome: Option<&Outcome>) {
-    match outcome {
-        None => draft.put("open"),
-        Some(Outcome::Found(journey)) => put_journey(draft, journey),
-        Some(Outcome::NoJourney) => draft.put("no journey"),
-        Some(Outcome::Refused(fault)) => draft.put_shown(fault),
-        Some(Outcome::LinkFault { before, after }) => put_faults(draft, *before, *after),
-        Some(Outcome::PeerWrong { fault, .. }) => draft.put_shown(fault),
-    }
-}
-
-fn put_journey(draft: &mut Draft, journey: &Journey) {
-    let rides = journey.rides.as_slice();
-    if let Some(last) = rides.last() {
-        draft.put_shown(&rides.len());
-        draft.put(" rides to ");
-        draft.put_shown(&last.arr.seconds().saturating_sub(MIDNIGHT));
-    }
-}
-
 /// What a client asks for after the replies of these words.
 fn put_request(alloc: Global, draft: &mut Draft, base: &Base, client: &Client, words: &str) {
     if client.want() == Want::Finished {
@@ -222,17 +189,13 @@ fn put_request(alloc: Global, draft: &mut Draft, base: &Base, client: &Client, w
 /// The lines of a request, with a bar for the end of each.
 fn put_lines(draft: &mut Draft, request: &[u8]) {
     for byte in request {
-        put_sign(draft, *byte);
+        match *byte {
+            b'\r' => {}
+            b'\n' => draft.put("|"),
+            byte => draft.put_shown(&(byte as char)),
+        }
     }
     draft.put("\n");
-}
-
-fn put_sign(draft: &mut Draft, byte: u8) {
-    match byte {
-        b'\r' => {}
-        b'\n' => draft.put("|"),
-        _ => draft.put_shown(&(byte as char)),
-    }
 }
 
 /// A client of which an exchange fails: the version that the time gate named to it, and how it ended.
@@ -241,16 +204,11 @@ fn put_cut(draft: &mut Draft, client: &mut Client) {
         return draft.lose();
     }
     client.give_link_fault(0, 1);
-    put_version(draft, client);
-}
-
-fn put_version(draft: &mut Draft, client: &Client) {
     let Some(version) = client.version() else {
         return draft.lose();
     };
-    draft.put("cut off: ");
-    draft.put_shown(&version.seconds());
+    put_named(draft, "cut off: ", &version.seconds());
     draft.put(" ");
-    put_outcome(draft, client.outcome());
+    put_no_journey(draft, client.outcome());
     draft.put("\n");
 }

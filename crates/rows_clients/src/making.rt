@@ -1,13 +1,16 @@
-//! Ids, bytes and moments, and replies that more cases have.
-ghost use Rattle.std.specs.Prelude.{◌≡◌, ◌+◌, IfOk};
-
+//! Ids, bytes, questions, convoys and links that more cases have.
 use connection_uri::Base;
-use lc_model::{Bytes, Id, Moment};
+use convoy::Convoy;
+use lc_model::{Bytes, FIRST_LEAVE, Id, LAST_LEAVE, Moment, Query};
+use lc_world::ListLink;
 use rows_common::Unmade;
 use std::alloc::Global;
 
 /// 2024-05-01T00:00:00Z, from which the tables count their seconds.
 pub(crate) const MIDNIGHT: u64 = 1_714_521_600;
+
+/// The text of the base of the publishers.
+pub(crate) const ADDRESS: &[u8] = b"http://lc.example/";
 
 /// The reply that there is no such resource.
 pub(crate) const NOT_FOUND: &str = "HTTP/1.1 404 Not Found\r\nContent-Length: 0\r\n\r\n";
@@ -18,7 +21,7 @@ pub(crate) const MEMENTO: &str =
 
 /// The base of the publishers.
 pub(crate) fn base(alloc: Global) -> Result<Base, Unmade> {
-    match Base::read(alloc, b"http://lc.example/") {
+    match Base::read(alloc, ADDRESS) {
         Ok(Some(base)) => Ok(base),
         _ => Err(Unmade),
     }
@@ -35,11 +38,61 @@ pub(crate) fn bytes(alloc: Global, text: &str) -> Result<Bytes, Unmade> {
     Ok(Bytes::from_list(text.as_bytes().to_vec(alloc)?))
 }
 
-pub(crate) fn moment(second: u32) -> Result<Moment, Unmade>
-    ensures { IfOk result (λ moment. moment ≡ MIDNIGHT + second) }
-{
-    match Moment::new(MIDNIGHT + u64::from(second)) {
-        Some(moment) => Ok(moment),
-        None => Err(Unmade),
+/// A question from a stop to a stop, leaving at this second since 1970.
+pub(crate) fn question(
+    alloc: Global,
+    from: &str,
+    to: &str,
+    leave: u64,
+    known: Option<Moment>,
+    horizon: u32,
+) -> Result<Query, Unmade> {
+    if leave < FIRST_LEAVE || leave > LAST_LEAVE {
+        return Err(Unmade);
     }
+    let Some(leave) = Moment::new(leave) else {
+        return Err(Unmade);
+    };
+    let from = id(alloc, from)?;
+    let to = id(alloc, to)?;
+    Ok(Query {
+        from,
+        to,
+        leave,
+        known,
+        horizon,
+    })
+}
+
+/// No client yet, with a cache of so many pages.
+pub(crate) fn begun(alloc: Global, address: &[u8], cache: usize) -> Result<Convoy, Unmade> {
+    if cache < 1 || cache > 10_000 {
+        return Err(Unmade);
+    }
+    match Base::read(alloc, address) {
+        Ok(Some(base)) => Ok(Convoy::new(alloc, base, cache)?),
+        _ => Err(Unmade),
+    }
+}
+
+/// A client more, with such a question. Gives its number.
+pub(crate) fn ask(
+    alloc: Global,
+    convoy: &mut Convoy,
+    from: &str,
+    to: &str,
+    leave: u64,
+    horizon: u32,
+) -> Result<usize, Unmade> {
+    let query = question(alloc, from, to, leave, None, horizon)?;
+    Ok(convoy.ask(query)?)
+}
+
+/// A link that gives these replies, and fails then.
+pub(crate) fn list_link(alloc: Global, replies: &[&str]) -> Result<ListLink, Unmade> {
+    let mut list = Vec::new(alloc);
+    for reply in replies {
+        list.push(bytes(alloc, *reply)?)?;
+    }
+    Ok(ListLink::new(list)?)
 }

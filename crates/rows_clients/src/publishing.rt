@@ -150,15 +150,15 @@ fn push_each(
     Ok(())
 }
 
-fn push_served(alloc: Global, list: &mut Vec<StopNews>, row: &Served) -> Result<(), Unmade> {
-    let news = stop_news(alloc, row)?;
-    Ok(list.push(news)?)
-}
-
-fn stop_news(alloc: Global, &(_, stop, arr, dep): &Served) -> Result<StopNews, Unmade> {
+fn push_served(
+    alloc: Global,
+    list: &mut Vec<StopNews>,
+    &(_, stop, arr, dep): &Served,
+) -> Result<(), Unmade> {
     let stop = Some(bytes(alloc, stop)?);
     let (arr, dep) = (timed(arr), timed(dep));
-    Ok(StopNews::new(alloc, None, stop, Relation::Scheduled, arr, dep)?)
+    let news = StopNews::new(alloc, None, stop, Relation::Scheduled, arr, dep)?;
+    Ok(list.push(news)?)
 }
 
 fn timed(second: u32) -> Option<Event> {

@@ -4,14 +4,16 @@ mod clients;
 mod relaying;
 mod replies;
 
-use asking::{POST_D60, exchange};
-use clients::{begun, put_client};
-use convoy::Convoy;
+use crate::making::{ADDRESS, begun};
+use crate::publishing::link;
+use crate::said::put_named;
+use asking::POST_D60;
+use clients::put_client;
 use fragmenter::Cutting;
 use lc_links::{FaultyLink, LocalLink};
 use lc_world::Link;
 use page_relay::Relay;
-use relaying::{over_tiny, relay, tiny_link};
+use relaying::{over_tiny, relay};
 use rows_common::{Draft, Unmade};
 use std::alloc::Global;
 
@@ -19,15 +21,15 @@ use std::alloc::Global;
 pub(crate) fn put_relays(alloc: Global, draft: &mut Draft) {
     put_entries(alloc, draft, 100);
     put_entries(alloc, draft, 1);
-    put_faulty(alloc, draft);
+    draft.put("exchange 1 fails\n");
+    put_two_over(alloc, draft, over_faulty(alloc));
     put_relayed_twice(alloc, draft);
     replies::put_replies(alloc, draft);
 }
 
 /// Two clients over a relay with so many entries.
 fn put_entries(alloc: Global, draft: &mut Draft, entries: usize) {
-    draft.put("entries ");
-    draft.put_shown(&entries);
+    put_named(draft, "entries ", &entries);
     draft.put("\n");
     put_two_over(alloc, draft, over_tiny(alloc, entries));
 }
@@ -41,39 +43,27 @@ fn put_two_over<L: Link + Drop>(alloc: Global, draft: &mut Draft, made: Result<R
 }
 
 fn put_two<L: Link>(alloc: Global, draft: &mut Draft, link: &mut Relay<L>) {
-    match begun(alloc) {
-        Ok(mut convoy) => put_two_of(alloc, draft, &mut convoy, link),
-        Err(Unmade) => draft.lose(),
-    }
-}
-
-fn put_two_of<L: Link>(alloc: Global, draft: &mut Draft, convoy: &mut Convoy, link: &mut Relay<L>) {
-    put_client(alloc, draft, convoy, link);
-    put_client(alloc, draft, convoy, link);
+    let mut convoy = match begun(alloc, ADDRESS, 1) {
+        Ok(convoy) => convoy,
+        Err(Unmade) => return draft.lose(),
+    };
+    put_client(alloc, draft, &mut convoy, link);
+    put_client(alloc, draft, &mut convoy, link);
     put_counts(draft, link);
 }
 
 fn put_counts<L: Link>(draft: &mut Draft, link: &Relay<L>) {
-    draft.put("relayed ");
-    draft.put_shown(&link.relayed());
-    draft.put(" forwarded ");
-    draft.put_shown(&link.forwarded());
-    draft.put(" exact ");
-    draft.put_shown(&link.is_exact());
-    draft.put(" faults ");
-    draft.put_shown(&link.faults());
+    put_named(draft, "relayed ", &link.relayed());
+    put_named(draft, " forwarded ", &link.forwarded());
+    put_named(draft, " exact ", &link.is_exact());
+    put_named(draft, " faults ", &link.faults());
     draft.put("\n");
 }
 
 /// The first exchange with the publisher fails.
-fn put_faulty(alloc: Global, draft: &mut Draft) {
-    draft.put("exchange 1 fails\n");
-    put_two_over(alloc, draft, over_faulty(alloc));
-}
-
 fn over_faulty(alloc: Global) -> Result<Relay<FaultyLink<LocalLink<Cutting>>>, Unmade> {
     let fails = Vec::from_array(alloc, [1])?;
-    let link = tiny_link(alloc)?;
+    let link = link(alloc, &[], true)?;
     relay(alloc, FaultyLink::new(link, fails), 100)
 }
 
@@ -100,29 +90,29 @@ fn put_twice(alloc: Global, draft: &mut Draft, mut link: Relay<Relay<LocalLink<C
 }
 
 fn put_between<L: Link>(alloc: Global, draft: &mut Draft, link: &mut L) {
-    match begun(alloc) {
-        Ok(mut convoy) => put_between_of(alloc, draft, &mut convoy, link),
-        Err(Unmade) => draft.lose(),
-    }
+    let mut convoy = match begun(alloc, ADDRESS, 1) {
+        Ok(convoy) => convoy,
+        Err(Unmade) => return draft.lose(),
+    };
+    put_client(alloc, draft, &mut convoy, link);
+    put_posted(alloc, draft, link);
+    put_client(alloc, draft, &mut convoy, link);
 }
 
-fn put_between_of<L: Link>(alloc: Global, draft: &mut Draft, convoy: &mut Convoy, link: &mut L) {
-    put_client(alloc, draft, convoy, link);
+/// What the message is answered.
+fn put_posted<L: Link>(alloc: Global, draft: &mut Draft, link: &mut L) {
     let mut reply = Vec::new(alloc);
-    exchange(alloc, draft, link, POST_D60, &mut reply);
+    draft.need(link.exchange(alloc, "lc.example", POST_D60, &mut reply));
     draft.put_quoted(reply.as_slice());
     draft.put("\n");
-    put_client(alloc, draft, convoy, link);
 }
 
 /// How often the publisher was asked, and its newest version.
 fn put_asked(draft: &mut Draft, below: Relay<LocalLink<Cutting>>) {
     let mut local = below.into_inner();
-    draft.put("asked ");
-    draft.put_shown(&local.asked());
+    put_named(draft, "asked ", &local.asked());
     let newest = local.publisher().newest();
-    draft.put(" newest ");
-    draft.put_shown(&newest.seconds());
+    put_named(draft, " newest ", &newest.seconds());
     draft.put("\n");
     // A link of a known type is dear to prove where it ends, so `drop` takes it.
     drop(local);

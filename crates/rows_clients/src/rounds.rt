@@ -1,13 +1,13 @@
 //! Questions for a journey of the fewest rides, over links to publishers and over a list of replies.
 mod said;
 
-use crate::making::{NOT_FOUND, base, bytes, id, moment};
+use crate::making::{MIDNIGHT, NOT_FOUND, base, list_link, question};
 use crate::publishing::{Served, link};
 use connection_uri::Base;
 use fragmenter::Cutting;
 use lc_links::{FaultyLink, LocalLink};
 use lc_model::Query;
-use lc_world::{Link, ListLink};
+use lc_world::Link;
 use rounds_client::fewest;
 use rows_common::{Draft, Unmade};
 use said::{put_end, put_requests};
@@ -86,27 +86,26 @@ pub(crate) fn put_rounds(alloc: Global, draft: &mut Draft) {
     for case in &CASES {
         put_case(alloc, draft, case);
     }
-    put_faulty(alloc, draft);
+    draft.put("a link that fails, ");
+    put_asking_once(alloc, draft, &CASES[0], faulty(alloc));
+    draft.put("a reply of another status, ");
     put_list(alloc, draft);
 }
 
 fn put_case(alloc: Global, draft: &mut Draft, case: &Case) {
-    match link(alloc, case.more, false) {
-        Ok(mut link) => put_over(alloc, draft, case, &mut link),
-        Err(Unmade) => draft.lose(),
-    }
-}
-
-fn put_over(alloc: Global, draft: &mut Draft, case: &Case, link: &mut LocalLink<Cutting>) {
-    put_asking(alloc, draft, case, link);
+    let mut link = match link(alloc, case.more, false) {
+        Ok(link) => link,
+        Err(Unmade) => return draft.lose(),
+    };
+    put_asking(alloc, draft, case, &mut link);
     put_requests(draft, link.recorded());
 }
 
 /// How the question ends over the link.
 fn put_asking<L: Link>(alloc: Global, draft: &mut Draft, case: &Case, link: &mut L) {
-    draft.put(case.name);
-    draft.put(": ");
-    match question(alloc, case) {
+    draft.put_all(&[case.name, ": "]);
+    let leave = MIDNIGHT.saturating_add(u64::from(case.leave));
+    match question(alloc, "A", case.to, leave, None, case.horizon) {
         Ok(query) => put_asking_of(alloc, draft, query, link),
         Err(Unmade) => draft.lose(),
     }
@@ -126,33 +125,20 @@ fn put_answer<L: Link>(alloc: Global, draft: &mut Draft, query: Query, base: &Ba
     }
 }
 
-fn question(alloc: Global, case: &Case) -> Result<Query, Unmade> {
-    let leave = moment(case.leave)?;
-    let from = id(alloc, "A")?;
-    let to = id(alloc, case.to)?;
-    Ok(Query {
-        from,
-        to,
-        leave,
-        known: None,
-        horizon: case.horizon,
-    })
-}
-
-/// The third exchange fails, which is for the first page.
-fn put_faulty(alloc: Global, draft: &mut Draft) {
-    draft.put("a link that fails, ");
-    match faulty(alloc) {
-        Ok(link) => put_asking_once(alloc, draft, &CASES[0], link),
+/// As before, and the link ends here, whatever it is.
+fn put_asking_once<L: Link + Drop>(
+    alloc: Global,
+    draft: &mut Draft,
+    case: &Case,
+    made: Result<L, Unmade>,
+) {
+    match made {
+        Ok(mut link) => put_asking(alloc, draft, case, &mut link),
         Err(Unmade) => draft.lose(),
     }
 }
 
-/// As before, and the link ends here, whatever it is.
-fn put_asking_once<L: Link + Drop>(alloc: Global, draft: &mut Draft, case: &Case, mut link: L) {
-    put_asking(alloc, draft, case, &mut link);
-}
-
+/// The third exchange fails, which is for the first page.
 fn faulty(alloc: Global) -> Result<FaultyLink<LocalLink<Cutting>>, Unmade> {
     let fails = vec![in alloc; 3]?;
     let inner = link(alloc, IN_TIME, false)?;
@@ -161,20 +147,10 @@ fn faulty(alloc: Global) -> Result<FaultyLink<LocalLink<Cutting>>, Unmade> {
 
 /// The first reply is that there is no such resource.
 fn put_list(alloc: Global, draft: &mut Draft) {
-    draft.put("a reply of another status, ");
-    match not_found(alloc) {
-        Ok(mut link) => put_over_list(alloc, draft, &mut link),
-        Err(Unmade) => draft.lose(),
-    }
-}
-
-fn not_found(alloc: Global) -> Result<ListLink, Unmade> {
-    let reply = bytes(alloc, NOT_FOUND)?;
-    let replies = vec![in alloc; reply]?;
-    Ok(ListLink::new(replies)?)
-}
-
-fn put_over_list(alloc: Global, draft: &mut Draft, link: &mut ListLink) {
-    put_asking(alloc, draft, &CASES[1], link);
+    let mut link = match list_link(alloc, &[NOT_FOUND]) {
+        Ok(link) => link,
+        Err(Unmade) => return draft.lose(),
+    };
+    put_asking(alloc, draft, &CASES[1], &mut link);
     put_requests(draft, link.recorded());
 }

@@ -23,6 +23,30 @@ const OTHER_CHANGES: &str = "{\"from\":\"C\",\"seconds\":120,\"to\":\"C\"},\
 
 const MEMENTO: &str = "HTTP/1.1 200 OK\r\nMemento-Datetime: Wed, 01 May 2024 07:00:00 GMT\r\n\r\n{";
 
+/// A connection: when its page begins, and what is between it and the one before it. Then its trip and sequence, stop and time of
+/// departure, stop and time of arrival.
+type Row = (
+    &'static str,
+    &'static str,
+    &'static str,
+    &'static str,
+    &'static str,
+    &'static str,
+    &'static str,
+    &'static str,
+);
+
+static ROWS: [Row; 8] = [
+    ("08:00", "", "T1", "1", "A", "08:00", "B", "08:10"),
+    ("08:00", ",", "T1", "2", "B", "08:11", "C", "08:30"),
+    ("08:00", ",", "T3", "1", "B", "08:12", "D", "08:31"),
+    ("08:00", ",", "T2", "1", "B", "08:20", "D", "08:40"),
+    ("08:30", "", "T6", "1", "A", "08:30", "B", "08:40"),
+    ("08:30", ",", "T4", "1", "E", "09:00", "F", "09:10"),
+    ("09:00", "", "T4", "1", "E", "09:00", "F", "09:10"),
+    ("10:00", "", "T5", "1", "E", "10:00", "F", "10:10"),
+];
+
 /// A link that gives the replies of these words, and fails then.
 pub(super) fn link_of(alloc: Global, draft: &mut Draft, words: &str) -> Result<ListLink, NoMemory> {
     let mut replies = Vec::new(alloc);
@@ -44,15 +68,9 @@ fn put_reply(reply: &mut Draft, word: &str) {
     match word.split_once('=') {
         Some(("gate", time)) => reply.put_all(&[MOVED, time, ":00.000Z\r\n\r\n"]),
         Some((time, links)) => put_linked(reply, time, links),
-        None => put_other(reply, word),
-    }
-}
-
-fn put_other(reply: &mut Draft, word: &str) {
-    match word {
-        "stops" => reply.put_all(&[STOPS, OTHER_CHANGES]),
-        "walks" => reply.put_all(&[STOPS, FROM_B_TO_E, OTHER_CHANGES]),
-        _ => reply.put(NOT_FOUND),
+        None if word == "stops" => reply.put_all(&[STOPS, OTHER_CHANGES]),
+        None if word == "walks" => reply.put_all(&[STOPS, FROM_B_TO_E, OTHER_CHANGES]),
+        None => reply.put(NOT_FOUND),
     }
 }
 
@@ -61,73 +79,52 @@ fn put_linked(reply: &mut Draft, time: &str, links: &str) {
     reply.put(MEMENTO);
     put_page(reply, "@id", time);
     if let Some((previous, next)) = links.split_once(',') {
-        put_link(reply, "hydra:previous", previous);
-        put_link(reply, "hydra:next", next);
+        put_page(reply, "hydra:previous", previous);
+        put_page(reply, "hydra:next", next);
     }
     reply.put("\"@graph\":[");
     put_connections(reply, time);
     reply.put("]}");
 }
 
-fn put_link<'x>(reply: &mut Draft, member: &'x str, time: &'x str) {
-    if !time.is_empty() {
-        put_page(reply, member, time);
-    }
-}
-
+/// The name of a page, if there is a time.
 fn put_page<'x>(reply: &mut Draft, member: &'x str, time: &'x str) {
-    reply.put_all(&[
-        "\"",
-        member,
-        "\":\"http://lc.example/memento/connections?version=2024-05-01T07:00:00.000Z&departureTime=2024-05-01T",
-        time,
-        ":00.000Z\",",
-    ]);
+    if !time.is_empty() {
+        reply.put_all(&[
+            "\"",
+            member,
+            "\":\"http://lc.example/memento/connections?version=2024-05-01T07:00:00.000Z&departureTime=2024-05-01T",
+            time,
+            ":00.000Z\",",
+        ]);
+    }
 }
 
 /// The connections of the page that begins at this time.
 fn put_connections(reply: &mut Draft, time: &str) {
-    match time {
-        "08:00" => put_morning(reply),
-        "08:30" => put_both(reply),
-        "09:00" => put_connection(reply, &["T4", "1", "E", "09:00", "F", "09:10"]),
-        _ => put_connection(reply, &["T5", "1", "E", "10:00", "F", "10:10"]),
+    for row in &ROWS {
+        if row.0 == time {
+            put_connection(reply, row);
+        }
     }
 }
 
-fn put_morning(reply: &mut Draft) {
-    put_connection(reply, &["T1", "1", "A", "08:00", "B", "08:10"]);
-    reply.put(",");
-    put_connection(reply, &["T1", "2", "B", "08:11", "C", "08:30"]);
-    reply.put(",");
-    put_connection(reply, &["T3", "1", "B", "08:12", "D", "08:31"]);
-    reply.put(",");
-    put_connection(reply, &["T2", "1", "B", "08:20", "D", "08:40"]);
-}
-
-/// A departure at 08:30, and that of 09:00.
-fn put_both(reply: &mut Draft) {
-    put_connection(reply, &["T6", "1", "A", "08:30", "B", "08:40"]);
-    reply.put(",");
-    put_connection(reply, &["T4", "1", "E", "09:00", "F", "09:10"]);
-}
-
-/// A connection as trip, sequence, stop and time of departure, stop and time of arrival.
-fn put_connection(reply: &mut Draft, row: &[&str; 6]) {
-    let [trip, sequence, from, departs, to, arrives] = row;
+fn put_connection(reply: &mut Draft, row: &Row) {
+    let &(_, between, trip, sequence, from, departs, to, arrives) = row;
     reply.put_all(&[
+        between,
         "{\"@id\":\"http://lc.example/connections/",
-        *trip,
+        trip,
         "/20240501/-/",
-        *sequence,
+        sequence,
         "\",\"departureStop\":\"http://lc.example/stops/",
-        *from,
+        from,
         "\",\"departureTime\":\"2024-05-01T",
-        *departs,
+        departs,
         ":00.000Z\",\"arrivalStop\":\"http://lc.example/stops/",
-        *to,
+        to,
         "\",\"arrivalTime\":\"2024-05-01T",
-        *arrives,
+        arrives,
         ":00.000Z\"}",
     ]);
 }

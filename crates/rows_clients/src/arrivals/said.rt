@@ -1,6 +1,6 @@
 //! What a question results in, as a piece of a line each.
 use crate::making::MIDNIGHT;
-use crate::said::put_faults;
+use crate::said::{first_line, put_named, put_no_journey};
 use back_client::ArriveEnd;
 use lc_model::{Journey, Moment, Ride, Walk};
 use lc_world::Entry;
@@ -10,19 +10,11 @@ use rows_common::Draft;
 /// How the question ended, and the number of its exchanges.
 pub(super) fn put_end(draft: &mut Draft, end: &ArriveEnd) {
     draft.put(": ");
-    put_outcome(draft, &end.outcome);
-    draft.put(", exchanges ");
-    draft.put_shown(&end.exchanges);
-}
-
-fn put_outcome(draft: &mut Draft, outcome: &Outcome) {
-    match outcome {
+    match &end.outcome {
         Outcome::Found(journey) => put_journey(draft, journey),
-        Outcome::NoJourney => draft.put("no journey"),
-        Outcome::Refused(fault) => draft.put_shown(fault),
-        Outcome::LinkFault { before, after } => put_faults(draft, *before, *after),
-        Outcome::PeerWrong { fault, .. } => draft.put_shown(fault),
+        outcome => put_no_journey(draft, Some(outcome)),
     }
+    put_named(draft, ", exchanges ", &end.exchanges);
 }
 
 fn put_journey(draft: &mut Draft, journey: &Journey) {
@@ -54,20 +46,20 @@ fn put_second(draft: &mut Draft, moment: Moment) {
     draft.put_shown(&moment.seconds().saturating_sub(MIDNIGHT));
 }
 
-/// The first lines of the requests.
+/// What the requests ask for.
 pub(super) fn put_requests(draft: &mut Draft, entries: &[Entry]) {
     for entry in entries {
         draft.put(", ");
-        put_first_line(draft, entry.request.as_slice());
+        put_target(draft, entry.request.as_slice());
     }
 }
 
-/// What is asked for: the bytes after the method, up to the version of HTTP.
-fn put_first_line(draft: &mut Draft, request: &[u8]) {
-    let mut words = request.split(|byte| *byte == b' ');
+/// What comes after the method, up to the version of HTTP.
+fn put_target(draft: &mut Draft, request: &[u8]) {
+    let mut words = first_line(request).split_whitespace();
     let _method = words.next();
     match words.next() {
-        Some(target) => draft.put_escaped(target),
+        Some(target) => draft.put(target),
         None => draft.lose(),
     }
 }

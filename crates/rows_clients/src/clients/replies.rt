@@ -104,37 +104,28 @@ pub(super) fn put_reply(reply: &mut Draft, word: &str) {
 fn put_rest(reply: &mut Draft, rest: Rest, parts: &str) {
     match rest {
         Rest::Nothing => {}
-        Rest::Place => put_place(reply, parts),
+        Rest::Place => {
+            put_name(reply, parts);
+            reply.put(".000Z\r\nContent-Length: 0\r\n\r\n");
+        }
         Rest::Page => put_parts(reply, parts),
-        Rest::Digits => put_long(reply, parts),
+        // A head of the time gate that does not end has 16,375 bytes and those of the parts.
+        Rest::Digits => {
+            reply.put_times("0123456789", 1_635);
+            reply.put(parts);
+        }
     }
 }
 
-/// A head of the time gate that does not end has 16,375 bytes and those of `rest`.
-fn put_long(reply: &mut Draft, rest: &str) {
-    reply.put_times("0123456789", 1_635);
-    reply.put(rest);
-}
-
-fn put_place(reply: &mut Draft, time: &str) {
-    put_name(reply, time);
-    reply.put(".000Z\r\nContent-Length: 0\r\n\r\n");
-}
-
-/// The name of a page under the base, up to the seconds of its time.
+/// The name of a page under the base, up to the seconds of its time of 2024-05-01. No time is the first moment.
 fn put_name(reply: &mut Draft, time: &str) {
     reply.put("memento/connections?version=1970-01-01T00:00:00.000Z&departureTime=");
-    reply.put(day(time));
-    reply.put(time);
-}
-
-/// What comes before a time of 2024-05-01. No time is the first moment.
-fn day(time: &str) -> &str {
-    if time.is_empty() {
+    reply.put(if time.is_empty() {
         "1970-01-01T00:00:00"
     } else {
         "2024-05-01T"
-    }
+    });
+    reply.put(time);
 }
 
 /// A page of these parts: its name, its next page, its previous page, and its connections.

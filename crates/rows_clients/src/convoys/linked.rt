@@ -36,28 +36,11 @@ fn put_reply(reply: &mut Draft, word: &str) {
     }
 }
 
-/// A page from this second on, with one connection, which is linked to a page from that one on.
+/// A page from this second on, which is linked to a page from that one on. Its one connection departs then and takes ten minutes.
 fn put_linked(reply: &mut Draft, second: &str, next: &str) {
     reply.put(MEMENTO);
     put_page(reply, "@id", second);
-    if !next.is_empty() {
-        put_page(reply, "hydra:next", next);
-    }
-    put_connection(reply, second);
-}
-
-fn put_page<'x>(reply: &mut Draft, member: &'x str, second: &'x str) {
-    reply.put_all(&[
-        "\"",
-        member,
-        "\":\"http://a/memento/connections?version=1970-01-01T00:00:00.000Z&departureTime=1970-01-11T00:00:0",
-        second,
-        ".000Z\",",
-    ]);
-}
-
-/// A connection that departs at this second, and arrives ten minutes later.
-fn put_connection(reply: &mut Draft, second: &str) {
+    put_page(reply, "hydra:next", next);
     reply.put_all(&[
         "\"@graph\":[{\"@id\":\"http://a/connections/X/19700111/-/1",
         second,
@@ -67,4 +50,17 @@ fn put_connection(reply: &mut Draft, second: &str) {
         second,
         ".000Z\"}]}",
     ]);
+}
+
+/// The name of a page, if there is a second.
+fn put_page<'x>(reply: &mut Draft, member: &'x str, second: &'x str) {
+    if !second.is_empty() {
+        reply.put_all(&[
+            "\"",
+            member,
+            "\":\"http://a/memento/connections?version=1970-01-01T00:00:00.000Z&departureTime=1970-01-11T00:00:0",
+            second,
+            ".000Z\",",
+        ]);
+    }
 }

@@ -1,6 +1,8 @@
 //! Clients that take turns over a list of replies.
 use super::linked::link_of;
-use super::{ask_each, begun, put_outcome};
+use super::{ADDRESS, ask_each, put_outcome};
+use crate::making::begun;
+use crate::said::put_named;
 use convoy::{Convoy, Turn};
 use lc_model::NoMemory;
 use lc_world::{Link, ListLink};
@@ -75,15 +77,11 @@ pub(super) fn put_turns(alloc: Global, draft: &mut Draft) {
 }
 
 fn put_case(alloc: Global, draft: &mut Draft, case: &Case) {
-    match link_of(alloc, draft, case.replies) {
-        Ok(mut link) => put_over(alloc, draft, case, &mut link),
-        Err(NoMemory) => draft.lose(),
-    }
-}
-
-fn put_over(alloc: Global, draft: &mut Draft, case: &Case, link: &mut ListLink) {
-    match begun(alloc, case.cache) {
-        Ok(mut convoy) => put_convoy(alloc, draft, case, &mut convoy, link),
+    let Ok(mut link) = link_of(alloc, draft, case.replies) else {
+        return draft.lose();
+    };
+    match begun(alloc, ADDRESS, case.cache) {
+        Ok(mut convoy) => put_convoy(alloc, draft, case, &mut convoy, &mut link),
         Err(Unmade) => draft.lose(),
     }
 }
@@ -102,8 +100,7 @@ fn put_convoy(
         put_turn(alloc, draft, convoy, k, link);
     }
     put_ends(draft, convoy);
-    draft.put(" faults ");
-    draft.put_shown(&link.faults());
+    put_named(draft, " faults ", &link.faults());
     draft.put("\n");
 }
 
@@ -113,8 +110,7 @@ fn put_turn(alloc: Global, draft: &mut Draft, convoy: &mut Convoy, k: usize, lin
         return draft.lose();
     }
     let before = link.recorded().len();
-    draft.put(" ");
-    draft.put_shown(&k);
+    put_named(draft, " ", &k);
     match convoy.turn(alloc, k, link) {
         Ok(turn) => draft.put(said(turn)),
         Err(NoMemory) => draft.lose(),
@@ -136,8 +132,7 @@ fn put_ends(draft: &mut Draft, convoy: &Convoy) {
     for index in 0..convoy.clients() {
         draft.put(" ");
         put_outcome(draft, convoy.outcome(index + 1));
-        draft.put(" in ");
-        draft.put_shown(&convoy.exchanges(index + 1));
+        put_named(draft, " in ", &convoy.exchanges(index + 1));
         draft.put(",");
     }
 }

@@ -1,7 +1,4 @@
-//! Requests, and exchanges of them.
-use lc_world::Link;
-use rows_common::Draft;
-use std::alloc::Global;
+//! Requests.
 
 /// The message `d60.pb`: T1 arrives at B a minute late. It is of 2024-05-01T07:00:00Z.
 pub(super) const POST_D60: &[u8] =
@@ -17,14 +14,3 @@ pub(super) const EIGHT: &[u8] =
 
 pub(super) const NINE: &[u8] =
     b"GET /memento/connections?version=1970-01-01T00:00:00.000Z&departureTime=2024-05-01T09:00:00.000Z HTTP/1.1\r\nHost: lc.example\r\n\r\n";
-
-/// Asks the request, which has to be answered.
-pub(super) fn exchange<L: Link>(
-    alloc: Global,
-    draft: &mut Draft,
-    link: &mut L,
-    request: &[u8],
-    reply: &mut Vec<u8>,
-) {
-    draft.need(link.exchange(alloc, "lc.example", request, reply));
-}

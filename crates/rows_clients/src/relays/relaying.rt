@@ -1,4 +1,4 @@
-//! Links to a publisher of the small feed Tiny, and relays over them.
+//! Relays over a link, and over one to a publisher of the small feed Tiny.
 use crate::making::base;
 use crate::publishing::link;
 use fragmenter::Cutting;
@@ -24,16 +24,11 @@ pub(super) fn relay<L: Link + Drop>(
     }
 }
 
-/// A link to a publisher of Tiny, whose pages are of half an hour. It takes messages.
-pub(super) fn tiny_link(alloc: Global) -> Result<LocalLink<Cutting>, Unmade> {
-    link(alloc, &[], true)
-}
-
-/// A relay over such a link.
+/// A relay over a link to a publisher of Tiny, whose pages are of half an hour. It takes messages.
 pub(super) fn over_tiny(
     alloc: Global,
     entries: usize,
 ) -> Result<Relay<LocalLink<Cutting>>, Unmade> {
-    let link = tiny_link(alloc)?;
+    let link = link(alloc, &[], true)?;
     relay(alloc, link, entries)
 }

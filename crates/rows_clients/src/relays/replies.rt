@@ -1,6 +1,7 @@
 //! Single requests over a relay: which replies are kept, byte by byte, and which is forgotten first.
-use super::asking::{EIGHT, GATE, NINE, STOPS, exchange};
+use super::asking::{EIGHT, GATE, NINE, STOPS};
 use super::relaying::over_tiny;
+use crate::said::{first_line, put_named};
 use lc_world::Link;
 use page_relay::Relay;
 use rows_common::{Draft, Unmade};
@@ -33,7 +34,7 @@ static IN_TURN: [&[u8]; 6] = [STOPS, EIGHT, STOPS, NINE, STOPS, EIGHT];
 
 pub(super) fn put_replies(alloc: Global, draft: &mut Draft) {
     put_each_over(alloc, draft, over_tiny(alloc, 100));
-    put_in_turn_over(alloc, draft, over_tiny(alloc, 2));
+    put_in_turn(alloc, draft, over_tiny(alloc, 2));
 }
 
 /// Each request over a relay, which ends here. Over any link, since one of a known type is dear to prove where it ends.
@@ -44,28 +45,19 @@ fn put_each_over<L: Link + Drop>(alloc: Global, draft: &mut Draft, made: Result<
     }
 }
 
-/// The requests in turn over a relay, which ends here.
-fn put_in_turn_over<L: Link + Drop>(
-    alloc: Global,
-    draft: &mut Draft,
-    made: Result<Relay<L>, Unmade>,
-) {
-    match made {
-        Ok(mut link) => put_in_turn(alloc, draft, &mut link),
-        Err(Unmade) => draft.lose(),
-    }
-}
-
 fn put_each<L: Link>(alloc: Global, draft: &mut Draft, link: &mut Relay<L>) {
     let mut first = Vec::new(alloc);
     let mut again = Vec::new(alloc);
     for &(name, request) in &TWICE {
         draft.put(name);
-        put_exchange(alloc, draft, link, request, &mut first);
-        put_exchange(alloc, draft, link, request, &mut again);
+        put_exchange(alloc, draft, link, "lc.example", request, &mut first);
+        put_exchange(alloc, draft, link, "lc.example", request, &mut again);
         put_alike(draft, first.as_slice(), again.as_slice());
     }
-    put_elsewhere(alloc, draft, link, &mut again);
+    // A kept request at another authority is handed on.
+    draft.put("another authority");
+    put_exchange(alloc, draft, link, "lc.example:80", STOPS, &mut again);
+    draft.put("\n");
 }
 
 /// How often the exchange was handed on.
@@ -73,43 +65,31 @@ fn put_exchange<L: Link>(
     alloc: Global,
     draft: &mut Draft,
     link: &mut Relay<L>,
+    authority: &str,
     request: &[u8],
     reply: &mut Vec<u8>,
 ) {
     let before = link.forwarded();
-    exchange(alloc, draft, link, request, reply);
-    draft.put(" ");
-    draft.put_shown(&link.forwarded().saturating_sub(before));
+    draft.need(link.exchange(alloc, authority, request, reply));
+    put_named(draft, " ", &link.forwarded().saturating_sub(before));
 }
 
 /// Whether both replies have the same bytes, and their first line.
 fn put_alike(draft: &mut Draft, first: &[u8], again: &[u8]) {
-    draft.put(" alike ");
-    draft.put_shown(&(first == again));
-    draft.put(" ");
-    draft.put_quoted(first.split(|byte| *byte == b'\r').next().unwrap_or(b""));
-    draft.put("\n");
+    put_named(draft, " alike ", &(first == again));
+    draft.put_all(&[" \"", first_line(first), "\"\n"]);
 }
 
-/// A kept request at another authority is handed on.
-fn put_elsewhere<L: Link>(
-    alloc: Global,
-    draft: &mut Draft,
-    link: &mut Relay<L>,
-    reply: &mut Vec<u8>,
-) {
-    let before = link.forwarded();
-    draft.need(link.exchange(alloc, "lc.example:80", STOPS, reply));
-    draft.put("another authority ");
-    draft.put_shown(&link.forwarded().saturating_sub(before));
-    draft.put("\n");
-}
-
-fn put_in_turn<L: Link>(alloc: Global, draft: &mut Draft, link: &mut Relay<L>) {
+/// The requests in turn over a relay, which ends here.
+fn put_in_turn<L: Link + Drop>(alloc: Global, draft: &mut Draft, made: Result<Relay<L>, Unmade>) {
+    let mut link = match made {
+        Ok(link) => link,
+        Err(Unmade) => return draft.lose(),
+    };
     let mut reply = Vec::new(alloc);
     draft.put("two entries:");
     for request in &IN_TURN {
-        put_exchange(alloc, draft, link, request, &mut reply);
+        put_exchange(alloc, draft, &mut link, "lc.example", request, &mut reply);
     }
     draft.put("\n");
 }

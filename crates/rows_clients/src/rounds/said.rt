@@ -2,7 +2,7 @@
 ghost use Rattle.page_client.specs.declared.outcome.Outcome.TheVariants as outcomes;
 ghost use Rattle.rounds_client.specs.End.{ArrivesAtAMoment};
 
-use crate::said::put_faults;
+use crate::said::{first_line, put_named, put_no_journey};
 use journey_text::journey_text;
 use lc_model::{Journey, Moment};
 use lc_time::iso_text;
@@ -17,9 +17,11 @@ pub(super) fn put_end(alloc: Global, draft: &mut Draft, end: &FewestEnd)
     requires { ArrivesAtAMoment end.now.outcome }
 {
     put_version(draft, end.version);
-    put_outcome(alloc, draft, &end.outcome);
-    draft.put(" exchanges ");
-    draft.put_shown(&end.exchanges);
+    match &end.outcome {
+        Outcome::Found(journey) => put_journey(alloc, draft, journey),
+        outcome => put_no_journey(draft, Some(outcome)),
+    }
+    put_named(draft, " exchanges ", &end.exchanges);
     draft.put("\n");
 }
 
@@ -29,18 +31,6 @@ fn put_version(draft: &mut Draft, version: Option<Moment>) {
         None => draft.put("no version"),
     }
     draft.put(" ");
-}
-
-fn put_outcome(alloc: Global, draft: &mut Draft, outcome: &Outcome)
-    requires { ArrivesAtAMoment outcome.now }
-{
-    match outcome {
-        Outcome::Found(journey) => put_journey(alloc, draft, journey),
-        Outcome::NoJourney => draft.put("no journey"),
-        Outcome::Refused(fault) => draft.put_shown(fault),
-        Outcome::LinkFault { before, after } => put_faults(draft, *before, *after),
-        Outcome::PeerWrong { fault, .. } => draft.put_shown(fault),
-    }
 }
 
 /// The text of the answer, in which the end of each line is written out.
@@ -56,12 +46,6 @@ fn put_journey(alloc: Global, draft: &mut Draft, journey: &Journey)
 /// The first line of each request, a line each.
 pub(super) fn put_requests(draft: &mut Draft, entries: &[Entry]) {
     for entry in entries {
-        draft.put("  ");
-        draft.put_escaped(first_line(entry.request.as_slice()));
-        draft.put("\n");
+        draft.put_all(&["  ", first_line(entry.request.as_slice()), "\n"]);
     }
-}
-
-fn first_line(request: &[u8]) -> &[u8] {
-    request.split(|byte| *byte == b'\r').next().unwrap_or(b"")
 }

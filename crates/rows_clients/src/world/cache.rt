@@ -1,8 +1,9 @@
 //! Pages in the order of their use.
-use lc_model::{Connections, Moment, PageName};
+use crate::said::put_named;
+use lc_model::{Connections, Moment, NoMemory, PageName};
 use page_cache::PageCache;
 use page_json::Page;
-use rows_common::{Unmade, put_count, put_line, put_number};
+use rows_common::{Draft, Unmade};
 use std::alloc::Global;
 
 /// What is done with a cache.
@@ -15,7 +16,7 @@ enum Step {
 }
 
 /// One page, which another version of the same departure displaces.
-const ONE: [Step; 7] = [
+static ONE: [Step; 7] = [
     Step::Get(0, 5),
     Step::Put(0, 5, 6),
     Step::Get(0, 5),
@@ -26,7 +27,7 @@ const ONE: [Step; 7] = [
 ];
 
 /// Two pages: one that was got again stays where another goes, and so does one that was put again, with what was put last.
-const TWO: [Step; 12] = [
+static TWO: [Step; 12] = [
     Step::Put(0, 1, 11),
     Step::Put(0, 2, 12),
     Step::Get(0, 1),
@@ -48,89 +49,68 @@ fn page_name(version: u64, departs: u64) -> Result<PageName, Unmade> {
     }
 }
 
+/// A line for each step of a cache of one page, and of one of two.
+pub(super) fn put_caches(alloc: Global, draft: &mut Draft) {
+    put_steps(alloc, draft, PageCache::with_capacity(alloc, 1), &ONE);
+    put_steps(alloc, draft, PageCache::with_capacity(alloc, 2), &TWO);
+}
+
+fn put_steps(alloc: Global, draft: &mut Draft, made: Result<PageCache, NoMemory>, steps: &[Step]) {
+    let Ok(mut cache) = made else {
+        return draft.lose();
+    };
+    put_named(draft, "pages kept: ", &cache.len());
+    draft.put("\n");
+    for step in steps {
+        put_step(alloc, draft, &mut cache, *step);
+    }
+    put_named(draft, "pages kept: ", &cache.len());
+    draft.put("\n");
+}
+
+fn put_step(alloc: Global, draft: &mut Draft, cache: &mut PageCache, step: Step) {
+    match step {
+        Step::Put(version, departs, next) => {
+            let made = put_page(alloc, cache, version, departs, next);
+            draft.put_part("put a page before: ", made);
+            draft.put_shown(&next);
+        }
+        Step::Get(version, departs) => {
+            draft.put("got the page before: ");
+            match page_name(version, departs) {
+                Ok(name) => put_next(draft, next_of(cache, name)),
+                Err(Unmade) => draft.lose(),
+            }
+        }
+    }
+    draft.put("\n");
+}
+
+/// Puts the page of a version and a departure, with this departure of its next page.
+fn put_page(
+    alloc: Global,
+    cache: &mut PageCache,
+    version: u64,
+    departs: u64,
+    next: u64,
+) -> Result<(), Unmade> {
+    let page = Page {
+        name: page_name(version, departs)?,
+        next: Some(page_name(version, next)?),
+        previous: None,
+        list: Connections::from_list(Vec::new(alloc)),
+    };
+    Ok(cache.put(page)?)
+}
+
 /// The departure of the next page of the page of this name, if it is cached.
 fn next_of(cache: &mut PageCache, name: PageName) -> Option<u64> {
     Some(cache.get(name)?.next?.departs.seconds())
 }
 
-/// A line for each step of a cache of one page, and of one of two.
-pub(super) fn put_caches(alloc: Global, text: &mut String) -> Result<(), Unmade> {
-    put_cache_of_one(alloc, text)?;
-    put_cache_of_two(alloc, text)
-}
-
-fn put_cache_of_one(alloc: Global, text: &mut String) -> Result<(), Unmade> {
-    match PageCache::with_capacity(alloc, 1) {
-        Ok(mut cache) => put_steps(alloc, text, &mut cache, &ONE),
-        Err(_) => Err(Unmade),
-    }
-}
-
-fn put_cache_of_two(alloc: Global, text: &mut String) -> Result<(), Unmade> {
-    match PageCache::with_capacity(alloc, 2) {
-        Ok(mut cache) => put_steps(alloc, text, &mut cache, &TWO),
-        Err(_) => Err(Unmade),
-    }
-}
-
-fn put_steps(
-    alloc: Global,
-    text: &mut String,
-    cache: &mut PageCache,
-    steps: &[Step],
-) -> Result<(), Unmade> {
-    put_count(text, "pages kept", cache.len())?;
-    for step in steps {
-        put_step(alloc, text, cache, *step)?;
-    }
-    put_count(text, "pages kept", cache.len())
-}
-
-fn put_step(
-    alloc: Global,
-    text: &mut String,
-    cache: &mut PageCache,
-    step: Step,
-) -> Result<(), Unmade> {
-    match step {
-        Step::Put(version, departs, next) => {
-            put_page(
-                alloc,
-                cache,
-                page_name(version, departs)?,
-                page_name(version, next)?,
-            )?;
-            put_number(text, "put a page before", next)
-        }
-        Step::Get(version, departs) => {
-            let next = next_of(cache, page_name(version, departs)?);
-            put_next(text, next)
-        }
-    }
-}
-
-/// Puts the page of this name, with this name of its next page.
-fn put_page(
-    alloc: Global,
-    cache: &mut PageCache,
-    name: PageName,
-    next: PageName,
-) -> Result<(), Unmade> {
-    let page = Page {
-        name,
-        next: Some(next),
-        previous: None,
-        list: Connections::from_list(Vec::new(alloc)),
-    };
-    match cache.put(page) {
-        Ok(()) => Ok(()),
-        Err(_) => Err(Unmade),
-    }
-}
-
-fn put_next(text: &mut String, next: Option<u64>) -> Result<(), Unmade> {
+fn put_next(draft: &mut Draft, next: Option<u64>) {
     match next {
-        Some(next) => put_number(text, "got the page before", next),
-        None => put_line(text, "got the page before", "none"),
+        Some(next) => draft.put_shown(&next),
+        None => draft.put("none"),
     }
 }

@@ -1,137 +1,129 @@
 //! A link that gives the replies of a list.
-use crate::making::bytes;
+use crate::making::{bytes, list_link};
+use crate::said::put_named;
 use lc_world::{Entry, Link, LinkFail, ListLink, RecordedReply};
-use rows_common::{Unmade, put_bytes, put_count, put_line, put_number};
+use rows_common::{Draft, Unmade};
 use std::alloc::Global;
 
-fn link(alloc: Global) -> Result<ListLink, Unmade> {
-    let first = bytes(alloc, "one")?;
-    let second = bytes(alloc, "two")?;
-    let replies = vec![in alloc; first, second]?;
-    Ok(ListLink::new(replies)?)
+/// What is done with a link.
+enum Step {
+    /// A request is asked at lc.example.
+    Ask(&'static str),
+    /// An authority and a request, which is handed on.
+    Pass(&'static str, &'static str),
+    /// What was replied is marked.
+    Mark,
+    /// The faults are counted.
+    Faults,
 }
 
-/// A list of two replies: asked, handed on, and used up. What was replied is recorded, also an answer that is left as it is.
-pub(super) fn put_links(alloc: Global, text: &mut String) -> Result<(), Unmade> {
-    let mut link = link(alloc)?;
-    put_exchanges(alloc, text, &mut link)
+/// What each exchange leaves until two replies are used up, and then.
+static USED_UP: [Step; 7] = [
+    Step::Ask("GET 1"),
+    Step::Pass("lc.example", "GET 2"),
+    Step::Mark,
+    Step::Pass("lc.example:80", "GET 3"),
+    Step::Faults,
+    Step::Ask("GET 4"),
+    Step::Faults,
+];
+
+/// Over one reply, where the calls 1 and 3 fail. The call between these gives the reply, and the last call leaves the answer.
+static FAILING: [Step; 6] = [
+    Step::Ask("GET 1"),
+    Step::Ask("GET 2"),
+    Step::Pass("lc.example", "GET 3"),
+    Step::Mark,
+    Step::Pass("lc.example", "GET 4"),
+    Step::Faults,
+];
+
+/// What was replied is recorded, also an answer that is left as it is.
+pub(super) fn put_links(alloc: Global, draft: &mut Draft) {
+    let replies = list_link(alloc, &["one", "two"]);
+    put_steps(alloc, draft, replies, b"what was there", &USED_UP);
+    put_steps(alloc, draft, failing(alloc), b"", &FAILING);
 }
 
-/// One reply, and the calls 1 and 3 fail. The call between these gives the reply, and the last call leaves the answer.
-pub(super) fn put_failing(alloc: Global, text: &mut String) -> Result<(), Unmade> {
+fn failing(alloc: Global) -> Result<ListLink, Unmade> {
     let only = bytes(alloc, "one")?;
     let replies = vec![in alloc; only]?;
     let fails = vec![in alloc; 1u64, 3]?;
-    let mut link = ListLink::with_fails(alloc, replies, fails)?;
+    Ok(ListLink::with_fails(alloc, replies, fails)?)
+}
+
+/// A line for each step, after which the reply is what was there before the first one, and for all that is recorded.
+fn put_steps(
+    alloc: Global,
+    draft: &mut Draft,
+    made: Result<ListLink, Unmade>,
+    there: &[u8],
+    steps: &[Step],
+) {
+    let mut link = match made {
+        Ok(link) => link,
+        Err(Unmade) => return draft.lose(),
+    };
     let mut reply = Vec::new(alloc);
-    put_failures(alloc, text, &mut link, &mut reply)
+    draft.need(reply.extend_from_slice(there));
+    for step in steps {
+        put_step(alloc, draft, &mut link, &mut reply, step);
+    }
+    put_recorded(draft, link.recorded());
 }
 
-fn put_failures(
+fn put_step(
     alloc: Global,
-    text: &mut String,
+    draft: &mut Draft,
     link: &mut ListLink,
     reply: &mut Vec<u8>,
-) -> Result<(), Unmade> {
-    put_asked(alloc, text, link, "GET 1", reply)?;
-    put_asked(alloc, text, link, "GET 2", reply)?;
-    put_passed(alloc, text, link, "lc.example", "GET 3", reply)?;
-    put_answer(alloc, text, link, reply)
-}
-
-/// An answer that is handed on after the failures, and all that is recorded.
-fn put_answer(
-    alloc: Global,
-    text: &mut String,
-    link: &mut ListLink,
-    reply: &mut Vec<u8>,
-) -> Result<(), Unmade> {
-    reply.push(b'!')?;
-    put_passed(alloc, text, link, "lc.example", "GET 4", reply)?;
-    put_number(text, "faults of the link", link.faults())?;
-    put_recorded(text, link.recorded())
-}
-
-fn put_exchanges(alloc: Global, text: &mut String, link: &mut ListLink) -> Result<(), Unmade> {
-    match b"what was there".as_slice().to_vec(alloc) {
-        Ok(mut reply) => put_replies(alloc, text, link, &mut reply),
-        Err(_) => Err(Unmade),
+    step: &Step,
+) {
+    match step {
+        Step::Ask(request) => {
+            let asked = link.exchange(alloc, "lc.example", request.as_bytes(), reply);
+            put_came(draft, "asked: ", asked, reply.as_slice());
+        }
+        Step::Pass(authority, request) => {
+            let passed = link.pass(alloc, authority, request.as_bytes(), reply);
+            put_came(draft, "handed on: ", passed, reply.as_slice());
+        }
+        Step::Mark => draft.need(reply.push(b'!')),
+        Step::Faults => {
+            put_named(draft, "faults of the link: ", &link.faults());
+            draft.put("\n");
+        }
     }
 }
 
-/// What each exchange leaves until the replies are used up, and then.
-fn put_replies(
-    alloc: Global,
-    text: &mut String,
-    link: &mut ListLink,
-    reply: &mut Vec<u8>,
-) -> Result<(), Unmade> {
-    put_asked(alloc, text, link, "GET 1", reply)?;
-    put_passed(alloc, text, link, "lc.example", "GET 2", reply)?;
-    reply.push(b'!')?;
-    put_passed(alloc, text, link, "lc.example:80", "GET 3", reply)?;
-    put_used_up(alloc, text, link, reply)
-}
-
-/// The faults before an exchange without a reply and after it, and all that is recorded.
-fn put_used_up(
-    alloc: Global,
-    text: &mut String,
-    link: &mut ListLink,
-    reply: &mut Vec<u8>,
-) -> Result<(), Unmade> {
-    put_number(text, "faults of the link", link.faults())?;
-    put_asked(alloc, text, link, "GET 4", reply)?;
-    put_number(text, "faults of the link", link.faults())?;
-    put_recorded(text, link.recorded())
-}
-
-fn put_asked(
-    alloc: Global,
-    text: &mut String,
-    link: &mut ListLink,
-    request: &str,
-    reply: &mut Vec<u8>,
-) -> Result<(), Unmade> {
-    let asked = link.exchange(alloc, "lc.example", request.as_bytes(), reply);
-    put_came(text, "asked", asked)?;
-    put_bytes(text, "reply", reply.as_slice())
-}
-
-fn put_passed(
-    alloc: Global,
-    text: &mut String,
-    link: &mut ListLink,
-    authority: &str,
-    request: &str,
-    reply: &mut Vec<u8>,
-) -> Result<(), Unmade> {
-    let passed = link.pass(alloc, authority, request.as_bytes(), reply);
-    put_came(text, "handed on", passed)?;
-    put_bytes(text, "reply", reply.as_slice())
-}
-
-fn put_came(text: &mut String, name: &str, came: Result<(), LinkFail>) -> Result<(), Unmade> {
+fn put_came(draft: &mut Draft, name: &str, came: Result<(), LinkFail>, reply: &[u8]) {
+    draft.put(name);
     match came {
-        Ok(()) => put_line(text, name, "done"),
-        Err(LinkFail::Failed) => put_line(text, name, "failed"),
-        Err(LinkFail::NoMemory) => Err(Unmade),
+        Ok(()) => draft.put("done"),
+        Err(LinkFail::Failed) => draft.put("failed"),
+        Err(LinkFail::NoMemory) => draft.lose(),
     }
+    draft.put("\nreply: ");
+    draft.put_escaped(reply);
+    draft.put("\n");
 }
 
 /// The exchanges that the link records, after their number.
-fn put_recorded(text: &mut String, recorded: &[Entry]) -> Result<(), Unmade> {
-    put_count(text, "recorded exchanges", recorded.len())?;
+fn put_recorded(draft: &mut Draft, recorded: &[Entry]) {
+    put_named(draft, "recorded exchanges: ", &recorded.len());
+    draft.put("\n");
     for entry in recorded {
-        put_entry(text, entry)?;
+        put_entry(draft, entry);
     }
-    Ok(())
 }
 
-fn put_entry(text: &mut String, entry: &Entry) -> Result<(), Unmade> {
-    put_line(text, "recorded authority", entry.authority.as_str())?;
-    put_bytes(text, "recorded request", entry.request.as_slice())?;
-    put_bytes(text, "recorded reply", reply_of(entry))
+fn put_entry(draft: &mut Draft, entry: &Entry) {
+    draft.put_all(&["recorded authority: ", entry.authority.as_str(), "\n"]);
+    draft.put("recorded request: ");
+    draft.put_escaped(entry.request.as_slice());
+    draft.put("\nrecorded reply: ");
+    draft.put_escaped(reply_of(entry));
+    draft.put("\n");
 }
 
 /// The reply of an entry, in a word where there is none.
