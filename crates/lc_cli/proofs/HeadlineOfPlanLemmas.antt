@@ -12,6 +12,7 @@ use Rattle.cli_ask.specs.Below.LawsClients.Fits.{HasAnswered}
 use Rattle.cli_ask.specs.Below.LawsConvoys.Names.{Round}
 use Rattle.cli_ask.specs.Below.ConnectionUri.Base.{BaseParts}
 use Rattle.cli_relay.specs.Planned.{ArePlanned, EndsAt, IsPlanned}
+use Rattle.cli_relay.specs.Replied.{TellsAlong}
 use Rattle.cli_relay.specs.Sides.{version_after, version_with}
 use Rattle.cli_inputs.specs.Below.LawsReplay.Turns.{given_in}
 use Rattle.cli_inputs.specs.Below.LawsReplay.declared.event.Event.{Event}
@@ -26,7 +27,6 @@ use Rattle.lc_cli.specs.Block.{IsBlockEnd, client_status_of}
 use Rattle.lc_cli.specs.Command.{IsPlanBlock, Prints}
 use Rattle.lc_cli.specs.Headline.{EachEndsBest, EndsBestAt, HeadlineOfPlan, IsGateSide, PlannedEachBest}
 use Rattle.lc_cli.specs.Top.{HasPrinted, HasServed, Past}
-use Rattle.cli_serve.specs.Written.{Wrote}
 use Rattle.lc_cli.specs.declared.block.Block.{Block}
 use Rattle.lc_cli.specs.declared.status.Status.TheVariants.{Done}
 use Rattle.lc_cli.proofs.HeadlineLemmas.{HasAnswer, answer_at, has_answered, is_whole}
@@ -101,11 +101,11 @@ module _ (last : Side) (query : Query) (rounds : List Round) (sides : List Side)
 
 -- clients that ended rightly, each with an answer, ended best
 abbrev pub each_best : (base : BaseParts) (first : Side) (all : List Event) (cache : ℕ) (before after : LinkSeen) (text : List ℕ) (ends : List ClientEnd) (x : IsPlanned base all cache before after text ends)
-    → ArePlanned base first all cache before after ends x.caused.met → Done ≡ client_status_of 1 ends → EachEndsBest base first all cache before after ends
-each_best base first all cache before after text ends x planned done = record {
-  one_each = x.one_each;
-  met = x.caused.met;
+    → ArePlanned base first all cache before after ends x.caused.met → TellsAlong first before after → Done ≡ client_status_of 1 ends
+    → EachEndsBest base first all cache before after text ends x
+each_best base first all cache before after text ends x planned replies done = record {
   planned = planned;
+  replies = replies;
   best = λ place query own asks is. best_at planned.last query _ _ own (planned.clients place query own asks is) (answer_at 1 ends place own done is);
 }
 
@@ -119,10 +119,13 @@ module _ {X : Type 0} (seen : X → LinkSeen) (p : Past X) (plan : Plan) (files 
       record {
         all = x.all;
         recorded = asks_recorded files plan.asks p.folder_before p.folder_after x.all tells x.inputs;
+        text = block.text.items;
         ends = block.ends.items;
+        planned = x.planned;
         each =
-            each_best plan.base first x.all plan.cache (seen p.link_before) (seen p.link_after) block.text.items block.ends.items x.planned (x.planned.right first honest) whole.status_is;
-        wrote = subst (Wrote p.sink_before p.sink_after) x.planned.text_is whole.wrote;
+            each_best plan.base first x.all plan.cache (seen p.link_before) (seen p.link_after) block.text.items block.ends.items x.planned
+            (x.planned.right first honest) (x.planned.replies first honest) whole.status_is;
+        wrote = whole.wrote;
       }
 
   pub by_printed : OneCommand → SaysCommand p.words (commands.Plan plan) → HasPrinted seen p Done → PlannedEachBest seen p plan files first

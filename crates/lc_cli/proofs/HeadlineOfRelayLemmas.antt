@@ -35,7 +35,7 @@ module _ {X : Type 0} (seen : X → LinkSeen) (relays_plan_right : RelaysPlanRig
         text = block.text.items;
         ends = block.ends.items;
         relayed = x.relayed;
-        each = each_best relay.base first x.all relay.cache _ _ x.relayed.blocks block.ends.items x.relayed.planned right.planned whole.status_is;
+        each = each_best relay.base first x.all relay.cache _ _ x.relayed.blocks block.ends.items x.relayed.planned right.planned right.replies whole.status_is;
         honest = right.honest;
         text_is = x.relayed.text_is ∙ ap (λ (blocks : List ℕ). blocks ++ counts_line_of x.relayed.relayed x.relayed.forwarded) x.relayed.planned.text_is;
         wrote = whole.wrote;

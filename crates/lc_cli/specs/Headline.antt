@@ -12,7 +12,8 @@ use Rattle.cli_ask.specs.Below.CliWords.declared.command.Replay.{Replay}
 use Rattle.cli_ask.specs.Below.ConnectionUri.Base.{BaseParts}
 use Rattle.cli_ask.specs.Below.LawsClients.Answered.{AnswersAt, NeededAt}
 use Rattle.cli_ask.specs.Below.LawsConvoys.Names.{Round}
-use Rattle.cli_relay.specs.Planned.{ArePlanned}
+use Rattle.cli_relay.specs.Planned.{ArePlanned, IsPlanned}
+use Rattle.cli_relay.specs.Replied.{TellsAlong}
 use Rattle.cli_relay.specs.Sides.{sides_of}
 use Rattle.cli_inputs.specs.Below.LawsReplay.Events.{before_turn_of, questions_in}
 use Rattle.cli_inputs.specs.Below.LawsReplay.OneCourse.{IsPlayedOut}
@@ -20,7 +21,6 @@ use Rattle.cli_inputs.specs.Below.LawsReplay.Replayed.{clients_text_of}
 use Rattle.cli_inputs.specs.Below.LawsReplay.Turns.{order_of, rounds_of}
 use Rattle.cli_inputs.specs.Below.LawsReplay.Versions.{AreShort, HasHeard}
 use Rattle.cli_inputs.specs.Below.LawsReplay.declared.event.Event.{Event}
-use Rattle.cli_ask.specs.Below.LawsReplies.Met.{Met}
 use Rattle.lc_io.specs.declared.file.File.{File}
 use Rattle.lc_model.specs.declared.answer.Answer.{Answer}
 use Rattle.lc_model.specs.declared.answer.Answer.TheVariants as answers
@@ -139,11 +139,11 @@ pub record EndsBestAt (rounds : List Round) (sides : List Side) (last : Side) (q
   pub is_best : AnswersAt last (version_meant side query) query answer
   pub outcome_is : end.outcome ≡ outcome_of answer
 
--- the clients of questions and turns had these over a link, and each of them ended best
-pub record EachEndsBest (base : BaseParts) (first : Side) (all : List Event) (cache : ℕ) (before after : LinkSeen) (ends : List ClientEnd) : Type 0 where
-  pub one_each : length ends ≡ length (questions_in all)
-  pub met : List Met
-  pub planned : ArePlanned base first all cache before after ends met
+-- Clients that planned so over a link that was honest with the first side each ended best, by what they met. Each recorded reply is that of the
+-- publisher's side at its exchange. So that of the time gate says which version its client means.
+pub record EachEndsBest (base : BaseParts) (first : Side) (all : List Event) (cache : ℕ) (before after : LinkSeen) (text : List ℕ) (ends : List ClientEnd) (x : IsPlanned base all cache before after text ends) : Type 0 where
+  pub planned : ArePlanned base first all cache before after ends x.caused.met
+  pub replies : TellsAlong first before after
   pub best :
       (place : ℕ) (query : Query) (end : ClientEnd) → slice_get (questions_in all) place ≡ Some query → slice_get ends place ≡ Some end
       → EndsBestAt (rounds_of (place + 1) (order_of all) planned.rounds) (sides_of (place + 1) (order_of all) planned.sides) planned.last query end
@@ -152,9 +152,11 @@ pub record EachEndsBest (base : BaseParts) (first : Side) (all : List Event) (ca
 pub record PlannedEachBest {X : Type 0} (seen : X → LinkSeen) (p : Past X) (plan : Plan) (files : List File) (first : Side) : Type 0 where
   pub all : List Event
   pub recorded : AreRecordedAsks files plan.asks all
+  pub text : List ℕ
   pub ends : List ClientEnd
-  pub each : EachEndsBest plan.base first all plan.cache (seen p.link_before) (seen p.link_after) ends
-  pub wrote : Wrote p.sink_before p.sink_after (clients_text_of 1 ends)
+  pub planned : IsPlanned plan.base all plan.cache (seen p.link_before) (seen p.link_after) text ends
+  pub each : EachEndsBest plan.base first all plan.cache (seen p.link_before) (seen p.link_after) text ends planned
+  pub wrote : Wrote p.sink_before p.sink_after text
 
 -- Over recorded files and an honest link, also one whose side grows, status Done of `plan` means this. It wrote a best
 -- journey for each client that asked, or that none exists.

@@ -26,7 +26,7 @@ pub record RelayedEachBest {X : Type 0} (seen : X → LinkSeen) (p : Past X) (re
   pub relayed : IsRelayed relay.base all relay.cache relay.entries (seen p.link_before) (seen p.link_after) text ends
   pub each :
       EachEndsBest relay.base first all relay.cache (relay_over relay.base relay.entries (seen p.link_before))
-      (relay_after relay.base relay.entries (seen p.link_before) relayed.own relayed.kept (seen p.link_after)) ends
+      (relay_after relay.base relay.entries (seen p.link_before) relayed.own relayed.kept (seen p.link_after)) relayed.blocks ends relayed.planned
   pub honest : IsHonestWith (seen p.link_after) relay.base each.planned.last
   pub text_is : text ≡ clients_text_of 1 ends ++ counts_line_of relayed.relayed relayed.forwarded
   pub wrote : Wrote p.sink_before p.sink_after text
