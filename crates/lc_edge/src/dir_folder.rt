@@ -2,10 +2,11 @@ ghost use Rattle.std.specs.Prelude.{◌≡◌, ◌↔◌, None};
 ghost use Rattle.std.specs.declared.io.ErrorKind.TheVariants.{NotFound, OutOfMemory};
 ghost use Rattle.lc_io.specs.declared.folder.FolderFail.TheVariants.{Absent, NoMemory as WantOfMemory};
 
+use crate::bounded::read_at_most;
 use lc_links::below::{Folder, FolderFail};
 use std::alloc::Global;
-use std::fs;
-use std::io::ErrorKind;
+use std::fs::File;
+use std::io::{self, ErrorKind};
 use std::rt::Files;
 
 /// The largest file that is read, in bytes.
@@ -39,14 +40,8 @@ impl<R: Files + AllocGlobal> DirFolder<'_, R> {
         if name.as_bytes().contains(&0) {
             return Err(FolderFail::Absent);
         }
-        match fs::read(self.rt, name) {
-            Ok(bytes) => {
-                if bytes.len() <= MOST_BYTES {
-                    Ok(bytes)
-                } else {
-                    Err(FolderFail::Failed)
-                }
-            }
+        match read_file(self.rt, name) {
+            Ok(bytes) => Ok(bytes),
             Err(e) => Err(fail_of(e.kind())),
         }
     }
@@ -68,6 +63,13 @@ impl<R: Files + AllocGlobal> Folder for DirFolder<'_, R> {
     fn faults(&self) -> u64 {
         self.faults
     }
+}
+
+/// The bytes of the file at a path.
+fn read_file<R: Files + AllocGlobal>(rt: &R, path: &str) -> io::Result<Vec<u8>> {
+    let mut bytes = Vec::new(rt.alloc());
+    read_at_most(File::open(rt, path)?, MOST_BYTES, &mut bytes)?;
+    Ok(bytes)
 }
 
 /// Why a file could not be read.

@@ -3,6 +3,7 @@
 #![tactic(auto)]
 
 mod authority;
+mod bounded;
 mod caller;
 mod dir_folder;
 mod std_sink;

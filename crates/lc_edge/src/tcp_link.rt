@@ -7,9 +7,10 @@ ghost use Rattle.lc_links.specs.Below.ConnectionUri.Base.{BaseParts};
 ghost use Rattle.lc_links.specs.Below.PublisherSpec.Side.{Side};
 
 use crate::authority::host_and_port;
+use crate::bounded::read_at_most;
 use lc_links::below::{Link, LinkFail};
 use std::alloc::Global;
-use std::io::{self, ErrorKind, Read, Write};
+use std::io::{self, ErrorKind, Write};
 use std::marker::Model;
 use std::net::{Net, OpenStream, TcpStream, ToSocketAddrs};
 use std::time::Duration;
@@ -133,7 +134,7 @@ fn converse<R: Net>(rt: &R, authority: &str, request: &[u8], reply: &mut Vec<u8>
 {
     let mut stream = connected(rt, authority)?;
     send(&mut stream, request)?;
-    read_all(stream, reply)
+    read_at_most(stream, MOST_BYTES, reply)
 }
 
 /// A connection to the first address of the authority's host that answers.
@@ -156,16 +157,4 @@ fn send<S: Write + OpenStream>(stream: &mut S, request: &[u8]) -> io::Result<()>
     stream.set_read_timeout(wait)?;
     stream.set_write_timeout(wait)?;
     stream.write_all(request)
-}
-
-/// Adds what comes until the end. More than the largest reply is an error.
-fn read_all<S: Read + Drop>(stream: S, reply: &mut Vec<u8>) -> io::Result<()>
-    ensures { OnOk result (length reply.new.items ≤ MOST_BYTES) }
-{
-    stream.take(MOST_BYTES as u64 + 1).read_to_end(reply)?;
-    if reply.len() <= MOST_BYTES {
-        Ok(())
-    } else {
-        Err(io::Error::from(ErrorKind::FileTooLarge))
-    }
 }
