@@ -275,6 +275,7 @@ nginx_checks() {
   serve behind.log "$first" $((made + 4)) "$work/feed" --cuts count:100 --base "$base" --accept-updates || return
   serve other.log "$second" 1 "$top/examples/tiny" --base "http://localhost:$front/other/" || return
   same 'nginx: the stops are asked for once' 'MISS HIT' "$(kept "${base}stops") $(kept "${base}stops")"
+  has 'nginx: the stops may be kept for an hour' 'Cache-Control: public, max-age=3600' "$(curl -s -m 60 -o /dev/null -D - "${base}stops")"
   page=$(curl -s -m 60 -o /dev/null -w '%{redirect_url}' "$base$gate")
   same 'nginx: a page is asked for once' 'MISS HIT' "$(kept "$page") $(kept "$page")"
   head=$(curl -s -m 60 -o /dev/null -D - --compressed "$page")
