@@ -1,6 +1,6 @@
 -- Links of sockets.
 use Rattle.std.specs.Prelude.{ℕ, None}
-use Rattle.lc_links.specs.Below.LcWorld.Link.{LinkSeen}
+use Rattle.lc_world.specs.Link.{LinkSeen}
 
 -- how often an exchange has failed
 pub record TcpLinkState : Type 0 where

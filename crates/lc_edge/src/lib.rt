@@ -1,5 +1,4 @@
-//! The edges of this machine: its files, its standard output and its sockets, as a door and as a link. It builds on `lc_world`, and hands
-//! on the links of `lc_links`, which do not leave the process.
+//! The edges of this machine: its files, its standard output and its sockets, as a door and as a link. It builds on `lc_world`.
 #![tactic(auto)]
 
 mod authority;
@@ -11,7 +10,6 @@ mod tcp_door;
 mod tcp_link;
 
 pub use dir_folder::DirFolder;
-pub use lc_links::{ClosedLink, FaultyLink, HomeLink, LocalLink};
 pub use std_sink::StdSink;
 pub use tcp_door::TcpDoor;
 pub use tcp_link::TcpLink;

@@ -1,14 +1,14 @@
 ghost use Rattle.std.specs.Prelude.{◌≡◌, ◌≤◌, ◌↔◌, [], None, length, OnErr, OnOk, IsErrOf};
 ghost use Rattle.std.specs.declared.io.ErrorKind.TheVariants.{OutOfMemory};
 ghost use Rattle.lc_io.specs.Counts.{Counts, HasCause};
-ghost use Rattle.lc_links.specs.Below.LcWorld.Link.{Exchanges, IsGet, IsHonestWith, Tells};
-ghost use Rattle.lc_links.specs.Below.LcWorld.declared.link.LinkFail.TheVariants.{Failed, NoMemory as WantOfMemory};
-ghost use Rattle.lc_links.specs.Below.ConnectionUri.Base.{BaseParts};
-ghost use Rattle.lc_links.specs.Below.PublisherSpec.Side.{Side};
+ghost use Rattle.lc_world.specs.Link.{Exchanges, IsGet, IsHonestWith, Tells};
+ghost use Rattle.lc_world.specs.declared.link.LinkFail.TheVariants.{Failed, NoMemory as WantOfMemory};
+ghost use Rattle.lc_world.specs.Below.ConnectionUri.Base.{BaseParts};
+ghost use Rattle.lc_world.specs.Below.PublisherSpec.Side.{Side};
 
 use crate::authority::host_and_port;
 use crate::bounded::read_at_most;
-use lc_links::below::{Link, LinkFail};
+use lc_world::{Link, LinkFail};
 use std::alloc::Global;
 use std::io::{self, ErrorKind, Write};
 use std::marker::Model;
