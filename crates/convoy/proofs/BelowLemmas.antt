@@ -1,6 +1,5 @@
 -- The lemmas of the crates below, for the crates above.
 pub mod CsaScan
 pub mod LcWorld
-pub mod PageCache
 pub mod PageClient
 pub mod PageJson

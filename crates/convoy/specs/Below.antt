@@ -4,7 +4,6 @@ pub mod CsaScan
 pub mod HttpText
 pub mod JsonMembers
 pub mod LcWorld
-pub mod PageCache
 pub mod PageClient
 pub mod PageJson
 pub mod PublisherSpec

@@ -3,7 +3,7 @@ use Rattle.std.specs.Prelude.{◌≡◌, ◌≢◌, ℕ, ◌-◌, ◌<◌, Bool,
 use Rattle.std.specs.List.{All}
 use Rattle.page_client.specs.Below.ConnectionUri.Base.{BaseParts}
 use Rattle.lc_world.specs.Link.{LinkSeen}
-use Rattle.page_client.specs.Below.PageCache.Kept.{Kept}
+use Rattle.page_client.specs.Kept.{Kept}
 use Rattle.lc_model.specs.declared.query.Query.{Query}
 use Rattle.page_client.specs.Client.{shown}
 use Rattle.page_client.specs.Shown.{Begins, exchanges_left}

@@ -6,7 +6,7 @@ use Rattle.page_client.specs.Below.ConnectionUri.Base.{BaseParts}
 use Rattle.page_client.specs.Below.PageJson.Valid.{IsValidPage}
 use Rattle.page_client.specs.Below.PageJson.declared.page.Page.{Page}
 use Rattle.lc_world.specs.Link.{LinkSeen}
-use Rattle.page_client.specs.Below.PageCache.Kept.{Kept, page_named, with_put, with_used}
+use Rattle.page_client.specs.Kept.{Kept, page_named, with_put, with_used}
 use Rattle.page_client.specs.Client.{AfterStops, TakesPage, shown}
 use Rattle.page_client.specs.Gate.{IsGateReply}
 use Rattle.page_client.specs.Page.{IsPageReply, advances}

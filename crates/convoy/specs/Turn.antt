@@ -2,7 +2,7 @@
 use Rattle.std.specs.Prelude.{◌≡◌, ◌+◌, ◌⊎◌, None, IsSome}
 use Rattle.page_client.specs.Below.ConnectionUri.Base.{BaseParts}
 use Rattle.lc_world.specs.Link.{LinkSeen}
-use Rattle.page_client.specs.Below.PageCache.Kept.{Kept}
+use Rattle.page_client.specs.Kept.{Kept}
 use Rattle.page_client.specs.Client.{shown}
 use Rattle.page_client.specs.declared.client.Client.{Client}
 use Rattle.convoy.specs.Steps.{AsksGate, AsksPage, AsksStops, HoldsPage}

@@ -9,8 +9,8 @@ use crate::member::Member;
 use crate::turning::turned;
 use lc_model::{Moment, NoMemory, Query};
 use lc_world::Link;
-use page_client::below::{Base, PageCache};
-use page_client::{Client, Outcome};
+use page_client::below::Base;
+use page_client::{Client, Outcome, PageCache};
 use std::alloc::Global;
 use std::marker::Model;
 

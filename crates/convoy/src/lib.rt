@@ -1,4 +1,4 @@
-//! Many clients that share one bounded cache of pages, over any link. It builds on `page_client`, `page_cache` and `lc_world`.
+//! Many clients that share one bounded cache of pages, over any link. It builds on `page_client` and `lc_world`.
 #![tactic(auto)]
 
 pub mod below;

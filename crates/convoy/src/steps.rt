@@ -2,7 +2,7 @@ ghost use Rattle.std.specs.Prelude.{◌≡◌, ◌<◌, true, None, OnOk};
 ghost use Rattle.std.specs.List.{All};
 ghost use Rattle.lc_world.specs.GoneOn.{IsLeftByGets};
 ghost use Rattle.page_client.specs.Below.PageJson.Valid.{IsValidPage};
-ghost use Rattle.page_client.specs.Below.PageCache.Kept.{page_named};
+ghost use Rattle.page_client.specs.Kept.{page_named};
 ghost use Rattle.page_client.specs.Client.{TakesPage, shown};
 ghost use Rattle.page_client.specs.Page.{advances};
 ghost use Rattle.page_client.specs.Shown.{exchanges_left, is_wrong, want_of, wrong_gate};
@@ -13,8 +13,8 @@ ghost use Rattle.convoy.specs.Turn.{Asks};
 use crate::exchange::exchanged;
 use lc_model::{NoMemory, PageName};
 use lc_world::Link;
-use page_client::below::{Base, Page, PageCache};
-use page_client::{Client, Outcome, Want, page_of};
+use page_client::below::{Base, Page};
+use page_client::{Client, Outcome, PageCache, Want, page_of};
 use std::alloc::Global;
 
 /// Asks for what the client wants, and takes the reply. A page is put in the cache.

@@ -5,8 +5,8 @@ use Rattle.std.proofs.lemmas.List.{append-nil, append_assoc}
 use Rattle.lc_model.specs.declared.page.PageName.{PageName}
 use Rattle.lc_model.specs.declared.query.Query.{Query}
 use Rattle.laws_clients.specs.Below.PageJson.declared.page.Page.{Page}
-use Rattle.convoy.specs.Below.PageCache.Kept.{Kept, page_named, with_put, with_used}
-use Rattle.convoy.proofs.BelowLemmas.PageCache.KeptLemmas.{named}
+use Rattle.convoy.specs.Below.PageClient.Kept.{Kept, page_named, with_put, with_used}
+use Rattle.convoy.proofs.BelowLemmas.PageClient.KeptLemmas.{named}
 use Rattle.convoy.specs.Below.PageClient.Client.{AfterPage, TakesPage, shown}
 use Rattle.convoy.specs.Below.PageClient.Shown.{Shown, is_off, want_of, wrong_gate}
 use Rattle.convoy.specs.Below.PageClient.declared.client.Client.{Client}

@@ -7,8 +7,8 @@ use Rattle.lc_model.specs.declared.page.PageName.{PageName}
 use Rattle.lc_model.proofs.ListLemmas.{All-from_contains}
 use Rattle.convoy.specs.Below.ConnectionUri.Base.{BaseParts}
 use Rattle.laws_clients.specs.Below.PageJson.declared.page.Page.{Page}
-use Rattle.convoy.specs.Below.PageCache.Kept.{Kept, has_name, page_named, with_put}
-use Rattle.convoy.proofs.BelowLemmas.PageCache.KeptLemmas.{All-with_put, All-with_used, found, named}
+use Rattle.convoy.specs.Below.PageClient.Kept.{Kept, has_name, page_named, with_put}
+use Rattle.convoy.proofs.BelowLemmas.PageClient.KeptLemmas.{All-with_put, All-with_used, found, named}
 use Rattle.lc_io.specs.Counts.{Rose}
 use Rattle.convoy.specs.Below.LcWorld.Link.{Exchanges, IsHonestWith, LinkSeen}
 use Rattle.convoy.specs.Below.PageClient.Client.{shown}

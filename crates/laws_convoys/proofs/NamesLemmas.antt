@@ -6,8 +6,8 @@ use Rattle.std.proofs.lemmas.List.{append_assoc, take-map}
 use Rattle.lc_model.specs.declared.page.PageName.{PageName}
 use Rattle.lc_model.proofs.ListLemmas.{Contains-cases, Contains-here, Contains-nil, Contains-there, IsKept-filter}
 use Rattle.laws_clients.specs.Below.PageJson.declared.page.Page.{Page}
-use Rattle.convoy.specs.Below.PageCache.Kept.{Kept, has_name, is_same, page_named, with_put, with_used, without}
-use Rattle.convoy.proofs.BelowLemmas.PageCache.KeptLemmas.{named}
+use Rattle.convoy.specs.Below.PageClient.Kept.{Kept, has_name, is_same, page_named, with_put, with_used, without}
+use Rattle.convoy.proofs.BelowLemmas.PageClient.KeptLemmas.{named}
 use Rattle.convoy.specs.Below.PageClient.declared.want.Want.{Want}
 use Rattle.convoy.specs.Below.PageClient.declared.want.Want.TheVariants as wants
 use Rattle.laws_convoys.specs.Names.{AskByNames, IsByNames, Round, names_behind, asked_for, asked_of, is_among, names_after, names_of, names_then, names_with, others}

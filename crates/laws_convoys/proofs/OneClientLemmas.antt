@@ -8,8 +8,8 @@ use Rattle.lc_model.specs.declared.page.PageName.{PageName}
 use Rattle.lc_model.specs.declared.query.Query.{Query}
 use Rattle.lc_model.proofs.ListLemmas.{Contains-map, Contains-nil}
 use Rattle.laws_clients.specs.Below.PageJson.declared.page.Page.{Page}
-use Rattle.convoy.specs.Below.PageCache.Kept.{Kept, has_name}
-use Rattle.convoy.proofs.BelowLemmas.PageCache.KeptLemmas as kept_pages
+use Rattle.convoy.specs.Below.PageClient.Kept.{Kept, has_name}
+use Rattle.convoy.proofs.BelowLemmas.PageClient.KeptLemmas as kept_pages
 use Rattle.convoy.specs.Below.LcWorld.Link.{IsHonestWith, IsQuietWith, LinkSeen}
 use Rattle.convoy.specs.Below.PageClient.Client.{shown}
 use Rattle.convoy.specs.Below.PageClient.Shown.{Begins, Shown, first_outcome, want_of}

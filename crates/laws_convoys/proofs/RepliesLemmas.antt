@@ -15,7 +15,7 @@ use Rattle.convoy.specs.Below.PageClient.declared.client.Client.{Client}
 use Rattle.convoy.specs.Below.PageClient.declared.outcome.Outcome.{Outcome}
 use Rattle.convoy.specs.Below.PageClient.declared.outcome.Outcome.TheVariants as outcomes
 use Rattle.convoy.specs.Below.PageClient.declared.want.Want.{Want}
-use Rattle.convoy.specs.Below.PageCache.Kept.{Kept}
+use Rattle.convoy.specs.Below.PageClient.Kept.{Kept}
 use Rattle.laws_clients.specs.Below.PublisherSpec.Reply.{IsReply}
 use Rattle.laws_clients.specs.Below.PublisherSpec.Side.{Side}
 use Rattle.convoy.specs.Exchange.{Got, IsExchange, bytes_of, result_of}

@@ -8,7 +8,7 @@ use Rattle.std.proofs.lemmas.Option.{slice_get_within}
 use Rattle.convoy.proofs.BelowLemmas.CsaScan.ListPlacesLemmas.{slice_get-set_other, slice_get-set_same}
 use Rattle.lc_model.specs.declared.query.Query.{Query}
 use Rattle.convoy.specs.Below.ConnectionUri.Base.{BaseParts}
-use Rattle.convoy.specs.Below.PageCache.Kept.{Kept}
+use Rattle.convoy.specs.Below.PageClient.Kept.{Kept}
 use Rattle.convoy.specs.Below.LcWorld.Link.{IsHonestWith, LinkSeen}
 use Rattle.convoy.specs.Below.PageClient.Client.{shown}
 use Rattle.convoy.specs.Below.PageClient.Shown.{Shown, want_of}

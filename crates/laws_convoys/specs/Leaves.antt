@@ -3,7 +3,7 @@ use Rattle.std.specs.Prelude.{◌≡◌, ◌≢◌, ◌⊎◌, ℕ, ◌+◌, ◌
 use Rattle.lc_io.specs.Counts.{Rose, RoseBy}
 use Rattle.convoy.specs.Below.ConnectionUri.Base.{BaseParts}
 use Rattle.convoy.specs.Below.LcWorld.Link.{IsHonestWith, LinkSeen}
-use Rattle.convoy.specs.Below.PageCache.Kept.{Kept}
+use Rattle.convoy.specs.Below.PageClient.Kept.{Kept}
 use Rattle.convoy.specs.Below.PageClient.Client.{shown}
 use Rattle.convoy.specs.Below.PageClient.Shown.{Shown, want_of}
 use Rattle.convoy.specs.Below.PageClient.declared.outcome.Outcome.{Outcome}

@@ -3,7 +3,7 @@ use Rattle.std.specs.Prelude.{◌≡◌, ℕ, ◌+◌, Bool, not, List, [], ◌�
 use Rattle.std.specs.List.{list_any}
 use Rattle.lc_model.specs.declared.page.PageName.{PageName}
 use Rattle.laws_clients.specs.Below.PageJson.declared.page.Page.{Page}
-use Rattle.convoy.specs.Below.PageCache.Kept.{is_same}
+use Rattle.convoy.specs.Below.PageClient.Kept.{is_same}
 use Rattle.convoy.specs.Below.PageClient.declared.want.Want.{Want}
 use Rattle.convoy.specs.Below.PageClient.declared.want.Want.TheVariants as wants
 

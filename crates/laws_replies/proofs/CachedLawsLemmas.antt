@@ -5,7 +5,7 @@ use Rattle.std.specs.List.{slice_get}
 use Rattle.convoy.specs.Below.ConnectionUri.Base.{BaseParts}
 use Rattle.lc_model.specs.declared.page.PageName.{PageName}
 use Rattle.lc_model.specs.declared.query.Query.{Query}
-use Rattle.convoy.specs.Below.PageCache.Kept.{Kept, page_named, with_put, with_used}
+use Rattle.convoy.specs.Below.PageClient.Kept.{Kept, page_named, with_put, with_used}
 use Rattle.convoy.proofs.BelowLemmas.PageClient.OneReplyLemmas.{one_page_reply}
 use Rattle.convoy.specs.Below.PageClient.Page.{IsPageReply}
 use Rattle.convoy.specs.Below.PageClient.Shown.{is_off}

@@ -8,7 +8,7 @@ use Rattle.convoy.specs.Steps.{AfterPage as AfterPageSaid, HoldsPage, TakesAsked
 use Rattle.convoy.proofs.BelowLemmas.CsaScan.ListPlacesLemmas.{slice_get-append}
 use Rattle.lc_model.specs.declared.page.PageName.{PageName}
 use Rattle.lc_model.specs.declared.query.Query.{Query}
-use Rattle.convoy.specs.Below.PageCache.Kept.{Kept, page_named, with_put}
+use Rattle.convoy.specs.Below.PageClient.Kept.{Kept, page_named, with_put}
 use Rattle.convoy.specs.Below.PageClient.Client.{shown}
 use Rattle.convoy.specs.Below.PageClient.Page.{IsPageReply}
 use Rattle.convoy.specs.Below.PageClient.Shown.{is_off, wrong_gate}

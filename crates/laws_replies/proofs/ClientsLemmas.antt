@@ -20,8 +20,8 @@ use Rattle.lc_model.specs.declared.page.PageName.{PageName}
 use Rattle.lc_model.specs.declared.query.Query.{Query}
 use Rattle.convoy.specs.Below.LcWorld.Link.{LinkSeen}
 use Rattle.convoy.specs.Below.LcWorld.declared.entry.Entry.{Entry}
-use Rattle.convoy.proofs.BelowLemmas.PageCache.KeptLemmas.{All-with_put, All-with_used, found, named}
-use Rattle.convoy.specs.Below.PageCache.Kept.{Kept, has_name}
+use Rattle.convoy.proofs.BelowLemmas.PageClient.KeptLemmas.{All-with_put, All-with_used, found, named}
+use Rattle.convoy.specs.Below.PageClient.Kept.{Kept, has_name}
 use Rattle.convoy.proofs.BelowLemmas.PageClient.PageLemmas.{waits_for}
 use Rattle.convoy.specs.Below.PageClient.Client.{shown}
 use Rattle.convoy.specs.Below.PageClient.Page.{IsPageReply}

@@ -15,7 +15,7 @@ use Rattle.convoy.specs.Below.LcWorld.declared.link.LinkFail.TheVariants.{Failed
 use Rattle.convoy.specs.Below.ConnectionUri.Base.{BaseParts}
 use Rattle.convoy.specs.Below.CsaScan.StandsFor.{IsBestChain}
 use Rattle.convoy.specs.Below.PageJson.declared.page.Page.{Page}
-use Rattle.convoy.specs.Below.PageCache.Kept.{Kept}
+use Rattle.convoy.specs.Below.PageClient.Kept.{Kept}
 use Rattle.convoy.specs.Below.PageClient.Client.{AfterDoc, AfterPage, AfterStops, GoesOnBy, Leaves, StandsFor, TakesPage, shown}
 use Rattle.convoy.specs.Below.PageClient.Course.{Follows, IsOver}
 use Rattle.convoy.specs.Below.PageClient.Gate.{IsGateReply}

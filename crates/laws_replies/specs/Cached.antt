@@ -5,7 +5,7 @@ use Rattle.std.specs.List.{list_any}
 use Rattle.lc_model.specs.declared.page.PageName.{PageName}
 use Rattle.lc_model.specs.declared.query.Query.{Query}
 use Rattle.convoy.specs.Below.ConnectionUri.Base.{BaseParts}
-use Rattle.convoy.specs.Below.PageCache.Kept.{Kept, page_named, with_put, with_used}
+use Rattle.convoy.specs.Below.PageClient.Kept.{Kept, page_named, with_put, with_used}
 use Rattle.convoy.specs.Below.PageJson.declared.page.Page.{Page}
 use Rattle.convoy.specs.Below.PageClient.Page.{IsPageReply}
 use Rattle.convoy.specs.Below.PageClient.Shown.{is_off}

@@ -11,7 +11,7 @@ use Rattle.lc_model.specs.declared.page.PageName.{PageName}
 use Rattle.lc_model.specs.declared.query.Query.{Query}
 use Rattle.rounds_client.specs.Below.LcWorld.Link.{LinkSeen}
 use Rattle.rounds_client.specs.Below.LcWorld.declared.link.LinkFail.TheVariants.{Failed}
-use Rattle.rounds_client.specs.Below.PageCache.Kept.{Kept}
+use Rattle.rounds_client.specs.Below.PageClient.Kept.{Kept}
 use Rattle.rounds_client.proofs.BelowLemmas.PageClient.PageLemmas.{waits_for}
 use Rattle.rounds_client.specs.Below.PageClient.Client.{shown}
 use Rattle.rounds_client.specs.Below.PageClient.Page.{IsPageReply}

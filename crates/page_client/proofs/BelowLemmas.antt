@@ -2,5 +2,4 @@
 pub mod ConnectionUri
 pub mod CsaScan
 pub mod HttpText
-pub mod PageCache
 pub mod PageJson

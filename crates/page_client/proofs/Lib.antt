@@ -7,3 +7,6 @@ pub mod OneReplyLemmas
 pub mod OrderLemmas
 pub mod PageLemmas
 pub mod SequelLemmas
+mod EntriesLemmas
+pub mod KeptLemmas
+mod KeyLemmas

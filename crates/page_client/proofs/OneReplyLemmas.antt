@@ -8,8 +8,8 @@ use Rattle.memento.specs.Below.ConnectionUri.Base.{BaseParts}
 use Rattle.memento.proofs.BelowLemmas.ConnectionUri.PageLemmas.{page_urls_differ}
 use Rattle.http_text.specs.declared.reply.Reply.{Reply}
 use Rattle.http_text.proofs.MessageLemmas.{one_read}
-use Rattle.page_cache.specs.Below.PageJson.declared.page.Page.{Page}
-use Rattle.page_cache.proofs.BelowLemmas.PageJson.OneResultLemmas.{one_page_of_bytes, one_doc_of_bytes}
+use Rattle.page_json.specs.declared.page.Page.{Page}
+use Rattle.page_json.proofs.OneResultLemmas.{one_page_of_bytes, one_doc_of_bytes}
 use Rattle.page_client.specs.Fault.{Tested}
 use Rattle.page_client.specs.Gate.{IsGateReply, IsSent, LeadsTo}
 use Rattle.page_client.specs.Page.{IsPageReply, SaysPage as SaysThePage, tested_body}

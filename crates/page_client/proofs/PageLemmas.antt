@@ -16,8 +16,8 @@ use Rattle.lc_model.specs.declared.page.PageName.{PageName}
 use Rattle.lc_model.specs.declared.query.Query.{Query}
 use Rattle.csa_scan.specs.StandsFor.{StandsFor}
 use Rattle.csa_scan.specs.declared.scan.Scan.{Scan}
-use Rattle.page_cache.specs.Below.PageJson.Valid.{IsValidPage}
-use Rattle.page_cache.specs.Below.PageJson.declared.page.Page.{Page}
+use Rattle.page_json.specs.Valid.{IsValidPage}
+use Rattle.page_json.specs.declared.page.Page.{Page}
 use Rattle.page_client.specs.Client.{AfterPage, GoesOnBy, StandsFor as ClientStandsFor, TakesPage, shown}
 use Rattle.page_client.specs.Course.{Follows, HasScanned, IsOver, IsReading, IsSound, TakesOn}
 use Rattle.lc_model.specs.Connection.{last_departure}

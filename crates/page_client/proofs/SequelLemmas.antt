@@ -4,8 +4,8 @@ use Rattle.std.specs.Prelude.{if◌then◌else◌, is_some}
 use Rattle.lc_model.specs.declared.journey.Journey.{Journey}
 use Rattle.lc_model.specs.declared.page.PageName.{PageName}
 use Rattle.csa_scan.specs.declared.scan.Scan.{Scan}
-use Rattle.page_cache.specs.Below.PageJson.Valid.{IsValidPage}
-use Rattle.page_cache.specs.Below.PageJson.declared.page.Page.{Page}
+use Rattle.page_json.specs.Valid.{IsValidPage}
+use Rattle.page_json.specs.declared.page.Page.{Page}
 use Rattle.page_client.specs.Sequel.{IsSequel, sequel_of}
 use Rattle.page_client.specs.Client.{AfterPage, TakesPage, shown}
 use Rattle.page_client.specs.Course.{TakesOn}

@@ -4,5 +4,4 @@ pub mod CsaScan
 pub mod HttpText
 pub mod JsonMembers
 pub mod Memento
-pub mod PageCache
 pub mod PageJson

@@ -5,7 +5,7 @@ use Rattle.lc_model.specs.declared.connection.Connection.{Connection}
 use Rattle.lc_model.specs.declared.doc.StopsDoc.{StopsDoc}
 use Rattle.lc_model.specs.declared.page.PageName.{PageName}
 use Rattle.csa_scan.specs.declared.scan.Scan.{Scan}
-use Rattle.page_cache.specs.Below.PageJson.declared.page.Page.{Page}
+use Rattle.page_json.specs.declared.page.Page.{Page}
 use Rattle.page_client.specs.Course.{Follows, HasScanned}
 use Rattle.page_client.specs.Shown.{Shown, after_stops, answered, ended, onward, wrong_gate}
 use Rattle.page_client.specs.declared.client.Client.{Client}

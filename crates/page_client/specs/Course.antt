@@ -10,7 +10,7 @@ use Rattle.lc_model.specs.declared.query.Query.{Query}
 use Rattle.csa_scan.specs.Done.{IsDone}
 use Rattle.csa_scan.specs.StandsFor.{IsBestChain, StandsFor}
 use Rattle.csa_scan.specs.declared.scan.Scan.{Scan}
-use Rattle.page_cache.specs.Below.PageJson.declared.page.Page.{Page}
+use Rattle.page_json.specs.declared.page.Page.{Page}
 use Rattle.lc_model.specs.Connection.{last_departure}
 use Rattle.page_client.specs.Shown.{HasHorizon}
 use Rattle.page_client.specs.declared.phase.Phase.{Phase}

@@ -6,7 +6,7 @@ use Rattle.lc_model.specs.declared.page.PageName.{PageName}
 use Rattle.memento.specs.Below.ConnectionUri.Base.{BaseParts}
 use Rattle.memento.specs.Below.ConnectionUri.Page.{gate_url_of}
 use Rattle.http_text.specs.declared.reply.Reply.{Reply}
-use Rattle.page_cache.specs.Below.PageJson.Says.{SaysPage}
+use Rattle.page_json.specs.Says.{SaysPage}
 use Rattle.page_client.specs.Fault.{Tested}
 use Rattle.page_client.specs.Replied.{IsTested}
 use Rattle.page_client.specs.declared.fault.PeerFault.TheVariants.{Location}

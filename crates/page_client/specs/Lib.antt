@@ -10,3 +10,6 @@ pub mod Sequel
 pub mod Shown
 pub mod Stops
 pub mod Texts
+pub mod Inside
+pub mod Kept
+pub mod Lending

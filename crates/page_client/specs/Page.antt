@@ -5,9 +5,9 @@ use Rattle.lc_model.specs.declared.connection.Connection.{Connection}
 use Rattle.lc_model.specs.declared.page.PageName.{PageName}
 use Rattle.memento.specs.Below.ConnectionUri.Base.{BaseParts}
 use Rattle.http_text.specs.declared.reply.Reply.{Reply}
-use Rattle.page_cache.specs.Below.PageJson.PageReading.{page_of_bytes}
-use Rattle.page_cache.specs.Below.JsonMembers.declared.fault.PageFault.{PageFault}
-use Rattle.page_cache.specs.Below.PageJson.declared.page.Page.{Page}
+use Rattle.page_json.specs.PageReading.{page_of_bytes}
+use Rattle.page_json.specs.Below.JsonMembers.declared.fault.PageFault.{PageFault}
+use Rattle.page_json.specs.declared.page.Page.{Page}
 use Rattle.page_client.specs.Fault.{Tested}
 use Rattle.page_client.specs.Replied.{IsTested, body_of}
 use Rattle.page_client.specs.declared.fault.PeerFault.{PeerFault}

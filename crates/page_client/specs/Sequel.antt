@@ -1,7 +1,7 @@
 -- What a client does after a page.
 use Rattle.std.specs.Prelude.{◌≡◌}
 use Rattle.csa_scan.specs.declared.scan.Scan.{Scan}
-use Rattle.page_cache.specs.Below.PageJson.declared.page.Page.{Page}
+use Rattle.page_json.specs.declared.page.Page.{Page}
 use Rattle.page_client.specs.Course.{TakesOn}
 use Rattle.page_client.specs.Shown.{answered}
 use Rattle.page_client.specs.declared.step.Sequel.{Sequel}

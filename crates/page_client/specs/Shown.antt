@@ -4,7 +4,7 @@ use Rattle.lc_model.specs.declared.connection.Connection.{Connection}
 use Rattle.lc_model.specs.declared.journey.Journey.{Journey}
 use Rattle.lc_model.specs.declared.page.PageName.{PageName}
 use Rattle.lc_model.specs.declared.query.Query.{Query}
-use Rattle.page_cache.specs.Below.PageJson.declared.page.Page.{Page}
+use Rattle.page_json.specs.declared.page.Page.{Page}
 use Rattle.page_client.specs.declared.fault.PeerFault.{PeerFault}
 use Rattle.page_client.specs.declared.fault.PeerFault.TheVariants.{GateWrong}
 use Rattle.page_client.specs.declared.fault.QueryFault.{QueryFault}

@@ -11,7 +11,7 @@ use crate::{Outcome, PeerFault, QueryFault, Want};
 use csa_scan::{BeginFault, Scan};
 use lc_model::{Bytes, Moment, NoMemory, PageName, Query, StopsDoc};
 use memento::below::Base;
-use page_cache::below::Page;
+use page_json::Page;
 use std::alloc::Global;
 
 /// A client of one question. It wants the reply of the time gate, then that of the stops document, then page after page. It
@@ -34,7 +34,7 @@ impl Client {
     ghost use Rattle.lc_model.specs.declared.connection.Connection.{Connection as Listed};
     ghost use Rattle.lc_model.specs.declared.doc.StopsDoc.{StopsDoc as Recorded};
     ghost use Rattle.lc_model.specs.declared.page.PageName.{PageName as Named};
-    ghost use Rattle.page_cache.specs.Below.PageJson.Valid.{IsValidPage};
+    ghost use Rattle.page_json.specs.Valid.{IsValidPage};
     ghost use Rattle.page_client.specs.Client.{AfterDoc, AfterStops, StandsFor, TakesPage, shown};
     ghost use Rattle.page_client.specs.Fault.{IsWant};
     ghost use Rattle.page_client.specs.Gate.{IsGateReply};

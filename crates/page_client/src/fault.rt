@@ -4,7 +4,7 @@ ghost use Rattle.page_client.specs.Texts.{peer_fault_text, query_fault_text};
 
 use http_text::ReplyFault;
 use lc_model::{NoMemory, PlainData};
-use page_cache::below::{Page, PageFault};
+use page_json::{Page, PageFault};
 use std::alloc::Global;
 use std::error::Error;
 use std::fmt;

@@ -1,6 +1,6 @@
 ghost use Rattle.std.specs.Prelude.{◌≡◌, Some, IfOk, IfSome};
 ghost use Rattle.lc_model.specs.declared.page.PageName.{PageName as Named};
-ghost use Rattle.page_cache.specs.Below.PageJson.Says.{SaysPage};
+ghost use Rattle.page_json.specs.Says.{SaysPage};
 ghost use Rattle.page_client.specs.Gate.{IsGateReply, IsJoined, IsSent, LeadsTo};
 
 use crate::PeerFault;

@@ -2,7 +2,7 @@ ghost use Rattle.std.specs.Prelude.{◌≡◌, ℕ, List, Result};
 ghost use Rattle.memento.specs.Below.ConnectionUri.Base.{BaseParts};
 ghost use Rattle.lc_model.specs.declared.doc.StopsDoc.{StopsDoc};
 ghost use Rattle.lc_model.specs.declared.page.PageName.{PageName};
-ghost use Rattle.page_cache.specs.Below.PageJson.declared.page.Page.{Page};
+ghost use Rattle.page_json.specs.declared.page.Page.{Page};
 ghost use Rattle.page_client.specs.Gate.{IsGateReply};
 ghost use Rattle.page_client.specs.Page.{IsPageReply};
 ghost use Rattle.page_client.specs.Stops.{IsStopsReply};

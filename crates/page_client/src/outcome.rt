@@ -4,7 +4,7 @@ ghost use Rattle.page_client.specs.declared.outcome.Outcome.TheVariants as outco
 
 use crate::{PeerFault, QueryFault};
 use lc_model::{Bytes, Connection, Journey, Moment, NoMemory, PageName, PlainData};
-use page_cache::below::Page;
+use page_json::Page;
 use std::alloc::Global;
 
 /// How a client ended.

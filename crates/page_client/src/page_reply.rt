@@ -1,5 +1,5 @@
 ghost use Rattle.std.specs.Prelude.{◌≡◌, true, IfOk};
-ghost use Rattle.page_cache.specs.Below.PageJson.Valid.{IsValidPage};
+ghost use Rattle.page_json.specs.Valid.{IsValidPage};
 ghost use Rattle.page_client.specs.Fault.{Meets};
 ghost use Rattle.lc_model.specs.Connection.{last_departure};
 ghost use Rattle.page_client.specs.Page.{Fits, IsPageReply, advances, begins_at, is_asked, is_of_version, is_on_from, tested_page};
@@ -9,7 +9,7 @@ use crate::replied::{body_of, replied};
 use http_text::ReplyFault;
 use lc_model::{Connection, Moment, NoMemory, PageName};
 use memento::below::Base;
-use page_cache::below::{Page, PageFault, read_page};
+use page_json::{Page, PageFault, read_page};
 use std::alloc::Global;
 
 /// The page of this name that a reply says, or the first test that the reply fails. Linear in the reply.

@@ -13,7 +13,7 @@ use crate::outcome::{answered, wrong_gate};
 use crate::page_reply::last_departure;
 use csa_scan::Scan;
 use lc_model::{Bytes, Journey, Moment, NoMemory, PageName};
-use page_cache::below::Page;
+use page_json::Page;
 use std::alloc::Global;
 
 /// What comes after a page.

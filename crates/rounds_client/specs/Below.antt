@@ -3,6 +3,5 @@ pub mod ChangeRounds
 pub mod ConnectionUri
 pub mod Convoy
 pub mod LcWorld
-pub mod PageCache
 pub mod PageClient
 pub mod PageJson

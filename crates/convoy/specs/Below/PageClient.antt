@@ -2,6 +2,7 @@
 pub use Rattle.page_client.specs.Client
 pub use Rattle.page_client.specs.Course
 pub use Rattle.page_client.specs.Gate
+pub use Rattle.page_client.specs.Kept
 pub use Rattle.page_client.specs.Page
 pub use Rattle.page_client.specs.Replied
 pub use Rattle.page_client.specs.Request

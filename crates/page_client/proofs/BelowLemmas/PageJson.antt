@@ -1,2 +1,2 @@
 -- What the crates above name of `page_json`.
-pub use Rattle.page_cache.proofs.BelowLemmas.PageJson.ValidResultLemmas
+pub use Rattle.page_json.proofs.ValidResultLemmas

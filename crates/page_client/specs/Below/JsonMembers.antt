@@ -1,2 +1,2 @@
 -- What the crates above name of `json_members`.
-pub use Rattle.page_cache.specs.Below.JsonMembers.declared
+pub use Rattle.page_json.specs.Below.JsonMembers.declared

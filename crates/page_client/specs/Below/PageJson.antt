@@ -1,4 +1,4 @@
 -- What the crates above name of `page_json`.
-pub use Rattle.page_cache.specs.Below.PageJson.PageReading
-pub use Rattle.page_cache.specs.Below.PageJson.Valid
-pub use Rattle.page_cache.specs.Below.PageJson.declared
+pub use Rattle.page_json.specs.PageReading
+pub use Rattle.page_json.specs.Valid
+pub use Rattle.page_json.specs.declared

@@ -1,7 +1,7 @@
 //! Pages in the order of their use.
 use crate::said::put_named;
 use lc_model::{Connections, Moment, NoMemory, PageName};
-use page_cache::PageCache;
+use page_client::PageCache;
 use page_json::Page;
 use rows_common::{Draft, Unmade};
 use std::alloc::Global;

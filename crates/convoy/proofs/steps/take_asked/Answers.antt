@@ -1,7 +1,7 @@
 use Rattle.std.proofs.Common.{sym, subst}
 use Rattle.std.specs.List.{All}
-use Rattle.page_client.specs.Below.PageCache.Kept.{Kept}
-use Rattle.page_client.proofs.BelowLemmas.PageCache.KeptLemmas.{All-with_put}
+use Rattle.page_client.specs.Kept.{Kept}
+use Rattle.page_client.proofs.KeptLemmas.{All-with_put}
 use Rattle.convoy.specs.Steps.{MayBeTaken}
 use Rattle.convoy.proofs.steps.take_asked.Goals as goal
 

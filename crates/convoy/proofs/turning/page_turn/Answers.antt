@@ -1,8 +1,8 @@
 use Rattle.std.proofs.Common.{sym, ap, ◌∙◌, subst}
 use Rattle.std.specs.List.{All}
 use Rattle.lc_world.proofs.GoneOnLemmas.{no_gets}
-use Rattle.page_client.specs.Below.PageCache.Kept.{Kept, has_name}
-use Rattle.page_client.proofs.BelowLemmas.PageCache.KeptLemmas.{All-with_used, found, named}
+use Rattle.page_client.specs.Kept.{Kept, has_name}
+use Rattle.page_client.proofs.KeptLemmas.{All-with_used, found, named}
 use Rattle.page_client.specs.declared.want.Want.TheVariants as wants
 use Rattle.convoy.specs.Steps.{MayBeTaken}
 use Rattle.convoy.proofs.turning.page_turn.Goals as goal

@@ -7,8 +7,8 @@ use Rattle.lc_model.proofs.ListLemmas.{All-from_contains, IsKept-filter}
 use Rattle.lc_model.specs.declared.page.PageName.{PageName}
 use Rattle.lru.proofs.CallerLemmas.{Contains-take}
 use Rattle.page_json.specs.declared.page.Page.{Page}
-use Rattle.page_cache.specs.Kept.{Kept, has_name, page_named, with_put, with_used, without}
-use Rattle.page_cache.proofs.KeyLemmas.{both}
+use Rattle.page_client.specs.Kept.{Kept, has_name, page_named, with_put, with_used, without}
+use Rattle.page_client.proofs.KeyLemmas.{both}
 
 module _ (P : Page → Type 0) where
   All-without : (pages : List Page) (name : PageName) → All P pages → All P (without pages name)

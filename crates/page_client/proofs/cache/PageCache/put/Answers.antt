@@ -3,12 +3,12 @@ use Rattle.std.proofs.lemmas.List.Elements.{All-contains}
 use Rattle.lc_model.proofs.ListLemmas.{All-from_contains}
 use Rattle.lru.specs.LruCache.{LruCache, put_entries}
 use Rattle.page_json.specs.declared.page.Page.{Page}
-use Rattle.page_cache.specs.Inside.{AreKeyed, key_of}
-use Rattle.page_cache.specs.Kept.{Kept, has_name}
-use Rattle.page_cache.specs.declared.cache.Key.{Key}
-use Rattle.page_cache.proofs.EntriesLemmas.{AreKept-put_entries, values, values-put_entries}
-use Rattle.page_cache.proofs.KeyLemmas.{agree, key_of_page, key_tests, same_keys, same_true}
-use Rattle.page_cache.proofs.cache.PageCache.put.Goals as goal
+use Rattle.page_client.specs.Inside.{AreKeyed, key_of}
+use Rattle.page_client.specs.Kept.{Kept, has_name}
+use Rattle.page_client.specs.declared.cache.Key.{Key}
+use Rattle.page_client.proofs.EntriesLemmas.{AreKept-put_entries, values, values-put_entries}
+use Rattle.page_client.proofs.KeyLemmas.{agree, key_of_page, key_tests, same_keys, same_true}
+use Rattle.page_client.proofs.cache.PageCache.put.Goals as goal
 
 pub invariant_of-self-2 : goal.invariant_of-self-2
 invariant_of-self-2 c =

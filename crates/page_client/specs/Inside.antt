@@ -3,7 +3,7 @@ use Rattle.std.specs.Prelude.{◌≡◌, List}
 use Rattle.std.specs.List.{All}
 use Rattle.lc_model.specs.declared.page.PageName.{PageName}
 use Rattle.page_json.specs.declared.page.Page.{Page}
-use Rattle.page_cache.specs.declared.cache.Key.{Key}
+use Rattle.page_client.specs.declared.cache.Key.{Key}
 
 -- the key of a name
 abbrev pub key_of : PageName → Key

@@ -3,8 +3,8 @@ use Rattle.std.specs.Prelude.{◌≡◌, ⊤}
 use Rattle.std.specs.Borrow.{Fml, MutBor, follows_so}
 use mathlib.Core.Option.{none}
 use Rattle.lc_model.specs.declared.page.PageName.{PageName}
-use Rattle.page_cache.specs.Kept.{Kept, with_used}
-use Rattle.page_cache.specs.contracts.cache.PageCache.{the_row}
+use Rattle.page_client.specs.Kept.{Kept, with_used}
+use Rattle.page_client.specs.contracts.cache.PageCache.{the_row}
 
 -- the page of this name was used
 abbrev pub EndsUsed : MutBor Kept → PageName → Fml

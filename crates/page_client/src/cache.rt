@@ -26,11 +26,11 @@ pub struct PageCache {
 
 impl Model for PageCache {
     ghost use Rattle.std.specs.Prelude.{map};
-    ghost use Rattle.page_cache.specs.Kept.{Kept};
+    ghost use Rattle.page_client.specs.Kept.{Kept};
 
     ghost Value = { Kept };
 
-    ghost use Rattle.page_cache.specs.Inside.{AreKeyed};
+    ghost use Rattle.page_client.specs.Inside.{AreKeyed};
 
     ghost view = { λ c. record { capacity = c.pages.cap; pages = map (λ e. e.1) c.pages.entries } };
 
@@ -38,8 +38,8 @@ impl Model for PageCache {
 }
 
 impl PageCache {
-    ghost use Rattle.page_cache.specs.Kept.{IsWithin, page_named, with_put, with_used};
-    ghost use Rattle.page_cache.specs.Lending.{EndsUsed};
+    ghost use Rattle.page_client.specs.Kept.{IsWithin, page_named, with_put, with_used};
+    ghost use Rattle.page_client.specs.Lending.{EndsUsed};
 
     /// A cache of so many pages at most, from 1 to 10,000.
     pub fn with_capacity(alloc: Global, count: usize) -> Result<PageCache, NoMemory>

@@ -1,12 +1,12 @@
 use Rattle.std.proofs.Common.{◌≡◌, refl, sym, ap, ◌∙◌, subst, List}
 use Rattle.lru.specs.LruCache.{LruCache, lru_cache, promoted}
 use Rattle.page_json.specs.declared.page.Page.{Page}
-use Rattle.page_cache.specs.Inside.{AreKeyed, key_of}
-use Rattle.page_cache.specs.Kept.{Kept, has_name, page_named, with_used}
-use Rattle.page_cache.specs.declared.cache.Key.{Key}
-use Rattle.page_cache.proofs.EntriesLemmas.{AreKept-promoted, lookup-find, values, values-promoted}
-use Rattle.page_cache.proofs.KeyLemmas.{agree, key_of_page, key_tests, same_keys}
-use Rattle.page_cache.proofs.cache.PageCache.get.Goals as goal
+use Rattle.page_client.specs.Inside.{AreKeyed, key_of}
+use Rattle.page_client.specs.Kept.{Kept, has_name, page_named, with_used}
+use Rattle.page_client.specs.declared.cache.Key.{Key}
+use Rattle.page_client.proofs.EntriesLemmas.{AreKept-promoted, lookup-find, values, values-promoted}
+use Rattle.page_client.proofs.KeyLemmas.{agree, key_of_page, key_tests, same_keys}
+use Rattle.page_client.proofs.cache.PageCache.get.Goals as goal
 
 pub invariant_of-self : goal.invariant_of-self
 invariant_of-self c =

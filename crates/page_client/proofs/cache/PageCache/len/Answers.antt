@@ -1,8 +1,8 @@
 use Rattle.std.proofs.Common.{◌≤◌, length, arith}
-use Rattle.page_cache.specs.Kept.{IsWithin, Kept}
-use Rattle.page_cache.proofs.EntriesLemmas.{length-values, values}
-use Rattle.page_cache.proofs.KeyLemmas.{IsDistinct-names, key_of_page}
-use Rattle.page_cache.proofs.cache.PageCache.len.Goals as goal
+use Rattle.page_client.specs.Kept.{IsWithin, Kept}
+use Rattle.page_client.proofs.EntriesLemmas.{length-values, values}
+use Rattle.page_client.proofs.KeyLemmas.{IsDistinct-names, key_of_page}
+use Rattle.page_client.proofs.cache.PageCache.len.Goals as goal
 
 pub returns-clause-within : goal.returns-clause-within
 returns-clause-within c =

@@ -5,11 +5,11 @@ use Rattle.std.specs.Map.{IsKeyTest, keys_of}
 use Rattle.std.proofs.lemmas.List.Elements.{All-head, All-tail}
 use Rattle.lc_model.specs.declared.page.PageName.{PageName}
 use Rattle.page_json.specs.declared.page.Page.{Page}
-use Rattle.page_cache.specs.Inside.{AreKeyed, key_of}
-use Rattle.page_cache.specs.Kept.{has_name, is_same}
-use Rattle.page_cache.specs.contracts.cache.KeyPartialEq.TheImpl.{eq-value}
-use Rattle.page_cache.specs.declared.cache.Key.{Key}
-use Rattle.page_cache.proofs.EntriesLemmas.{IsKeyed, values}
+use Rattle.page_client.specs.Inside.{AreKeyed, key_of}
+use Rattle.page_client.specs.Kept.{has_name, is_same}
+use Rattle.page_client.specs.contracts.cache.KeyPartialEq.TheImpl.{eq-value}
+use Rattle.page_client.specs.declared.cache.Key.{Key}
+use Rattle.page_client.proofs.EntriesLemmas.{IsKeyed, values}
 
 abbrev pub same_keys : Key → Key → Bool
 same_keys = eq-value.it

@@ -1,4 +1,0 @@
-pub mod BelowLemmas
-mod EntriesLemmas
-pub mod KeptLemmas
-mod KeyLemmas

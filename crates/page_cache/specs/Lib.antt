@@ -1,4 +1,0 @@
-pub mod Below
-pub mod Inside
-pub mod Kept
-pub mod Lending
