@@ -5,6 +5,7 @@ pub mod ConnectionUri
 pub mod Convoy
 pub mod Fragmenter
 pub mod GtfsTables
+pub mod JourneyText
 pub mod LawsClients
 pub mod LawsConvoys
 pub mod LawsReplies
@@ -18,7 +19,6 @@ pub mod LiveCalls
 pub mod PageClient
 pub mod Publisher
 pub mod PublisherSpec
-pub mod ScriptText
 pub mod ServiceDays
 pub mod Timetable
 pub mod TripUpdates

@@ -8,9 +8,9 @@ use Rattle.lc_io.specs.Folder.{FolderSeen}
 use Rattle.laws_replay.specs.Events.{TurnsAreOfClients, questions_in}
 use Rattle.laws_replay.specs.declared.event.Event.{Event}
 use Rattle.laws_replay.specs.declared.event.Event.TheVariants as events
-use Rattle.laws_replay.specs.Below.ScriptText.Script.{IsClient, TurnsAreOfClients as AreOfClients, clients_in, clients_of}
-use Rattle.laws_replay.specs.Below.ScriptText.declared.script.Record.{Record}
-use Rattle.laws_replay.specs.Below.ScriptText.declared.script.Record.TheVariants as records
+use Rattle.laws_replay.specs.Below.JourneyText.Script.{IsClient, TurnsAreOfClients as AreOfClients, clients_in, clients_of}
+use Rattle.laws_replay.specs.Below.JourneyText.declared.script.Record.{Record}
+use Rattle.laws_replay.specs.Below.JourneyText.declared.script.Record.TheVariants as records
 use Rattle.laws_replay.specs.Below.Timetable.Loading.{Loads, LoadsSo}
 use Rattle.laws_replay.specs.Below.Timetable.declared.fault.LoadFault.{LoadFault}
 use Rattle.laws_replay.specs.Below.Timetable.declared.fault.LoadFault.TheVariants as fault

@@ -3,8 +3,8 @@ use Rattle.std.specs.Prelude.{◌≡◌, ℕ, false, List, [], ◌∷◌, ◌++�
 use Rattle.lc_io.specs.Folder.{FolderSeen}
 use Rattle.laws_replay.specs.declared.event.Event.{Event}
 use Rattle.laws_replay.specs.declared.event.Event.TheVariants as events
-use Rattle.laws_replay.specs.Below.ScriptText.declared.script.Record.{Record}
-use Rattle.laws_replay.specs.Below.ScriptText.declared.script.Record.TheVariants as records
+use Rattle.laws_replay.specs.Below.JourneyText.declared.script.Record.{Record}
+use Rattle.laws_replay.specs.Below.JourneyText.declared.script.Record.TheVariants as records
 use Rattle.cli_inputs.specs.Script.{ReadsScript}
 
 -- the record says this event, a question or a turn

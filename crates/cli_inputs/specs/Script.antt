@@ -8,10 +8,10 @@ use Rattle.lc_io.specs.declared.folder.FolderFail.{FolderFail}
 use Rattle.lc_io.specs.declared.folder.FolderFail.TheVariants.{Absent, Failed}
 use Rattle.laws_replay.specs.declared.event.Event.{Event}
 use Rattle.laws_replay.specs.declared.event.Event.TheVariants as events
-use Rattle.laws_replay.specs.Below.ScriptText.Reading.{HasFault, SaysScript}
-use Rattle.laws_replay.specs.Below.ScriptText.declared.fault.ScriptFault.TheVariants.{Wrong}
-use Rattle.laws_replay.specs.Below.ScriptText.declared.script.Record.{Record}
-use Rattle.laws_replay.specs.Below.ScriptText.declared.script.Record.TheVariants as records
+use Rattle.laws_replay.specs.Below.JourneyText.ScriptReading.{HasFault, SaysScript}
+use Rattle.laws_replay.specs.Below.JourneyText.declared.script_fault.ScriptFault.TheVariants.{Wrong}
+use Rattle.laws_replay.specs.Below.JourneyText.declared.script.Record.{Record}
+use Rattle.laws_replay.specs.Below.JourneyText.declared.script.Record.TheVariants as records
 use Rattle.laws_replay.specs.Below.Timetable.Loading.{FailsAt, Loads, LoadsSo}
 use Rattle.laws_replay.specs.Below.Timetable.declared.fault.LoadFault.{LoadFault}
 use Rattle.laws_replay.specs.Below.Timetable.declared.fault.LoadFault.TheVariants as fault

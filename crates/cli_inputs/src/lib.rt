@@ -1,6 +1,6 @@
 //! What a command reads: the timetable of its feed, a message, and a script that names messages, or one of questions and
 //! turns alone. Else it says why it is refused.
-//! It builds on `timetable`, `script_text` and `laws_replay`.
+//! It builds on `laws_replay`.
 #![tactic(auto)]
 
 pub mod below;

@@ -3,7 +3,7 @@ ghost use Rattle.cli_inputs.specs.Plan.{AddsSaid, IsNoMessage, ReadsPlan, SayEve
 ghost use Rattle.cli_inputs.specs.Script.{IsScriptRefused};
 ghost use Rattle.laws_replay.specs.Below.GtfsTables.Reading.{Keeps};
 ghost use Rattle.laws_replay.specs.Events.{TurnsAreOfClients};
-ghost use Rattle.laws_replay.specs.Below.ScriptText.Script.{NamesNone};
+ghost use Rattle.laws_replay.specs.Below.JourneyText.Script.{NamesNone};
 
 use crate::Refusal;
 use crate::script::read_records;

@@ -3,7 +3,7 @@ ghost use Rattle.cli_inputs.specs.Inputs.{ReadsFile};
 ghost use Rattle.cli_inputs.specs.Script.{IsEventOf, IsRefusedAt, IsReplayRefused, IsScriptRefused, ReadsEvents, ReadsReplay, ReadsScript, StopsAt, IsMessageOf, IsNone, fault_since};
 ghost use Rattle.laws_replay.specs.Below.GtfsTables.Reading.{Keeps};
 ghost use Rattle.laws_replay.specs.Events.{TurnsAreOfClients};
-ghost use Rattle.laws_replay.specs.Below.ScriptText.Script.{NamesNone, TurnsAreOfClients as AreOfClients};
+ghost use Rattle.laws_replay.specs.Below.JourneyText.Script.{NamesNone, TurnsAreOfClients as AreOfClients};
 ghost use Rattle.laws_replay.specs.Below.Timetable.Scope.{IsWindow};
 
 use crate::Refusal;

@@ -1,7 +1,10 @@
 pub mod AnswerText
-pub mod Below
 pub mod Laws
 pub mod Places
+pub mod Script
+pub mod ScriptLaws
+pub mod ScriptReading
+pub mod ScriptTexts
 pub mod Sound
 pub mod Times
 pub mod Words

@@ -18,7 +18,7 @@ use Rattle.laws_replay.specs.Below.LawsReplies.Met.{Met}
 use Rattle.lc_model.specs.declared.query.Query.{Query}
 use Rattle.laws_replay.specs.Below.LcWorld.Link.{LinkSeen}
 use Rattle.laws_replay.specs.Below.PublisherSpec.Side.{Side}
-use Rattle.laws_replay.specs.Below.ScriptText.Script.{IsClient}
+use Rattle.laws_replay.specs.Below.JourneyText.Script.{IsClient}
 
 -- the ends of one client in two plans, and what it received in its turns
 pub record EndAlike (d e : ClientEnd) (rs ts : List Round) : Type 0 where

@@ -41,7 +41,7 @@ use Rattle.laws_replay.specs.Below.PageClient.declared.want.Want.{Want}
 use Rattle.laws_replay.specs.Below.PageClient.declared.want.Want.TheVariants as wants
 use Rattle.laws_replay.proofs.BelowLemmas.PublisherSpec.LaterLemmas.{later_on}
 use Rattle.laws_replay.specs.Below.PublisherSpec.Side.{IsLater, Side}
-use Rattle.laws_replay.specs.Below.ScriptText.Script.{IsClient}
+use Rattle.laws_replay.specs.Below.JourneyText.Script.{IsClient}
 
 -- a link that was left so, and then so
 pub leaves_then : (base : BaseParts) (side mid left : Side) (a b c : LinkSeen) → LeavesHonest base side mid a b → LeavesHonest base mid left b c → LeavesHonest base side left a c

@@ -25,7 +25,7 @@ use Rattle.laws_replay.specs.Below.PageClient.Client.{shown}
 use Rattle.laws_replay.specs.Below.PageClient.declared.outcome.Outcome.{Outcome}
 use Rattle.laws_replay.specs.Below.PageClient.declared.want.Want.{Want}
 use Rattle.laws_replay.specs.Below.PublisherSpec.Side.{Side}
-use Rattle.laws_replay.specs.Below.ScriptText.Script.{IsClient}
+use Rattle.laws_replay.specs.Below.JourneyText.Script.{IsClient}
 
 -- said in other words of the turns
 pub said_so : (Turns Next : ℕ → List Round → Option Outcome → Type 0) (base : BaseParts) (first : Side) (cache : ℕ) (questions : List Query) (order : List ℕ) (convoy : ConvoyState) (start now : LinkSeen)

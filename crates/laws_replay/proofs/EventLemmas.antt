@@ -17,7 +17,7 @@ use Rattle.lc_model.specs.declared.page.PageName.{PageName}
 use Rattle.lc_model.specs.declared.query.Query.{Query}
 use Rattle.cli_ask.specs.Below.LcWorld.declared.entry.Entry.{Entry}
 use Rattle.cli_ask.specs.Below.PageClient.declared.want.Want.{Want}
-use Rattle.cli_ask.specs.Below.ScriptText.Script.{IsClient}
+use Rattle.cli_ask.specs.Below.JourneyText.Script.{IsClient}
 use Rattle.cli_ask.specs.Below.Timetable.declared.timetable.Timetable.{Timetable}
 use Rattle.cli_ask.specs.Below.VersionStore.Store.{Stored}
 use Rattle.cli_ask.specs.Admission.{IsBehind}

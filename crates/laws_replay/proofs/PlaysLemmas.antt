@@ -14,7 +14,7 @@ use Rattle.cli_ask.specs.Below.LawsConvoys.Rounds.{round_at, rounds_up_to}
 use Rattle.cli_ask.specs.Below.LcWorld.Link.{LinkSeen}
 use Rattle.cli_ask.specs.Below.PageClient.Client.{shown}
 use Rattle.cli_ask.specs.Below.PublisherSpec.Short.{IsShort}
-use Rattle.cli_ask.specs.Below.ScriptText.Script.{IsClient}
+use Rattle.cli_ask.specs.Below.JourneyText.Script.{IsClient}
 use Rattle.cli_ask.specs.Below.Timetable.declared.timetable.Timetable.{Timetable}
 use Rattle.cli_ask.specs.Below.VersionStore.Store.{Stored}
 use Rattle.cli_ask.specs.Publishing.{side_with, store_of}

@@ -27,7 +27,7 @@ use Rattle.cli_ask.specs.Below.LcWorld.Link.{IsHonestWith, IsQuietWith, LinkSeen
 use Rattle.cli_ask.specs.Below.PageClient.Client.{shown}
 use Rattle.cli_ask.specs.Below.PageClient.declared.want.Want.{Want}
 use Rattle.cli_ask.specs.Below.PublisherSpec.Side.{Side}
-use Rattle.cli_ask.specs.Below.ScriptText.Script.{IsClient}
+use Rattle.cli_ask.specs.Below.JourneyText.Script.{IsClient}
 use Rattle.cli_ask.specs.Below.Timetable.declared.timetable.Timetable.{Timetable}
 use Rattle.cli_ask.specs.Below.VersionStore.Store.{Stored}
 use Rattle.cli_ask.specs.Publishing.{side_with, store_of}

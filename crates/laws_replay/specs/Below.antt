@@ -5,6 +5,7 @@ pub mod ConnectionUri
 pub mod Convoy
 pub mod Fragmenter
 pub mod GtfsTables
+pub mod JourneyText
 pub mod LawsClients
 pub mod LawsConvoys
 pub mod LawsReplies
@@ -15,7 +16,6 @@ pub mod LcWorld
 pub mod PageClient
 pub mod Publisher
 pub mod PublisherSpec
-pub mod ScriptText
 pub mod Timetable
 pub mod TripUpdates
 pub mod VersionStore

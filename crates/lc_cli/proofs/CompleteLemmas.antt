@@ -17,7 +17,7 @@ use Rattle.lc_io.specs.Counts.{Rose}
 use Rattle.lc_io.specs.Folder.{FolderSeen}
 use Rattle.lc_io.specs.declared.file.File.{File}
 use Rattle.cli_ask.specs.Below.LcWorld.Link.{LinkSeen}
-use Rattle.cli_ask.specs.Below.ScriptText.Laws.{NeverBoth, OneScript}
+use Rattle.cli_ask.specs.Below.JourneyText.ScriptLaws.{NeverBoth, OneScript}
 use Rattle.cli_ask.specs.Below.Timetable.Recorded.{IsSound}
 use Rattle.cli_ask.specs.Below.Timetable.Laws.{LoadsRecorded, NotBroken, NotTooLarge}
 use Rattle.cli_ask.specs.Below.Timetable.declared.fault.LoadFault.TheVariants as fault

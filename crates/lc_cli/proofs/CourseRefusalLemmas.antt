@@ -12,11 +12,11 @@ use Rattle.lc_io.specs.Folder.{FolderSeen, bytes_named}
 use Rattle.lc_io.specs.declared.file.File.{File}
 use Rattle.cli_inputs.specs.Below.LawsReplay.declared.event.Event.{Event}
 use Rattle.cli_inputs.specs.Below.LawsReplay.declared.message.Message.{Message}
-use Rattle.cli_ask.specs.Below.ScriptText.Laws.{NeverBoth, OneFault, OneScript}
-use Rattle.cli_ask.specs.Below.ScriptText.Reading.{HasFault}
-use Rattle.cli_ask.specs.Below.ScriptText.declared.fault.ScriptFault.TheVariants.{Wrong}
-use Rattle.cli_ask.specs.Below.ScriptText.declared.script.Record.{Record}
-use Rattle.cli_ask.specs.Below.ScriptText.declared.script.Record.TheVariants as records
+use Rattle.cli_ask.specs.Below.JourneyText.ScriptLaws.{NeverBoth, OneFault, OneScript}
+use Rattle.cli_ask.specs.Below.JourneyText.ScriptReading.{HasFault}
+use Rattle.cli_ask.specs.Below.JourneyText.declared.script_fault.ScriptFault.TheVariants.{Wrong}
+use Rattle.cli_ask.specs.Below.JourneyText.declared.script.Record.{Record}
+use Rattle.cli_ask.specs.Below.JourneyText.declared.script.Record.TheVariants as records
 use Rattle.cli_ask.specs.Below.Timetable.Laws.{IsOfFiles, OneEnd}
 use Rattle.cli_ask.specs.Below.Timetable.Loading.{Loads, LoadsSo}
 use Rattle.cli_ask.specs.Below.Timetable.declared.fault.LoadFault.{LoadFault}

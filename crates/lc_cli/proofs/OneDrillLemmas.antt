@@ -25,7 +25,7 @@ use Rattle.lc_io.specs.SureFolder.{SureFolderState}
 use Rattle.cli_ask.specs.Below.LcWorld.Link.{LinkSeen}
 use Rattle.cli_ask.specs.Below.PageClient.declared.outcome.Outcome.{Outcome}
 use Rattle.cli_ask.specs.Below.PageClient.declared.outcome.Outcome.TheVariants as outcomes
-use Rattle.cli_ask.specs.Below.ScriptText.Laws.{OneScript}
+use Rattle.cli_ask.specs.Below.JourneyText.ScriptLaws.{OneScript}
 use Rattle.cli_ask.specs.Below.Timetable.Laws.{AreSame, LoadsRecorded, OneTimetable}
 use Rattle.cli_ask.specs.Below.Timetable.declared.timetable.Timetable.{Timetable}
 use Rattle.cli_ask.specs.Below.VersionStore.Laws.{OneOutcome}

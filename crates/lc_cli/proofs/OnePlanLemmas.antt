@@ -22,10 +22,10 @@ use Rattle.lc_io.specs.Folder.{FolderSeen}
 use Rattle.lc_io.specs.declared.file.File.{File}
 use Rattle.cli_ask.specs.Below.PublisherSpec.Side.{IsLater, IsValidSide, Side}
 use Rattle.cli_ask.specs.Below.LcWorld.Link.{LinkSeen}
-use Rattle.cli_ask.specs.Below.ScriptText.Laws.{OneScript}
-use Rattle.cli_ask.specs.Below.ScriptText.Script.{IsClient}
-use Rattle.cli_ask.specs.Below.ScriptText.declared.script.Record.{Record}
-use Rattle.cli_ask.specs.Below.ScriptText.declared.script.Record.TheVariants as records
+use Rattle.cli_ask.specs.Below.JourneyText.ScriptLaws.{OneScript}
+use Rattle.cli_ask.specs.Below.JourneyText.Script.{IsClient}
+use Rattle.cli_ask.specs.Below.JourneyText.declared.script.Record.{Record}
+use Rattle.cli_ask.specs.Below.JourneyText.declared.script.Record.TheVariants as records
 use Rattle.lc_cli.specs.Clear.{AreRecordedAsks, AreRecordedEvents, IsRecordedEvent}
 use Rattle.lc_cli.specs.Command.{IsPlanBlock, Prints}
 use Rattle.lc_cli.specs.OnePlan.{OneNamedPlan, OneQuietPlan, PlanTheSame, PrintOnePlan}

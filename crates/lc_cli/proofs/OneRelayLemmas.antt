@@ -21,7 +21,7 @@ use Rattle.cli_ask.specs.Below.LcWorld.declared.entry.Entry.{Entry}
 use Rattle.cli_relay.specs.Below.PageRelay.Kept.{Kept}
 use Rattle.cli_relay.specs.Below.PageRelay.Relay.{RelayState, new_relay, relay_seen}
 use Rattle.cli_ask.specs.Below.PublisherSpec.Side.{Side}
-use Rattle.cli_ask.specs.Below.ScriptText.Laws.{OneScript}
+use Rattle.cli_ask.specs.Below.JourneyText.ScriptLaws.{OneScript}
 use Rattle.lc_cli.specs.Command.{IsRelayBlock}
 use Rattle.lc_cli.specs.OnePlan.{PlanTheSame}
 use Rattle.lc_cli.specs.OneRelay.{OneNamedRelay, OneQuietRelay, PrintOneRelay}

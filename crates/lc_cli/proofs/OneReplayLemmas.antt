@@ -19,11 +19,11 @@ use Rattle.cli_inputs.specs.Below.LawsReplay.Replayed.{clients_text_of}
 use Rattle.cli_inputs.specs.Below.LawsReplay.declared.event.Event.{Event}
 use Rattle.cli_inputs.specs.Below.LawsReplay.declared.event.Event.TheVariants as events
 use Rattle.cli_inputs.specs.Below.LawsReplay.declared.message.Message.{Message}
-use Rattle.cli_ask.specs.Below.ScriptText.Laws.{OneScript}
-use Rattle.cli_ask.specs.Below.ScriptText.Reading.{SaysScript}
-use Rattle.cli_ask.specs.Below.ScriptText.Script.{IsClient, SayRecords, clients_of}
-use Rattle.cli_ask.specs.Below.ScriptText.declared.script.Record.{Record}
-use Rattle.cli_ask.specs.Below.ScriptText.declared.script.Record.TheVariants as records
+use Rattle.cli_ask.specs.Below.JourneyText.ScriptLaws.{OneScript}
+use Rattle.cli_ask.specs.Below.JourneyText.ScriptReading.{SaysScript}
+use Rattle.cli_ask.specs.Below.JourneyText.Script.{IsClient, SayRecords, clients_of}
+use Rattle.cli_ask.specs.Below.JourneyText.declared.script.Record.{Record}
+use Rattle.cli_ask.specs.Below.JourneyText.declared.script.Record.TheVariants as records
 use Rattle.cli_ask.specs.Below.Timetable.Laws.{LoadsRecorded, OneTimetable}
 use Rattle.cli_ask.specs.Below.Timetable.declared.timetable.Timetable.{Timetable}
 use Rattle.lc_cli.specs.Clear.{AreRecordedEvents, HasFairCourse, IsRecordedCourse, IsRecordedEvent, IsRecordedScript}

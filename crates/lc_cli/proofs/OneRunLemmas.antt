@@ -16,7 +16,7 @@ use Rattle.lc_model.specs.declared.doc.StopsDoc.{StopsDoc}
 use Rattle.lc_model.specs.declared.run.Run.{Run}
 use Rattle.cli_ask.specs.Below.LcWorld.Link.{LinkSeen}
 use Rattle.cli_inputs.specs.Below.LawsReplay.OneCourse.{OneCourse}
-use Rattle.cli_ask.specs.Below.ScriptText.Laws.{OneScript}
+use Rattle.cli_ask.specs.Below.JourneyText.ScriptLaws.{OneScript}
 use Rattle.cli_ask.specs.Below.Timetable.Laws.{AreSame, LoadsRecorded, OneTimetable}
 use Rattle.cli_ask.specs.Below.Timetable.declared.timetable.Timetable.{Timetable}
 use Rattle.cli_ask.specs.Below.VersionStore.Laws.{OneOutcome}

@@ -27,7 +27,7 @@ use Rattle.cli_ask.specs.Below.PageClient.declared.outcome.Outcome.{Outcome}
 use Rattle.cli_ask.specs.Below.PageClient.declared.outcome.Outcome.TheVariants as outcomes
 use Rattle.cli_inputs.specs.Below.LawsReplay.OneCourse.{OneCourse}
 use Rattle.cli_inputs.specs.Below.LawsReplay.declared.event.Event.{Event}
-use Rattle.cli_ask.specs.Below.ScriptText.Laws.{NeverBoth, OneFault, OneScript}
+use Rattle.cli_ask.specs.Below.JourneyText.ScriptLaws.{NeverBoth, OneFault, OneScript}
 use Rattle.cli_ask.specs.Below.Timetable.Laws.{AreSameEnds, IsOfFiles, LoadsRecorded, OneEnd, OneTimetable}
 use Rattle.cli_ask.specs.Below.Timetable.Loading.{Loads, LoadsSo}
 use Rattle.cli_ask.specs.Below.Timetable.declared.fault.LoadFault.{LoadFault}

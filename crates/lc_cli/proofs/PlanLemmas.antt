@@ -17,9 +17,9 @@ use Rattle.lc_io.specs.Folder.{FolderSeen}
 use Rattle.lc_io.specs.declared.file.File.{File}
 use Rattle.cli_ask.specs.Below.LcWorld.Link.{LinkSeen}
 use Rattle.cli_ask.specs.Below.PublisherSpec.Side.{Side}
-use Rattle.cli_ask.specs.Below.ScriptText.Laws.{NeverBoth}
-use Rattle.cli_ask.specs.Below.ScriptText.Reading.{HasFault}
-use Rattle.cli_ask.specs.Below.ScriptText.declared.fault.ScriptFault.TheVariants.{Wrong}
+use Rattle.cli_ask.specs.Below.JourneyText.ScriptLaws.{NeverBoth}
+use Rattle.cli_ask.specs.Below.JourneyText.ScriptReading.{HasFault}
+use Rattle.cli_ask.specs.Below.JourneyText.declared.script_fault.ScriptFault.TheVariants.{Wrong}
 use Rattle.cli_ask.specs.Below.Timetable.declared.fault.LoadFault.TheVariants as fault
 use Rattle.lc_cli.specs.Clear.{AreRecordedAsks, HasHonestLink}
 use Rattle.lc_cli.specs.Command.{IsPlanBlock, IsRelayBlock}

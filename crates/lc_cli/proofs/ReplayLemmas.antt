@@ -23,11 +23,11 @@ use Rattle.cli_inputs.specs.Below.LawsReplay.Events.{questions_in}
 use Rattle.cli_inputs.specs.Below.LawsReplay.declared.event.Event.{Event}
 use Rattle.cli_inputs.specs.Below.LawsReplay.declared.event.Event.TheVariants as events
 use Rattle.cli_inputs.specs.Below.LawsReplay.declared.message.Message.{Message}
-use Rattle.cli_ask.specs.Below.ScriptText.Laws.{NeverBoth, OneScript}
-use Rattle.cli_ask.specs.Below.ScriptText.Reading.{HasFault, SaysScript}
-use Rattle.cli_ask.specs.Below.ScriptText.declared.fault.ScriptFault.TheVariants.{Wrong}
-use Rattle.cli_ask.specs.Below.ScriptText.declared.script.Record.{Record}
-use Rattle.cli_ask.specs.Below.ScriptText.declared.script.Record.TheVariants as records
+use Rattle.cli_ask.specs.Below.JourneyText.ScriptLaws.{NeverBoth, OneScript}
+use Rattle.cli_ask.specs.Below.JourneyText.ScriptReading.{HasFault, SaysScript}
+use Rattle.cli_ask.specs.Below.JourneyText.declared.script_fault.ScriptFault.TheVariants.{Wrong}
+use Rattle.cli_ask.specs.Below.JourneyText.declared.script.Record.{Record}
+use Rattle.cli_ask.specs.Below.JourneyText.declared.script.Record.TheVariants as records
 use Rattle.cli_ask.specs.Below.Timetable.Recorded.{IsSound}
 use Rattle.cli_ask.specs.Below.Timetable.Laws.{LoadsRecorded, NotBroken, NotTooLarge}
 use Rattle.cli_ask.specs.Below.Timetable.declared.fault.LoadFault.TheVariants as fault

@@ -26,9 +26,9 @@ use Rattle.cli_ask.specs.Below.PublisherSpec.Side.{Side}
 use Rattle.cli_inputs.specs.Below.LawsReplay.Versions.{AreShort}
 use Rattle.cli_inputs.specs.Below.LawsReplay.declared.event.Event.{Event}
 use Rattle.cli_inputs.specs.Below.LawsReplay.declared.event.Event.TheVariants as events
-use Rattle.cli_ask.specs.Below.ScriptText.Reading.{SaysScript}
-use Rattle.cli_ask.specs.Below.ScriptText.declared.script.Record.{Record}
-use Rattle.cli_ask.specs.Below.ScriptText.declared.script.Record.TheVariants as records
+use Rattle.cli_ask.specs.Below.JourneyText.ScriptReading.{SaysScript}
+use Rattle.cli_ask.specs.Below.JourneyText.declared.script.Record.{Record}
+use Rattle.cli_ask.specs.Below.JourneyText.declared.script.Record.TheVariants as records
 use Rattle.cli_ask.specs.Below.Timetable.Recorded.{IsSound}
 use Rattle.cli_ask.specs.Below.Timetable.declared.scope.Scope.{Scope}
 use Rattle.cli_ask.specs.Below.Timetable.declared.timetable.Timetable.{Timetable}

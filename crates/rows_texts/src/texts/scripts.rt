@@ -1,7 +1,7 @@
 //! Texts and the scripts that they say: each record well and badly said, and what `csv` makes of a text.
+use journey_text::{Record, read_script};
 use lc_model::{NoMemory, PlainData, Query};
 use rows_common::Draft;
-use script_text::{Record, read_script};
 use std::alloc::Global;
 
 // A moment, for which `@` is short in the tables below.

@@ -1,3 +1,0 @@
-mod OneRecordLemmas
-mod OneScriptLemmas
-mod RowsLemmas

@@ -1,4 +1,0 @@
-use Rattle.script_text.proofs.row.ask_at.Goals as goal
-
-pub returns-in_default : goal.returns-in_default
-returns-in_default c = λ query says. c.in_default.ensures query.leave query.known query.horizon says.times

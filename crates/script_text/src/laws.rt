@@ -1,9 +1,0 @@
-ghost use Rattle.script_text.specs.Laws.{NeverBoth, OneFault, OneScript, SomeReading};
-
-/// Bytes say one script or have one first wrong row, never both and never neither.
-pub fn one_script()
-    ensures script { OneScript }
-    ensures fault { OneFault }
-    ensures never_both { NeverBoth }
-    ensures some { SomeReading }
-{}
