@@ -2,22 +2,22 @@
 use Rattle.std.proofs.Common.{◌≡◌, ◌∙◌, ℕ, Bool, true, false, List, [], ◌++◌, Option, None, Some, Result, Ok, Err, IfOk, OnErr, IsTrue, refl, sym, ap, append-nil, arith}
 use Rattle.std.specs.List.{concat}
 use Rattle.std.specs.Result.{IsOkAnd}
-use Rattle.serving.specs.Below.Fragmenter.Cutting.{chosen_cuts}
-use Rattle.serving.specs.Below.Fragmenter.declared.cutting.Cutting.{Cutting}
-use Rattle.serving.specs.Below.LcDoors.Door.{DoorSeen, DoorRecorded, GoesOn, OnCurrent, Wire}
-use Rattle.serving.specs.Below.LcDoors.Serving.{Exchanges, Halts, NothingToCome, SendsFront, Serves}
-use Rattle.serving.specs.Below.LcDoors.Serving as serve_one
-use Rattle.serving.specs.Below.LcDoors.declared.serving.Served.{Served}
+use Rattle.wire_session.specs.Below.Fragmenter.Cutting.{chosen_cuts}
+use Rattle.wire_session.specs.Below.Fragmenter.declared.cutting.Cutting.{Cutting}
+use Rattle.lc_doors.specs.Door.{DoorSeen, DoorRecorded, GoesOn, OnCurrent, Wire}
+use Rattle.lc_doors.specs.Serving.{Exchanges, Halts, NothingToCome, SendsFront, Serves}
+use Rattle.lc_doors.specs.Serving as serve_one
+use Rattle.lc_doors.specs.declared.serving.Served.{Served}
 use Rattle.lc_io.specs.Counts.{HasCause}
 use Rattle.lc_model.specs.declared.memory.NoMemory.{NoMemory}
-use Rattle.serving.specs.Below.Publisher.Held.{side_of}
-use Rattle.serving.specs.Below.PublisherSpec.Side.{Side}
-use Rattle.serving.specs.Said.{none_out}
-use Rattle.serving.specs.Serving.{SaysOut, ServingState, StandsOut, serving_seen}
-use Rattle.serving.specs.Below.WireSession.Phase.{is_ended}
-use Rattle.serving.specs.Below.WireSession.Stands.{IsOutput, Stands, fresh}
-use Rattle.serving.specs.Below.WireSession.Stands as session
-use Rattle.serving.specs.Below.WireSession.declared.phase.Phase.TheVariants.{Open}
+use Rattle.wire_session.specs.Below.Publisher.Held.{side_of}
+use Rattle.wire_session.specs.Below.PublisherSpec.Side.{Side}
+use Rattle.cli_serve.specs.Said.{none_out}
+use Rattle.cli_serve.specs.Serving.{SaysOut, ServingState, StandsOut, serving_seen}
+use Rattle.wire_session.specs.Phase.{is_ended}
+use Rattle.wire_session.specs.Stands.{IsOutput, Stands, fresh}
+use Rattle.wire_session.specs.Stands as session
+use Rattle.wire_session.specs.declared.phase.Phase.TheVariants.{Open}
 use Rattle.cli_serve.specs.Visit.{IsLost, IsServed, Visit}
 use Rattle.cli_serve.specs.Visiting.{Answers}
 

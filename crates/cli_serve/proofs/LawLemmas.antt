@@ -2,10 +2,10 @@
 use Rattle.std.proofs.Common.{◌≡◌, ◌≢◌, ◌∙◌, ℕ, suc, ◌+◌, ◌⊎◌, Bool, true, false, List, [], ◌∷◌, ◌++◌, length, length-append, Option, None, Some, inl, inr, refl, sym, ap, subst, append_assoc, append-nil, arith}
 use Rattle.std.specs.List.{concat}
 use Rattle.std.proofs.lemmas.List.{append_cancel_left}
-use Rattle.serving.specs.Below.LcDoors.Door.{DoorRecorded, DoorSeen, GoesOn, Wire}
-use Rattle.serving.specs.Below.PublisherSpec.Side.{Side}
-use Rattle.serving.specs.Below.WireSession.Laws.{OneOutput}
-use Rattle.serving.specs.Below.WireSession.SessionOut.{Said, SessionOut}
+use Rattle.lc_doors.specs.Door.{DoorRecorded, DoorSeen, GoesOn, Wire}
+use Rattle.wire_session.specs.Below.PublisherSpec.Side.{Side}
+use Rattle.wire_session.specs.Laws.{OneOutput}
+use Rattle.wire_session.specs.SessionOut.{Said, SessionOut}
 use Rattle.cli_serve.specs.Serve.{Asked, IsServedWhole, Outside, WasVisited}
 use Rattle.cli_serve.specs.Recorded.{AreRecorded, AreWiresOf, IsWireOf, came, opened_at}
 use Rattle.cli_serve.specs.Visit.{AreVisits, IsServed, IsVisit, NoneLost, Visit}

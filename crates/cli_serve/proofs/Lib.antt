@@ -1,6 +1,7 @@
 mod AnswerLemmas
 mod ClientLemmas
 mod EndLemmas
+mod FedLemmas
 mod LawLemmas
 mod OneSessionLemmas
 mod RecordedLemmas

@@ -1,16 +1,16 @@
 -- What is said to bytes from sides that are one is one.
 use Rattle.std.proofs.Common.{◌≡◌, ◌∙◌, ℕ, zero, suc, Bool, true, false, List, take, drop, ap, refl, subst, sym}
-use Rattle.serving.proofs.BelowLemmas.HttpText.MessageLemmas.{one_request}
-use Rattle.serving.proofs.BelowLemmas.HttpText.TakenLemmas.{one_answer}
-use Rattle.serving.specs.Below.HttpText.declared.request.Request.{Request}
-use Rattle.serving.specs.Below.HttpText.declared.taken.Taken.{Taken}
-use Rattle.serving.specs.Below.HttpText.declared.taken.Taken.TheVariants.{Whole, NotYet, Refused}
-use Rattle.serving.specs.Below.LcTime.declared.zone.Zone.{Zone}
-use Rattle.serving.proofs.BelowLemmas.PublisherSpec.LaterLemmas.{next_is_later}
-use Rattle.serving.proofs.BelowLemmas.PublisherSpec.OneReplyLemmas.{one_next_side, one_reply}
-use Rattle.serving.specs.Below.PublisherSpec.Reply.{IsNextSide}
-use Rattle.serving.specs.Below.PublisherSpec.Side.{IsLater, Side, date_in}
-use Rattle.serving.specs.Below.WireSession.SessionOut.{IsSaidAfter, IsSaidBy, IsSaidFirst, Said, Says, SessionOut, refusal_text, silent, with_reply}
+use Rattle.wire_session.proofs.BelowLemmas.HttpText.MessageLemmas.{one_request}
+use Rattle.wire_session.proofs.BelowLemmas.HttpText.TakenLemmas.{one_answer}
+use Rattle.wire_session.specs.Below.HttpText.declared.request.Request.{Request}
+use Rattle.wire_session.specs.Below.HttpText.declared.taken.Taken.{Taken}
+use Rattle.wire_session.specs.Below.HttpText.declared.taken.Taken.TheVariants.{Whole, NotYet, Refused}
+use Rattle.wire_session.specs.Below.LcTime.declared.zone.Zone.{Zone}
+use Rattle.wire_session.proofs.BelowLemmas.PublisherSpec.LaterLemmas.{next_is_later}
+use Rattle.wire_session.proofs.BelowLemmas.PublisherSpec.OneReplyLemmas.{one_next_side, one_reply}
+use Rattle.wire_session.specs.Below.PublisherSpec.Reply.{IsNextSide}
+use Rattle.wire_session.specs.Below.PublisherSpec.Side.{IsLater, Side, date_in}
+use Rattle.wire_session.specs.SessionOut.{IsSaidAfter, IsSaidBy, IsSaidFirst, Said, Says, SessionOut, refusal_text, silent, with_reply}
 use Rattle.cli_serve.specs.SameBytes.{OneSession}
 use Rattle.cli_serve.proofs.ZoneLemmas.{answered_by, in_zone, one_in_zone}
 

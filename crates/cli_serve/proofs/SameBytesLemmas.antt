@@ -2,12 +2,12 @@
 use Rattle.std.proofs.Common.{◌≡◌, ◌∙◌, ℕ, zero, suc, ◌+◌, ◌≤◌, ◌⊎◌, Bool, true, false, List, [], ◌∷◌, ◌++◌, map, length, length-append, cond, Option, Some, inl, inr, IfSome, refl, sym, ap, ap₂, subst, append-nil, arith}
 use Rattle.std.specs.List.{concat}
 use Rattle.std.proofs.lemmas.List.Sums.{sum_by-cons}
-use Rattle.serving.specs.Below.LcDoors.Door.{DoorRecorded, Wire}
+use Rattle.lc_doors.specs.Door.{DoorRecorded, Wire}
 use Rattle.lc_io.specs.Counts.{Rose, RoseBy}
-use Rattle.serving.specs.Below.LcVersions.History.{Entry}
-use Rattle.serving.specs.Below.PublisherSpec.Side.{Side}
-use Rattle.serving.specs.Below.WireSession.Laws.{EndsStay}
-use Rattle.serving.specs.Below.WireSession.SessionOut.{SessionOut}
+use Rattle.wire_session.specs.Below.LcVersions.History.{Entry}
+use Rattle.wire_session.specs.Below.PublisherSpec.Side.{Side}
+use Rattle.wire_session.specs.Laws.{EndsStay}
+use Rattle.wire_session.specs.SessionOut.{SessionOut}
 use Rattle.cli_serve.specs.Lines.{line_of, listening_line, served_line}
 use Rattle.cli_serve.specs.Recorded.{AreRecorded, AreWiresOf, IsWireOf, NoneWaits, bytes_of, opened_at}
 use Rattle.cli_serve.specs.SameBytes.{AreOneSide, NotOneMore, NotOneTaker, NotOtherBase, OneOverBytes, OneSession, SayOne}

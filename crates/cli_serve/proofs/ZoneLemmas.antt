@@ -1,20 +1,20 @@
 -- Sides that differ in their zone alone, which shows the same dates, reply the same.
 use Rattle.std.proofs.Common.{◌≡◌, ◌∙◌, ℕ, Bool, true, false, List, drop, length, Option, Some, None, ap, refl, subst, sym}
 use Rattle.std.specs.Prelude.{◌==◌, if◌then◌else◌}
-use Rattle.serving.specs.Below.HttpText.declared.request.Request.{Request}
+use Rattle.wire_session.specs.Below.HttpText.declared.request.Request.{Request}
 use Rattle.lc_model.specs.declared.connection.Connection.{Connection}
 use Rattle.lc_model.specs.declared.date.ServiceDate.{ServiceDate}
-use Rattle.serving.specs.Below.LcTime.declared.zone.Zone.{Zone}
-use Rattle.serving.specs.Below.LcVersions.History.{news_at}
-use Rattle.serving.specs.Below.LcVersions.Timetable.{AreLiveRuns}
-use Rattle.serving.specs.Below.LcVersions.declared.update.Update.{Update}
-use Rattle.serving.specs.Below.PublisherSpec.Reply.{IsBehind, IsReply, side_behind}
-use Rattle.serving.specs.Below.PublisherSpec.Response.{IsGateResponse, IsPageOf, IsPageResponse, IsResponseTo, IsSentOf, asked_at, status_of_update}
-use Rattle.serving.specs.Below.PublisherSpec.Side.{IsTimetableAt, Side, date_in, with_message}
-use Rattle.serving.specs.Below.PublisherSpec.declared.asked.Asked.{Asked}
-use Rattle.serving.specs.Below.PublisherSpec.declared.asked.Asked.TheVariants as kinds
-use Rattle.serving.specs.Below.PublisherSpec.declared.response.Response.{Response}
-use Rattle.serving.specs.Below.WireSession.SessionOut.{IsAnswered}
+use Rattle.wire_session.specs.Below.LcTime.declared.zone.Zone.{Zone}
+use Rattle.wire_session.specs.Below.LcVersions.History.{news_at}
+use Rattle.wire_session.specs.Below.LcVersions.Timetable.{AreLiveRuns}
+use Rattle.wire_session.specs.Below.LcVersions.declared.update.Update.{Update}
+use Rattle.wire_session.specs.Below.PublisherSpec.Reply.{IsBehind, IsReply, side_behind}
+use Rattle.wire_session.specs.Below.PublisherSpec.Response.{IsGateResponse, IsPageOf, IsPageResponse, IsResponseTo, IsSentOf, asked_at, status_of_update}
+use Rattle.wire_session.specs.Below.PublisherSpec.Side.{IsTimetableAt, Side, date_in, with_message}
+use Rattle.wire_session.specs.Below.PublisherSpec.declared.asked.Asked.{Asked}
+use Rattle.wire_session.specs.Below.PublisherSpec.declared.asked.Asked.TheVariants as kinds
+use Rattle.wire_session.specs.Below.PublisherSpec.declared.response.Response.{Response}
+use Rattle.wire_session.specs.SessionOut.{IsAnswered}
 use Rattle.cli_serve.specs.SameBytes.{AreOneSide}
 
 -- the side with this zone in the place of its own

@@ -1,12 +1,14 @@
 pub mod Clients
 pub mod Laws
 pub mod Lines
+pub mod Recorded
+pub mod Said
+pub mod SameBytes
 pub mod Serve
+pub mod Serving
 pub mod Steps
 pub mod Stop
 pub mod Tally
-pub mod Recorded
-pub mod SameBytes
 pub mod Visit
 pub mod Visiting
 pub mod Written

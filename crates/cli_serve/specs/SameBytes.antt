@@ -1,11 +1,11 @@
 -- Servings that begin from one side and hear the same bytes: what it means that they answer the same.
 use Rattle.std.specs.Prelude.{◌≡◌, ◌≢◌, ℕ, true, false, List, ◌++◌, map, Some}
-use Rattle.serving.specs.Below.LcDoors.Door.{DoorRecorded, DoorSeen, Wire}
+use Rattle.lc_doors.specs.Door.{DoorRecorded, DoorSeen, Wire}
 use Rattle.lc_io.specs.Counts.{Rose}
 use Rattle.lc_io.specs.Sink.{SinkSeen}
-use Rattle.serving.specs.Below.LcVersions.declared.update.Update.{Update}
-use Rattle.serving.specs.Below.PublisherSpec.Side.{Side, date_in, with_message}
-use Rattle.serving.specs.Below.WireSession.SessionOut.{Said, SessionOut}
+use Rattle.wire_session.specs.Below.LcVersions.declared.update.Update.{Update}
+use Rattle.wire_session.specs.Below.PublisherSpec.Side.{Side, date_in, with_message}
+use Rattle.wire_session.specs.SessionOut.{Said, SessionOut}
 use Rattle.cli_serve.specs.Recorded.{came}
 use Rattle.cli_serve.specs.Serve.{Asked, IsServedWhole, Outside}
 use Rattle.cli_serve.specs.Written.{Wrote}

@@ -1,9 +1,9 @@
 -- What serving results in, by how it ends.
 use Rattle.std.specs.Prelude.{◌≡◌, ◌⊎◌, ℕ, ◌<◌, ◌≤◌, true, false, List, ◌++◌, length, Result, Ok, Err}
-use Rattle.serving.specs.Below.LcDoors.Door.{DoorSeen, GoesOn}
+use Rattle.lc_doors.specs.Door.{DoorSeen, GoesOn}
 use Rattle.lc_io.specs.Counts.{Rose, RoseBy}
 use Rattle.lc_io.specs.Sink.{SinkSeen}
-use Rattle.serving.specs.Below.PublisherSpec.Side.{Side}
+use Rattle.wire_session.specs.Below.PublisherSpec.Side.{Side}
 use Rattle.cli_serve.specs.Lines.{line_of, listening_line}
 use Rattle.cli_serve.specs.Recorded.{AreRecorded, NoneWaits, opened_at}
 use Rattle.cli_serve.specs.Visit.{AreVisits, NoneLost, Visit, faults_of}

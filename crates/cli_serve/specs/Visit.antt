@@ -1,9 +1,9 @@
 -- Visits of clients to a publisher, one after the other.
 use Rattle.std.specs.Prelude.{◌≡◌, ℕ, Bool, true, false, List, [], ◌∷◌, length, count_by, sum_by}
 use Rattle.std.specs.List.{All, concat}
-use Rattle.serving.specs.Below.LcDoors.Serving.{IsFront}
-use Rattle.serving.specs.Below.PublisherSpec.Side.{Side}
-use Rattle.serving.specs.Below.WireSession.SessionOut.{Said, SessionOut}
+use Rattle.lc_doors.specs.Serving.{IsFront}
+use Rattle.wire_session.specs.Below.PublisherSpec.Side.{Side}
+use Rattle.wire_session.specs.SessionOut.{Said, SessionOut}
 
 -- What was read on a connection and what was sent. How many requests were answered, and whether the session ended. Whether a read or a
 -- write failed, whether a read did, and whether memory ran out.

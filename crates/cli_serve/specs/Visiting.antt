@@ -1,11 +1,11 @@
 -- How one client is served.
 use Rattle.std.specs.Prelude.{◌≡◌, ◌⊎◌, true, false, Option, Some, Result, Ok, Err}
-use Rattle.serving.specs.Below.LcDoors.Door.{DoorSeen, DoorRecorded, GoesOn, OnCurrent, hung_up}
-use Rattle.serving.specs.Below.LcDoors.Serving.{Exchanges, NothingToCome}
-use Rattle.serving.specs.Below.LcDoors.declared.serving.Served.{Served}
+use Rattle.lc_doors.specs.Door.{DoorSeen, DoorRecorded, GoesOn, OnCurrent, hung_up}
+use Rattle.lc_doors.specs.Serving.{Exchanges, NothingToCome}
+use Rattle.lc_doors.specs.declared.serving.Served.{Served}
 use Rattle.lc_io.specs.Counts.{HasCause}
 use Rattle.lc_model.specs.declared.memory.NoMemory.{NoMemory}
-use Rattle.serving.specs.Below.PublisherSpec.Side.{Side}
+use Rattle.wire_session.specs.Below.PublisherSpec.Side.{Side}
 use Rattle.cli_serve.specs.Visit.{IsVisit, Visit}
 
 -- the visit was served, or memory ran out

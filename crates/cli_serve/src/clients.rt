@@ -1,14 +1,15 @@
 ghost use Rattle.std.specs.Prelude.{◌≤◌, IsErrOf, IsTrue};
-ghost use Rattle.serving.specs.Below.Fragmenter.Cutting.{chosen_cuts};
-ghost use Rattle.serving.specs.Below.LcDoors.declared.door.DoorFail.TheVariants.{Failed};
+ghost use Rattle.wire_session.specs.Below.Fragmenter.Cutting.{chosen_cuts};
+ghost use Rattle.lc_doors.specs.declared.door.DoorFail.TheVariants.{Failed};
 ghost use Rattle.lc_io.specs.Counts.{HasCause};
-ghost use Rattle.serving.specs.Below.Publisher.Held.{side_of};
+ghost use Rattle.wire_session.specs.Below.Publisher.Held.{side_of};
 ghost use Rattle.cli_serve.specs.Clients.{HasTaken};
 
 use crate::tally::Tally;
 use crate::visit::visit;
-use serving::below::{Cutting, Door, DoorFail, Next, Publisher};
+use lc_doors::{Door, DoorFail, Next};
 use std::alloc::Global;
+use wire_session::below::{Cutting, Publisher};
 
 /// Serves so many clients, or all that come, one after the other, and counts them. The publisher is handed on from one to the next, and given
 /// back at the end.

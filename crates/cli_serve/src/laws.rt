@@ -1,7 +1,7 @@
 ghost use Rattle.cli_serve.specs.Laws.{NoneForgotten, NoneHeldBack, NoneTwice, NoneUnread, NoneUnsent, OneServing, OneVisit, OneVisiting};
 ghost use Rattle.cli_serve.specs.SameBytes.{NotOneMore, NotOneTaker, NotOtherBase, OneOverBytes, OneSession};
 
-use serving::below::one_output;
+use wire_session::one_output;
 
 /// Where the door records, the visits of a serving are one, if memory ran out on none of them, however it ended. So is the line at the end of
 /// one that is Ok. What is sent on a visit without a fault, or on one whose read failed, and the side that it leaves, are one too.

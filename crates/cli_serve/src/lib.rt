@@ -1,5 +1,6 @@
-//! What `serve` does with a publisher: it listens, serves one connection after the other, and writes what came of it. It builds on `serving`, by
-//! which one connection is served, on `lc_doors` and on `lc_io`.
+//! What `serve` does with a publisher: it listens, serves one connection after the other, and writes what came of it. A connection is answered
+//! by a session, which keeps the publisher for the next one. It builds on `wire_session`, which says what is replied, on `lc_doors`, by whose
+//! trait a connection is served, and on `lc_io`.
 #![tactic(auto)]
 
 mod clients;
@@ -7,6 +8,7 @@ mod command;
 mod fault;
 mod laws;
 mod lines;
+mod serving;
 mod stop;
 mod tally;
 mod visit;

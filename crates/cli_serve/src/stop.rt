@@ -1,5 +1,5 @@
+use lc_doors::DoorFail;
 use lc_io::SinkFail;
-use serving::below::DoorFail;
 
 /// What serving ended by, before its end.
 #[derive(Clone, Copy, PartialEq, Eq)]

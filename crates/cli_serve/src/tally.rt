@@ -3,8 +3,8 @@ ghost use Rattle.cli_serve.specs.Tally.{Fits, IsTallyOf, ended_so};
 ghost use Rattle.cli_serve.specs.Visit.{Visit};
 ghost use Rattle.cli_serve.specs.Visiting.{CameOut};
 
+use lc_doors::{DoorFail, Served};
 use lc_model::NoMemory;
-use serving::below::{DoorFail, Served};
 
 /// What is counted of the connections so far.
 #[derive(Clone, Copy)]

@@ -1,7 +1,7 @@
 -- These visits were made so far, and are counted.
 use Rattle.std.proofs.Common.{◌-◌}
-use Rattle.serving.specs.Below.Fragmenter.Cutting.{chosen_cuts}
-use Rattle.serving.specs.Below.Publisher.Held.{side_of}
+use Rattle.wire_session.specs.Below.Fragmenter.Cutting.{chosen_cuts}
+use Rattle.wire_session.specs.Below.Publisher.Held.{side_of}
 use Rattle.cli_serve.specs.Clients.{HasServedSoFar}
 use Rattle.cli_serve.proofs.clients.take_clients.Given as goal
 

@@ -1,8 +1,8 @@
-use Rattle.serving.specs.Below.Fragmenter.Cutting.{chosen_cuts}
-use Rattle.serving.specs.Below.Fragmenter.declared.cutting.Cutting.{Cutting}
-use Rattle.serving.specs.Below.Publisher.Held.{side_of}
-use Rattle.serving.specs.Below.PublisherSpec.Side.{Side}
-use Rattle.serving.specs.Serving.{ServingState}
+use Rattle.wire_session.specs.Below.Fragmenter.Cutting.{chosen_cuts}
+use Rattle.wire_session.specs.Below.Fragmenter.declared.cutting.Cutting.{Cutting}
+use Rattle.wire_session.specs.Below.Publisher.Held.{side_of}
+use Rattle.wire_session.specs.Below.PublisherSpec.Side.{Side}
+use Rattle.cli_serve.specs.Serving.{ServingState}
 use Rattle.cli_serve.proofs.AnswerLemmas.{all_answered, none_answered, starts}
 use Rattle.cli_serve.proofs.visit.answer.Goals as goal
 

@@ -1,6 +1,6 @@
 use Rattle.std.proofs.Common.{take, ap}
-use Rattle.serving.proofs.FedLemmas.{fed_still}
-use Rattle.serving.proofs.serving.ServingTalk.sent.Goals as goal
+use Rattle.cli_serve.proofs.FedLemmas.{fed_still}
+use Rattle.cli_serve.proofs.serving.ServingTalk.sent.Goals as goal
 use Rattle.wire_session.specs.Stands.{Held}
 
 pub invariant_of-self : goal.invariant_of-self

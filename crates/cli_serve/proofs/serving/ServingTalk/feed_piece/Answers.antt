@@ -1,5 +1,5 @@
-use Rattle.serving.proofs.FedLemmas.{fed_more}
-use Rattle.serving.proofs.serving.ServingTalk.feed_piece.Goals as goal
+use Rattle.cli_serve.proofs.FedLemmas.{fed_more}
+use Rattle.cli_serve.proofs.serving.ServingTalk.feed_piece.Goals as goal
 
 pub invariant_of-self-then-not-ended : goal.invariant_of-self-then-not-ended
 invariant_of-self-then-not-ended g c =

@@ -1,7 +1,7 @@
 ghost use Rattle.std.specs.Prelude.{◌≡◌, ◌++◌, ℕ, List, []};
 ghost use Rattle.wire_session.specs.Below.Publisher.Held.{side_of};
 ghost use Rattle.wire_session.specs.Below.PublisherSpec.Side.{Side};
-ghost use Rattle.serving.specs.Serving.{StandsOut};
+ghost use Rattle.cli_serve.specs.Serving.{StandsOut};
 ghost use Rattle.wire_session.specs.Phase.{is_ended};
 ghost use Rattle.wire_session.specs.Stands.{IsOutput, Means, Stands, fresh};
 
@@ -22,7 +22,7 @@ pub struct Serving<G: Fragmenter + Drop> {
 
 impl<G: Fragmenter + Drop> Model for Serving<G> {
     ghost use Rattle.std.specs.Prelude.{◌≡◌};
-    ghost use Rattle.serving.specs.Serving.{ServingState, WasFed};
+    ghost use Rattle.cli_serve.specs.Serving.{ServingState, WasFed};
     ghost use Rattle.wire_session.specs.declared.phase.Phase.TheVariants.{Open};
 
     ghost Value = { ServingState G };
@@ -64,8 +64,8 @@ impl<G: Fragmenter + Drop> Serving<G> {
 
 impl<G: Fragmenter + Drop> Talk for Serving<G> {
     ghost use Rattle.wire_session.specs.Below.PublisherSpec.Side.{Side};
-    ghost use Rattle.serving.specs.Serving.{SaysOut, StandsOut, serving_seen};
-    ghost use Rattle.serving.specs.Said.{said_of, one_out, nothing_said};
+    ghost use Rattle.cli_serve.specs.Serving.{SaysOut, StandsOut, serving_seen};
+    ghost use Rattle.cli_serve.specs.Said.{said_of, one_out, nothing_said};
 
     ghost Start = { Side };
 

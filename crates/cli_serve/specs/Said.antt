@@ -4,7 +4,7 @@ use Rattle.std.specs.List.{concat}
 use Rattle.lc_doors.specs.Talk.{Said}
 use Rattle.wire_session.specs.Below.Publisher.Held.{side_of}
 use Rattle.wire_session.specs.Below.PublisherSpec.Side.{Side}
-use Rattle.serving.specs.Serving.{SaysOut, ServingState, StandsOut, serving_seen}
+use Rattle.cli_serve.specs.Serving.{SaysOut, ServingState, StandsOut, serving_seen}
 use Rattle.wire_session.specs.Phase.{is_ended}
 use Rattle.wire_session.specs.SessionOut as session
 use Rattle.wire_session.specs.Stands.{Held, IsOutput, MeansIn, Stands, fresh}

@@ -2,7 +2,7 @@
 use Rattle.std.proofs.Common.{◌≡◌, ◌≢◌, ◌∙◌, ℕ, ◌+◌, List, [], ◌++◌, length, length-append, refl, sym, ap, arith}
 use Rattle.wire_session.specs.Below.Publisher.Held.{Held, side_of}
 use Rattle.wire_session.specs.Below.PublisherSpec.Side.{Side}
-use Rattle.serving.specs.Serving.{WasFed}
+use Rattle.cli_serve.specs.Serving.{WasFed}
 use Rattle.wire_session.specs.Stands.{Stands}
 use Rattle.wire_session.specs.Stands as stands
 use Rattle.wire_session.specs.declared.phase.Phase.{Phase}

@@ -1,11 +1,11 @@
 use Rattle.std.proofs.Common.{◌++◌, sym, ap, subst}
 use Rattle.wire_session.specs.Below.Publisher.Held.{Held, side_of}
-use Rattle.serving.specs.Said.{left_by}
-use Rattle.serving.specs.Serving.{ServingState}
+use Rattle.cli_serve.specs.Said.{left_by}
+use Rattle.cli_serve.specs.Serving.{ServingState}
 use Rattle.wire_session.specs.Phase.{is_ended}
 use Rattle.wire_session.specs.Stands.{IsOutput, Means}
 use Rattle.wire_session.proofs.StandLemmas.{stands_means}
-use Rattle.serving.proofs.serving.Serving.into_publisher.Goals as goal
+use Rattle.cli_serve.proofs.serving.Serving.into_publisher.Goals as goal
 
 pub returns-clause-left : goal.returns-clause-left
 returns-clause-left g c = λ start fed sent stands.

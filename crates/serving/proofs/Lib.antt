@@ -1,2 +1,0 @@
-pub mod BelowLemmas
-mod FedLemmas

@@ -1,3 +1,0 @@
-pub mod Below
-pub mod Said
-pub mod Serving
