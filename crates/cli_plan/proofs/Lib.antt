@@ -1,1 +1,3 @@
 mod HappenLemmas
+mod RelayedLemmas
+mod SumLemmas

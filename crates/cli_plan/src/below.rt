@@ -1,4 +1,4 @@
 //! What the crates above name of the crates below.
 
 pub use cli_replay::{Measures, Replayed, measures_of, replay, summary_text};
-pub use laws_plan::below::Event;
+pub use page_relay::Relay;

@@ -6,7 +6,7 @@ use Rattle.cli_inputs.specs.Inputs.{IsRefusedFor}
 use Rattle.cli_inputs.specs.Script.{IsReplayRefused}
 use Rattle.cli_inputs.specs.declared.refusal.Refusal.{Refusal}
 use Rattle.cli_inputs.specs.declared.refusal.Refusal.TheVariants as refused
-use Rattle.cli_relay.specs.Laws.{RelaysPlanRight}
+use Rattle.cli_plan.specs.Laws.{RelaysPlanRight}
 use Rattle.cli_ask.specs.Below.CliWords.Drill.{drilled_words}
 use Rattle.cli_ask.specs.Below.CliWords.Laws.{OneCommand}
 use Rattle.cli_ask.specs.Below.CliWords.Words.{SaysCommand}

@@ -1,8 +1,8 @@
 -- From what is read and played to the block of a replay, and to that of a drill.
 use Rattle.std.proofs.Common.{◌≡◌, ◌∙◌, ◌++◌, ℕ, List, Result, Ok, Err, ap, sym, subst}
 use Rattle.std.specs.Prelude.{IfOk}
-use Rattle.cli_relay.specs.Below.CliReplay.Summary.{leaves_in, summary_of}
-use Rattle.cli_relay.specs.Below.CliReplay.declared.playing.Replayed.{Replayed}
+use Rattle.cli_plan.specs.Below.CliReplay.Summary.{leaves_in, summary_of}
+use Rattle.cli_plan.specs.Below.CliReplay.declared.playing.Replayed.{Replayed}
 use Rattle.cli_inputs.specs.Script.{IsReplayRefused}
 use Rattle.cli_inputs.specs.declared.refusal.Refusal.{Refusal}
 use Rattle.cli_ask.specs.Below.CliWords.declared.command.Drill.{Drill}

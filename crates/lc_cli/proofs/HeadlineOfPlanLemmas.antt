@@ -11,9 +11,9 @@ use Rattle.cli_ask.specs.Below.LawsClients.Answered.{AnswersAt}
 use Rattle.cli_ask.specs.Below.LawsClients.Fits.{HasAnswered}
 use Rattle.cli_ask.specs.Below.LawsConvoys.Names.{Round}
 use Rattle.cli_ask.specs.Below.ConnectionUri.Base.{BaseParts}
-use Rattle.cli_relay.specs.Planned.{ArePlanned, EndsAt, IsPlanned}
-use Rattle.cli_relay.specs.Replied.{TellsAlong}
-use Rattle.cli_relay.specs.Sides.{version_after, version_with}
+use Rattle.cli_plan.specs.Planned.{ArePlanned, EndsAt, IsPlanned}
+use Rattle.cli_plan.specs.Replied.{TellsAlong}
+use Rattle.cli_plan.specs.Sides.{version_after, version_with}
 use Rattle.cli_inputs.specs.Below.LawsReplay.Turns.{given_in}
 use Rattle.cli_inputs.specs.Below.LawsReplay.declared.event.Event.{Event}
 use Rattle.cli_ask.specs.Below.LawsSides.Stated.{version_at}

@@ -6,7 +6,7 @@ use Rattle.cli_ask.specs.declared.end.ClientEnd.{ClientEnd}
 use Rattle.cli_ask.specs.Below.CliWords.declared.command.Publishing.{Publishing}
 use Rattle.cli_ask.specs.Below.LawsClients.Answered.{AnswersAt}
 use Rattle.cli_ask.specs.Below.LawsConvoys.Names.{Round}
-use Rattle.cli_relay.specs.Worked.{received}
+use Rattle.cli_plan.specs.Worked.{received}
 use Rattle.cli_inputs.proofs.BelowLemmas.LawsReplay.OneCourseLemmas.{at_place}
 use Rattle.lc_model.specs.Journey.{IsAnswer, arrives_at}
 use Rattle.lc_model.specs.Laws.{OneArrival}

@@ -6,7 +6,7 @@ use Rattle.cli_ask.specs.Laws.{AreOneEnd}
 use Rattle.cli_ask.specs.Publishing.{store_of}
 use Rattle.cli_ask.specs.declared.end.ClientEnd.{ClientEnd}
 use Rattle.cli_drill.specs.Files.{drill_files}
-use Rattle.cli_relay.specs.Below.CliReplay.Summary.{arrivals_line_of, exchanges_line_of, found_line_of, has_found, has_none, leaves_in, seconds_of, summary_of, updates_line_of, arrivals_of, exchanges_of, found_in, none_in}
+use Rattle.cli_plan.specs.Below.CliReplay.Summary.{arrivals_line_of, exchanges_line_of, found_line_of, has_found, has_none, leaves_in, seconds_of, summary_of, updates_line_of, arrivals_of, exchanges_of, found_in, none_in}
 use Rattle.cli_ask.specs.Below.CliWords.Laws.{OneCommand}
 use Rattle.cli_ask.specs.Below.CliWords.Drill.{drilled_words}
 use Rattle.cli_ask.specs.Below.CliWords.declared.command.Command.{Command}

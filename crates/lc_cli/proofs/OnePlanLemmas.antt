@@ -11,9 +11,9 @@ use Rattle.cli_ask.specs.Below.CliWords.declared.command.Plan.{Plan}
 use Rattle.cli_ask.specs.declared.end.ClientEnd.{ClientEnd}
 use Rattle.cli_inputs.specs.Plan.{ReadsPlan}
 use Rattle.cli_ask.specs.Below.ConnectionUri.Base.{BaseParts}
-use Rattle.cli_relay.specs.OneGrowing.{IsGrowingPlan, NameTheSame, OneGrowingPlan}
-use Rattle.cli_relay.specs.OnePlan.{IsQuietPlan, OnePlan}
-use Rattle.cli_relay.specs.Planned.{ArePlanned, IsPlanned}
+use Rattle.cli_plan.specs.OneGrowing.{IsGrowingPlan, NameTheSame, OneGrowingPlan}
+use Rattle.cli_plan.specs.OnePlan.{IsQuietPlan, OnePlan}
+use Rattle.cli_plan.specs.Planned.{ArePlanned, IsPlanned}
 use Rattle.cli_inputs.specs.Below.LawsReplay.Events.{TurnsAreOfClients, questions_in}
 use Rattle.cli_inputs.specs.Below.LawsReplay.declared.event.Event.{Event}
 use Rattle.cli_inputs.specs.Below.LawsReplay.declared.event.Event.TheVariants as events

@@ -5,11 +5,11 @@ use Rattle.cli_inputs.specs.Script.{IsScriptRefused}
 use Rattle.cli_inputs.specs.declared.refusal.Refusal.{Refusal}
 use Rattle.cli_inputs.specs.declared.refusal.Refusal.TheVariants as refused
 use Rattle.cli_ask.specs.declared.end.ClientEnd.{ClientEnd}
-use Rattle.cli_relay.specs.Laws.{RelaysPlanRight}
+use Rattle.cli_plan.specs.Laws.{RelaysPlanRight}
 use Rattle.cli_ask.specs.Below.CliWords.declared.command.Plan.{Plan}
 use Rattle.cli_ask.specs.Below.CliWords.declared.command.Relay.{Relay}
 use Rattle.cli_ask.specs.Below.ConnectionUri.Base.{BaseParts}
-use Rattle.cli_relay.specs.Planned.{ArePlanned, IsPlanned}
+use Rattle.cli_plan.specs.Planned.{ArePlanned, IsPlanned}
 use Rattle.cli_inputs.specs.Below.LawsReplay.Events.{questions_in}
 use Rattle.cli_inputs.specs.Below.LawsReplay.declared.event.Event.{Event}
 use Rattle.lc_io.specs.Counts.{Rose}

@@ -2,7 +2,7 @@
 use Rattle.std.specs.Prelude.{◌≡◌, ◌⊎◌, ℕ, false, List, [], ◌∷◌, Option, None}
 use Rattle.cli_ask.specs.Publishing.{PublishesAfter}
 use Rattle.cli_ask.specs.declared.end.ClientEnd.{ClientEnd}
-use Rattle.cli_relay.specs.Relayed.{IsRelayed}
+use Rattle.cli_plan.specs.Relayed.{IsRelayed}
 use Rattle.cli_ask.specs.Below.CliWords.Words.{SaysCommand}
 use Rattle.cli_ask.specs.Below.CliWords.declared.command.Arrive.{Arrive}
 use Rattle.cli_ask.specs.Below.CliWords.declared.command.Ask.{Ask}
@@ -18,7 +18,7 @@ use Rattle.lc_io.specs.Folder.{FolderSeen}
 use Rattle.lc_io.specs.declared.file.File.{File}
 use Rattle.cli_ask.specs.Below.LcWorld.GoneOn.{IsLeftByGets, IsLeftByPasses}
 use Rattle.cli_ask.specs.Below.LcWorld.Link.{LinkSeen}
-use Rattle.cli_relay.specs.Planned.{IsPlanned}
+use Rattle.cli_plan.specs.Planned.{IsPlanned}
 use Rattle.cli_inputs.specs.Below.LawsReplay.declared.event.Event.{Event}
 use Rattle.cli_ask.specs.Below.Timetable.Loading.{Loads}
 use Rattle.cli_ask.specs.Below.Timetable.declared.fault.LoadFault.TheVariants as fault

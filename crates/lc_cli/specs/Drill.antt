@@ -2,7 +2,7 @@
 use Rattle.std.specs.Prelude.{◌≡◌, ◌⊎◌, ℕ, ◌+◌, List, [], ◌∷◌, ◌++◌, Some, codes, decimal, length}
 use Rattle.cli_ask.specs.declared.end.ClientEnd.{ClientEnd}
 use Rattle.cli_drill.specs.Files.{drill_files}
-use Rattle.cli_relay.specs.Below.CliReplay.Summary.{leaves_in, summary_of}
+use Rattle.cli_plan.specs.Below.CliReplay.Summary.{leaves_in, summary_of}
 use Rattle.cli_inputs.specs.Script.{IsReplayRefused}
 use Rattle.cli_inputs.specs.declared.refusal.Refusal.{Refusal}
 use Rattle.cli_inputs.specs.declared.refusal.Refusal.TheVariants.{Load}

@@ -12,9 +12,9 @@ use Rattle.cli_ask.specs.Below.CliWords.declared.command.Replay.{Replay}
 use Rattle.cli_ask.specs.Below.ConnectionUri.Base.{BaseParts}
 use Rattle.cli_ask.specs.Below.LawsClients.Answered.{AnswersAt, NeededAt}
 use Rattle.cli_ask.specs.Below.LawsConvoys.Names.{Round}
-use Rattle.cli_relay.specs.Planned.{ArePlanned, IsPlanned}
-use Rattle.cli_relay.specs.Replied.{TellsAlong}
-use Rattle.cli_relay.specs.Sides.{sides_of}
+use Rattle.cli_plan.specs.Planned.{ArePlanned, IsPlanned}
+use Rattle.cli_plan.specs.Replied.{TellsAlong}
+use Rattle.cli_plan.specs.Sides.{sides_of}
 use Rattle.cli_inputs.specs.Below.LawsReplay.Events.{before_turn_of, questions_in}
 use Rattle.cli_inputs.specs.Below.LawsReplay.OneCourse.{IsPlayedOut}
 use Rattle.cli_inputs.specs.Below.LawsReplay.Replayed.{clients_text_of}

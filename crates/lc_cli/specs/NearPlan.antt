@@ -6,7 +6,7 @@ use Rattle.cli_ask.specs.Publishing.{side_with, store_of}
 use Rattle.cli_ask.specs.declared.end.ClientEnd.{ClientEnd}
 use Rattle.cli_ask.specs.Below.CliWords.declared.command.Publishing.{Publishing}
 use Rattle.cli_ask.specs.Below.LawsConvoys.Names.{Round}
-use Rattle.cli_relay.specs.Worked.{received}
+use Rattle.cli_plan.specs.Worked.{received}
 use Rattle.lc_model.specs.declared.answer.Answer.{Answer}
 use Rattle.lc_model.specs.declared.query.Query.{Query}
 use Rattle.cli_ask.specs.Below.LcVersions.declared.update.Update.{Update}

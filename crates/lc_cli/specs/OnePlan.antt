@@ -7,7 +7,7 @@ use Rattle.cli_ask.specs.Below.CliWords.declared.command.Command.{Command}
 use Rattle.cli_ask.specs.Below.CliWords.declared.command.Command.TheVariants as commands
 use Rattle.cli_ask.specs.Below.CliWords.declared.command.Plan.{Plan}
 use Rattle.cli_ask.specs.Below.ConnectionUri.Base.{BaseParts}
-use Rattle.cli_relay.specs.OneGrowing.{NameTheSame}
+use Rattle.cli_plan.specs.OneGrowing.{NameTheSame}
 use Rattle.cli_inputs.specs.Below.LawsReplay.Replayed.{clients_text_of}
 use Rattle.lc_io.specs.Counts.{Rose}
 use Rattle.lc_io.specs.declared.file.File.{File}

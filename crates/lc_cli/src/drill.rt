@@ -1,5 +1,5 @@
 ghost use Rattle.std.specs.Prelude.{◌≡◌, ◌≢◌, ◌++◌, IfErr, IfOk, OnOk};
-ghost use Rattle.cli_relay.specs.Below.CliReplay.Summary.{leaves_in, summary_of};
+ghost use Rattle.cli_plan.specs.Below.CliReplay.Summary.{leaves_in, summary_of};
 ghost use Rattle.cli_inputs.specs.Below.LawsReplay.Events.{messages_in};
 ghost use Rattle.cli_ask.specs.Below.LcWorld.GoneOn.{IsLeftByPasses};
 ghost use Rattle.cli_inputs.specs.declared.refusal.Refusal.TheVariants.{Load};
@@ -12,7 +12,7 @@ use crate::replay::{play_course, read_course};
 use cli_ask::below::{Drill, Link, Replay, SureFolder, Timetable, drilled_replay};
 use cli_drill::drill_files;
 use cli_inputs::Refusal;
-use cli_relay::below::{Measures, Replayed, measures_of, summary_text};
+use cli_plan::below::{Measures, Replayed, measures_of, summary_text};
 use lc_model::NoMemory;
 use std::alloc::Global;
 

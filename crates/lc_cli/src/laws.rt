@@ -17,8 +17,8 @@ use cli_ask::one_output;
 use cli_fewest::below::fewest_at_version;
 use cli_fewest::one_fewest_output;
 use cli_inputs::below::one_course;
-use cli_relay::below::Relay;
-use cli_relay::{one_growing_plan, one_plan, relays_plan_right};
+use cli_plan::below::Relay;
+use cli_plan::{one_growing_plan, one_plan, relays_plan_right};
 use cli_serve::one_over_bytes;
 
 /// A run of `ask` with status Done wrote a best journey at the version that its question means, or that there is none. A run of `replay` did so for

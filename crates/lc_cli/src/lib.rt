@@ -1,6 +1,5 @@
 //! The commands of `lc`: they check feeds, publish them, and plan journeys over pages that a publisher gives. It builds on the
-//! arguments, the timetable of a feed, `cli_ask`, `cli_fewest`, `cli_arrive`, `cli_replay`, `cli_drill`, `cli_serve`, `cli_plan` and
-//! `cli_relay`.
+//! arguments, the timetable of a feed, `cli_ask`, `cli_fewest`, `cli_arrive`, `cli_replay`, `cli_drill`, `cli_serve` and `cli_plan`.
 #![tactic(auto)]
 
 pub mod below;

@@ -9,7 +9,7 @@ ghost use Rattle.lc_cli.specs.Command.{IsPlanBlock, IsRelayBlock};
 use crate::block::Block;
 use cli_ask::below::{Folder, Link, Plan, Relay};
 use cli_inputs::{Refusal, read_plan};
-use cli_relay::Planned;
+use cli_plan::Planned;
 use lc_model::NoMemory;
 use std::alloc::Global;
 
@@ -34,7 +34,7 @@ pub(crate) fn plan_block<F: Folder, L: Link>(
     } = plan;
     match read_plan(alloc, folder, asks) {
         Ok(events) => {
-            let (planned, link) = cli_relay::plan(alloc, base, events, cache as usize, link);
+            let (planned, link) = cli_plan::plan(alloc, base, events, cache as usize, link);
             match planned {
                 Ok(Planned { text, ends }) => (Ok(Block { text, ends }), link),
                 Err(NoMemory) => (Err(Refusal::from(NoMemory)), link),
@@ -66,7 +66,7 @@ pub(crate) fn relay_block<F: Folder, L: Link>(
     } = relay;
     match read_plan(alloc, folder, asks) {
         Ok(events) => {
-            let (planned, link) = cli_relay::relay(
+            let (planned, link) = cli_plan::relay(
                 alloc,
                 base,
                 events,

@@ -14,7 +14,7 @@ use crate::course::Course;
 use crate::scope::scope_of;
 use cli_ask::below::{Folder, Link, Replay};
 use cli_inputs::{Refusal, ReplayInputs, read_replay};
-use cli_relay::below::Replayed;
+use cli_plan::below::Replayed;
 use lc_model::NoMemory;
 use std::alloc::Global;
 
@@ -98,5 +98,5 @@ pub(crate) fn play_course<L: Link>(
         cache,
         ..
     } = course;
-    cli_relay::below::replay(alloc, made, publishing, events, cache as usize, link)
+    cli_plan::below::replay(alloc, made, publishing, events, cache as usize, link)
 }

@@ -22,7 +22,7 @@ use crate::work::Work;
 use cli_ask::below::{
     Door, Folder, Link, Sink, one_command, one_outcome, one_script, one_timetable,
 };
-use cli_relay::relays_plan_right;
+use cli_plan::relays_plan_right;
 use std::alloc::Global;
 
 /// Runs the command of these arguments, over a directory, a link, a door and a sink, and gives the link back.

@@ -1,12 +1,12 @@
 ghost use Rattle.std.specs.Prelude.{◌≡◌, ◌≤◌, ◌++◌, IfOk, OnOk, true};
-ghost use Rattle.cli_relay.specs.Relayed.{IsRelayed, counts_line_of};
-ghost use Rattle.cli_relay.specs.RelayedBy.{IsLeftBelow, IsRelayedBy};
-ghost use Rattle.cli_plan.specs.Planned.{NoneIsMessage};
-ghost use Rattle.cli_plan.specs.Below.LawsReplay.Events.{TurnsAreOfClients};
+ghost use Rattle.cli_plan.specs.Relayed.{IsRelayed, counts_line_of};
+ghost use Rattle.cli_plan.specs.RelayedBy.{IsLeftBelow, IsRelayedBy};
+ghost use Rattle.laws_plan.specs.Planned.{NoneIsMessage};
+ghost use Rattle.laws_plan.specs.Below.LawsReplay.Events.{TurnsAreOfClients};
 ghost use Rattle.page_relay.specs.Below.LcWorld.GoneOn.{IsLeftByGets};
 
-use cli_plan::below::Event;
-use cli_plan::{Planned, plan};
+use crate::planning::{Planned, plan};
+use laws_plan::below::Event;
 use lc_model::{NoMemory, PlainData};
 use page_relay::below::{Base, Link};
 use page_relay::{Relay, counts_are_since, relays_leave_below};

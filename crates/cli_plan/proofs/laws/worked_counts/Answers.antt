@@ -1,6 +1,6 @@
 use Rattle.std.proofs.Common.{refl}
 use Rattle.std.specs.Fmt.{digits}
-use Rattle.cli_relay.proofs.laws.worked_counts.Goals as goal
+use Rattle.cli_plan.proofs.laws.worked_counts.Goals as goal
 
 pub returns : goal.returns
 unfolding digits

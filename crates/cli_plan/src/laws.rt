@@ -1,6 +1,6 @@
 ghost use Rattle.std.specs.Prelude.{◌≡◌, codes};
-ghost use Rattle.cli_relay.specs.Laws.{CountsAreGrowth, RelaysPlanRight};
-ghost use Rattle.cli_relay.specs.Relayed.{counts_line_of};
+ghost use Rattle.cli_plan.specs.Laws.{CountsAreGrowth, RelaysPlanRight};
+ghost use Rattle.cli_plan.specs.Relayed.{counts_line_of};
 
 use page_relay::below::Link;
 use page_relay::{counts_are_since, new_relays_are_honest};

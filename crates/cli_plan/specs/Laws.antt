@@ -1,14 +1,14 @@
 -- That `relay` promises what `plan` does, and what its second count is. X is the type of the link handed in, and `seen` what is promised of it.
 use Rattle.std.specs.Prelude.{◌≡◌, ◌-◌, ◌^◌, ℕ, min, List, Some, length}
-use Rattle.cli_plan.specs.Below.CliAsk.declared.end.ClientEnd.{ClientEnd}
+use Rattle.laws_plan.specs.Below.CliAsk.declared.end.ClientEnd.{ClientEnd}
 use Rattle.page_relay.specs.Below.ConnectionUri.Base.{BaseParts}
-use Rattle.cli_plan.specs.Planned.{ArePlanned}
-use Rattle.cli_plan.specs.Replied.{TellsAlong}
-use Rattle.cli_plan.specs.Below.LawsReplay.declared.event.Event.{Event}
+use Rattle.laws_plan.specs.Planned.{ArePlanned}
+use Rattle.laws_plan.specs.Replied.{TellsAlong}
+use Rattle.laws_plan.specs.Below.LawsReplay.declared.event.Event.{Event}
 use Rattle.page_relay.specs.Below.LcWorld.Link.{IsHonestWith, LinkSeen}
 use Rattle.page_relay.specs.Below.LcWorld.declared.entry.Entry.{Entry}
 use Rattle.page_relay.specs.Below.PublisherSpec.Side.{Side}
-use Rattle.cli_relay.specs.Relayed.{IsRelayed, relay_after, relay_over}
+use Rattle.cli_plan.specs.Relayed.{IsRelayed, relay_after, relay_over}
 
 -- The clients planned over the relay as they do over each honest link, and each of them ended rightly. The link is honest with the last side of the
 -- plan. Each reply that the relay gave is that of the publisher's side at its exchange.

@@ -1,13 +1,13 @@
 -- Clients that plan over a relay, whatever was asked of it before. X is the type of the link below, and `seen` what is promised of it.
 use Rattle.std.specs.Prelude.{◌≡◌, ℕ, true, List, ◌++◌}
-use Rattle.cli_plan.specs.Below.CliAsk.declared.end.ClientEnd.{ClientEnd}
+use Rattle.laws_plan.specs.Below.CliAsk.declared.end.ClientEnd.{ClientEnd}
 use Rattle.page_relay.specs.Below.ConnectionUri.Base.{BaseParts}
-use Rattle.cli_plan.specs.Planned.{IsPlanned}
-use Rattle.cli_plan.specs.Below.LawsReplay.declared.event.Event.{Event}
+use Rattle.laws_plan.specs.Planned.{IsPlanned}
+use Rattle.laws_plan.specs.Below.LawsReplay.declared.event.Event.{Event}
 use Rattle.page_relay.specs.Below.LcWorld.GoneOn.{IsLeftByGets}
 use Rattle.page_relay.specs.Below.LcWorld.Link.{LinkSeen}
 use Rattle.page_relay.specs.Relay.{HasRelayedOf, RelayState, relay_seen}
-use Rattle.cli_relay.specs.Relayed.{counts_line_of}
+use Rattle.cli_plan.specs.Relayed.{counts_line_of}
 
 -- GETs left the relay with this link below it
 pub record IsLeftBelow {X : Type 0} (seen : X → LinkSeen) (before : RelayState X) (link : X) : Type 0 where

@@ -1,6 +1,6 @@
 use Rattle.std.proofs.Common.{ap}
-use Rattle.cli_relay.proofs.RelayedLemmas.{all_three, held_at, relayed_by}
-use Rattle.cli_relay.proofs.relaying.plan_over.Goals as goal
+use Rattle.cli_plan.proofs.RelayedLemmas.{all_three, held_at, relayed_by}
+use Rattle.cli_plan.proofs.relaying.plan_over.Goals as goal
 
 pub returns-in-Ok-clause-relayed : goal.returns-in-Ok-clause-relayed
 returns-in-Ok-clause-relayed g c =

@@ -1,2 +1,0 @@
-mod RelayedLemmas
-mod SumLemmas

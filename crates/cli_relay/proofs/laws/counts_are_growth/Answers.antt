@@ -1,5 +1,0 @@
-use Rattle.cli_relay.proofs.RelayedLemmas.{counts_growth}
-use Rattle.cli_relay.proofs.laws.counts_are_growth.Goals as goal
-
-pub returns : goal.returns
-returns g c = counts_growth g.L.Link.seen c.counts_are_since.ensures.lengths
