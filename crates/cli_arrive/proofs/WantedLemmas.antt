@@ -8,7 +8,7 @@ use Rattle.cli_ask.specs.Below.BackScan.declared.arrive_query.ArriveQuery.{Arriv
 use Rattle.cli_arrive.specs.Laws.{SomeWanted}
 use Rattle.cli_ask.proofs.WantsLemmas.{has_ends}
 use Rattle.laws_arrive.specs.Requests.{AreWanted}
-use Rattle.laws_arrive.specs.Below.LawsBack.NeededBack.{needed_pages_back}
+use Rattle.laws_arrive.specs.NeededBack.{needed_pages_back}
 use Rattle.cli_ask.specs.Below.LawsClients.Answered.{names_at}
 use Rattle.cli_ask.specs.Below.LawsClients.Wants.{HasEnds}
 use Rattle.cli_ask.proofs.BelowLemmas.LawsClients.PublishedLemmas.{is_lawful, is_timetable, made_of}

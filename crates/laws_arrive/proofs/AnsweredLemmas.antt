@@ -10,19 +10,19 @@ use Rattle.lc_model.specs.declared.page.PageName.{PageName}
 use Rattle.lc_model.specs.declared.query.Query.{Query}
 use Rattle.lc_model.specs.declared.ride.Ride.{Ride}
 use Rattle.lc_model.specs.declared.run.Run.{Run}
-use Rattle.laws_back.specs.Below.LcVersions.Pages.{CutPage}
+use Rattle.lc_versions.specs.Pages.{CutPage}
 use Rattle.laws_convoys.proofs.BelowLemmas.LiveCalls.LawLemmas.{one_live_list}
 use Rattle.laws_convoys.specs.Below.PublisherSpec.PageAt.{named}
 use Rattle.laws_convoys.specs.Below.PublisherSpec.Side.{IsValidSide, Side}
-use Rattle.laws_back.proofs.BelowLemmas.LawsJourneys.JourneysLemmas.{chain_is_journey, journey_is_chain}
+use Rattle.laws_journeys.proofs.JourneysLemmas.{chain_is_journey, journey_is_chain}
 use Rattle.laws_convoys.specs.Below.LawsClients.Answered.{names_at}
 use Rattle.laws_convoys.specs.Below.LawsClients.Published.{AreLiveAt, IsPublished, Published}
 use Rattle.laws_convoys.proofs.BelowLemmas.LawsClients.PublishedLemmas.{is_lawful, is_timetable, one_published, stays_by_news}
-use Rattle.laws_back.specs.LatestOf.{IsLatestOf}
-use Rattle.laws_back.specs.NeededBack.{AreNeededBack, IsTakenBackUntilOver, connections_back, pages_back}
-use Rattle.laws_back.proofs.BackLemmas.{one_list_of_needed_back}
-use Rattle.laws_back.proofs.JourneyLemmas.{latest_journeys, latest_over}
-use Rattle.laws_back.proofs.TakenLemmas.{takes_the_needed_back}
+use Rattle.laws_arrive.specs.LatestOf.{IsLatestOf}
+use Rattle.laws_arrive.specs.NeededBack.{AreNeededBack, IsTakenBackUntilOver, connections_back, pages_back}
+use Rattle.laws_arrive.proofs.BackLemmas.{one_list_of_needed_back}
+use Rattle.laws_arrive.proofs.JourneyLemmas.{latest_journeys, latest_over}
+use Rattle.laws_arrive.proofs.TakenLemmas.{takes_the_needed_back}
 use Rattle.back_client.specs.Below.BackScan.Latest.{IsLatestDeparture, IsListLatest}
 use Rattle.back_client.specs.Below.BackScan.StandsFor.{IsLatestChain}
 use Rattle.back_client.proofs.BelowLemmas.BackScan.OneLatestLemmas.{latest_departures_are_one}

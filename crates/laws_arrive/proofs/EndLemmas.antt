@@ -7,7 +7,7 @@ use Rattle.lc_model.specs.Stop.{HasStop}
 use Rattle.lc_model.specs.declared.doc.StopsDoc.{StopsDoc}
 use Rattle.lc_model.specs.declared.journey.Journey.{Journey}
 use Rattle.lc_model.specs.declared.page.PageName.{PageName}
-use Rattle.laws_back.specs.Below.LcVersions.Pages.{CutPage, page_for}
+use Rattle.lc_versions.specs.Pages.{CutPage, page_for}
 use Rattle.laws_convoys.specs.Below.ConnectionUri.Base.{BaseParts}
 use Rattle.laws_convoys.specs.Below.ConnectionUri.Page.{gate_target_of, stops_target_of}
 use Rattle.laws_convoys.specs.Below.LcWorld.Link.{IsHonestWith, LinkSeen}
@@ -21,14 +21,14 @@ use Rattle.laws_convoys.specs.Below.PageClient.declared.outcome.Outcome.{Outcome
 use Rattle.laws_convoys.specs.Below.PageClient.declared.outcome.Outcome.TheVariants as outcomes
 use Rattle.laws_convoys.specs.Below.PublisherSpec.PageAt.{named}
 use Rattle.laws_convoys.specs.Below.PublisherSpec.Side.{IsLater, Side}
-use Rattle.laws_back.specs.Below.LawsPages.Chain.{ArePagesOf, along_previous}
+use Rattle.laws_pages.specs.Chain.{ArePagesOf, along_previous}
 use Rattle.laws_convoys.specs.Below.LawsSides.Stated.{IsGatePage, version_at}
 use Rattle.laws_convoys.specs.Below.LawsClients.Answered.{names_at}
 use Rattle.laws_convoys.specs.Below.LawsClients.Laws.{IsAmong}
 use Rattle.laws_convoys.specs.Below.LawsClients.Published.{IsPublished, Published}
 use Rattle.laws_convoys.specs.Below.LawsClients.Wants.{HasEnds}
 use Rattle.laws_convoys.proofs.BelowLemmas.LawsClients.PublishedLemmas.{is_lawful, pages_are_among, published_stays}
-use Rattle.laws_back.specs.NeededBack.{IsTakenBackUntilOver, connections_back, pages_back}
+use Rattle.laws_arrive.specs.NeededBack.{IsTakenBackUntilOver, connections_back, pages_back}
 use Rattle.laws_convoys.specs.Below.Convoy.Exchange.{Got}
 use Rattle.laws_convoys.specs.Leaves.{LeavesHonest, RoseWithin}
 use Rattle.laws_convoys.specs.Requests.{TellsRequests}

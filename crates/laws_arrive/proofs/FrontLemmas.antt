@@ -7,12 +7,12 @@ use Rattle.lc_model.specs.Connection.{NoneArrivesEarly}
 use Rattle.lc_model.specs.declared.connection.Connection.{Connection}
 use Rattle.lc_model.specs.declared.doc.StopsDoc.{StopsDoc}
 use Rattle.lc_model.specs.declared.query.Query.{Query}
-use Rattle.laws_back.specs.Below.LcVersions.Pages.{CutPage}
-use Rattle.laws_back.specs.Below.LawsPages.Chain.{ArePagesOf}
+use Rattle.lc_versions.specs.Pages.{CutPage}
+use Rattle.laws_pages.specs.Chain.{ArePagesOf}
 use Rattle.back_client.specs.Below.BackScan.Latest.{IsListLatest}
-use Rattle.laws_back.specs.Early.{bound_back}
-use Rattle.laws_back.specs.NeededBack.{IsOverBack, down_to_bound, needed_pages_back, pages_back}
-use Rattle.laws_back.proofs.BackLemmas.{pages_back_may_be_all}
+use Rattle.laws_arrive.specs.Early.{bound_back}
+use Rattle.laws_arrive.specs.NeededBack.{IsOverBack, down_to_bound, needed_pages_back, pages_back}
+use Rattle.laws_arrive.proofs.BackLemmas.{pages_back_may_be_all}
 
 -- These pages were asked for, the last one without being taken. One was not over after any that was taken.
 pub record IsAskedBack (query : Query) (doc : StopsDoc) (pages asked : List CutPage) : Type 0 where

@@ -8,3 +8,7 @@ mod NamedLemmas
 mod NearLemmas
 mod PagesBackLemmas
 mod WalkLemmas
+pub mod EarlyLemmas
+pub mod BackLemmas
+pub mod TakenLemmas
+pub mod JourneyLemmas

@@ -1,12 +1,11 @@
 -- The version that a known moment means is one of the side.
-use Rattle.std.proofs.Common.{◌≡◌, ℕ, List, [], ◌∷◌, Bool, true, false, Option, refl, ap, sym, subst, filter}
+use Rattle.std.proofs.Common.{◌≡◌, ℕ, List, [], ◌∷◌, Bool, true, false, Option, refl, ap, sym, subst, filter, arith}
 use Rattle.std.specs.Prelude.{◌||◌, ◌==◌}
 use Rattle.std.specs.List.{list_any}
-use Rattle.std.proofs.Common.{arith}
 use Rattle.std.proofs.lemmas.Bool.Decides.{nat_tests}
-use Rattle.laws_back.specs.Below.LcVersions.History.{moments_of}
-use Rattle.laws_back.specs.Below.LcVersions.Named.{is_by, last_of}
-use Rattle.laws_back.proofs.BelowLemmas.LawsPages.FilterLemmas.{filter_drops, filter_takes}
+use Rattle.lc_versions.specs.History.{moments_of}
+use Rattle.lc_versions.specs.Named.{is_by, last_of}
+use Rattle.laws_pages.proofs.FilterLemmas.{filter_drops, filter_takes}
 use Rattle.laws_convoys.specs.Below.LawsSides.Stated.{version_at}
 use Rattle.laws_convoys.specs.Below.PublisherSpec.Side.{Side, has_version}
 

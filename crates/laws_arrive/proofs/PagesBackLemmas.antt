@@ -10,17 +10,17 @@ use Rattle.lc_model.specs.Question.{latest_of}
 use Rattle.lc_model.specs.declared.connection.Connection.{Connection}
 use Rattle.lc_model.specs.declared.page.PageName.{PageName}
 use Rattle.lc_model.specs.declared.query.Query.{Query}
-use Rattle.laws_back.specs.Below.LcVersions.Cuts.{first_of}
-use Rattle.laws_back.specs.Below.LcVersions.Pages.{CutPage, page_for}
+use Rattle.lc_versions.specs.Cuts.{first_of}
+use Rattle.lc_versions.specs.Pages.{CutPage, page_for}
 use Rattle.laws_convoys.specs.Below.PageJson.declared.page.Page.{Page}
-use Rattle.laws_back.specs.Below.LawsPages.Chain.{ArePagesOf, along_next, along_previous, connections_along, names_of}
-use Rattle.laws_back.proofs.BelowLemmas.LawsPages.ChainLemmas.{by_or_not, links_part, next_goes_on, next_stays, previous_stays}
-use Rattle.laws_back.proofs.BelowLemmas.LawsPages.RowLemmas.{found_by_name, is_where_next_begins, late_are_along_next}
-use Rattle.laws_back.proofs.BelowLemmas.LawsPages.StopLemmas.{all_of_rest}
+use Rattle.laws_pages.specs.Chain.{ArePagesOf, along_next, along_previous, connections_along, names_of}
+use Rattle.laws_pages.proofs.ChainLemmas.{by_or_not, links_part, next_goes_on, next_stays, previous_stays}
+use Rattle.laws_pages.proofs.RowLemmas.{found_by_name, is_where_next_begins, late_are_along_next}
+use Rattle.laws_pages.proofs.StopLemmas.{all_of_rest}
 use Rattle.laws_convoys.specs.Below.PublisherSpec.PageAt.{named}
 use Rattle.laws_convoys.specs.Below.LawsClients.Published.{between}
-use Rattle.laws_back.specs.NeededBack.{pages_back}
-use Rattle.laws_back.proofs.BackLemmas.{along-append}
+use Rattle.laws_arrive.specs.NeededBack.{pages_back}
+use Rattle.laws_arrive.proofs.BackLemmas.{along-append}
 use Rattle.laws_convoys.specs.Below.PageClient.declared.fault.PeerFault.TheVariants.{GateWrong, Retreat}
 use Rattle.laws_convoys.specs.Below.PageClient.declared.outcome.Outcome.{Outcome}
 use Rattle.laws_convoys.specs.Below.PageClient.declared.outcome.Outcome.TheVariants.{PeerWrong}

@@ -9,8 +9,8 @@ use Rattle.lc_model.specs.declared.doc.StopsDoc.{StopsDoc}
 use Rattle.lc_model.specs.declared.journey.Journey.{Journey}
 use Rattle.lc_model.specs.declared.page.PageName.{PageName}
 use Rattle.lc_model.specs.declared.query.Query.{Query}
-use Rattle.laws_back.specs.Below.LcVersions.Cuts.{first_of}
-use Rattle.laws_back.specs.Below.LcVersions.Pages.{CutPage, departures_of}
+use Rattle.lc_versions.specs.Cuts.{first_of}
+use Rattle.lc_versions.specs.Pages.{CutPage, departures_of}
 use Rattle.laws_convoys.specs.Below.ConnectionUri.Base.{BaseParts}
 use Rattle.laws_convoys.specs.Below.ConnectionUri.Page.{page_target_of}
 use Rattle.laws_convoys.specs.Below.LcWorld.Link.{IsHonestWith, LinkSeen}
@@ -27,13 +27,13 @@ use Rattle.laws_convoys.specs.Below.PublisherSpec.Reply.{IsReply}
 use Rattle.laws_convoys.specs.Below.PublisherSpec.Response.{IsPageOf}
 use Rattle.laws_convoys.specs.Below.PublisherSpec.Short.{StandsUnder}
 use Rattle.laws_convoys.specs.Below.PublisherSpec.Side.{Side, has_version}
-use Rattle.laws_back.specs.Below.LawsPages.Chain.{ArePagesOf, connections_along, names_of}
+use Rattle.laws_pages.specs.Chain.{ArePagesOf, connections_along, names_of}
 use Rattle.laws_convoys.specs.Below.LawsClients.Answered.{names_at}
 use Rattle.laws_convoys.specs.Below.LawsClients.Published.{IsPublished, Published, between}
 use Rattle.laws_convoys.proofs.BelowLemmas.LawsClients.OwnPageLemmas.{found, own_is_between}
 use Rattle.laws_convoys.proofs.BelowLemmas.LawsClients.PublishedLemmas.{published_stays}
-use Rattle.laws_back.specs.Early.{bound_back}
-use Rattle.laws_back.specs.NeededBack.{IsOverBack, IsTakenBackUntilOver, connections_back, pages_back}
+use Rattle.laws_arrive.specs.Early.{bound_back}
+use Rattle.laws_arrive.specs.NeededBack.{IsOverBack, IsTakenBackUntilOver, connections_back, pages_back}
 use Rattle.laws_convoys.specs.Below.Convoy.Exchange.{Got}
 use Rattle.laws_convoys.specs.Leaves.{LeavesHonest, RoseWithin}
 use Rattle.laws_convoys.specs.Requests.{TellsRequests}

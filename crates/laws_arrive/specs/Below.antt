@@ -1,5 +1,4 @@
 -- The definitions of the crates below, for the crates above.
 pub mod BackClient
-pub mod LawsBack
 pub mod LawsJourneys
 pub mod LcVersions

@@ -6,10 +6,10 @@ use Rattle.lc_model.specs.declared.journey.Journey.{Journey}
 use Rattle.lc_model.specs.declared.page.PageName.{PageName}
 use Rattle.lc_model.specs.declared.query.Query.{Query}
 use Rattle.lc_model.specs.declared.run.Run.{Run}
-use Rattle.laws_back.specs.Below.LcVersions.Pages.{CutPage}
+use Rattle.lc_versions.specs.Pages.{CutPage}
 use Rattle.laws_convoys.specs.Below.PublisherSpec.Side.{Side}
-use Rattle.laws_back.specs.LatestOf.{IsLatestOf}
-use Rattle.laws_back.specs.NeededBack.{AreNeededBack}
+use Rattle.laws_arrive.specs.LatestOf.{IsLatestOf}
+use Rattle.laws_arrive.specs.NeededBack.{AreNeededBack}
 use Rattle.laws_convoys.specs.Below.LawsClients.Answered.{names_at}
 use Rattle.laws_convoys.specs.Below.LawsClients.Published.{AreLiveAt, IsPublished, Published}
 

@@ -4,3 +4,6 @@ pub mod Laws
 pub mod Near
 pub mod Requests
 pub mod Right
+pub mod Early
+pub mod LatestOf
+pub mod NeededBack

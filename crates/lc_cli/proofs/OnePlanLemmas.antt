@@ -2,14 +2,13 @@
 use Rattle.std.proofs.Common.{◌≡◌, ◌+◌, ◌∷◌, ℕ, false, List, [], Some, arith, length, subst}
 use Rattle.std.specs.List.{AllZip}
 use Rattle.cli_ask.specs.Laws.{AreOneEnd}
-use Rattle.cli_inputs.specs.Plan.{SayEvents, SaysEvent}
+use Rattle.cli_inputs.specs.Plan.{SayEvents, SaysEvent, ReadsPlan}
 use Rattle.cli_ask.specs.Below.CliWords.Laws.{OneCommand}
 use Rattle.cli_ask.specs.Below.CliWords.Words.{SaysCommand}
 use Rattle.cli_ask.specs.Below.CliWords.declared.command.Command.{Command}
 use Rattle.cli_ask.specs.Below.CliWords.declared.command.Command.TheVariants as commands
 use Rattle.cli_ask.specs.Below.CliWords.declared.command.Plan.{Plan}
 use Rattle.cli_ask.specs.declared.end.ClientEnd.{ClientEnd}
-use Rattle.cli_inputs.specs.Plan.{ReadsPlan}
 use Rattle.cli_ask.specs.Below.ConnectionUri.Base.{BaseParts}
 use Rattle.cli_plan.specs.OneGrowing.{IsGrowingPlan, NameTheSame, OneGrowingPlan}
 use Rattle.cli_plan.specs.OnePlan.{IsQuietPlan, OnePlan}

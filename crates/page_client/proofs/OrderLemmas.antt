@@ -9,7 +9,7 @@ use Rattle.std.proofs.lemmas.Bool.Decides.{nat_tests}
 use Rattle.std.proofs.lemmas.Cmp.{ranked}
 use Rattle.std.proofs.lemmas.List.Elements.{All-append, All-cons, All-head, All-nil, All-tail, All-weaker}
 use Rattle.std.proofs.lemmas.List.Kept.{AllPairs-cons}
-use Rattle.lc_model.specs.Connection.{InDepartureOrder, departure_cmp}
+use Rattle.lc_model.specs.Connection.{InDepartureOrder, departure_cmp, last_departure}
 use Rattle.lc_model.specs.Journey.{arrives_at}
 use Rattle.lc_model.specs.Leg.{IsListBest}
 use Rattle.lc_model.specs.Question.{latest_of}
@@ -19,7 +19,6 @@ use Rattle.lc_model.specs.declared.doc.StopsDoc.{StopsDoc}
 use Rattle.lc_model.specs.declared.page.PageName.{PageName}
 use Rattle.lc_model.specs.declared.query.Query.{Query}
 use Rattle.csa_scan.specs.Done.{IsDone}
-use Rattle.lc_model.specs.Connection.{last_departure}
 use Rattle.page_client.specs.Page.{begins_at, is_on_from}
 use Rattle.lc_model.proofs.ConnectionLemmas.{departs_by}
 

@@ -6,7 +6,7 @@ use Rattle.std.specs.Coded.{le_prop}
 use Rattle.std.specs.List.{All}
 use Rattle.std.proofs.lemmas.Bool.Decides.{nat_tests}
 use Rattle.std.proofs.lemmas.List.Elements.{All-append, All-weaker}
-use Rattle.lc_model.specs.Connection.{InDepartureOrder}
+use Rattle.lc_model.specs.Connection.{InDepartureOrder, last_departure}
 use Rattle.lc_model.specs.Leg.{IsListBest}
 use Rattle.lc_model.specs.Question.{latest_of}
 use Rattle.lc_model.specs.declared.connection.Connection.{Connection}
@@ -20,7 +20,6 @@ use Rattle.page_json.specs.Valid.{IsValidPage}
 use Rattle.page_json.specs.declared.page.Page.{Page}
 use Rattle.page_client.specs.Client.{AfterPage, GoesOnBy, StandsFor as ClientStandsFor, TakesPage, shown}
 use Rattle.page_client.specs.Course.{Follows, HasScanned, IsOver, IsReading, IsSound, TakesOn}
-use Rattle.lc_model.specs.Connection.{last_departure}
 use Rattle.page_client.specs.Page.{advances, begins_at, is_on_from}
 use Rattle.page_client.specs.Shown.{answered, ended, is_early, is_late, left_at, onward, pages_left, want_of, wrong_gate}
 use Rattle.page_client.specs.declared.client.Client.{Client}

@@ -1,7 +1,7 @@
 -- The pages that a client took, one after the other, and what it does after each.
 use Rattle.std.specs.Prelude.{◌≡◌, ◌≢◌, ℕ, ◌<◌, ◌⊎◌, List, ◌++◌, Option, Some, None}
 use Rattle.std.specs.List.{All}
-use Rattle.lc_model.specs.Connection.{InDepartureOrder}
+use Rattle.lc_model.specs.Connection.{InDepartureOrder, last_departure}
 use Rattle.lc_model.specs.Leg.{IsListBest}
 use Rattle.lc_model.specs.declared.connection.Connection.{Connection}
 use Rattle.lc_model.specs.declared.doc.StopsDoc.{StopsDoc}
@@ -11,7 +11,6 @@ use Rattle.csa_scan.specs.Done.{IsDone}
 use Rattle.csa_scan.specs.StandsFor.{IsBestChain, StandsFor}
 use Rattle.csa_scan.specs.declared.scan.Scan.{Scan}
 use Rattle.page_json.specs.declared.page.Page.{Page}
-use Rattle.lc_model.specs.Connection.{last_departure}
 use Rattle.page_client.specs.Shown.{HasHorizon}
 use Rattle.page_client.specs.declared.phase.Phase.{Phase}
 use Rattle.page_client.specs.declared.phase.Phase.TheVariants as phases

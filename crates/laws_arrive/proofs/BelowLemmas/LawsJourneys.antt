@@ -1,2 +1,2 @@
 -- What the crates above name of `laws_journeys`.
-pub use Rattle.laws_back.proofs.BelowLemmas.LawsJourneys.JourneysLemmas
+pub use Rattle.laws_journeys.proofs.JourneysLemmas

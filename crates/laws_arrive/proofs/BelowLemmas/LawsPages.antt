@@ -1,2 +1,2 @@
 -- What the crates above name of `laws_pages`.
-pub use Rattle.laws_back.proofs.BelowLemmas.LawsPages.LegLemmas
+pub use Rattle.laws_pages.proofs.LegLemmas

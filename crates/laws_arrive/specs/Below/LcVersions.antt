@@ -1,2 +1,2 @@
 -- What the crates above name of `lc_versions`.
-pub use Rattle.laws_back.specs.Below.LcVersions.Pages
+pub use Rattle.lc_versions.specs.Pages

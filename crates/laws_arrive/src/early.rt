@@ -1,4 +1,4 @@
-ghost use Rattle.laws_back.specs.Early.{EarlierMayGo, LaterMayGo};
+ghost use Rattle.laws_arrive.specs.Early.{EarlierMayGo, LaterMayGo};
 
 /// Connections that depart before a moment at or before the latest departure change nothing of it, and where there is no chain those
 /// that depart before the horizon give none. Nor do connections that depart after the moment of arrival.

@@ -12,9 +12,9 @@ use Rattle.lc_versions.specs.Pages.{CutPage}
 use Rattle.laws_pages.specs.Chain.{ArePagesOf}
 use Rattle.back_scan.specs.Latest.{IsListLatest}
 use Rattle.back_scan.proofs.OneLatestLemmas.{latest_departures_are_one}
-use Rattle.laws_back.specs.Early.{bound_back}
-use Rattle.laws_back.specs.NeededBack.{IsOverBack, IsTakenBackUntilOver, TakesTheNeededBack, connections_back, down_to_bound, needed_pages_back, pages_back}
-use Rattle.laws_back.proofs.BackLemmas.{all_pages_back, pages_back_may_be_all}
+use Rattle.laws_arrive.specs.Early.{bound_back}
+use Rattle.laws_arrive.specs.NeededBack.{IsOverBack, IsTakenBackUntilOver, TakesTheNeededBack, connections_back, down_to_bound, needed_pages_back, pages_back}
+use Rattle.laws_arrive.proofs.BackLemmas.{all_pages_back, pages_back_may_be_all}
 
 by_bound : (name bound : ℕ) → name ≤ bound → nat_le name bound ≡ true
 by_bound name bound h = grind (arith, nat_tests)

@@ -1,4 +1,4 @@
-ghost use Rattle.laws_back.specs.NeededBack.{OneListOfNeededBack, PagesBackMayBeAll, TakesTheNeededBack};
+ghost use Rattle.laws_arrive.specs.NeededBack.{OneListOfNeededBack, PagesBackMayBeAll, TakesTheNeededBack};
 
 /// The pages that a question for the latest departure needs are one list.
 pub fn one_list_of_needed_back()

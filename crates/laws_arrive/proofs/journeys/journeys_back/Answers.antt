@@ -2,9 +2,9 @@ use Rattle.std.proofs.Common.{subst, sym, ◌∙◌}
 use Rattle.lc_model.specs.Connection.{NoneArrivesEarly}
 use Rattle.lc_model.specs.Leg.{IsLegOf, in_time}
 use Rattle.lc_model.specs.Ride.{IsRideAt}
-use Rattle.laws_back.proofs.JourneyLemmas.{latest_journeys, latest_over}
-use Rattle.laws_back.proofs.TakenLemmas.{takes_the_needed_back}
-use Rattle.laws_back.proofs.journeys.journeys_back.Goals as goal
+use Rattle.laws_arrive.proofs.JourneyLemmas.{latest_journeys, latest_over}
+use Rattle.laws_arrive.proofs.TakenLemmas.{takes_the_needed_back}
+use Rattle.laws_arrive.proofs.journeys.journeys_back.Goals as goal
 
 pub returns : goal.returns
 returns c =

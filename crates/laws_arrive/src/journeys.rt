@@ -8,8 +8,8 @@ ghost use Rattle.lc_model.specs.declared.run.Run.{Run as RunValue};
 ghost use Rattle.lc_versions.specs.Pages.{CutPage};
 ghost use Rattle.laws_pages.specs.Chain.{ArePagesOf};
 ghost use Rattle.back_scan.specs.StandsFor.{IsLatestChain};
-ghost use Rattle.laws_back.specs.LatestOf.{IsLatestOf};
-ghost use Rattle.laws_back.specs.NeededBack.{AreNeededBack, IsTakenBackUntilOver, connections_back, pages_back};
+ghost use Rattle.laws_arrive.specs.LatestOf.{IsLatestOf};
+ghost use Rattle.laws_arrive.specs.NeededBack.{AreNeededBack, IsTakenBackUntilOver, connections_back, pages_back};
 
 use laws_journeys::chains_are_journeys;
 use lc_model::{Connections, Query, Runs, StopsDoc};

@@ -11,7 +11,7 @@ use Rattle.lc_model.specs.declared.run.Run.{Run}
 use Rattle.lc_versions.specs.Pages.{CutPage, page_for}
 use Rattle.laws_pages.specs.Chain.{ArePagesOf, along_previous, connections_along, names_of}
 use Rattle.back_scan.specs.Latest.{IsLatestDeparture, IsListLatest}
-use Rattle.laws_back.specs.Early.{bound_back}
+use Rattle.laws_arrive.specs.Early.{bound_back}
 
 -- the pages from the one for the last second at which a journey may arrive back: the nearest comes first
 abbrev pub pages_back : CutPage → List CutPage → Query → List CutPage

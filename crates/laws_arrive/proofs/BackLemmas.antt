@@ -21,8 +21,8 @@ use Rattle.laws_pages.proofs.RowLemmas.{IsRow, row}
 use Rattle.laws_pages.proofs.StopLemmas.{all_of_rest}
 use Rattle.back_scan.specs.Latest.{IsListLatest}
 use Rattle.back_scan.proofs.OneLatestLemmas.{latest_departures_are_one}
-use Rattle.laws_back.specs.NeededBack.{OneListOfNeededBack, PagesBackMayBeAll, connections_back, needed_pages_back, pages_back}
-use Rattle.laws_back.proofs.EarlyLemmas.{earlier_may_go, later_may_go}
+use Rattle.laws_arrive.specs.NeededBack.{OneListOfNeededBack, PagesBackMayBeAll, connections_back, needed_pages_back, pages_back}
+use Rattle.laws_arrive.proofs.EarlyLemmas.{earlier_may_go, later_may_go}
 
 pub one_list_of_needed_back : OneListOfNeededBack
 one_list_of_needed_back runs query doc first rest a b h k =

@@ -20,7 +20,7 @@ use Rattle.laws_pages.proofs.FilterLemmas.{filter_none}
 use Rattle.laws_pages.proofs.LegLemmas.{in_time_forward, in_time_in_order, in_time_parts, leg_goes_forward}
 use Rattle.laws_pages.proofs.PartJourneyLemmas.{chain_of_rest, leg_stands_behind}
 use Rattle.back_scan.specs.Latest.{IsLatestDeparture, IsListLatest}
-use Rattle.laws_back.specs.Early.{EarlierMayGo, LaterMayGo, bound_back}
+use Rattle.laws_arrive.specs.Early.{EarlierMayGo, LaterMayGo, bound_back}
 
 -- rides after one that does not depart early are of another kind where those are that do not depart early
 goes_late : (A B : Ride → Type 0) (doc : StopsDoc) (moment : ℕ) (ride : Ride) (rest : List Ride) → ((r : Ride) → A r → r.dep ≤ r.arr) → ((r : Ride) → A r → moment ≤ r.dep → B r) → GoesOn A doc ride rest → moment ≤ ride.arr → GoesOn B doc ride rest

@@ -18,10 +18,10 @@ use Rattle.laws_pages.proofs.RowLemmas.{row}
 use Rattle.back_scan.specs.Latest.{IsLatestDeparture, IsListLatest}
 use Rattle.back_scan.specs.StandsFor.{IsLatestChain}
 use Rattle.back_scan.proofs.OneLatestLemmas.{latest_departures_are_one}
-use Rattle.laws_back.specs.Early.{bound_back}
-use Rattle.laws_back.specs.LatestOf.{IsLatestOf}
-use Rattle.laws_back.specs.NeededBack.{IsOverBack, IsTakenBackUntilOver, connections_back, pages_back}
-use Rattle.laws_back.proofs.BackLemmas.{all_pages_back, along-append, pages_back_may_be_all}
+use Rattle.laws_arrive.specs.Early.{bound_back}
+use Rattle.laws_arrive.specs.LatestOf.{IsLatestOf}
+use Rattle.laws_arrive.specs.NeededBack.{IsOverBack, IsTakenBackUntilOver, connections_back, pages_back}
+use Rattle.laws_arrive.proofs.BackLemmas.{all_pages_back, along-append, pages_back_may_be_all}
 
 -- what was taken is amid all connections
 record IsAmid (list middle : List Connection) : Type 0 where

@@ -1,2 +1,0 @@
--- What the crates above name of `laws_back`.
-pub use Rattle.laws_back.specs.NeededBack

@@ -1,5 +1,0 @@
-pub mod BelowLemmas
-pub mod EarlyLemmas
-pub mod BackLemmas
-pub mod TakenLemmas
-pub mod JourneyLemmas

@@ -1,4 +1,0 @@
-pub mod Below
-pub mod Early
-pub mod LatestOf
-pub mod NeededBack
