@@ -12,7 +12,7 @@ use Rattle.cli_ask.specs.Below.CliWords.declared.command.Publishing.{Publishing}
 use Rattle.cli_ask.specs.Below.ConnectionUri.Base.{BaseParts}
 use Rattle.cli_ask.specs.Below.Fragmenter.Cutting.{chosen_cuts}
 use Rattle.cli_ask.specs.Below.Fragmenter.declared.cutting.Cutting.{Cutting}
-use Rattle.laws_arrive_replies.specs.Asked.{HasAskedLatest}
+use Rattle.laws_arrive.specs.Asked.{HasAskedLatest}
 use Rattle.lc_io.specs.declared.file.File.{File}
 use Rattle.cli_ask.specs.Below.LcLinks.HomeLink.{HomeLinkState}
 use Rattle.cli_ask.specs.Below.LcWorld.Link.{IsQuietWith, LinkSeen}

@@ -15,7 +15,7 @@ use Rattle.laws_arrive.specs.Latest.{LatestAt, NeededBackAt, departure_of}
 use Rattle.laws_arrive.specs.Laws.{OneDepartureAt, OneListOfNeededBackAt}
 use Rattle.laws_arrive.specs.Requests.{requests_of}
 use Rattle.laws_arrive.specs.Right.{EndsAt, HasLatest, IsRefused}
-use Rattle.laws_arrive_replies.specs.Laws.{SayOneLatest}
+use Rattle.laws_arrive.specs.ReplyLaws.{SayOneLatest}
 use Rattle.cli_ask.specs.Below.LawsClients.Published.{IsPublished, Published}
 use Rattle.cli_ask.specs.Below.LawsSides.Stated.{version_at}
 use Rattle.lc_io.specs.Counts.{Rose}

@@ -14,8 +14,8 @@ use Rattle.cli_arrive.specs.Client.{EndsRightLatest, client_of}
 use Rattle.cli_ask.specs.Below.ConnectionUri.Base.{BaseParts}
 use Rattle.cli_ask.specs.Below.Convoy.Exchange.{Got, bytes_of, result_of}
 use Rattle.laws_arrive.specs.Right.{EndsAt, IsNamed, IsRight}
-use Rattle.laws_arrive_replies.specs.Asked.{HasAskedLatest}
-use Rattle.laws_arrive_replies.specs.Ends.{EndsBackBy}
+use Rattle.laws_arrive.specs.Asked.{HasAskedLatest}
+use Rattle.laws_arrive.specs.Ends.{EndsBackBy}
 use Rattle.cli_ask.proofs.BelowLemmas.LawsConvoys.HonestLemmas.{is_get}
 use Rattle.cli_ask.proofs.BelowLemmas.LawsConvoys.RepliesLemmas.{Replied, one_more, recorded_no_more, replied_by, tells_replies_then}
 use Rattle.cli_ask.specs.Below.LawsConvoys.Replies.{IsRepliedBy}

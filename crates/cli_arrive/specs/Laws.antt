@@ -8,7 +8,7 @@ use Rattle.cli_ask.specs.Laws.{IsFair}
 use Rattle.cli_ask.specs.declared.end.ClientEnd.{ClientEnd}
 use Rattle.cli_ask.specs.Below.CliWords.declared.command.Publishing.{Publishing}
 use Rattle.laws_arrive.specs.Requests.{AreWanted}
-use Rattle.laws_arrive_replies.specs.Laws.{SayOneLatest}
+use Rattle.laws_arrive.specs.ReplyLaws.{SayOneLatest}
 use Rattle.lc_io.specs.declared.file.File.{File}
 use Rattle.lc_model.specs.declared.page.PageName.{PageName}
 use Rattle.cli_ask.specs.Below.LcWorld.Link.{LinkSeen}

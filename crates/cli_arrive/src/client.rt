@@ -1,7 +1,7 @@
 ghost use Rattle.std.specs.Prelude.{◌≡◌, IfOk};
 ghost use Rattle.cli_arrive.specs.Client.{EndsRightLatest, client_of};
 ghost use Rattle.cli_ask.specs.Block.{IsPrintable};
-ghost use Rattle.laws_arrive_replies.specs.Asked.{HasAskedLatest};
+ghost use Rattle.laws_arrive.specs.Asked.{HasAskedLatest};
 ghost use Rattle.cli_ask.specs.Below.LcWorld.GoneOn.{IsLeftByGets};
 ghost use Rattle.cli_ask.specs.Below.LcWorld.Link.{IsQuietWith};
 ghost use Rattle.cli_ask.specs.Below.PublisherSpec.Side.{Side};
@@ -9,8 +9,7 @@ ghost use Rattle.cli_ask.specs.Below.PublisherSpec.Side.{Side};
 use cli_ask::ClientEnd;
 use cli_ask::below::{ArriveQuery, Base, Link};
 use laws_arrive::below::{ArriveEnd, arrive};
-use laws_arrive::latest_ends_right;
-use laws_arrive_replies::latest_by_its_replies;
+use laws_arrive::{latest_by_its_replies, latest_ends_right};
 use lc_model::NoMemory;
 use std::alloc::Global;
 

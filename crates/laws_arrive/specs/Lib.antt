@@ -1,9 +1,13 @@
+pub mod Asked
+pub mod Back
 pub mod Below
+pub mod Early
+pub mod Ends
 pub mod Latest
+pub mod LatestOf
 pub mod Laws
 pub mod Near
+pub mod NeededBack
+pub mod ReplyLaws
 pub mod Requests
 pub mod Right
-pub mod Early
-pub mod LatestOf
-pub mod NeededBack

@@ -7,7 +7,7 @@ use Rattle.cli_arrive.specs.Laws.{OneLatestOutput}
 use Rattle.cli_ask.specs.Laws.{AreOneEnd, OneOutput}
 use Rattle.cli_ask.specs.declared.end.ClientEnd.{ClientEnd}
 use Rattle.cli_fewest.specs.Laws.{OneFewestOutput}
-use Rattle.cli_arrive.specs.Below.LawsArriveReplies.Laws.{SayOneLatest}
+use Rattle.cli_arrive.specs.Below.LawsArrive.ReplyLaws.{SayOneLatest}
 use Rattle.cli_ask.specs.Below.LawsReplies.Laws.{SayTheSame}
 use Rattle.cli_ask.specs.Below.CliWords.Laws.{OneCommand}
 use Rattle.cli_ask.specs.Below.CliWords.Words.{SaysCommand}

@@ -10,7 +10,7 @@ use Rattle.back_client.specs.Arrives.{Arrives}
 use Rattle.back_client.specs.declared.outcome.ArriveEnd.{ArriveEnd}
 use Rattle.laws_replies.specs.Laws.{AreAroundLast, replies_of}
 use Rattle.laws_replies.specs.Made.{Made}
-use Rattle.laws_arrive_replies.specs.Asked.{HasAskedLatest}
+use Rattle.laws_arrive.specs.Asked.{HasAskedLatest}
 
 -- whatever the link is, a question for the latest departure ends by the replies that it got
 abbrev pub LatestByItsReplies : {X : Type 0} → (X → LinkSeen) → Type 0

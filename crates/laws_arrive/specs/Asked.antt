@@ -6,8 +6,8 @@ use Rattle.back_client.specs.Below.PageClient.declared.outcome.Outcome.{Outcome}
 use Rattle.back_client.specs.Below.BackScan.declared.arrive_query.ArriveQuery.{ArriveQuery}
 use Rattle.laws_replies.specs.Made.{Made, TellsAll}
 use Rattle.laws_replies.specs.Run.{IsCounted}
-use Rattle.laws_arrive_replies.specs.Back.{gate_query}
-use Rattle.laws_arrive_replies.specs.Ends.{EndsBackBy}
+use Rattle.laws_arrive.specs.Back.{gate_query}
+use Rattle.laws_arrive.specs.Ends.{EndsBackBy}
 
 -- The question was asked over the link, and ended like this: with this version, after so many exchanges, with this outcome. The link
 -- recorded the exchanges, where it records any. A clear link is clear still. Its count of faults has not fallen, and went along them.

@@ -47,11 +47,11 @@ use Rattle.laws_replies.specs.Made.{Made, TellsAll, reply_to}
 use Rattle.laws_replies.specs.Met.{CountAlong, HasFailedBetween, Met, failures_in}
 use Rattle.laws_replies.proofs.MadeLemmas.{tells_more, tells_none}
 use Rattle.laws_replies.proofs.MetLemmas.{along_more}
-use Rattle.laws_arrive_replies.specs.Asked.{HasAskedLatest}
-use Rattle.laws_arrive_replies.specs.Back.{IsReadingBack, WantsBackAfter, connections_back, gate_query, place_back}
-use Rattle.laws_arrive_replies.specs.Ends.{EndsBackBy}
-use Rattle.laws_arrive_replies.specs.Laws.{LatestByItsReplies}
-use Rattle.laws_arrive_replies.proofs.BackLemmas.{IsNotBack, IsSentOff, Judged, connections_more, goes_back_at_first, goes_back_more, judged, link_more, pass_more, place_more, reads_more, sent_first}
+use Rattle.laws_arrive.specs.Asked.{HasAskedLatest}
+use Rattle.laws_arrive.specs.Back.{IsReadingBack, WantsBackAfter, connections_back, gate_query, place_back}
+use Rattle.laws_arrive.specs.Ends.{EndsBackBy}
+use Rattle.laws_arrive.specs.ReplyLaws.{LatestByItsReplies}
+use Rattle.laws_arrive.proofs.ReadBackLemmas.{IsNotBack, IsSentOff, Judged, connections_more, goes_back_at_first, goes_back_more, judged, link_more, pass_more, place_more, reads_more, sent_first}
 
 -- what was made, exchange by exchange
 abbrev pub made_in : List Met → List Made

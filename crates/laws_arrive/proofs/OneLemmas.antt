@@ -35,9 +35,9 @@ use Rattle.laws_replies.specs.Ends.{FailsTest, IsRefusedAtOnce}
 use Rattle.laws_replies.specs.Laws.{replies_of}
 use Rattle.laws_replies.specs.Made.{Made, reply_to}
 use Rattle.laws_replies.proofs.CourseLemmas.{not_behind, stands_last}
-use Rattle.laws_arrive_replies.specs.Back.{IsReadingBack, IsSentRight, PassesTests, ReadsBack, WantsBackAfter, connections_back, gate_query, link_back, place_back}
-use Rattle.laws_arrive_replies.specs.Ends.{EndsBackBy, HasAnsweredLatest}
-use Rattle.laws_arrive_replies.specs.Laws.{OneLatestByReplies, SayOneLatest}
+use Rattle.laws_arrive.specs.Back.{IsReadingBack, IsSentRight, PassesTests, ReadsBack, WantsBackAfter, connections_back, gate_query, link_back, place_back}
+use Rattle.laws_arrive.specs.Ends.{EndsBackBy, HasAnsweredLatest}
+use Rattle.laws_arrive.specs.ReplyLaws.{OneLatestByReplies, SayOneLatest}
 
 -- an exchange of a want is known by its reply
 one_got : (want : Want) (m n : Made) (a b : List ℕ) → m ≡ reply_to want a → n ≡ reply_to want b → m.got ≡ n.got → (a ≡ b) × (m ≡ n)

@@ -1,4 +1,4 @@
-ghost use Rattle.laws_arrive_replies.specs.Laws.{LatestByItsReplies, LatestFaultsAreAroundLast, NoLatestFaultIsShrunken, OneLatestByReplies};
+ghost use Rattle.laws_arrive.specs.ReplyLaws.{LatestByItsReplies, LatestFaultsAreAroundLast, NoLatestFaultIsShrunken, OneLatestByReplies};
 
 use back_client::below::Link;
 

@@ -6,7 +6,7 @@ use Rattle.lc_io.specs.Counts.{Rose}
 use Rattle.back_client.specs.Below.LcWorld.Link.{LinkSeen}
 use Rattle.laws_replies.specs.Made.{Made}
 use Rattle.laws_replies.specs.Met.{CountAlong, Met}
-use Rattle.laws_arrive_replies.specs.Laws.{LatestFaultsAreAroundLast, NoLatestFaultIsShrunken}
+use Rattle.laws_arrive.specs.ReplyLaws.{LatestFaultsAreAroundLast, NoLatestFaultIsShrunken}
 
 -- before the only one the count is that at first
 first_low : (all : List Met) (faults now place : ℕ) (one : Met) → length all ≡ 1 → CountAlong faults now all → slice_get all place ≡ Some one → one.low ≡ faults

@@ -17,7 +17,7 @@ use Rattle.back_client.specs.declared.page.Place.TheVariants.{After, First}
 use Rattle.laws_replies.specs.Course.{Reads, connections_in}
 use Rattle.laws_replies.specs.Made.{Made}
 use Rattle.laws_replies.proofs.CourseLemmas.{not_behind, stands_last}
-use Rattle.laws_arrive_replies.specs.Back.{AllPassTests, GoesBackAfterEach, IsSentRight, PassesTests, ReadsBack, connections_back, link_back, place_back}
+use Rattle.laws_arrive.specs.Back.{AllPassTests, GoesBackAfterEach, IsSentRight, PassesTests, ReadsBack, connections_back, link_back, place_back}
 
 -- the connections, with one page more
 pub connections_more : (pages : List Page) (page : Page) → page.list ++ connections_back pages ≡ connections_back (pages ++ page ∷ [])

@@ -1,4 +1,0 @@
-mod AroundLemmas
-mod BackLemmas
-mod EndLemmas
-mod OneLemmas

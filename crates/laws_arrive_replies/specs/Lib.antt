@@ -1,4 +1,0 @@
-pub mod Asked
-pub mod Back
-pub mod Ends
-pub mod Laws
