@@ -16,13 +16,13 @@ use Rattle.cli_ask.proofs.BelowLemmas.LawsConvoys.RepliesLemmas.{Replied, exchan
 use Rattle.cli_ask.specs.Below.LawsConvoys.OneClient.{version_of}
 use Rattle.cli_ask.specs.Below.LawsConvoys.Replies.{IsRepliedBy, TellsReplies}
 use Rattle.cli_ask.specs.Below.LawsConvoys.Requests.{TellsAsked}
-use Rattle.laws_rounds.specs.Below.LawsFewest.Version.{FewestAt, FewestOfNeededAt}
+use Rattle.laws_rounds.specs.Version.{FewestAt, FewestOfNeededAt}
 use Rattle.cli_ask.specs.Below.LawsReplies.Ends.{EndsBy}
 use Rattle.cli_ask.specs.Below.LawsReplies.Made.{Made}
 use Rattle.laws_rounds.proofs.CourseLemmas.{AskedJust, AskedOneMore, SoFar, none_so_far, so_far}
 use Rattle.laws_rounds.proofs.EndLemmas.{fewest_ends_right}
 use Rattle.laws_rounds.specs.Right.{EndsAt, IsNamed, IsNamedByGate, IsRight}
-use Rattle.laws_rounds_replies.specs.Asked.{HasAskedFewest}
+use Rattle.laws_rounds.specs.Asked.{HasAskedFewest}
 use Rattle.cli_ask.specs.Below.LawsSides.Stated.{version_at}
 use Rattle.lc_model.specs.declared.answer.Answer.TheVariants as answers
 use Rattle.lc_model.specs.declared.journey.Journey.{Journey}

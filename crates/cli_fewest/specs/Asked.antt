@@ -9,7 +9,7 @@ use Rattle.cli_ask.specs.Below.CliWords.declared.command.Publishing.{Publishing}
 use Rattle.cli_ask.specs.Below.ConnectionUri.Base.{BaseParts}
 use Rattle.cli_ask.specs.Below.Fragmenter.Cutting.{chosen_cuts}
 use Rattle.cli_ask.specs.Below.Fragmenter.declared.cutting.Cutting.{Cutting}
-use Rattle.laws_rounds_replies.specs.Asked.{HasAskedFewest, HasFewestRead}
+use Rattle.laws_rounds.specs.Asked.{HasAskedFewest, HasFewestRead}
 use Rattle.lc_io.specs.declared.file.File.{File}
 use Rattle.lc_model.specs.declared.query.Query.{Query}
 use Rattle.cli_ask.specs.Below.LcWorld.Link.{LinkSeen}

@@ -1,2 +1,2 @@
 -- The definitions of the crates below, for the crates above.
-pub mod LawsFewest
+pub mod LawsRounds

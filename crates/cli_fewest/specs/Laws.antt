@@ -4,7 +4,7 @@ use Rattle.cli_ask.specs.Laws.{IsFair, PrintOneClient}
 use Rattle.cli_ask.specs.declared.end.ClientEnd.{ClientEnd}
 use Rattle.cli_fewest.specs.Asked.{IsAskedFewest}
 use Rattle.cli_ask.specs.Below.CliWords.declared.command.Publishing.{Publishing}
-use Rattle.laws_rounds_replies.specs.Laws.{HaveAsManyRides}
+use Rattle.laws_rounds.specs.ReplyLaws.{HaveAsManyRides}
 use Rattle.lc_io.specs.declared.file.File.{File}
 use Rattle.lc_model.specs.declared.query.Query.{Query}
 use Rattle.cli_ask.specs.Below.LcWorld.Link.{LinkSeen}

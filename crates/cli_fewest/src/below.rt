@@ -1,3 +1,3 @@
 //! What the crates above name of the crates below.
 
-pub use laws_rounds::below::fewest_at_version;
+pub use laws_rounds::fewest_at_version;

@@ -1,15 +1,15 @@
 ghost use Rattle.std.specs.Prelude.{◌≡◌, IfOk};
 ghost use Rattle.cli_ask.specs.Block.{IsPrintable};
 ghost use Rattle.cli_fewest.specs.Client.{EndsRightFewest, client_of};
-ghost use Rattle.laws_rounds_replies.specs.Asked.{HasAskedFewest};
+ghost use Rattle.laws_rounds.specs.Asked.{HasAskedFewest};
 ghost use Rattle.cli_ask.specs.Below.LcWorld.GoneOn.{IsLeftByGets};
 ghost use Rattle.cli_ask.specs.Below.LcWorld.Link.{IsQuietWith};
 ghost use Rattle.cli_ask.specs.Below.PublisherSpec.Side.{Side};
 
 use cli_ask::ClientEnd;
 use cli_ask::below::{Base, Link, steps_keep_agreement};
-use laws_rounds::below::{FewestEnd, fewest, fewest_at_version};
-use laws_rounds_replies::fewest_by_its_replies;
+use laws_rounds::below::{FewestEnd, fewest};
+use laws_rounds::{fewest_at_version, fewest_by_its_replies};
 use lc_model::{NoMemory, Query};
 use std::alloc::Global;
 

@@ -2,7 +2,7 @@ ghost use Rattle.cli_fewest.specs.Laws.{OneFewestOutput};
 
 use cli_ask::below::{Link, one_outcome};
 use cli_ask::one_output;
-use laws_rounds::below::fewest_at_version;
+use laws_rounds::fewest_at_version;
 
 /// What is printed of a question for the fewest rides is one, but for the way of the journey, where the replies come as the publisher gave
 /// them. Journeys that may take each other's place have as many rides.

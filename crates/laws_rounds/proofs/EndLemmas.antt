@@ -28,8 +28,8 @@ use Rattle.laws_convoys.specs.Below.LawsClients.Wants.{AreWants, HasEnds, wants_
 use Rattle.laws_convoys.proofs.BelowLemmas.LawsClients.WantsLemmas.{ends_with_an_answer, faults_cut_short, no_reply_fails_a_test, refusals_are_deserved}
 use Rattle.laws_convoys.specs.Leaves.{HasFault, RoseWithin}
 use Rattle.laws_convoys.specs.Requests.{TellsAsked}
-use Rattle.laws_fewest.specs.Below.ChangeRounds.Fewest.{IsFewestChain}
-use Rattle.laws_fewest.specs.Version.{FewestAt, FewestOfNeededAt}
+use Rattle.change_rounds.specs.Fewest.{IsFewestChain}
+use Rattle.laws_rounds.specs.Version.{FewestAt, FewestOfNeededAt}
 use Rattle.rounds_client.specs.Course.{AnswersFewest, Point}
 use Rattle.rounds_client.specs.Given.{connections_of_pages}
 use Rattle.rounds_client.specs.declared.ending.FewestEnd.{FewestEnd}

@@ -1,7 +1,14 @@
+mod AnswerLemmas
 pub mod CourseLemmas
 pub mod EndLemmas
-pub mod ExchangeLemmas
-pub mod GivenLemmas
-pub mod NamedLemmas
-pub mod NearLemmas
-pub mod RecordedLemmas
+mod ExchangeLemmas
+mod GivenLemmas
+mod NamedLemmas
+mod NearLemmas
+mod NeededLemmas
+mod OneLemmas
+mod PartLemmas
+mod ReadLemmas
+mod RecordedLemmas
+mod ReplyCourseLemmas
+mod VersionLemmas

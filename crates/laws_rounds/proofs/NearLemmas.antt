@@ -13,8 +13,8 @@ use Rattle.laws_convoys.specs.Below.LawsSides.Stated.{version_at}
 use Rattle.laws_convoys.specs.Below.LawsClients.Answered.{NeededAt}
 use Rattle.laws_convoys.specs.Below.LawsClients.Laws.{OneListOfNeededAt}
 use Rattle.laws_convoys.specs.Below.LawsClients.Wants.{wants_of}
-use Rattle.laws_fewest.specs.Below.ChangeRounds.Laws.{AreAlike}
-use Rattle.laws_fewest.specs.Version.{AlikeAt, FewestAt}
+use Rattle.change_rounds.specs.Laws.{AreAlike}
+use Rattle.laws_rounds.specs.Version.{AlikeAt, FewestAt}
 use Rattle.rounds_client.specs.declared.ending.FewestEnd.{FewestEnd}
 use Rattle.laws_rounds.specs.Laws.{OneFewestEnd}
 use Rattle.laws_rounds.specs.Near.{NotAnotherVersion, NotNone, NotOneExchangeMore, NotOneRideFewer, NotOneRideMore}

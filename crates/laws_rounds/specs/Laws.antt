@@ -9,7 +9,7 @@ use Rattle.laws_convoys.specs.Below.PageClient.Shown.{IsRefusal, answered}
 use Rattle.laws_convoys.specs.Below.PublisherSpec.Side.{Side}
 use Rattle.laws_convoys.specs.Below.LawsSides.Stated.{version_at}
 use Rattle.laws_convoys.specs.Below.LawsClients.Wants.{HasEnds}
-use Rattle.laws_fewest.specs.Below.ChangeRounds.Laws.{AreAlike}
+use Rattle.change_rounds.specs.Laws.{AreAlike}
 use Rattle.rounds_client.specs.Course.{Point}
 use Rattle.rounds_client.specs.End.{EndsSo}
 use Rattle.rounds_client.specs.declared.ending.FewestEnd.{FewestEnd}

@@ -1,4 +1,8 @@
+pub mod Asked
 pub mod Below
 pub mod Laws
 pub mod Near
+pub mod Needed
+pub mod ReplyLaws
 pub mod Right
+pub mod Version

@@ -19,7 +19,7 @@ use Rattle.laws_convoys.specs.Below.LawsClients.Answered.{NeededAt}
 use Rattle.laws_convoys.specs.Below.LawsClients.Wants.{AreWants, HasEnds, wants_of}
 use Rattle.laws_convoys.specs.Leaves.{LeavesHonest, RoseWithin}
 use Rattle.laws_convoys.specs.Requests.{TellsAsked}
-use Rattle.laws_fewest.specs.Version.{FewestAt}
+use Rattle.laws_rounds.specs.Version.{FewestAt}
 use Rattle.rounds_client.specs.declared.ending.FewestEnd.{FewestEnd}
 
 -- The version is the one that the known moment means at the side which the exchange with the time gate left. Up to there nothing else was

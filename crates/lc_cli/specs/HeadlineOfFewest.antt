@@ -7,7 +7,7 @@ use Rattle.cli_ask.specs.Below.CliWords.Words.{SaysCommand}
 use Rattle.cli_ask.specs.Below.CliWords.declared.command.Command.TheVariants as commands
 use Rattle.cli_ask.specs.Below.CliWords.declared.command.Fewest.{Fewest}
 use Rattle.cli_ask.specs.Below.LawsClients.Answered.{NeededAt}
-use Rattle.cli_fewest.specs.Below.LawsFewest.Version.{FewestAt}
+use Rattle.cli_fewest.specs.Below.LawsRounds.Version.{FewestAt}
 use Rattle.lc_io.specs.declared.file.File.{File}
 use Rattle.lc_model.specs.declared.journey.Journey.{Journey}
 use Rattle.lc_model.specs.declared.page.PageName.{PageName}

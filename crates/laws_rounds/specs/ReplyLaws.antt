@@ -8,7 +8,7 @@ use Rattle.rounds_client.specs.Below.PageClient.declared.outcome.Outcome.{Outcom
 use Rattle.rounds_client.specs.Below.PageClient.declared.outcome.Outcome.TheVariants as outcomes
 use Rattle.rounds_client.specs.End.{EndsSo}
 use Rattle.rounds_client.specs.declared.ending.FewestEnd.{FewestEnd}
-use Rattle.laws_rounds_replies.specs.Asked.{HasAskedFewest}
+use Rattle.laws_rounds.specs.Asked.{HasAskedFewest}
 
 -- whatever the link is, a client of the fewest rides ends by the replies that it got
 abbrev pub FewestByItsReplies : {X : Type 0} → (X → LinkSeen) → Type 0

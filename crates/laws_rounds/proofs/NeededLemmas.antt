@@ -22,8 +22,8 @@ use Rattle.laws_clients.proofs.BelowLemmas.LawsPages.NeededLemmas.{always_stops,
 use Rattle.laws_clients.proofs.BelowLemmas.LawsPages.PartJourneyLemmas.{chain_before, chain_of_front}
 use Rattle.laws_clients.proofs.BelowLemmas.LawsPages.StopLemmas.{all_of_rest}
 use Rattle.laws_clients.proofs.BelowLemmas.LawsPages.TakenLemmas.{are_taken, left_later}
-use Rattle.laws_fewest.specs.Needed.{BestAreInNeeded, FewestAreInNeeded}
-use Rattle.laws_fewest.proofs.PartLemmas.{fewest_of_part}
+use Rattle.laws_rounds.specs.Needed.{BestAreInNeeded, FewestAreInNeeded}
+use Rattle.laws_rounds.proofs.PartLemmas.{fewest_of_part}
 
 -- what departs after a moment arrives after an earlier one
 arrive_after : (moment last : ℕ) (list : List Connection) → moment ≤ last → All (λ (c : Connection). last < c.dep) list → NoneArrivesEarly list → All (λ (c : Connection). moment < c.arr) list

@@ -24,10 +24,10 @@ use Rattle.laws_replies.proofs.CourseLemmas.{connections_more}
 use Rattle.laws_replies.proofs.StepLemmas.{At, AtEnd}
 use Rattle.rounds_client.specs.Course.{AnswersFewest, Point}
 use Rattle.rounds_client.specs.Given.{Was, connections_of_pages}
-use Rattle.laws_rounds_replies.specs.Asked.{HasAskedFewest, HasFewestRead}
-use Rattle.laws_rounds_replies.specs.Laws.{FewestByItsReplies}
-use Rattle.laws_rounds_replies.proofs.CourseLemmas.{HasCome, has_come, made_in}
-use Rattle.laws_rounds_replies.proofs.ReadLemmas.{ReadAt, ReadGiven}
+use Rattle.laws_rounds.specs.Asked.{HasAskedFewest, HasFewestRead}
+use Rattle.laws_rounds.specs.ReplyLaws.{FewestByItsReplies}
+use Rattle.laws_rounds.proofs.ReplyCourseLemmas.{HasCome, has_come, made_in}
+use Rattle.laws_rounds.proofs.ReadLemmas.{ReadAt, ReadGiven}
 
 -- who has an outcome was given what it read
 read_ended : (base : BaseParts) (query : Query) (before now : ℕ) (client : Client) (made : List Made) (given : Was) (s : Shown) (phase : Phase) → At base before now client made s phase → IsSome s.outcome

@@ -1,4 +1,4 @@
-ghost use Rattle.laws_fewest.specs.Version.{AlikeAt, FewestOfNeededAt};
+ghost use Rattle.laws_rounds.specs.Version.{AlikeAt, FewestOfNeededAt};
 
 /// A journey of the fewest rides on the side's own needed pages is one of the timetable at the version, and the other way round. All
 /// such journeys arrive at one moment, with one number of rides.

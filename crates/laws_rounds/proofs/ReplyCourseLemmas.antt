@@ -38,7 +38,7 @@ use Rattle.laws_replies.proofs.MetLemmas.{along_more}
 use Rattle.laws_replies.proofs.StepLemmas.{At, AtGate, AtPage, AtStops, Moves, Spans, exchange_of, gate_asked, page_asked, page_taken, stops_asked}
 use Rattle.rounds_client.specs.Course.{LeadsTo, Point}
 use Rattle.rounds_client.specs.Given.{AfterReply, Gives, GivesStops, GivesPage, KeepsDoc, ReadsReply, TakesDoc, TakesGot, Was}
-use Rattle.laws_rounds_replies.proofs.ReadLemmas.{ReadAt, ReadsGiven, kept_by_none, kept_by_reply, read_after_gate, read_after_page, read_after_stops}
+use Rattle.laws_rounds.proofs.ReadLemmas.{ReadAt, ReadsGiven, kept_by_none, kept_by_reply, read_after_gate, read_after_page, read_after_stops}
 
 -- what was made, exchange by exchange
 abbrev pub made_in : List Met → List Made

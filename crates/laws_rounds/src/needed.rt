@@ -9,7 +9,7 @@ ghost use Rattle.laws_clients.specs.Below.LcVersions.Pages.{CutPage};
 ghost use Rattle.change_rounds.specs.Fewest.{IsFewestAnswer, IsFewestChain};
 ghost use Rattle.laws_clients.specs.Below.LawsPages.Chain.{ArePagesOf, connections_along};
 ghost use Rattle.laws_clients.specs.Below.LawsPages.Needed.{AreNeeded};
-ghost use Rattle.laws_fewest.specs.Needed.{BestAreInNeeded, FewestAreInNeeded};
+ghost use Rattle.laws_rounds.specs.Needed.{BestAreInNeeded, FewestAreInNeeded};
 
 use laws_clients::below::journeys_along_next;
 use lc_model::{Connections, Query, Runs, StopsDoc};

@@ -19,9 +19,9 @@ use Rattle.laws_replies.specs.Ends.{EndsBy, HasAnswered}
 use Rattle.laws_replies.specs.Made.{Made, reply_to}
 use Rattle.laws_replies.proofs.CourseLemmas.{stands_last}
 use Rattle.laws_replies.proofs.OneEndLemmas.{one_end}
-use Rattle.laws_rounds_replies.specs.Asked.{HasFewestRead}
-use Rattle.laws_rounds_replies.specs.Laws.{HaveAsManyRides, OneFewestByReplies}
-use Rattle.laws_rounds_replies.proofs.ReadLemmas.{same_doc, same_pages}
+use Rattle.laws_rounds.specs.Asked.{HasFewestRead}
+use Rattle.laws_rounds.specs.ReplyLaws.{HaveAsManyRides, OneFewestByReplies}
+use Rattle.laws_rounds.proofs.ReadLemmas.{same_doc, same_pages}
 
 -- what was read by equal exchanges is one
 module _ (base : BaseParts) (query : Query) (version_a version_b : Option ℕ) (made_a made_b : List Made) (journey_a journey_b : Option Journey) (same : made_a ≡ made_b)

@@ -1,4 +1,4 @@
-ghost use Rattle.laws_rounds_replies.specs.Laws.{FewestByItsReplies, OneFewestByReplies};
+ghost use Rattle.laws_rounds.specs.ReplyLaws.{FewestByItsReplies, OneFewestByReplies};
 
 use rounds_client::below::Link;
 

@@ -6,8 +6,8 @@ use Rattle.laws_clients.specs.Below.LcVersions.Pages.{CutPage}
 use Rattle.change_rounds.specs.Fewest.{IsFewestAnswer, IsFewestChain}
 use Rattle.laws_clients.specs.Below.LawsPages.Chain.{connections_along}
 use Rattle.laws_clients.proofs.BelowLemmas.LawsPages.AlongLemmas.{chains_are_there, least_is_there}
-use Rattle.laws_fewest.proofs.NeededLemmas.{fewest_of_rides}
-use Rattle.laws_fewest.proofs.needed.fewest_of_journeys.Goals as goal
+use Rattle.laws_rounds.proofs.NeededLemmas.{fewest_of_rides}
+use Rattle.laws_rounds.proofs.needed.fewest_of_journeys.Goals as goal
 
 pub returns : goal.returns
 returns c =

@@ -28,8 +28,8 @@ use Rattle.laws_clients.proofs.OwnPageLemmas.{all_parts, own_is_between}
 use Rattle.laws_clients.proofs.PublishedLemmas.{is_lawful, is_timetable}
 use Rattle.change_rounds.specs.Fewest.{IsFewestAnswer, IsFewestChain}
 use Rattle.change_rounds.proofs.AlikeLemmas.{journeys_are_alike}
-use Rattle.laws_fewest.specs.Version.{AlikeAt, FewestOfNeededAt}
-use Rattle.laws_fewest.proofs.NeededLemmas.{fewest_of_rides}
+use Rattle.laws_rounds.specs.Version.{AlikeAt, FewestOfNeededAt}
+use Rattle.laws_rounds.proofs.NeededLemmas.{fewest_of_rides}
 
 module _ (side : Side) (version : ℕ) (query : Query) (published : Published) (valid : IsValidSide side) (is_published : IsPublished side version published) where
   -- the side's own page of a name has the connections of the page of that name

@@ -1,2 +1,0 @@
--- What the crates above name of `laws_fewest`.
-pub use Rattle.laws_rounds.specs.Below.LawsFewest.Version

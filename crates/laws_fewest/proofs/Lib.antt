@@ -1,3 +1,0 @@
-pub mod NeededLemmas
-pub mod PartLemmas
-pub mod VersionLemmas

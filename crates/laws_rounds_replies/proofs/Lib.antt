@@ -1,4 +1,0 @@
-mod AnswerLemmas
-mod CourseLemmas
-mod OneLemmas
-mod ReadLemmas
