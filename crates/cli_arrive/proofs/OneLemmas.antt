@@ -17,7 +17,7 @@ use Rattle.laws_arrive.specs.Requests.{requests_of}
 use Rattle.laws_arrive.specs.Right.{EndsAt, HasLatest, IsRefused}
 use Rattle.laws_arrive.specs.ReplyLaws.{SayOneLatest}
 use Rattle.cli_ask.specs.Below.LawsClients.Published.{IsPublished, Published}
-use Rattle.cli_ask.specs.Below.LawsSides.Stated.{version_at}
+use Rattle.cli_ask.specs.Below.LawsClients.Stated.{version_at}
 use Rattle.lc_io.specs.Counts.{Rose}
 use Rattle.lc_model.specs.Journey.{leaves_at}
 use Rattle.lc_model.specs.declared.journey.Journey.{Journey}

@@ -20,7 +20,7 @@ use Rattle.cli_ask.proofs.BelowLemmas.LawsConvoys.HonestLemmas.{is_get}
 use Rattle.cli_ask.proofs.BelowLemmas.LawsConvoys.RepliesLemmas.{Replied, one_more, recorded_no_more, replied_by, tells_replies_then}
 use Rattle.cli_ask.specs.Below.LawsConvoys.Replies.{IsRepliedBy}
 use Rattle.cli_ask.specs.Below.LawsReplies.Made.{Made}
-use Rattle.cli_ask.specs.Below.LawsSides.Stated.{version_at}
+use Rattle.cli_ask.specs.Below.LawsClients.Stated.{version_at}
 use Rattle.lc_model.specs.Journey.{arrives_at}
 use Rattle.lc_model.specs.declared.connection.Connection.{Connection}
 use Rattle.lc_model.specs.declared.doc.StopsDoc.{StopsDoc}

@@ -8,7 +8,7 @@ use Rattle.cli_ask.specs.Below.ConnectionUri.Base.{BaseParts}
 use Rattle.laws_arrive.specs.Right.{EndsAt}
 use Rattle.cli_ask.specs.Below.LawsConvoys.Replies.{TellsReplies}
 use Rattle.cli_ask.specs.Below.LawsConvoys.Requests.{TellsRequests}
-use Rattle.cli_ask.specs.Below.LawsSides.Stated.{version_at}
+use Rattle.cli_ask.specs.Below.LawsClients.Stated.{version_at}
 use Rattle.cli_ask.specs.Below.LcWorld.declared.entry.Entry.{Entry}
 use Rattle.cli_ask.specs.Below.PublisherSpec.Side.{Side}
 

@@ -17,7 +17,7 @@ use Rattle.laws_convoys.specs.Below.PageClient.declared.outcome.Outcome.{Outcome
 use Rattle.laws_convoys.specs.Below.PageClient.declared.outcome.Outcome.TheVariants as outcomes
 use Rattle.laws_convoys.specs.Below.PageClient.declared.want.Want.{Want}
 use Rattle.lc_links.specs.Below.PublisherSpec.Side.{Side, date_in}
-use Rattle.laws_convoys.specs.Below.LawsSides.Stated.{version_at}
+use Rattle.laws_convoys.specs.Below.LawsClients.Stated.{version_at}
 use Rattle.cli_ask.specs.Client.{shown_of}
 use Rattle.cli_ask.specs.Laws.{IsNoLinkFault}
 use Rattle.cli_ask.specs.declared.end.ClientEnd.{ClientEnd}

@@ -9,7 +9,7 @@ use Rattle.cli_fewest.specs.Client.{HasFewestRides}
 use Rattle.cli_fewest.specs.Laws.{OneFewestOutput}
 use Rattle.laws_rounds.specs.Version.{AlikeAt, FewestAt}
 use Rattle.laws_rounds.specs.ReplyLaws.{HaveAsManyRides}
-use Rattle.cli_ask.specs.Below.LawsSides.Stated.{version_at}
+use Rattle.cli_ask.specs.Below.LawsClients.Stated.{version_at}
 use Rattle.lc_model.specs.declared.journey.Journey.{Journey}
 use Rattle.lc_model.specs.declared.query.Query.{Query}
 use Rattle.cli_ask.specs.Below.LcTime.declared.zone.Zone.{Zone}

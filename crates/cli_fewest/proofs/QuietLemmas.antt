@@ -23,7 +23,7 @@ use Rattle.laws_rounds.proofs.CourseLemmas.{AskedJust, AskedOneMore, SoFar, none
 use Rattle.laws_rounds.proofs.EndLemmas.{fewest_ends_right}
 use Rattle.laws_rounds.specs.Right.{EndsAt, IsNamed, IsNamedByGate, IsRight}
 use Rattle.laws_rounds.specs.Asked.{HasAskedFewest}
-use Rattle.cli_ask.specs.Below.LawsSides.Stated.{version_at}
+use Rattle.cli_ask.specs.Below.LawsClients.Stated.{version_at}
 use Rattle.lc_model.specs.declared.answer.Answer.TheVariants as answers
 use Rattle.lc_model.specs.declared.journey.Journey.{Journey}
 use Rattle.lc_model.specs.declared.query.Query.{Query}

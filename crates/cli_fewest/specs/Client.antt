@@ -4,7 +4,7 @@ use Rattle.cli_ask.specs.Client.{EndsRight}
 use Rattle.cli_ask.specs.declared.end.ClientEnd.{ClientEnd}
 use Rattle.cli_ask.specs.Below.ConnectionUri.Base.{BaseParts}
 use Rattle.laws_rounds.specs.Version.{FewestAt}
-use Rattle.cli_ask.specs.Below.LawsSides.Stated.{version_at}
+use Rattle.cli_ask.specs.Below.LawsClients.Stated.{version_at}
 use Rattle.lc_model.specs.declared.query.Query.{Query}
 use Rattle.cli_ask.specs.Below.LcWorld.declared.entry.Entry.{Entry}
 use Rattle.cli_ask.specs.Below.PageClient.declared.outcome.Outcome.{Outcome}

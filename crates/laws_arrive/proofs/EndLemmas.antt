@@ -22,7 +22,7 @@ use Rattle.laws_convoys.specs.Below.PageClient.declared.outcome.Outcome.TheVaria
 use Rattle.laws_convoys.specs.Below.PublisherSpec.PageAt.{named}
 use Rattle.laws_convoys.specs.Below.PublisherSpec.Side.{IsLater, Side}
 use Rattle.laws_pages.specs.Chain.{ArePagesOf, along_previous}
-use Rattle.laws_convoys.specs.Below.LawsSides.Stated.{IsGatePage, version_at}
+use Rattle.laws_convoys.specs.Below.LawsClients.Stated.{IsGatePage, version_at}
 use Rattle.laws_convoys.specs.Below.LawsClients.Answered.{names_at}
 use Rattle.laws_convoys.specs.Below.LawsClients.Laws.{IsAmong}
 use Rattle.laws_convoys.specs.Below.LawsClients.Published.{IsPublished, Published}

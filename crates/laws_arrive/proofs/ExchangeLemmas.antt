@@ -27,9 +27,9 @@ use Rattle.laws_convoys.specs.Below.PublisherSpec.Response.{IsPageOf}
 use Rattle.laws_convoys.specs.Below.PublisherSpec.Short.{StandsUnder}
 use Rattle.laws_convoys.specs.Below.PublisherSpec.Side.{IsLater, Side, has_version}
 use Rattle.laws_convoys.proofs.BelowLemmas.PublisherSpec.VersionLemmas.{still_found}
-use Rattle.laws_convoys.specs.Below.LawsSides.Stated.{IsGatePage}
-use Rattle.laws_convoys.proofs.BelowLemmas.LawsSides.PageLemmas.{page_is_stated}
-use Rattle.laws_convoys.proofs.BelowLemmas.LawsSides.ReadLemmas.{gate_is_read, stops_are_read}
+use Rattle.laws_convoys.specs.Below.LawsClients.Stated.{IsGatePage}
+use Rattle.laws_convoys.proofs.BelowLemmas.LawsClients.PageLemmas.{page_is_stated}
+use Rattle.laws_convoys.proofs.BelowLemmas.LawsClients.ReadLemmas.{gate_is_read, stops_are_read}
 use Rattle.laws_convoys.specs.Below.Convoy.Exchange.{Got, bytes_of, result_of}
 use Rattle.laws_convoys.specs.Leaves.{LeavesHonest}
 use Rattle.laws_convoys.specs.Requests.{TellsRequests}

@@ -8,7 +8,7 @@ use Rattle.laws_convoys.specs.Below.LcWorld.Link.{IsHonestWith, LinkSeen}
 use Rattle.laws_convoys.specs.Below.PageJson.declared.page.Page.{Page}
 use Rattle.laws_convoys.specs.Below.PageClient.declared.fault.PeerFault.{PeerFault}
 use Rattle.laws_convoys.specs.Below.PublisherSpec.Side.{Side}
-use Rattle.laws_convoys.specs.Below.LawsSides.Stated.{IsGatePage, version_at}
+use Rattle.laws_convoys.specs.Below.LawsClients.Stated.{IsGatePage, version_at}
 use Rattle.laws_convoys.specs.Below.LawsClients.Laws.{IsAmong}
 use Rattle.laws_convoys.proofs.BelowLemmas.LawsClients.PublishedLemmas.{pages_are_among}
 use Rattle.laws_convoys.specs.Below.Convoy.Exchange.{Got}

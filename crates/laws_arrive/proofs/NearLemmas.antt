@@ -10,7 +10,7 @@ use Rattle.laws_convoys.specs.Below.LcWorld.Link.{LinkSeen}
 use Rattle.laws_convoys.specs.Below.PageClient.Shown.{answered}
 use Rattle.laws_convoys.specs.Below.PageClient.declared.outcome.Outcome.{Outcome}
 use Rattle.laws_convoys.specs.Below.PublisherSpec.Side.{IsLater, IsValidSide, Side}
-use Rattle.laws_convoys.specs.Below.LawsSides.Stated.{version_at}
+use Rattle.laws_convoys.specs.Below.LawsClients.Stated.{version_at}
 use Rattle.laws_convoys.specs.Below.LawsClients.Published.{AreLiveAt}
 use Rattle.laws_convoys.specs.Below.LawsClients.Wants.{HasEnds}
 use Rattle.back_client.specs.Below.BackScan.Forward.{forward_query}

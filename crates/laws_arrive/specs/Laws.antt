@@ -8,7 +8,7 @@ use Rattle.laws_convoys.specs.Below.ConnectionUri.Base.{BaseParts}
 use Rattle.laws_convoys.specs.Below.LcWorld.Link.{IsHonestWith, IsQuietWith, LinkSeen}
 use Rattle.laws_convoys.specs.Below.PageClient.Shown.{IsRefusal, answered}
 use Rattle.laws_convoys.specs.Below.PublisherSpec.Side.{Side}
-use Rattle.laws_convoys.specs.Below.LawsSides.Stated.{version_at}
+use Rattle.laws_convoys.specs.Below.LawsClients.Stated.{version_at}
 use Rattle.laws_convoys.specs.Below.LawsClients.Laws.{Stays}
 use Rattle.laws_convoys.specs.Below.LawsClients.Wants.{HasEnds}
 use Rattle.back_client.specs.Below.BackScan.Forward.{forward_query}

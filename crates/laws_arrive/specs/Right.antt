@@ -11,7 +11,7 @@ use Rattle.laws_convoys.specs.Below.PageClient.declared.fault.QueryFault.TheVari
 use Rattle.laws_convoys.specs.Below.PageClient.declared.outcome.Outcome.{Outcome}
 use Rattle.laws_convoys.specs.Below.PageClient.declared.outcome.Outcome.TheVariants as outcomes
 use Rattle.laws_convoys.specs.Below.PublisherSpec.Side.{Side, has_version}
-use Rattle.laws_convoys.specs.Below.LawsSides.Stated.{version_at}
+use Rattle.laws_convoys.specs.Below.LawsClients.Stated.{version_at}
 use Rattle.laws_convoys.specs.Below.LawsClients.Wants.{HasEnds}
 use Rattle.laws_convoys.specs.Leaves.{LeavesHonest, RoseWithin}
 use Rattle.laws_convoys.specs.Requests.{TellsRequests}

@@ -11,18 +11,18 @@ use Rattle.lc_model.specs.declared.journey.Journey.{Journey}
 use Rattle.lc_model.specs.declared.query.Query.{Query}
 use Rattle.lc_model.specs.declared.run.Run.{Run}
 use Rattle.lc_model.proofs.OneValueLemmas.{one_arrival, one_least_arrival}
-use Rattle.laws_sides.specs.Below.LcVersions.Pages.{CutPage}
-use Rattle.laws_sides.specs.Below.CsaScan.StandsFor.{IsBestChain}
-use Rattle.laws_sides.proofs.BelowLemmas.LawsJourneys.JourneysLemmas.{chain_is_journey, journey_is_chain}
-use Rattle.laws_sides.proofs.BelowLemmas.LawsJourneys.RidesAreLegsLemmas.{Timetable}
-use Rattle.laws_sides.proofs.BelowLemmas.LiveCalls.LawLemmas.{one_live_list}
-use Rattle.laws_sides.specs.Below.LawsPages.Chain.{ArePagesOf, connections_along}
-use Rattle.laws_sides.specs.Below.LawsPages.Needed.{AreNeeded, IsTakenUntilOver}
-use Rattle.laws_sides.specs.Below.LawsPages.Rides.{connections_on, pages_on}
-use Rattle.laws_sides.proofs.BelowLemmas.LawsPages.AlongLemmas.{chains_are_there, least_is_there}
-use Rattle.laws_sides.proofs.BelowLemmas.LawsPages.NeededLemmas.{one_list_of_needed, same_best, takes_the_needed}
-use Rattle.laws_sides.proofs.BelowLemmas.LawsPages.PartJourneyLemmas.{chain_of_front, least_over}
-use Rattle.laws_sides.proofs.BelowLemmas.LawsPages.TakenLemmas.{are_taken}
+use Rattle.laws_pages.specs.Below.LcVersions.Pages.{CutPage}
+use Rattle.page_client.specs.Below.CsaScan.StandsFor.{IsBestChain}
+use Rattle.laws_pages.proofs.BelowLemmas.LawsJourneys.JourneysLemmas.{chain_is_journey, journey_is_chain}
+use Rattle.laws_pages.proofs.BelowLemmas.LawsJourneys.RidesAreLegsLemmas.{Timetable}
+use Rattle.live_calls.proofs.LawLemmas.{one_live_list}
+use Rattle.laws_pages.specs.Chain.{ArePagesOf, connections_along}
+use Rattle.laws_pages.specs.Needed.{AreNeeded, IsTakenUntilOver}
+use Rattle.laws_pages.specs.Rides.{connections_on, pages_on}
+use Rattle.laws_pages.proofs.AlongLemmas.{chains_are_there, least_is_there}
+use Rattle.laws_pages.proofs.NeededLemmas.{one_list_of_needed, same_best, takes_the_needed}
+use Rattle.laws_pages.proofs.PartJourneyLemmas.{chain_of_front, least_over}
+use Rattle.laws_pages.proofs.TakenLemmas.{are_taken}
 use Rattle.laws_clients.specs.Answered.{AnswersAt, NeededAt, answer_of, names_at}
 use Rattle.laws_clients.specs.Laws.{AnswersStay, NeededStays, OneArrivalAt, OneListOfNeededAt}
 use Rattle.laws_clients.specs.Published.{Published}

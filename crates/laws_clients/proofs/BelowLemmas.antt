@@ -1,6 +1,5 @@
 -- The lemmas of the crates below, for the crates above.
 pub mod LawsJourneys
 pub mod LawsPages
-pub mod LawsSides
 pub mod LiveCalls
 pub mod PublisherSpec

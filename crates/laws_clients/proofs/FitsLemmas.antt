@@ -3,21 +3,21 @@ use Rattle.std.proofs.Common.{◌≡◌, ℕ, List, true, Option, Some, None, re
 use Rattle.lc_model.specs.declared.answer.Answer.{Answer}
 use Rattle.lc_model.specs.declared.answer.Answer.TheVariants as answers
 use Rattle.lc_model.specs.declared.page.PageName.{PageName}
-use Rattle.laws_sides.specs.Below.LcVersions.History.{Entry}
-use Rattle.laws_sides.specs.Below.PageClient.Client.{shown}
-use Rattle.laws_sides.specs.Below.PageClient.Shown.{Shown}
-use Rattle.laws_sides.specs.Below.PageClient.declared.client.Client.{Client}
-use Rattle.laws_sides.specs.Below.PageClient.declared.fault.QueryFault.{QueryFault}
-use Rattle.laws_sides.specs.Below.PageClient.declared.fault.QueryFault.TheVariants.{HorizonRange, SameStop, UnknownFrom, UnknownTo}
-use Rattle.laws_sides.specs.Below.PageClient.declared.outcome.Outcome.{Outcome}
-use Rattle.laws_sides.specs.Below.PageClient.declared.outcome.Outcome.TheVariants as outcomes
-use Rattle.laws_sides.specs.Below.PageClient.declared.phase.Phase.{Phase}
-use Rattle.laws_sides.specs.Below.PageClient.declared.phase.Phase.TheVariants as phases
-use Rattle.laws_sides.specs.Below.PageClient.declared.want.Want.{Want}
-use Rattle.laws_sides.specs.Below.PublisherSpec.Response.{IsPageOf}
-use Rattle.laws_sides.specs.Below.PublisherSpec.Side.{IsLater, IsValidSide, Side, has_version}
-use Rattle.laws_sides.proofs.BelowLemmas.PublisherSpec.LaterLemmas.{timetables_stay, with_more}
-use Rattle.laws_sides.proofs.BelowLemmas.PublisherSpec.VersionLemmas.{still_found}
+use Rattle.laws_pages.specs.Below.LcVersions.History.{Entry}
+use Rattle.page_client.specs.Client.{shown}
+use Rattle.page_client.specs.Shown.{Shown}
+use Rattle.page_client.specs.declared.client.Client.{Client}
+use Rattle.page_client.specs.declared.fault.QueryFault.{QueryFault}
+use Rattle.page_client.specs.declared.fault.QueryFault.TheVariants.{HorizonRange, SameStop, UnknownFrom, UnknownTo}
+use Rattle.page_client.specs.declared.outcome.Outcome.{Outcome}
+use Rattle.page_client.specs.declared.outcome.Outcome.TheVariants as outcomes
+use Rattle.page_client.specs.declared.phase.Phase.{Phase}
+use Rattle.page_client.specs.declared.phase.Phase.TheVariants as phases
+use Rattle.page_client.specs.declared.want.Want.{Want}
+use Rattle.publisher_spec.specs.Response.{IsPageOf}
+use Rattle.publisher_spec.specs.Side.{IsLater, IsValidSide, Side, has_version}
+use Rattle.publisher_spec.proofs.LaterLemmas.{timetables_stay, with_more}
+use Rattle.publisher_spec.proofs.VersionLemmas.{still_found}
 use Rattle.laws_clients.specs.Fits.{FitsAt, FitsSide, HasAnswered, HasEnded, HasFailed, IsDenied, IsOfSide, IsSentOn, WaitsForPage}
 use Rattle.laws_clients.specs.Laws.{FitsStays, OwnPagesStay}
 use Rattle.laws_clients.proofs.AnsweredLemmas.{answers_stay, needed_stays}

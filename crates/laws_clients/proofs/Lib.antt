@@ -1,9 +1,17 @@
 pub mod AnsweredLemmas
+mod AskedLemmas
 pub mod BelowLemmas
+mod CutPageLemmas
 pub mod FitsLemmas
-pub mod LinkLemmas
+mod GateLemmas
+mod LinkLemmas
 pub mod OwnPageLemmas
+pub mod PageLemmas
 pub mod PublishedLemmas
+pub mod ReadLemmas
 pub mod StepLemmas
-pub mod WaitsForPageLemmas
+mod StopsLemmas
+mod TextLemmas
+mod TimetableLemmas
+mod WaitsForPageLemmas
 pub mod WantsLemmas

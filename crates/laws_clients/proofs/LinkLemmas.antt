@@ -7,17 +7,17 @@ use Rattle.std.proofs.lemmas.List.Elements.{All-contains, Contains-append_right}
 use Rattle.lc_model.proofs.ListLemmas.{Contains-here}
 use Rattle.lc_model.specs.declared.connection.Connection.{Connection}
 use Rattle.lc_model.specs.declared.page.PageName.{PageName}
-use Rattle.laws_sides.specs.Below.LcVersions.Cuts.{first_of}
-use Rattle.laws_sides.specs.Below.LcVersions.Pages.{CutPage, departing, departures_of, page_for}
-use Rattle.laws_sides.specs.Below.PageJson.declared.page.Page.{Page}
-use Rattle.laws_sides.specs.Below.LawsPages.Chain.{ArePagesOf, connections_along, names_of}
-use Rattle.laws_sides.proofs.BelowLemmas.LawsPages.NameLemmas.{cuts_name_neighbours}
-use Rattle.laws_sides.proofs.BelowLemmas.LawsPages.RowLemmas.{Begin, back_are_the_rest, begin_on_time, found_by_name, is_greatest_by_then, next_are_the_suffix}
-use Rattle.laws_sides.specs.Below.PublisherSpec.PageAt.{linked, named, page_among}
-use Rattle.laws_sides.specs.Below.PublisherSpec.Response.{IsPageOf}
-use Rattle.laws_sides.specs.Below.PublisherSpec.Side.{IsTimetableAt, IsValidSide, Side}
-use Rattle.laws_sides.proofs.BelowLemmas.PublisherSpec.OneReplyLemmas.{one_page, one_timetable}
-use Rattle.laws_sides.proofs.BelowLemmas.PublisherSpec.PageLemmas.{never_falls}
+use Rattle.laws_pages.specs.Below.LcVersions.Cuts.{first_of}
+use Rattle.laws_pages.specs.Below.LcVersions.Pages.{CutPage, departing, departures_of, page_for}
+use Rattle.publisher_spec.specs.Below.PageJson.declared.page.Page.{Page}
+use Rattle.laws_pages.specs.Chain.{ArePagesOf, connections_along, names_of}
+use Rattle.laws_pages.proofs.NameLemmas.{cuts_name_neighbours}
+use Rattle.laws_pages.proofs.RowLemmas.{Begin, back_are_the_rest, begin_on_time, found_by_name, is_greatest_by_then, next_are_the_suffix}
+use Rattle.publisher_spec.specs.PageAt.{linked, named, page_among}
+use Rattle.publisher_spec.specs.Response.{IsPageOf}
+use Rattle.publisher_spec.specs.Side.{IsTimetableAt, IsValidSide, Side}
+use Rattle.publisher_spec.proofs.OneReplyLemmas.{one_page, one_timetable}
+use Rattle.publisher_spec.proofs.PageLemmas.{never_falls}
 use Rattle.laws_clients.specs.Links.{AreAlongNext, AreAlongPrevious, NextLinksEnd, NextLinksHaveTheRest, PagesBeginAtTheirNames, PreviousLinksEnd, PreviousLinksHaveTheFront, connections_on}
 use Rattle.laws_clients.specs.Published.{IsPublished, Published}
 use Rattle.laws_clients.proofs.PublishedLemmas.{pages_are_among}

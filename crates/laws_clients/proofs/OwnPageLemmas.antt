@@ -8,21 +8,21 @@ use Rattle.std.proofs.lemmas.List.Elements.{All-contains, Contains-append_right}
 use Rattle.lc_model.specs.declared.connection.Connection.{Connection}
 use Rattle.lc_model.specs.declared.query.Query.{Query}
 use Rattle.lc_model.proofs.ListLemmas.{Contains-here}
-use Rattle.laws_sides.specs.Below.LcVersions.Cuts.{first_of}
-use Rattle.laws_sides.specs.Below.LcVersions.Pages.{CutPage, departures_of, page_for}
-use Rattle.laws_sides.specs.Below.PageJson.declared.page.Page.{Page}
-use Rattle.laws_sides.specs.Below.LawsPages.Chain.{ArePagesOf, along_next, along_previous, names_of}
-use Rattle.laws_sides.specs.Below.LawsPages.Rides.{pages_on}
-use Rattle.laws_sides.proofs.BelowLemmas.LawsPages.ChainLemmas.{by_or_not, links_part, next_goes_on, next_stays, previous_stays}
-use Rattle.laws_sides.proofs.BelowLemmas.LawsPages.NameLemmas.{cuts_name_neighbours}
-use Rattle.laws_sides.proofs.BelowLemmas.LawsPages.RowLemmas.{found_by_name, is_where_next_begins, row}
-use Rattle.laws_sides.specs.Below.PageClient.Shown.{is_early, is_late, is_off, wrong_gate}
-use Rattle.laws_sides.specs.Below.PageClient.declared.fault.PeerFault.TheVariants.{GateWrong}
-use Rattle.laws_sides.specs.Below.PageClient.declared.outcome.Outcome.TheVariants.{PeerWrong}
-use Rattle.laws_sides.specs.Below.PublisherSpec.PageAt.{linked, named, previous_cut}
-use Rattle.laws_sides.specs.Below.PublisherSpec.Response.{IsPageOf}
-use Rattle.laws_sides.specs.Below.PublisherSpec.Side.{IsValidSide, Side}
-use Rattle.laws_sides.proofs.BelowLemmas.PublisherSpec.PageLemmas.{never_falls}
+use Rattle.laws_pages.specs.Below.LcVersions.Cuts.{first_of}
+use Rattle.laws_pages.specs.Below.LcVersions.Pages.{CutPage, departures_of, page_for}
+use Rattle.publisher_spec.specs.Below.PageJson.declared.page.Page.{Page}
+use Rattle.laws_pages.specs.Chain.{ArePagesOf, along_next, along_previous, names_of}
+use Rattle.laws_pages.specs.Rides.{pages_on}
+use Rattle.laws_pages.proofs.ChainLemmas.{by_or_not, links_part, next_goes_on, next_stays, previous_stays}
+use Rattle.laws_pages.proofs.NameLemmas.{cuts_name_neighbours}
+use Rattle.laws_pages.proofs.RowLemmas.{found_by_name, is_where_next_begins, row}
+use Rattle.page_client.specs.Shown.{is_early, is_late, is_off, wrong_gate}
+use Rattle.page_client.specs.declared.fault.PeerFault.TheVariants.{GateWrong}
+use Rattle.page_client.specs.declared.outcome.Outcome.TheVariants.{PeerWrong}
+use Rattle.publisher_spec.specs.PageAt.{linked, named, previous_cut}
+use Rattle.publisher_spec.specs.Response.{IsPageOf}
+use Rattle.publisher_spec.specs.Side.{IsValidSide, Side}
+use Rattle.publisher_spec.proofs.PageLemmas.{never_falls}
 use Rattle.laws_clients.specs.Laws.{IsAmong, LinksLeadAlong}
 use Rattle.laws_clients.specs.Published.{IsPublished, Published, between}
 use Rattle.laws_clients.proofs.PublishedLemmas.{one_published, pages_are_among}

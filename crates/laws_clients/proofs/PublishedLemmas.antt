@@ -7,19 +7,19 @@ use Rattle.lc_model.specs.declared.connection.Connection.{Connection}
 use Rattle.lc_model.specs.declared.run.Run.{Run}
 use Rattle.lc_model.proofs.ConnectionLemmas.{NoneArrivesEarly-sorted}
 use Rattle.lc_model.proofs.OneValueLemmas.{one_list_of_connections}
-use Rattle.laws_sides.specs.Below.LcVersions.History.{Entry, news_at}
-use Rattle.laws_sides.specs.Below.LcVersions.News.{TripSaid}
-use Rattle.laws_sides.specs.Below.LcVersions.Pages.{CutPage, departures_of, pages_of}
-use Rattle.laws_sides.specs.Below.LcVersions.Timetable.{AreLiveRuns}
-use Rattle.laws_sides.proofs.BelowLemmas.LiveCalls.LawLemmas.{one_live_list}
-use Rattle.laws_sides.proofs.BelowLemmas.LiveCalls.LiveRunsLemmas.{live_runs_go_forward}
-use Rattle.laws_sides.proofs.BelowLemmas.PublisherSpec.PageLemmas.{never_falls}
-use Rattle.laws_sides.proofs.BelowLemmas.LawsJourneys.RidesAreLegsLemmas.{Timetable}
-use Rattle.laws_sides.proofs.BelowLemmas.LawsPages.RowLemmas.{never_empty}
-use Rattle.laws_sides.specs.Below.PublisherSpec.PageAt.{linked, page_among}
-use Rattle.laws_sides.specs.Below.PublisherSpec.Side.{IsTimetableAt, IsValidSide, Side, date_in, has_version}
-use Rattle.laws_sides.proofs.BelowLemmas.PublisherSpec.LaterLemmas.{with_more}
-use Rattle.laws_sides.proofs.BelowLemmas.PublisherSpec.VersionLemmas.{later_moments, news_stay}
+use Rattle.laws_pages.specs.Below.LcVersions.History.{Entry, news_at}
+use Rattle.laws_pages.specs.Below.LcVersions.News.{TripSaid}
+use Rattle.laws_pages.specs.Below.LcVersions.Pages.{CutPage, departures_of, pages_of}
+use Rattle.laws_pages.specs.Below.LcVersions.Timetable.{AreLiveRuns}
+use Rattle.live_calls.proofs.LawLemmas.{one_live_list}
+use Rattle.live_calls.proofs.LiveRunsLemmas.{live_runs_go_forward}
+use Rattle.publisher_spec.proofs.PageLemmas.{never_falls}
+use Rattle.laws_pages.proofs.BelowLemmas.LawsJourneys.RidesAreLegsLemmas.{Timetable}
+use Rattle.laws_pages.proofs.RowLemmas.{never_empty}
+use Rattle.publisher_spec.specs.PageAt.{linked, page_among}
+use Rattle.publisher_spec.specs.Side.{IsTimetableAt, IsValidSide, Side, date_in, has_version}
+use Rattle.publisher_spec.proofs.LaterLemmas.{with_more}
+use Rattle.publisher_spec.proofs.VersionLemmas.{later_moments, news_stay}
 use Rattle.laws_clients.specs.Laws.{OnePublished, PagesAreAmong, PublishedIsLawful, PublishedStays, Stays}
 use Rattle.laws_clients.specs.Published.{AreLiveAt, IsPublished, Published}
 

@@ -7,40 +7,40 @@ use Rattle.lc_model.specs.Stop.{HasStop}
 use Rattle.lc_model.specs.declared.doc.StopsDoc.{StopsDoc}
 use Rattle.lc_model.specs.declared.page.PageName.{PageName}
 use Rattle.lc_model.specs.declared.query.Query.{Query}
-use Rattle.laws_sides.specs.Below.ConnectionUri.Base.{BaseParts}
-use Rattle.laws_sides.specs.Below.LcVersions.History.{moments_of}
-use Rattle.laws_sides.specs.Below.LcVersions.Named.{is_by, last_of}
-use Rattle.laws_sides.specs.Below.LcVersions.Pages.{CutPage, departures_of, page_for}
-use Rattle.laws_sides.specs.Below.PageJson.Sound.{IsSoundName}
-use Rattle.laws_sides.specs.Below.PageJson.declared.page.Page.{Page}
-use Rattle.laws_sides.specs.Below.LawsPages.Rides.{pages_on}
-use Rattle.laws_sides.proofs.BelowLemmas.LawsPages.FilterLemmas.{filter_drops, filter_takes}
-use Rattle.laws_sides.proofs.BelowLemmas.LawsPages.RowLemmas.{is_where_next_begins}
-use Rattle.laws_sides.specs.Below.PageClient.Client.{AfterDoc, AfterStops, StandsFor, shown}
-use Rattle.laws_sides.specs.Below.PageClient.Gate.{IsGateReply}
-use Rattle.laws_sides.specs.Below.PageClient.Page.{IsPageReply}
-use Rattle.laws_sides.specs.Below.PageClient.Request.{known_at, target_of}
-use Rattle.laws_sides.specs.Below.PageClient.Shown.{IsRefusal, Shown, after_gate, after_stops, behind_stops, ended, spent, want_of}
-use Rattle.laws_sides.specs.Below.PageClient.Stops.{IsStopsReply}
-use Rattle.laws_sides.specs.Below.PageClient.declared.client.Client.{Client}
-use Rattle.laws_sides.specs.Below.PageClient.declared.fault.PeerFault.{PeerFault}
-use Rattle.laws_sides.specs.Below.PageClient.declared.fault.QueryFault.TheVariants.{UnknownFrom, UnknownTo}
-use Rattle.laws_sides.specs.Below.PageClient.declared.outcome.Outcome.TheVariants as outcomes
-use Rattle.laws_sides.specs.Below.PageClient.declared.phase.Phase.{Phase}
-use Rattle.laws_sides.specs.Below.PageClient.declared.phase.Phase.TheVariants as phases
-use Rattle.laws_sides.specs.Below.PageClient.declared.want.Want.{Want}
-use Rattle.laws_sides.specs.Below.PageClient.declared.want.Want.TheVariants as wants
-use Rattle.laws_sides.proofs.BelowLemmas.PageClient.OneReplyLemmas.{one_gate_reply, one_page_reply, one_stops_reply}
-use Rattle.laws_sides.proofs.BelowLemmas.PageClient.PageLemmas.{waits_for}
-use Rattle.laws_sides.specs.Below.ConnectionUri.Page.{page_target_of}
-use Rattle.laws_sides.specs.Below.PublisherSpec.PageAt.{linked, named, page_among}
-use Rattle.laws_sides.specs.Below.PublisherSpec.Response.{IsPageOf}
-use Rattle.laws_sides.specs.Below.PublisherSpec.Short.{StandsUnder}
-use Rattle.laws_sides.specs.Below.PublisherSpec.Side.{IsValidSide, Side, has_version}
-use Rattle.laws_sides.specs.Stated.{IsSentTo, IsStatedTo, version_at}
-use Rattle.laws_sides.proofs.GateLemmas.{gate_is_stated}
-use Rattle.laws_sides.proofs.PageLemmas.{page_is_stated}
-use Rattle.laws_sides.proofs.StopsLemmas.{stops_are_stated}
+use Rattle.page_client.specs.Below.ConnectionUri.Base.{BaseParts}
+use Rattle.laws_pages.specs.Below.LcVersions.History.{moments_of}
+use Rattle.laws_pages.specs.Below.LcVersions.Named.{is_by, last_of}
+use Rattle.laws_pages.specs.Below.LcVersions.Pages.{CutPage, departures_of, page_for}
+use Rattle.publisher_spec.specs.Below.PageJson.Sound.{IsSoundName}
+use Rattle.publisher_spec.specs.Below.PageJson.declared.page.Page.{Page}
+use Rattle.laws_pages.specs.Rides.{pages_on}
+use Rattle.laws_pages.proofs.FilterLemmas.{filter_drops, filter_takes}
+use Rattle.laws_pages.proofs.RowLemmas.{is_where_next_begins}
+use Rattle.page_client.specs.Client.{AfterDoc, AfterStops, StandsFor, shown}
+use Rattle.page_client.specs.Gate.{IsGateReply}
+use Rattle.page_client.specs.Page.{IsPageReply}
+use Rattle.page_client.specs.Request.{known_at, target_of}
+use Rattle.page_client.specs.Shown.{IsRefusal, Shown, after_gate, after_stops, behind_stops, ended, spent, want_of}
+use Rattle.page_client.specs.Stops.{IsStopsReply}
+use Rattle.page_client.specs.declared.client.Client.{Client}
+use Rattle.page_client.specs.declared.fault.PeerFault.{PeerFault}
+use Rattle.page_client.specs.declared.fault.QueryFault.TheVariants.{UnknownFrom, UnknownTo}
+use Rattle.page_client.specs.declared.outcome.Outcome.TheVariants as outcomes
+use Rattle.page_client.specs.declared.phase.Phase.{Phase}
+use Rattle.page_client.specs.declared.phase.Phase.TheVariants as phases
+use Rattle.page_client.specs.declared.want.Want.{Want}
+use Rattle.page_client.specs.declared.want.Want.TheVariants as wants
+use Rattle.page_client.proofs.OneReplyLemmas.{one_gate_reply, one_page_reply, one_stops_reply}
+use Rattle.page_client.proofs.PageLemmas.{waits_for}
+use Rattle.page_client.specs.Below.ConnectionUri.Page.{page_target_of}
+use Rattle.publisher_spec.specs.PageAt.{linked, named, page_among}
+use Rattle.publisher_spec.specs.Response.{IsPageOf}
+use Rattle.publisher_spec.specs.Short.{StandsUnder}
+use Rattle.publisher_spec.specs.Side.{IsValidSide, Side, has_version}
+use Rattle.laws_clients.specs.Stated.{IsSentTo, IsStatedTo, version_at}
+use Rattle.laws_clients.proofs.GateLemmas.{gate_is_stated}
+use Rattle.laws_clients.proofs.PageLemmas.{page_is_stated}
+use Rattle.laws_clients.proofs.StopsLemmas.{stops_are_stated}
 use Rattle.laws_clients.specs.Fits.{FitsAt, FitsSide, HasEnded, HasFailed, IsAtGate, IsCutShort, IsOfSide, IsSentOn, WaitsForPage}
 use Rattle.laws_clients.specs.Laws.{IsAmong}
 use Rattle.laws_clients.specs.Steps.{GateKeepsIt, GetsVersion, IsReplyTo, KeepsVersion, LinkFaultKeepsIt, PageIsOwn, PageKeepsIt, SaysOwnPage, SpentKeepsIt, StopsKeepIt}

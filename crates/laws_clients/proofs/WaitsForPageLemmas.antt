@@ -11,29 +11,29 @@ use Rattle.lc_model.specs.declared.doc.StopsDoc.{StopsDoc}
 use Rattle.lc_model.specs.declared.journey.Journey.{Journey}
 use Rattle.lc_model.specs.declared.page.PageName.{PageName}
 use Rattle.lc_model.specs.declared.query.Query.{Query}
-use Rattle.laws_sides.specs.Below.LcVersions.Cuts.{first_of}
-use Rattle.laws_sides.specs.Below.LcVersions.Pages.{CutPage}
-use Rattle.laws_sides.specs.Below.CsaScan.Done.{IsDone}
-use Rattle.laws_sides.specs.Below.CsaScan.StandsFor.{IsBestChain}
-use Rattle.laws_sides.specs.Below.PageJson.Sound.{IsSoundName}
-use Rattle.laws_sides.specs.Below.PageJson.declared.page.Page.{Page}
-use Rattle.laws_sides.specs.Below.LawsPages.Chain.{along_previous, connections_along, names_of}
-use Rattle.laws_sides.specs.Below.LawsPages.Needed.{IsOver, IsTakenUntilOver}
-use Rattle.laws_sides.specs.Below.LawsPages.Rides.{pages_on}
-use Rattle.laws_sides.specs.Below.LawsPages.Stop.{bound_of}
-use Rattle.laws_sides.specs.Below.PageClient.Client.{AfterPage, GoesOnBy, Leaves, StandsFor, TakesPage, shown}
-use Rattle.laws_sides.specs.Below.PageClient.Course.{Follows, IsOver as IsOverThen}
-use Rattle.laws_sides.specs.Below.PageClient.Shown.{IsRefusal, Shown, answered, ended, onward, wrong_gate}
-use Rattle.laws_sides.specs.Below.PageClient.declared.client.Client.{Client}
-use Rattle.laws_sides.specs.Below.PageClient.declared.outcome.Outcome.{Outcome}
-use Rattle.laws_sides.specs.Below.PageClient.declared.phase.Phase.TheVariants as phases
-use Rattle.laws_sides.specs.Below.PageClient.declared.step.Step.{Step}
-use Rattle.laws_sides.specs.Below.PageClient.declared.step.Step.TheVariants.{Last, Next}
-use Rattle.laws_sides.specs.Below.PageClient.declared.want.Want.{Want}
-use Rattle.laws_sides.specs.Below.PageClient.declared.want.Want.TheVariants as wants
-use Rattle.laws_sides.specs.Below.PublisherSpec.PageAt.{named}
-use Rattle.laws_sides.specs.Below.PublisherSpec.Response.{IsPageOf}
-use Rattle.laws_sides.specs.Below.PublisherSpec.Side.{IsValidSide, Side}
+use Rattle.laws_pages.specs.Below.LcVersions.Cuts.{first_of}
+use Rattle.laws_pages.specs.Below.LcVersions.Pages.{CutPage}
+use Rattle.page_client.specs.Below.CsaScan.Done.{IsDone}
+use Rattle.page_client.specs.Below.CsaScan.StandsFor.{IsBestChain}
+use Rattle.publisher_spec.specs.Below.PageJson.Sound.{IsSoundName}
+use Rattle.publisher_spec.specs.Below.PageJson.declared.page.Page.{Page}
+use Rattle.laws_pages.specs.Chain.{along_previous, connections_along, names_of}
+use Rattle.laws_pages.specs.Needed.{IsOver, IsTakenUntilOver}
+use Rattle.laws_pages.specs.Rides.{pages_on}
+use Rattle.laws_pages.specs.Stop.{bound_of}
+use Rattle.page_client.specs.Client.{AfterPage, GoesOnBy, Leaves, StandsFor, TakesPage, shown}
+use Rattle.page_client.specs.Course.{Follows, IsOver as IsOverThen}
+use Rattle.page_client.specs.Shown.{IsRefusal, Shown, answered, ended, onward, wrong_gate}
+use Rattle.page_client.specs.declared.client.Client.{Client}
+use Rattle.page_client.specs.declared.outcome.Outcome.{Outcome}
+use Rattle.page_client.specs.declared.phase.Phase.TheVariants as phases
+use Rattle.page_client.specs.declared.step.Step.{Step}
+use Rattle.page_client.specs.declared.step.Step.TheVariants.{Last, Next}
+use Rattle.page_client.specs.declared.want.Want.{Want}
+use Rattle.page_client.specs.declared.want.Want.TheVariants as wants
+use Rattle.publisher_spec.specs.PageAt.{named}
+use Rattle.publisher_spec.specs.Response.{IsPageOf}
+use Rattle.publisher_spec.specs.Side.{IsValidSide, Side}
 use Rattle.laws_clients.specs.Answered.{answer_of, names_at}
 use Rattle.laws_clients.specs.Fits.{FitsAt, FitsSide, HasAnswered, HasEnded, IsOfSide, WaitsForPage}
 use Rattle.laws_clients.specs.Published.{IsOwnPage, between}

@@ -7,25 +7,25 @@ use Rattle.lc_model.specs.Leg.{IsListBest}
 use Rattle.lc_model.specs.Ride.{IsRideAt}
 use Rattle.lc_model.specs.declared.page.PageName.{PageName}
 use Rattle.lc_model.specs.declared.query.Query.{Query}
-use Rattle.laws_sides.specs.Below.LcVersions.Pages.{CutPage}
-use Rattle.laws_sides.specs.Below.LawsPages.Needed.{AreNeeded, up_to_bound}
-use Rattle.laws_sides.specs.Below.LawsPages.Rides.{pages_on}
-use Rattle.laws_sides.specs.Below.LawsPages.Stop.{bound_of}
-use Rattle.laws_sides.proofs.BelowLemmas.LawsPages.NeededLemmas.{over_if_reaches}
-use Rattle.laws_sides.proofs.BelowLemmas.LawsPages.UpToLemmas.{is_last_by}
-use Rattle.laws_sides.specs.Below.PageClient.Client.{shown}
-use Rattle.laws_sides.specs.Below.PageClient.Shown.{IsRefusal, Shown, want_of}
-use Rattle.laws_sides.specs.Below.PageClient.declared.client.Client.{Client}
-use Rattle.laws_sides.specs.Below.PageClient.declared.fault.QueryFault.{QueryFault}
-use Rattle.laws_sides.specs.Below.PageClient.declared.fault.QueryFault.TheVariants.{HorizonRange, SameStop, UnknownFrom, UnknownTo}
-use Rattle.laws_sides.specs.Below.PageClient.declared.outcome.Outcome.{Outcome}
-use Rattle.laws_sides.specs.Below.PageClient.declared.outcome.Outcome.TheVariants as outcomes
-use Rattle.laws_sides.specs.Below.PageClient.declared.phase.Phase.{Phase}
-use Rattle.laws_sides.specs.Below.PageClient.declared.phase.Phase.TheVariants as phases
-use Rattle.laws_sides.specs.Below.PageClient.declared.want.Want.{Want}
-use Rattle.laws_sides.specs.Below.PageClient.declared.want.Want.TheVariants as wants
-use Rattle.laws_sides.specs.Below.PublisherSpec.PageAt.{named}
-use Rattle.laws_sides.specs.Below.PublisherSpec.Side.{IsValidSide, Side}
+use Rattle.laws_pages.specs.Below.LcVersions.Pages.{CutPage}
+use Rattle.laws_pages.specs.Needed.{AreNeeded, up_to_bound}
+use Rattle.laws_pages.specs.Rides.{pages_on}
+use Rattle.laws_pages.specs.Stop.{bound_of}
+use Rattle.laws_pages.proofs.NeededLemmas.{over_if_reaches}
+use Rattle.laws_pages.proofs.UpToLemmas.{is_last_by}
+use Rattle.page_client.specs.Client.{shown}
+use Rattle.page_client.specs.Shown.{IsRefusal, Shown, want_of}
+use Rattle.page_client.specs.declared.client.Client.{Client}
+use Rattle.page_client.specs.declared.fault.QueryFault.{QueryFault}
+use Rattle.page_client.specs.declared.fault.QueryFault.TheVariants.{HorizonRange, SameStop, UnknownFrom, UnknownTo}
+use Rattle.page_client.specs.declared.outcome.Outcome.{Outcome}
+use Rattle.page_client.specs.declared.outcome.Outcome.TheVariants as outcomes
+use Rattle.page_client.specs.declared.phase.Phase.{Phase}
+use Rattle.page_client.specs.declared.phase.Phase.TheVariants as phases
+use Rattle.page_client.specs.declared.want.Want.{Want}
+use Rattle.page_client.specs.declared.want.Want.TheVariants as wants
+use Rattle.publisher_spec.specs.PageAt.{named}
+use Rattle.publisher_spec.specs.Side.{IsValidSide, Side}
 use Rattle.laws_clients.specs.Answered.{NeededAt, names_at}
 use Rattle.laws_clients.specs.Fits.{FitsAt, HasAnswered, HasEnded, IsDenied, WaitsForPage}
 use Rattle.laws_clients.specs.Laws.{OneListOfWants, WantsStay}

@@ -8,10 +8,10 @@ use Rattle.lc_model.specs.declared.journey.Journey.{Journey}
 use Rattle.lc_model.specs.declared.page.PageName.{PageName}
 use Rattle.lc_model.specs.declared.query.Query.{Query}
 use Rattle.lc_model.specs.declared.run.Run.{Run}
-use Rattle.laws_sides.specs.Below.LcVersions.Pages.{CutPage}
-use Rattle.laws_sides.specs.Below.LawsPages.Needed.{AreNeeded}
-use Rattle.laws_sides.specs.Below.PublisherSpec.PageAt.{named}
-use Rattle.laws_sides.specs.Below.PublisherSpec.Side.{Side}
+use Rattle.laws_pages.specs.Below.LcVersions.Pages.{CutPage}
+use Rattle.laws_pages.specs.Needed.{AreNeeded}
+use Rattle.publisher_spec.specs.PageAt.{named}
+use Rattle.publisher_spec.specs.Side.{Side}
 use Rattle.laws_clients.specs.Published.{AreLiveAt, IsPublished, Published}
 
 -- the answer is a best journey over the rides of the runs at a version, or that there is none

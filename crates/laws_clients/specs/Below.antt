@@ -1,7 +1,6 @@
 -- The definitions of the crates below, for the crates above.
 pub mod LawsJourneys
 pub mod LawsPages
-pub mod LawsSides
 pub mod LcVersions
 pub mod LiveCalls
 pub mod PageJson

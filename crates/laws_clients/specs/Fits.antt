@@ -4,24 +4,24 @@ use Rattle.lc_model.specs.Stop.{HasStop}
 use Rattle.lc_model.specs.declared.answer.Answer.{Answer}
 use Rattle.lc_model.specs.declared.answer.Answer.TheVariants as answers
 use Rattle.lc_model.specs.declared.page.PageName.{PageName}
-use Rattle.laws_sides.specs.Below.LcVersions.Pages.{CutPage, page_for}
-use Rattle.laws_sides.specs.Below.PageJson.Sound.{IsSoundName}
-use Rattle.laws_sides.specs.Below.LawsPages.Chain.{connections_along}
-use Rattle.laws_sides.specs.Below.LawsPages.Needed.{IsOver}
-use Rattle.laws_sides.specs.Below.LawsPages.Rides.{pages_on}
-use Rattle.laws_sides.specs.Below.PageClient.Client.{StandsFor, shown}
-use Rattle.laws_sides.specs.Below.PageClient.Shown.{IsRefusal, Shown}
-use Rattle.laws_sides.specs.Below.PageClient.declared.client.Client.{Client}
-use Rattle.laws_sides.specs.Below.PageClient.declared.fault.QueryFault.{QueryFault}
-use Rattle.laws_sides.specs.Below.PageClient.declared.fault.QueryFault.TheVariants.{HorizonRange, SameStop, UnknownFrom, UnknownTo}
-use Rattle.laws_sides.specs.Below.PageClient.declared.outcome.Outcome.{Outcome}
-use Rattle.laws_sides.specs.Below.PageClient.declared.outcome.Outcome.TheVariants as outcomes
-use Rattle.laws_sides.specs.Below.PageClient.declared.phase.Phase.{Phase}
-use Rattle.laws_sides.specs.Below.PageClient.declared.phase.Phase.TheVariants as phases
-use Rattle.laws_sides.specs.Below.PageClient.declared.want.Want.{Want}
-use Rattle.laws_sides.specs.Below.PageClient.declared.want.Want.TheVariants as wants
-use Rattle.laws_sides.specs.Below.PublisherSpec.PageAt.{named}
-use Rattle.laws_sides.specs.Below.PublisherSpec.Side.{Side, has_version}
+use Rattle.laws_pages.specs.Below.LcVersions.Pages.{CutPage, page_for}
+use Rattle.publisher_spec.specs.Below.PageJson.Sound.{IsSoundName}
+use Rattle.laws_pages.specs.Chain.{connections_along}
+use Rattle.laws_pages.specs.Needed.{IsOver}
+use Rattle.laws_pages.specs.Rides.{pages_on}
+use Rattle.page_client.specs.Client.{StandsFor, shown}
+use Rattle.page_client.specs.Shown.{IsRefusal, Shown}
+use Rattle.page_client.specs.declared.client.Client.{Client}
+use Rattle.page_client.specs.declared.fault.QueryFault.{QueryFault}
+use Rattle.page_client.specs.declared.fault.QueryFault.TheVariants.{HorizonRange, SameStop, UnknownFrom, UnknownTo}
+use Rattle.page_client.specs.declared.outcome.Outcome.{Outcome}
+use Rattle.page_client.specs.declared.outcome.Outcome.TheVariants as outcomes
+use Rattle.page_client.specs.declared.phase.Phase.{Phase}
+use Rattle.page_client.specs.declared.phase.Phase.TheVariants as phases
+use Rattle.page_client.specs.declared.want.Want.{Want}
+use Rattle.page_client.specs.declared.want.Want.TheVariants as wants
+use Rattle.publisher_spec.specs.PageAt.{named}
+use Rattle.publisher_spec.specs.Side.{Side, has_version}
 use Rattle.laws_clients.specs.Answered.{AnswersAt, NeededAt, names_at}
 use Rattle.laws_clients.specs.Published.{IsPublished, Published}
 use Rattle.laws_clients.specs.Wants.{AreWants, HasEnds, wants_of}

@@ -6,14 +6,14 @@ use Rattle.lc_model.specs.Run.{RunsForward}
 use Rattle.lc_model.specs.declared.answer.Answer.{Answer}
 use Rattle.lc_model.specs.declared.page.PageName.{PageName}
 use Rattle.lc_model.specs.declared.query.Query.{Query}
-use Rattle.laws_sides.specs.Below.LcVersions.Pages.{CutPage, departures_of, page_for}
-use Rattle.laws_sides.specs.Below.PageJson.declared.page.Page.{Page}
-use Rattle.laws_sides.specs.Below.LawsPages.Chain.{ArePagesOf, along_next, along_previous}
-use Rattle.laws_sides.specs.Below.PageClient.declared.client.Client.{Client}
-use Rattle.laws_sides.specs.Below.PageClient.declared.want.Want.{Want}
-use Rattle.laws_sides.specs.Below.PublisherSpec.PageAt.{linked}
-use Rattle.laws_sides.specs.Below.PublisherSpec.Response.{IsPageOf}
-use Rattle.laws_sides.specs.Below.PublisherSpec.Side.{IsLater, IsValidSide, Side, has_version}
+use Rattle.laws_pages.specs.Below.LcVersions.Pages.{CutPage, departures_of, page_for}
+use Rattle.publisher_spec.specs.Below.PageJson.declared.page.Page.{Page}
+use Rattle.laws_pages.specs.Chain.{ArePagesOf, along_next, along_previous}
+use Rattle.page_client.specs.declared.client.Client.{Client}
+use Rattle.page_client.specs.declared.want.Want.{Want}
+use Rattle.publisher_spec.specs.PageAt.{linked}
+use Rattle.publisher_spec.specs.Response.{IsPageOf}
+use Rattle.publisher_spec.specs.Side.{IsLater, IsValidSide, Side, has_version}
 use Rattle.laws_clients.specs.Answered.{AnswersAt, NeededAt}
 use Rattle.laws_clients.specs.Fits.{FitsSide}
 use Rattle.laws_clients.specs.Published.{IsOwnPage, IsPublished, Published, between}

@@ -4,5 +4,7 @@ pub mod Fits
 pub mod Laws
 pub mod Links
 pub mod Published
+pub mod Read
+pub mod Stated
 pub mod Steps
 pub mod Wants

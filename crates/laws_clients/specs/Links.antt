@@ -3,11 +3,11 @@
 use Rattle.std.specs.Prelude.{◌≡◌, ◌⊎◌, ℕ, List, [], ◌∷◌, reverse, Some, None}
 use Rattle.std.specs.List.{flat_map}
 use Rattle.lc_model.specs.declared.connection.Connection.{Connection}
-use Rattle.laws_sides.specs.Below.LcVersions.Cuts.{first_of}
-use Rattle.laws_sides.specs.Below.LcVersions.Pages.{departing, departures_of}
-use Rattle.laws_sides.specs.Below.PageJson.declared.page.Page.{Page}
-use Rattle.laws_sides.specs.Below.PublisherSpec.Response.{IsPageOf}
-use Rattle.laws_sides.specs.Below.PublisherSpec.Side.{IsTimetableAt, IsValidSide, Side}
+use Rattle.laws_pages.specs.Below.LcVersions.Cuts.{first_of}
+use Rattle.laws_pages.specs.Below.LcVersions.Pages.{departing, departures_of}
+use Rattle.publisher_spec.specs.Below.PageJson.declared.page.Page.{Page}
+use Rattle.publisher_spec.specs.Response.{IsPageOf}
+use Rattle.publisher_spec.specs.Side.{IsTimetableAt, IsValidSide, Side}
 
 -- After a page of the side come these, one after the other. Each is the page of the side that the link to the next one names. The last
 -- one has no such link.

@@ -4,16 +4,16 @@ use Rattle.std.specs.List.{last_or}
 use Rattle.lc_model.specs.Connection.{AreConnectionsOf}
 use Rattle.lc_model.specs.declared.connection.Connection.{Connection}
 use Rattle.lc_model.specs.declared.run.Run.{Run}
-use Rattle.laws_sides.specs.Below.LcVersions.Cuts.{first_of}
-use Rattle.laws_sides.specs.Below.LcVersions.History.{news_at}
-use Rattle.laws_sides.specs.Below.LcVersions.Pages.{CutPage, departures_of, pages_of}
-use Rattle.laws_sides.specs.Below.LcVersions.Timetable.{AreLiveRuns}
-use Rattle.laws_sides.specs.Below.PageJson.Sound.{IsSoundPage}
-use Rattle.laws_sides.specs.Below.PageJson.declared.page.Page.{Page}
-use Rattle.laws_sides.specs.Below.LawsPages.Chain.{names_of}
-use Rattle.laws_sides.specs.Below.PublisherSpec.PageAt.{named}
-use Rattle.laws_sides.specs.Below.PublisherSpec.Response.{IsPageOf}
-use Rattle.laws_sides.specs.Below.PublisherSpec.Side.{Side, date_in, has_version}
+use Rattle.laws_pages.specs.Below.LcVersions.Cuts.{first_of}
+use Rattle.laws_pages.specs.Below.LcVersions.History.{news_at}
+use Rattle.laws_pages.specs.Below.LcVersions.Pages.{CutPage, departures_of, pages_of}
+use Rattle.laws_pages.specs.Below.LcVersions.Timetable.{AreLiveRuns}
+use Rattle.publisher_spec.specs.Below.PageJson.Sound.{IsSoundPage}
+use Rattle.publisher_spec.specs.Below.PageJson.declared.page.Page.{Page}
+use Rattle.laws_pages.specs.Chain.{names_of}
+use Rattle.publisher_spec.specs.PageAt.{named}
+use Rattle.publisher_spec.specs.Response.{IsPageOf}
+use Rattle.publisher_spec.specs.Side.{Side, date_in, has_version}
 
 -- these are the runs of a side at a version: those of its timetable with their live calls, and the further ones
 abbrev pub AreLiveAt : Side → ℕ → List Run → Type 0

@@ -4,24 +4,24 @@ use Rattle.lc_model.specs.declared.doc.StopsDoc.{StopsDoc}
 use Rattle.lc_model.specs.declared.journey.Journey.{Journey}
 use Rattle.lc_model.specs.declared.page.PageName.{PageName}
 use Rattle.lc_model.specs.declared.query.Query.{Query}
-use Rattle.laws_sides.specs.Below.ConnectionUri.Base.{BaseParts}
-use Rattle.laws_sides.specs.Below.PageJson.declared.page.Page.{Page}
-use Rattle.laws_sides.specs.Below.PageClient.Client.{AfterStops, TakesPage, shown}
-use Rattle.laws_sides.specs.Below.PageClient.Gate.{IsGateReply}
-use Rattle.laws_sides.specs.Below.PageClient.Page.{IsPageReply}
-use Rattle.laws_sides.specs.Below.PageClient.Request.{Asks, known_at, target_of}
-use Rattle.laws_sides.specs.Below.PageClient.Shown.{Begins, Shown, after_gate, answered, ended, spent, want_of}
-use Rattle.laws_sides.specs.Below.PageClient.Stops.{IsStopsReply}
-use Rattle.laws_sides.specs.Below.PageClient.declared.client.Client.{Client}
-use Rattle.laws_sides.specs.Below.PageClient.declared.fault.PeerFault.{PeerFault}
-use Rattle.laws_sides.specs.Below.PageClient.declared.fault.QueryFault.{QueryFault}
-use Rattle.laws_sides.specs.Below.PageClient.declared.outcome.Outcome.TheVariants.{LinkFault, PeerWrong, Refused}
-use Rattle.laws_sides.specs.Below.PageClient.declared.want.Want.{Want}
-use Rattle.laws_sides.specs.Below.PageClient.declared.want.Want.TheVariants as wants
-use Rattle.laws_sides.specs.Below.PublisherSpec.Reply.{IsReply}
-use Rattle.laws_sides.specs.Below.PublisherSpec.Short.{StandsUnder}
-use Rattle.laws_sides.specs.Below.PublisherSpec.Side.{IsValidSide, Side}
-use Rattle.laws_sides.specs.Stated.{version_at}
+use Rattle.page_client.specs.Below.ConnectionUri.Base.{BaseParts}
+use Rattle.publisher_spec.specs.Below.PageJson.declared.page.Page.{Page}
+use Rattle.page_client.specs.Client.{AfterStops, TakesPage, shown}
+use Rattle.page_client.specs.Gate.{IsGateReply}
+use Rattle.page_client.specs.Page.{IsPageReply}
+use Rattle.page_client.specs.Request.{Asks, known_at, target_of}
+use Rattle.page_client.specs.Shown.{Begins, Shown, after_gate, answered, ended, spent, want_of}
+use Rattle.page_client.specs.Stops.{IsStopsReply}
+use Rattle.page_client.specs.declared.client.Client.{Client}
+use Rattle.page_client.specs.declared.fault.PeerFault.{PeerFault}
+use Rattle.page_client.specs.declared.fault.QueryFault.{QueryFault}
+use Rattle.page_client.specs.declared.outcome.Outcome.TheVariants.{LinkFault, PeerWrong, Refused}
+use Rattle.page_client.specs.declared.want.Want.{Want}
+use Rattle.page_client.specs.declared.want.Want.TheVariants as wants
+use Rattle.publisher_spec.specs.Reply.{IsReply}
+use Rattle.publisher_spec.specs.Short.{StandsUnder}
+use Rattle.publisher_spec.specs.Side.{IsValidSide, Side}
+use Rattle.laws_clients.specs.Stated.{version_at}
 use Rattle.laws_clients.specs.Answered.{NeededAt, answer_of}
 use Rattle.laws_clients.specs.Fits.{FitsSide, HasAnswered, HasFailed, IsDenied}
 use Rattle.laws_clients.specs.Published.{IsOwnPage}

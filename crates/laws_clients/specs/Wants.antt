@@ -4,13 +4,13 @@ use Rattle.lc_model.specs.Stop.{HasStop}
 use Rattle.lc_model.specs.declared.doc.StopsDoc.{StopsDoc}
 use Rattle.lc_model.specs.declared.page.PageName.{PageName}
 use Rattle.lc_model.specs.declared.query.Query.{Query}
-use Rattle.laws_sides.specs.Below.PageClient.Shown.{IsRefusal}
-use Rattle.laws_sides.specs.Below.PageClient.declared.fault.QueryFault.{QueryFault}
-use Rattle.laws_sides.specs.Below.PageClient.declared.outcome.Outcome.{Outcome}
-use Rattle.laws_sides.specs.Below.PageClient.declared.outcome.Outcome.TheVariants as outcomes
-use Rattle.laws_sides.specs.Below.PageClient.declared.want.Want.{Want}
-use Rattle.laws_sides.specs.Below.PageClient.declared.want.Want.TheVariants as wants
-use Rattle.laws_sides.specs.Below.PublisherSpec.Side.{Side}
+use Rattle.page_client.specs.Shown.{IsRefusal}
+use Rattle.page_client.specs.declared.fault.QueryFault.{QueryFault}
+use Rattle.page_client.specs.declared.outcome.Outcome.{Outcome}
+use Rattle.page_client.specs.declared.outcome.Outcome.TheVariants as outcomes
+use Rattle.page_client.specs.declared.want.Want.{Want}
+use Rattle.page_client.specs.declared.want.Want.TheVariants as wants
+use Rattle.publisher_spec.specs.Side.{Side}
 use Rattle.laws_clients.specs.Answered.{NeededAt}
 
 -- the stops document has the stop where the question begins and the one where it ends

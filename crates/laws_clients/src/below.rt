@@ -1,3 +1,5 @@
 //! What the crates above name of the crates below.
 
-pub use laws_sides::below::{journeys_along_next, live_without_news, some_least_arrival};
+pub use laws_pages::below::some_least_arrival;
+pub use laws_pages::journeys_along_next;
+pub use live_calls::live_without_news;

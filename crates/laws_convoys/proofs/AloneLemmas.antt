@@ -23,7 +23,7 @@ use Rattle.convoy.proofs.BelowLemmas.PageClient.PageLemmas.{waits_for}
 use Rattle.laws_clients.specs.Below.PublisherSpec.PageAt.{named}
 use Rattle.laws_clients.specs.Below.PublisherSpec.Side.{IsLater, IsValidSide, Side}
 use Rattle.laws_clients.proofs.BelowLemmas.PublisherSpec.LaterLemmas.{with_more}
-use Rattle.laws_clients.specs.Below.LawsSides.Stated.{version_at}
+use Rattle.laws_clients.specs.Stated.{version_at}
 use Rattle.laws_clients.specs.Answered.{names_at}
 use Rattle.laws_clients.specs.Fits.{FitsAt, FitsSide, WaitsForPage}
 use Rattle.laws_clients.specs.Wants.{AreWants, IsItsVersion, wants_of}

@@ -6,7 +6,7 @@ use Rattle.convoy.specs.Below.PageClient.declared.want.Want.{Want}
 use Rattle.convoy.specs.Below.PageClient.declared.want.Want.TheVariants as wants
 use Rattle.laws_clients.specs.Below.PublisherSpec.Side.{IsLater, Side}
 use Rattle.laws_clients.proofs.BelowLemmas.PublisherSpec.LaterLemmas.{later_itself, later_on}
-use Rattle.laws_clients.specs.Below.LawsSides.Stated.{version_at}
+use Rattle.laws_clients.specs.Stated.{version_at}
 use Rattle.laws_convoys.specs.Leaves.{IsNamedBetween, VersionAfter}
 
 -- this does not begin with the time gate

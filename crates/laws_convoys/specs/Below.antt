@@ -5,7 +5,6 @@ pub mod HttpText
 pub mod LawsClients
 pub mod LawsJourneys
 pub mod LawsPages
-pub mod LawsSides
 pub mod LcWorld
 pub mod LiveCalls
 pub mod PageClient

@@ -11,7 +11,7 @@ use Rattle.convoy.specs.Below.PageClient.declared.outcome.Outcome.TheVariants.{L
 use Rattle.convoy.specs.Below.PageClient.declared.want.Want.{Want}
 use Rattle.convoy.specs.Below.PageClient.declared.want.Want.TheVariants as wants
 use Rattle.laws_clients.specs.Below.PublisherSpec.Side.{IsLater, Side}
-use Rattle.laws_clients.specs.Below.LawsSides.Stated.{version_at}
+use Rattle.laws_clients.specs.Stated.{version_at}
 use Rattle.laws_clients.specs.Fits.{FitsSide}
 use Rattle.laws_clients.specs.Wants.{AreWants}
 use Rattle.convoy.specs.Finish.{HasOutcome}

@@ -11,7 +11,7 @@ use Rattle.laws_plan.specs.Near.{NoVersionAtGate, NoneIsCountedTwice, NoneIsLost
 use Rattle.laws_plan.specs.Planned.{EndsAt, VersionFitsFault}
 use Rattle.laws_plan.specs.Sides.{version_with}
 use Rattle.laws_replay.specs.Turns.{failed_in, given_in}
-use Rattle.laws_replay.specs.Below.LawsSides.Stated.{version_at}
+use Rattle.laws_replay.specs.Below.LawsClients.Stated.{version_at}
 use Rattle.lc_model.specs.declared.answer.Answer.{Answer}
 use Rattle.lc_model.specs.declared.query.Query.{Query}
 use Rattle.laws_replay.specs.Below.LcVersions.History.{Entry, moments_of}

@@ -25,7 +25,7 @@ use Rattle.laws_replay.specs.Events.{TurnsAreOfClients, questions_in}
 use Rattle.laws_replay.specs.Turns.{failed_in, given_in, order_of, rounds_of}
 use Rattle.laws_replay.specs.declared.event.Event.{Event}
 use Rattle.laws_replay.specs.Below.LawsReplies.Met.{Met}
-use Rattle.laws_replay.specs.Below.LawsSides.Stated.{version_at}
+use Rattle.laws_replay.specs.Below.LawsClients.Stated.{version_at}
 use Rattle.lc_model.specs.declared.page.PageName.{PageName}
 use Rattle.lc_model.specs.declared.query.Query.{Query}
 use Rattle.laws_replay.specs.Below.LcWorld.Link.{LinkSeen}

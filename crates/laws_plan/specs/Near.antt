@@ -6,7 +6,7 @@ use Rattle.laws_replay.specs.Below.LawsConvoys.Names.{Round}
 use Rattle.laws_plan.specs.Planned.{EndsAt}
 use Rattle.laws_plan.specs.Sides.{AreLater, sides_of}
 use Rattle.laws_replay.specs.Turns.{asked_in, failed_in, given_in}
-use Rattle.laws_replay.specs.Below.LawsSides.Stated.{version_at}
+use Rattle.laws_replay.specs.Below.LawsClients.Stated.{version_at}
 use Rattle.lc_model.specs.declared.query.Query.{Query}
 use Rattle.laws_replay.specs.Below.LcVersions.declared.update.Update.{Update}
 use Rattle.laws_replay.specs.Below.PageClient.declared.outcome.Outcome.TheVariants.{LinkFault}

@@ -1,7 +1,7 @@
 -- The sides of a link that grows while clients have their turns, and which version the time gate names to each client.
 use Rattle.std.specs.Prelude.{◌==◌, ℕ, List, [], ◌∷◌, Option, Some, if◌then◌else◌}
 use Rattle.laws_replay.specs.Below.LawsConvoys.Names.{Round}
-use Rattle.laws_replay.specs.Below.LawsSides.Stated.{version_at}
+use Rattle.laws_replay.specs.Below.LawsClients.Stated.{version_at}
 use Rattle.laws_replay.specs.Below.PageClient.declared.want.Want.{Want}
 use Rattle.laws_replay.specs.Below.PageClient.declared.want.Want.TheVariants as wants
 use Rattle.laws_replay.specs.Below.PublisherSpec.Side.{IsLater, Side}

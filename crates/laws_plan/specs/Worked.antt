@@ -2,7 +2,7 @@
 use Rattle.std.specs.Prelude.{◌≡◌, ℕ, [], ◌∷◌, Option, Some, None}
 use Rattle.laws_replay.specs.Below.LawsConvoys.Names.{Round}
 use Rattle.laws_plan.specs.Sides.{sides_of, version_after}
-use Rattle.laws_replay.specs.Below.LawsSides.Stated.{version_at}
+use Rattle.laws_replay.specs.Below.LawsClients.Stated.{version_at}
 use Rattle.laws_replay.specs.Below.PageClient.declared.want.Want.{Want}
 use Rattle.laws_replay.specs.Below.PageClient.declared.want.Want.TheVariants as wants
 use Rattle.laws_replay.specs.Below.PublisherSpec.Side.{Side}

@@ -25,7 +25,7 @@ use Rattle.cli_ask.specs.Below.PageClient.declared.outcome.Outcome.TheVariants a
 use Rattle.cli_ask.specs.Below.PageClient.declared.want.Want.{Want}
 use Rattle.cli_ask.specs.Below.PublisherSpec.Side.{Side}
 use Rattle.cli_ask.specs.Below.JourneyText.Script.{IsClient}
-use Rattle.cli_ask.specs.Below.LawsSides.Stated.{version_at}
+use Rattle.cli_ask.specs.Below.LawsClients.Stated.{version_at}
 use Rattle.cli_ask.specs.Below.Timetable.Laws.{AreSame}
 use Rattle.cli_ask.specs.Below.Timetable.declared.timetable.Timetable.{Timetable}
 use Rattle.cli_ask.specs.Below.VersionStore.Laws.{OneOutcome}

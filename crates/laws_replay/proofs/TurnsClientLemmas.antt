@@ -26,7 +26,7 @@ use Rattle.cli_ask.specs.Below.PageClient.declared.phase.Phase.TheVariants as ph
 use Rattle.cli_ask.specs.Below.PageClient.declared.want.Want.{Want}
 use Rattle.cli_ask.specs.Below.PageClient.declared.want.Want.TheVariants as wants
 use Rattle.cli_ask.specs.Below.PublisherSpec.Side.{Side}
-use Rattle.cli_ask.specs.Below.LawsSides.Stated.{version_at}
+use Rattle.cli_ask.specs.Below.LawsClients.Stated.{version_at}
 use Rattle.cli_ask.specs.Below.Timetable.declared.timetable.Timetable.{Timetable}
 use Rattle.cli_ask.specs.Below.VersionStore.Store.{Stored}
 use Rattle.cli_ask.specs.Publishing.{side_with, store_of}

@@ -13,7 +13,7 @@ use Rattle.laws_convoys.specs.Below.PageClient.declared.outcome.Outcome.TheVaria
 use Rattle.laws_convoys.specs.Below.PageClient.declared.want.Want.{Want}
 use Rattle.laws_convoys.specs.Below.PageClient.declared.want.Want.TheVariants as wants
 use Rattle.laws_convoys.specs.Below.PublisherSpec.Side.{Side}
-use Rattle.laws_convoys.specs.Below.LawsSides.Stated.{version_at}
+use Rattle.laws_convoys.specs.Below.LawsClients.Stated.{version_at}
 use Rattle.laws_convoys.specs.Below.LawsClients.Fits.{FitsSide}
 use Rattle.laws_convoys.specs.Below.LawsClients.Published.{IsOwnPage}
 use Rattle.laws_convoys.specs.Below.LawsClients.Steps.{BeginsInAgreement}

@@ -22,8 +22,8 @@ use Rattle.laws_convoys.specs.Below.PageClient.declared.want.Want.TheVariants as
 use Rattle.laws_convoys.proofs.BelowLemmas.PageClient.PageLemmas.{waits_for}
 use Rattle.laws_convoys.specs.Below.PublisherSpec.Short.{StandsUnder}
 use Rattle.laws_convoys.specs.Below.PublisherSpec.Side.{Side}
-use Rattle.laws_convoys.specs.Below.LawsSides.Stated.{version_at}
-use Rattle.laws_convoys.proofs.BelowLemmas.LawsSides.ReadLemmas.{stops_are_read}
+use Rattle.laws_convoys.specs.Below.LawsClients.Stated.{version_at}
+use Rattle.laws_convoys.proofs.BelowLemmas.LawsClients.ReadLemmas.{stops_are_read}
 use Rattle.laws_convoys.specs.Below.LawsClients.Fits.{FitsAt, FitsSide, WaitsForPage}
 use Rattle.laws_convoys.specs.Below.LawsClients.Published.{IsOwnPage}
 use Rattle.laws_convoys.specs.Below.LawsClients.Steps.{IsReplyTo, SaysOwnPage}

@@ -7,7 +7,7 @@ use Rattle.laws_convoys.specs.Below.PageClient.Client.{shown}
 use Rattle.laws_convoys.specs.Below.PageClient.Shown.{Shown}
 use Rattle.laws_convoys.specs.Below.PageClient.declared.want.Want.{Want}
 use Rattle.laws_convoys.specs.Below.PublisherSpec.Side.{Side}
-use Rattle.laws_convoys.specs.Below.LawsSides.Stated.{version_at}
+use Rattle.laws_convoys.specs.Below.LawsClients.Stated.{version_at}
 use Rattle.laws_convoys.specs.Below.LawsClients.Steps.{BeginsInAgreement}
 use Rattle.laws_convoys.specs.Leaves.{HasFault}
 use Rattle.laws_convoys.proofs.AloneLemmas.{no_fault_yet}

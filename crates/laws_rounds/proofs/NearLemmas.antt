@@ -9,7 +9,7 @@ use Rattle.laws_convoys.specs.Below.PageClient.declared.outcome.Outcome.{Outcome
 use Rattle.laws_convoys.specs.Below.PageClient.declared.outcome.Outcome.TheVariants as outcomes
 use Rattle.laws_convoys.specs.Below.PageClient.declared.want.Want.{Want}
 use Rattle.laws_convoys.specs.Below.PublisherSpec.Side.{Side}
-use Rattle.laws_convoys.specs.Below.LawsSides.Stated.{version_at}
+use Rattle.laws_convoys.specs.Below.LawsClients.Stated.{version_at}
 use Rattle.laws_convoys.specs.Below.LawsClients.Answered.{NeededAt}
 use Rattle.laws_convoys.specs.Below.LawsClients.Laws.{OneListOfNeededAt}
 use Rattle.laws_convoys.specs.Below.LawsClients.Wants.{wants_of}

@@ -7,7 +7,7 @@ use Rattle.laws_convoys.specs.Below.ConnectionUri.Base.{BaseParts}
 use Rattle.laws_convoys.specs.Below.LcWorld.Link.{IsHonestWith, IsQuietWith, LinkSeen}
 use Rattle.laws_convoys.specs.Below.PageClient.Shown.{IsRefusal, answered}
 use Rattle.laws_convoys.specs.Below.PublisherSpec.Side.{Side}
-use Rattle.laws_convoys.specs.Below.LawsSides.Stated.{version_at}
+use Rattle.laws_convoys.specs.Below.LawsClients.Stated.{version_at}
 use Rattle.laws_convoys.specs.Below.LawsClients.Wants.{HasEnds}
 use Rattle.change_rounds.specs.Laws.{AreAlike}
 use Rattle.rounds_client.specs.Course.{Point}

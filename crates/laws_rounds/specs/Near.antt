@@ -7,7 +7,7 @@ use Rattle.laws_convoys.specs.Below.LcWorld.Link.{IsQuietWith, LinkSeen}
 use Rattle.laws_convoys.specs.Below.PageClient.Shown.{answered}
 use Rattle.laws_convoys.specs.Below.PageClient.declared.outcome.Outcome.TheVariants as outcomes
 use Rattle.laws_convoys.specs.Below.PublisherSpec.Side.{Side}
-use Rattle.laws_convoys.specs.Below.LawsSides.Stated.{version_at}
+use Rattle.laws_convoys.specs.Below.LawsClients.Stated.{version_at}
 use Rattle.rounds_client.specs.declared.ending.FewestEnd.{FewestEnd}
 use Rattle.laws_rounds.specs.Right.{IsRight}
 

@@ -14,7 +14,7 @@ use Rattle.laws_convoys.specs.Below.PageClient.declared.outcome.Outcome.TheVaria
 use Rattle.laws_convoys.specs.Below.PageClient.declared.want.Want.{Want}
 use Rattle.laws_convoys.specs.Below.PageClient.declared.want.Want.TheVariants as wants
 use Rattle.laws_convoys.specs.Below.PublisherSpec.Side.{Side, has_version}
-use Rattle.laws_convoys.specs.Below.LawsSides.Stated.{version_at}
+use Rattle.laws_convoys.specs.Below.LawsClients.Stated.{version_at}
 use Rattle.laws_convoys.specs.Below.LawsClients.Answered.{NeededAt}
 use Rattle.laws_convoys.specs.Below.LawsClients.Wants.{AreWants, HasEnds, wants_of}
 use Rattle.laws_convoys.specs.Leaves.{LeavesHonest, RoseWithin}

@@ -20,7 +20,7 @@ use Rattle.cli_arrive.specs.Below.LawsArrive.Requests.{page_request, requests_of
 use Rattle.cli_arrive.specs.Below.LawsArrive.Right.{EndsAt, HasLatest}
 use Rattle.cli_arrive.specs.Below.LawsArrive.Ends.{EndsBackBy}
 use Rattle.cli_ask.specs.Below.LawsReplies.Made.{Made}
-use Rattle.cli_ask.specs.Below.LawsSides.Stated.{version_at}
+use Rattle.cli_ask.specs.Below.LawsClients.Stated.{version_at}
 use Rattle.lc_io.specs.declared.file.File.{File}
 use Rattle.lc_model.specs.Journey.{arrives_at}
 use Rattle.lc_model.specs.declared.answer.Answer.{Answer}

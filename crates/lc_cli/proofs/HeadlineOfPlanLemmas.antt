@@ -16,7 +16,7 @@ use Rattle.cli_plan.specs.Replied.{TellsAlong}
 use Rattle.cli_plan.specs.Sides.{version_after, version_with}
 use Rattle.cli_inputs.specs.Below.LawsReplay.Turns.{given_in}
 use Rattle.cli_inputs.specs.Below.LawsReplay.declared.event.Event.{Event}
-use Rattle.cli_ask.specs.Below.LawsSides.Stated.{version_at}
+use Rattle.cli_ask.specs.Below.LawsClients.Stated.{version_at}
 use Rattle.lc_io.specs.declared.file.File.{File}
 use Rattle.lc_model.specs.declared.query.Query.{Query}
 use Rattle.cli_ask.specs.Below.LcWorld.Link.{IsHonestWith, LinkSeen}

@@ -10,7 +10,7 @@ use Rattle.cli_ask.specs.Below.CliWords.Words.{SaysCommand}
 use Rattle.cli_ask.specs.Below.CliWords.declared.command.Arrive.{Arrive}
 use Rattle.cli_ask.specs.Below.CliWords.declared.command.Command.TheVariants as commands
 use Rattle.cli_arrive.specs.Below.LawsArrive.Latest.{LatestAt, NeededBackAt}
-use Rattle.cli_ask.specs.Below.LawsSides.Stated.{version_at}
+use Rattle.cli_ask.specs.Below.LawsClients.Stated.{version_at}
 use Rattle.lc_io.specs.declared.file.File.{File}
 use Rattle.lc_model.specs.Journey.{arrives_at}
 use Rattle.lc_model.specs.declared.journey.Journey.{Journey}

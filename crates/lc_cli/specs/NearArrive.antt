@@ -5,7 +5,7 @@ use Rattle.cli_ask.specs.Below.BackScan.Forward.{forward_query}
 use Rattle.cli_ask.specs.Below.BackScan.declared.arrive_query.ArriveQuery.{ArriveQuery}
 use Rattle.cli_ask.specs.declared.end.ClientEnd.{ClientEnd}
 use Rattle.cli_arrive.specs.Below.LawsArrive.Latest.{NeededBackAt}
-use Rattle.cli_ask.specs.Below.LawsSides.Stated.{version_at}
+use Rattle.cli_ask.specs.Below.LawsClients.Stated.{version_at}
 use Rattle.lc_model.specs.Journey.{leaves_at}
 use Rattle.lc_model.specs.declared.journey.Journey.{Journey}
 use Rattle.lc_model.specs.declared.page.PageName.{PageName}

@@ -1,2 +1,2 @@
 -- What the crates above name of `laws_journeys`.
-pub use Rattle.laws_sides.proofs.BelowLemmas.LawsJourneys.JourneysLemmas
+pub use Rattle.laws_pages.proofs.BelowLemmas.LawsJourneys.JourneysLemmas

@@ -1,8 +1,8 @@
 -- What the crates above name of `laws_pages`.
-pub use Rattle.laws_sides.proofs.BelowLemmas.LawsPages.AlongLemmas
-pub use Rattle.laws_sides.proofs.BelowLemmas.LawsPages.NeededLemmas
-pub use Rattle.laws_sides.proofs.BelowLemmas.LawsPages.PartJourneyLemmas
-pub use Rattle.laws_sides.proofs.BelowLemmas.LawsPages.RowLemmas
-pub use Rattle.laws_sides.proofs.BelowLemmas.LawsPages.StopLemmas
-pub use Rattle.laws_sides.proofs.BelowLemmas.LawsPages.TakenLemmas
-pub use Rattle.laws_sides.proofs.BelowLemmas.LawsPages.UpToLemmas
+pub use Rattle.laws_pages.proofs.AlongLemmas
+pub use Rattle.laws_pages.proofs.NeededLemmas
+pub use Rattle.laws_pages.proofs.PartJourneyLemmas
+pub use Rattle.laws_pages.proofs.RowLemmas
+pub use Rattle.laws_pages.proofs.StopLemmas
+pub use Rattle.laws_pages.proofs.TakenLemmas
+pub use Rattle.laws_pages.proofs.UpToLemmas

@@ -1,2 +1,2 @@
 -- What the crates above name of `live_calls`.
-pub use Rattle.laws_sides.proofs.BelowLemmas.LiveCalls.LawLemmas
+pub use Rattle.live_calls.proofs.LawLemmas

@@ -1,3 +1,3 @@
 -- What the crates above name of `publisher_spec`.
-pub use Rattle.laws_sides.proofs.BelowLemmas.PublisherSpec.LaterLemmas
-pub use Rattle.laws_sides.proofs.BelowLemmas.PublisherSpec.VersionLemmas
+pub use Rattle.publisher_spec.proofs.LaterLemmas
+pub use Rattle.publisher_spec.proofs.VersionLemmas

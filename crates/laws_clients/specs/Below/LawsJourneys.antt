@@ -1,2 +1,2 @@
 -- What the crates above name of `laws_journeys`.
-pub use Rattle.laws_sides.specs.Below.LawsJourneys.Least
+pub use Rattle.laws_pages.specs.Below.LawsJourneys.Least

@@ -1,5 +1,5 @@
 -- What the crates above name of `laws_pages`.
-pub use Rattle.laws_sides.specs.Below.LawsPages.Chain
-pub use Rattle.laws_sides.specs.Below.LawsPages.Needed
-pub use Rattle.laws_sides.specs.Below.LawsPages.Rides
-pub use Rattle.laws_sides.specs.Below.LawsPages.Stop
+pub use Rattle.laws_pages.specs.Chain
+pub use Rattle.laws_pages.specs.Needed
+pub use Rattle.laws_pages.specs.Rides
+pub use Rattle.laws_pages.specs.Stop

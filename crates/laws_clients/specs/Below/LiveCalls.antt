@@ -1,2 +1,2 @@
 -- What the crates above name of `live_calls`.
-pub use Rattle.laws_sides.specs.Below.LiveCalls.Laws
+pub use Rattle.live_calls.specs.Laws

@@ -1,3 +1,3 @@
 -- What the crates above name of `page_json`.
-pub use Rattle.laws_sides.specs.Below.PageJson.Sound
-pub use Rattle.laws_sides.specs.Below.PageJson.declared
+pub use Rattle.publisher_spec.specs.Below.PageJson.Sound
+pub use Rattle.publisher_spec.specs.Below.PageJson.declared

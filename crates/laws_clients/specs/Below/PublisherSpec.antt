@@ -1,6 +1,6 @@
 -- What the crates above name of `publisher_spec`.
-pub use Rattle.laws_sides.specs.Below.PublisherSpec.PageAt
-pub use Rattle.laws_sides.specs.Below.PublisherSpec.Reply
-pub use Rattle.laws_sides.specs.Below.PublisherSpec.Response
-pub use Rattle.laws_sides.specs.Below.PublisherSpec.Short
-pub use Rattle.laws_sides.specs.Below.PublisherSpec.Side
+pub use Rattle.publisher_spec.specs.PageAt
+pub use Rattle.publisher_spec.specs.Reply
+pub use Rattle.publisher_spec.specs.Response
+pub use Rattle.publisher_spec.specs.Short
+pub use Rattle.publisher_spec.specs.Side

@@ -13,7 +13,7 @@ use Rattle.publisher_spec.specs.Below.PageJson.declared.page.Page.{Page}
 use Rattle.publisher_spec.specs.Response.{IsPageOf}
 use Rattle.publisher_spec.specs.Short.{StandsUnder}
 use Rattle.publisher_spec.specs.Side.{Side, has_version}
-use Rattle.laws_sides.specs.Stated.{IsGatePage, IsStatedTo}
+use Rattle.laws_clients.specs.Stated.{IsGatePage, IsStatedTo}
 
 -- of the time gate's reply the page for the moment at which the question leaves
 abbrev pub GateIsRead : Type 0

@@ -20,7 +20,7 @@ use Rattle.publisher_spec.specs.declared.asked.Asked.{Asked}
 use Rattle.publisher_spec.specs.declared.asked.Asked.TheVariants as kinds
 use Rattle.publisher_spec.specs.declared.response.Response.{Response}
 use Rattle.publisher_spec.proofs.AskedLemmas.{same_behind}
-use Rattle.laws_sides.specs.Stated.{IsStatedTo, version_at}
+use Rattle.laws_clients.specs.Stated.{IsStatedTo, version_at}
 use Rattle.page_client.specs.Below.Memento.Negotiation.{Negotiates}
 
 -- ---- what the paths ask for

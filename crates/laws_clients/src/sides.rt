@@ -1,5 +1,5 @@
-ghost use Rattle.laws_sides.specs.Read.{GateIsRead, PageIsRead, StopsAreRead};
-ghost use Rattle.laws_sides.specs.Stated.{GateIsStated, PageIsStated, StopsAreStated};
+ghost use Rattle.laws_clients.specs.Read.{GateIsRead, PageIsRead, StopsAreRead};
+ghost use Rattle.laws_clients.specs.Stated.{GateIsStated, PageIsStated, StopsAreStated};
 
 /// The time gate's reply says the page for the moment at which the question leaves, at the version of its known moment.
 pub fn gate_is_stated()

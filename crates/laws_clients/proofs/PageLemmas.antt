@@ -26,11 +26,11 @@ use Rattle.publisher_spec.specs.declared.asked.Asked.TheVariants as kinds
 use Rattle.publisher_spec.specs.declared.response.Response.{Response}
 use Rattle.publisher_spec.specs.declared.response.Response.TheVariants as responses
 use Rattle.publisher_spec.proofs.OneReplyLemmas.{one_departure, one_page, one_version, the_one}
-use Rattle.laws_sides.specs.Stated.{PageIsStated}
-use Rattle.laws_sides.proofs.AskedLemmas.{answers, page_asked}
-use Rattle.laws_sides.proofs.CutPageLemmas.{page_advances, page_is_valid}
-use Rattle.laws_sides.proofs.TextLemmas.{CanBeRead, body_said, gate_url_fits, ok_len, says_parts}
-use Rattle.laws_sides.proofs.TimetableLemmas.{cuts_are_lawful, none_arrives_early}
+use Rattle.laws_clients.specs.Stated.{PageIsStated}
+use Rattle.laws_clients.proofs.AskedLemmas.{answers, page_asked}
+use Rattle.laws_clients.proofs.CutPageLemmas.{page_advances, page_is_valid}
+use Rattle.laws_clients.proofs.TextLemmas.{CanBeRead, body_said, gate_url_fits, ok_len, says_parts}
+use Rattle.laws_clients.proofs.TimetableLemmas.{cuts_are_lawful, none_arrives_early}
 
 -- a page of a side is valid
 pub side_page_is_valid : (side : Side) (version departs : ℕ) (page : Page) → IsValidSide side → IsPageOf side version departs page → IsValidPage page

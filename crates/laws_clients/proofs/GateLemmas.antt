@@ -19,9 +19,9 @@ use Rattle.publisher_spec.specs.Side.{Side, versions_of}
 use Rattle.publisher_spec.specs.declared.asked.Asked.TheVariants as kinds
 use Rattle.publisher_spec.specs.declared.response.Response.{Response}
 use Rattle.publisher_spec.proofs.OneReplyLemmas.{one_departure, one_negotiated, the_one}
-use Rattle.laws_sides.specs.Stated.{GateIsStated, IsSentTo, version_at}
-use Rattle.laws_sides.proofs.AskedLemmas.{answers, gate_asked, version_is_meant}
-use Rattle.laws_sides.proofs.TextLemmas.{CanBeRead, found_len, gate_url_fits, page_url_fits, says_parts}
+use Rattle.laws_clients.specs.Stated.{GateIsStated, IsSentTo, version_at}
+use Rattle.laws_clients.proofs.AskedLemmas.{answers, gate_asked, version_is_meant}
+use Rattle.laws_clients.proofs.TextLemmas.{CanBeRead, found_len, gate_url_fits, page_url_fits, says_parts}
 
 -- a question leaves at a moment
 leaves_in_range : (query : Query) → query.leave < 253_402_128_000

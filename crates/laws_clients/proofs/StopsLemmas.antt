@@ -14,9 +14,9 @@ use Rattle.publisher_spec.specs.Short.{StandsUnder}
 use Rattle.publisher_spec.specs.Side.{Side}
 use Rattle.publisher_spec.specs.declared.asked.Asked.TheVariants as kinds
 use Rattle.publisher_spec.specs.declared.response.Response.{Response}
-use Rattle.laws_sides.specs.Stated.{StopsAreStated}
-use Rattle.laws_sides.proofs.AskedLemmas.{answers, stops_asked}
-use Rattle.laws_sides.proofs.TextLemmas.{CanBeRead, body_said, ok_len, says_parts}
+use Rattle.laws_clients.specs.Stated.{StopsAreStated}
+use Rattle.laws_clients.proofs.AskedLemmas.{answers, stops_asked}
+use Rattle.laws_clients.proofs.TextLemmas.{CanBeRead, body_said, ok_len, says_parts}
 
 can_be_read : (side : Side) → StandsUnder side.base side → CanBeRead (stops_parts side.base true side.doc)
 can_be_read side stands = record {

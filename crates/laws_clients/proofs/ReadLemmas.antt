@@ -1,10 +1,10 @@
 -- A client reads what the reply says, and nothing else.
 use Rattle.std.proofs.Common.{Ok}
 use Rattle.page_client.proofs.OneReplyLemmas.{one_gate_reply, one_page_reply, one_stops_reply}
-use Rattle.laws_sides.specs.Read.{GateIsRead, PageIsRead, StopsAreRead}
-use Rattle.laws_sides.proofs.GateLemmas as gate
-use Rattle.laws_sides.proofs.PageLemmas as page
-use Rattle.laws_sides.proofs.StopsLemmas as stops
+use Rattle.laws_clients.specs.Read.{GateIsRead, PageIsRead, StopsAreRead}
+use Rattle.laws_clients.proofs.GateLemmas as gate
+use Rattle.laws_clients.proofs.PageLemmas as page
+use Rattle.laws_clients.proofs.StopsLemmas as stops
 
 pub gate_is_read : GateIsRead
 gate_is_read side query reply read stands recorded is =

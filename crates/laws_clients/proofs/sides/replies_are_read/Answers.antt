@@ -1,5 +1,5 @@
-use Rattle.laws_sides.proofs.ReadLemmas as lemmas
-use Rattle.laws_sides.proofs.laws.replies_are_read.Goals as goal
+use Rattle.laws_clients.proofs.ReadLemmas as lemmas
+use Rattle.laws_clients.proofs.sides.replies_are_read.Goals as goal
 
 pub returns-clause-gate : goal.returns-clause-gate
 returns-clause-gate c = lemmas.gate_is_read

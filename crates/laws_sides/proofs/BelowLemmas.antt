@@ -1,6 +1,0 @@
--- The lemmas of the crates below, for the crates above.
-pub mod LawsJourneys
-pub mod LawsPages
-pub mod LiveCalls
-pub mod PageClient
-pub mod PublisherSpec

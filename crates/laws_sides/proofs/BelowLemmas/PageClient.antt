@@ -1,3 +1,0 @@
--- What the crates above name of `page_client`.
-pub use Rattle.page_client.proofs.OneReplyLemmas
-pub use Rattle.page_client.proofs.PageLemmas

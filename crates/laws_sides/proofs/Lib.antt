@@ -1,9 +1,0 @@
-pub mod AskedLemmas
-pub mod BelowLemmas
-pub mod CutPageLemmas
-pub mod GateLemmas
-pub mod PageLemmas
-pub mod ReadLemmas
-pub mod StopsLemmas
-pub mod TextLemmas
-pub mod TimetableLemmas
