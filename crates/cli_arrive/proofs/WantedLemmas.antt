@@ -12,8 +12,8 @@ use Rattle.laws_arrive.specs.NeededBack.{needed_pages_back}
 use Rattle.cli_ask.specs.Below.LawsClients.Answered.{names_at}
 use Rattle.cli_ask.specs.Below.LawsClients.Wants.{HasEnds}
 use Rattle.cli_ask.proofs.BelowLemmas.LawsClients.PublishedLemmas.{is_lawful, is_timetable, made_of}
-use Rattle.laws_arrive.specs.Below.LawsJourneys.Least.{SomeLeastArrival}
-use Rattle.laws_arrive.proofs.BelowLemmas.LawsJourneys.JourneysLemmas.{journey_is_chain, waits}
+use Rattle.laws_arrive.specs.Below.LawsPages.Least.{SomeLeastArrival}
+use Rattle.laws_arrive.proofs.BelowLemmas.LawsPages.JourneysLemmas.{journey_is_chain, waits}
 use Rattle.laws_arrive.proofs.BelowLemmas.LawsPages.LegLemmas.{in_time_forward, in_time_in_order, leg_goes_forward}
 use Rattle.lc_model.specs.Change.{change_between}
 use Rattle.lc_model.specs.Journey.{AreRides, GoesOn, IsJourney, IsLeastArrival, arrival_of_rides, arrives_at, departure_of, leaves_at}

@@ -11,7 +11,7 @@ use Rattle.cli_words.specs.Below.LcVersions.Pages.{CutPage}
 use Rattle.laws_convoys.specs.Below.LawsClients.Answered.{names_at}
 use Rattle.laws_convoys.specs.Below.LawsClients.Wants.{AreWants, HasEnds, wants_of}
 use Rattle.laws_convoys.proofs.BelowLemmas.LawsClients.PublishedLemmas.{made_of}
-use Rattle.laws_convoys.specs.Below.LawsJourneys.Least.{SomeLeastArrival}
+use Rattle.laws_convoys.specs.Below.LawsPages.Least.{SomeLeastArrival}
 use Rattle.laws_convoys.specs.Below.LawsPages.Needed.{needed_pages}
 use Rattle.laws_convoys.specs.Below.PageClient.Shown.{HasHorizon, IsRefusal}
 use Rattle.laws_convoys.specs.Below.PageClient.declared.fault.QueryFault.TheVariants.{HorizonRange, SameStop}

@@ -14,7 +14,7 @@ use Rattle.lc_versions.specs.Pages.{CutPage}
 use Rattle.laws_convoys.proofs.BelowLemmas.LiveCalls.LawLemmas.{one_live_list}
 use Rattle.laws_convoys.specs.Below.PublisherSpec.PageAt.{named}
 use Rattle.laws_convoys.specs.Below.PublisherSpec.Side.{IsValidSide, Side}
-use Rattle.laws_journeys.proofs.JourneysLemmas.{chain_is_journey, journey_is_chain}
+use Rattle.laws_pages.proofs.JourneysLemmas.{chain_is_journey, journey_is_chain}
 use Rattle.laws_convoys.specs.Below.LawsClients.Answered.{names_at}
 use Rattle.laws_convoys.specs.Below.LawsClients.Published.{AreLiveAt, IsPublished, Published}
 use Rattle.laws_convoys.proofs.BelowLemmas.LawsClients.PublishedLemmas.{is_lawful, is_timetable, one_published, stays_by_news}

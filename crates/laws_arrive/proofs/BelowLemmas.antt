@@ -1,3 +1,2 @@
 -- The lemmas of the crates below, for the crates above.
-pub mod LawsJourneys
 pub mod LawsPages

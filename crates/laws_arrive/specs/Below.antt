@@ -1,4 +1,4 @@
 -- The definitions of the crates below, for the crates above.
 pub mod BackClient
-pub mod LawsJourneys
+pub mod LawsPages
 pub mod LcVersions

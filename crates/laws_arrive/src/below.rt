@@ -1,4 +1,4 @@
 //! What the crates above name of the crates below.
 
 pub use back_client::{ArriveEnd, arrive};
-pub use laws_journeys::some_least_arrival;
+pub use laws_pages::some_least_arrival;

@@ -11,7 +11,7 @@ ghost use Rattle.back_scan.specs.StandsFor.{IsLatestChain};
 ghost use Rattle.laws_arrive.specs.LatestOf.{IsLatestOf};
 ghost use Rattle.laws_arrive.specs.NeededBack.{AreNeededBack, IsTakenBackUntilOver, connections_back, pages_back};
 
-use laws_journeys::chains_are_journeys;
+use laws_pages::chains_are_journeys;
 use lc_model::{Connections, Query, Runs, StopsDoc};
 
 /// A client that takes page after page back until it is over takes the needed pages for the journeys of a timetable. A latest chain of

@@ -1,5 +1,4 @@
 -- The lemmas of the crates below, for the crates above.
-pub mod LawsJourneys
 pub mod LawsPages
 pub mod LiveCalls
 pub mod PublisherSpec

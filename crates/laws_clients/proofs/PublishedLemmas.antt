@@ -14,7 +14,7 @@ use Rattle.laws_pages.specs.Below.LcVersions.Timetable.{AreLiveRuns}
 use Rattle.live_calls.proofs.LawLemmas.{one_live_list}
 use Rattle.live_calls.proofs.LiveRunsLemmas.{live_runs_go_forward}
 use Rattle.publisher_spec.proofs.PageLemmas.{never_falls}
-use Rattle.laws_pages.proofs.BelowLemmas.LawsJourneys.RidesAreLegsLemmas.{Timetable}
+use Rattle.laws_pages.proofs.RidesAreLegsLemmas.{Timetable}
 use Rattle.laws_pages.proofs.RowLemmas.{never_empty}
 use Rattle.publisher_spec.specs.PageAt.{linked, page_among}
 use Rattle.publisher_spec.specs.Side.{IsTimetableAt, IsValidSide, Side, date_in, has_version}

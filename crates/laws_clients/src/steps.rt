@@ -1,4 +1,5 @@
-ghost use Rattle.laws_clients.specs.Steps.{BeginsInAgreement, GateKeepsIt, LinkFaultKeepsIt, PageIsOwn, PageKeepsIt, SpentKeepsIt, StopsKeepIt, EndsWithAnAnswer, EndsWithItsWants, FaultsCutShort, NoReplyFailsATest, RefusalsAreDeserved, TwoAndThePages, WantsTheNext};
+ghost use Rattle.laws_clients.specs.Steps.{BeginsInAgreement, GateKeepsIt, LinkFaultKeepsIt, PageIsOwn, PageKeepsIt, SpentKeepsIt, StopsKeepIt};
+ghost use Rattle.laws_clients.specs.Steps.{EndsWithAnAnswer, EndsWithItsWants, FaultsCutShort, NoReplyFailsATest, RefusalsAreDeserved, TwoAndThePages, WantsTheNext};
 
 /// A client begins in agreement with every side. Each step leaves it in agreement with the side that answered, from the one that
 /// it agreed with or a later one. At the time gate it gets the version that its question means there, and keeps it.

@@ -3,7 +3,6 @@ pub mod ConnectionUri
 pub mod Convoy
 pub mod HttpText
 pub mod LawsClients
-pub mod LawsJourneys
 pub mod LawsPages
 pub mod LcWorld
 pub mod LiveCalls

@@ -12,9 +12,8 @@ use Rattle.lc_model.specs.declared.ride.Ride.{Ride}
 use Rattle.lc_versions.specs.Pages.{CutPage, departing}
 use Rattle.laws_pages.specs.Chain.{ArePagesOf, along_previous, connections_along}
 use Rattle.laws_pages.specs.Rides.{ChainsAreThere, EarlyMayGo, LeastIsThere, LeastWithoutEarly, LegsStandThere, LegsThereAreLegs, connections_on}
-use Rattle.laws_pages.proofs.ChainLemmas.{before_moment}
+use Rattle.laws_pages.proofs.ChainLemmas.{before_moment, part_to}
 use Rattle.laws_pages.proofs.DeparturesLemmas.{part_at, sorted_from_order, whole_part}
-use Rattle.laws_pages.proofs.ChainLemmas.{part_to}
 use Rattle.laws_pages.proofs.PartJourneyLemmas.{chain_behind, chain_of_rest, least_over, leg_stands_behind}
 use Rattle.laws_pages.proofs.LegLemmas.{in_time_parts, leg_of_rest}
 use Rattle.laws_pages.proofs.RowLemmas.{row, whole_by_links}

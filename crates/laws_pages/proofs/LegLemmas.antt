@@ -10,7 +10,7 @@ use Rattle.lc_model.specs.Leg.{IsLegOf, in_time}
 use Rattle.lc_model.specs.declared.connection.Connection.{Connection}
 use Rattle.lc_model.specs.declared.query.Query.{Query}
 use Rattle.lc_model.specs.declared.ride.Ride.{Ride}
-use Rattle.laws_journeys.proofs.PlacesLemmas.{all_at, pair_at}
+use Rattle.laws_pages.proofs.PlacesLemmas.{all_at, pair_at}
 use Rattle.lc_model.proofs.ConnectionLemmas.{departs_by}
 
 -- a leg is one of each list in which its first and its last connection are in this order

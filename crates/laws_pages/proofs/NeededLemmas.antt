@@ -4,7 +4,7 @@ use Rattle.std.specs.Prelude.{◌↔◌}
 use Rattle.std.proofs.lemmas.Bool.{false_from_ne_true, le-leb, leb-true}
 use Rattle.std.proofs.lemmas.List.{append-nil, append_assoc}
 use Rattle.std.proofs.lemmas.List.Concat.{flat_map-append}
-use Rattle.lc_model.specs.Connection.{NoneArrivesEarly}
+use Rattle.lc_model.specs.Connection.{NoneArrivesEarly, last_departure}
 use Rattle.lc_model.specs.Leg.{IsListBest}
 use Rattle.lc_model.specs.Ride.{IsRideAt}
 use Rattle.lc_model.specs.declared.connection.Connection.{Connection}
@@ -15,7 +15,6 @@ use Rattle.lc_versions.specs.Pages.{CutPage}
 use Rattle.laws_pages.specs.Chain.{ArePagesOf, connections_along}
 use Rattle.laws_pages.specs.Needed.{IsOver, IsTakenUntilOver, OneListOfNeeded, needed_pages, reaches, up_to_bound}
 use Rattle.laws_pages.specs.Rides.{pages_on}
-use Rattle.lc_model.specs.Connection.{last_departure}
 use Rattle.laws_pages.specs.Stop.{bound_of}
 use Rattle.laws_pages.proofs.AlongLemmas.{least_is_there}
 use Rattle.laws_pages.proofs.TakenLemmas.{pages_may_be_all}

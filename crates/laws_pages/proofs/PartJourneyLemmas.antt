@@ -12,7 +12,7 @@ use Rattle.lc_model.specs.declared.doc.StopsDoc.{StopsDoc}
 use Rattle.lc_model.specs.declared.journey.Journey.{Journey}
 use Rattle.lc_model.specs.declared.query.Query.{Query}
 use Rattle.lc_model.specs.declared.ride.Ride.{Ride}
-use Rattle.laws_journeys.proofs.JourneysLemmas.{last_in_time, of_kind, rides_in_time, rides_over, waits}
+use Rattle.laws_pages.proofs.JourneysLemmas.{last_in_time, of_kind, rides_in_time, rides_over, waits}
 use Rattle.laws_pages.proofs.LegLemmas.{in_time_forward, in_time_in_order, in_time_parts, leg_before_rest, leg_behind_front, leg_goes_forward, leg_of_front, leg_of_rest}
 
 -- rides after one that does not depart early are of another kind where those are that do not depart early

@@ -3,14 +3,13 @@ use Rattle.std.proofs.Common.{◌≡◌, ℕ, ◌<◌, ◌≤◌, inl, inr, List
 use Rattle.std.specs.List.{All}
 use Rattle.std.proofs.lemmas.List.Concat.{flat_map-append}
 use Rattle.std.proofs.lemmas.List.Elements.{All-append, All-head, All-nil, All-tail, All-weaker}
-use Rattle.lc_model.specs.Connection.{InDepartureOrder, NoneArrivesEarly}
+use Rattle.lc_model.specs.Connection.{InDepartureOrder, NoneArrivesEarly, last_departure}
 use Rattle.lc_model.specs.Leg.{IsListBest}
 use Rattle.lc_model.specs.declared.connection.Connection.{Connection}
 use Rattle.lc_model.specs.declared.query.Query.{Query}
 use Rattle.lc_versions.specs.Pages.{CutPage}
 use Rattle.laws_pages.specs.Chain.{ArePagesOf, along_next, connections_along}
 use Rattle.laws_pages.specs.Rides.{connections_on, pages_on}
-use Rattle.lc_model.specs.Connection.{last_departure}
 use Rattle.laws_pages.specs.Stop.{PagesMayBeAll}
 use Rattle.laws_pages.proofs.AlongLemmas.{IsParted, least_is_there, parted_by_links}
 use Rattle.laws_pages.proofs.ChainLemmas.{Follow, by_or_not, next_goes_on, next_stays}

@@ -1,5 +1,6 @@
 pub mod Below
 pub mod Chain
+pub mod Least
 pub mod Needed
 pub mod Rides
 pub mod Stop

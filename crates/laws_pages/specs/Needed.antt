@@ -1,6 +1,6 @@
 -- The pages that a question needs, and a client that takes one page after the other and stops when it is done.
 use Rattle.std.specs.Prelude.{◌≡◌, ℕ, ◌≤◌, ◌⊎◌, ◌↔◌, List, [], ◌∷◌, ◌++◌, Option, Some, None, Bool, false, nat_le, if◌then◌else◌}
-use Rattle.lc_model.specs.Connection.{NoneArrivesEarly}
+use Rattle.lc_model.specs.Connection.{NoneArrivesEarly, last_departure}
 use Rattle.lc_model.specs.Journey.{IsLeastArrival}
 use Rattle.lc_model.specs.Leg.{IsListBest}
 use Rattle.lc_model.specs.Ride.{IsRideAt}
@@ -12,7 +12,6 @@ use Rattle.lc_model.specs.declared.run.Run.{Run}
 use Rattle.lc_versions.specs.Pages.{CutPage}
 use Rattle.laws_pages.specs.Chain.{ArePagesOf, connections_along, names_of}
 use Rattle.laws_pages.specs.Rides.{pages_on}
-use Rattle.lc_model.specs.Connection.{last_departure}
 use Rattle.laws_pages.specs.Stop.{bound_of}
 
 -- there is a last departure, and it is at the bound or later

@@ -13,7 +13,7 @@ ghost use Rattle.lc_versions.specs.Pages.{CutPage};
 ghost use Rattle.laws_pages.specs.Chain.{ArePagesOf};
 ghost use Rattle.laws_pages.specs.Rides.{ChainsAreThere, EarlyMayGo, LeastIsThere, LeastWithoutEarly, LegsStandThere, LegsThereAreLegs, connections_on};
 
-use laws_journeys::chains_are_journeys;
+use crate::chains_are_journeys;
 use lc_model::{Connections, Query, Runs, StopsDoc};
 
 /// The legs of a question are along the links to the next page. They begin with the page for the moment at which it

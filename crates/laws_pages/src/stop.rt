@@ -1,7 +1,7 @@
 ghost use Rattle.std.specs.Prelude.{◌≡◌, ◌≤◌, ◌++◌, ◌↔◌, ℕ, List, Option, Some};
 ghost use Rattle.std.specs.List.{All};
 ghost use Rattle.lc_model.specs.Call.{GoesForward};
-ghost use Rattle.lc_model.specs.Connection.{AreConnectionsOf};
+ghost use Rattle.lc_model.specs.Connection.{AreConnectionsOf, last_departure};
 ghost use Rattle.lc_model.specs.Journey.{IsLeastArrival};
 ghost use Rattle.lc_model.specs.Leg.{IsListBest};
 ghost use Rattle.lc_model.specs.Ride.{IsRideAt};
@@ -9,7 +9,6 @@ ghost use Rattle.lc_model.specs.declared.run.Run.{Run as RunValue};
 ghost use Rattle.lc_versions.specs.Pages.{CutPage};
 ghost use Rattle.laws_pages.specs.Chain.{ArePagesOf, connections_along};
 ghost use Rattle.laws_pages.specs.Rides.{pages_on};
-ghost use Rattle.lc_model.specs.Connection.{last_departure};
 ghost use Rattle.laws_pages.specs.Stop.{FrontMayBeAll, FrontWithChainMayBeAll, PagesMayBeAll, bound_of};
 
 use crate::journeys_along_next;

@@ -10,7 +10,7 @@ use Rattle.lc_model.specs.declared.query.Query.{Query}
 use Rattle.lc_model.specs.declared.run.Run.{Run}
 use Rattle.laws_clients.proofs.BelowLemmas.LiveCalls.LawLemmas.{one_live_list}
 use Rattle.laws_clients.specs.Below.LcVersions.Pages.{CutPage}
-use Rattle.laws_clients.proofs.BelowLemmas.LawsJourneys.JourneysLemmas.{chain_is_journey, journey_is_chain}
+use Rattle.laws_clients.proofs.BelowLemmas.LawsPages.JourneysLemmas.{chain_is_journey, journey_is_chain}
 use Rattle.laws_clients.specs.Below.PageJson.declared.page.Page.{Page}
 use Rattle.laws_clients.specs.Below.PublisherSpec.PageAt.{named}
 use Rattle.laws_clients.specs.Below.PublisherSpec.Response.{IsPageOf}

@@ -1,2 +1,3 @@
 -- What the crates above name of `laws_pages`.
+pub use Rattle.laws_pages.proofs.JourneysLemmas
 pub use Rattle.laws_pages.proofs.LegLemmas

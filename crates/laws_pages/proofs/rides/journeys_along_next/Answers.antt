@@ -3,7 +3,7 @@ use Rattle.lc_model.specs.Connection.{NoneArrivesEarly}
 use Rattle.lc_model.specs.Leg.{IsLegOf, in_time}
 use Rattle.lc_model.specs.Ride.{IsRideAt}
 use Rattle.lc_model.specs.Run.{InKeyOrder}
-use Rattle.laws_journeys.proofs.RidesAreLegsLemmas.{Timetable, leg_is_ride, ride_is_leg}
+use Rattle.laws_pages.proofs.RidesAreLegsLemmas.{Timetable, leg_is_ride, ride_is_leg}
 use Rattle.laws_pages.specs.Rides.{connections_on}
 use Rattle.laws_pages.proofs.AlongLemmas.{chains_are_there, legs_stand_there, legs_there_are_legs}
 use Rattle.laws_pages.proofs.PartJourneyLemmas.{least_over}

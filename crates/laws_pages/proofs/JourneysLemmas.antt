@@ -17,8 +17,8 @@ use Rattle.lc_model.specs.declared.journey.Journey.{Journey}
 use Rattle.lc_model.specs.declared.query.Query.{Query}
 use Rattle.lc_model.specs.declared.ride.Ride.{Ride}
 use Rattle.lc_model.specs.declared.run.Run.{Run}
-use Rattle.laws_journeys.proofs.PlacesLemmas.{all_at, pair_at}
-use Rattle.laws_journeys.proofs.RidesAreLegsLemmas.{Timetable, leg_is_ride, ride_is_leg}
+use Rattle.laws_pages.proofs.PlacesLemmas.{all_at, pair_at}
+use Rattle.laws_pages.proofs.RidesAreLegsLemmas.{Timetable, leg_is_ride, ride_is_leg}
 
 -- a change takes time
 pub waits : (seconds : Option ℕ) (arr dep : ℕ) → IsSomeAnd seconds (λ s. arr + s ≤ dep) → arr ≤ dep

@@ -13,11 +13,11 @@ use Rattle.lc_model.specs.declared.query.Query.{Query}
 use Rattle.lc_model.specs.declared.ride.Ride.{Ride}
 use Rattle.lc_model.specs.declared.walk.Walk.{Walk}
 use Rattle.lc_model.proofs.WalksLemmas.{one_walk_after, one_walk_before}
-use Rattle.laws_journeys.specs.Least.{SomeLeastArrival}
-use Rattle.laws_journeys.proofs.JourneysLemmas.{goes_over}
-use Rattle.laws_journeys.proofs.LeadsOnLemmas.{IsOf, LeadsOn, last_of, leads_on}
-use Rattle.laws_journeys.proofs.ListedLemmas.{Listed, rides_of}
-use Rattle.laws_journeys.proofs.NearestLemmas.{walk_after, walk_before}
+use Rattle.laws_pages.specs.Least.{SomeLeastArrival}
+use Rattle.laws_pages.proofs.JourneysLemmas.{goes_over}
+use Rattle.laws_pages.proofs.LeadsOnLemmas.{IsOf, LeadsOn, last_of, leads_on}
+use Rattle.laws_pages.proofs.ListedLemmas.{Listed, rides_of}
+use Rattle.laws_pages.proofs.NearestLemmas.{walk_after, walk_before}
 
 -- the last of the rides says where and when they alight
 alights : (ride : Ride) (rest : List Ride) → (last_of ride rest).alight ≡ alight_of (ride ∷ rest)

@@ -1,8 +1,8 @@
 use Rattle.std.proofs.Common.{subst}
 use Rattle.lc_model.specs.Run.{InKeyOrder}
-use Rattle.laws_journeys.proofs.JourneysLemmas.{chain_is_journey, journey_is_chain}
-use Rattle.laws_journeys.proofs.RidesAreLegsLemmas.{Timetable}
-use Rattle.laws_journeys.proofs.law.chains_are_journeys.Goals as goal
+use Rattle.laws_pages.proofs.JourneysLemmas.{chain_is_journey, journey_is_chain}
+use Rattle.laws_pages.proofs.RidesAreLegsLemmas.{Timetable}
+use Rattle.laws_pages.proofs.journeys.chains_are_journeys.Goals as goal
 
 pub returns : goal.returns
 returns c = λ journey.

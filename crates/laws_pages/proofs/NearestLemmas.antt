@@ -16,7 +16,7 @@ use Rattle.lc_model.specs.declared.query.Query.{Query}
 use Rattle.lc_model.specs.declared.stop.Stop.{Stop}
 use Rattle.lc_model.specs.declared.walk.Walk.{Walk}
 use Rattle.lc_model.proofs.ListLemmas.{Contains-cases, Contains-here, Contains-nil, Contains-there}
-use Rattle.laws_journeys.proofs.ListedLemmas.{Listed, ends_of, is_parent}
+use Rattle.laws_pages.proofs.ListedLemmas.{Listed, ends_of, is_parent}
 
 -- ---- the order by nearness
 

@@ -9,7 +9,7 @@ use Rattle.lc_model.specs.Journey.{CanChange, GoesOn}
 use Rattle.lc_model.specs.declared.doc.StopsDoc.{StopsDoc}
 use Rattle.lc_model.specs.declared.ride.Ride.{Ride}
 use Rattle.lc_model.proofs.ListLemmas.{Contains-cases, Contains-here, Contains-nil, Contains-there}
-use Rattle.laws_journeys.proofs.JourneysLemmas.{goes_over}
+use Rattle.laws_pages.proofs.JourneysLemmas.{goes_over}
 
 -- the ride is one of the list
 abbrev pub IsOf : List Ride → Ride → Type 0

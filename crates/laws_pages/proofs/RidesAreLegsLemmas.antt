@@ -21,9 +21,9 @@ use Rattle.lc_model.specs.declared.key.RunKey.{RunKey}
 use Rattle.lc_model.specs.declared.query.Query.{Query}
 use Rattle.lc_model.specs.declared.ride.Ride.{Ride}
 use Rattle.lc_model.specs.declared.run.Run.{Run}
-use Rattle.laws_journeys.proofs.OrderedLemmas.{departs_before, departure_cmp-total, key_cmp-self, not_both_less}
-use Rattle.laws_journeys.proofs.PairsLemmas.{calls_at, connection_at}
-use Rattle.laws_journeys.proofs.PlacesLemmas.{Stands, all_at, contains_from_stands, pair_at, stands_from_contains, stands_from_filter, stands_from_flat_map, stands_in_filter, stands_in_flat_map, within}
+use Rattle.laws_pages.proofs.OrderedLemmas.{departs_before, departure_cmp-total, key_cmp-self, not_both_less}
+use Rattle.laws_pages.proofs.PairsLemmas.{calls_at, connection_at}
+use Rattle.laws_pages.proofs.PlacesLemmas.{Stands, all_at, contains_from_stands, pair_at, stands_from_contains, stands_from_filter, stands_from_flat_map, stands_in_filter, stands_in_flat_map, within}
 
 -- a timetable: its runs in the order of their keys, each of which goes forward, and their connections
 pub record Timetable (runs : List Run) (list : List Connection) : Type 0 where

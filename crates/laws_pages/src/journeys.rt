@@ -7,7 +7,7 @@ ghost use Rattle.lc_model.specs.Leg.{IsChain};
 ghost use Rattle.lc_model.specs.Ride.{IsRideAt};
 ghost use Rattle.lc_model.specs.declared.journey.Journey.{Journey as JourneyValue};
 ghost use Rattle.lc_model.specs.declared.run.Run.{Run as RunValue};
-ghost use Rattle.laws_journeys.specs.Least.{SomeLeastArrival};
+ghost use Rattle.laws_pages.specs.Least.{SomeLeastArrival};
 
 use lc_model::{Connections, Query, Runs, StopsDoc};
 

@@ -1,2 +1,0 @@
--- What the crates above name of `laws_journeys`.
-pub use Rattle.laws_journeys.specs.Least

@@ -1,0 +1,2 @@
+-- What the crates above name of `laws_pages`.
+pub use Rattle.laws_pages.specs.Least
