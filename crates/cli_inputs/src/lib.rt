@@ -6,6 +6,7 @@
 pub mod below;
 mod inputs;
 mod laws;
+mod message;
 mod plan;
 mod refusal;
 mod script;

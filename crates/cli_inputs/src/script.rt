@@ -7,11 +7,12 @@ ghost use Rattle.laws_replay.specs.Below.JourneyText.Script.{NamesNone, TurnsAre
 ghost use Rattle.laws_replay.specs.Below.Timetable.Scope.{IsWindow};
 
 use crate::Refusal;
+use crate::message::test_message;
 use laws_replay::below::{
     File, Folder, FolderFail, LoadFault, MessageFault, Record, Scope, Script, ScriptFault,
     Timetable, load, read_script,
 };
-use laws_replay::{Event, Message, test_message};
+use laws_replay::{Event, Message};
 use lc_model::{Bytes, NoMemory, PlainData, Text};
 use std::alloc::Global;
 

@@ -12,4 +12,4 @@ pub use laws::{
     courses_are_caused, courses_are_heard, courses_are_right, faults_are_own, one_course,
     one_hearing,
 };
-pub use message::{Message, test_message};
+pub use message::Message;

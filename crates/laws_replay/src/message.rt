@@ -1,9 +1,7 @@
-ghost use Rattle.std.specs.Prelude.{length, ◌≤◌, IfErr, IsTrue, OnOk};
-ghost use Rattle.cli_ask.specs.Below.VersionStore.declared.message_fault.MessageFault.TheVariants.{NoMemory as OutOfMemory};
-ghost use Rattle.laws_replay.specs.Message.{IsMessageText, IsNoText, has_no_fault};
+ghost use Rattle.std.specs.Prelude.{◌≤◌, IsTrue, length};
+ghost use Rattle.laws_replay.specs.Message.{has_no_fault};
 
-use cli_ask::below::{File, MOST_MESSAGE_BYTES, MessageFault, RtFault, one_meaning, read_message};
-use std::alloc::Global;
+use cli_ask::below::File;
 
 /// A file with a realtime message: 16 MiB at most, and without a fault.
 #[derive(Drop)]
@@ -11,23 +9,4 @@ pub struct Message {
     pub file: File,
     ghost short: { length file.bytes ≤ 16_777_216 },
     ghost whole: { IsTrue (has_no_fault file.bytes) },
-}
-
-/// Tests whether the bytes of a file are a message that a publisher may receive.
-pub fn test_message(alloc: Global, bytes: &[u8]) -> Result<(), MessageFault>
-    ensures said { OnOk result (IsMessageText bytes.now) }
-    ensures fault { IfErr result (IsNoText bytes.now) }
-{
-    one_meaning();
-    let count = bytes.len();
-    if count > MOST_MESSAGE_BYTES {
-        return Err(MessageFault::TooLong {
-            bytes: count as u64,
-        });
-    }
-    match read_message(alloc, bytes) {
-        Ok(_) => Ok(()),
-        Err(RtFault::NoMemory) => Err(MessageFault::NoMemory),
-        Err(fault) => Err(MessageFault::Broken(fault)),
-    }
 }

@@ -1,0 +1,25 @@
+ghost use Rattle.std.specs.Prelude.{IfErr, OnOk};
+ghost use Rattle.laws_replay.specs.Below.VersionStore.declared.message_fault.MessageFault.TheVariants.{NoMemory as OutOfMemory};
+ghost use Rattle.laws_replay.specs.Message.{IsMessageText, IsNoText};
+
+use laws_replay::below::{MOST_MESSAGE_BYTES, MessageFault, RtFault, one_meaning, read_message};
+use std::alloc::Global;
+
+/// Tests whether the bytes of a file are a message that a publisher may receive.
+pub fn test_message(alloc: Global, bytes: &[u8]) -> Result<(), MessageFault>
+    ensures said { OnOk result (IsMessageText bytes.now) }
+    ensures fault { IfErr result (IsNoText bytes.now) }
+{
+    one_meaning();
+    let count = bytes.len();
+    if count > MOST_MESSAGE_BYTES {
+        return Err(MessageFault::TooLong {
+            bytes: count as u64,
+        });
+    }
+    match read_message(alloc, bytes) {
+        Ok(_) => Ok(()),
+        Err(RtFault::NoMemory) => Err(MessageFault::NoMemory),
+        Err(fault) => Err(MessageFault::Broken(fault)),
+    }
+}
