@@ -9,7 +9,6 @@ pub mod JourneyText
 pub mod LawsClients
 pub mod LawsConvoys
 pub mod LawsReplies
-pub mod LcDoors
 pub mod LcLinks
 pub mod LcTime
 pub mod LcVersions

@@ -4,10 +4,10 @@ use Rattle.std.specs.List.{concat}
 use Rattle.std.specs.Result.{IsOkAnd}
 use Rattle.wire_session.specs.Below.Fragmenter.Cutting.{chosen_cuts}
 use Rattle.wire_session.specs.Below.Fragmenter.declared.cutting.Cutting.{Cutting}
-use Rattle.lc_doors.specs.Door.{DoorSeen, DoorRecorded, GoesOn, OnCurrent, Wire}
-use Rattle.lc_doors.specs.Serving.{Exchanges, Halts, NothingToCome, SendsFront, Serves}
-use Rattle.lc_doors.specs.Serving as serve_one
-use Rattle.lc_doors.specs.declared.serving.Served.{Served}
+use Rattle.lc_io.specs.Door.{DoorSeen, DoorRecorded, GoesOn, OnCurrent, Wire}
+use Rattle.lc_io.specs.Serving.{Exchanges, Halts, NothingToCome, SendsFront, Serves}
+use Rattle.lc_io.specs.Serving as serve_one
+use Rattle.lc_io.specs.declared.serving.Served.{Served}
 use Rattle.lc_io.specs.Counts.{HasCause}
 use Rattle.lc_model.specs.declared.memory.NoMemory.{NoMemory}
 use Rattle.wire_session.specs.Below.Publisher.Held.{side_of}

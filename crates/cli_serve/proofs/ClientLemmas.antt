@@ -1,12 +1,12 @@
 -- One client more.
 use Rattle.std.proofs.Common.{◌≡◌, ◌∙◌, ℕ, ◌+◌, ◌<◌, ◌≤◌, min, Bool, true, false, List, [], ◌∷◌, ◌++◌, length, Option, None, Some, Result, Ok, Err, refl, sym, ap, subst, arith, inl, inr}
 use Rattle.std.proofs.lemmas.List.Sums.{sum_by-append}
-use Rattle.lc_doors.specs.Door.{Closes, Comes, DoorSeen, DoorRecorded, GoesOn, Opens, connected_after, hung_up}
-use Rattle.lc_doors.specs.declared.door.DoorFail.{DoorFail}
-use Rattle.lc_doors.specs.declared.door.DoorFail.TheVariants.{Failed, NoMemory}
-use Rattle.lc_doors.specs.declared.door.Next.{Next}
-use Rattle.lc_doors.specs.declared.door.Next.TheVariants.{Connection, Closed}
-use Rattle.lc_doors.specs.declared.serving.Served.{Served}
+use Rattle.lc_io.specs.Door.{Closes, Comes, DoorSeen, DoorRecorded, GoesOn, Opens, connected_after, hung_up}
+use Rattle.lc_io.specs.declared.door.DoorFail.{DoorFail}
+use Rattle.lc_io.specs.declared.door.DoorFail.TheVariants.{Failed, NoMemory}
+use Rattle.lc_io.specs.declared.door.Next.{Next}
+use Rattle.lc_io.specs.declared.door.Next.TheVariants.{Connection, Closed}
+use Rattle.lc_io.specs.declared.serving.Served.{Served}
 use Rattle.lc_io.proofs.CountLemmas.{RoseBy-none, RoseBy-then}
 use Rattle.lc_io.specs.Counts.{Rose, RoseBy}
 use Rattle.lc_model.specs.declared.memory.NoMemory.{NoMemory as OutOfMemory}

@@ -1,8 +1,8 @@
 -- How serving ends, by how its parts have ended.
 use Rattle.std.proofs.Common.{◌≡◌, ◌∙◌, ℕ, ◌≤◌, ◌-◌, ◌^◌, Bool, true, false, List, ◌++◌, length, Option, Result, Ok, Err, inl, inr, refl, sym, ap, subst, IsErrOf}
-use Rattle.lc_doors.specs.Door.{DoorSeen, DoorRecorded, GoesOn}
-use Rattle.lc_doors.specs.declared.door.DoorFail.{DoorFail}
-use Rattle.lc_doors.specs.declared.door.DoorFail.TheVariants as doors
+use Rattle.lc_io.specs.Door.{DoorSeen, DoorRecorded, GoesOn}
+use Rattle.lc_io.specs.declared.door.DoorFail.{DoorFail}
+use Rattle.lc_io.specs.declared.door.DoorFail.TheVariants as doors
 use Rattle.lc_io.specs.Counts.{HasCause, Rose, RoseBy}
 use Rattle.lc_io.specs.Sink.{SinkSeen}
 use Rattle.cli_serve.specs.Clients.{HasTaken}

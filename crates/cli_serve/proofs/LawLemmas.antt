@@ -2,7 +2,7 @@
 use Rattle.std.proofs.Common.{◌≡◌, ◌≢◌, ◌∙◌, ℕ, suc, ◌+◌, ◌⊎◌, Bool, true, false, List, [], ◌∷◌, ◌++◌, length, length-append, Option, None, Some, inl, inr, refl, sym, ap, subst, append_assoc, append-nil, arith}
 use Rattle.std.specs.List.{concat}
 use Rattle.std.proofs.lemmas.List.{append_cancel_left}
-use Rattle.lc_doors.specs.Door.{DoorRecorded, DoorSeen, GoesOn, Wire}
+use Rattle.lc_io.specs.Door.{DoorRecorded, DoorSeen, GoesOn, Wire}
 use Rattle.wire_session.specs.Below.PublisherSpec.Side.{Side}
 use Rattle.wire_session.specs.Laws.{OneOutput}
 use Rattle.wire_session.specs.SessionOut.{Said, SessionOut}

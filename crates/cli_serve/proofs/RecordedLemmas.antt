@@ -1,9 +1,9 @@
 -- What a door records of one visit more.
 use Rattle.std.proofs.Common.{◌≡◌, ◌∙◌, ℕ, ◌||◌, Bool, true, false, List, [], ◌∷◌, ◌++◌, map, Option, None, Some, refl, sym, ap, subst, append_assoc, append-nil, inl, inr, IfSome}
 use Rattle.std.specs.Option.{option_to_list}
-use Rattle.lc_doors.specs.Door.{Closes, DoorRecorded, GoesOn, OnCurrent, Opens, Wire, hung_up}
-use Rattle.lc_doors.specs.Door as door
-use Rattle.lc_doors.specs.Serving.{Exchanges}
+use Rattle.lc_io.specs.Door.{Closes, DoorRecorded, GoesOn, OnCurrent, Opens, Wire, hung_up}
+use Rattle.lc_io.specs.Door as door
+use Rattle.lc_io.specs.Serving.{Exchanges}
 use Rattle.cli_serve.specs.Recorded.{AreRecorded, AreWiresOf, IsWireOf, bytes_of, came}
 use Rattle.cli_serve.specs.Visit.{Visit}
 use Rattle.cli_serve.specs.Visiting.{IsOver, WasHeard}

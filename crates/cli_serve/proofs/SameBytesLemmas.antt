@@ -2,7 +2,7 @@
 use Rattle.std.proofs.Common.{◌≡◌, ◌∙◌, ℕ, zero, suc, ◌+◌, ◌≤◌, ◌⊎◌, Bool, true, false, List, [], ◌∷◌, ◌++◌, map, length, length-append, cond, Option, Some, inl, inr, IfSome, refl, sym, ap, ap₂, subst, append-nil, arith}
 use Rattle.std.specs.List.{concat}
 use Rattle.std.proofs.lemmas.List.Sums.{sum_by-cons}
-use Rattle.lc_doors.specs.Door.{DoorRecorded, Wire}
+use Rattle.lc_io.specs.Door.{DoorRecorded, Wire}
 use Rattle.lc_io.specs.Counts.{Rose, RoseBy}
 use Rattle.wire_session.specs.Below.LcVersions.History.{Entry}
 use Rattle.wire_session.specs.Below.PublisherSpec.Side.{Side}

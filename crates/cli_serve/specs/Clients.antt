@@ -1,8 +1,8 @@
 -- How clients are served, one after the other.
 use Rattle.std.specs.Prelude.{◌≡◌, ◌⊎◌, ℕ, ◌<◌, ◌≤◌, false, List, length, Option, Result, Ok, Err}
-use Rattle.lc_doors.specs.Door.{DoorSeen, DoorRecorded, GoesOn}
-use Rattle.lc_doors.specs.declared.door.DoorFail.{DoorFail}
-use Rattle.lc_doors.specs.declared.door.DoorFail.TheVariants.{Failed, NoMemory}
+use Rattle.lc_io.specs.Door.{DoorSeen, DoorRecorded, GoesOn}
+use Rattle.lc_io.specs.declared.door.DoorFail.{DoorFail}
+use Rattle.lc_io.specs.declared.door.DoorFail.TheVariants.{Failed, NoMemory}
 use Rattle.lc_io.specs.Counts.{RoseBy}
 use Rattle.wire_session.specs.Below.PublisherSpec.Side.{Side}
 use Rattle.cli_serve.specs.Tally.{Fits, IsTallyOf}

@@ -1,7 +1,7 @@
 -- The laws of serving: what comes of it is one where the door records, and near values are refused.
 use Rattle.std.specs.Prelude.{◌≡◌, ◌≢◌, ◌⊎◌, ℕ, true, false, List, [], ◌∷◌, ◌++◌, Some}
 use Rattle.std.specs.List.{concat}
-use Rattle.lc_doors.specs.Door.{DoorRecorded, DoorSeen, Wire}
+use Rattle.lc_io.specs.Door.{DoorRecorded, DoorSeen, Wire}
 use Rattle.wire_session.specs.Below.PublisherSpec.Side.{Side}
 use Rattle.wire_session.specs.SessionOut.{Said, SessionOut}
 use Rattle.cli_serve.specs.Serve.{Asked, IsServedWhole, Outside, WasVisited}

@@ -1,7 +1,7 @@
 -- What a door records of visits.
 use Rattle.std.specs.Prelude.{◌≡◌, ◌⊎◌, ℕ, true, false, List, [], ◌∷◌, ◌++◌, map, Option, Some, IfSome}
 use Rattle.std.specs.Option.{option_to_list}
-use Rattle.lc_doors.specs.Door.{DoorRecorded, Wire}
+use Rattle.lc_io.specs.Door.{DoorRecorded, Wire}
 use Rattle.cli_serve.specs.Visit.{Visit}
 
 -- all connections that came, in their order

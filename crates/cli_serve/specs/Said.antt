@@ -1,7 +1,7 @@
 -- The laws of what is said: it is what was sent and is pending, it is one, and it is nothing for no bytes.
 use Rattle.std.proofs.Common.{◌≡◌, ◌≢◌, ◌∙◌, ℕ, Bool, false, List, [], ◌++◌, length, refl, sym, ap}
 use Rattle.std.specs.List.{concat}
-use Rattle.lc_doors.specs.Talk.{Said}
+use Rattle.lc_io.specs.Talk.{Said}
 use Rattle.wire_session.specs.Below.Publisher.Held.{side_of}
 use Rattle.wire_session.specs.Below.PublisherSpec.Side.{Side}
 use Rattle.cli_serve.specs.Serving.{SaysOut, ServingState, StandsOut, serving_seen}

@@ -1,6 +1,6 @@
 -- Servings that begin from one side and hear the same bytes: what it means that they answer the same.
 use Rattle.std.specs.Prelude.{◌≡◌, ◌≢◌, ℕ, true, false, List, ◌++◌, map, Some}
-use Rattle.lc_doors.specs.Door.{DoorRecorded, DoorSeen, Wire}
+use Rattle.lc_io.specs.Door.{DoorRecorded, DoorSeen, Wire}
 use Rattle.lc_io.specs.Counts.{Rose}
 use Rattle.lc_io.specs.Sink.{SinkSeen}
 use Rattle.wire_session.specs.Below.LcVersions.declared.update.Update.{Update}

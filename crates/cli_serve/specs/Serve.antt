@@ -1,6 +1,6 @@
 -- What serving results in, by how it ends.
 use Rattle.std.specs.Prelude.{◌≡◌, ◌⊎◌, ℕ, ◌<◌, ◌≤◌, true, false, List, ◌++◌, length, Result, Ok, Err}
-use Rattle.lc_doors.specs.Door.{DoorSeen, GoesOn}
+use Rattle.lc_io.specs.Door.{DoorSeen, GoesOn}
 use Rattle.lc_io.specs.Counts.{Rose, RoseBy}
 use Rattle.lc_io.specs.Sink.{SinkSeen}
 use Rattle.wire_session.specs.Below.PublisherSpec.Side.{Side}

@@ -1,7 +1,7 @@
 -- A talk that answers requests from a publisher's side.
 use Rattle.std.specs.Prelude.{◌≡◌, ◌≢◌, ℕ, List, length}
 use Rattle.std.specs.List.{concat}
-use Rattle.lc_doors.specs.Talk.{Said, TalkSeen}
+use Rattle.lc_io.specs.Talk.{Said, TalkSeen}
 use Rattle.wire_session.specs.Below.Publisher.Held.{Held, side_of}
 use Rattle.wire_session.specs.Below.PublisherSpec.Side.{Side}
 use Rattle.wire_session.specs.Phase.{is_ended}

@@ -1,7 +1,7 @@
 -- What the parts of serving result in: a text that is put into the sink, the opening, and all of it.
 use Rattle.std.specs.Prelude.{◌≡◌, ◌⊎◌, ℕ, Bool, true, false, List, Result, Ok, Err}
-use Rattle.lc_doors.specs.Door.{GoesOn}
-use Rattle.lc_doors.specs.declared.door.DoorFail.{DoorFail}
+use Rattle.lc_io.specs.Door.{GoesOn}
+use Rattle.lc_io.specs.declared.door.DoorFail.{DoorFail}
 use Rattle.lc_io.specs.Counts.{Rose}
 use Rattle.lc_io.specs.Sink.{SinkSeen}
 use Rattle.lc_io.specs.declared.sink.SinkFail.{SinkFail}

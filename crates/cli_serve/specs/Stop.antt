@@ -1,6 +1,6 @@
 -- Why serving stopped.
-use Rattle.lc_doors.specs.declared.door.DoorFail.{DoorFail}
-use Rattle.lc_doors.specs.declared.door.DoorFail.TheVariants as doors
+use Rattle.lc_io.specs.declared.door.DoorFail.{DoorFail}
+use Rattle.lc_io.specs.declared.door.DoorFail.TheVariants as doors
 use Rattle.lc_io.specs.declared.sink.SinkFail.{SinkFail}
 use Rattle.lc_io.specs.declared.sink.SinkFail.TheVariants as sinks
 use Rattle.cli_serve.specs.declared.stop.Stop.{Stop}

@@ -1,7 +1,7 @@
 -- How visits are counted.
 use Rattle.std.specs.Prelude.{◌≡◌, ◌*◌, ◌≤◌, Bool, true, false, List, length}
-use Rattle.lc_doors.specs.declared.door.DoorFail.{DoorFail}
-use Rattle.lc_doors.specs.declared.door.DoorFail.TheVariants.{NoMemory}
+use Rattle.lc_io.specs.declared.door.DoorFail.{DoorFail}
+use Rattle.lc_io.specs.declared.door.DoorFail.TheVariants.{NoMemory}
 use Rattle.cli_serve.specs.Visit.{NoneLost, Visit, faults_of, requests_of}
 use Rattle.cli_serve.specs.declared.tally.Tally.{Tally}
 

@@ -1,7 +1,7 @@
 -- Visits of clients to a publisher, one after the other.
 use Rattle.std.specs.Prelude.{◌≡◌, ℕ, Bool, true, false, List, [], ◌∷◌, length, count_by, sum_by}
 use Rattle.std.specs.List.{All, concat}
-use Rattle.lc_doors.specs.Serving.{IsFront}
+use Rattle.lc_io.specs.Serving.{IsFront}
 use Rattle.wire_session.specs.Below.PublisherSpec.Side.{Side}
 use Rattle.wire_session.specs.SessionOut.{Said, SessionOut}
 

@@ -1,8 +1,8 @@
 -- How one client is served.
 use Rattle.std.specs.Prelude.{◌≡◌, ◌⊎◌, true, false, Option, Some, Result, Ok, Err}
-use Rattle.lc_doors.specs.Door.{DoorSeen, DoorRecorded, GoesOn, OnCurrent, hung_up}
-use Rattle.lc_doors.specs.Serving.{Exchanges, NothingToCome}
-use Rattle.lc_doors.specs.declared.serving.Served.{Served}
+use Rattle.lc_io.specs.Door.{DoorSeen, DoorRecorded, GoesOn, OnCurrent, hung_up}
+use Rattle.lc_io.specs.Serving.{Exchanges, NothingToCome}
+use Rattle.lc_io.specs.declared.serving.Served.{Served}
 use Rattle.lc_io.specs.Counts.{HasCause}
 use Rattle.lc_model.specs.declared.memory.NoMemory.{NoMemory}
 use Rattle.wire_session.specs.Below.PublisherSpec.Side.{Side}

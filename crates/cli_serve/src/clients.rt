@@ -1,13 +1,13 @@
 ghost use Rattle.std.specs.Prelude.{◌≤◌, IsErrOf, IsTrue};
 ghost use Rattle.wire_session.specs.Below.Fragmenter.Cutting.{chosen_cuts};
-ghost use Rattle.lc_doors.specs.declared.door.DoorFail.TheVariants.{Failed};
+ghost use Rattle.lc_io.specs.declared.door.DoorFail.TheVariants.{Failed};
 ghost use Rattle.lc_io.specs.Counts.{HasCause};
 ghost use Rattle.wire_session.specs.Below.Publisher.Held.{side_of};
 ghost use Rattle.cli_serve.specs.Clients.{HasTaken};
 
 use crate::tally::Tally;
 use crate::visit::visit;
-use lc_doors::{Door, DoorFail, Next};
+use lc_io::{Door, DoorFail, Next};
 use std::alloc::Global;
 use wire_session::below::{Cutting, Publisher};
 

@@ -11,8 +11,7 @@ use crate::clients::take_clients;
 use crate::lines::{put_opening, put_served};
 use crate::stop::Stop;
 use crate::tally::Tally;
-use lc_doors::{Door, DoorFail};
-use lc_io::Sink;
+use lc_io::{Door, DoorFail, Sink};
 use std::alloc::Global;
 use wire_session::below::{Cutting, Publisher};
 

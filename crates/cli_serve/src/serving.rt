@@ -5,7 +5,7 @@ ghost use Rattle.cli_serve.specs.Serving.{StandsOut};
 ghost use Rattle.wire_session.specs.Phase.{is_ended};
 ghost use Rattle.wire_session.specs.Stands.{IsOutput, Means, Stands, fresh};
 
-use lc_doors::Talk;
+use lc_io::Talk;
 use lc_model::NoMemory;
 use std::alloc::Global;
 use std::marker::Model;

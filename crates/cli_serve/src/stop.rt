@@ -1,5 +1,4 @@
-use lc_doors::DoorFail;
-use lc_io::SinkFail;
+use lc_io::{DoorFail, SinkFail};
 
 /// What serving ended by, before its end.
 #[derive(Clone, Copy, PartialEq, Eq)]

@@ -3,7 +3,7 @@ ghost use Rattle.cli_serve.specs.Tally.{Fits, IsTallyOf, ended_so};
 ghost use Rattle.cli_serve.specs.Visit.{Visit};
 ghost use Rattle.cli_serve.specs.Visiting.{CameOut};
 
-use lc_doors::{DoorFail, Served};
+use lc_io::{DoorFail, Served};
 use lc_model::NoMemory;
 
 /// What is counted of the connections so far.

@@ -5,7 +5,7 @@ ghost use Rattle.cli_serve.specs.Visit.{Visit};
 ghost use Rattle.cli_serve.specs.Visiting.{Answers, Visits};
 
 use crate::serving::Serving;
-use lc_doors::{Door, Served, serve_one};
+use lc_io::{Door, Served, serve_one};
 use lc_model::NoMemory;
 use std::alloc::Global;
 use wire_session::Session;

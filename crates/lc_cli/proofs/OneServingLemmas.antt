@@ -15,7 +15,7 @@ use Rattle.cli_ask.specs.Below.CliWords.declared.command.Command.TheVariants as 
 use Rattle.cli_ask.specs.Below.CliWords.declared.command.Publishing.{Publishing}
 use Rattle.cli_ask.specs.Below.CliWords.declared.command.Serve.{Serve}
 use Rattle.cli_ask.specs.Below.Fragmenter.Cutting.{chosen_cuts}
-use Rattle.cli_ask.specs.Below.LcDoors.Door.{DoorSeen}
+use Rattle.lc_io.specs.Door.{DoorSeen}
 use Rattle.lc_io.specs.Folder.{FolderSeen}
 use Rattle.lc_io.specs.Sink.{SinkSeen}
 use Rattle.lc_io.specs.declared.file.File.{File}

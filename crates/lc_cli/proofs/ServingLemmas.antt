@@ -3,7 +3,7 @@ use Rattle.std.proofs.Common.{Result, Ok, Err, arith, subst, sym}
 use Rattle.cli_serve.specs.Serve.{DoorNeverFell, ServesTo}
 use Rattle.cli_serve.specs.declared.fault.ServeFault.{ServeFault}
 use Rattle.cli_serve.specs.declared.fault.ServeFault.TheVariants as faults
-use Rattle.cli_ask.specs.Below.LcDoors.Door.{DoorSeen}
+use Rattle.lc_io.specs.Door.{DoorSeen}
 use Rattle.lc_io.specs.Counts.{Rose}
 use Rattle.lc_io.specs.Sink.{SinkSeen}
 use Rattle.lc_cli.specs.Clear.{IsAnswered}

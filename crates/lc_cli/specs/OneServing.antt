@@ -3,7 +3,7 @@ use Rattle.std.specs.Prelude.{◌≡◌, ◌≢◌, Bool, [], List, None, Some}
 use Rattle.cli_serve.specs.SameBytes.{AreOneSide, RecordsWell, ServeAlike}
 use Rattle.cli_ask.specs.Below.CliWords.declared.command.Published.{Published}
 use Rattle.cli_ask.specs.Below.CliWords.declared.command.Serve.{Serve}
-use Rattle.cli_ask.specs.Below.LcDoors.Door.{DoorRecorded}
+use Rattle.lc_io.specs.Door.{DoorRecorded}
 use Rattle.lc_io.specs.declared.file.File.{File}
 use Rattle.cli_ask.specs.Below.LcWorld.Link.{LinkSeen}
 use Rattle.cli_ask.specs.Below.PublisherSpec.Side.{Side}

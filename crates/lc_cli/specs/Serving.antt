@@ -4,7 +4,7 @@ use Rattle.cli_serve.specs.Serve.{Asked, ServesTo}
 use Rattle.cli_serve.specs.declared.fault.ServeFault.{ServeFault}
 use Rattle.cli_serve.specs.declared.fault.ServeFault.TheVariants as faults
 use Rattle.cli_ask.specs.Below.Fragmenter.Cutting.{chosen_cuts}
-use Rattle.cli_ask.specs.Below.LcDoors.Door.{DoorSeen}
+use Rattle.lc_io.specs.Door.{DoorSeen}
 use Rattle.lc_io.specs.Sink.{SinkSeen}
 use Rattle.cli_ask.specs.Below.Publisher.Held.{side_of}
 use Rattle.lc_cli.specs.Refusal.{no_memory_line}

@@ -1,6 +1,6 @@
 -- What a run results in: its status, with the cause, and what it leaves in the sink.
 use Rattle.std.specs.Prelude.{◌≡◌, ◌⊎◌, ℕ, List}
-use Rattle.cli_ask.specs.Below.LcDoors.Door.{DoorSeen}
+use Rattle.lc_io.specs.Door.{DoorSeen}
 use Rattle.lc_io.specs.Folder.{FolderSeen}
 use Rattle.lc_io.specs.Sink.{SinkSeen}
 use Rattle.cli_ask.specs.Below.LcWorld.Link.{LinkSeen}

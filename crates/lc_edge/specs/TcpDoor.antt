@@ -1,6 +1,6 @@
 -- Doors of sockets.
 use Rattle.std.specs.Prelude.{ℕ, Bool, None}
-use Rattle.lc_world.specs.Below.LcDoors.Door.{DoorSeen}
+use Rattle.lc_io.specs.Door.{DoorSeen}
 
 -- whether the door listens, whether it has a current connection, and how often it and its connections have failed
 pub record TcpDoorState : Type 0 where

@@ -1,8 +1,8 @@
 ghost use Rattle.std.specs.Prelude.{◌≡◌, ◌<◌, ◌≤◌, true, false, length, Ok, Err, None, IfOk, IsErrOf, IsTrue, OnErr, OnOk};
 ghost use Rattle.lc_io.specs.Counts.{Counts, HasCause, one_more};
-ghost use Rattle.lc_world.specs.Below.LcDoors.Door.{connected_after, listens_after};
-ghost use Rattle.lc_world.specs.Below.LcDoors.declared.door.DoorFail.TheVariants.{Failed};
-ghost use Rattle.lc_world.specs.Below.LcDoors.declared.door.Next.TheVariants.{Connection};
+ghost use Rattle.lc_io.specs.Door.{connected_after, listens_after};
+ghost use Rattle.lc_io.specs.declared.door.DoorFail.TheVariants.{Failed};
+ghost use Rattle.lc_io.specs.declared.door.Next.TheVariants.{Connection};
 
 use crate::caller::Caller;
 use lc_world::{Door, DoorFail, Next};

@@ -1,7 +1,17 @@
 pub mod Counts
+pub mod Door
+pub mod EchoTalk
 pub mod Folder
+pub mod Laws
+pub mod MemDoor
 pub mod MemFolder
 pub mod MemSink
+pub mod MemWire
+pub mod MemWires
+pub mod Near
+pub mod Pieces
+pub mod Serving
 pub mod Sink
 pub mod SureFolder
 pub mod SureSink
+pub mod Talk

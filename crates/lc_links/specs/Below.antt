@@ -1,6 +1,5 @@
 -- The definitions of the crates below, for the crates above.
 pub mod ConnectionUri
-pub mod LcDoors
 pub mod LcWorld
 pub mod Publisher
 pub mod PublisherSpec

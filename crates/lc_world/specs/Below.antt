@@ -1,5 +1,4 @@
 -- The definitions of the crates below, for the crates above.
 pub mod ConnectionUri
 pub mod HttpText
-pub mod LcDoors
 pub mod PublisherSpec

@@ -3,9 +3,9 @@ mod pieces;
 mod serving;
 
 ghost use Rattle.std.specs.Prelude.{◌≡◌, IsTrue};
-ghost use Rattle.lc_doors.specs.Door.{DoorSeen};
+ghost use Rattle.lc_io.specs.Door.{DoorSeen};
 
-use lc_doors::{Door, DoorFail, Next, SureDoor};
+use lc_io::{Door, DoorFail, Next, SureDoor};
 use pieces::connections;
 use rows_common::{Draft, Unmade, put_bytes, put_count, put_flag, put_line, put_number};
 use std::alloc::Global;

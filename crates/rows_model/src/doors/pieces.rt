@@ -1,6 +1,6 @@
 //! The bytes of a client, which come in two pieces.
 use crate::making::bytes;
-use lc_doors::Pieces;
+use lc_io::Pieces;
 use lc_model::Bytes;
 use rows_common::Unmade;
 use std::alloc::Global;

@@ -3,7 +3,7 @@ ghost use Rattle.std.specs.Prelude.{◌≤◌, IsTrue};
 ghost use Rattle.std.specs.Option.{is_some};
 
 use super::pieces::connections;
-use lc_doors::{Door, EchoTalk, MemDoor, Next, Served, serve_one};
+use lc_io::{Door, EchoTalk, MemDoor, Next, Served, serve_one};
 use rows_common::{Unmade, put_bytes, put_flag, put_line, put_number};
 use std::alloc::Global;
 

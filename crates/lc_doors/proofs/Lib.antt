@@ -1,5 +1,0 @@
-mod EchoLemmas
-mod NearLemmas
-mod PieceLemmas
-mod ServeLemmas
-mod RecordedLemmas
