@@ -13,8 +13,8 @@ use crate::member::Member;
 use crate::steps::ask;
 use lc_model::{NoMemory, PageName};
 use lc_world::Link;
-use page_client::{PageCache, Want};
 use page_client::below::{Base, Page};
+use page_client::{PageCache, Want};
 use std::alloc::Global;
 
 /// The turn of a member: it takes the reply to what it wants, or a cached page.

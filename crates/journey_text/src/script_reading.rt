@@ -4,9 +4,9 @@ ghost use Rattle.journey_text.specs.Script.{NamesNone, SayRecords, TurnsAreOfCli
 ghost use Rattle.journey_text.specs.declared.script_fault.ScriptFault.{ScriptFault as Fault};
 ghost use Rattle.journey_text.specs.declared.script.Record.{Record as Said};
 
+use crate::script::{Record, Script};
 use crate::script_fault::ScriptFault;
 use crate::script_row::record_at;
-use crate::script::{Record, Script};
 use gtfs_rows::Records;
 use lc_model::Items;
 use std::alloc::Global;

@@ -13,7 +13,7 @@ use Rattle.lc_time.specs.declared.zone.Zone.TheVariants.{Utc}
 use Rattle.lc_time.proofs.CalendarLemmas.{number_at_date}
 use Rattle.service_days.specs.Days.{day_number}
 use Rattle.service_days.specs.Laws.{MidnightInUtc, ShownInUtc}
-use Rattle.lc_clock.proofs.DayLemmas.{date_is, shown_day}
+use Rattle.lc_time.proofs.DayLemmas.{date_is, shown_day}
 
 utc_anchor : (date : ServiceDate) → anchor_of Utc date ≡ moment_at (day_number date *ℤ pos 86_400)
 unfolding offset_shown civil_seconds

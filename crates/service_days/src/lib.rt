@@ -1,4 +1,4 @@
-//! Zones as words, and the dates of services; it hands on what a zone's clock shows. It builds on `lc_clock`, on the typed
+//! Zones as words, and the dates of services; it hands on what a zone's clock shows. It builds on `lc_time`, on the typed
 //! rows of `gtfs_calendars` and on the zones of `jiff`.
 #![tactic(auto)]
 
@@ -11,7 +11,6 @@ mod zone_word;
 
 pub use dates::days;
 pub use laws::{days_in_utc, one_list_of_days, one_zone_a_word};
-pub use lc_clock::{anchor, civil_date};
-pub use lc_time::Zone;
+pub use lc_time::{Zone, anchor, civil_date};
 pub use service_day::{Days, ServiceDay};
 pub use zone_word::{ZoneFault, read_zone, zone_file};

@@ -7,8 +7,8 @@ ghost use Rattle.service_days.specs.Listing.{Gains};
 
 use gtfs_calendars::Weekly;
 use jiff_core::civil::Date;
-use lc_clock::{library_date, service_date};
 use lc_model::{NoMemory, ServiceDate};
+use lc_time::{library_date, service_date};
 use std::alloc::Global;
 
 /// The number of the date's day, 0 for 1970-01-01.

@@ -13,9 +13,8 @@ ghost use Rattle.version_store.specs.Spots.{StayAt};
 ghost use Rattle.version_store.specs.declared.kept.Marked.{Marked as StatedMarked};
 
 use crate::spots::Spot;
-use lc_clock::civil_date;
 use lc_model::{Moment, NoMemory, ServiceDate};
-use lc_time::Zone;
+use lc_time::{Zone, civil_date};
 use lc_versions::EntityNews;
 use std::alloc::Global;
 use std::collections::BTreeSet;

@@ -1,5 +1,5 @@
 //! The versions of a timetable: the messages that were admitted, and the runs, departures and rows of each version. It builds
-//! on `live_calls` for calls and runs under news, on `trip_updates` for messages, and on `lc_clock` for dates.
+//! on `live_calls` for calls and runs under news, on `trip_updates` for messages, and on `lc_time` for dates.
 #![tactic(auto)]
 
 mod admission;

@@ -3,8 +3,8 @@ use Rattle.jiff_core.specs.declared.civil.datetime.DateTime.{DateTime}
 use Rattle.jiff_core.specs.declared.civil.date.Date.{Date}
 use Rattle.jiff_core.specs.declared.civil.time.Time.{Time}
 use Rattle.lc_time.specs.Zone.{noon}
-use Rattle.lc_clock.proofs.AnchorLemmas.{is_noon}
-use Rattle.lc_clock.proofs.clock.noon_of.Goals as goal
+use Rattle.lc_time.proofs.AnchorLemmas.{is_noon}
+use Rattle.lc_time.proofs.zone_clock.noon_of.Goals as goal
 
 abbrev at : Date → Time → DateTime
 at date time = record { date = date; time = time }

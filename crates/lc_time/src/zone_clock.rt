@@ -3,11 +3,11 @@ ghost use Rattle.jiff_tz.specs.Ambiguous.{compatible_offset};
 ghost use Rattle.jiff_tz.specs.Tzif.{floor_second};
 ghost use Rattle.lc_time.specs.Zone.{anchor_of, date_shown, library_date, moment_at, noon_of, offset_at, offset_shown};
 
+use crate::Zone;
 use jiff_core::civil::{Date, DateTime, Time};
 use jiff_core::{Offset, Timestamp};
 use jiff_tz::AmbiguousOffset;
 use lc_model::{MOMENTS_END, Moment, ServiceDate};
-use lc_time::Zone;
 
 const HALF_A_DAY: i64 = 43_200;
 
@@ -31,7 +31,7 @@ pub fn civil_date(zone: &Zone, moment: Moment) -> ServiceDate
     service_date(shown.date)
 }
 
-#[tactic(auto, unfolding(lc_time::specs::Zone::offset_at))]
+#[tactic(auto, unfolding(crate::specs::Zone::offset_at))]
 /// The offset of the zone's clock at the moment.
 fn offset_at(zone: &Zone, moment: Moment) -> Offset
     ensures { result.seconds ≡ offset_at zone.now (pos moment) }
@@ -43,7 +43,7 @@ fn offset_at(zone: &Zone, moment: Moment) -> Offset
     }
 }
 
-#[tactic(auto, unfolding(lc_time::specs::Zone::offset_shown))]
+#[tactic(auto, unfolding(crate::specs::Zone::offset_shown))]
 /// The offset of the zone's clock when it shows the date and time.
 fn offset_shown(zone: &Zone, shown: DateTime) -> Offset
     ensures { result.seconds ≡ offset_shown zone.now shown }

@@ -1,7 +1,7 @@
 use Rattle.std.proofs.Common.{ap}
 use Rattle.jiff_core.specs.declared.civil.datetime.DateTime.{DateTime}
-use Rattle.lc_clock.proofs.AnchorLemmas.{anchor_is, no_anchor}
-use Rattle.lc_clock.proofs.clock.anchor.Goals as goal
+use Rattle.lc_time.proofs.AnchorLemmas.{anchor_is, no_anchor}
+use Rattle.lc_time.proofs.zone_clock.anchor.Goals as goal
 
 pub returns-in-Ok : goal.returns-in-Ok
 returns-in-Ok c =

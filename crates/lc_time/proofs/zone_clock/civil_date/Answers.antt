@@ -2,8 +2,8 @@ use Rattle.std.proofs.Common.{ℤ, pos, ◌+ℤ◌, arith, subst}
 use Rattle.std.specs.Int.{int_div_euclid}
 use Rattle.jiff_core.proofs.SignedLemmas.{signed_arith}
 use Rattle.lc_time.specs.Calendar.{day_of}
-use Rattle.lc_clock.proofs.DayLemmas.{IsShown, clock_shows, date_is}
-use Rattle.lc_clock.proofs.clock.civil_date.Goals as goal
+use Rattle.lc_time.proofs.DayLemmas.{IsShown, clock_shows, date_is}
+use Rattle.lc_time.proofs.zone_clock.civil_date.Goals as goal
 
 shown : (c : goal.After-service_date-arg-1) → IsShown c.to_datetime-shown.result.date (day_of (int_div_euclid (pos c.args.moment +ℤ c.offset_at.result.seconds) (pos 86_400)))
 shown c =

@@ -1,2 +1,0 @@
-mod AnchorLemmas
-pub mod DayLemmas
