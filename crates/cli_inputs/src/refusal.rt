@@ -1,6 +1,5 @@
 use laws_replay::below::{LoadFault, RtFault};
 use lc_model::{NoMemory, Text};
-use std::alloc::AllocFailed;
 
 /// Why a command is not carried out, for a cause that is no client's.
 #[derive(Drop)]
@@ -20,17 +19,6 @@ pub enum Refusal {
     BrokenUpdate { name: Text, fault: RtFault },
 }
 
-impl From<LoadFault> for Refusal {
-    ghost use Rattle.std.specs.Prelude.{◌≡◌};
-    ghost use Rattle.cli_inputs.specs.declared.refusal.Refusal.TheVariants.{Load};
-
-    ghost from_gives = { λ fault refusal. refusal ≡ Load fault };
-
-    fn from(fault: LoadFault) -> Refusal {
-        Refusal::Load(fault)
-    }
-}
-
 impl From<NoMemory> for Refusal {
     ghost use Rattle.std.specs.Prelude.{◌≡◌};
     ghost use Rattle.laws_replay.specs.Below.Timetable.declared.fault.LoadFault.TheVariants.{NoMemory as OutOfMemory};
@@ -39,18 +27,6 @@ impl From<NoMemory> for Refusal {
     ghost from_gives = { λ _ refusal. refusal ≡ Load OutOfMemory };
 
     fn from(_: NoMemory) -> Refusal {
-        Refusal::Load(LoadFault::NoMemory)
-    }
-}
-
-impl<T: Drop> From<AllocFailed<T>> for Refusal {
-    ghost use Rattle.std.specs.Prelude.{◌≡◌};
-    ghost use Rattle.laws_replay.specs.Below.Timetable.declared.fault.LoadFault.TheVariants.{NoMemory as OutOfMemory};
-    ghost use Rattle.cli_inputs.specs.declared.refusal.Refusal.TheVariants.{Load};
-
-    ghost from_gives = { λ _ refusal. refusal ≡ Load OutOfMemory };
-
-    fn from(_: AllocFailed<T>) -> Refusal {
         Refusal::Load(LoadFault::NoMemory)
     }
 }

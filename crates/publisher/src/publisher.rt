@@ -139,13 +139,6 @@ impl<G: Fragmenter + Drop> Publisher<G> {
         self.store.newest()
     }
 
-    /// The base under which the documents are.
-    pub fn base(&self) -> &Base
-        ensures { result.now ≡ self.now.base }
-    {
-        &self.options.base
-    }
-
     /// The side that a publisher stands for is valid, and its store and its document have the same stops. A law: the call does nothing.
     pub fn side_is_valid(&self)
         ensures valid { IsValidSide (side_of G.cuts_of self.now) }

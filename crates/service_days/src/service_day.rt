@@ -1,9 +1,7 @@
-ghost use Rattle.std.specs.Prelude.{◌≡◌, List, filter};
-ghost use Rattle.lc_model.specs.Change.{is_same_id};
+ghost use Rattle.std.specs.Prelude.{◌≡◌};
 ghost use Rattle.service_days.specs.Days.{InDayOrder};
-ghost use Rattle.service_days.specs.declared.service_day.ServiceDay.{ServiceDay as Stated};
 
-use lc_model::{Id, Keyed, NoMemory, PlainData, ServiceDate, copy_each, items_of};
+use lc_model::{Id, Keyed, NoMemory, PlainData, ServiceDate, copy_each};
 use std::alloc::Global;
 use std::marker::Model;
 
@@ -63,13 +61,6 @@ impl Days {
         ensures in_order { InDayOrder result.now }
     {
         self.items.as_slice()
-    }
-
-    /// The dates of one service, found by two binary searches.
-    pub fn of(&self, service: &Id) -> &[ServiceDay]
-        ensures { result.now ≡ filter (λ (d : Stated). is_same_id d.service service.now) self.now }
-    {
-        items_of(self.as_slice(), service)
     }
 }
 

@@ -3,7 +3,6 @@ ghost use Rattle.trip_calls.specs.Texts.{fault_text};
 ghost use Rattle.trip_calls.specs.declared.load_fault.LoadFault.TheVariants.{NoMemory as OutOfMemory};
 
 use lc_model::NoMemory;
-use std::alloc::{AllocError, AllocFailed};
 use std::error::Error;
 use std::fmt;
 
@@ -38,22 +37,6 @@ impl From<NoMemory> for LoadFault {
     ghost from_gives = { λ _ fault. fault ≡ OutOfMemory };
 
     fn from(_: NoMemory) -> LoadFault {
-        LoadFault::NoMemory
-    }
-}
-
-impl From<AllocError> for LoadFault {
-    ghost from_gives = { λ _ fault. fault ≡ OutOfMemory };
-
-    fn from(_: AllocError) -> LoadFault {
-        LoadFault::NoMemory
-    }
-}
-
-impl<T: Drop> From<AllocFailed<T>> for LoadFault {
-    ghost from_gives = { λ _ fault. fault ≡ OutOfMemory };
-
-    fn from(_: AllocFailed<T>) -> LoadFault {
         LoadFault::NoMemory
     }
 }

@@ -5,7 +5,6 @@ ghost use Rattle.version_store.specs.declared.admission.AdmitFault.TheVariants.{
 use lc_model::{Moment, NoMemory};
 use lc_time::iso_text;
 use percent_encoding::ascii_str;
-use std::alloc::AllocFailed;
 use std::error::Error;
 use std::fmt;
 use trip_updates::RtFault;
@@ -63,14 +62,6 @@ impl From<NoMemory> for AdmitFault {
     ghost from_gives = { λ _ fault. fault ≡ OutOfMemory };
 
     fn from(_: NoMemory) -> AdmitFault {
-        AdmitFault::NoMemory
-    }
-}
-
-impl<T: Drop> From<AllocFailed<T>> for AdmitFault {
-    ghost from_gives = { λ _ fault. fault ≡ OutOfMemory };
-
-    fn from(_: AllocFailed<T>) -> AdmitFault {
         AdmitFault::NoMemory
     }
 }
