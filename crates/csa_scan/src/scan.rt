@@ -146,7 +146,8 @@ impl Scan {
         self.progress.best.map(|goal| goal.arr)
     }
 
-    /// Whether connections that depart at the moment or later change nothing any more.
+    /// Whether the moment is at or after the least arrival, or at or after the end of the horizon where there is no chain. Then connections that
+    /// depart later change nothing any more.
     pub fn done(&self, last: Moment) -> bool
         ensures { (query : Query) (doc : StopsDoc) (taken : List Connection) (best : Option ℕ) → StandsFor self.now query doc taken → IsListBest query doc taken best
             → (IsTrue result ↔ IsDone query best last) }

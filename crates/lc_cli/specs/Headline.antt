@@ -120,7 +120,7 @@ HeadlineOfReplay {X} seen =
     → IsRight seen p Done
     → WroteEachBest p replay files
 
--- In one of these turns the time gate replied first, and the link had this side then.
+-- In one of these turns the time gate replied first. Of these sides, one a turn, this is the one of that turn.
 pub record IsGateSide (rounds : List Round) (sides : List Side) (side : Side) : Type 0 where
   pub turn : ℕ
   pub round : Round

@@ -40,7 +40,7 @@ impl<G: Fragmenter + Drop> Model for Publisher<G> {
     ghost invariant = { IsKept G.cuts_of };
 }
 
-/// The store of a timetable, with the stops of its document. Linear in the runs and their calls, and in the stops.
+/// The store of a timetable, with the stops of its document. It sorts the connections, so it takes n log n for n of them.
 fn store_of(
     alloc: Global,
     runs: Runs,
@@ -75,7 +75,8 @@ fn made_of(alloc: Global, base: &Base, doc: &StopsDoc) -> Result<Made, NoMemory>
 }
 
 impl<G: Fragmenter + Drop> Publisher<G> {
-    /// The publisher of a timetable to which no message was admitted. Linear in the runs and their calls, and in the stops.
+    /// The publisher of a timetable to which no message was admitted. It sorts the connections, so it takes n log n for n of them. It is linear in
+    /// the stops.
     pub fn new(
         alloc: Global,
         runs: Runs,
