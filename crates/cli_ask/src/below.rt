@@ -5,7 +5,7 @@ pub use cli_words::{
     Check, Command, Drill, FeedWindow, Plan, Published, Publishing, Relay, Replay, Serve,
     drilled_replay, one_command, read_words,
 };
-pub use journey_text::{Record, Script, ScriptFault, one_script, read_script};
+pub use journey_text::{Record, Script, ScriptFault, arrival_seconds, one_script, read_script};
 pub use laws_convoys::below::{
     Convoy, Member, Outcome, PeerFault, QueryFault, live_without_news, one_answer,
     steps_keep_agreement, versions_stay,

@@ -1,13 +1,11 @@
--- The messages and the leaves of events, of which one more is looked at, when rides arrive, and sums over clients.
-use Rattle.std.proofs.Common.{◌≡◌, ◌≢◌, ◌∙◌, ℕ, zero, suc, ◌+◌, ◌-◌, ◌<◌, ◌≤◌, List, [], ◌∷◌, ◌++◌, ap, ap₂, arith, cond, drop, get_or, length, map, refl, sym, take}
+-- The messages and the leaves of events, of which one more is looked at, and sums over clients.
+use Rattle.std.proofs.Common.{◌≡◌, ◌∙◌, ℕ, zero, suc, ◌+◌, ◌-◌, ◌<◌, ◌≤◌, List, [], ◌∷◌, ◌++◌, ap, ap₂, arith, cond, drop, get_or, length, map, refl, sym, take}
 use Rattle.std.specs.Int.{from_bool}
 use Rattle.std.specs.Prelude.{Bool, true, false, count_by, sum, zip}
 use Rattle.std.proofs.lemmas.List.{drop_more, map-append, take_more}
 use Rattle.std.proofs.lemmas.List.Recursion.{is_count_by}
 use Rattle.std.proofs.lemmas.List.Sums.{sum_by-cons, sum_by_more, sum_by_push}
 use Rattle.laws_replay.specs.Below.CliAsk.declared.end.ClientEnd.{ClientEnd}
-use Rattle.lc_model.specs.Journey.{arrival_of_rides}
-use Rattle.lc_model.specs.declared.ride.Ride.{Ride}
 use Rattle.laws_replay.specs.Events.{messages_in}
 use Rattle.laws_replay.specs.declared.event.Event.{Event}
 use Rattle.laws_replay.specs.declared.event.Event.TheVariants as events
@@ -32,22 +30,6 @@ and_leaves (events.Turn client ∷ all) last = and_leaves all last
 pub more_leaves : (all : List Event) (place : ℕ) (last : Event) → place < length all → last ≡ get_or all place last → leaves_in (take (place + 1) all) ≡ leaves_in (take place all) ++ leaves_in (last ∷ [])
 more_leaves all place last within is =
     ap leaves_in (take_more all place last within ∙ ap (λ (x : Event). take place all ++ x ∷ []) (sym is)) ∙ and_leaves (take place all) last
-
-arrives_at_end : (rides : List Ride) (place : ℕ) (last : Ride) → length rides ≡ suc place → last ≡ get_or rides place last → arrival_of_rides rides ≡ last.arr
-arrives_at_end [] place last long is = absurd (omega arith)
-arrives_at_end (ride ∷ []) zero last long is = sym (ap (λ (r : Ride). r.arr) is)
-arrives_at_end (ride ∷ []) (suc place) last long is = absurd (omega arith)
-arrives_at_end (ride ∷ next ∷ rest) zero last long is = absurd (omega arith)
-arrives_at_end (ride ∷ next ∷ rest) (suc place) last long is = arrives_at_end (next ∷ rest) place last (omega arith) is
-
--- a list that has items has a length
-pub some_long : {X : Type 0} (xs : List X) → xs ≢ [] → 0 < length xs
-some_long [] some = absurd (some refl)
-some_long (x ∷ xs) some = omega arith
-
--- rides arrive when their last one does
-pub arrives_last : (rides : List Ride) (last : Ride) → rides ≢ [] → last ≡ get_or rides (length rides - 1) last → arrival_of_rides rides ≡ last.arr
-arrives_last rides last some is = let long = some_long rides some in arrives_at_end rides (length rides - 1) last (omega (arith, long)) is
 
 -- what the next client adds to a count
 pub more_counted : (p : ClientEnd → Bool) (ends : List ClientEnd) (place : ℕ) (end : ClientEnd) → place < length ends → end ≡ get_or ends place end → count_by p (take (place + 1) ends) ≡ count_by p (take place ends) + cond (p end) 1 0

@@ -1,13 +1,11 @@
-ghost use Rattle.std.specs.Prelude.{◌≡◌, ◌≢◌, ◌+◌, [], ◌∷◌, ◌++◌, IfOk, OnOk, count_by};
-ghost use Rattle.lc_model.specs.Journey.{arrival_of_rides, arrives_at};
-ghost use Rattle.lc_model.specs.Walk.{seconds_of as walk_seconds};
+ghost use Rattle.std.specs.Prelude.{◌≡◌, ◌+◌, [], ◌∷◌, ◌++◌, IfOk, OnOk, count_by};
 ghost use Rattle.laws_replay.specs.Events.{messages_in};
 ghost use Rattle.cli_replay.specs.Summary.{arrivals_line_of, arrivals_of, exchanges_line_of, exchanges_of, found_in, found_line_of, has_found, has_none, is_message, leaves_in, none_in, seconds_of, summary_of, updates_line_of};
 
 use crate::Replayed;
 use laws_replay::Event;
-use laws_replay::below::{ClientEnd, Outcome};
-use lc_model::{Journey, Moment, NoMemory, Ride, Walk};
+use laws_replay::below::{ClientEnd, Outcome, arrival_seconds};
+use lc_model::{Moment, NoMemory};
 use std::alloc::Global;
 
 /// What a summary needs of an event sequence: how many messages it has, and when its clients want to leave.
@@ -201,37 +199,11 @@ fn seconds_of(leave: Moment, outcome: &Outcome) -> u64
     ensures { result ≡ seconds_of leave outcome.now }
 {
     match outcome {
-        Outcome::Found(journey) => arrival(journey).saturating_sub(leave.seconds()),
+        Outcome::Found(journey) => arrival_seconds(journey).saturating_sub(leave.seconds()),
         Outcome::NoJourney
         | Outcome::Refused(_)
         | Outcome::LinkFault { .. }
         | Outcome::PeerWrong { .. } => 0,
-    }
-}
-
-/// When the journey arrives, in seconds since 1970.
-fn arrival(journey: &Journey) -> u64
-    ensures { result ≡ arrives_at journey.now }
-{
-    let last = last_arrival(journey.rides.as_slice()).seconds();
-    last + u64::from(walk_seconds(&journey.after))
-}
-
-/// The moment at which the last of the rides arrives.
-fn last_arrival(rides: &[Ride]) -> Moment
-    requires { rides.now ≢ [] }
-    ensures { result ≡ arrival_of_rides rides.now }
-{
-    rides[rides.len() - 1].arr
-}
-
-/// How long a walk takes, if there is one.
-fn walk_seconds(walk: &Option<Walk>) -> u32
-    ensures { result ≡ walk_seconds walk.now }
-{
-    match walk {
-        Some(walk) => walk.seconds,
-        None => 0,
     }
 }
 

@@ -49,12 +49,19 @@ fn journey_line(alloc: Global, journey: &Journey) -> Result<Vec<u8>, NoMemory>
     Ok(text)
 }
 
+/// When the journey arrives, in seconds since 1970.
+pub fn arrival_seconds(journey: &Journey) -> u64
+    ensures { result ≡ arrives_at journey.now }
+{
+    let last = last_arrival(journey.rides.as_slice()).seconds();
+    last + u64::from(seconds(&journey.after))
+}
+
 /// The moment at which the journey arrives, if it is one.
 pub(crate) fn arrival(journey: &Journey) -> Option<Moment>
     ensures { SomeIff result (arrives_at journey.now < MOMENTS_END) (arrives_at journey.now) }
 {
-    let last = last_arrival(journey.rides.as_slice()).seconds();
-    Moment::new(last + u64::from(seconds(&journey.after)))
+    Moment::new(arrival_seconds(journey))
 }
 
 /// The moment at which the journey arrives, which is one.

@@ -13,7 +13,7 @@ mod script_reading;
 mod script_row;
 
 pub use answer_reading::read_answer;
-pub use answer_writing::{answer_text, journey_text};
+pub use answer_writing::{answer_text, arrival_seconds, journey_text};
 pub use laws::answers_differ;
 pub use script::{Record, Script};
 pub use script_fault::ScriptFault;
