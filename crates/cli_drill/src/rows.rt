@@ -5,7 +5,7 @@ ghost use Rattle.cli_drill.specs.Rows.{date_row, dates_text, stop_row, stops_tex
 use crate::names::{push_number, push_stop_name, push_trip_name};
 use crate::network::{arrives_at, stop_at};
 use lc_model::NoMemory;
-use lc_time::start_text;
+use lc_time::clock_text;
 use std::alloc::Global;
 
 /// The table of the stops. Linear in it, with room made at once.
@@ -102,15 +102,6 @@ fn push_time(text: &mut Vec<u8>, side: u32, trip: u32, place: u32) -> Result<(),
     push_number(text, place + 1)?;
     text.extend_from_slice(b"\n")?;
     Ok(())
-}
-
-/// HH:MM:SS.
-fn clock_text(seconds: u32) -> [u8; 8]
-    requires { seconds < 360_000 }
-    ensures { result ≡ clock_text_of seconds }
-{
-    let [h0, h1, m0, m1, s0, s1] = start_text(seconds);
-    [h0, h1, b':', m0, m1, b':', s0, s1]
 }
 
 /// The table of the dates of the service. Linear in it.

@@ -12,6 +12,7 @@ pub use base::{Base, base_is_cut_once, bases_are_read, bases_are_written, one_ba
 pub use encoding::{append_encoded, decode, encode};
 pub use names::{append_run, fill_name, name, names_differ, read_name};
 pub use pages::{
-    fill_page_url, page_targets_join, page_url, page_urls_differ, page_urls_join, read_page_url,
+    append_moment, fill_page_url, page_targets_join, page_url, page_urls_differ, page_urls_join,
+    read_page_url,
 };
-pub use parts::{behind_base, read_decimal, read_start_part};
+pub use parts::{behind, behind_base, read_decimal, read_start_part};

@@ -34,7 +34,8 @@ pub fn fill_page_url(text: &mut String, base: &Base, name: PageName) -> Result<(
     Ok(())
 }
 
-fn append_moment(text: &mut String, moment: Moment) -> Result<(), NoMemory>
+/// Appends the text of the moment.
+pub fn append_moment(text: &mut String, moment: Moment) -> Result<(), NoMemory>
     ensures { OnOk result (string_bytes text.new ≡ string_bytes text.old ++ iso_text_of moment) }
 {
     text.push_str(ascii_str(&iso_text(moment)))?;

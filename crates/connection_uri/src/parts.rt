@@ -7,7 +7,7 @@ use itoa::Buffer;
 use lc_time::read_start;
 
 /// What follows this front in the text, if the text begins with it.
-fn behind<'a>(text: &'a [u8], front: &[u8]) -> Option<&'a [u8]>
+pub fn behind<'a>(text: &'a [u8], front: &[u8]) -> Option<&'a [u8]>
     ensures said { IfSome result (λ rest. text.now ≡ front.now ++ rest.now) }
     ensures exact { (rest : List ℕ) → text.now ≡ front.now ++ rest → IsSomeAnd result (λ r. r.now ≡ rest) }
 {

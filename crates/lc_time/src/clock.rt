@@ -8,7 +8,7 @@ use crate::digits::{are_digits, number, two_digits};
 pub const CLOCK_END: u32 = 360_000;
 
 /// HH:MM:SS.
-pub(crate) fn clock_text(seconds: u32) -> [u8; 8]
+pub fn clock_text(seconds: u32) -> [u8; 8]
     requires { seconds < CLOCK_END }
     ensures { result ≡ clock_text_of seconds }
 {

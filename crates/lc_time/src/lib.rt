@@ -14,7 +14,7 @@ mod zone;
 mod zone_clock;
 
 pub use calendar::days_at;
-pub use clock::{CLOCK_END, read_gtfs_time, read_start, start_text};
+pub use clock::{CLOCK_END, clock_text, read_gtfs_time, read_start, start_text};
 pub use date::{date_text, read_date};
 pub use digits::{read_decimal, read_u32};
 pub use http::{http_date, read_http_date, without_blanks};

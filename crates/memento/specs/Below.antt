@@ -1,4 +1,3 @@
 -- The definitions of the crates below, for the crates above.
 pub mod ConnectionUri
-pub mod LcTime
 pub mod LcVersions

@@ -1,6 +1,4 @@
-ghost use Rattle.std.specs.Prelude.{◌≡◌, ◌++◌, None, IfOk, OnOk};
-ghost use Rattle.std.specs.String.{string_bytes};
-ghost use Rattle.memento.specs.Below.LcTime.Iso.{iso_text_of};
+ghost use Rattle.std.specs.Prelude.{◌≡◌, None, IfOk};
 ghost use Rattle.memento.specs.Below.ConnectionUri.Page.{gate_target_of, page_target_of, stops_target_of};
 ghost use Rattle.memento.specs.Below.ConnectionUri.Base.{IsBase};
 ghost use Rattle.http_text.specs.Targets.{CanAskFor};
@@ -8,9 +6,8 @@ ghost use Rattle.page_client.specs.Request.{Asks};
 
 use http_text::{request_text, targets_are_good};
 use lc_model::{Moment, NoMemory, PageName, Text};
-use memento::below::{Base, iso_text};
+use memento::below::{Base, append_moment};
 use memento::gate_target;
-use percent_encoding::ascii_str;
 use std::alloc::Global;
 
 /// A request to the time gate, with the moment up to which the asker knows.
@@ -85,11 +82,4 @@ fn page_target(alloc: Global, base: &Base, name: PageName) -> Result<Text, NoMem
     target.push_str("&departureTime=")?;
     append_moment(&mut target, name.departs)?;
     Ok(Text::from_string(target))
-}
-
-fn append_moment(text: &mut String, moment: Moment) -> Result<(), NoMemory>
-    ensures { OnOk result (string_bytes text.new ≡ string_bytes text.old ++ iso_text_of moment) }
-{
-    text.push_str(ascii_str(&iso_text(moment)))?;
-    Ok(())
 }

@@ -1,7 +1,6 @@
 ghost use Rattle.std.specs.Prelude.{◌≡◌, ◌++◌, All, OnOk};
 ghost use Rattle.std.specs.Fmt.{signed_decimal};
 ghost use Rattle.std.specs.String.{string_bytes};
-ghost use Rattle.lc_time.specs.Iso.{iso_text_of};
 ghost use Rattle.page_json.specs.ConnectionWriting.{call_part, delay_part, end_part, late_part, list_part, members_part, name_part, rest_part, use_front, use_part};
 ghost use Rattle.page_json.specs.Sound.{IsSoundConnection};
 
@@ -11,8 +10,6 @@ use crate::moment_text::{End, MomentText};
 use crate::sound::sound_connection;
 use itoa::Buffer;
 use lc_model::{Connection, Id, Moment, NoMemory};
-use lc_time::iso_text;
-use percent_encoding::ascii_str;
 use std::alloc::Global;
 
 /// The texts of the moments of the last connection that was written.
@@ -245,11 +242,4 @@ fn use_front(fronts: &UseFronts, alight: bool, board: bool) -> &str
         (false, true) => fronts.boarding.as_str(),
         (false, false) => fronts.neither.as_str(),
     }
-}
-
-pub fn append_moment(out: &mut String, moment: Moment) -> Result<(), NoMemory>
-    ensures { OnOk result (string_bytes out.new ≡ string_bytes out.old ++ iso_text_of moment) }
-{
-    out.push_str(ascii_str(&iso_text(moment)))?;
-    Ok(())
 }

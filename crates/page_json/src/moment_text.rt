@@ -5,7 +5,7 @@ ghost use Rattle.lc_time.specs.Clock.{clock_text_of};
 ghost use Rattle.page_json.specs.MomentText.{end_text};
 
 use lc_model::Moment;
-use lc_time::{iso_text, start_text};
+use lc_time::{clock_text, iso_text};
 use percent_encoding::ascii_str;
 
 const DAY_SECONDS: u64 = 86_400;
@@ -136,13 +136,4 @@ fn departure_at(mut text: [u8; 43], seconds: u32) -> [u8; 43]
 {
     text[30..38].copy_from_slice(&clock_text(seconds));
     text
-}
-
-/// HH:MM:SS.
-fn clock_text(seconds: u32) -> [u8; 8]
-    requires { seconds < 86_400 }
-    ensures { result ≡ clock_text_of seconds }
-{
-    let [h0, h1, m0, m1, s0, s1] = start_text(seconds);
-    [h0, h1, b':', m0, m1, b':', s0, s1]
 }

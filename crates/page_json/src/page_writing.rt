@@ -10,10 +10,10 @@ ghost use Rattle.page_json.specs.Tree.{page_text_of};
 ghost use Rattle.page_json.specs.Valid.{IsValidPage};
 
 use crate::Page;
-use crate::connection_writing::{append_connections, append_moment};
+use crate::connection_writing::append_connections;
 use crate::fronts::{Fronts, fronts_of};
 use crate::sound::{sound_link, sound_name};
-use connection_uri::Base;
+use connection_uri::{Base, append_moment};
 use lc_model::{NoMemory, PageName};
 use std::alloc::Global;
 

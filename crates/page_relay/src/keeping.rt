@@ -1,11 +1,11 @@
-ghost use Rattle.std.specs.Prelude.{◌≡◌, ◌≢◌, ◌↔◌, ◌⊎◌, ℕ, ◌++◌, codes, List, IfOk, IfSome, IsSomeAnd, IsTrue, OnOk};
+ghost use Rattle.std.specs.Prelude.{◌≡◌, ◌≢◌, ◌↔◌, ◌⊎◌, codes, IfOk, IsTrue, OnOk};
 ghost use Rattle.lc_world.specs.Below.HttpText.Request.{IsWhole};
 ghost use Rattle.lc_world.specs.Below.HttpText.declared.reply_fault.ReplyFault.TheVariants.{NoMemory as OutOfMemory};
 ghost use Rattle.lc_world.specs.Below.HttpText.declared.taken.Taken.TheVariants.{Whole as WholeRequest};
 ghost use Rattle.page_relay.specs.Keeping.{IsKeepable, IsLastingPath, IsLastingReply, IsToKeep};
 
 use lc_model::NoMemory;
-use lc_world::below::{Base, HeadRoom, ReplyFault, Request, Taken, read_request};
+use lc_world::below::{Base, HeadRoom, ReplyFault, Request, Taken, behind, read_request};
 use std::alloc::Global;
 
 /// The most bytes of a reply that is kept.
@@ -76,14 +76,6 @@ fn is_lasting_path(base: &Base, path: &[u8]) -> bool
         Some(tail) => is_lasting_tail(tail),
         None => false,
     }
-}
-
-/// What follows this front in the text, if the text begins with it.
-fn behind<'a>(text: &'a [u8], front: &[u8]) -> Option<&'a [u8]>
-    ensures said { IfSome result (λ rest. text.now ≡ front.now ++ rest.now) }
-    ensures exact { (rest : List ℕ) → text.now ≡ front.now ++ rest → IsSomeAnd result (λ r. r.now ≡ rest) }
-{
-    text.strip_prefix(front)
 }
 
 fn is_lasting_tail(tail: &[u8]) -> bool

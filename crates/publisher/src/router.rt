@@ -1,4 +1,4 @@
-ghost use Rattle.std.specs.Prelude.{◌≡◌, ◌++◌, ◌≤◌, ℕ, List, IfOk, IfSome, IsSomeAnd, OnErr, OnOk, drop, length, true};
+ghost use Rattle.std.specs.Prelude.{◌≡◌, ◌≤◌, ℕ, List, IfOk, IfSome, OnErr, OnOk, drop, length, true};
 ghost use Rattle.publisher_spec.specs.Below.HttpText.Request.{IsWhole, IsWholeRequest};
 ghost use Rattle.publisher.specs.Held.{side_of};
 ghost use Rattle.publisher.specs.Writable.{IsSoundResponse, IsWritable};
@@ -13,7 +13,7 @@ use crate::Publisher;
 use crate::parameters::{departure, field_value, is_same, version_said};
 use fragmenter::Fragmenter;
 use lc_model::{Moment, NoMemory, PageName};
-use publisher_spec::below::{Allow, Base, Request, negotiate, read_request};
+use publisher_spec::below::{Allow, Base, Request, behind, negotiate, read_request};
 use publisher_spec::{Asked, Response};
 use std::alloc::Global;
 
@@ -65,14 +65,6 @@ pub(crate) fn is_head(method: &[u8]) -> bool
     ensures { result ≡ is_head method.now }
 {
     is_same(method, b"HEAD")
-}
-
-/// What follows this front in the text, if the text begins with it.
-fn behind<'a>(text: &'a [u8], front: &[u8]) -> Option<&'a [u8]>
-    ensures said { IfSome result (λ rest. text.now ≡ front.now ++ rest.now) }
-    ensures exact { (rest : List ℕ) → text.now ≡ front.now ++ rest → IsSomeAnd result (λ r. r.now ≡ rest) }
-{
-    text.strip_prefix(front)
 }
 
 /// Whether the path is the base's with this after it.

@@ -5,7 +5,7 @@ pub use http_text::{
     reply_text, take_request,
 };
 pub use lc_time::{Zone, read_iso};
-pub use memento::below::{Base, page_url};
+pub use memento::below::{Base, behind, page_url};
 pub use memento::{gate_url, negotiate};
 pub use page_json::{Page, page_text, stops_text};
 pub use trip_updates::{RtFault, one_meaning, read_message};
