@@ -1,3 +1,2 @@
-pub mod BelowLemmas
 pub mod StepLemmas
 pub mod WalkLemmas

@@ -1,13 +1,13 @@
 -- What a reply with a page leads to.
 use Rattle.std.proofs.Common.{◌≡◌, ℕ, List, Option, Some, None, Result, Ok, Err, IfOk, refl}
-use Rattle.convoy.specs.Below.PageJson.declared.page.Page.{Page}
+use Rattle.page_json.specs.declared.page.Page.{Page}
 use Rattle.back_scan.specs.declared.scan.BackScan.{BackScan}
 use Rattle.back_client.specs.Steps.{Leads, TakesBack}
 use Rattle.back_client.specs.Wrong.{wrong_of}
 use Rattle.back_client.specs.declared.page.Place.{Place}
 use Rattle.back_client.specs.declared.step.Sequel.{Sequel}
 use Rattle.back_client.specs.declared.step.Sequel.TheVariants.{Ends}
-use Rattle.convoy.specs.Below.PageClient.declared.outcome.Outcome.{Outcome}
+use Rattle.page_client.specs.declared.outcome.Outcome.{Outcome}
 
 -- what is so of a result by two facts
 pub both_so : {A E : Type 0} (result : Result A E) (P Q R : A → Type 0) → ((a : A) → P a → Q a → R a) → IfOk result P → IfOk result Q → IfOk result R

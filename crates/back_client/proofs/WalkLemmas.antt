@@ -10,16 +10,16 @@ use Rattle.lc_model.specs.declared.connection.Connection.{Connection}
 use Rattle.lc_model.specs.declared.doc.StopsDoc.{StopsDoc}
 use Rattle.lc_model.specs.declared.page.PageName.{PageName}
 use Rattle.lc_model.specs.declared.query.Query.{Query}
-use Rattle.convoy.specs.Below.ConnectionUri.Base.{BaseParts}
-use Rattle.convoy.specs.Below.ConnectionUri.Page.{page_target_of}
-use Rattle.convoy.specs.Below.LcWorld.Link.{LinkSeen}
-use Rattle.convoy.specs.Below.PageJson.declared.page.Page.{Page}
-use Rattle.convoy.specs.Below.PageClient.Page.{IsPageReply, advances, begins_at, is_on_from}
-use Rattle.convoy.specs.Below.PageClient.declared.fault.PeerFault.{PeerFault}
-use Rattle.convoy.specs.Below.PageClient.declared.fault.PeerFault.TheVariants.{GateWrong, Retreat}
-use Rattle.convoy.specs.Below.PageClient.declared.outcome.Outcome.{Outcome}
-use Rattle.convoy.specs.Below.PageClient.declared.outcome.Outcome.TheVariants.{PeerWrong}
-use Rattle.convoy.proofs.BelowLemmas.PageClient.OrderLemmas.{begins, ends, in_order-append}
+use Rattle.connection_uri.specs.Base.{BaseParts}
+use Rattle.connection_uri.specs.Page.{page_target_of}
+use Rattle.lc_world.specs.Link.{LinkSeen}
+use Rattle.page_json.specs.declared.page.Page.{Page}
+use Rattle.page_client.specs.Page.{IsPageReply, advances, begins_at, is_on_from}
+use Rattle.page_client.specs.declared.fault.PeerFault.{PeerFault}
+use Rattle.page_client.specs.declared.fault.PeerFault.TheVariants.{GateWrong, Retreat}
+use Rattle.page_client.specs.declared.outcome.Outcome.{Outcome}
+use Rattle.page_client.specs.declared.outcome.Outcome.TheVariants.{PeerWrong}
+use Rattle.page_client.proofs.OrderLemmas.{begins, ends, in_order-append}
 use Rattle.back_scan.specs.Forward.{forward_query}
 use Rattle.back_scan.specs.Latest.{IsListLatest}
 use Rattle.back_scan.specs.Over.{IsOver}

@@ -1,11 +1,11 @@
 -- One exchange over a link.
 use Rattle.std.specs.Prelude.{◌≡◌, ℕ, List, Option, IsErrOf}
-use Rattle.convoy.specs.Below.ConnectionUri.Base.{BaseParts}
-use Rattle.convoy.specs.Below.PublisherSpec.Side.{Side}
+use Rattle.connection_uri.specs.Base.{BaseParts}
+use Rattle.publisher_spec.specs.Side.{Side}
 use Rattle.lc_io.specs.Counts.{HasCause}
-use Rattle.convoy.specs.Below.LcWorld.Link.{Exchanges, IsGet, IsHonestWith, LinkSeen, Tells}
-use Rattle.convoy.specs.Below.LcWorld.declared.link.LinkFail.TheVariants.{Failed}
-use Rattle.convoy.specs.Below.PageClient.Request.{Asks}
+use Rattle.lc_world.specs.Link.{Exchanges, IsGet, IsHonestWith, LinkSeen, Tells}
+use Rattle.lc_world.specs.declared.link.LinkFail.TheVariants.{Failed}
+use Rattle.page_client.specs.Request.{Asks}
 use Rattle.convoy.specs.Exchange.{Got, bytes_of, result_of}
 
 -- The target was asked for once, and the link gave this: what is promised of an exchange holds of it.

@@ -1,5 +1,4 @@
 pub mod Arrives
-pub mod Below
 pub mod Exchange
 pub mod Steps
 pub mod Wrong

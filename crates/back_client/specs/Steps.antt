@@ -6,16 +6,16 @@ use Rattle.lc_model.specs.declared.doc.StopsDoc.{StopsDoc}
 use Rattle.lc_model.specs.declared.journey.Journey.{Journey}
 use Rattle.lc_model.specs.declared.page.PageName.{PageName}
 use Rattle.lc_model.specs.declared.query.Query.{Query}
-use Rattle.convoy.specs.Below.ConnectionUri.Base.{BaseParts}
-use Rattle.convoy.specs.Below.ConnectionUri.Page.{page_target_of}
-use Rattle.convoy.specs.Below.PageJson.Valid.{IsValidPage}
-use Rattle.convoy.specs.Below.PageJson.declared.page.Page.{Page}
-use Rattle.convoy.specs.Below.PageClient.Page.{IsPageReply, advances}
-use Rattle.convoy.specs.Below.PageClient.Shown.{answered}
-use Rattle.convoy.specs.Below.PageClient.declared.fault.PeerFault.{PeerFault}
-use Rattle.convoy.specs.Below.PageClient.declared.outcome.Outcome.{Outcome}
-use Rattle.convoy.specs.Below.PageClient.declared.outcome.Outcome.TheVariants.{LinkFault, PeerWrong}
-use Rattle.convoy.specs.Below.LcWorld.Link.{LinkSeen}
+use Rattle.connection_uri.specs.Base.{BaseParts}
+use Rattle.connection_uri.specs.Page.{page_target_of}
+use Rattle.page_json.specs.Valid.{IsValidPage}
+use Rattle.page_json.specs.declared.page.Page.{Page}
+use Rattle.page_client.specs.Page.{IsPageReply, advances}
+use Rattle.page_client.specs.Shown.{answered}
+use Rattle.page_client.specs.declared.fault.PeerFault.{PeerFault}
+use Rattle.page_client.specs.declared.outcome.Outcome.{Outcome}
+use Rattle.page_client.specs.declared.outcome.Outcome.TheVariants.{LinkFault, PeerWrong}
+use Rattle.lc_world.specs.Link.{LinkSeen}
 use Rattle.back_scan.specs.Forward.{forward_query}
 use Rattle.back_scan.specs.Latest.{IsListLatest}
 use Rattle.back_scan.specs.Over.{IsOver}

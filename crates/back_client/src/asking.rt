@@ -1,6 +1,6 @@
 ghost use Rattle.std.specs.Prelude.{◌≡◌, ◌≤◌, ◌+◌, IfOk};
-ghost use Rattle.convoy.specs.Below.LcWorld.GoneOn.{IsLeftByGets};
-ghost use Rattle.convoy.specs.Below.PageClient.Shown.{HasHorizon};
+ghost use Rattle.lc_world.specs.GoneOn.{IsLeftByGets};
+ghost use Rattle.page_client.specs.Shown.{HasHorizon};
 ghost use Rattle.back_scan.specs.Forward.{forward_query};
 ghost use Rattle.back_client.specs.Arrives.{AfterDoc, Arrives, AsksGate, AsksStops, ended};
 
@@ -8,12 +8,12 @@ use crate::ArriveEnd;
 use crate::exchange::exchanged;
 use crate::refusal::refusal_of;
 use crate::walk::walk_back;
-use back_scan::below::BeginFault;
 use back_scan::{ArriveQuery, BackScan};
-use convoy::below::{
-    Base, Link, Outcome, QueryFault, ask_gate, ask_stops, gate_said, stops_said, wrong,
-};
+use connection_uri::Base;
+use csa_scan::BeginFault;
 use lc_model::{Bytes, Moment, NoMemory, PageName, StopsDoc};
+use lc_world::Link;
+use page_client::{Outcome, QueryFault, ask_gate, ask_stops, gate_said, stops_said, wrong};
 use std::alloc::Global;
 
 /// An end with this outcome.

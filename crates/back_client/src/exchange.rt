@@ -1,11 +1,13 @@
 ghost use Rattle.std.specs.Prelude.{◌≡◌, ℕ, List, Option, Some, None, IfErr, IfOk};
-ghost use Rattle.convoy.specs.Below.LcWorld.GoneOn.{IsLeftByGets};
-ghost use Rattle.convoy.specs.Below.PageClient.Request.{Asks};
-ghost use Rattle.convoy.specs.Below.PageClient.declared.outcome.Outcome.TheVariants as outcomes;
+ghost use Rattle.lc_world.specs.GoneOn.{IsLeftByGets};
+ghost use Rattle.page_client.specs.Request.{Asks};
+ghost use Rattle.page_client.specs.declared.outcome.Outcome.TheVariants as outcomes;
 ghost use Rattle.back_client.specs.Exchange.{IsExchange};
 
-use convoy::below::{Base, Link, LinkFail, Outcome};
+use connection_uri::Base;
 use lc_model::NoMemory;
+use lc_world::{Link, LinkFail};
+use page_client::Outcome;
 use std::alloc::Global;
 
 /// Asks the request once. Gives the reply, or the outcome that the exchange failed, with the link's counts before and after it.

@@ -4,7 +4,6 @@
 #![tactic(auto)]
 
 mod asking;
-pub mod below;
 mod exchange;
 mod outcome;
 mod page;

@@ -1,5 +1,5 @@
-use convoy::below::Outcome;
 use lc_model::Moment;
+use page_client::Outcome;
 
 /// The end of a question for the latest departure. The version is the one that the time gate named; none before. The fault of a reply is
 /// `PeerFault::Retreat` where its page has a previous link that does not lead back, or holds what departs no earlier than the page before.

@@ -1,8 +1,9 @@
 ghost use Rattle.std.specs.Prelude.{◌≡◌, IfOk};
 ghost use Rattle.back_client.specs.Wrong.{is_by, is_level, is_off, reaches, retreats, wrong_of};
 
-use convoy::below::{Outcome, Page, PeerFault, last_departure, wrong};
 use lc_model::{Bytes, Connection, Moment, NoMemory, PageName, PlainData};
+use page_client::{Outcome, PeerFault, last_departure, wrong};
+use page_json::Page;
 use std::alloc::Global;
 
 /// Where the page that is asked for is.

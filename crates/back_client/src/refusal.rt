@@ -1,8 +1,8 @@
-ghost use Rattle.convoy.specs.Below.PageClient.Shown.{IsRefusal};
+ghost use Rattle.page_client.specs.Shown.{IsRefusal};
 ghost use Rattle.back_scan.specs.Forward.{forward_query};
 
 use back_scan::{ArriveQuery, LONGEST_HORIZON};
-use convoy::below::QueryFault;
+use page_client::QueryFault;
 
 /// Why a question is refused at once, if it is: for what a client is that leaves a horizon before.
 pub fn refusal_of(query: &ArriveQuery) -> Option<QueryFault>

@@ -2,16 +2,18 @@ ghost use Rattle.std.specs.Prelude.{◌≡◌, ◌⊎◌, ℕ, List, Option, Non
 ghost use Rattle.lc_model.specs.declared.connection.Connection.{Connection};
 ghost use Rattle.lc_model.specs.declared.doc.StopsDoc.{StopsDoc};
 ghost use Rattle.lc_model.specs.declared.query.Query.{Query};
-ghost use Rattle.convoy.specs.Below.PageClient.declared.outcome.Outcome.{Outcome as OutcomeValue};
-ghost use Rattle.convoy.specs.Below.PageJson.declared.page.Page.{Page as PageValue};
+ghost use Rattle.page_client.specs.declared.outcome.Outcome.{Outcome as OutcomeValue};
+ghost use Rattle.page_json.specs.declared.page.Page.{Page as PageValue};
 ghost use Rattle.back_scan.specs.StandsFor.{StandsFor};
 ghost use Rattle.back_client.specs.Steps.{GoesBelow, GoesTo, IsOverAt, TakesBack, TakesReply};
 ghost use Rattle.back_client.specs.Wrong.{wrong_of};
 
 use crate::page::{Place, wrong_of};
 use back_scan::BackScan;
-use convoy::below::{Base, Outcome, Page, answered, page_of, wrong};
+use connection_uri::Base;
 use lc_model::{Moment, NoMemory, PageName};
+use page_client::{Outcome, answered, page_of, wrong};
+use page_json::Page;
 use std::alloc::Global;
 
 /// What comes after a page.

@@ -1,7 +1,7 @@
 ghost use Rattle.std.specs.Prelude.{◌≡◌, ◌≤◌, ◌+◌, [], None, IfOk};
-ghost use Rattle.convoy.specs.Below.ConnectionUri.Page.{page_target_of};
-ghost use Rattle.convoy.specs.Below.LcWorld.GoneOn.{IsLeftByGets};
-ghost use Rattle.convoy.specs.Below.PageClient.Request.{Asks};
+ghost use Rattle.connection_uri.specs.Page.{page_target_of};
+ghost use Rattle.lc_world.specs.GoneOn.{IsLeftByGets};
+ghost use Rattle.page_client.specs.Request.{Asks};
 ghost use Rattle.lc_model.specs.declared.doc.StopsDoc.{StopsDoc};
 ghost use Rattle.back_scan.specs.Forward.{forward_query};
 ghost use Rattle.back_scan.specs.StandsFor.{StandsFor};
@@ -13,8 +13,10 @@ use crate::exchange::exchanged;
 use crate::page::Place;
 use crate::step::{Sequel, take_reply};
 use back_scan::{ArriveQuery, BackScan};
-use convoy::below::{Base, Link, ask_page};
+use connection_uri::Base;
 use lc_model::{Bytes, Moment, NoMemory, PageName};
+use lc_world::Link;
+use page_client::ask_page;
 use std::alloc::Global;
 use std::mem;
 

@@ -1,4 +1,3 @@
-pub mod BelowLemmas
 pub mod GrowingLemmas
 pub mod KeepingLemmas
 pub mod DepartingLemmas

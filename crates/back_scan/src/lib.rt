@@ -5,7 +5,6 @@
 
 mod alight;
 mod arrive_query;
-pub mod below;
 mod depart;
 mod forward;
 mod journey;

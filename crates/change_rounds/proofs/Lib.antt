@@ -1,7 +1,6 @@
 pub mod AfterLemmas
 pub mod AlikeLemmas
 pub mod BeginsLemmas
-pub mod BelowLemmas
 pub mod BoardingLemmas
 pub mod EndsLemmas
 pub mod OrderLemmas

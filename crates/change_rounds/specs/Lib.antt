@@ -1,4 +1,3 @@
-pub mod Below
 pub mod Best
 pub mod Boards
 pub mod Fewest

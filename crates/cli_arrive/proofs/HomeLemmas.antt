@@ -1,6 +1,6 @@
 -- What is said of a question over a link at home is said of it over the outer link, and of the timetable that is published.
 use Rattle.std.proofs.Common.{◌≡◌, ◌++◌, List, ℕ, Option, refl, subst, sym}
-use Rattle.cli_ask.specs.Below.BackScan.declared.arrive_query.ArriveQuery.{ArriveQuery}
+use Rattle.back_scan.specs.declared.arrive_query.ArriveQuery.{ArriveQuery}
 use Rattle.cli_arrive.specs.Asked.{AsksPublisher, IsAskedLatest}
 use Rattle.cli_arrive.specs.Client.{EndsRightLatest}
 use Rattle.cli_ask.proofs.HomeLemmas.{home_seen, quiet_home}
@@ -8,18 +8,18 @@ use Rattle.cli_ask.specs.Block.{client_text_of}
 use Rattle.cli_ask.specs.Opening.{IsOpened}
 use Rattle.cli_ask.specs.Publishing.{held_with, side_with}
 use Rattle.cli_ask.specs.declared.end.ClientEnd.{ClientEnd}
-use Rattle.cli_ask.specs.Below.CliWords.declared.command.Publishing.{Publishing}
-use Rattle.cli_ask.specs.Below.ConnectionUri.Base.{BaseParts}
-use Rattle.cli_ask.specs.Below.Fragmenter.Cutting.{chosen_cuts}
-use Rattle.cli_ask.specs.Below.Fragmenter.declared.cutting.Cutting.{Cutting}
+use Rattle.cli_words.specs.declared.command.Publishing.{Publishing}
+use Rattle.connection_uri.specs.Base.{BaseParts}
+use Rattle.fragmenter.specs.Cutting.{chosen_cuts}
+use Rattle.fragmenter.specs.declared.cutting.Cutting.{Cutting}
 use Rattle.laws_arrive.specs.Asked.{HasAskedLatest}
 use Rattle.lc_io.specs.declared.file.File.{File}
-use Rattle.cli_ask.specs.Below.LcLinks.HomeLink.{HomeLinkState}
-use Rattle.cli_ask.specs.Below.LcWorld.Link.{IsQuietWith, LinkSeen}
-use Rattle.cli_ask.specs.Below.Publisher.Held.{Held, side_of}
-use Rattle.cli_ask.specs.Below.PublisherSpec.Short.{IsShort, StandsUnder}
-use Rattle.cli_ask.specs.Below.PublisherSpec.Side.{Side}
-use Rattle.cli_ask.specs.Below.Timetable.declared.timetable.Timetable.{Timetable}
+use Rattle.lc_links.specs.HomeLink.{HomeLinkState}
+use Rattle.lc_world.specs.Link.{IsQuietWith, LinkSeen}
+use Rattle.publisher.specs.Held.{Held, side_of}
+use Rattle.publisher_spec.specs.Short.{IsShort, StandsUnder}
+use Rattle.publisher_spec.specs.Side.{Side}
+use Rattle.timetable.specs.declared.timetable.Timetable.{Timetable}
 
 module _ {L : Type 0} (seen : L → LinkSeen) (home left : HomeLinkState Cutting L) (base : BaseParts) where
   -- the question over the link at home was asked of its publisher over the outer link

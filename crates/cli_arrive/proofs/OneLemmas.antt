@@ -1,7 +1,7 @@
 -- The output of a question for the latest departure is one.
 use Rattle.std.proofs.Common.{◌≡◌, ◌∙◌, ℕ, ◌≤◌, List, ◌++◌, arith, length, Option, Some, None, ap, refl, subst, sym}
 use Rattle.std.specs.Option.{IfSome}
-use Rattle.cli_ask.specs.Below.BackScan.declared.arrive_query.ArriveQuery.{ArriveQuery}
+use Rattle.back_scan.specs.declared.arrive_query.ArriveQuery.{ArriveQuery}
 use Rattle.cli_arrive.specs.Client.{EndsRightLatest}
 use Rattle.cli_arrive.specs.Laws.{AreOneLatest, OneLatestOutput}
 use Rattle.cli_ask.proofs.AdmissionLemmas.{one_behind, store_with}
@@ -10,30 +10,30 @@ use Rattle.cli_ask.proofs.SideLemmas.{dates_of, in_zone, live_at}
 use Rattle.cli_ask.specs.Block.{client_text_of}
 use Rattle.cli_ask.specs.Publishing.{side_with, store_of}
 use Rattle.cli_ask.specs.declared.end.ClientEnd.{ClientEnd}
-use Rattle.cli_ask.specs.Below.ConnectionUri.Base.{BaseParts}
+use Rattle.connection_uri.specs.Base.{BaseParts}
 use Rattle.laws_arrive.specs.Latest.{LatestAt, NeededBackAt, departure_of}
 use Rattle.laws_arrive.specs.Laws.{OneDepartureAt, OneListOfNeededBackAt}
 use Rattle.laws_arrive.specs.Requests.{requests_of}
 use Rattle.laws_arrive.specs.Right.{EndsAt, HasLatest, IsRefused}
 use Rattle.laws_arrive.specs.ReplyLaws.{SayOneLatest}
-use Rattle.cli_ask.specs.Below.LawsClients.Published.{IsPublished, Published}
-use Rattle.cli_ask.specs.Below.LawsClients.Stated.{version_at}
+use Rattle.laws_clients.specs.Published.{IsPublished, Published}
+use Rattle.laws_clients.specs.Stated.{version_at}
 use Rattle.lc_io.specs.Counts.{Rose}
 use Rattle.lc_model.specs.Journey.{leaves_at}
 use Rattle.lc_model.specs.declared.journey.Journey.{Journey}
 use Rattle.lc_model.specs.declared.page.PageName.{PageName}
 use Rattle.lc_model.specs.declared.query.Query.{Query}
-use Rattle.cli_ask.specs.Below.BackScan.Forward.{forward_query}
-use Rattle.cli_ask.specs.Below.LcTime.declared.zone.Zone.{Zone}
-use Rattle.cli_ask.specs.Below.LcWorld.Link.{LinkSeen}
-use Rattle.cli_ask.specs.Below.LcWorld.declared.entry.Entry.{Entry}
-use Rattle.cli_ask.specs.Below.PageClient.Shown.{answered}
-use Rattle.cli_ask.specs.Below.PageClient.declared.fault.QueryFault.{QueryFault}
-use Rattle.cli_ask.specs.Below.PageClient.declared.fault.QueryFault.TheVariants.{HorizonRange, SameStop, UnknownFrom, UnknownTo}
-use Rattle.cli_ask.specs.Below.PageClient.declared.outcome.Outcome.{Outcome}
-use Rattle.cli_ask.specs.Below.PageClient.declared.outcome.Outcome.TheVariants as outcomes
-use Rattle.cli_ask.specs.Below.PublisherSpec.Side.{Side, date_in}
-use Rattle.cli_ask.specs.Below.VersionStore.Laws.{OneOutcome}
+use Rattle.back_scan.specs.Forward.{forward_query}
+use Rattle.lc_time.specs.declared.zone.Zone.{Zone}
+use Rattle.lc_world.specs.Link.{LinkSeen}
+use Rattle.lc_world.specs.declared.entry.Entry.{Entry}
+use Rattle.page_client.specs.Shown.{answered}
+use Rattle.page_client.specs.declared.fault.QueryFault.{QueryFault}
+use Rattle.page_client.specs.declared.fault.QueryFault.TheVariants.{HorizonRange, SameStop, UnknownFrom, UnknownTo}
+use Rattle.page_client.specs.declared.outcome.Outcome.{Outcome}
+use Rattle.page_client.specs.declared.outcome.Outcome.TheVariants as outcomes
+use Rattle.publisher_spec.specs.Side.{Side, date_in}
+use Rattle.version_store.specs.Laws.{OneOutcome}
 
 -- the question was answered or refused by the side
 abbrev Settled : BaseParts → Side → ArriveQuery → Option ℕ → List (List ℕ) → Outcome → Type 0

@@ -2,36 +2,36 @@
 use Rattle.std.proofs.Common.{◌≡◌, ◌∙◌, ◌<◌, ◌≤◌, ℕ, inl, inr, arith, List, [], ◌∷◌, ◌++◌, Option, Some, None, Result, Ok, Err, ap, subst, sym}
 use Rattle.std.specs.Option.{IfSome}
 use Rattle.std.proofs.lemmas.List.Elements.{All-cons, All-nil}
-use Rattle.laws_arrive.specs.Below.BackClient.Arrives.{AfterDoc, AfterGotGate, AfterGotStops, AfterRefusal, AfterSaidGate, AfterSaidStops, Arrives, AsksStops}
-use Rattle.laws_arrive.specs.Below.BackClient.Exchange.{IsExchange}
-use Rattle.laws_arrive.specs.Below.BackClient.Steps.{Taken, WalksBack}
-use Rattle.laws_arrive.specs.Below.BackClient.declared.outcome.ArriveEnd.{ArriveEnd}
-use Rattle.laws_arrive.specs.Below.BackClient.declared.page.Place.{Place}
-use Rattle.laws_arrive.specs.Below.BackClient.declared.page.Place.TheVariants.{After}
-use Rattle.cli_ask.specs.Below.BackScan.declared.arrive_query.ArriveQuery.{ArriveQuery}
+use Rattle.back_client.specs.Arrives.{AfterDoc, AfterGotGate, AfterGotStops, AfterRefusal, AfterSaidGate, AfterSaidStops, Arrives, AsksStops}
+use Rattle.back_client.specs.Exchange.{IsExchange}
+use Rattle.back_client.specs.Steps.{Taken, WalksBack}
+use Rattle.back_client.specs.declared.outcome.ArriveEnd.{ArriveEnd}
+use Rattle.back_client.specs.declared.page.Place.{Place}
+use Rattle.back_client.specs.declared.page.Place.TheVariants.{After}
+use Rattle.back_scan.specs.declared.arrive_query.ArriveQuery.{ArriveQuery}
 use Rattle.cli_ask.specs.Block.{IsPrintable}
 use Rattle.cli_arrive.specs.Client.{EndsRightLatest, client_of}
-use Rattle.cli_ask.specs.Below.ConnectionUri.Base.{BaseParts}
-use Rattle.cli_ask.specs.Below.Convoy.Exchange.{Got, bytes_of, result_of}
+use Rattle.connection_uri.specs.Base.{BaseParts}
+use Rattle.convoy.specs.Exchange.{Got, bytes_of, result_of}
 use Rattle.laws_arrive.specs.Right.{EndsAt, IsNamed, IsRight}
 use Rattle.laws_arrive.specs.Asked.{HasAskedLatest}
 use Rattle.laws_arrive.specs.Ends.{EndsBackBy}
-use Rattle.cli_ask.proofs.BelowLemmas.LawsConvoys.HonestLemmas.{is_get}
-use Rattle.cli_ask.proofs.BelowLemmas.LawsConvoys.RepliesLemmas.{Replied, one_more, recorded_no_more, replied_by, tells_replies_then}
-use Rattle.cli_ask.specs.Below.LawsConvoys.Replies.{IsRepliedBy}
-use Rattle.cli_ask.specs.Below.LawsReplies.Made.{Made}
-use Rattle.cli_ask.specs.Below.LawsClients.Stated.{version_at}
+use Rattle.laws_convoys.proofs.HonestLemmas.{is_get}
+use Rattle.laws_convoys.proofs.RepliesLemmas.{Replied, one_more, recorded_no_more, replied_by, tells_replies_then}
+use Rattle.laws_convoys.specs.Replies.{IsRepliedBy}
+use Rattle.laws_replies.specs.Made.{Made}
+use Rattle.laws_clients.specs.Stated.{version_at}
 use Rattle.lc_model.specs.Journey.{arrives_at}
 use Rattle.lc_model.specs.declared.connection.Connection.{Connection}
 use Rattle.lc_model.specs.declared.doc.StopsDoc.{StopsDoc}
 use Rattle.lc_model.specs.declared.page.PageName.{PageName}
-use Rattle.cli_ask.specs.Below.LcWorld.Link.{Exchanges, IsHonestWith, IsQuietWith, LinkSeen, TellsMore}
-use Rattle.cli_ask.specs.Below.LcWorld.declared.entry.Entry.{Entry}
-use Rattle.cli_ask.specs.Below.PageClient.declared.fault.PeerFault.{PeerFault}
-use Rattle.cli_ask.specs.Below.PageClient.declared.fault.QueryFault.{QueryFault}
-use Rattle.cli_ask.specs.Below.PageClient.declared.outcome.Outcome.{Outcome}
-use Rattle.cli_ask.specs.Below.PageClient.declared.outcome.Outcome.TheVariants as outcomes
-use Rattle.cli_ask.specs.Below.PublisherSpec.Side.{Side}
+use Rattle.lc_world.specs.Link.{Exchanges, IsHonestWith, IsQuietWith, LinkSeen, TellsMore}
+use Rattle.lc_world.specs.declared.entry.Entry.{Entry}
+use Rattle.page_client.specs.declared.fault.PeerFault.{PeerFault}
+use Rattle.page_client.specs.declared.fault.QueryFault.{QueryFault}
+use Rattle.page_client.specs.declared.outcome.Outcome.{Outcome}
+use Rattle.page_client.specs.declared.outcome.Outcome.TheVariants as outcomes
+use Rattle.publisher_spec.specs.Side.{Side}
 
 -- ---- a journey that was found has a text
 

@@ -2,19 +2,19 @@
 use Rattle.std.proofs.Common.{ℕ, zero, suc, ◌+◌, ◌-◌, ◌≤◌, max, ◌⊎◌, inl, inr, List, [], ◌∷◌, Option, None, Some, refl, arith}
 use Rattle.std.proofs.Math.Decide.{dec_le}
 use Rattle.std.proofs.Math.Nat.{le_trans}
-use Rattle.cli_ask.specs.Below.BackScan.Forward.{forward_query}
-use Rattle.cli_ask.specs.Below.BackScan.Latest.{IsLatestDeparture}
-use Rattle.cli_ask.specs.Below.BackScan.declared.arrive_query.ArriveQuery.{ArriveQuery}
+use Rattle.back_scan.specs.Forward.{forward_query}
+use Rattle.back_scan.specs.Latest.{IsLatestDeparture}
+use Rattle.back_scan.specs.declared.arrive_query.ArriveQuery.{ArriveQuery}
 use Rattle.cli_arrive.specs.Laws.{SomeWanted}
 use Rattle.cli_ask.proofs.WantsLemmas.{has_ends}
 use Rattle.laws_arrive.specs.Requests.{AreWanted}
 use Rattle.laws_arrive.specs.NeededBack.{needed_pages_back}
-use Rattle.cli_ask.specs.Below.LawsClients.Answered.{names_at}
-use Rattle.cli_ask.specs.Below.LawsClients.Wants.{HasEnds}
-use Rattle.cli_ask.proofs.BelowLemmas.LawsClients.PublishedLemmas.{is_lawful, is_timetable, made_of}
-use Rattle.laws_arrive.specs.Below.LawsPages.Least.{SomeLeastArrival}
-use Rattle.laws_arrive.proofs.BelowLemmas.LawsPages.JourneysLemmas.{journey_is_chain, waits}
-use Rattle.laws_arrive.proofs.BelowLemmas.LawsPages.LegLemmas.{in_time_forward, in_time_in_order, leg_goes_forward}
+use Rattle.laws_clients.specs.Answered.{names_at}
+use Rattle.laws_clients.specs.Wants.{HasEnds}
+use Rattle.laws_clients.proofs.PublishedLemmas.{is_lawful, is_timetable, made_of}
+use Rattle.laws_pages.specs.Least.{SomeLeastArrival}
+use Rattle.laws_pages.proofs.JourneysLemmas.{journey_is_chain, waits}
+use Rattle.laws_pages.proofs.LegLemmas.{in_time_forward, in_time_in_order, leg_goes_forward}
 use Rattle.lc_model.specs.Change.{change_between}
 use Rattle.lc_model.specs.Journey.{AreRides, GoesOn, IsJourney, IsLeastArrival, arrival_of_rides, arrives_at, departure_of, leaves_at}
 use Rattle.lc_model.specs.Leg.{IsLegOf, in_time}
@@ -28,10 +28,10 @@ use Rattle.lc_model.specs.declared.query.Query.{Query}
 use Rattle.lc_model.specs.declared.query.TheConstants.{LAST_LEAVE}
 use Rattle.lc_model.specs.declared.ride.Ride.{Ride}
 use Rattle.lc_model.specs.declared.run.Run.{Run}
-use Rattle.laws_arrive.specs.Below.LcVersions.Pages.{CutPage}
-use Rattle.cli_ask.specs.Below.PageClient.Shown.{HasHorizon}
-use Rattle.cli_ask.specs.Below.Publisher.Laws.{SomeTimetable}
-use Rattle.cli_ask.specs.Below.PublisherSpec.Side.{IsValidSide, Side}
+use Rattle.lc_versions.specs.Pages.{CutPage}
+use Rattle.page_client.specs.Shown.{HasHorizon}
+use Rattle.publisher.specs.Laws.{SomeTimetable}
+use Rattle.publisher_spec.specs.Side.{IsValidSide, Side}
 
 -- ---- a journey leaves no later than its last second
 

@@ -1,16 +1,16 @@
 -- How a question for the latest departure ended, by the side of the publisher that answered.
 use Rattle.std.specs.Prelude.{◌≡◌, ℕ, List, length, Option}
 use Rattle.std.specs.Option.{IfSome}
-use Rattle.laws_arrive.specs.Below.BackClient.declared.outcome.ArriveEnd.{ArriveEnd}
-use Rattle.cli_ask.specs.Below.BackScan.declared.arrive_query.ArriveQuery.{ArriveQuery}
+use Rattle.back_client.specs.declared.outcome.ArriveEnd.{ArriveEnd}
+use Rattle.back_scan.specs.declared.arrive_query.ArriveQuery.{ArriveQuery}
 use Rattle.cli_ask.specs.declared.end.ClientEnd.{ClientEnd}
-use Rattle.cli_ask.specs.Below.ConnectionUri.Base.{BaseParts}
+use Rattle.connection_uri.specs.Base.{BaseParts}
 use Rattle.laws_arrive.specs.Right.{EndsAt}
-use Rattle.cli_ask.specs.Below.LawsConvoys.Replies.{TellsReplies}
-use Rattle.cli_ask.specs.Below.LawsConvoys.Requests.{TellsRequests}
-use Rattle.cli_ask.specs.Below.LawsClients.Stated.{version_at}
-use Rattle.cli_ask.specs.Below.LcWorld.declared.entry.Entry.{Entry}
-use Rattle.cli_ask.specs.Below.PublisherSpec.Side.{Side}
+use Rattle.laws_convoys.specs.Replies.{TellsReplies}
+use Rattle.laws_convoys.specs.Requests.{TellsRequests}
+use Rattle.laws_clients.specs.Stated.{version_at}
+use Rattle.lc_world.specs.declared.entry.Entry.{Entry}
+use Rattle.publisher_spec.specs.Side.{Side}
 
 -- how such a question ended, as any client
 abbrev pub client_of : ArriveEnd → ClientEnd

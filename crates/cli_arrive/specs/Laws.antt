@@ -1,21 +1,21 @@
 -- That the output of a question for the latest departure is one, where the replies come as the publisher gave them, and that it wants some pages.
 use Rattle.std.specs.Prelude.{◌≡◌, ℕ, List, ◌++◌, Option, None}
-use Rattle.cli_ask.specs.Below.BackScan.Forward.{forward_query}
-use Rattle.cli_ask.specs.Below.BackScan.declared.arrive_query.ArriveQuery.{ArriveQuery}
+use Rattle.back_scan.specs.Forward.{forward_query}
+use Rattle.back_scan.specs.declared.arrive_query.ArriveQuery.{ArriveQuery}
 use Rattle.cli_arrive.specs.Asked.{IsAskedLatest}
 use Rattle.cli_ask.specs.Block.{client_text_of}
 use Rattle.cli_ask.specs.Laws.{IsFair}
 use Rattle.cli_ask.specs.declared.end.ClientEnd.{ClientEnd}
-use Rattle.cli_ask.specs.Below.CliWords.declared.command.Publishing.{Publishing}
+use Rattle.cli_words.specs.declared.command.Publishing.{Publishing}
 use Rattle.laws_arrive.specs.Requests.{AreWanted}
 use Rattle.laws_arrive.specs.ReplyLaws.{SayOneLatest}
 use Rattle.lc_io.specs.declared.file.File.{File}
 use Rattle.lc_model.specs.declared.page.PageName.{PageName}
-use Rattle.cli_ask.specs.Below.LcWorld.Link.{LinkSeen}
-use Rattle.cli_ask.specs.Below.PageClient.Shown.{IsRefusal}
-use Rattle.cli_ask.specs.Below.PublisherSpec.Side.{IsValidSide, Side}
-use Rattle.cli_ask.specs.Below.Timetable.Laws.{AreSame}
-use Rattle.cli_ask.specs.Below.Timetable.declared.timetable.Timetable.{Timetable}
+use Rattle.lc_world.specs.Link.{LinkSeen}
+use Rattle.page_client.specs.Shown.{IsRefusal}
+use Rattle.publisher_spec.specs.Side.{IsValidSide, Side}
+use Rattle.timetable.specs.Laws.{AreSame}
+use Rattle.timetable.specs.declared.timetable.Timetable.{Timetable}
 
 -- two ends are one: the same version, as many exchanges, and outcomes that say the same
 pub record AreOneLatest (a b : ClientEnd) : Type 0 where

@@ -2,15 +2,17 @@ ghost use Rattle.std.specs.Prelude.{◌≡◌, IfOk};
 ghost use Rattle.cli_arrive.specs.Client.{EndsRightLatest, client_of};
 ghost use Rattle.cli_ask.specs.Block.{IsPrintable};
 ghost use Rattle.laws_arrive.specs.Asked.{HasAskedLatest};
-ghost use Rattle.cli_ask.specs.Below.LcWorld.GoneOn.{IsLeftByGets};
-ghost use Rattle.cli_ask.specs.Below.LcWorld.Link.{IsQuietWith};
-ghost use Rattle.cli_ask.specs.Below.PublisherSpec.Side.{Side};
+ghost use Rattle.lc_world.specs.GoneOn.{IsLeftByGets};
+ghost use Rattle.lc_world.specs.Link.{IsQuietWith};
+ghost use Rattle.publisher_spec.specs.Side.{Side};
 
+use back_client::{ArriveEnd, arrive};
+use back_scan::ArriveQuery;
 use cli_ask::ClientEnd;
-use cli_ask::below::{ArriveQuery, Base, Link};
-use laws_arrive::below::{ArriveEnd, arrive};
+use connection_uri::Base;
 use laws_arrive::{latest_by_its_replies, latest_ends_right};
 use lc_model::NoMemory;
+use lc_world::Link;
 use std::alloc::Global;
 
 /// Asks for the latest departure over the link, until the question ends.

@@ -1,8 +1,10 @@
 ghost use Rattle.cli_arrive.specs.Laws.{OneLatestOutput, SomeWanted};
 
-use cli_ask::below::{Link, one_outcome, some_timetable};
-use laws_arrive::below::some_least_arrival;
 use laws_arrive::one_latest_answer;
+use laws_pages::some_least_arrival;
+use lc_world::Link;
+use publisher::some_timetable;
+use version_store::one_outcome;
 
 /// What is printed of a question for the latest departure is one, but for the journey, where the replies come as the publisher gave
 /// them. Journeys that may take each other's place leave at one moment.

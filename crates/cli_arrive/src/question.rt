@@ -1,13 +1,18 @@
 ghost use Rattle.std.specs.Prelude.{◌≡◌, ◌≢◌, IfErr, IfOk};
 ghost use Rattle.cli_arrive.specs.Asked.{AsksPublisher, IsAskedLatest};
 ghost use Rattle.cli_ask.specs.Admission.{IsFaulty};
-ghost use Rattle.cli_ask.specs.Below.LcWorld.GoneOn.{IsLeftByPasses};
-ghost use Rattle.cli_ask.specs.Below.VersionStore.declared.message_fault.MessageFault.TheVariants.{NoMemory as OutOfMemory};
+ghost use Rattle.lc_world.specs.GoneOn.{IsLeftByPasses};
+ghost use Rattle.version_store.specs.declared.message_fault.MessageFault.TheVariants.{NoMemory as OutOfMemory};
 
 use crate::client::client_end;
-use cli_ask::below::{ArriveQuery, File, Link, Publishing, Timetable};
-use cli_ask::{Asked, MessageFault, Opened, Unopened, open_home, printed};
+use back_scan::ArriveQuery;
+use cli_ask::{Asked, Opened, Unopened, open_home, printed};
+use cli_words::Publishing;
+use lc_io::File;
+use lc_world::Link;
 use std::alloc::Global;
+use timetable::Timetable;
+use version_store::MessageFault;
 
 /// Publishes a timetable, and gives the publisher the message of a file, if there is one. Then a client asks it how to arrive by a moment and
 /// leave as late as possible, page by page back. Each reply is handed on over the link, which is given back.

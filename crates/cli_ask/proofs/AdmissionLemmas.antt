@@ -2,19 +2,19 @@
 use Rattle.std.proofs.Common.{◌≡◌, ◌∙◌, ◌⊎◌, ◌+◌, ◌<◌, ◌≤◌, ℕ, inl, inr, List, [], ◌∷◌, ◌++◌, None, Some, Option, ap, ap₂, length, refl, subst, sym}
 use Rattle.std.proofs.lemmas.List.{length_push}
 use Rattle.lc_io.specs.declared.file.File.{File}
-use Rattle.cli_words.specs.Below.LcVersions.History.{Entry, moments_of}
-use Rattle.cli_words.specs.Below.LcVersions.Named.{last_of}
-use Rattle.cli_words.specs.Below.LcVersions.declared.update.Update.{Update}
+use Rattle.lc_versions.specs.History.{Entry, moments_of}
+use Rattle.lc_versions.specs.Named.{last_of}
+use Rattle.lc_versions.specs.declared.update.Update.{Update}
 use Rattle.timetable.specs.declared.timetable.Timetable.{Timetable}
-use Rattle.lc_links.specs.Below.VersionStore.Admission.{Admits, HasRoom, IsFullFor, IsRefused, IsTaken}
-use Rattle.lc_links.specs.Below.VersionStore.Laws.{OneOutcome}
-use Rattle.lc_links.specs.Below.VersionStore.Store.{Stored, bytes_of, entry_of, newest_of}
-use Rattle.lc_links.specs.Below.VersionStore.declared.admission.Admitted.{Admitted}
-use Rattle.lc_links.specs.Below.VersionStore.declared.admission.AdmitFault.{AdmitFault}
-use Rattle.lc_links.specs.Below.VersionStore.declared.admission.AdmitFault.TheVariants as faults
+use Rattle.version_store.specs.Admission.{Admits, HasRoom, IsFullFor, IsRefused, IsTaken}
+use Rattle.version_store.specs.Laws.{OneOutcome}
+use Rattle.version_store.specs.Store.{Stored, bytes_of, entry_of, newest_of}
+use Rattle.version_store.specs.declared.admission.Admitted.{Admitted}
+use Rattle.version_store.specs.declared.admission.AdmitFault.{AdmitFault}
+use Rattle.version_store.specs.declared.admission.AdmitFault.TheVariants as faults
 use Rattle.cli_ask.specs.Admission.{IsAdmitted, IsBehind, IsFaultBy, IsFaulty, IsIgnored, IsPassedOver, admitted_line_of, ignored_line_of}
-use Rattle.lc_links.specs.Below.VersionStore.declared.message_fault.MessageFault.{MessageFault}
-use Rattle.lc_links.specs.Below.VersionStore.declared.message_fault.MessageFault.TheVariants as messages
+use Rattle.version_store.specs.declared.message_fault.MessageFault.{MessageFault}
+use Rattle.version_store.specs.declared.message_fault.MessageFault.TheVariants as messages
 
 -- the store of a timetable with this history
 abbrev pub store_with : Timetable → ℕ → List Entry → Stored

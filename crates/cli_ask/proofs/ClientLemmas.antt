@@ -2,15 +2,15 @@
 use Rattle.std.proofs.Common.{◌≡◌, ◌∙◌, ◌+◌, ◌-◌, ◌<◌, ◌≤◌, ◌⊎◌, ℕ, inl, inr, List, [], ◌∷◌, Option, Some, None, arith, subst, sym}
 use Rattle.std.specs.List.{slice_get}
 use Rattle.std.specs.Option.{IfSome, IsSome}
-use Rattle.laws_convoys.specs.Below.LawsClients.Answered.{AnswersAt, NeededAt}
-use Rattle.laws_convoys.specs.Below.LawsClients.Fits.{FitsAt, HasAnswered, HasEnded, HasFailed, IsDenied}
-use Rattle.laws_convoys.specs.Below.LawsClients.Wants.{AreWants, HasEnds}
+use Rattle.laws_clients.specs.Answered.{AnswersAt, NeededAt}
+use Rattle.laws_clients.specs.Fits.{FitsAt, HasAnswered, HasEnded, HasFailed, IsDenied}
+use Rattle.laws_clients.specs.Wants.{AreWants, HasEnds}
 use Rattle.laws_replies.specs.Ends.{EndsBy}
 use Rattle.laws_replies.specs.Made.{Made}
 use Rattle.laws_replies.specs.Run.{HasAsked, HasRun}
-use Rattle.cli_words.specs.Below.ConnectionUri.Base.{BaseParts}
-use Rattle.laws_convoys.specs.Below.Convoy.State.{ConvoyState}
-use Rattle.laws_convoys.specs.Below.Convoy.declared.member.Member.{Member}
+use Rattle.connection_uri.specs.Base.{BaseParts}
+use Rattle.convoy.specs.State.{ConvoyState}
+use Rattle.convoy.specs.declared.member.Member.{Member}
 use Rattle.laws_convoys.specs.OneClient.{AskedAll, AskedOneMore, IsAlone}
 use Rattle.lc_model.specs.Journey.{arrives_at}
 use Rattle.lc_model.specs.Stop.{HasStop}
@@ -19,18 +19,18 @@ use Rattle.lc_model.specs.declared.answer.Answer.TheVariants as answers
 use Rattle.lc_model.specs.declared.moment.TheConstants.{MOMENTS_END}
 use Rattle.lc_model.specs.declared.query.Query.{Query}
 use Rattle.lc_model.specs.declared.query.TheConstants.{LAST_LEAVE}
-use Rattle.lc_links.specs.Below.LcWorld.Link.{LinkSeen}
-use Rattle.laws_convoys.specs.Below.PageClient.Client.{shown}
-use Rattle.laws_convoys.specs.Below.PageClient.Shown.{IsRefusal, Shown}
-use Rattle.laws_convoys.specs.Below.PageClient.declared.client.Client.{Client}
-use Rattle.laws_convoys.specs.Below.PageClient.declared.fault.QueryFault.{QueryFault}
-use Rattle.laws_convoys.specs.Below.PageClient.declared.fault.QueryFault.TheVariants.{HorizonRange, SameStop, UnknownFrom, UnknownTo}
-use Rattle.laws_convoys.specs.Below.PageClient.declared.outcome.Outcome.{Outcome}
-use Rattle.laws_convoys.specs.Below.PageClient.declared.outcome.Outcome.TheVariants as outcomes
-use Rattle.laws_convoys.specs.Below.PageClient.declared.phase.Phase.{Phase}
-use Rattle.laws_convoys.specs.Below.PageClient.declared.phase.Phase.TheVariants as phases
-use Rattle.laws_convoys.specs.Below.PageClient.declared.want.Want.{Want}
-use Rattle.lc_links.specs.Below.PublisherSpec.Side.{Side}
+use Rattle.lc_world.specs.Link.{LinkSeen}
+use Rattle.page_client.specs.Client.{shown}
+use Rattle.page_client.specs.Shown.{IsRefusal, Shown}
+use Rattle.page_client.specs.declared.client.Client.{Client}
+use Rattle.page_client.specs.declared.fault.QueryFault.{QueryFault}
+use Rattle.page_client.specs.declared.fault.QueryFault.TheVariants.{HorizonRange, SameStop, UnknownFrom, UnknownTo}
+use Rattle.page_client.specs.declared.outcome.Outcome.{Outcome}
+use Rattle.page_client.specs.declared.outcome.Outcome.TheVariants as outcomes
+use Rattle.page_client.specs.declared.phase.Phase.{Phase}
+use Rattle.page_client.specs.declared.phase.Phase.TheVariants as phases
+use Rattle.page_client.specs.declared.want.Want.{Want}
+use Rattle.publisher_spec.specs.Side.{Side}
 use Rattle.cli_ask.specs.Block.{IsPrintable}
 use Rattle.cli_ask.specs.Client.{AsksFor, EndsRight, shown_of}
 use Rattle.cli_ask.specs.declared.end.ClientEnd.{ClientEnd}

@@ -1,17 +1,17 @@
 -- What is said of a client over a link at home is said of it over the outer link.
 use Rattle.std.proofs.Common.{◌≡◌, ◌++◌, List, ℕ, Option, Result, Ok, Err, IfOk, Some, refl, subst, sym}
-use Rattle.cli_words.specs.Below.ConnectionUri.Base.{BaseParts}
-use Rattle.cli_words.specs.Below.Fragmenter.Cutting.{chosen_cuts}
-use Rattle.cli_words.specs.Below.Fragmenter.declared.cutting.Cutting.{Cutting}
+use Rattle.connection_uri.specs.Base.{BaseParts}
+use Rattle.fragmenter.specs.Cutting.{chosen_cuts}
+use Rattle.fragmenter.specs.declared.cutting.Cutting.{Cutting}
 use Rattle.lc_links.specs.HomeLink.{HomeLinkState}
 use Rattle.lc_model.specs.declared.query.Query.{Query}
-use Rattle.lc_links.specs.Below.LcWorld.GoneOn.{IsLeftByGets, IsLeftByPasses}
-use Rattle.lc_links.specs.Below.LcWorld.Link.{IsQuietWith, LinkSeen}
+use Rattle.lc_world.specs.GoneOn.{IsLeftByGets, IsLeftByPasses}
+use Rattle.lc_world.specs.Link.{IsQuietWith, LinkSeen}
 use Rattle.laws_replies.specs.Run.{HasAsked}
-use Rattle.laws_convoys.specs.Below.PageClient.declared.outcome.Outcome.{Outcome}
-use Rattle.lc_links.specs.Below.Publisher.Held.{side_of}
-use Rattle.lc_links.specs.Below.PublisherSpec.Short.{StandsUnder}
-use Rattle.lc_links.specs.Below.PublisherSpec.Side.{Side}
+use Rattle.page_client.specs.declared.outcome.Outcome.{Outcome}
+use Rattle.publisher.specs.Held.{side_of}
+use Rattle.publisher_spec.specs.Short.{StandsUnder}
+use Rattle.publisher_spec.specs.Side.{Side}
 use Rattle.cli_ask.specs.Asked.{AsksPublisher}
 use Rattle.cli_ask.specs.Block.{client_text_of}
 use Rattle.cli_ask.specs.Client.{Asks, EndsRight}

@@ -1,5 +1,4 @@
 pub mod AdmissionLemmas
-pub mod BelowLemmas
 pub mod ClientLemmas
 pub mod HomeLemmas
 pub mod OneAnswerLemmas

@@ -4,20 +4,20 @@ use Rattle.lc_model.specs.Laws.{arrival_of}
 use Rattle.lc_model.specs.declared.answer.Answer.{Answer}
 use Rattle.lc_model.specs.declared.answer.Answer.TheVariants as answers
 use Rattle.lc_model.specs.declared.query.Query.{Query}
-use Rattle.cli_words.specs.Below.LcTime.declared.zone.Zone.{Zone}
-use Rattle.laws_convoys.specs.Below.LawsClients.Answered.{AnswersAt, NeededAt}
-use Rattle.laws_convoys.specs.Below.LawsClients.Fits.{HasAnswered, HasEnded, IsDenied}
-use Rattle.laws_convoys.specs.Below.LawsClients.Laws.{OneArrivalAt, OneListOfNeededAt}
-use Rattle.laws_convoys.specs.Below.LawsClients.Wants.{wants_of}
+use Rattle.lc_time.specs.declared.zone.Zone.{Zone}
+use Rattle.laws_clients.specs.Answered.{AnswersAt, NeededAt}
+use Rattle.laws_clients.specs.Fits.{HasAnswered, HasEnded, IsDenied}
+use Rattle.laws_clients.specs.Laws.{OneArrivalAt, OneListOfNeededAt}
+use Rattle.laws_clients.specs.Wants.{wants_of}
 use Rattle.laws_replies.specs.Laws.{SayTheSame}
 use Rattle.laws_convoys.specs.OneClient.{version_of}
-use Rattle.laws_convoys.specs.Below.PageClient.declared.fault.QueryFault.{QueryFault}
-use Rattle.laws_convoys.specs.Below.PageClient.declared.fault.QueryFault.TheVariants.{HorizonRange, SameStop, UnknownFrom, UnknownTo}
-use Rattle.laws_convoys.specs.Below.PageClient.declared.outcome.Outcome.{Outcome}
-use Rattle.laws_convoys.specs.Below.PageClient.declared.outcome.Outcome.TheVariants as outcomes
-use Rattle.laws_convoys.specs.Below.PageClient.declared.want.Want.{Want}
-use Rattle.lc_links.specs.Below.PublisherSpec.Side.{Side, date_in}
-use Rattle.laws_convoys.specs.Below.LawsClients.Stated.{version_at}
+use Rattle.page_client.specs.declared.fault.QueryFault.{QueryFault}
+use Rattle.page_client.specs.declared.fault.QueryFault.TheVariants.{HorizonRange, SameStop, UnknownFrom, UnknownTo}
+use Rattle.page_client.specs.declared.outcome.Outcome.{Outcome}
+use Rattle.page_client.specs.declared.outcome.Outcome.TheVariants as outcomes
+use Rattle.page_client.specs.declared.want.Want.{Want}
+use Rattle.publisher_spec.specs.Side.{Side, date_in}
+use Rattle.laws_clients.specs.Stated.{version_at}
 use Rattle.cli_ask.specs.Client.{shown_of}
 use Rattle.cli_ask.specs.Laws.{IsNoLinkFault}
 use Rattle.cli_ask.specs.declared.end.ClientEnd.{ClientEnd}

@@ -2,25 +2,25 @@
 use Rattle.std.proofs.Common.{◌≡◌, ◌∙◌, ℕ, List, ◌++◌, Option, ap, arith, length, refl, subst, sym}
 use Rattle.lc_io.specs.Counts.{Rose}
 use Rattle.lc_model.specs.declared.query.Query.{Query}
-use Rattle.cli_words.specs.Below.LcVersions.History.{Entry}
-use Rattle.cli_words.specs.Below.LcTime.declared.zone.Zone.{Zone}
-use Rattle.lc_links.specs.Below.LcWorld.Link.{LinkSeen}
-use Rattle.lc_links.specs.Below.LcWorld.declared.entry.Entry.{Entry as Recorded}
-use Rattle.laws_convoys.specs.Below.LawsClients.Laws.{OneArrivalAt, OneListOfNeededAt}
+use Rattle.lc_versions.specs.History.{Entry}
+use Rattle.lc_time.specs.declared.zone.Zone.{Zone}
+use Rattle.lc_world.specs.Link.{LinkSeen}
+use Rattle.lc_world.specs.declared.entry.Entry.{Entry as Recorded}
+use Rattle.laws_clients.specs.Laws.{OneArrivalAt, OneListOfNeededAt}
 use Rattle.laws_replies.specs.Ends.{EndsBy}
 use Rattle.laws_replies.specs.Made.{Made}
-use Rattle.cli_words.specs.Below.ConnectionUri.Base.{BaseParts}
+use Rattle.connection_uri.specs.Base.{BaseParts}
 use Rattle.laws_convoys.specs.OneClient.{version_of}
-use Rattle.laws_convoys.specs.Below.PageClient.declared.outcome.Outcome.{Outcome}
-use Rattle.laws_convoys.specs.Below.PageClient.declared.outcome.Outcome.TheVariants as outcomes
-use Rattle.laws_convoys.specs.Below.PageClient.declared.want.Want.{Want}
+use Rattle.page_client.specs.declared.outcome.Outcome.{Outcome}
+use Rattle.page_client.specs.declared.outcome.Outcome.TheVariants as outcomes
+use Rattle.page_client.specs.declared.want.Want.{Want}
 use Rattle.cli_words.specs.declared.command.Publishing.{Publishing}
 use Rattle.lc_io.specs.declared.file.File.{File}
-use Rattle.lc_links.specs.Below.PublisherSpec.Side.{Side, date_in}
+use Rattle.publisher_spec.specs.Side.{Side, date_in}
 use Rattle.timetable.specs.Laws.{AreSame}
 use Rattle.timetable.specs.declared.timetable.Timetable.{Timetable}
-use Rattle.lc_links.specs.Below.VersionStore.Laws.{OneOutcome}
-use Rattle.lc_links.specs.Below.VersionStore.Store.{Stored}
+use Rattle.version_store.specs.Laws.{OneOutcome}
+use Rattle.version_store.specs.Store.{Stored}
 use Rattle.cli_ask.specs.Admission.{IsBehind}
 use Rattle.cli_ask.specs.Block.{client_text_of}
 use Rattle.cli_ask.specs.Client.{AsksFor, EndsRight}

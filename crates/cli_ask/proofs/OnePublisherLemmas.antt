@@ -1,8 +1,8 @@
 -- A timetable and a message make one publisher.
 use Rattle.std.proofs.Common.{◌≡◌, ◌∙◌, List, ap, refl, sym}
-use Rattle.cli_words.specs.Below.LcVersions.History.{Entry}
-use Rattle.lc_links.specs.Below.VersionStore.Laws.{OneOutcome}
-use Rattle.lc_links.specs.Below.VersionStore.Store.{Stored}
+use Rattle.lc_versions.specs.History.{Entry}
+use Rattle.version_store.specs.Laws.{OneOutcome}
+use Rattle.version_store.specs.Store.{Stored}
 use Rattle.cli_ask.specs.Laws.{OnePublisher}
 use Rattle.cli_ask.specs.Publishing.{held_for, store_of}
 use Rattle.cli_ask.proofs.AdmissionLemmas.{of_history, one_behind, store_with}

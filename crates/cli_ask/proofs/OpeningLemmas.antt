@@ -1,16 +1,16 @@
 -- What is said of the publisher of a link at home is said of the timetable that it publishes.
 use Rattle.std.proofs.Common.{◌∙◌, List, ℕ, Option, ap, refl, subst, sym}
-use Rattle.cli_words.specs.Below.ConnectionUri.Base.{BaseParts}
+use Rattle.connection_uri.specs.Base.{BaseParts}
 use Rattle.cli_words.specs.declared.command.Publishing.{Publishing}
-use Rattle.cli_words.specs.Below.Fragmenter.Cutting.{chosen_cuts}
-use Rattle.cli_words.specs.Below.Fragmenter.declared.cutting.Cutting.{Cutting}
+use Rattle.fragmenter.specs.Cutting.{chosen_cuts}
+use Rattle.fragmenter.specs.declared.cutting.Cutting.{Cutting}
 use Rattle.lc_io.specs.declared.file.File.{File}
 use Rattle.lc_links.specs.HomeLink.{HomeLinkState}
 use Rattle.lc_model.specs.declared.query.Query.{Query}
-use Rattle.lc_links.specs.Below.LcWorld.Link.{LinkSeen}
-use Rattle.lc_links.specs.Below.Publisher.Held.{Held, side_of}
-use Rattle.lc_links.specs.Below.PublisherSpec.Short.{IsShort, StandsUnder}
-use Rattle.lc_links.specs.Below.PublisherSpec.Side.{IsValidSide}
+use Rattle.lc_world.specs.Link.{LinkSeen}
+use Rattle.publisher.specs.Held.{Held, side_of}
+use Rattle.publisher_spec.specs.Short.{IsShort, StandsUnder}
+use Rattle.publisher_spec.specs.Side.{IsValidSide}
 use Rattle.timetable.specs.declared.timetable.Timetable.{Timetable}
 use Rattle.cli_ask.specs.Admission.{IsBehind}
 use Rattle.cli_ask.specs.Asked.{AsksPublisher, IsAsked}

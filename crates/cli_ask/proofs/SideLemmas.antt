@@ -6,22 +6,22 @@ use Rattle.lc_model.specs.declared.doc.StopsDoc.{StopsDoc}
 use Rattle.lc_model.specs.declared.page.PageName.{PageName}
 use Rattle.lc_model.specs.declared.query.Query.{Query}
 use Rattle.lc_model.specs.declared.run.Run.{Run}
-use Rattle.cli_words.specs.Below.LcTime.Zone.{date_shown}
-use Rattle.cli_words.specs.Below.LcTime.declared.zone.Zone.{Zone}
-use Rattle.cli_words.specs.Below.LcVersions.History.{Entry, news_at}
-use Rattle.cli_words.specs.Below.LcVersions.Timetable.{AreLiveRuns}
+use Rattle.lc_time.specs.Zone.{date_shown}
+use Rattle.lc_time.specs.declared.zone.Zone.{Zone}
+use Rattle.lc_versions.specs.History.{Entry, news_at}
+use Rattle.lc_versions.specs.Timetable.{AreLiveRuns}
 use Rattle.std.specs.Prelude.{unwrap_or}
-use Rattle.lc_links.specs.Below.PublisherSpec.Side.{Side, date_in, first_date}
+use Rattle.publisher_spec.specs.Side.{Side, date_in, first_date}
 use Rattle.cli_words.specs.declared.command.Publishing.{Publishing}
 use Rattle.timetable.specs.Laws.{AreSame}
 use Rattle.timetable.specs.declared.timetable.Timetable.{Timetable}
-use Rattle.laws_convoys.specs.Below.LawsClients.Answered.{AnswersAt, NeededAt}
-use Rattle.laws_convoys.specs.Below.LawsClients.Fits.{HasAnswered, IsDenied}
-use Rattle.laws_convoys.specs.Below.LawsClients.Published.{AreLiveAt, IsPublished, Published}
-use Rattle.laws_convoys.specs.Below.PageClient.Shown.{Shown}
-use Rattle.laws_convoys.specs.Below.PageClient.declared.fault.QueryFault.{QueryFault}
-use Rattle.laws_convoys.specs.Below.PageClient.declared.fault.QueryFault.TheVariants.{HorizonRange, SameStop, UnknownFrom, UnknownTo}
-use Rattle.laws_convoys.specs.Below.PageClient.declared.want.Want.{Want}
+use Rattle.laws_clients.specs.Answered.{AnswersAt, NeededAt}
+use Rattle.laws_clients.specs.Fits.{HasAnswered, IsDenied}
+use Rattle.laws_clients.specs.Published.{AreLiveAt, IsPublished, Published}
+use Rattle.page_client.specs.Shown.{Shown}
+use Rattle.page_client.specs.declared.fault.QueryFault.{QueryFault}
+use Rattle.page_client.specs.declared.fault.QueryFault.TheVariants.{HorizonRange, SameStop, UnknownFrom, UnknownTo}
+use Rattle.page_client.specs.declared.want.Want.{Want}
 use Rattle.cli_ask.specs.Publishing.{side_with}
 use Rattle.cli_ask.proofs.AdmissionLemmas.{store_with}
 

@@ -1,24 +1,24 @@
 -- A valid side has the wants of a question. What a client received that failed is in front of them.
 use Rattle.std.proofs.Common.{◌≡◌, ◌∙◌, ◌⊎◌, ℕ, inl, inr, List, [], ◌∷◌, ◌++◌, None, ap, map, refl, sym}
 use Rattle.std.proofs.Math.Decide.{dec_le}
-use Rattle.lc_links.proofs.BelowLemmas.JsonMembers.DecisionsLemmas.{any, both, same_text, turn}
+use Rattle.json_members.proofs.DecisionsLemmas.{any, both, same_text, turn}
 use Rattle.lc_model.specs.Stop.{HasStop}
 use Rattle.lc_model.specs.declared.doc.StopsDoc.{StopsDoc}
 use Rattle.lc_model.specs.declared.page.PageName.{PageName}
 use Rattle.lc_model.specs.declared.query.Query.{Query}
 use Rattle.lc_model.specs.declared.stop.Stop.{Stop}
-use Rattle.cli_words.specs.Below.LcVersions.Pages.{CutPage}
-use Rattle.laws_convoys.specs.Below.LawsClients.Answered.{names_at}
-use Rattle.laws_convoys.specs.Below.LawsClients.Wants.{AreWants, HasEnds, wants_of}
-use Rattle.laws_convoys.proofs.BelowLemmas.LawsClients.PublishedLemmas.{made_of}
-use Rattle.laws_convoys.specs.Below.LawsPages.Least.{SomeLeastArrival}
-use Rattle.laws_convoys.specs.Below.LawsPages.Needed.{needed_pages}
-use Rattle.laws_convoys.specs.Below.PageClient.Shown.{HasHorizon, IsRefusal}
-use Rattle.laws_convoys.specs.Below.PageClient.declared.fault.QueryFault.TheVariants.{HorizonRange, SameStop}
-use Rattle.laws_convoys.specs.Below.PageClient.declared.want.Want.{Want}
-use Rattle.laws_convoys.specs.Below.PageClient.declared.want.Want.TheVariants as wants
-use Rattle.lc_links.specs.Below.Publisher.Laws.{SomeTimetable}
-use Rattle.lc_links.specs.Below.PublisherSpec.Side.{IsValidSide, Side}
+use Rattle.lc_versions.specs.Pages.{CutPage}
+use Rattle.laws_clients.specs.Answered.{names_at}
+use Rattle.laws_clients.specs.Wants.{AreWants, HasEnds, wants_of}
+use Rattle.laws_clients.proofs.PublishedLemmas.{made_of}
+use Rattle.laws_pages.specs.Least.{SomeLeastArrival}
+use Rattle.laws_pages.specs.Needed.{needed_pages}
+use Rattle.page_client.specs.Shown.{HasHorizon, IsRefusal}
+use Rattle.page_client.specs.declared.fault.QueryFault.TheVariants.{HorizonRange, SameStop}
+use Rattle.page_client.specs.declared.want.Want.{Want}
+use Rattle.page_client.specs.declared.want.Want.TheVariants as wants
+use Rattle.publisher.specs.Laws.{SomeTimetable}
+use Rattle.publisher_spec.specs.Side.{IsValidSide, Side}
 use Rattle.cli_ask.specs.Laws.{AreGivenInOrder, SomeFront, SomeWants}
 
 -- ---- what can be found out of a question

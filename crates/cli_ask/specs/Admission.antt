@@ -1,16 +1,16 @@
 -- What becomes of a realtime message that a publisher receives, and the line that says it.
 use Rattle.std.specs.Prelude.{◌≡◌, ◌⊎◌, ◌<◌, ℕ, List, [], ◌++◌, length, Option, Some, None, codes, decimal}
 use Rattle.lc_io.specs.declared.file.File.{File}
-use Rattle.cli_words.specs.Below.LcTime.Iso.{iso_text_of}
-use Rattle.lc_links.specs.Below.TripUpdates.declared.fault.RtFault.{RtFault}
-use Rattle.lc_links.specs.Below.VersionStore.Admission.{Admits, IsBroken, IsRefused}
-use Rattle.lc_links.specs.Below.VersionStore.Store.{Stored}
-use Rattle.lc_links.specs.Below.VersionStore.Texts.{fault_text}
-use Rattle.lc_links.specs.Below.VersionStore.declared.admission.Admitted.{Admitted}
-use Rattle.lc_links.specs.Below.VersionStore.declared.admission.AdmitFault.{AdmitFault}
-use Rattle.lc_links.specs.Below.VersionStore.declared.admission.AdmitFault.TheVariants as faults
-use Rattle.lc_links.specs.Below.VersionStore.declared.message_fault.MessageFault.{MessageFault}
-use Rattle.lc_links.specs.Below.VersionStore.declared.message_fault.MessageFault.TheVariants as messages
+use Rattle.lc_time.specs.Iso.{iso_text_of}
+use Rattle.trip_updates.specs.declared.fault.RtFault.{RtFault}
+use Rattle.version_store.specs.Admission.{Admits, IsBroken, IsRefused}
+use Rattle.version_store.specs.Store.{Stored}
+use Rattle.version_store.specs.Texts.{fault_text}
+use Rattle.version_store.specs.declared.admission.Admitted.{Admitted}
+use Rattle.version_store.specs.declared.admission.AdmitFault.{AdmitFault}
+use Rattle.version_store.specs.declared.admission.AdmitFault.TheVariants as faults
+use Rattle.version_store.specs.declared.message_fault.MessageFault.{MessageFault}
+use Rattle.version_store.specs.declared.message_fault.MessageFault.TheVariants as messages
 
 -- `update {name} admitted {moment} passed {n}`
 abbrev pub admitted_line_of : List ℕ → Admitted → List ℕ

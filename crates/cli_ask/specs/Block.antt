@@ -2,10 +2,10 @@
 use Rattle.std.specs.Prelude.{ℕ, List, [], ◌++◌, Option, Some, None, codes, decimal}
 use Rattle.journey_text.specs.AnswerText.{ArrivesAtAMoment, answer_text_of}
 use Rattle.lc_model.specs.declared.answer.Answer.TheVariants as answers
-use Rattle.cli_words.specs.Below.LcTime.Iso.{iso_text_of}
-use Rattle.laws_convoys.specs.Below.PageClient.Texts.{peer_fault_text, query_fault_text}
-use Rattle.laws_convoys.specs.Below.PageClient.declared.outcome.Outcome.{Outcome}
-use Rattle.laws_convoys.specs.Below.PageClient.declared.outcome.Outcome.TheVariants as outcomes
+use Rattle.lc_time.specs.Iso.{iso_text_of}
+use Rattle.page_client.specs.Texts.{peer_fault_text, query_fault_text}
+use Rattle.page_client.specs.declared.outcome.Outcome.{Outcome}
+use Rattle.page_client.specs.declared.outcome.Outcome.TheVariants as outcomes
 use Rattle.cli_ask.specs.declared.end.ClientEnd.{ClientEnd}
 
 -- `version {moment}`, where the time gate named one

@@ -1,21 +1,21 @@
 -- How a client that asked alone ended: by the replies that it got, whatever the link was. It ended rightly by the side of the publisher that
 -- answered, where the replies came as it gave them.
 use Rattle.std.specs.Prelude.{◌≡◌, List, [], ◌∷◌, ◌++◌, length, Option, Some, None}
-use Rattle.laws_convoys.specs.Below.LawsClients.Fits.{HasEnded}
+use Rattle.laws_clients.specs.Fits.{HasEnded}
 use Rattle.laws_replies.specs.Run.{HasAsked}
-use Rattle.cli_words.specs.Below.ConnectionUri.Base.{BaseParts}
+use Rattle.connection_uri.specs.Base.{BaseParts}
 use Rattle.laws_convoys.specs.OneClient.{IsNext, version_of}
 use Rattle.laws_convoys.specs.Replies.{TellsReplies}
 use Rattle.laws_convoys.specs.Requests.{TellsAsked}
 use Rattle.lc_model.specs.declared.query.Query.{Query}
-use Rattle.lc_links.specs.Below.LcWorld.Link.{LinkSeen}
-use Rattle.lc_links.specs.Below.LcWorld.declared.entry.Entry.{Entry}
-use Rattle.laws_convoys.specs.Below.PageClient.Shown.{Shown}
-use Rattle.laws_convoys.specs.Below.PageClient.declared.outcome.Outcome.{Outcome}
-use Rattle.laws_convoys.specs.Below.PageClient.declared.outcome.Outcome.TheVariants as outcomes
-use Rattle.laws_convoys.specs.Below.PageClient.declared.phase.Phase.TheVariants as phases
-use Rattle.laws_convoys.specs.Below.PageClient.declared.want.Want.{Want}
-use Rattle.lc_links.specs.Below.PublisherSpec.Side.{Side}
+use Rattle.lc_world.specs.Link.{LinkSeen}
+use Rattle.lc_world.specs.declared.entry.Entry.{Entry}
+use Rattle.page_client.specs.Shown.{Shown}
+use Rattle.page_client.specs.declared.outcome.Outcome.{Outcome}
+use Rattle.page_client.specs.declared.outcome.Outcome.TheVariants as outcomes
+use Rattle.page_client.specs.declared.phase.Phase.TheVariants as phases
+use Rattle.page_client.specs.declared.want.Want.{Want}
+use Rattle.publisher_spec.specs.Side.{Side}
 use Rattle.cli_ask.specs.declared.end.ClientEnd.{ClientEnd}
 
 -- by the replies that it got it ended so

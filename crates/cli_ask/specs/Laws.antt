@@ -1,26 +1,26 @@
 -- That the output of a question is one, where the replies come as the publisher gave them. What a publisher has after a message.
 use Rattle.std.specs.Prelude.{◌≡◌, ◌⊎◌, ℕ, Bool, List, [], ◌∷◌, ◌++◌, Option}
-use Rattle.laws_convoys.specs.Below.LawsClients.Fits.{IsCutShort}
-use Rattle.laws_convoys.specs.Below.LawsClients.Wants.{AreWants, wants_of}
+use Rattle.laws_clients.specs.Fits.{IsCutShort}
+use Rattle.laws_clients.specs.Wants.{AreWants, wants_of}
 use Rattle.laws_replies.specs.Laws.{SayTheSame}
 use Rattle.cli_words.specs.declared.command.Publishing.{Publishing}
-use Rattle.cli_words.specs.Below.Fragmenter.declared.cutting.Cutting.{Cutting}
+use Rattle.fragmenter.specs.declared.cutting.Cutting.{Cutting}
 use Rattle.lc_io.specs.Counts.{Rose}
 use Rattle.lc_io.specs.declared.file.File.{File}
 use Rattle.lc_model.specs.declared.page.PageName.{PageName}
 use Rattle.lc_model.specs.declared.query.Query.{Query}
-use Rattle.lc_links.specs.Below.LcWorld.Link.{LinkSeen}
-use Rattle.laws_convoys.specs.Below.PageClient.declared.outcome.Outcome.{Outcome}
-use Rattle.laws_convoys.specs.Below.PageClient.declared.outcome.Outcome.TheVariants as outcomes
-use Rattle.laws_convoys.specs.Below.PageClient.Shown.{Shown}
-use Rattle.laws_convoys.specs.Below.PageClient.declared.want.Want.{Want}
-use Rattle.laws_convoys.specs.Below.PageClient.declared.want.Want.TheVariants as wants
-use Rattle.lc_links.specs.Below.Publisher.Held.{Held}
-use Rattle.lc_links.specs.Below.PublisherSpec.Short.{IsShort}
-use Rattle.lc_links.specs.Below.PublisherSpec.Side.{IsValidSide, Side}
+use Rattle.lc_world.specs.Link.{LinkSeen}
+use Rattle.page_client.specs.declared.outcome.Outcome.{Outcome}
+use Rattle.page_client.specs.declared.outcome.Outcome.TheVariants as outcomes
+use Rattle.page_client.specs.Shown.{Shown}
+use Rattle.page_client.specs.declared.want.Want.{Want}
+use Rattle.page_client.specs.declared.want.Want.TheVariants as wants
+use Rattle.publisher.specs.Held.{Held}
+use Rattle.publisher_spec.specs.Short.{IsShort}
+use Rattle.publisher_spec.specs.Side.{IsValidSide, Side}
 use Rattle.timetable.specs.Laws.{AreSame}
 use Rattle.timetable.specs.declared.timetable.Timetable.{Timetable}
-use Rattle.lc_links.specs.Below.VersionStore.Store.{Stored}
+use Rattle.version_store.specs.Store.{Stored}
 use Rattle.cli_ask.specs.Admission.{IsBehind}
 use Rattle.cli_ask.specs.Asked.{IsAsked}
 use Rattle.cli_ask.specs.Block.{client_text_of}

@@ -1,6 +1,5 @@
 pub mod Admission
 pub mod Asked
-pub mod Below
 pub mod Block
 pub mod Client
 pub mod Laws

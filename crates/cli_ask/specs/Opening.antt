@@ -1,14 +1,14 @@
 -- A link at home to the publisher of a timetable that received its message.
 use Rattle.std.specs.Prelude.{◌≡◌, ℕ, List, [], Option}
 use Rattle.cli_words.specs.declared.command.Publishing.{Publishing}
-use Rattle.cli_words.specs.Below.ConnectionUri.Base.{BaseParts}
-use Rattle.cli_words.specs.Below.Fragmenter.declared.cutting.Cutting.{Cutting}
+use Rattle.connection_uri.specs.Base.{BaseParts}
+use Rattle.fragmenter.specs.declared.cutting.Cutting.{Cutting}
 use Rattle.lc_io.specs.declared.file.File.{File}
 use Rattle.lc_links.specs.HomeLink.{HomeLinkState}
-use Rattle.lc_links.specs.Below.Publisher.Held.{Held}
-use Rattle.lc_links.specs.Below.PublisherSpec.Side.{IsValidSide}
+use Rattle.publisher.specs.Held.{Held}
+use Rattle.publisher_spec.specs.Side.{IsValidSide}
 use Rattle.timetable.specs.declared.timetable.Timetable.{Timetable}
-use Rattle.lc_links.specs.Below.VersionStore.Store.{Stored}
+use Rattle.version_store.specs.Store.{Stored}
 use Rattle.cli_ask.specs.Admission.{IsBehind}
 use Rattle.cli_ask.specs.Publishing.{held_with, side_with, store_of}
 

@@ -1,13 +1,13 @@
 -- The side of a publisher: that of a timetable with the messages that its store admitted.
 use Rattle.std.specs.Prelude.{◌≡◌, ℕ, Bool, List, [], false, Option}
 use Rattle.cli_words.specs.declared.command.Publishing.{Publishing}
-use Rattle.cli_words.specs.Below.Fragmenter.Cutting.{chosen_cuts}
-use Rattle.cli_words.specs.Below.Fragmenter.declared.cutting.Cutting.{Cutting}
+use Rattle.fragmenter.specs.Cutting.{chosen_cuts}
+use Rattle.fragmenter.specs.declared.cutting.Cutting.{Cutting}
 use Rattle.lc_io.specs.declared.file.File.{File}
-use Rattle.lc_links.specs.Below.Publisher.Held.{Held, side_of}
-use Rattle.lc_links.specs.Below.PublisherSpec.Side.{Side}
+use Rattle.publisher.specs.Held.{Held, side_of}
+use Rattle.publisher_spec.specs.Side.{Side}
 use Rattle.timetable.specs.declared.timetable.Timetable.{Timetable}
-use Rattle.lc_links.specs.Below.VersionStore.Store.{Stored}
+use Rattle.version_store.specs.Store.{Stored}
 use Rattle.cli_ask.specs.Admission.{IsBehind}
 
 -- the store of a timetable to which no message was admitted

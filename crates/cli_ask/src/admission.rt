@@ -1,11 +1,14 @@
 ghost use Rattle.std.specs.Prelude.{◌≡◌, ◌+◌, IfErr, IfOk, OnOk, Some, length};
 ghost use Rattle.cli_ask.specs.Admission.{IsBehind, IsFaultBy, IsFaulty, IsIgnored, admitted_line_of, ignored_line_of};
 
-use cli_words::below::{Cutting, iso_text};
-use lc_links::below::{AdmitFault, Admitted, File, MessageFault, Publisher};
+use fragmenter::Cutting;
+use lc_io::File;
 use lc_model::NoMemory;
+use lc_time::iso_text;
 use percent_encoding::ascii_str;
+use publisher::Publisher;
 use std::alloc::Global;
+use version_store::{AdmitFault, Admitted, MessageFault};
 
 /// What became of messages that a publisher received: a line for each, and how many of them were admitted.
 #[derive(Drop)]

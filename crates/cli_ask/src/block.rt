@@ -2,10 +2,10 @@ ghost use Rattle.std.specs.Prelude.{◌≡◌, ◌++◌, IfOk, OnOk, codes, deci
 ghost use Rattle.cli_ask.specs.Block.{IsPrintable, client_text_of, link_fault_line_of, outcome_text_of, version_line_of};
 
 use crate::ClientEnd;
-use cli_words::below::iso_text;
 use journey_text::journey_text;
-use laws_convoys::below::Outcome;
 use lc_model::{Moment, NoMemory};
+use lc_time::iso_text;
+use page_client::Outcome;
 use percent_encoding::ascii_str;
 use std::alloc::Global;
 

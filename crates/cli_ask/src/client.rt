@@ -1,17 +1,17 @@
 ghost use Rattle.std.specs.Prelude.{◌≡◌, ◌≤◌, IfOk};
 ghost use Rattle.cli_ask.specs.Block.{IsPrintable};
 ghost use Rattle.cli_ask.specs.Client.{Asks, EndsRight};
-ghost use Rattle.lc_links.specs.Below.LcWorld.GoneOn.{IsLeftByGets};
-ghost use Rattle.lc_links.specs.Below.LcWorld.Link.{IsQuietWith};
-ghost use Rattle.lc_links.specs.Below.PublisherSpec.Side.{Side};
+ghost use Rattle.lc_world.specs.GoneOn.{IsLeftByGets};
+ghost use Rattle.lc_world.specs.Link.{IsQuietWith};
+ghost use Rattle.publisher_spec.specs.Side.{Side};
 
 use crate::ClientEnd;
-use cli_words::below::Base;
-use laws_convoys::below::Convoy;
+use connection_uri::Base;
+use convoy::Convoy;
 use laws_convoys::one_client;
 use laws_replies::alone_over_any_link;
-use lc_links::below::Link;
 use lc_model::{NoMemory, Query};
+use lc_world::Link;
 use std::alloc::Global;
 
 /// Lets a client ask alone, until it ends. It caches so many pages at most.

@@ -1,5 +1,5 @@
-use laws_convoys::below::Outcome;
 use lc_model::Moment;
+use page_client::Outcome;
 
 /// How a client ended.
 #[derive(Drop)]

@@ -1,7 +1,10 @@
 ghost use Rattle.cli_ask.specs.Laws.{AreGivenInOrder, OneOutput, OnePublisher, SomeFront, SomeWants};
 
-use laws_convoys::below::{one_answer, some_least_arrival};
-use lc_links::below::{Link, one_outcome, some_timetable};
+use laws_clients::one_answer;
+use laws_pages::some_least_arrival;
+use lc_world::Link;
+use publisher::some_timetable;
+use version_store::one_outcome;
 
 /// What is printed of a question is one, but for the way of the journey, where the replies come as the publisher gave them.
 pub fn one_output<L: Link, M: Link>()

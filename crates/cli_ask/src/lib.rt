@@ -3,7 +3,6 @@
 #![tactic(auto)]
 
 mod admission;
-pub mod below;
 mod block;
 mod client;
 mod end;
@@ -16,7 +15,6 @@ pub use admission::{Heard, give};
 pub use block::push_client;
 pub use end::ClientEnd;
 pub use laws::{one_output, one_publisher, some_wants};
-pub use lc_links::below::MessageFault;
 pub use opening::{Opened, Unopened, open_home};
 pub use publishing::{publisher_of, serving_publisher};
 pub use question::{Asked, ask, printed};

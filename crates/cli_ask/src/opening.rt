@@ -1,19 +1,23 @@
 ghost use Rattle.std.specs.Prelude.{◌≡◌, IfErr, IfOk};
 ghost use Rattle.cli_ask.specs.Admission.{IsFaulty};
 ghost use Rattle.cli_ask.specs.Opening.{IsAtHome, IsOpened, IsPrepared};
-ghost use Rattle.cli_words.specs.Below.Fragmenter.Cutting.{chosen_cuts};
-ghost use Rattle.lc_links.specs.Below.Publisher.Held.{side_of};
-ghost use Rattle.lc_links.specs.Below.PublisherSpec.Side.{IsValidSide};
-ghost use Rattle.lc_links.specs.Below.VersionStore.declared.message_fault.MessageFault.TheVariants.{NoMemory as OutOfMemory};
+ghost use Rattle.fragmenter.specs.Cutting.{chosen_cuts};
+ghost use Rattle.publisher.specs.Held.{side_of};
+ghost use Rattle.publisher_spec.specs.Side.{IsValidSide};
+ghost use Rattle.version_store.specs.declared.message_fault.MessageFault.TheVariants.{NoMemory as OutOfMemory};
 
 use crate::publishing::serving_publisher;
 use cli_words::Publishing;
-use cli_words::below::{Base, Cutting};
-use lc_links::below::{File, Link, MessageFault, Publisher};
+use connection_uri::Base;
+use fragmenter::Cutting;
+use lc_io::File;
 use lc_links::{HomeLink, LocalLink};
 use lc_model::{NoMemory, PlainData};
+use lc_world::Link;
+use publisher::Publisher;
 use std::alloc::Global;
 use timetable::Timetable;
+use version_store::MessageFault;
 
 /// A link at home to a publisher that has got its message, with the line of the message, and the base again.
 #[derive(Drop)]

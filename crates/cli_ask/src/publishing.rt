@@ -4,11 +4,13 @@ ghost use Rattle.cli_ask.specs.Publishing.{PublishesAfter, held_for, held_with, 
 
 use crate::admission::admit;
 use cli_words::Publishing;
-use cli_words::below::Cutting;
-use lc_links::below::{File, MessageFault, Options, Publisher};
+use fragmenter::Cutting;
+use lc_io::File;
 use lc_model::NoMemory;
+use publisher::{Options, Publisher};
 use std::alloc::Global;
 use timetable::Timetable;
+use version_store::MessageFault;
 
 /// The publisher of a timetable, to which no message was admitted. It takes none from its clients.
 pub fn publisher_of(

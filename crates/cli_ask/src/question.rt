@@ -2,18 +2,20 @@ ghost use Rattle.std.specs.Prelude.{◌≡◌, ◌≢◌, ◌≤◌, ◌++◌, I
 ghost use Rattle.cli_ask.specs.Admission.{IsFaulty};
 ghost use Rattle.cli_ask.specs.Asked.{AsksPublisher, IsAsked};
 ghost use Rattle.cli_ask.specs.Block.{IsPrintable, client_text_of};
-ghost use Rattle.lc_links.specs.Below.LcWorld.GoneOn.{IsLeftByPasses};
-ghost use Rattle.lc_links.specs.Below.VersionStore.declared.message_fault.MessageFault.TheVariants.{NoMemory as OutOfMemory};
+ghost use Rattle.lc_world.specs.GoneOn.{IsLeftByPasses};
+ghost use Rattle.version_store.specs.declared.message_fault.MessageFault.TheVariants.{NoMemory as OutOfMemory};
 
 use crate::ClientEnd;
 use crate::block::push_client;
 use crate::client::client_end;
 use crate::opening::{Opened, Unopened, open_home};
 use cli_words::Publishing;
-use lc_links::below::{File, Link, MessageFault};
+use lc_io::File;
 use lc_model::{NoMemory, Query};
+use lc_world::Link;
 use std::alloc::Global;
 use timetable::Timetable;
+use version_store::MessageFault;
 
 /// What is printed of a question, and how its client ended.
 #[derive(Drop)]

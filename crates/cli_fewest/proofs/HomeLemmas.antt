@@ -7,19 +7,19 @@ use Rattle.cli_ask.specs.Publishing.{held_with, side_with}
 use Rattle.cli_ask.specs.declared.end.ClientEnd.{ClientEnd}
 use Rattle.cli_fewest.specs.Asked.{AsksPublisher, IsAskedFewest}
 use Rattle.cli_fewest.specs.Client.{EndsRightFewest}
-use Rattle.cli_ask.specs.Below.CliWords.declared.command.Publishing.{Publishing}
-use Rattle.cli_ask.specs.Below.ConnectionUri.Base.{BaseParts}
-use Rattle.cli_ask.specs.Below.Fragmenter.Cutting.{chosen_cuts}
-use Rattle.cli_ask.specs.Below.Fragmenter.declared.cutting.Cutting.{Cutting}
+use Rattle.cli_words.specs.declared.command.Publishing.{Publishing}
+use Rattle.connection_uri.specs.Base.{BaseParts}
+use Rattle.fragmenter.specs.Cutting.{chosen_cuts}
+use Rattle.fragmenter.specs.declared.cutting.Cutting.{Cutting}
 use Rattle.laws_rounds.specs.Asked.{HasAskedFewest}
 use Rattle.lc_io.specs.declared.file.File.{File}
-use Rattle.cli_ask.specs.Below.LcLinks.HomeLink.{HomeLinkState}
+use Rattle.lc_links.specs.HomeLink.{HomeLinkState}
 use Rattle.lc_model.specs.declared.query.Query.{Query}
-use Rattle.cli_ask.specs.Below.LcWorld.Link.{IsQuietWith, LinkSeen}
-use Rattle.cli_ask.specs.Below.Publisher.Held.{Held, side_of}
-use Rattle.cli_ask.specs.Below.PublisherSpec.Short.{IsShort, StandsUnder}
-use Rattle.cli_ask.specs.Below.PublisherSpec.Side.{Side}
-use Rattle.cli_ask.specs.Below.Timetable.declared.timetable.Timetable.{Timetable}
+use Rattle.lc_world.specs.Link.{IsQuietWith, LinkSeen}
+use Rattle.publisher.specs.Held.{Held, side_of}
+use Rattle.publisher_spec.specs.Short.{IsShort, StandsUnder}
+use Rattle.publisher_spec.specs.Side.{Side}
+use Rattle.timetable.specs.declared.timetable.Timetable.{Timetable}
 
 module _ {L : Type 0} (seen : L → LinkSeen) (home left : HomeLinkState Cutting L) (base : BaseParts) where
   -- the client that asked over the link at home asked its publisher over the outer link

@@ -9,15 +9,15 @@ use Rattle.cli_fewest.specs.Client.{HasFewestRides}
 use Rattle.cli_fewest.specs.Laws.{OneFewestOutput}
 use Rattle.laws_rounds.specs.Version.{AlikeAt, FewestAt}
 use Rattle.laws_rounds.specs.ReplyLaws.{HaveAsManyRides}
-use Rattle.cli_ask.specs.Below.LawsClients.Stated.{version_at}
+use Rattle.laws_clients.specs.Stated.{version_at}
 use Rattle.lc_model.specs.declared.journey.Journey.{Journey}
 use Rattle.lc_model.specs.declared.query.Query.{Query}
-use Rattle.cli_ask.specs.Below.LcTime.declared.zone.Zone.{Zone}
-use Rattle.cli_ask.specs.Below.LcWorld.Link.{LinkSeen}
-use Rattle.cli_ask.specs.Below.PageClient.declared.outcome.Outcome.{Outcome}
-use Rattle.cli_ask.specs.Below.PageClient.declared.outcome.Outcome.TheVariants as outcomes
-use Rattle.cli_ask.specs.Below.PublisherSpec.Side.{Side, date_in}
-use Rattle.cli_ask.specs.Below.VersionStore.Laws.{OneOutcome}
+use Rattle.lc_time.specs.declared.zone.Zone.{Zone}
+use Rattle.lc_world.specs.Link.{LinkSeen}
+use Rattle.page_client.specs.declared.outcome.Outcome.{Outcome}
+use Rattle.page_client.specs.declared.outcome.Outcome.TheVariants as outcomes
+use Rattle.publisher_spec.specs.Side.{Side, date_in}
+use Rattle.version_store.specs.Laws.{OneOutcome}
 
 module _ (alike_at : AlikeAt) (side : Side) (zone : Zone) (same : date_in zone ≡ date_in side.zone) (query : Query) where
   -- a journey of the fewest rides by a side in another zone is one by the side

@@ -6,42 +6,42 @@ use Rattle.cli_ask.proofs.ClientLemmas.{at_end, same_end}
 use Rattle.cli_ask.specs.Block.{IsPrintable}
 use Rattle.cli_ask.specs.Client.{AsksFor, AsksOneMore, shown_of}
 use Rattle.cli_fewest.specs.Client.{EndsRightFewest, HasFewestRides, client_of}
-use Rattle.cli_ask.specs.Below.ConnectionUri.Base.{BaseParts}
-use Rattle.cli_ask.specs.Below.Convoy.Exchange.{Got, IsExchange}
-use Rattle.cli_ask.specs.Below.LawsClients.Answered.{AnswersAt}
-use Rattle.cli_ask.specs.Below.LawsClients.Fits.{HasAnswered, HasEnded, HasFailed}
-use Rattle.cli_ask.specs.Below.LawsClients.Steps.{BeginsInAgreement}
-use Rattle.cli_ask.specs.Below.LawsClients.Wants.{AreWants}
-use Rattle.cli_ask.proofs.BelowLemmas.LawsConvoys.RepliesLemmas.{Replied, exchange_replied, recorded_no_more, tells_replies_then}
-use Rattle.cli_ask.specs.Below.LawsConvoys.OneClient.{version_of}
-use Rattle.cli_ask.specs.Below.LawsConvoys.Replies.{IsRepliedBy, TellsReplies}
-use Rattle.cli_ask.specs.Below.LawsConvoys.Requests.{TellsAsked}
+use Rattle.connection_uri.specs.Base.{BaseParts}
+use Rattle.convoy.specs.Exchange.{Got, IsExchange}
+use Rattle.laws_clients.specs.Answered.{AnswersAt}
+use Rattle.laws_clients.specs.Fits.{HasAnswered, HasEnded, HasFailed}
+use Rattle.laws_clients.specs.Steps.{BeginsInAgreement}
+use Rattle.laws_clients.specs.Wants.{AreWants}
+use Rattle.laws_convoys.proofs.RepliesLemmas.{Replied, exchange_replied, recorded_no_more, tells_replies_then}
+use Rattle.laws_convoys.specs.OneClient.{version_of}
+use Rattle.laws_convoys.specs.Replies.{IsRepliedBy, TellsReplies}
+use Rattle.laws_convoys.specs.Requests.{TellsAsked}
 use Rattle.laws_rounds.specs.Version.{FewestAt, FewestOfNeededAt}
-use Rattle.cli_ask.specs.Below.LawsReplies.Ends.{EndsBy}
-use Rattle.cli_ask.specs.Below.LawsReplies.Made.{Made}
+use Rattle.laws_replies.specs.Ends.{EndsBy}
+use Rattle.laws_replies.specs.Made.{Made}
 use Rattle.laws_rounds.proofs.CourseLemmas.{AskedJust, AskedOneMore, SoFar, none_so_far, so_far}
 use Rattle.laws_rounds.proofs.EndLemmas.{fewest_ends_right}
 use Rattle.laws_rounds.specs.Right.{EndsAt, IsNamed, IsNamedByGate, IsRight}
 use Rattle.laws_rounds.specs.Asked.{HasAskedFewest}
-use Rattle.cli_ask.specs.Below.LawsClients.Stated.{version_at}
+use Rattle.laws_clients.specs.Stated.{version_at}
 use Rattle.lc_model.specs.declared.answer.Answer.TheVariants as answers
 use Rattle.lc_model.specs.declared.journey.Journey.{Journey}
 use Rattle.lc_model.specs.declared.query.Query.{Query}
-use Rattle.cli_ask.specs.Below.LcWorld.Link.{IsQuietWith, LinkSeen}
-use Rattle.cli_ask.specs.Below.PageClient.Client.{shown}
-use Rattle.cli_ask.specs.Below.PageClient.Shown.{IsRefusal, Shown}
-use Rattle.cli_ask.specs.Below.PageClient.declared.client.Client.{Client}
-use Rattle.cli_ask.specs.Below.PageClient.declared.fault.QueryFault.{QueryFault}
-use Rattle.cli_ask.specs.Below.PageClient.declared.fault.QueryFault.TheVariants.{HorizonRange, SameStop, UnknownFrom, UnknownTo}
-use Rattle.cli_ask.specs.Below.PageClient.declared.outcome.Outcome.{Outcome}
-use Rattle.cli_ask.specs.Below.PageClient.declared.outcome.Outcome.TheVariants as outcomes
-use Rattle.cli_ask.specs.Below.PageClient.declared.want.Want.{Want}
-use Rattle.cli_ask.specs.Below.PageClient.declared.want.Want.TheVariants as wants
-use Rattle.cli_ask.specs.Below.PublisherSpec.Side.{Side}
-use Rattle.laws_rounds.specs.Below.RoundsClient.Course.{AnswersFewest, LeadsTo, Point}
-use Rattle.laws_rounds.specs.Below.RoundsClient.End.{ArrivesAtAMoment, EndsSo}
-use Rattle.laws_rounds.specs.Below.RoundsClient.Given.{Gives, Was}
-use Rattle.laws_rounds.specs.Below.RoundsClient.declared.ending.FewestEnd.{FewestEnd}
+use Rattle.lc_world.specs.Link.{IsQuietWith, LinkSeen}
+use Rattle.page_client.specs.Client.{shown}
+use Rattle.page_client.specs.Shown.{IsRefusal, Shown}
+use Rattle.page_client.specs.declared.client.Client.{Client}
+use Rattle.page_client.specs.declared.fault.QueryFault.{QueryFault}
+use Rattle.page_client.specs.declared.fault.QueryFault.TheVariants.{HorizonRange, SameStop, UnknownFrom, UnknownTo}
+use Rattle.page_client.specs.declared.outcome.Outcome.{Outcome}
+use Rattle.page_client.specs.declared.outcome.Outcome.TheVariants as outcomes
+use Rattle.page_client.specs.declared.want.Want.{Want}
+use Rattle.page_client.specs.declared.want.Want.TheVariants as wants
+use Rattle.publisher_spec.specs.Side.{Side}
+use Rattle.rounds_client.specs.Course.{AnswersFewest, LeadsTo, Point}
+use Rattle.rounds_client.specs.End.{ArrivesAtAMoment, EndsSo}
+use Rattle.rounds_client.specs.Given.{Gives, Was}
+use Rattle.rounds_client.specs.declared.ending.FewestEnd.{FewestEnd}
 
 -- a journey that arrives at a moment has a text
 pub printable : (outcome : Outcome) → ArrivesAtAMoment outcome → IsPrintable outcome

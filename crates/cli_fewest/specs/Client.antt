@@ -2,15 +2,15 @@
 use Rattle.std.specs.Prelude.{List, Option, Some}
 use Rattle.cli_ask.specs.Client.{EndsRight}
 use Rattle.cli_ask.specs.declared.end.ClientEnd.{ClientEnd}
-use Rattle.cli_ask.specs.Below.ConnectionUri.Base.{BaseParts}
+use Rattle.connection_uri.specs.Base.{BaseParts}
 use Rattle.laws_rounds.specs.Version.{FewestAt}
-use Rattle.cli_ask.specs.Below.LawsClients.Stated.{version_at}
+use Rattle.laws_clients.specs.Stated.{version_at}
 use Rattle.lc_model.specs.declared.query.Query.{Query}
-use Rattle.cli_ask.specs.Below.LcWorld.declared.entry.Entry.{Entry}
-use Rattle.cli_ask.specs.Below.PageClient.declared.outcome.Outcome.{Outcome}
-use Rattle.cli_ask.specs.Below.PageClient.declared.outcome.Outcome.TheVariants as outcomes
-use Rattle.cli_ask.specs.Below.PublisherSpec.Side.{Side}
-use Rattle.laws_rounds.specs.Below.RoundsClient.declared.ending.FewestEnd.{FewestEnd}
+use Rattle.lc_world.specs.declared.entry.Entry.{Entry}
+use Rattle.page_client.specs.declared.outcome.Outcome.{Outcome}
+use Rattle.page_client.specs.declared.outcome.Outcome.TheVariants as outcomes
+use Rattle.publisher_spec.specs.Side.{Side}
+use Rattle.rounds_client.specs.declared.ending.FewestEnd.{FewestEnd}
 
 -- how such a client ended, as any client
 abbrev pub client_of : FewestEnd → ClientEnd

@@ -3,13 +3,13 @@ use Rattle.std.specs.Prelude.{ℕ, List, Option}
 use Rattle.cli_ask.specs.Laws.{IsFair, PrintOneClient}
 use Rattle.cli_ask.specs.declared.end.ClientEnd.{ClientEnd}
 use Rattle.cli_fewest.specs.Asked.{IsAskedFewest}
-use Rattle.cli_ask.specs.Below.CliWords.declared.command.Publishing.{Publishing}
+use Rattle.cli_words.specs.declared.command.Publishing.{Publishing}
 use Rattle.laws_rounds.specs.ReplyLaws.{HaveAsManyRides}
 use Rattle.lc_io.specs.declared.file.File.{File}
 use Rattle.lc_model.specs.declared.query.Query.{Query}
-use Rattle.cli_ask.specs.Below.LcWorld.Link.{LinkSeen}
-use Rattle.cli_ask.specs.Below.Timetable.Laws.{AreSame}
-use Rattle.cli_ask.specs.Below.Timetable.declared.timetable.Timetable.{Timetable}
+use Rattle.lc_world.specs.Link.{LinkSeen}
+use Rattle.timetable.specs.Laws.{AreSame}
+use Rattle.timetable.specs.declared.timetable.Timetable.{Timetable}
 
 -- the texts print one client, and its journeys have as many rides
 pub record PrintOneFewest (x y : List ℕ) (a b : ClientEnd) : Type 0 where

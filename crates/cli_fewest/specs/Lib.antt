@@ -1,4 +1,3 @@
 pub mod Asked
-pub mod Below
 pub mod Client
 pub mod Laws

@@ -2,15 +2,17 @@ ghost use Rattle.std.specs.Prelude.{◌≡◌, IfOk};
 ghost use Rattle.cli_ask.specs.Block.{IsPrintable};
 ghost use Rattle.cli_fewest.specs.Client.{EndsRightFewest, client_of};
 ghost use Rattle.laws_rounds.specs.Asked.{HasAskedFewest};
-ghost use Rattle.cli_ask.specs.Below.LcWorld.GoneOn.{IsLeftByGets};
-ghost use Rattle.cli_ask.specs.Below.LcWorld.Link.{IsQuietWith};
-ghost use Rattle.cli_ask.specs.Below.PublisherSpec.Side.{Side};
+ghost use Rattle.lc_world.specs.GoneOn.{IsLeftByGets};
+ghost use Rattle.lc_world.specs.Link.{IsQuietWith};
+ghost use Rattle.publisher_spec.specs.Side.{Side};
 
 use cli_ask::ClientEnd;
-use cli_ask::below::{Base, Link, steps_keep_agreement};
-use laws_rounds::below::{FewestEnd, fewest};
+use connection_uri::Base;
+use laws_clients::steps_keep_agreement;
 use laws_rounds::{fewest_at_version, fewest_by_its_replies};
 use lc_model::{NoMemory, Query};
+use lc_world::Link;
+use rounds_client::{FewestEnd, fewest};
 use std::alloc::Global;
 
 /// Lets a client of the fewest rides ask alone, until it ends.

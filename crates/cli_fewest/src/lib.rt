@@ -2,7 +2,6 @@
 //! question, and the room says so. It builds on `cli_ask` and `rounds_client`.
 #![tactic(auto)]
 
-pub mod below;
 mod client;
 mod laws;
 mod question;

@@ -1,15 +1,15 @@
 -- What was asked for of the message of a command, and why the command is refused.
 use Rattle.std.proofs.Common.{◌≡◌, ◌∙◌, ◌≤◌, inl, inr, ℕ, List, None, Some, Option, Ok, Err, ap, arith, refl, subst, sym}
-use Rattle.laws_replay.specs.Below.GtfsTables.Reading.{Keeps}
+use Rattle.gtfs_tables.specs.Reading.{Keeps}
 use Rattle.lc_io.specs.Counts.{Rose}
 use Rattle.lc_io.specs.Folder.{FolderSeen}
 use Rattle.lc_io.specs.declared.file.File.{File}
 use Rattle.lc_io.specs.declared.folder.FolderFail.{FolderFail}
 use Rattle.lc_io.specs.declared.folder.FolderFail.TheVariants.{Failed}
-use Rattle.laws_replay.specs.Below.Timetable.Loading.{Loads}
-use Rattle.laws_replay.specs.Below.Timetable.declared.fault.LoadFault.TheVariants as fault
-use Rattle.laws_replay.specs.Below.Timetable.declared.scope.Scope.{Scope}
-use Rattle.laws_replay.specs.Below.Timetable.declared.timetable.Timetable.{Timetable}
+use Rattle.timetable.specs.Loading.{Loads}
+use Rattle.timetable.specs.declared.fault.LoadFault.TheVariants as fault
+use Rattle.timetable.specs.declared.scope.Scope.{Scope}
+use Rattle.timetable.specs.declared.timetable.Timetable.{Timetable}
 use Rattle.cli_inputs.specs.Inputs.{AsksForUpdate, EndsUpdate, FailsAtUpdate, IsMessageRefusal, IsRefusedFor, ReadsInputs, ReadsUpdate, RunsOut}
 use Rattle.cli_inputs.specs.declared.refusal.Refusal.{Refusal}
 use Rattle.cli_inputs.specs.declared.refusal.Refusal.TheVariants.{Usage, Load, Script, Folder, LongUpdate, BrokenUpdate}

@@ -1,4 +1,3 @@
-pub mod BelowLemmas
 pub mod InputsLemmas
 mod OnePlanLemmas
 mod PlanLemmas

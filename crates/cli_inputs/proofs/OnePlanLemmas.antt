@@ -6,10 +6,10 @@ use Rattle.lc_io.specs.declared.file.File.{File}
 use Rattle.lc_model.specs.declared.query.Query.{Query}
 use Rattle.laws_replay.specs.declared.event.Event.{Event}
 use Rattle.laws_replay.specs.declared.event.Event.TheVariants as events
-use Rattle.laws_replay.specs.Below.JourneyText.ScriptLaws.{OneScript}
-use Rattle.laws_replay.specs.Below.JourneyText.ScriptReading.{SaysScript}
-use Rattle.laws_replay.specs.Below.JourneyText.declared.script.Record.{Record}
-use Rattle.laws_replay.specs.Below.JourneyText.declared.script.Record.TheVariants as records
+use Rattle.journey_text.specs.ScriptLaws.{OneScript}
+use Rattle.journey_text.specs.ScriptReading.{SaysScript}
+use Rattle.journey_text.specs.declared.script.Record.{Record}
+use Rattle.journey_text.specs.declared.script.Record.TheVariants as records
 use Rattle.cli_inputs.specs.Inputs.{ReadsFile}
 use Rattle.cli_inputs.specs.Laws.{OnePlan}
 use Rattle.cli_inputs.specs.Plan.{SayEvents, SaysEvent}

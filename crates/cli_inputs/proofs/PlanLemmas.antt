@@ -6,9 +6,9 @@ use Rattle.lc_io.specs.Folder.{FolderSeen}
 use Rattle.laws_replay.specs.Events.{TurnsAreOfClients}
 use Rattle.laws_replay.specs.declared.event.Event.{Event}
 use Rattle.laws_replay.specs.declared.event.Event.TheVariants as events
-use Rattle.laws_replay.specs.Below.JourneyText.Script.{TurnsAreOfClients as AreOfClients}
-use Rattle.laws_replay.specs.Below.JourneyText.declared.script.Record.{Record}
-use Rattle.laws_replay.specs.Below.JourneyText.declared.script.Record.TheVariants as records
+use Rattle.journey_text.specs.Script.{TurnsAreOfClients as AreOfClients}
+use Rattle.journey_text.specs.declared.script.Record.{Record}
+use Rattle.journey_text.specs.declared.script.Record.TheVariants as records
 use Rattle.cli_inputs.specs.Plan.{AddsSaid, IsNoMessage, SayEvents, SaysEvent}
 use Rattle.cli_inputs.specs.Script.{IsEventOf, ReadsEvents}
 use Rattle.cli_inputs.proofs.ScriptLemmas.{turns_read}

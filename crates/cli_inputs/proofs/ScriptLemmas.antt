@@ -2,20 +2,20 @@
 use Rattle.std.proofs.Common.{◌≡◌, ◌∙◌, ◌+◌, ◌<◌, ◌++◌, ◌∷◌, ℕ, zero, suc, inl, inr, IfErr, List, [], Some, Result, Ok, Err, ap, arith, length, refl, subst, sym, take, true}
 use Rattle.std.specs.List.{slice_get, slice_index_or}
 use Rattle.std.proofs.lemmas.List.Sums.{sum_by-cons}
-use Rattle.laws_replay.specs.Below.GtfsTables.Reading.{Keeps}
+use Rattle.gtfs_tables.specs.Reading.{Keeps}
 use Rattle.lc_io.specs.Counts.{Rose}
 use Rattle.lc_io.specs.Folder.{FolderSeen}
 use Rattle.laws_replay.specs.Events.{TurnsAreOfClients, questions_in}
 use Rattle.laws_replay.specs.declared.event.Event.{Event}
 use Rattle.laws_replay.specs.declared.event.Event.TheVariants as events
-use Rattle.laws_replay.specs.Below.JourneyText.Script.{IsClient, TurnsAreOfClients as AreOfClients, clients_in, clients_of}
-use Rattle.laws_replay.specs.Below.JourneyText.declared.script.Record.{Record}
-use Rattle.laws_replay.specs.Below.JourneyText.declared.script.Record.TheVariants as records
-use Rattle.laws_replay.specs.Below.Timetable.Loading.{Loads, LoadsSo}
-use Rattle.laws_replay.specs.Below.Timetable.declared.fault.LoadFault.{LoadFault}
-use Rattle.laws_replay.specs.Below.Timetable.declared.fault.LoadFault.TheVariants as fault
-use Rattle.laws_replay.specs.Below.Timetable.declared.scope.Scope.{Scope}
-use Rattle.laws_replay.specs.Below.Timetable.declared.timetable.Timetable.{Timetable}
+use Rattle.journey_text.specs.Script.{IsClient, TurnsAreOfClients as AreOfClients, clients_in, clients_of}
+use Rattle.journey_text.specs.declared.script.Record.{Record}
+use Rattle.journey_text.specs.declared.script.Record.TheVariants as records
+use Rattle.timetable.specs.Loading.{Loads, LoadsSo}
+use Rattle.timetable.specs.declared.fault.LoadFault.{LoadFault}
+use Rattle.timetable.specs.declared.fault.LoadFault.TheVariants as fault
+use Rattle.timetable.specs.declared.scope.Scope.{Scope}
+use Rattle.timetable.specs.declared.timetable.Timetable.{Timetable}
 use Rattle.cli_inputs.specs.Inputs.{ReadsFile}
 use Rattle.cli_inputs.specs.Script.{HasScript, HasTimetable, IsEventOf, IsNone, IsRefusedAt, IsReplayRefused, IsScriptRefused, ReadsEvents, ReadsReplay, ReadsScript, RunsOutAt, StopsAt, fault_since}
 use Rattle.cli_inputs.specs.declared.refusal.Refusal.{Refusal}

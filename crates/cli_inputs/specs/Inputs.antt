@@ -1,18 +1,18 @@
 -- What a command reads: the timetable of its feed, and then the file of a message, if it has one.
 use Rattle.std.specs.Prelude.{◌≡◌, ◌⊎◌, ◌<◌, ℕ, List, Option, Some, None, Result, Ok, Err, IsErrOf, IfOk, IfSome, length}
-use Rattle.laws_replay.specs.Below.GtfsTables.Reading.{Keeps}
+use Rattle.gtfs_tables.specs.Reading.{Keeps}
 use Rattle.lc_io.specs.Counts.{HasCause, Rose}
 use Rattle.lc_io.specs.Folder.{FolderSeen, TellsAsked, bytes_named}
 use Rattle.lc_io.specs.declared.file.File.{File}
 use Rattle.lc_io.specs.declared.folder.FolderFail.{FolderFail}
 use Rattle.lc_io.specs.declared.folder.FolderFail.TheVariants.{Absent, Failed}
-use Rattle.laws_replay.specs.Below.Timetable.Loading.{Loads, LoadsSo}
-use Rattle.laws_replay.specs.Below.Timetable.declared.fault.LoadFault.{LoadFault}
-use Rattle.laws_replay.specs.Below.Timetable.declared.fault.LoadFault.TheVariants as fault
-use Rattle.laws_replay.specs.Below.Timetable.declared.scope.Scope.{Scope}
-use Rattle.laws_replay.specs.Below.Timetable.declared.timetable.Timetable.{Timetable}
-use Rattle.laws_replay.specs.Below.TripUpdates.declared.fault.RtFault.{RtFault}
-use Rattle.laws_replay.specs.Below.VersionStore.Admission.{IsBroken}
+use Rattle.timetable.specs.Loading.{Loads, LoadsSo}
+use Rattle.timetable.specs.declared.fault.LoadFault.{LoadFault}
+use Rattle.timetable.specs.declared.fault.LoadFault.TheVariants as fault
+use Rattle.timetable.specs.declared.scope.Scope.{Scope}
+use Rattle.timetable.specs.declared.timetable.Timetable.{Timetable}
+use Rattle.trip_updates.specs.declared.fault.RtFault.{RtFault}
+use Rattle.version_store.specs.Admission.{IsBroken}
 use Rattle.cli_inputs.specs.declared.refusal.Refusal.{Refusal}
 use Rattle.cli_inputs.specs.declared.refusal.Refusal.TheVariants.{Usage, Load, Script, Folder, LongUpdate, BrokenUpdate}
 

@@ -1,4 +1,3 @@
-pub mod Below
 pub mod Inputs
 pub mod Laws
 pub mod Plan

@@ -3,8 +3,8 @@ use Rattle.std.specs.Prelude.{◌≡◌, ℕ, false, List, [], ◌∷◌, ◌++�
 use Rattle.lc_io.specs.Folder.{FolderSeen}
 use Rattle.laws_replay.specs.declared.event.Event.{Event}
 use Rattle.laws_replay.specs.declared.event.Event.TheVariants as events
-use Rattle.laws_replay.specs.Below.JourneyText.declared.script.Record.{Record}
-use Rattle.laws_replay.specs.Below.JourneyText.declared.script.Record.TheVariants as records
+use Rattle.journey_text.specs.declared.script.Record.{Record}
+use Rattle.journey_text.specs.declared.script.Record.TheVariants as records
 use Rattle.cli_inputs.specs.Script.{ReadsScript}
 
 -- the record says this event, a question or a turn

@@ -1,23 +1,23 @@
 -- What a command with a script reads. It is the script, then the timetable of its feed, and then the files of the messages that the script
 -- names, in its order. Each is tested before the next one is asked for.
 use Rattle.std.specs.Prelude.{◌≡◌, ◌⊎◌, ◌<◌, ℕ, ◌+◌, Bool, true, List, [], ◌∷◌, ◌++◌, Result, Ok, Err, length}
-use Rattle.laws_replay.specs.Below.GtfsTables.Reading.{Keeps}
+use Rattle.gtfs_tables.specs.Reading.{Keeps}
 use Rattle.lc_io.specs.Counts.{Rose}
 use Rattle.lc_io.specs.Folder.{FolderSeen}
 use Rattle.lc_io.specs.declared.folder.FolderFail.{FolderFail}
 use Rattle.lc_io.specs.declared.folder.FolderFail.TheVariants.{Absent, Failed}
 use Rattle.laws_replay.specs.declared.event.Event.{Event}
 use Rattle.laws_replay.specs.declared.event.Event.TheVariants as events
-use Rattle.laws_replay.specs.Below.JourneyText.ScriptReading.{HasFault, SaysScript}
-use Rattle.laws_replay.specs.Below.JourneyText.declared.script_fault.ScriptFault.TheVariants.{Wrong}
-use Rattle.laws_replay.specs.Below.JourneyText.declared.script.Record.{Record}
-use Rattle.laws_replay.specs.Below.JourneyText.declared.script.Record.TheVariants as records
-use Rattle.laws_replay.specs.Below.Timetable.Loading.{FailsAt, Loads, LoadsSo}
-use Rattle.laws_replay.specs.Below.Timetable.declared.fault.LoadFault.{LoadFault}
-use Rattle.laws_replay.specs.Below.Timetable.declared.fault.LoadFault.TheVariants as fault
-use Rattle.laws_replay.specs.Below.Timetable.declared.scope.Scope.{Scope}
-use Rattle.laws_replay.specs.Below.Timetable.declared.timetable.Timetable.{Timetable}
-use Rattle.laws_replay.specs.Below.VersionStore.Admission.{IsBroken}
+use Rattle.journey_text.specs.ScriptReading.{HasFault, SaysScript}
+use Rattle.journey_text.specs.declared.script_fault.ScriptFault.TheVariants.{Wrong}
+use Rattle.journey_text.specs.declared.script.Record.{Record}
+use Rattle.journey_text.specs.declared.script.Record.TheVariants as records
+use Rattle.timetable.specs.Loading.{FailsAt, Loads, LoadsSo}
+use Rattle.timetable.specs.declared.fault.LoadFault.{LoadFault}
+use Rattle.timetable.specs.declared.fault.LoadFault.TheVariants as fault
+use Rattle.timetable.specs.declared.scope.Scope.{Scope}
+use Rattle.timetable.specs.declared.timetable.Timetable.{Timetable}
+use Rattle.version_store.specs.Admission.{IsBroken}
 use Rattle.cli_inputs.specs.Inputs.{IsReadAs, ReadsFile}
 use Rattle.cli_inputs.specs.declared.refusal.Refusal.{Refusal}
 use Rattle.cli_inputs.specs.declared.refusal.Refusal.TheVariants.{Usage, Load, Script, Folder, LongUpdate, BrokenUpdate}

@@ -1,12 +1,13 @@
 ghost use Rattle.std.specs.Prelude.{IfErr, IfOk};
-ghost use Rattle.laws_replay.specs.Below.GtfsTables.Reading.{Keeps};
+ghost use Rattle.gtfs_tables.specs.Reading.{Keeps};
 ghost use Rattle.cli_inputs.specs.Inputs.{EndsUpdate, IsRefusedFor, ReadsInputs};
-ghost use Rattle.laws_replay.specs.Below.Timetable.Scope.{IsWindow};
+ghost use Rattle.timetable.specs.Scope.{IsWindow};
 
 use crate::Refusal;
-use laws_replay::below::{File, Folder, FolderFail, Scope, Timetable, load};
+use lc_io::{File, Folder, FolderFail};
 use lc_model::{Bytes, NoMemory, Text};
 use std::alloc::Global;
+use timetable::{Scope, Timetable, load};
 
 /// What a question is asked of: the timetable of its feed, and the file of a message, if there is one.
 #[derive(Drop)]

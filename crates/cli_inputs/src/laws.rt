@@ -1,6 +1,6 @@
 ghost use Rattle.cli_inputs.specs.Laws.{OnePlan};
 
-use laws_replay::below::one_script;
+use journey_text::one_script;
 
 /// Equal files say one script of questions and turns.
 pub fn one_plan()

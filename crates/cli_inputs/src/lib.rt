@@ -3,7 +3,6 @@
 //! It builds on `laws_replay`.
 #![tactic(auto)]
 
-pub mod below;
 mod inputs;
 mod laws;
 mod message;

@@ -1,9 +1,10 @@
 ghost use Rattle.std.specs.Prelude.{IfErr, OnOk};
-ghost use Rattle.laws_replay.specs.Below.VersionStore.declared.message_fault.MessageFault.TheVariants.{NoMemory as OutOfMemory};
+ghost use Rattle.version_store.specs.declared.message_fault.MessageFault.TheVariants.{NoMemory as OutOfMemory};
 ghost use Rattle.laws_replay.specs.Message.{IsMessageText, IsNoText};
 
-use laws_replay::below::{MOST_MESSAGE_BYTES, MessageFault, RtFault, one_meaning, read_message};
 use std::alloc::Global;
+use trip_updates::{RtFault, one_meaning, read_message};
+use version_store::{MOST_MESSAGE_BYTES, MessageFault};
 
 /// Tests whether the bytes of a file are a message that a publisher may receive.
 pub fn test_message(alloc: Global, bytes: &[u8]) -> Result<(), MessageFault>

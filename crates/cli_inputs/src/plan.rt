@@ -1,14 +1,15 @@
 ghost use Rattle.std.specs.Prelude.{◌≡◌, ◌++◌, ◌∷◌, [], All, IfErr, IfOk, OnOk, false};
 ghost use Rattle.cli_inputs.specs.Plan.{AddsSaid, IsNoMessage, ReadsPlan, SayEvents, SaysEvent};
 ghost use Rattle.cli_inputs.specs.Script.{IsScriptRefused};
-ghost use Rattle.laws_replay.specs.Below.GtfsTables.Reading.{Keeps};
+ghost use Rattle.gtfs_tables.specs.Reading.{Keeps};
 ghost use Rattle.laws_replay.specs.Events.{TurnsAreOfClients};
-ghost use Rattle.laws_replay.specs.Below.JourneyText.Script.{NamesNone};
+ghost use Rattle.journey_text.specs.Script.{NamesNone};
 
 use crate::Refusal;
 use crate::script::read_records;
+use journey_text::{Record, Script};
 use laws_replay::Event;
-use laws_replay::below::{Folder, Record, Script};
+use lc_io::Folder;
 use lc_model::{NoMemory, PlainData, Text};
 use std::alloc::Global;
 

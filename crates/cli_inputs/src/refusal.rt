@@ -1,5 +1,6 @@
-use laws_replay::below::{LoadFault, RtFault};
 use lc_model::{NoMemory, Text};
+use timetable::LoadFault;
+use trip_updates::RtFault;
 
 /// Why a command is not carried out, for a cause that is no client's.
 #[derive(Drop)]
@@ -21,7 +22,7 @@ pub enum Refusal {
 
 impl From<NoMemory> for Refusal {
     ghost use Rattle.std.specs.Prelude.{◌≡◌};
-    ghost use Rattle.laws_replay.specs.Below.Timetable.declared.fault.LoadFault.TheVariants.{NoMemory as OutOfMemory};
+    ghost use Rattle.timetable.specs.declared.fault.LoadFault.TheVariants.{NoMemory as OutOfMemory};
     ghost use Rattle.cli_inputs.specs.declared.refusal.Refusal.TheVariants.{Load};
 
     ghost from_gives = { λ _ refusal. refusal ≡ Load OutOfMemory };

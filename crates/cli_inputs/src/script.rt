@@ -1,20 +1,20 @@
 ghost use Rattle.std.specs.Prelude.{◌≡◌, All, IfErr, IfOk, IsFalse, length, ◌<◌, ◌+◌};
 ghost use Rattle.cli_inputs.specs.Inputs.{ReadsFile};
 ghost use Rattle.cli_inputs.specs.Script.{IsEventOf, IsRefusedAt, IsReplayRefused, IsScriptRefused, ReadsEvents, ReadsReplay, ReadsScript, StopsAt, IsMessageOf, IsNone, fault_since};
-ghost use Rattle.laws_replay.specs.Below.GtfsTables.Reading.{Keeps};
+ghost use Rattle.gtfs_tables.specs.Reading.{Keeps};
 ghost use Rattle.laws_replay.specs.Events.{TurnsAreOfClients};
-ghost use Rattle.laws_replay.specs.Below.JourneyText.Script.{NamesNone, TurnsAreOfClients as AreOfClients};
-ghost use Rattle.laws_replay.specs.Below.Timetable.Scope.{IsWindow};
+ghost use Rattle.journey_text.specs.Script.{NamesNone, TurnsAreOfClients as AreOfClients};
+ghost use Rattle.timetable.specs.Scope.{IsWindow};
 
 use crate::Refusal;
 use crate::message::test_message;
-use laws_replay::below::{
-    File, Folder, FolderFail, LoadFault, MessageFault, Record, Scope, Script, ScriptFault,
-    Timetable, load, read_script,
-};
+use journey_text::{Record, Script, ScriptFault, read_script};
 use laws_replay::{Event, Message};
+use lc_io::{File, Folder, FolderFail};
 use lc_model::{Bytes, NoMemory, PlainData, Text};
 use std::alloc::Global;
+use timetable::{LoadFault, Scope, Timetable, load};
+use version_store::MessageFault;
 
 /// What a replay is played from: the timetable of the feed, and its event sequence.
 #[derive(Drop)]

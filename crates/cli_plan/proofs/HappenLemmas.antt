@@ -3,19 +3,19 @@ use Rattle.std.proofs.Common.{◌≡◌, ℕ, List, [], ◌∷◌, ◌++◌, Res
 use Rattle.std.specs.Prelude.{IfOk}
 use Rattle.std.specs.List.{All}
 use Rattle.std.proofs.lemmas.List.Elements.{All-head, All-tail}
-use Rattle.laws_plan.specs.Below.CliAsk.Block.{IsPrintable}
-use Rattle.laws_plan.specs.Below.CliAsk.declared.end.ClientEnd.{ClientEnd}
-use Rattle.laws_plan.specs.Below.ConnectionUri.Base.{BaseParts}
-use Rattle.laws_plan.specs.Below.Convoy.State.{begun}
+use Rattle.cli_ask.specs.Block.{IsPrintable}
+use Rattle.cli_ask.specs.declared.end.ClientEnd.{ClientEnd}
+use Rattle.connection_uri.specs.Base.{BaseParts}
+use Rattle.convoy.specs.State.{begun}
 use Rattle.cli_plan.specs.Planning.{HaveHappened}
 use Rattle.laws_plan.specs.Laws.{PlanRecordsReplies, PlansRight}
 use Rattle.laws_plan.specs.Planned.{IsNoMessage, IsPlanned, NoneIsMessage}
-use Rattle.laws_plan.specs.Below.LawsReplay.Events.{TurnsAreOfClients}
-use Rattle.laws_plan.specs.Below.LawsReplay.Laws.{ArePlayedCaused, PlaysCaused}
-use Rattle.laws_plan.specs.Below.LawsReplay.Replayed.{clients_text_of}
-use Rattle.laws_plan.specs.Below.LawsReplay.Rounds.{all_rounds}
-use Rattle.laws_plan.specs.Below.LawsReplay.declared.event.Event.{Event}
-use Rattle.laws_plan.specs.Below.LcWorld.Link.{LinkSeen}
+use Rattle.laws_replay.specs.Events.{TurnsAreOfClients}
+use Rattle.laws_replay.specs.Laws.{ArePlayedCaused, PlaysCaused}
+use Rattle.laws_replay.specs.Replayed.{clients_text_of}
+use Rattle.laws_replay.specs.Rounds.{all_rounds}
+use Rattle.laws_replay.specs.declared.event.Event.{Event}
+use Rattle.lc_world.specs.Link.{LinkSeen}
 
 -- the event at a place is none
 pub no_message_at : (all done behind : List Event) (event : Event) → NoneIsMessage all → all ≡ done ++ event ∷ behind → IsNoMessage event

@@ -1,20 +1,20 @@
 -- What clients that planned over a relay say of the link below it.
 use Rattle.std.proofs.Common.{◌≡◌, ◌∙◌, ◌+◌, ◌-◌, ◌^◌, ◌++◌, ◌∷◌, [], ℕ, zero, suc, Bool, true, List, Option, Some, Result, Ok, Err, ap, ap₂, append-nil, arith, length, min, refl, subst, sym}
 use Rattle.std.specs.Prelude.{IfOk, OnOk, slice_get}
-use Rattle.laws_plan.specs.Below.CliAsk.declared.end.ClientEnd.{ClientEnd}
+use Rattle.cli_ask.specs.declared.end.ClientEnd.{ClientEnd}
 use Rattle.cli_plan.specs.Laws.{CountsAreGrowth, RelaysPlanRight}
 use Rattle.cli_plan.specs.Relayed.{IsRelayed, counts_line_of, exchanges_in, relay_over}
 use Rattle.cli_plan.specs.RelayedBy.{IsLeftBelow, IsRelayedBy}
 use Rattle.cli_plan.proofs.SumLemmas.{all_asked, ends_summed, recorded_len, sum_after}
-use Rattle.page_relay.specs.Below.ConnectionUri.Base.{BaseParts}
+use Rattle.connection_uri.specs.Base.{BaseParts}
 use Rattle.laws_plan.specs.Planned.{IsPlanned}
-use Rattle.laws_plan.specs.Below.LawsReplay.Caused.{AreCaused}
-use Rattle.laws_plan.specs.Below.LawsReplay.Events.{questions_in}
-use Rattle.laws_plan.specs.Below.LawsReplay.declared.event.Event.{Event}
-use Rattle.laws_plan.specs.Below.LawsReplies.Met.{asked_in, exchanges_by}
-use Rattle.page_relay.specs.Below.LcWorld.GoneOn.{IsLeftByGets}
-use Rattle.page_relay.specs.Below.LcWorld.Link.{LinkSeen}
-use Rattle.page_relay.specs.Below.LcWorld.declared.entry.Entry.{Entry}
+use Rattle.laws_replay.specs.Caused.{AreCaused}
+use Rattle.laws_replay.specs.Events.{questions_in}
+use Rattle.laws_replay.specs.declared.event.Event.{Event}
+use Rattle.laws_replies.specs.Met.{asked_in, exchanges_by}
+use Rattle.lc_world.specs.GoneOn.{IsLeftByGets}
+use Rattle.lc_world.specs.Link.{LinkSeen}
+use Rattle.lc_world.specs.declared.entry.Entry.{Entry}
 use Rattle.page_relay.specs.Laws.{CountsAreLengths, CountsAreSince, LeavesBelow, NewIsHonest}
 use Rattle.page_relay.specs.Relay.{HasRelayedOf, RelayState, beginning_of, new_relay, relay_seen, relayed_seen, transcript_in, transcript_of}
 use Rattle.page_relay.specs.Recorded.{HasRelayed, IsRecorded}

@@ -5,11 +5,11 @@ use Rattle.std.specs.List.{All}
 use Rattle.std.proofs.lemmas.Bool.{cases_eq, eq-eqb, ne_eqb}
 use Rattle.std.proofs.lemmas.List.Elements.{All-head, All-tail}
 use Rattle.std.proofs.lemmas.List.Sums.{sum_by-cons}
-use Rattle.laws_plan.specs.Below.CliAsk.declared.end.ClientEnd.{ClientEnd}
-use Rattle.laws_plan.specs.Below.LawsReplies.Met.{AreRecordedOf, IsByOneOf, Met, asked_in, exchanges_by, is_by}
-use Rattle.page_relay.specs.Below.ConnectionUri.Base.{BaseParts}
+use Rattle.cli_ask.specs.declared.end.ClientEnd.{ClientEnd}
+use Rattle.laws_replies.specs.Met.{AreRecordedOf, IsByOneOf, Met, asked_in, exchanges_by, is_by}
+use Rattle.connection_uri.specs.Base.{BaseParts}
 use Rattle.lc_model.specs.declared.query.Query.{Query}
-use Rattle.page_relay.specs.Below.LcWorld.declared.entry.Entry.{Entry}
+use Rattle.lc_world.specs.declared.entry.Entry.{Entry}
 use Rattle.cli_plan.specs.Relayed.{exchanges_in}
 
 -- what this gives for so many numbers after this one, added up

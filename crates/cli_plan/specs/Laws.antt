@@ -1,13 +1,13 @@
 -- That `relay` promises what `plan` does, and what its second count is. X is the type of the link handed in, and `seen` what is promised of it.
 use Rattle.std.specs.Prelude.{◌≡◌, ◌-◌, ◌^◌, ℕ, min, List, Some, length}
-use Rattle.laws_plan.specs.Below.CliAsk.declared.end.ClientEnd.{ClientEnd}
-use Rattle.page_relay.specs.Below.ConnectionUri.Base.{BaseParts}
+use Rattle.cli_ask.specs.declared.end.ClientEnd.{ClientEnd}
+use Rattle.connection_uri.specs.Base.{BaseParts}
 use Rattle.laws_plan.specs.Planned.{ArePlanned}
 use Rattle.laws_plan.specs.Replied.{TellsAlong}
-use Rattle.laws_plan.specs.Below.LawsReplay.declared.event.Event.{Event}
-use Rattle.page_relay.specs.Below.LcWorld.Link.{IsHonestWith, LinkSeen}
-use Rattle.page_relay.specs.Below.LcWorld.declared.entry.Entry.{Entry}
-use Rattle.page_relay.specs.Below.PublisherSpec.Side.{Side}
+use Rattle.laws_replay.specs.declared.event.Event.{Event}
+use Rattle.lc_world.specs.Link.{IsHonestWith, LinkSeen}
+use Rattle.lc_world.specs.declared.entry.Entry.{Entry}
+use Rattle.publisher_spec.specs.Side.{Side}
 use Rattle.cli_plan.specs.Relayed.{IsRelayed, relay_after, relay_over}
 
 -- The clients planned over the relay as they do over each honest link, and each of them ended rightly. The link is honest with the last side of the

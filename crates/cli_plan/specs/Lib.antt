@@ -1,11 +1,4 @@
-pub mod Below
 pub mod Laws
 pub mod Planning
 pub mod Relayed
 pub mod RelayedBy
-pub use Rattle.laws_plan.specs.OneGrowing
-pub use Rattle.laws_plan.specs.OnePlan
-pub use Rattle.laws_plan.specs.Planned
-pub use Rattle.laws_plan.specs.Replied
-pub use Rattle.laws_plan.specs.Sides
-pub use Rattle.laws_plan.specs.Worked

@@ -1,12 +1,12 @@
 -- Events that happened over a link. X is the type of the link, and `seen` what is promised of it.
 use Rattle.std.specs.Prelude.{ℕ, List, [], length}
-use Rattle.laws_plan.specs.Below.CliAsk.declared.end.ClientEnd.{ClientEnd}
-use Rattle.laws_plan.specs.Below.ConnectionUri.Base.{BaseParts}
-use Rattle.laws_plan.specs.Below.Convoy.Finish.{Rounds}
-use Rattle.laws_plan.specs.Below.Convoy.State.{ConvoyState, begun}
-use Rattle.laws_plan.specs.Below.LawsReplay.Played.{HaveEndedSo, Plays}
-use Rattle.laws_plan.specs.Below.LawsReplay.declared.event.Event.{Event}
-use Rattle.laws_plan.specs.Below.LcWorld.Link.{LinkSeen}
+use Rattle.cli_ask.specs.declared.end.ClientEnd.{ClientEnd}
+use Rattle.connection_uri.specs.Base.{BaseParts}
+use Rattle.convoy.specs.Finish.{Rounds}
+use Rattle.convoy.specs.State.{ConvoyState, begun}
+use Rattle.laws_replay.specs.Played.{HaveEndedSo, Plays}
+use Rattle.laws_replay.specs.declared.event.Event.{Event}
+use Rattle.lc_world.specs.Link.{LinkSeen}
 
 -- The events happened to clients under the base with a cache of so many pages, and then each client was turned until it ended so.
 pub record HaveHappened {X : Type 0} (seen : X → LinkSeen) (base : BaseParts) (all : List Event) (cache : ℕ) (before after : X) (ends : List ClientEnd) : Type 0 where

@@ -1,11 +1,11 @@
 -- Clients that plan over a relay of a link: what is printed, what the relay has handed on, and what it leaves of the link.
 use Rattle.std.specs.Prelude.{◌≡◌, ◌-◌, ◌^◌, ℕ, true, min, sum_by, List, [], ◌++◌, codes, decimal}
-use Rattle.laws_plan.specs.Below.CliAsk.declared.end.ClientEnd.{ClientEnd}
-use Rattle.page_relay.specs.Below.ConnectionUri.Base.{BaseParts}
+use Rattle.cli_ask.specs.declared.end.ClientEnd.{ClientEnd}
+use Rattle.connection_uri.specs.Base.{BaseParts}
 use Rattle.laws_plan.specs.Planned.{IsPlanned}
-use Rattle.laws_plan.specs.Below.LawsReplay.declared.event.Event.{Event}
-use Rattle.page_relay.specs.Below.LcWorld.Link.{LinkSeen}
-use Rattle.page_relay.specs.Below.LcWorld.declared.entry.Entry.{Entry}
+use Rattle.laws_replay.specs.declared.event.Event.{Event}
+use Rattle.lc_world.specs.Link.{LinkSeen}
+use Rattle.lc_world.specs.declared.entry.Entry.{Entry}
 use Rattle.page_relay.specs.Kept.{Kept}
 use Rattle.page_relay.specs.Relay.{relayed_seen, transcript_of}
 use Rattle.page_relay.specs.Recorded.{HasRelayed}

@@ -1,11 +1,11 @@
 -- Clients that plan over a relay, whatever was asked of it before. X is the type of the link below, and `seen` what is promised of it.
 use Rattle.std.specs.Prelude.{◌≡◌, ℕ, true, List, ◌++◌}
-use Rattle.laws_plan.specs.Below.CliAsk.declared.end.ClientEnd.{ClientEnd}
-use Rattle.page_relay.specs.Below.ConnectionUri.Base.{BaseParts}
+use Rattle.cli_ask.specs.declared.end.ClientEnd.{ClientEnd}
+use Rattle.connection_uri.specs.Base.{BaseParts}
 use Rattle.laws_plan.specs.Planned.{IsPlanned}
-use Rattle.laws_plan.specs.Below.LawsReplay.declared.event.Event.{Event}
-use Rattle.page_relay.specs.Below.LcWorld.GoneOn.{IsLeftByGets}
-use Rattle.page_relay.specs.Below.LcWorld.Link.{LinkSeen}
+use Rattle.laws_replay.specs.declared.event.Event.{Event}
+use Rattle.lc_world.specs.GoneOn.{IsLeftByGets}
+use Rattle.lc_world.specs.Link.{LinkSeen}
 use Rattle.page_relay.specs.Relay.{HasRelayedOf, RelayState, relay_seen}
 use Rattle.cli_plan.specs.Relayed.{counts_line_of}
 

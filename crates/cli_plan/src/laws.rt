@@ -2,7 +2,7 @@ ghost use Rattle.std.specs.Prelude.{◌≡◌, codes};
 ghost use Rattle.cli_plan.specs.Laws.{CountsAreGrowth, RelaysPlanRight};
 ghost use Rattle.cli_plan.specs.Relayed.{counts_line_of};
 
-use page_relay::below::Link;
+use lc_world::Link;
 use page_relay::{counts_are_since, new_relays_are_honest};
 
 /// Over every honest link a relay of it is honest. So clients that plan over the relay end rightly, by the statement of `plan` over an honest link.

@@ -3,13 +3,11 @@
 //! name of the first.
 #![tactic(auto)]
 
-pub mod below;
 mod events;
 mod laws;
 mod planning;
 mod relaying;
 
 pub use laws::{counts_are_growth, relays_plan_right, worked_counts};
-pub use laws_plan::{one_growing_plan, one_plan};
 pub use planning::{Planned, plan};
 pub use relaying::relay;

@@ -1,18 +1,22 @@
 ghost use Rattle.std.specs.Prelude.{◌≡◌, ◌≤◌, IfOk};
 ghost use Rattle.std.specs.List.{All};
-ghost use Rattle.laws_plan.specs.Below.CliAsk.Block.{IsPrintable};
-ghost use Rattle.laws_plan.specs.Below.CliAsk.declared.end.ClientEnd.{ClientEnd as End};
+ghost use Rattle.cli_ask.specs.Block.{IsPrintable};
+ghost use Rattle.cli_ask.specs.declared.end.ClientEnd.{ClientEnd as End};
 ghost use Rattle.cli_plan.specs.Planning.{HaveHappened};
 ghost use Rattle.laws_plan.specs.Planned.{IsPlanned, NoneIsMessage};
-ghost use Rattle.laws_plan.specs.Below.LawsReplay.Events.{TurnsAreOfClients};
-ghost use Rattle.laws_plan.specs.Below.LawsReplay.Replayed.{clients_text_of};
-ghost use Rattle.laws_plan.specs.Below.LcWorld.GoneOn.{IsLeftByGets};
+ghost use Rattle.laws_replay.specs.Events.{TurnsAreOfClients};
+ghost use Rattle.laws_replay.specs.Replayed.{clients_text_of};
+ghost use Rattle.lc_world.specs.GoneOn.{IsLeftByGets};
 
 use crate::events::happen;
+use cli_ask::ClientEnd;
 use cli_replay::{ends_of, text_of};
-use laws_plan::below::{Base, ClientEnd, Convoy, Event, Link, courses_are_caused};
+use connection_uri::Base;
+use convoy::Convoy;
 use laws_plan::{plan_records_replies, plans_are_right};
+use laws_replay::{Event, courses_are_caused};
 use lc_model::NoMemory;
+use lc_world::Link;
 use std::alloc::Global;
 
 /// What is printed of clients, and how they ended, in the order in which they asked.

@@ -2,13 +2,14 @@ ghost use Rattle.std.specs.Prelude.{◌≡◌, ◌≤◌, ◌++◌, IfOk, OnOk, 
 ghost use Rattle.cli_plan.specs.Relayed.{IsRelayed, counts_line_of};
 ghost use Rattle.cli_plan.specs.RelayedBy.{IsLeftBelow, IsRelayedBy};
 ghost use Rattle.laws_plan.specs.Planned.{NoneIsMessage};
-ghost use Rattle.laws_plan.specs.Below.LawsReplay.Events.{TurnsAreOfClients};
-ghost use Rattle.page_relay.specs.Below.LcWorld.GoneOn.{IsLeftByGets};
+ghost use Rattle.laws_replay.specs.Events.{TurnsAreOfClients};
+ghost use Rattle.lc_world.specs.GoneOn.{IsLeftByGets};
 
 use crate::planning::{Planned, plan};
-use laws_plan::below::Event;
+use connection_uri::Base;
+use laws_replay::Event;
 use lc_model::{NoMemory, PlainData};
-use page_relay::below::{Base, Link};
+use lc_world::Link;
 use page_relay::{Relay, counts_are_since, relays_leave_below};
 use std::alloc::Global;
 

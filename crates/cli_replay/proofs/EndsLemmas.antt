@@ -1,7 +1,7 @@
 -- How clients ended, and one more.
 use Rattle.std.proofs.Common.{List, [], ◌∷◌, ◌++◌}
-use Rattle.laws_replay.specs.Below.CliAsk.declared.end.ClientEnd.{ClientEnd}
-use Rattle.laws_replay.specs.Below.Convoy.declared.member.Member.{Member}
+use Rattle.cli_ask.specs.declared.end.ClientEnd.{ClientEnd}
+use Rattle.convoy.specs.declared.member.Member.{Member}
 use Rattle.laws_replay.specs.Played.{HasEndedSo, HaveEndedSo}
 
 pub one_end_more : (members : List Member) (ends : List ClientEnd) (member : Member) (end : ClientEnd) → HaveEndedSo members ends → HasEndedSo member end → HaveEndedSo (members ++ member ∷ []) (ends ++ end ∷ [])

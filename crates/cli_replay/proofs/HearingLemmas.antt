@@ -1,16 +1,16 @@
 -- What a publisher at home receives.
 use Rattle.std.proofs.Common.{◌≡◌, ◌∙◌, ◌+◌, ℕ, List, Some, ap, arith, length, refl, subst, sym}
-use Rattle.laws_replay.specs.Below.CliAsk.Admission.{IsBehind}
-use Rattle.laws_replay.specs.Below.Convoy.Finish.{IsStep}
-use Rattle.laws_replay.specs.Below.Convoy.State.{ConvoyState}
-use Rattle.laws_replay.specs.Below.Convoy.declared.turn.Turn.{Turn}
-use Rattle.laws_replay.specs.Below.Fragmenter.Cutting.{chosen_cuts}
-use Rattle.laws_replay.specs.Below.Fragmenter.declared.cutting.Cutting.{Cutting}
-use Rattle.laws_replay.specs.Below.LcLinks.HomeLink.{HomeLinkState}
+use Rattle.cli_ask.specs.Admission.{IsBehind}
+use Rattle.convoy.specs.Finish.{IsStep}
+use Rattle.convoy.specs.State.{ConvoyState}
+use Rattle.convoy.specs.declared.turn.Turn.{Turn}
+use Rattle.fragmenter.specs.Cutting.{chosen_cuts}
+use Rattle.fragmenter.specs.declared.cutting.Cutting.{Cutting}
+use Rattle.lc_links.specs.HomeLink.{HomeLinkState}
 use Rattle.lc_io.specs.declared.file.File.{File}
-use Rattle.laws_replay.specs.Below.LcWorld.Link.{LinkSeen}
-use Rattle.laws_replay.specs.Below.Publisher.Held.{Held, side_of}
-use Rattle.laws_replay.specs.Below.PublisherSpec.Side.{IsValidSide, Side}
+use Rattle.lc_world.specs.Link.{LinkSeen}
+use Rattle.publisher.specs.Held.{Held, side_of}
+use Rattle.publisher_spec.specs.Side.{IsValidSide, Side}
 use Rattle.laws_replay.proofs.HeardLemmas.{turn_stays}
 use Rattle.laws_replay.specs.Played.{IsGiven}
 use Rattle.cli_replay.specs.Course.{HasAdmitted}

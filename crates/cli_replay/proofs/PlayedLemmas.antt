@@ -3,11 +3,11 @@ use Rattle.std.proofs.Common.{◌≡◌, ◌∙◌, ◌+◌, ◌<◌, ℕ, suc, 
 use Rattle.std.proofs.Math.Seq.{drop-cons}
 use Rattle.std.proofs.lemmas.List.{append-nil, length-set, take-append-drop}
 use Rattle.std.specs.List.{slice_index_or}
-use Rattle.laws_replay.specs.Below.Convoy.State.{ConvoyState}
-use Rattle.laws_replay.specs.Below.Convoy.Finish.{IsStep}
-use Rattle.laws_replay.specs.Below.Convoy.declared.member.Member.{Member}
-use Rattle.laws_replay.specs.Below.Convoy.declared.turn.Turn.{Turn}
-use Rattle.laws_replay.specs.Below.LcWorld.Link.{LinkSeen}
+use Rattle.convoy.specs.State.{ConvoyState}
+use Rattle.convoy.specs.Finish.{IsStep}
+use Rattle.convoy.specs.declared.member.Member.{Member}
+use Rattle.convoy.specs.declared.turn.Turn.{Turn}
+use Rattle.lc_world.specs.Link.{LinkSeen}
 use Rattle.laws_replay.specs.Events.{TurnsAreOfClients, questions_in}
 use Rattle.laws_replay.specs.Played.{IsGiven, Plays}
 use Rattle.laws_replay.specs.declared.event.Event.{Event}

@@ -1,21 +1,21 @@
 -- What an event sequence results in that was played to a publisher at home.
 use Rattle.std.proofs.Common.{◌≡◌, ℕ, List, Some, ap, arith, subst, sym}
-use Rattle.laws_replay.specs.Below.CliAsk.Publishing.{held_with, side_with, store_of}
-use Rattle.laws_replay.specs.Below.CliAsk.declared.end.ClientEnd.{ClientEnd}
-use Rattle.laws_replay.specs.Below.CliWords.declared.command.Publishing.{Publishing}
-use Rattle.laws_replay.specs.Below.Fragmenter.Cutting.{chosen_cuts}
-use Rattle.laws_replay.specs.Below.Fragmenter.declared.cutting.Cutting.{Cutting}
-use Rattle.laws_replay.specs.Below.LcLinks.HomeLink.{HomeLinkState}
-use Rattle.laws_replay.specs.Below.LcWorld.GoneOn.{IsLeftByPasses}
-use Rattle.laws_replay.specs.Below.LcWorld.Link.{LinkSeen}
-use Rattle.laws_replay.specs.Below.Publisher.Held.{Held, side_of}
-use Rattle.laws_replay.specs.Below.PublisherSpec.Side.{IsValidSide}
+use Rattle.cli_ask.specs.Publishing.{held_with, side_with, store_of}
+use Rattle.cli_ask.specs.declared.end.ClientEnd.{ClientEnd}
+use Rattle.cli_words.specs.declared.command.Publishing.{Publishing}
+use Rattle.fragmenter.specs.Cutting.{chosen_cuts}
+use Rattle.fragmenter.specs.declared.cutting.Cutting.{Cutting}
+use Rattle.lc_links.specs.HomeLink.{HomeLinkState}
+use Rattle.lc_world.specs.GoneOn.{IsLeftByPasses}
+use Rattle.lc_world.specs.Link.{LinkSeen}
+use Rattle.publisher.specs.Held.{Held, side_of}
+use Rattle.publisher_spec.specs.Side.{IsValidSide}
 use Rattle.laws_replay.specs.Laws.{AreHeardAt, IsQuietAt, IsStillAt, PlaysCaused, PlaysHeard, PlaysRight}
 use Rattle.laws_replay.specs.Events.{TurnsAreOfClients}
 use Rattle.laws_replay.specs.Replayed.{IsReplayed}
 use Rattle.laws_replay.specs.Versions.{HaveAdmitted}
 use Rattle.laws_replay.specs.declared.event.Event.{Event}
-use Rattle.laws_replay.specs.Below.Timetable.declared.timetable.Timetable.{Timetable}
+use Rattle.timetable.specs.declared.timetable.Timetable.{Timetable}
 use Rattle.cli_replay.specs.Course.{IsPlayed}
 use Rattle.cli_replay.specs.Home.{home_seen}
 

@@ -1,11 +1,11 @@
 -- An event sequence that was played to its end over a link. X is the type of the link, and `seen` what is promised of it.
 use Rattle.std.specs.Prelude.{◌≡◌, ◌+◌, ℕ, List, ◌++◌, length, Some}
-use Rattle.laws_replay.specs.Below.CliAsk.declared.end.ClientEnd.{ClientEnd}
-use Rattle.laws_replay.specs.Below.ConnectionUri.Base.{BaseParts}
-use Rattle.laws_replay.specs.Below.Convoy.Finish.{Rounds}
-use Rattle.laws_replay.specs.Below.Convoy.State.{ConvoyState, begun}
-use Rattle.laws_replay.specs.Below.LcWorld.Link.{LinkSeen}
-use Rattle.laws_replay.specs.Below.PublisherSpec.Side.{Side}
+use Rattle.cli_ask.specs.declared.end.ClientEnd.{ClientEnd}
+use Rattle.connection_uri.specs.Base.{BaseParts}
+use Rattle.convoy.specs.Finish.{Rounds}
+use Rattle.convoy.specs.State.{ConvoyState, begun}
+use Rattle.lc_world.specs.Link.{LinkSeen}
+use Rattle.publisher_spec.specs.Side.{Side}
 use Rattle.laws_replay.specs.Played.{HaveEndedSo, Plays}
 use Rattle.laws_replay.specs.Replayed.{clients_text_of}
 use Rattle.laws_replay.specs.declared.event.Event.{Event}

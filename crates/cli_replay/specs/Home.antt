@@ -1,11 +1,11 @@
 -- Links to a publisher of a timetable, at home.
 use Rattle.std.specs.Prelude.{ℕ, Some, length}
-use Rattle.laws_replay.specs.Below.ConnectionUri.Base.{BaseParts}
-use Rattle.laws_replay.specs.Below.Fragmenter.Cutting.{chosen_cuts}
-use Rattle.laws_replay.specs.Below.Fragmenter.declared.cutting.Cutting.{Cutting}
-use Rattle.laws_replay.specs.Below.LcLinks.HomeLink.{HomeLinkState}
-use Rattle.laws_replay.specs.Below.LcWorld.Link.{LinkSeen}
-use Rattle.laws_replay.specs.Below.Publisher.Held.{side_of}
+use Rattle.connection_uri.specs.Base.{BaseParts}
+use Rattle.fragmenter.specs.Cutting.{chosen_cuts}
+use Rattle.fragmenter.specs.declared.cutting.Cutting.{Cutting}
+use Rattle.lc_links.specs.HomeLink.{HomeLinkState}
+use Rattle.lc_world.specs.Link.{LinkSeen}
+use Rattle.publisher.specs.Held.{side_of}
 
 -- How a link at home is seen, by how the outer one is seen. It records the side of its publisher, which stays at a GET. It is
 -- honest where the outer one is clear.

@@ -1,13 +1,13 @@
 -- The sums over the clients of an event sequence, and the lines that say them.
 use Rattle.std.specs.Prelude.{ℕ, ◌-◌, Bool, false, true, List, ◌++◌, codes, count_by, decimal, map, sum, zip}
-use Rattle.laws_replay.specs.Below.CliAsk.declared.end.ClientEnd.{ClientEnd}
+use Rattle.cli_ask.specs.declared.end.ClientEnd.{ClientEnd}
 use Rattle.laws_replay.specs.Events.{questions_in}
 use Rattle.laws_replay.specs.declared.event.Event.{Event}
 use Rattle.laws_replay.specs.declared.event.Event.TheVariants as events
 use Rattle.lc_model.specs.Journey.{arrives_at}
 use Rattle.lc_model.specs.declared.query.Query.{Query}
-use Rattle.laws_replay.specs.Below.PageClient.declared.outcome.Outcome.{Outcome}
-use Rattle.laws_replay.specs.Below.PageClient.declared.outcome.Outcome.TheVariants as outcomes
+use Rattle.page_client.specs.declared.outcome.Outcome.{Outcome}
+use Rattle.page_client.specs.declared.outcome.Outcome.TheVariants as outcomes
 
 -- whether an event is a message
 abbrev pub is_message : Event → Bool

@@ -1,6 +1,6 @@
 -- When an event may happen.
 use Rattle.std.specs.Prelude.{ℕ}
-use Rattle.laws_replay.specs.Below.JourneyText.Script.{IsClient}
+use Rattle.journey_text.specs.Script.{IsClient}
 use Rattle.laws_replay.specs.declared.event.Event.{Event}
 use Rattle.laws_replay.specs.declared.event.Event.TheVariants as events
 

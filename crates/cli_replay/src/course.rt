@@ -1,6 +1,6 @@
 ghost use Rattle.std.specs.Prelude.{◌≤◌, IfOk};
 ghost use Rattle.laws_replay.specs.Events.{TurnsAreOfClients};
-ghost use Rattle.laws_replay.specs.Below.LcWorld.GoneOn.{IsLeftByPasses};
+ghost use Rattle.lc_world.specs.GoneOn.{IsLeftByPasses};
 ghost use Rattle.cli_replay.specs.Course.{IsPlayed};
 ghost use Rattle.cli_replay.specs.Home.{home_seen};
 
@@ -8,9 +8,14 @@ use crate::Replayed;
 use crate::ends::ends_of;
 use crate::events::play;
 use crate::text::text_of;
-use laws_replay::below::{Base, Convoy, Cutting, Heard, HomeLink, Link};
+use cli_ask::Heard;
+use connection_uri::Base;
+use convoy::Convoy;
+use fragmenter::Cutting;
 use laws_replay::{Event, courses_are_caused};
+use lc_links::HomeLink;
 use lc_model::NoMemory;
+use lc_world::Link;
 use std::alloc::Global;
 
 /// Plays the events by clients under the base, lets each client reach its end, and says what is printed.

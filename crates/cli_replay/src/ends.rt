@@ -1,9 +1,10 @@
 ghost use Rattle.std.specs.Prelude.{IfOk};
 ghost use Rattle.std.specs.List.{All};
-ghost use Rattle.laws_replay.specs.Below.Convoy.Finish.{HasOutcome};
+ghost use Rattle.convoy.specs.Finish.{HasOutcome};
 ghost use Rattle.laws_replay.specs.Played.{HasEndedSo, HaveEndedSo};
 
-use laws_replay::below::{ClientEnd, Convoy, Member};
+use cli_ask::ClientEnd;
+use convoy::{Convoy, Member};
 use lc_model::NoMemory;
 use std::alloc::Global;
 

@@ -1,14 +1,18 @@
 ghost use Rattle.std.specs.Prelude.{◌≡◌, ◌+◌, [], ◌∷◌, ◌++◌, length, IfOk, OnOk};
-ghost use Rattle.laws_replay.specs.Below.LcWorld.GoneOn.{IsLeftByPasses};
+ghost use Rattle.lc_world.specs.GoneOn.{IsLeftByPasses};
 ghost use Rattle.laws_replay.specs.Events.{TurnsAreOfClients};
 ghost use Rattle.laws_replay.specs.Played.{Plays};
 ghost use Rattle.cli_replay.specs.Home.{admitted_at, home_seen};
 ghost use Rattle.cli_replay.specs.Turns.{MayHappen};
 
 use crate::hearing::hear;
+use cli_ask::Heard;
+use convoy::Convoy;
+use fragmenter::Cutting;
 use laws_replay::Event;
-use laws_replay::below::{Convoy, Cutting, Heard, HomeLink, Link};
+use lc_links::HomeLink;
 use lc_model::NoMemory;
+use lc_world::Link;
 use std::alloc::Global;
 
 /// Plays the events, one after the other. It gives the lines of the messages, and counts those that are admitted.

@@ -1,16 +1,21 @@
 ghost use Rattle.std.specs.Prelude.{◌≡◌, ◌+◌, Some, IfOk, OnOk, length};
-ghost use Rattle.laws_replay.specs.Below.CliAsk.Admission.{IsBehind};
-ghost use Rattle.laws_replay.specs.Below.Fragmenter.Cutting.{chosen_cuts};
-ghost use Rattle.laws_replay.specs.Below.LcWorld.GoneOn.{IsLeftByPasses};
-ghost use Rattle.laws_replay.specs.Below.Publisher.Held.{side_of};
-ghost use Rattle.laws_replay.specs.Below.PublisherSpec.Side.{IsValidSide};
+ghost use Rattle.cli_ask.specs.Admission.{IsBehind};
+ghost use Rattle.fragmenter.specs.Cutting.{chosen_cuts};
+ghost use Rattle.lc_world.specs.GoneOn.{IsLeftByPasses};
+ghost use Rattle.publisher.specs.Held.{side_of};
+ghost use Rattle.publisher_spec.specs.Side.{IsValidSide};
 ghost use Rattle.laws_replay.specs.Played.{IsGiven};
 ghost use Rattle.cli_replay.specs.Home.{admitted_at, home_seen};
 
+use cli_ask::{Heard, give};
+use fragmenter::Cutting;
 use laws_replay::Message;
-use laws_replay::below::{Cutting, Heard, HomeLink, Link, MessageFault, Publisher, give};
+use lc_links::HomeLink;
 use lc_model::NoMemory;
+use lc_world::Link;
+use publisher::Publisher;
 use std::alloc::Global;
+use version_store::MessageFault;
 
 /// Gives a message to the publisher at home, and says in a line what became of it. It counts it where it is admitted.
 pub fn hear<L: Link>(

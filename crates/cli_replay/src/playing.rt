@@ -1,18 +1,22 @@
 ghost use Rattle.std.specs.Prelude.{◌≡◌, [], ◌≤◌, IfOk, OnOk};
-ghost use Rattle.laws_replay.specs.Below.CliAsk.Publishing.{held_with, side_with, store_of};
-ghost use Rattle.laws_replay.specs.Below.LcWorld.GoneOn.{IsLeftByPasses};
-ghost use Rattle.laws_replay.specs.Below.PublisherSpec.Side.{IsValidSide};
+ghost use Rattle.cli_ask.specs.Publishing.{held_with, side_with, store_of};
+ghost use Rattle.lc_world.specs.GoneOn.{IsLeftByPasses};
+ghost use Rattle.publisher_spec.specs.Side.{IsValidSide};
 ghost use Rattle.laws_replay.specs.Events.{TurnsAreOfClients};
 ghost use Rattle.laws_replay.specs.Replayed.{IsReplayed};
 ghost use Rattle.laws_replay.specs.Versions.{HaveAdmitted};
 
 use crate::course::play_out;
-use laws_replay::below::{
-    Base, ClientEnd, Cutting, HomeLink, Link, LocalLink, Publishing, Timetable, publisher_of,
-};
+use cli_ask::{ClientEnd, publisher_of};
+use cli_words::Publishing;
+use connection_uri::Base;
+use fragmenter::Cutting;
 use laws_replay::{Event, courses_are_caused, courses_are_heard, courses_are_right};
+use lc_links::{HomeLink, LocalLink};
 use lc_model::{NoMemory, PlainData};
+use lc_world::Link;
 use std::alloc::Global;
+use timetable::Timetable;
 
 /// What is printed of an event sequence, and how its clients ended, in the order in which they asked. How many of its messages were
 /// admitted.

@@ -3,9 +3,11 @@ ghost use Rattle.laws_replay.specs.Events.{messages_in};
 ghost use Rattle.cli_replay.specs.Summary.{arrivals_line_of, arrivals_of, exchanges_line_of, exchanges_of, found_in, found_line_of, has_found, has_none, is_message, leaves_in, none_in, seconds_of, summary_of, updates_line_of};
 
 use crate::Replayed;
+use cli_ask::ClientEnd;
+use journey_text::arrival_seconds;
 use laws_replay::Event;
-use laws_replay::below::{ClientEnd, Outcome, arrival_seconds};
 use lc_model::{Moment, NoMemory};
+use page_client::Outcome;
 use std::alloc::Global;
 
 /// What a summary needs of an event sequence: how many messages it has, and when its clients want to leave.

@@ -1,10 +1,10 @@
 ghost use Rattle.std.specs.Prelude.{◌≡◌, ◌++◌, IfOk};
 ghost use Rattle.std.specs.List.{All};
-ghost use Rattle.laws_replay.specs.Below.CliAsk.Block.{IsPrintable};
-ghost use Rattle.laws_replay.specs.Below.CliAsk.declared.end.ClientEnd.{ClientEnd as End};
+ghost use Rattle.cli_ask.specs.Block.{IsPrintable};
+ghost use Rattle.cli_ask.specs.declared.end.ClientEnd.{ClientEnd as End};
 ghost use Rattle.laws_replay.specs.Replayed.{clients_text_of};
 
-use laws_replay::below::{ClientEnd, push_client};
+use cli_ask::{ClientEnd, push_client};
 use lc_model::NoMemory;
 use std::alloc::Global;
 

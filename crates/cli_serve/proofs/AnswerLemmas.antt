@@ -2,16 +2,16 @@
 use Rattle.std.proofs.Common.{◌≡◌, ◌∙◌, ℕ, Bool, true, false, List, [], ◌++◌, Option, None, Some, Result, Ok, Err, IfOk, OnErr, IsTrue, refl, sym, ap, append-nil, arith}
 use Rattle.std.specs.List.{concat}
 use Rattle.std.specs.Result.{IsOkAnd}
-use Rattle.wire_session.specs.Below.Fragmenter.Cutting.{chosen_cuts}
-use Rattle.wire_session.specs.Below.Fragmenter.declared.cutting.Cutting.{Cutting}
+use Rattle.fragmenter.specs.Cutting.{chosen_cuts}
+use Rattle.fragmenter.specs.declared.cutting.Cutting.{Cutting}
 use Rattle.lc_io.specs.Door.{DoorSeen, DoorRecorded, GoesOn, OnCurrent, Wire}
 use Rattle.lc_io.specs.Serving.{Exchanges, Halts, NothingToCome, SendsFront, Serves}
 use Rattle.lc_io.specs.Serving as serve_one
 use Rattle.lc_io.specs.declared.serving.Served.{Served}
 use Rattle.lc_io.specs.Counts.{HasCause}
 use Rattle.lc_model.specs.declared.memory.NoMemory.{NoMemory}
-use Rattle.wire_session.specs.Below.Publisher.Held.{side_of}
-use Rattle.wire_session.specs.Below.PublisherSpec.Side.{Side}
+use Rattle.publisher.specs.Held.{side_of}
+use Rattle.publisher_spec.specs.Side.{Side}
 use Rattle.cli_serve.specs.Said.{none_out}
 use Rattle.cli_serve.specs.Serving.{SaysOut, ServingState, StandsOut, serving_seen}
 use Rattle.wire_session.specs.Phase.{is_ended}

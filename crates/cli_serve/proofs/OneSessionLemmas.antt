@@ -1,15 +1,15 @@
 -- What is said to bytes from sides that are one is one.
 use Rattle.std.proofs.Common.{◌≡◌, ◌∙◌, ℕ, zero, suc, Bool, true, false, List, take, drop, ap, refl, subst, sym}
-use Rattle.wire_session.proofs.BelowLemmas.HttpText.MessageLemmas.{one_request}
-use Rattle.wire_session.proofs.BelowLemmas.HttpText.TakenLemmas.{one_answer}
-use Rattle.wire_session.specs.Below.HttpText.declared.request.Request.{Request}
-use Rattle.wire_session.specs.Below.HttpText.declared.taken.Taken.{Taken}
-use Rattle.wire_session.specs.Below.HttpText.declared.taken.Taken.TheVariants.{Whole, NotYet, Refused}
-use Rattle.wire_session.specs.Below.LcTime.declared.zone.Zone.{Zone}
-use Rattle.wire_session.proofs.BelowLemmas.PublisherSpec.LaterLemmas.{next_is_later}
-use Rattle.wire_session.proofs.BelowLemmas.PublisherSpec.OneReplyLemmas.{one_next_side, one_reply}
-use Rattle.wire_session.specs.Below.PublisherSpec.Reply.{IsNextSide}
-use Rattle.wire_session.specs.Below.PublisherSpec.Side.{IsLater, Side, date_in}
+use Rattle.http_text.proofs.MessageLemmas.{one_request}
+use Rattle.http_text.proofs.TakenLemmas.{one_answer}
+use Rattle.http_text.specs.declared.request.Request.{Request}
+use Rattle.http_text.specs.declared.taken.Taken.{Taken}
+use Rattle.http_text.specs.declared.taken.Taken.TheVariants.{Whole, NotYet, Refused}
+use Rattle.lc_time.specs.declared.zone.Zone.{Zone}
+use Rattle.publisher_spec.proofs.LaterLemmas.{next_is_later}
+use Rattle.publisher_spec.proofs.OneReplyLemmas.{one_next_side, one_reply}
+use Rattle.publisher_spec.specs.Reply.{IsNextSide}
+use Rattle.publisher_spec.specs.Side.{IsLater, Side, date_in}
 use Rattle.wire_session.specs.SessionOut.{IsSaidAfter, IsSaidBy, IsSaidFirst, Said, Says, SessionOut, refusal_text, silent, with_reply}
 use Rattle.cli_serve.specs.SameBytes.{OneSession}
 use Rattle.cli_serve.proofs.ZoneLemmas.{answered_by, in_zone, one_in_zone}

@@ -4,8 +4,8 @@ use Rattle.std.specs.List.{concat}
 use Rattle.std.proofs.lemmas.List.Sums.{sum_by-cons}
 use Rattle.lc_io.specs.Door.{DoorRecorded, Wire}
 use Rattle.lc_io.specs.Counts.{Rose, RoseBy}
-use Rattle.wire_session.specs.Below.LcVersions.History.{Entry}
-use Rattle.wire_session.specs.Below.PublisherSpec.Side.{Side}
+use Rattle.lc_versions.specs.History.{Entry}
+use Rattle.publisher_spec.specs.Side.{Side}
 use Rattle.wire_session.specs.Laws.{EndsStay}
 use Rattle.wire_session.specs.SessionOut.{SessionOut}
 use Rattle.cli_serve.specs.Lines.{line_of, listening_line, served_line}

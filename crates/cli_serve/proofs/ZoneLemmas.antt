@@ -1,19 +1,19 @@
 -- Sides that differ in their zone alone, which shows the same dates, reply the same.
 use Rattle.std.proofs.Common.{◌≡◌, ◌∙◌, ℕ, Bool, true, false, List, drop, length, Option, Some, None, ap, refl, subst, sym}
 use Rattle.std.specs.Prelude.{◌==◌, if◌then◌else◌}
-use Rattle.wire_session.specs.Below.HttpText.declared.request.Request.{Request}
+use Rattle.http_text.specs.declared.request.Request.{Request}
 use Rattle.lc_model.specs.declared.connection.Connection.{Connection}
 use Rattle.lc_model.specs.declared.date.ServiceDate.{ServiceDate}
-use Rattle.wire_session.specs.Below.LcTime.declared.zone.Zone.{Zone}
-use Rattle.wire_session.specs.Below.LcVersions.History.{news_at}
-use Rattle.wire_session.specs.Below.LcVersions.Timetable.{AreLiveRuns}
-use Rattle.wire_session.specs.Below.LcVersions.declared.update.Update.{Update}
-use Rattle.wire_session.specs.Below.PublisherSpec.Reply.{IsBehind, IsReply, side_behind}
-use Rattle.wire_session.specs.Below.PublisherSpec.Response.{IsGateResponse, IsPageOf, IsPageResponse, IsResponseTo, IsSentOf, asked_at, status_of_update}
-use Rattle.wire_session.specs.Below.PublisherSpec.Side.{IsTimetableAt, Side, date_in, with_message}
-use Rattle.wire_session.specs.Below.PublisherSpec.declared.asked.Asked.{Asked}
-use Rattle.wire_session.specs.Below.PublisherSpec.declared.asked.Asked.TheVariants as kinds
-use Rattle.wire_session.specs.Below.PublisherSpec.declared.response.Response.{Response}
+use Rattle.lc_time.specs.declared.zone.Zone.{Zone}
+use Rattle.lc_versions.specs.History.{news_at}
+use Rattle.lc_versions.specs.Timetable.{AreLiveRuns}
+use Rattle.lc_versions.specs.declared.update.Update.{Update}
+use Rattle.publisher_spec.specs.Reply.{IsBehind, IsReply, side_behind}
+use Rattle.publisher_spec.specs.Response.{IsGateResponse, IsPageOf, IsPageResponse, IsResponseTo, IsSentOf, asked_at, status_of_update}
+use Rattle.publisher_spec.specs.Side.{IsTimetableAt, Side, date_in, with_message}
+use Rattle.publisher_spec.specs.declared.asked.Asked.{Asked}
+use Rattle.publisher_spec.specs.declared.asked.Asked.TheVariants as kinds
+use Rattle.publisher_spec.specs.declared.response.Response.{Response}
 use Rattle.wire_session.specs.SessionOut.{IsAnswered}
 use Rattle.cli_serve.specs.SameBytes.{AreOneSide}
 

@@ -4,7 +4,7 @@ use Rattle.lc_io.specs.Door.{DoorSeen, DoorRecorded, GoesOn}
 use Rattle.lc_io.specs.declared.door.DoorFail.{DoorFail}
 use Rattle.lc_io.specs.declared.door.DoorFail.TheVariants.{Failed, NoMemory}
 use Rattle.lc_io.specs.Counts.{RoseBy}
-use Rattle.wire_session.specs.Below.PublisherSpec.Side.{Side}
+use Rattle.publisher_spec.specs.Side.{Side}
 use Rattle.cli_serve.specs.Tally.{Fits, IsTallyOf}
 use Rattle.cli_serve.specs.Recorded.{AreRecorded, NoneWaits}
 use Rattle.cli_serve.specs.Visit.{AreVisits, NoneLost, Visit, faults_of}

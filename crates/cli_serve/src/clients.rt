@@ -1,15 +1,16 @@
 ghost use Rattle.std.specs.Prelude.{◌≤◌, IsErrOf, IsTrue};
-ghost use Rattle.wire_session.specs.Below.Fragmenter.Cutting.{chosen_cuts};
+ghost use Rattle.fragmenter.specs.Cutting.{chosen_cuts};
 ghost use Rattle.lc_io.specs.declared.door.DoorFail.TheVariants.{Failed};
 ghost use Rattle.lc_io.specs.Counts.{HasCause};
-ghost use Rattle.wire_session.specs.Below.Publisher.Held.{side_of};
+ghost use Rattle.publisher.specs.Held.{side_of};
 ghost use Rattle.cli_serve.specs.Clients.{HasTaken};
 
 use crate::tally::Tally;
 use crate::visit::visit;
+use fragmenter::Cutting;
 use lc_io::{Door, DoorFail, Next};
+use publisher::Publisher;
 use std::alloc::Global;
-use wire_session::below::{Cutting, Publisher};
 
 /// Serves so many clients, or all that come, one after the other, and counts them. The publisher is handed on from one to the next, and given
 /// back at the end.

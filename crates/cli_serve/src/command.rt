@@ -1,7 +1,7 @@
 ghost use Rattle.std.specs.Prelude.{◌≡◌, ◌≤◌, ℕ, OnOk, true};
-ghost use Rattle.wire_session.specs.Below.Fragmenter.Cutting.{chosen_cuts};
-ghost use Rattle.wire_session.specs.Below.Publisher.Held.{side_of};
-ghost use Rattle.wire_session.specs.Below.PublisherSpec.Side.{Side};
+ghost use Rattle.fragmenter.specs.Cutting.{chosen_cuts};
+ghost use Rattle.publisher.specs.Held.{side_of};
+ghost use Rattle.publisher_spec.specs.Side.{Side};
 ghost use Rattle.cli_serve.specs.Serve.{DoorNeverFell, ServesTo};
 ghost use Rattle.cli_serve.specs.Steps.{Announces, Closes, StopsTo};
 ghost use Rattle.cli_serve.specs.Written.{SinkNeverFell};
@@ -11,9 +11,10 @@ use crate::clients::take_clients;
 use crate::lines::{put_opening, put_served};
 use crate::stop::Stop;
 use crate::tally::Tally;
+use fragmenter::Cutting;
 use lc_io::{Door, DoorFail, Sink};
+use publisher::Publisher;
 use std::alloc::Global;
-use wire_session::below::{Cutting, Publisher};
 
 /// Listens, and then says so after the opening.
 fn announce<D: Door, S: Sink>(

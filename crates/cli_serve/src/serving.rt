@@ -1,16 +1,17 @@
 ghost use Rattle.std.specs.Prelude.{◌≡◌, ◌++◌, ℕ, List, []};
-ghost use Rattle.wire_session.specs.Below.Publisher.Held.{side_of};
-ghost use Rattle.wire_session.specs.Below.PublisherSpec.Side.{Side};
+ghost use Rattle.publisher.specs.Held.{side_of};
+ghost use Rattle.publisher_spec.specs.Side.{Side};
 ghost use Rattle.cli_serve.specs.Serving.{StandsOut};
 ghost use Rattle.wire_session.specs.Phase.{is_ended};
 ghost use Rattle.wire_session.specs.Stands.{IsOutput, Means, Stands, fresh};
 
+use fragmenter::Fragmenter;
 use lc_io::Talk;
 use lc_model::NoMemory;
+use publisher::Publisher;
 use std::alloc::Global;
 use std::marker::Model;
 use wire_session::Session;
-use wire_session::below::{Fragmenter, Publisher};
 
 /// A talk that owns the session of a connection and the publisher that answers its requests. It holds nothing of what it was fed.
 #[derive(Drop)]
@@ -63,7 +64,7 @@ impl<G: Fragmenter + Drop> Serving<G> {
 }
 
 impl<G: Fragmenter + Drop> Talk for Serving<G> {
-    ghost use Rattle.wire_session.specs.Below.PublisherSpec.Side.{Side};
+    ghost use Rattle.publisher_spec.specs.Side.{Side};
     ghost use Rattle.cli_serve.specs.Serving.{SaysOut, StandsOut, serving_seen};
     ghost use Rattle.cli_serve.specs.Said.{said_of, one_out, nothing_said};
 

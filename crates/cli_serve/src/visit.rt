@@ -1,15 +1,16 @@
 ghost use Rattle.std.specs.Prelude.{IsTrue};
-ghost use Rattle.wire_session.specs.Below.Fragmenter.Cutting.{chosen_cuts};
-ghost use Rattle.wire_session.specs.Below.Publisher.Held.{side_of};
+ghost use Rattle.fragmenter.specs.Cutting.{chosen_cuts};
+ghost use Rattle.publisher.specs.Held.{side_of};
 ghost use Rattle.cli_serve.specs.Visit.{Visit};
 ghost use Rattle.cli_serve.specs.Visiting.{Answers, Visits};
 
 use crate::serving::Serving;
+use fragmenter::Cutting;
 use lc_io::{Door, Served, serve_one};
 use lc_model::NoMemory;
+use publisher::Publisher;
 use std::alloc::Global;
 use wire_session::Session;
-use wire_session::below::{Cutting, Publisher};
 
 /// Answers what comes on the current connection, and gives the publisher back. Where memory runs out it is the one that the session has left.
 fn answer<D: Door>(

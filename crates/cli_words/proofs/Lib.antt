@@ -1,5 +1,4 @@
 mod AddressLemmas
-pub mod BelowLemmas
 mod DefaultLemmas
 mod DrilledLemmas
 mod EndLemmas

@@ -1,6 +1,5 @@
 pub mod Arrive
 pub mod Ask
-pub mod Below
 pub mod Cache
 pub mod Check
 pub mod FeedWindow

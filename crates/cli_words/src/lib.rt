@@ -4,7 +4,6 @@
 
 mod arrive;
 mod ask;
-pub mod below;
 mod cache;
 mod check;
 mod command;

@@ -3,7 +3,7 @@ use Rattle.std.proofs.Common.{◌≡◌, ◌≢◌, ℕ, ◌≤◌, ◌-◌, tru
 use Rattle.std.specs.List.{slice_get, slice_index_or}
 use Rattle.std.specs.Option.{option_copied}
 use Rattle.std.proofs.lemmas.List.{get_or-set_other, length-set}
-use Rattle.page_client.proofs.BelowLemmas.CsaScan.ListPlacesLemmas.{item_within}
+use Rattle.csa_scan.proofs.ListPlacesLemmas.{item_within}
 use Rattle.lc_world.specs.Link.{LinkSeen}
 use Rattle.page_client.specs.Client.{shown}
 use Rattle.page_client.specs.Shown.{exchanges_left}

@@ -1,3 +1,2 @@
-pub mod BelowLemmas
 pub mod FinishLemmas
 pub mod RoundLemmas

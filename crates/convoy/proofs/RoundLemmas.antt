@@ -2,7 +2,7 @@
 use Rattle.std.proofs.Common.{◌≡◌, ◌≢◌, ℕ, suc, ◌<◌, ◌+◌, ◌-◌, inl, inr, sym, ap, ◌∙◌, subst, refl, arith}
 use Rattle.std.specs.List.{AllWithin, slice_index_or}
 use Rattle.std.proofs.lemmas.Option.{get_or_from_slice_get}
-use Rattle.page_client.proofs.BelowLemmas.CsaScan.ListPlacesLemmas.{same_place}
+use Rattle.csa_scan.proofs.ListPlacesLemmas.{same_place}
 use Rattle.lc_world.specs.Link.{LinkSeen}
 use Rattle.convoy.specs.Finish.{Ends, HasOutcome, Keeps, Rounds}
 use Rattle.convoy.specs.State.{ConvoyState}

@@ -1,4 +1,3 @@
-pub mod Below
 pub mod Exchange
 pub mod Finish
 pub mod State

@@ -1,7 +1,7 @@
 -- What a contract sees of a convoy.
 use Rattle.std.specs.Prelude.{◌≡◌, ◌≢◌, ℕ, ◌-◌, ◌<◌, Bool, false, List, [], ◌∷◌, ◌++◌, Some, slice_get, slice_set}
 use Rattle.std.specs.List.{All}
-use Rattle.page_client.specs.Below.ConnectionUri.Base.{BaseParts}
+use Rattle.connection_uri.specs.Base.{BaseParts}
 use Rattle.lc_world.specs.Link.{LinkSeen}
 use Rattle.page_client.specs.Kept.{Kept}
 use Rattle.lc_model.specs.declared.query.Query.{Query}

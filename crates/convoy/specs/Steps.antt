@@ -2,9 +2,9 @@
 use Rattle.std.specs.Prelude.{◌≡◌, ℕ, true, ◌≤◌, List, Option, Some, None, Result, Ok, Err}
 use Rattle.lc_model.specs.declared.doc.StopsDoc.{StopsDoc}
 use Rattle.lc_model.specs.declared.page.PageName.{PageName}
-use Rattle.page_client.specs.Below.ConnectionUri.Base.{BaseParts}
-use Rattle.page_client.specs.Below.PageJson.Valid.{IsValidPage}
-use Rattle.page_client.specs.Below.PageJson.declared.page.Page.{Page}
+use Rattle.connection_uri.specs.Base.{BaseParts}
+use Rattle.page_json.specs.Valid.{IsValidPage}
+use Rattle.page_json.specs.declared.page.Page.{Page}
 use Rattle.lc_world.specs.Link.{LinkSeen}
 use Rattle.page_client.specs.Kept.{Kept, page_named, with_put, with_used}
 use Rattle.page_client.specs.Client.{AfterStops, TakesPage, shown}

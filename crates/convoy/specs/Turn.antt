@@ -1,6 +1,6 @@
 -- What becomes of a client at its turn, and of the cache.
 use Rattle.std.specs.Prelude.{◌≡◌, ◌+◌, ◌⊎◌, None, IsSome}
-use Rattle.page_client.specs.Below.ConnectionUri.Base.{BaseParts}
+use Rattle.connection_uri.specs.Base.{BaseParts}
 use Rattle.lc_world.specs.Link.{LinkSeen}
 use Rattle.page_client.specs.Kept.{Kept}
 use Rattle.page_client.specs.Client.{shown}

@@ -5,10 +5,10 @@ ghost use Rattle.page_client.specs.Shown.{want_of};
 ghost use Rattle.page_client.specs.declared.want.Want.TheVariants.{Finished};
 ghost use Rattle.convoy.specs.Exchange.{IsAsked};
 
+use connection_uri::Base;
 use lc_model::NoMemory;
 use lc_world::{Link, LinkFail};
 use page_client::Client;
-use page_client::below::Base;
 use std::alloc::Global;
 
 /// Asks for what the client wants, once. Where the exchange fails the client ends, and there is no reply.

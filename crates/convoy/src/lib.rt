@@ -1,7 +1,6 @@
 //! Many clients that share one bounded cache of pages, over any link. It builds on `page_client` and `lc_world`.
 #![tactic(auto)]
 
-pub mod below;
 mod convoy;
 mod exchange;
 mod member;

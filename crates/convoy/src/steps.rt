@@ -1,7 +1,7 @@
 ghost use Rattle.std.specs.Prelude.{◌≡◌, ◌<◌, true, None, OnOk};
 ghost use Rattle.std.specs.List.{All};
 ghost use Rattle.lc_world.specs.GoneOn.{IsLeftByGets};
-ghost use Rattle.page_client.specs.Below.PageJson.Valid.{IsValidPage};
+ghost use Rattle.page_json.specs.Valid.{IsValidPage};
 ghost use Rattle.page_client.specs.Kept.{page_named};
 ghost use Rattle.page_client.specs.Client.{TakesPage, shown};
 ghost use Rattle.page_client.specs.Page.{advances};
@@ -11,10 +11,11 @@ ghost use Rattle.convoy.specs.Steps.{AsksGate, AsksPage, AsksStops, GoesDown, Is
 ghost use Rattle.convoy.specs.Turn.{Asks};
 
 use crate::exchange::exchanged;
+use connection_uri::Base;
 use lc_model::{NoMemory, PageName};
 use lc_world::Link;
-use page_client::below::{Base, Page};
 use page_client::{Client, Outcome, PageCache, Want, page_of};
+use page_json::Page;
 use std::alloc::Global;
 
 /// Asks for what the client wants, and takes the reply. A page is put in the cache.

@@ -11,10 +11,11 @@ ghost use Rattle.convoy.specs.declared.turn.Turn.TheVariants as turns;
 use crate::Turn;
 use crate::member::Member;
 use crate::steps::ask;
+use connection_uri::Base;
 use lc_model::{NoMemory, PageName};
 use lc_world::Link;
-use page_client::below::{Base, Page};
 use page_client::{PageCache, Want};
+use page_json::Page;
 use std::alloc::Global;
 
 /// The turn of a member: it takes the reply to what it wants, or a cached page.

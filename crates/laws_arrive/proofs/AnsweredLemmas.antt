@@ -11,21 +11,21 @@ use Rattle.lc_model.specs.declared.query.Query.{Query}
 use Rattle.lc_model.specs.declared.ride.Ride.{Ride}
 use Rattle.lc_model.specs.declared.run.Run.{Run}
 use Rattle.lc_versions.specs.Pages.{CutPage}
-use Rattle.laws_convoys.proofs.BelowLemmas.LiveCalls.LawLemmas.{one_live_list}
-use Rattle.laws_convoys.specs.Below.PublisherSpec.PageAt.{named}
-use Rattle.laws_convoys.specs.Below.PublisherSpec.Side.{IsValidSide, Side}
+use Rattle.live_calls.proofs.LawLemmas.{one_live_list}
+use Rattle.publisher_spec.specs.PageAt.{named}
+use Rattle.publisher_spec.specs.Side.{IsValidSide, Side}
 use Rattle.laws_pages.proofs.JourneysLemmas.{chain_is_journey, journey_is_chain}
-use Rattle.laws_convoys.specs.Below.LawsClients.Answered.{names_at}
-use Rattle.laws_convoys.specs.Below.LawsClients.Published.{AreLiveAt, IsPublished, Published}
-use Rattle.laws_convoys.proofs.BelowLemmas.LawsClients.PublishedLemmas.{is_lawful, is_timetable, one_published, stays_by_news}
+use Rattle.laws_clients.specs.Answered.{names_at}
+use Rattle.laws_clients.specs.Published.{AreLiveAt, IsPublished, Published}
+use Rattle.laws_clients.proofs.PublishedLemmas.{is_lawful, is_timetable, one_published, stays_by_news}
 use Rattle.laws_arrive.specs.LatestOf.{IsLatestOf}
 use Rattle.laws_arrive.specs.NeededBack.{AreNeededBack, IsTakenBackUntilOver, connections_back, pages_back}
 use Rattle.laws_arrive.proofs.BackLemmas.{one_list_of_needed_back}
 use Rattle.laws_arrive.proofs.JourneyLemmas.{latest_journeys, latest_over}
 use Rattle.laws_arrive.proofs.TakenLemmas.{takes_the_needed_back}
-use Rattle.back_client.specs.Below.BackScan.Latest.{IsLatestDeparture, IsListLatest}
-use Rattle.back_client.specs.Below.BackScan.StandsFor.{IsLatestChain}
-use Rattle.back_client.proofs.BelowLemmas.BackScan.OneLatestLemmas.{latest_departures_are_one}
+use Rattle.back_scan.specs.Latest.{IsLatestDeparture, IsListLatest}
+use Rattle.back_scan.specs.StandsFor.{IsLatestChain}
+use Rattle.back_scan.proofs.OneLatestLemmas.{latest_departures_are_one}
 use Rattle.laws_arrive.specs.Latest.{LatestAt, NeededBackAt, departure_of}
 use Rattle.laws_arrive.specs.Laws.{LatestStays, NeededBackStays, OneDepartureAt, OneListOfNeededBackAt}
 use Rattle.laws_arrive.proofs.FrontLemmas.{IsAskedBack, front_of_needed}

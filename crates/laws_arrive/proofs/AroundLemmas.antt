@@ -3,7 +3,7 @@ use Rattle.std.proofs.Common.{◌≡◌, ◌∙◌, ℕ, zero, suc, ◌+◌, ◌
 use Rattle.std.specs.List.{slice_get}
 use Rattle.std.proofs.lemmas.List.{length-map}
 use Rattle.lc_io.specs.Counts.{Rose}
-use Rattle.back_client.specs.Below.LcWorld.Link.{LinkSeen}
+use Rattle.lc_world.specs.Link.{LinkSeen}
 use Rattle.laws_replies.specs.Made.{Made}
 use Rattle.laws_replies.specs.Met.{CountAlong, Met}
 use Rattle.laws_arrive.specs.ReplyLaws.{LatestFaultsAreAroundLast, NoLatestFaultIsShrunken}

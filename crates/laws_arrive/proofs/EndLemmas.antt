@@ -8,35 +8,35 @@ use Rattle.lc_model.specs.declared.doc.StopsDoc.{StopsDoc}
 use Rattle.lc_model.specs.declared.journey.Journey.{Journey}
 use Rattle.lc_model.specs.declared.page.PageName.{PageName}
 use Rattle.lc_versions.specs.Pages.{CutPage, page_for}
-use Rattle.laws_convoys.specs.Below.ConnectionUri.Base.{BaseParts}
-use Rattle.laws_convoys.specs.Below.ConnectionUri.Page.{gate_target_of, stops_target_of}
-use Rattle.laws_convoys.specs.Below.LcWorld.Link.{IsHonestWith, LinkSeen}
-use Rattle.laws_convoys.specs.Below.PageJson.Sound.{IsSoundName}
-use Rattle.laws_convoys.specs.Below.PageJson.declared.page.Page.{Page}
-use Rattle.laws_convoys.specs.Below.PageClient.Shown.{HasHorizon, IsRefusal, answered}
-use Rattle.laws_convoys.specs.Below.PageClient.declared.fault.PeerFault.{PeerFault}
-use Rattle.laws_convoys.specs.Below.PageClient.declared.fault.QueryFault.{QueryFault}
-use Rattle.laws_convoys.specs.Below.PageClient.declared.fault.QueryFault.TheVariants.{HorizonRange, SameStop, UnknownFrom, UnknownTo}
-use Rattle.laws_convoys.specs.Below.PageClient.declared.outcome.Outcome.{Outcome}
-use Rattle.laws_convoys.specs.Below.PageClient.declared.outcome.Outcome.TheVariants as outcomes
-use Rattle.laws_convoys.specs.Below.PublisherSpec.PageAt.{named}
-use Rattle.laws_convoys.specs.Below.PublisherSpec.Side.{IsLater, Side}
+use Rattle.connection_uri.specs.Base.{BaseParts}
+use Rattle.connection_uri.specs.Page.{gate_target_of, stops_target_of}
+use Rattle.lc_world.specs.Link.{IsHonestWith, LinkSeen}
+use Rattle.page_json.specs.Sound.{IsSoundName}
+use Rattle.page_json.specs.declared.page.Page.{Page}
+use Rattle.page_client.specs.Shown.{HasHorizon, IsRefusal, answered}
+use Rattle.page_client.specs.declared.fault.PeerFault.{PeerFault}
+use Rattle.page_client.specs.declared.fault.QueryFault.{QueryFault}
+use Rattle.page_client.specs.declared.fault.QueryFault.TheVariants.{HorizonRange, SameStop, UnknownFrom, UnknownTo}
+use Rattle.page_client.specs.declared.outcome.Outcome.{Outcome}
+use Rattle.page_client.specs.declared.outcome.Outcome.TheVariants as outcomes
+use Rattle.publisher_spec.specs.PageAt.{named}
+use Rattle.publisher_spec.specs.Side.{IsLater, Side}
 use Rattle.laws_pages.specs.Chain.{ArePagesOf, along_previous}
-use Rattle.laws_convoys.specs.Below.LawsClients.Stated.{IsGatePage, version_at}
-use Rattle.laws_convoys.specs.Below.LawsClients.Answered.{names_at}
-use Rattle.laws_convoys.specs.Below.LawsClients.Laws.{IsAmong}
-use Rattle.laws_convoys.specs.Below.LawsClients.Published.{IsPublished, Published}
-use Rattle.laws_convoys.specs.Below.LawsClients.Wants.{HasEnds}
-use Rattle.laws_convoys.proofs.BelowLemmas.LawsClients.PublishedLemmas.{is_lawful, pages_are_among, published_stays}
+use Rattle.laws_clients.specs.Stated.{IsGatePage, version_at}
+use Rattle.laws_clients.specs.Answered.{names_at}
+use Rattle.laws_clients.specs.Laws.{IsAmong}
+use Rattle.laws_clients.specs.Published.{IsPublished, Published}
+use Rattle.laws_clients.specs.Wants.{HasEnds}
+use Rattle.laws_clients.proofs.PublishedLemmas.{is_lawful, pages_are_among, published_stays}
 use Rattle.laws_arrive.specs.NeededBack.{IsTakenBackUntilOver, connections_back, pages_back}
-use Rattle.laws_convoys.specs.Below.Convoy.Exchange.{Got}
+use Rattle.convoy.specs.Exchange.{Got}
 use Rattle.laws_convoys.specs.Leaves.{LeavesHonest, RoseWithin}
 use Rattle.laws_convoys.specs.Requests.{TellsRequests}
 use Rattle.laws_convoys.proofs.HonestLemmas.{leaves_alone, leaves_then, no_less}
 use Rattle.laws_convoys.proofs.TurnLemmas.{rose_wider}
-use Rattle.back_client.specs.Below.BackScan.Forward.{forward_query}
-use Rattle.back_client.specs.Below.BackScan.StandsFor.{IsLatestChain}
-use Rattle.back_client.specs.Below.BackScan.declared.arrive_query.ArriveQuery.{ArriveQuery}
+use Rattle.back_scan.specs.Forward.{forward_query}
+use Rattle.back_scan.specs.StandsFor.{IsLatestChain}
+use Rattle.back_scan.specs.declared.arrive_query.ArriveQuery.{ArriveQuery}
 use Rattle.back_client.specs.Arrives.{AfterDoc, AfterGotGate, AfterGotStops, AfterRefusal, AfterSaidGate, AfterSaidStops, HasWalked, ended}
 use Rattle.back_client.specs.declared.outcome.ArriveEnd.{ArriveEnd}
 use Rattle.back_client.specs.declared.page.Place.TheVariants.{First}

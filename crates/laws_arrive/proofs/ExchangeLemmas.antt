@@ -9,33 +9,33 @@ use Rattle.lc_io.specs.Counts.{Rose}
 use Rattle.lc_model.specs.declared.doc.StopsDoc.{StopsDoc}
 use Rattle.lc_model.specs.declared.page.PageName.{PageName}
 use Rattle.lc_model.specs.declared.query.Query.{Query}
-use Rattle.laws_convoys.specs.Below.ConnectionUri.Base.{BaseParts}
-use Rattle.laws_convoys.specs.Below.ConnectionUri.Page.{gate_target_of, page_target_of, stops_target_of}
-use Rattle.laws_convoys.specs.Below.HttpText.RequestText.{request_text_of}
-use Rattle.laws_convoys.specs.Below.LcWorld.Link.{Exchanges, IsHonestWith, LinkSeen, TellsMore}
-use Rattle.laws_convoys.specs.Below.LcWorld.declared.entry.Entry.{Entry}
-use Rattle.laws_convoys.specs.Below.PageJson.Sound.{IsSoundName, IsSoundPage}
-use Rattle.laws_convoys.specs.Below.PageJson.declared.page.Page.{Page}
-use Rattle.laws_convoys.specs.Below.PageClient.Gate.{IsGateReply}
-use Rattle.laws_convoys.specs.Below.PageClient.Page.{IsPageReply}
-use Rattle.laws_convoys.specs.Below.PageClient.Request.{Asks}
-use Rattle.laws_convoys.specs.Below.PageClient.Stops.{IsStopsReply}
-use Rattle.laws_convoys.specs.Below.PageClient.declared.fault.PeerFault.{PeerFault}
-use Rattle.laws_convoys.proofs.BelowLemmas.PageClient.OneReplyLemmas.{one_page_reply}
-use Rattle.laws_convoys.specs.Below.PublisherSpec.Reply.{IsReply}
-use Rattle.laws_convoys.specs.Below.PublisherSpec.Response.{IsPageOf}
-use Rattle.laws_convoys.specs.Below.PublisherSpec.Short.{StandsUnder}
-use Rattle.laws_convoys.specs.Below.PublisherSpec.Side.{IsLater, Side, has_version}
-use Rattle.laws_convoys.proofs.BelowLemmas.PublisherSpec.VersionLemmas.{still_found}
-use Rattle.laws_convoys.specs.Below.LawsClients.Stated.{IsGatePage}
-use Rattle.laws_convoys.proofs.BelowLemmas.LawsClients.PageLemmas.{page_is_stated}
-use Rattle.laws_convoys.proofs.BelowLemmas.LawsClients.ReadLemmas.{gate_is_read, stops_are_read}
-use Rattle.laws_convoys.specs.Below.Convoy.Exchange.{Got, bytes_of, result_of}
+use Rattle.connection_uri.specs.Base.{BaseParts}
+use Rattle.connection_uri.specs.Page.{gate_target_of, page_target_of, stops_target_of}
+use Rattle.http_text.specs.RequestText.{request_text_of}
+use Rattle.lc_world.specs.Link.{Exchanges, IsHonestWith, LinkSeen, TellsMore}
+use Rattle.lc_world.specs.declared.entry.Entry.{Entry}
+use Rattle.page_json.specs.Sound.{IsSoundName, IsSoundPage}
+use Rattle.page_json.specs.declared.page.Page.{Page}
+use Rattle.page_client.specs.Gate.{IsGateReply}
+use Rattle.page_client.specs.Page.{IsPageReply}
+use Rattle.page_client.specs.Request.{Asks}
+use Rattle.page_client.specs.Stops.{IsStopsReply}
+use Rattle.page_client.specs.declared.fault.PeerFault.{PeerFault}
+use Rattle.page_client.proofs.OneReplyLemmas.{one_page_reply}
+use Rattle.publisher_spec.specs.Reply.{IsReply}
+use Rattle.publisher_spec.specs.Response.{IsPageOf}
+use Rattle.publisher_spec.specs.Short.{StandsUnder}
+use Rattle.publisher_spec.specs.Side.{IsLater, Side, has_version}
+use Rattle.publisher_spec.proofs.VersionLemmas.{still_found}
+use Rattle.laws_clients.specs.Stated.{IsGatePage}
+use Rattle.laws_clients.proofs.PageLemmas.{page_is_stated}
+use Rattle.laws_clients.proofs.ReadLemmas.{gate_is_read, stops_are_read}
+use Rattle.convoy.specs.Exchange.{Got, bytes_of, result_of}
 use Rattle.laws_convoys.specs.Leaves.{LeavesHonest}
 use Rattle.laws_convoys.specs.Requests.{TellsRequests}
 use Rattle.laws_convoys.proofs.HonestLemmas.{is_get}
 use Rattle.laws_convoys.proofs.RepliesLemmas.{one_more, recorded_no_more, recorded_then}
-use Rattle.back_client.specs.Below.BackScan.declared.arrive_query.ArriveQuery.{ArriveQuery}
+use Rattle.back_scan.specs.declared.arrive_query.ArriveQuery.{ArriveQuery}
 use Rattle.back_client.specs.Exchange.{IsExchange}
 
 abbrev asked_at : List ℕ → Entry → Type 0

@@ -1,7 +1,6 @@
 mod AnsweredLemmas
 mod AroundLemmas
 mod BackLemmas
-pub mod BelowLemmas
 mod EarlyLemmas
 mod EndLemmas
 mod ExchangeLemmas

@@ -6,8 +6,8 @@ use Rattle.std.proofs.lemmas.Bool.Decides.{nat_tests}
 use Rattle.lc_versions.specs.History.{moments_of}
 use Rattle.lc_versions.specs.Named.{is_by, last_of}
 use Rattle.laws_pages.proofs.FilterLemmas.{filter_drops, filter_takes}
-use Rattle.laws_convoys.specs.Below.LawsClients.Stated.{version_at}
-use Rattle.laws_convoys.specs.Below.PublisherSpec.Side.{Side, has_version}
+use Rattle.laws_clients.specs.Stated.{version_at}
+use Rattle.publisher_spec.specs.Side.{Side, has_version}
 
 or_more : (here there : Bool) → there ≡ true → (here || there) ≡ true
 or_more true there is = refl

@@ -2,17 +2,17 @@
 use Rattle.std.proofs.Common.{◌≡◌, ℕ, inl, inr, List, Some, None, Result, Ok, Err, ap, sym, subst, ◌∙◌}
 use Rattle.lc_model.specs.declared.doc.StopsDoc.{StopsDoc}
 use Rattle.lc_model.specs.declared.page.PageName.{PageName}
-use Rattle.laws_convoys.specs.Below.ConnectionUri.Base.{BaseParts}
-use Rattle.laws_convoys.specs.Below.ConnectionUri.Page.{gate_target_of}
-use Rattle.laws_convoys.specs.Below.LcWorld.Link.{IsHonestWith, LinkSeen}
-use Rattle.laws_convoys.specs.Below.PageJson.declared.page.Page.{Page}
-use Rattle.laws_convoys.specs.Below.PageClient.declared.fault.PeerFault.{PeerFault}
-use Rattle.laws_convoys.specs.Below.PublisherSpec.Side.{Side}
-use Rattle.laws_convoys.specs.Below.LawsClients.Stated.{IsGatePage, version_at}
-use Rattle.laws_convoys.specs.Below.LawsClients.Laws.{IsAmong}
-use Rattle.laws_convoys.proofs.BelowLemmas.LawsClients.PublishedLemmas.{pages_are_among}
-use Rattle.laws_convoys.specs.Below.Convoy.Exchange.{Got}
-use Rattle.back_client.specs.Below.BackScan.declared.arrive_query.ArriveQuery.{ArriveQuery}
+use Rattle.connection_uri.specs.Base.{BaseParts}
+use Rattle.connection_uri.specs.Page.{gate_target_of}
+use Rattle.lc_world.specs.Link.{IsHonestWith, LinkSeen}
+use Rattle.page_json.specs.declared.page.Page.{Page}
+use Rattle.page_client.specs.declared.fault.PeerFault.{PeerFault}
+use Rattle.publisher_spec.specs.Side.{Side}
+use Rattle.laws_clients.specs.Stated.{IsGatePage, version_at}
+use Rattle.laws_clients.specs.Laws.{IsAmong}
+use Rattle.laws_clients.proofs.PublishedLemmas.{pages_are_among}
+use Rattle.convoy.specs.Exchange.{Got}
+use Rattle.back_scan.specs.declared.arrive_query.ArriveQuery.{ArriveQuery}
 use Rattle.back_client.specs.Arrives.{AfterGotGate, AfterGotStops, AfterSaidGate, AfterSaidStops}
 use Rattle.back_client.specs.declared.outcome.ArriveEnd.{ArriveEnd}
 use Rattle.laws_arrive.specs.Laws.{NamedAtGate}

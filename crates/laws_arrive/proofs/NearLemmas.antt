@@ -5,16 +5,16 @@ use Rattle.lc_model.specs.Journey.{IsJourney, leaves_at}
 use Rattle.lc_model.specs.Ride.{IsRideAt}
 use Rattle.lc_model.specs.declared.doc.StopsDoc.{StopsDoc}
 use Rattle.lc_model.specs.declared.journey.Journey.{Journey}
-use Rattle.laws_convoys.specs.Below.ConnectionUri.Base.{BaseParts}
-use Rattle.laws_convoys.specs.Below.LcWorld.Link.{LinkSeen}
-use Rattle.laws_convoys.specs.Below.PageClient.Shown.{answered}
-use Rattle.laws_convoys.specs.Below.PageClient.declared.outcome.Outcome.{Outcome}
-use Rattle.laws_convoys.specs.Below.PublisherSpec.Side.{IsLater, IsValidSide, Side}
-use Rattle.laws_convoys.specs.Below.LawsClients.Stated.{version_at}
-use Rattle.laws_convoys.specs.Below.LawsClients.Published.{AreLiveAt}
-use Rattle.laws_convoys.specs.Below.LawsClients.Wants.{HasEnds}
-use Rattle.back_client.specs.Below.BackScan.Forward.{forward_query}
-use Rattle.back_client.specs.Below.BackScan.declared.arrive_query.ArriveQuery.{ArriveQuery}
+use Rattle.connection_uri.specs.Base.{BaseParts}
+use Rattle.lc_world.specs.Link.{LinkSeen}
+use Rattle.page_client.specs.Shown.{answered}
+use Rattle.page_client.specs.declared.outcome.Outcome.{Outcome}
+use Rattle.publisher_spec.specs.Side.{IsLater, IsValidSide, Side}
+use Rattle.laws_clients.specs.Stated.{version_at}
+use Rattle.laws_clients.specs.Published.{AreLiveAt}
+use Rattle.laws_clients.specs.Wants.{HasEnds}
+use Rattle.back_scan.specs.Forward.{forward_query}
+use Rattle.back_scan.specs.declared.arrive_query.ArriveQuery.{ArriveQuery}
 use Rattle.back_client.specs.declared.outcome.ArriveEnd.{ArriveEnd}
 use Rattle.laws_arrive.specs.Latest.{LatestAt, NeededBackAt, departure_of}
 use Rattle.laws_arrive.specs.Laws.{OneLatestEnd}

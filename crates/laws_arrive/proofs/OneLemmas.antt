@@ -9,25 +9,25 @@ use Rattle.lc_model.specs.declared.doc.StopsDoc.{StopsDoc}
 use Rattle.lc_model.specs.declared.journey.Journey.{Journey}
 use Rattle.lc_model.specs.declared.page.PageName.{PageName}
 use Rattle.lc_model.specs.declared.query.Query.{Query}
-use Rattle.back_client.specs.Below.ConnectionUri.Base.{BaseParts}
-use Rattle.back_client.specs.Below.LcWorld.Link.{LinkSeen}
-use Rattle.back_client.specs.Below.PageJson.declared.page.Page.{Page}
-use Rattle.back_client.specs.Below.PageClient.Gate.{IsGateReply}
-use Rattle.back_client.specs.Below.PageClient.Page.{IsPageReply}
-use Rattle.back_client.specs.Below.PageClient.Shown.{answered}
-use Rattle.back_client.specs.Below.PageClient.Stops.{IsStopsReply}
-use Rattle.back_client.specs.Below.PageClient.declared.fault.PeerFault.{PeerFault}
-use Rattle.back_client.specs.Below.PageClient.declared.fault.PeerFault.TheVariants.{GateWrong, Retreat}
-use Rattle.back_client.specs.Below.PageClient.declared.fault.QueryFault.{QueryFault}
-use Rattle.back_client.specs.Below.PageClient.declared.fault.QueryFault.TheVariants.{HorizonRange, SameStop, UnknownFrom, UnknownTo}
-use Rattle.back_client.specs.Below.PageClient.declared.outcome.Outcome.{Outcome}
-use Rattle.back_client.specs.Below.PageClient.declared.outcome.Outcome.TheVariants as outcomes
-use Rattle.back_client.specs.Below.PageClient.declared.want.Want.{Want}
-use Rattle.back_client.specs.Below.PageClient.declared.want.Want.TheVariants as wants
-use Rattle.back_client.proofs.BelowLemmas.PageClient.OneReplyLemmas.{one_gate_reply, one_page_reply, one_stops_reply}
-use Rattle.back_client.specs.Below.BackScan.Forward.{forward_query}
-use Rattle.back_client.specs.Below.BackScan.StandsFor.{IsLatestChain}
-use Rattle.back_client.specs.Below.BackScan.declared.arrive_query.ArriveQuery.{ArriveQuery}
+use Rattle.connection_uri.specs.Base.{BaseParts}
+use Rattle.lc_world.specs.Link.{LinkSeen}
+use Rattle.page_json.specs.declared.page.Page.{Page}
+use Rattle.page_client.specs.Gate.{IsGateReply}
+use Rattle.page_client.specs.Page.{IsPageReply}
+use Rattle.page_client.specs.Shown.{answered}
+use Rattle.page_client.specs.Stops.{IsStopsReply}
+use Rattle.page_client.specs.declared.fault.PeerFault.{PeerFault}
+use Rattle.page_client.specs.declared.fault.PeerFault.TheVariants.{GateWrong, Retreat}
+use Rattle.page_client.specs.declared.fault.QueryFault.{QueryFault}
+use Rattle.page_client.specs.declared.fault.QueryFault.TheVariants.{HorizonRange, SameStop, UnknownFrom, UnknownTo}
+use Rattle.page_client.specs.declared.outcome.Outcome.{Outcome}
+use Rattle.page_client.specs.declared.outcome.Outcome.TheVariants as outcomes
+use Rattle.page_client.specs.declared.want.Want.{Want}
+use Rattle.page_client.specs.declared.want.Want.TheVariants as wants
+use Rattle.page_client.proofs.OneReplyLemmas.{one_gate_reply, one_page_reply, one_stops_reply}
+use Rattle.back_scan.specs.Forward.{forward_query}
+use Rattle.back_scan.specs.StandsFor.{IsLatestChain}
+use Rattle.back_scan.specs.declared.arrive_query.ArriveQuery.{ArriveQuery}
 use Rattle.back_client.specs.Wrong.{is_off, retreats}
 use Rattle.back_client.specs.declared.page.Place.TheVariants.{First}
 use Rattle.laws_replies.specs.Course.{IsSentOn}

@@ -12,18 +12,18 @@ use Rattle.lc_model.specs.declared.page.PageName.{PageName}
 use Rattle.lc_model.specs.declared.query.Query.{Query}
 use Rattle.lc_versions.specs.Cuts.{first_of}
 use Rattle.lc_versions.specs.Pages.{CutPage, page_for}
-use Rattle.laws_convoys.specs.Below.PageJson.declared.page.Page.{Page}
+use Rattle.page_json.specs.declared.page.Page.{Page}
 use Rattle.laws_pages.specs.Chain.{ArePagesOf, along_next, along_previous, connections_along, names_of}
 use Rattle.laws_pages.proofs.ChainLemmas.{by_or_not, links_part, next_goes_on, next_stays, previous_stays}
 use Rattle.laws_pages.proofs.RowLemmas.{found_by_name, is_where_next_begins, late_are_along_next}
 use Rattle.laws_pages.proofs.StopLemmas.{all_of_rest}
-use Rattle.laws_convoys.specs.Below.PublisherSpec.PageAt.{named}
-use Rattle.laws_convoys.specs.Below.LawsClients.Published.{between}
+use Rattle.publisher_spec.specs.PageAt.{named}
+use Rattle.laws_clients.specs.Published.{between}
 use Rattle.laws_arrive.specs.NeededBack.{pages_back}
 use Rattle.laws_arrive.proofs.BackLemmas.{along-append}
-use Rattle.laws_convoys.specs.Below.PageClient.declared.fault.PeerFault.TheVariants.{GateWrong, Retreat}
-use Rattle.laws_convoys.specs.Below.PageClient.declared.outcome.Outcome.{Outcome}
-use Rattle.laws_convoys.specs.Below.PageClient.declared.outcome.Outcome.TheVariants.{PeerWrong}
+use Rattle.page_client.specs.declared.fault.PeerFault.TheVariants.{GateWrong, Retreat}
+use Rattle.page_client.specs.declared.outcome.Outcome.{Outcome}
+use Rattle.page_client.specs.declared.outcome.Outcome.TheVariants.{PeerWrong}
 use Rattle.back_client.specs.Wrong.{is_by, is_level, is_off, is_up_to, overlaps, reaches, retreats, wrong_gate, wrong_of, wrong_retreat}
 use Rattle.back_client.specs.declared.page.Place.{Place}
 use Rattle.back_client.specs.declared.page.Place.TheVariants.{After, First}

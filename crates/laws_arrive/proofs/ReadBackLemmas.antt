@@ -5,11 +5,11 @@ use Rattle.std.proofs.lemmas.List.{reverse-append}
 use Rattle.lc_model.specs.declared.doc.StopsDoc.{StopsDoc}
 use Rattle.lc_model.specs.declared.page.PageName.{PageName}
 use Rattle.lc_model.specs.declared.query.Query.{Query}
-use Rattle.back_client.specs.Below.ConnectionUri.Base.{BaseParts}
-use Rattle.back_client.specs.Below.PageJson.declared.page.Page.{Page}
-use Rattle.back_client.specs.Below.PageClient.declared.fault.PeerFault.TheVariants.{GateWrong, Retreat}
-use Rattle.back_client.specs.Below.PageClient.declared.outcome.Outcome.{Outcome}
-use Rattle.back_client.specs.Below.PageClient.declared.outcome.Outcome.TheVariants.{PeerWrong}
+use Rattle.connection_uri.specs.Base.{BaseParts}
+use Rattle.page_json.specs.declared.page.Page.{Page}
+use Rattle.page_client.specs.declared.fault.PeerFault.TheVariants.{GateWrong, Retreat}
+use Rattle.page_client.specs.declared.outcome.Outcome.{Outcome}
+use Rattle.page_client.specs.declared.outcome.Outcome.TheVariants.{PeerWrong}
 use Rattle.back_client.specs.Steps.{IsOverAt}
 use Rattle.back_client.specs.Wrong.{is_off, retreats, wrong_of, wrong_retreat}
 use Rattle.back_client.specs.declared.page.Place.{Place}

@@ -2,10 +2,10 @@
 use Rattle.std.proofs.Common.{◌≡◌, ◌∙◌, ◌+◌, ◌-◌, ◌≤◌, ℕ, max, inl, inr, true, false, List, [], ◌∷◌, ◌++◌, Option, Some, None, Result, Ok, Err, IsErrOf, ap, arith, length, map, refl, subst, sym}
 use Rattle.std.specs.Option.{IfSome}
 use Rattle.std.proofs.lemmas.List.{length_push, map-append}
-use Rattle.back_client.specs.Below.ConnectionUri.Base.{BaseParts}
-use Rattle.back_client.specs.Below.ConnectionUri.Page.{page_target_of}
-use Rattle.back_client.specs.Below.Convoy.Exchange.{Got, result_of}
-use Rattle.back_client.proofs.BelowLemmas.CsaScan.ListPlacesLemmas.{slice_get-last}
+use Rattle.connection_uri.specs.Base.{BaseParts}
+use Rattle.connection_uri.specs.Page.{page_target_of}
+use Rattle.convoy.specs.Exchange.{Got, result_of}
+use Rattle.csa_scan.proofs.ListPlacesLemmas.{slice_get-last}
 use Rattle.lc_io.proofs.CountLemmas.{RoseBy-none}
 use Rattle.lc_io.specs.Counts.{HasCause, RoseBy}
 use Rattle.lc_model.specs.Journey.{arrives_at}
@@ -15,25 +15,25 @@ use Rattle.lc_model.specs.declared.connection.Connection.{Connection}
 use Rattle.lc_model.specs.declared.doc.StopsDoc.{StopsDoc}
 use Rattle.lc_model.specs.declared.journey.Journey.{Journey}
 use Rattle.lc_model.specs.declared.page.PageName.{PageName}
-use Rattle.back_client.specs.Below.LcWorld.Link.{LinkSeen}
-use Rattle.back_client.specs.Below.LcWorld.declared.link.LinkFail.TheVariants.{Failed}
-use Rattle.back_client.specs.Below.PageJson.declared.page.Page.{Page}
-use Rattle.back_client.specs.Below.PageClient.Gate.{IsGateReply}
-use Rattle.back_client.specs.Below.PageClient.Page.{IsPageReply}
-use Rattle.back_client.specs.Below.PageClient.Request.{known_at, target_of}
-use Rattle.back_client.specs.Below.PageClient.Shown.{HasHorizon, IsRefusal, answered}
-use Rattle.back_client.specs.Below.PageClient.Stops.{IsStopsReply}
-use Rattle.back_client.specs.Below.PageClient.declared.fault.PeerFault.{PeerFault}
-use Rattle.back_client.specs.Below.PageClient.declared.fault.PeerFault.TheVariants.{GateWrong, Retreat}
-use Rattle.back_client.specs.Below.PageClient.declared.fault.QueryFault.{QueryFault}
-use Rattle.back_client.specs.Below.PageClient.declared.fault.QueryFault.TheVariants.{HorizonRange, SameStop, UnknownFrom, UnknownTo}
-use Rattle.back_client.specs.Below.PageClient.declared.outcome.Outcome.{Outcome}
-use Rattle.back_client.specs.Below.PageClient.declared.outcome.Outcome.TheVariants as outcomes
-use Rattle.back_client.specs.Below.PageClient.declared.want.Want.{Want}
-use Rattle.back_client.specs.Below.PageClient.declared.want.Want.TheVariants as wants
-use Rattle.back_client.specs.Below.BackScan.Forward.{forward_query}
-use Rattle.back_client.specs.Below.BackScan.StandsFor.{IsLatestChain}
-use Rattle.back_client.specs.Below.BackScan.declared.arrive_query.ArriveQuery.{ArriveQuery}
+use Rattle.lc_world.specs.Link.{LinkSeen}
+use Rattle.lc_world.specs.declared.link.LinkFail.TheVariants.{Failed}
+use Rattle.page_json.specs.declared.page.Page.{Page}
+use Rattle.page_client.specs.Gate.{IsGateReply}
+use Rattle.page_client.specs.Page.{IsPageReply}
+use Rattle.page_client.specs.Request.{known_at, target_of}
+use Rattle.page_client.specs.Shown.{HasHorizon, IsRefusal, answered}
+use Rattle.page_client.specs.Stops.{IsStopsReply}
+use Rattle.page_client.specs.declared.fault.PeerFault.{PeerFault}
+use Rattle.page_client.specs.declared.fault.PeerFault.TheVariants.{GateWrong, Retreat}
+use Rattle.page_client.specs.declared.fault.QueryFault.{QueryFault}
+use Rattle.page_client.specs.declared.fault.QueryFault.TheVariants.{HorizonRange, SameStop, UnknownFrom, UnknownTo}
+use Rattle.page_client.specs.declared.outcome.Outcome.{Outcome}
+use Rattle.page_client.specs.declared.outcome.Outcome.TheVariants as outcomes
+use Rattle.page_client.specs.declared.want.Want.{Want}
+use Rattle.page_client.specs.declared.want.Want.TheVariants as wants
+use Rattle.back_scan.specs.Forward.{forward_query}
+use Rattle.back_scan.specs.StandsFor.{IsLatestChain}
+use Rattle.back_scan.specs.declared.arrive_query.ArriveQuery.{ArriveQuery}
 use Rattle.back_client.specs.Arrives.{AfterDoc, AfterGotGate, AfterGotStops, AfterRefusal, AfterSaidGate, AfterSaidStops, ended}
 use Rattle.back_client.specs.Exchange.{IsExchange}
 use Rattle.back_client.specs.Steps.{Answers, EndsByGot, EndsByPage, EndsBySaid, LeadsBack, LeadsOn, Taken, WalksBack}

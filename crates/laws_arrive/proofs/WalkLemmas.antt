@@ -11,39 +11,39 @@ use Rattle.lc_model.specs.declared.page.PageName.{PageName}
 use Rattle.lc_model.specs.declared.query.Query.{Query}
 use Rattle.lc_versions.specs.Cuts.{first_of}
 use Rattle.lc_versions.specs.Pages.{CutPage, departures_of}
-use Rattle.laws_convoys.specs.Below.ConnectionUri.Base.{BaseParts}
-use Rattle.laws_convoys.specs.Below.ConnectionUri.Page.{page_target_of}
-use Rattle.laws_convoys.specs.Below.LcWorld.Link.{IsHonestWith, LinkSeen}
-use Rattle.laws_convoys.specs.Below.PageJson.Sound.{IsSoundName, IsSoundPage}
-use Rattle.laws_convoys.specs.Below.PageJson.declared.page.Page.{Page}
-use Rattle.laws_convoys.specs.Below.PageClient.Page.{IsPageReply}
-use Rattle.laws_convoys.specs.Below.PageClient.Request.{Asks}
-use Rattle.laws_convoys.specs.Below.PageClient.Shown.{answered}
-use Rattle.laws_convoys.specs.Below.PageClient.declared.fault.PeerFault.{PeerFault}
-use Rattle.laws_convoys.specs.Below.PageClient.declared.outcome.Outcome.{Outcome}
-use Rattle.laws_convoys.specs.Below.PageClient.declared.outcome.Outcome.TheVariants as outcomes
-use Rattle.laws_convoys.specs.Below.PublisherSpec.PageAt.{linked, named, page_among}
-use Rattle.laws_convoys.specs.Below.PublisherSpec.Reply.{IsReply}
-use Rattle.laws_convoys.specs.Below.PublisherSpec.Response.{IsPageOf}
-use Rattle.laws_convoys.specs.Below.PublisherSpec.Short.{StandsUnder}
-use Rattle.laws_convoys.specs.Below.PublisherSpec.Side.{Side, has_version}
+use Rattle.connection_uri.specs.Base.{BaseParts}
+use Rattle.connection_uri.specs.Page.{page_target_of}
+use Rattle.lc_world.specs.Link.{IsHonestWith, LinkSeen}
+use Rattle.page_json.specs.Sound.{IsSoundName, IsSoundPage}
+use Rattle.page_json.specs.declared.page.Page.{Page}
+use Rattle.page_client.specs.Page.{IsPageReply}
+use Rattle.page_client.specs.Request.{Asks}
+use Rattle.page_client.specs.Shown.{answered}
+use Rattle.page_client.specs.declared.fault.PeerFault.{PeerFault}
+use Rattle.page_client.specs.declared.outcome.Outcome.{Outcome}
+use Rattle.page_client.specs.declared.outcome.Outcome.TheVariants as outcomes
+use Rattle.publisher_spec.specs.PageAt.{linked, named, page_among}
+use Rattle.publisher_spec.specs.Reply.{IsReply}
+use Rattle.publisher_spec.specs.Response.{IsPageOf}
+use Rattle.publisher_spec.specs.Short.{StandsUnder}
+use Rattle.publisher_spec.specs.Side.{Side, has_version}
 use Rattle.laws_pages.specs.Chain.{ArePagesOf, connections_along, names_of}
-use Rattle.laws_convoys.specs.Below.LawsClients.Answered.{names_at}
-use Rattle.laws_convoys.specs.Below.LawsClients.Published.{IsPublished, Published, between}
-use Rattle.laws_convoys.proofs.BelowLemmas.LawsClients.OwnPageLemmas.{found, own_is_between}
-use Rattle.laws_convoys.proofs.BelowLemmas.LawsClients.PublishedLemmas.{published_stays}
+use Rattle.laws_clients.specs.Answered.{names_at}
+use Rattle.laws_clients.specs.Published.{IsPublished, Published, between}
+use Rattle.laws_clients.proofs.OwnPageLemmas.{found, own_is_between}
+use Rattle.laws_clients.proofs.PublishedLemmas.{published_stays}
 use Rattle.laws_arrive.specs.Early.{bound_back}
 use Rattle.laws_arrive.specs.NeededBack.{IsOverBack, IsTakenBackUntilOver, connections_back, pages_back}
-use Rattle.laws_convoys.specs.Below.Convoy.Exchange.{Got}
+use Rattle.convoy.specs.Exchange.{Got}
 use Rattle.laws_convoys.specs.Leaves.{LeavesHonest, RoseWithin}
 use Rattle.laws_convoys.specs.Requests.{TellsRequests}
 use Rattle.laws_convoys.proofs.HonestLemmas.{leaves_then, no_less}
 use Rattle.laws_convoys.proofs.TurnLemmas.{rose_wider}
-use Rattle.back_client.specs.Below.BackScan.Forward.{forward_query}
-use Rattle.back_client.specs.Below.BackScan.Latest.{IsListLatest}
-use Rattle.back_client.specs.Below.BackScan.Over.{IsOver}
-use Rattle.back_client.specs.Below.BackScan.StandsFor.{IsLatestChain}
-use Rattle.back_client.specs.Below.BackScan.declared.arrive_query.ArriveQuery.{ArriveQuery}
+use Rattle.back_scan.specs.Forward.{forward_query}
+use Rattle.back_scan.specs.Latest.{IsListLatest}
+use Rattle.back_scan.specs.Over.{IsOver}
+use Rattle.back_scan.specs.StandsFor.{IsLatestChain}
+use Rattle.back_scan.specs.declared.arrive_query.ArriveQuery.{ArriveQuery}
 use Rattle.back_client.specs.Exchange.{IsExchange}
 use Rattle.back_client.specs.Steps.{EndsByGot, EndsByPage, EndsBySaid, IsOverAt, LeadsBack, LeadsOn, Taken, WalksBack}
 use Rattle.back_client.specs.Wrong.{wrong_of}

@@ -1,9 +1,9 @@
 -- What a question for the latest departure did over a link, whatever the link is.
 use Rattle.std.specs.Prelude.{◌≡◌, ℕ, ◌≤◌, List, Option, length}
-use Rattle.back_client.specs.Below.ConnectionUri.Base.{BaseParts}
-use Rattle.back_client.specs.Below.LcWorld.Link.{LinkSeen}
-use Rattle.back_client.specs.Below.PageClient.declared.outcome.Outcome.{Outcome}
-use Rattle.back_client.specs.Below.BackScan.declared.arrive_query.ArriveQuery.{ArriveQuery}
+use Rattle.connection_uri.specs.Base.{BaseParts}
+use Rattle.lc_world.specs.Link.{LinkSeen}
+use Rattle.page_client.specs.declared.outcome.Outcome.{Outcome}
+use Rattle.back_scan.specs.declared.arrive_query.ArriveQuery.{ArriveQuery}
 use Rattle.laws_replies.specs.Made.{Made, TellsAll}
 use Rattle.laws_replies.specs.Run.{IsCounted}
 use Rattle.laws_arrive.specs.Back.{gate_query}

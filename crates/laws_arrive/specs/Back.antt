@@ -7,14 +7,14 @@ use Rattle.lc_model.specs.declared.connection.Connection.{Connection}
 use Rattle.lc_model.specs.declared.doc.StopsDoc.{StopsDoc}
 use Rattle.lc_model.specs.declared.page.PageName.{PageName}
 use Rattle.lc_model.specs.declared.query.Query.{Query}
-use Rattle.back_client.specs.Below.ConnectionUri.Base.{BaseParts}
-use Rattle.back_client.specs.Below.PageJson.declared.page.Page.{Page}
-use Rattle.back_client.specs.Below.PageClient.Gate.{IsGateReply}
-use Rattle.back_client.specs.Below.PageClient.Stops.{IsStopsReply}
-use Rattle.back_client.specs.Below.PageClient.declared.want.Want.{Want}
-use Rattle.back_client.specs.Below.PageClient.declared.want.Want.TheVariants as wants
-use Rattle.back_client.specs.Below.BackScan.Forward.{forward_query}
-use Rattle.back_client.specs.Below.BackScan.declared.arrive_query.ArriveQuery.{ArriveQuery}
+use Rattle.connection_uri.specs.Base.{BaseParts}
+use Rattle.page_json.specs.declared.page.Page.{Page}
+use Rattle.page_client.specs.Gate.{IsGateReply}
+use Rattle.page_client.specs.Stops.{IsStopsReply}
+use Rattle.page_client.specs.declared.want.Want.{Want}
+use Rattle.page_client.specs.declared.want.Want.TheVariants as wants
+use Rattle.back_scan.specs.Forward.{forward_query}
+use Rattle.back_scan.specs.declared.arrive_query.ArriveQuery.{ArriveQuery}
 use Rattle.back_client.specs.Steps.{IsOverAt}
 use Rattle.back_client.specs.Wrong.{is_off, retreats}
 use Rattle.back_client.specs.declared.page.Place.{Place}

@@ -5,19 +5,19 @@ use Rattle.lc_io.specs.Counts.{Rose}
 use Rattle.lc_model.specs.Journey.{arrives_at}
 use Rattle.lc_model.specs.declared.journey.Journey.{Journey}
 use Rattle.lc_model.specs.declared.page.PageName.{PageName}
-use Rattle.back_client.specs.Below.ConnectionUri.Base.{BaseParts}
-use Rattle.back_client.specs.Below.PageJson.declared.page.Page.{Page}
-use Rattle.back_client.specs.Below.PageClient.Page.{IsPageReply}
-use Rattle.back_client.specs.Below.PageClient.Shown.{IsRefusal}
-use Rattle.back_client.specs.Below.PageClient.declared.fault.PeerFault.{PeerFault}
-use Rattle.back_client.specs.Below.PageClient.declared.fault.PeerFault.TheVariants.{GateWrong, Retreat}
-use Rattle.back_client.specs.Below.PageClient.declared.outcome.Outcome.{Outcome}
-use Rattle.back_client.specs.Below.PageClient.declared.outcome.Outcome.TheVariants as outcomes
-use Rattle.back_client.specs.Below.PageClient.declared.want.Want.{Want}
-use Rattle.back_client.specs.Below.PageClient.declared.want.Want.TheVariants as wants
-use Rattle.back_client.specs.Below.BackScan.Forward.{forward_query}
-use Rattle.back_client.specs.Below.BackScan.StandsFor.{IsLatestChain}
-use Rattle.back_client.specs.Below.BackScan.declared.arrive_query.ArriveQuery.{ArriveQuery}
+use Rattle.connection_uri.specs.Base.{BaseParts}
+use Rattle.page_json.specs.declared.page.Page.{Page}
+use Rattle.page_client.specs.Page.{IsPageReply}
+use Rattle.page_client.specs.Shown.{IsRefusal}
+use Rattle.page_client.specs.declared.fault.PeerFault.{PeerFault}
+use Rattle.page_client.specs.declared.fault.PeerFault.TheVariants.{GateWrong, Retreat}
+use Rattle.page_client.specs.declared.outcome.Outcome.{Outcome}
+use Rattle.page_client.specs.declared.outcome.Outcome.TheVariants as outcomes
+use Rattle.page_client.specs.declared.want.Want.{Want}
+use Rattle.page_client.specs.declared.want.Want.TheVariants as wants
+use Rattle.back_scan.specs.Forward.{forward_query}
+use Rattle.back_scan.specs.StandsFor.{IsLatestChain}
+use Rattle.back_scan.specs.declared.arrive_query.ArriveQuery.{ArriveQuery}
 use Rattle.back_client.specs.Steps.{IsOverAt}
 use Rattle.back_client.specs.Wrong.{is_off, retreats}
 use Rattle.back_client.specs.declared.page.Place.TheVariants.{First}

@@ -7,11 +7,11 @@ use Rattle.lc_model.specs.declared.page.PageName.{PageName}
 use Rattle.lc_model.specs.declared.query.Query.{Query}
 use Rattle.lc_model.specs.declared.run.Run.{Run}
 use Rattle.lc_versions.specs.Pages.{CutPage}
-use Rattle.laws_convoys.specs.Below.PublisherSpec.Side.{Side}
+use Rattle.publisher_spec.specs.Side.{Side}
 use Rattle.laws_arrive.specs.LatestOf.{IsLatestOf}
 use Rattle.laws_arrive.specs.NeededBack.{AreNeededBack}
-use Rattle.laws_convoys.specs.Below.LawsClients.Answered.{names_at}
-use Rattle.laws_convoys.specs.Below.LawsClients.Published.{AreLiveAt, IsPublished, Published}
+use Rattle.laws_clients.specs.Answered.{names_at}
+use Rattle.laws_clients.specs.Published.{AreLiveAt, IsPublished, Published}
 
 -- the answer is a latest journey over the rides of the runs at a version, or that there is no journey
 pub record LatestAt (side : Side) (version : ℕ) (query : Query) (answer : Option Journey) : Type 0 where

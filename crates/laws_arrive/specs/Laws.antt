@@ -4,15 +4,15 @@ use Rattle.lc_io.specs.Counts.{Rose}
 use Rattle.lc_model.specs.declared.journey.Journey.{Journey}
 use Rattle.lc_model.specs.declared.page.PageName.{PageName}
 use Rattle.lc_model.specs.declared.query.Query.{Query}
-use Rattle.laws_convoys.specs.Below.ConnectionUri.Base.{BaseParts}
-use Rattle.laws_convoys.specs.Below.LcWorld.Link.{IsHonestWith, IsQuietWith, LinkSeen}
-use Rattle.laws_convoys.specs.Below.PageClient.Shown.{IsRefusal, answered}
-use Rattle.laws_convoys.specs.Below.PublisherSpec.Side.{Side}
-use Rattle.laws_convoys.specs.Below.LawsClients.Stated.{version_at}
-use Rattle.laws_convoys.specs.Below.LawsClients.Laws.{Stays}
-use Rattle.laws_convoys.specs.Below.LawsClients.Wants.{HasEnds}
-use Rattle.back_client.specs.Below.BackScan.Forward.{forward_query}
-use Rattle.back_client.specs.Below.BackScan.declared.arrive_query.ArriveQuery.{ArriveQuery}
+use Rattle.connection_uri.specs.Base.{BaseParts}
+use Rattle.lc_world.specs.Link.{IsHonestWith, IsQuietWith, LinkSeen}
+use Rattle.page_client.specs.Shown.{IsRefusal, answered}
+use Rattle.publisher_spec.specs.Side.{Side}
+use Rattle.laws_clients.specs.Stated.{version_at}
+use Rattle.laws_clients.specs.Laws.{Stays}
+use Rattle.laws_clients.specs.Wants.{HasEnds}
+use Rattle.back_scan.specs.Forward.{forward_query}
+use Rattle.back_scan.specs.declared.arrive_query.ArriveQuery.{ArriveQuery}
 use Rattle.back_client.specs.Arrives.{Arrives, AsksGate}
 use Rattle.back_client.specs.declared.outcome.ArriveEnd.{ArriveEnd}
 use Rattle.laws_arrive.specs.Latest.{LatestAt, NeededBackAt, departure_of}

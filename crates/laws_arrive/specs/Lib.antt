@@ -1,6 +1,5 @@
 pub mod Asked
 pub mod Back
-pub mod Below
 pub mod Early
 pub mod Ends
 pub mod Latest

@@ -6,15 +6,15 @@ use Rattle.lc_model.specs.Ride.{IsRideAt}
 use Rattle.lc_model.specs.declared.journey.Journey.{Journey}
 use Rattle.lc_model.specs.declared.page.PageName.{PageName}
 use Rattle.lc_model.specs.declared.run.Run.{Run}
-use Rattle.laws_convoys.specs.Below.ConnectionUri.Base.{BaseParts}
-use Rattle.laws_convoys.specs.Below.LcWorld.Link.{IsQuietWith, LinkSeen}
-use Rattle.laws_convoys.specs.Below.PageClient.Shown.{answered}
-use Rattle.laws_convoys.specs.Below.PageClient.declared.outcome.Outcome.TheVariants as outcomes
-use Rattle.laws_convoys.specs.Below.PublisherSpec.Side.{Side}
-use Rattle.laws_convoys.specs.Below.LawsClients.Stated.{version_at}
-use Rattle.laws_convoys.specs.Below.LawsClients.Published.{AreLiveAt}
-use Rattle.back_client.specs.Below.BackScan.Forward.{forward_query}
-use Rattle.back_client.specs.Below.BackScan.declared.arrive_query.ArriveQuery.{ArriveQuery}
+use Rattle.connection_uri.specs.Base.{BaseParts}
+use Rattle.lc_world.specs.Link.{IsQuietWith, LinkSeen}
+use Rattle.page_client.specs.Shown.{answered}
+use Rattle.page_client.specs.declared.outcome.Outcome.TheVariants as outcomes
+use Rattle.publisher_spec.specs.Side.{Side}
+use Rattle.laws_clients.specs.Stated.{version_at}
+use Rattle.laws_clients.specs.Published.{AreLiveAt}
+use Rattle.back_scan.specs.Forward.{forward_query}
+use Rattle.back_scan.specs.declared.arrive_query.ArriveQuery.{ArriveQuery}
 use Rattle.back_client.specs.declared.outcome.ArriveEnd.{ArriveEnd}
 use Rattle.laws_arrive.specs.Requests.{page_request}
 use Rattle.laws_arrive.specs.Right.{HasLatest, IsRight}

@@ -1,11 +1,11 @@
 -- That a question for the latest departure ends by the replies that it got, and in one way.
 use Rattle.std.specs.Prelude.{◌≡◌, ℕ, ◌+◌, ◌-◌, List, Option}
-use Rattle.back_client.specs.Below.ConnectionUri.Base.{BaseParts}
+use Rattle.connection_uri.specs.Base.{BaseParts}
 use Rattle.lc_model.specs.Journey.{leaves_at}
-use Rattle.back_client.specs.Below.LcWorld.Link.{LinkSeen}
-use Rattle.back_client.specs.Below.PageClient.declared.outcome.Outcome.{Outcome}
-use Rattle.back_client.specs.Below.PageClient.declared.outcome.Outcome.TheVariants as outcomes
-use Rattle.back_client.specs.Below.BackScan.declared.arrive_query.ArriveQuery.{ArriveQuery}
+use Rattle.lc_world.specs.Link.{LinkSeen}
+use Rattle.page_client.specs.declared.outcome.Outcome.{Outcome}
+use Rattle.page_client.specs.declared.outcome.Outcome.TheVariants as outcomes
+use Rattle.back_scan.specs.declared.arrive_query.ArriveQuery.{ArriveQuery}
 use Rattle.back_client.specs.Arrives.{Arrives}
 use Rattle.back_client.specs.declared.outcome.ArriveEnd.{ArriveEnd}
 use Rattle.laws_replies.specs.Laws.{AreAroundLast, replies_of}

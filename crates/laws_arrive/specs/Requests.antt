@@ -1,13 +1,13 @@
 -- The requests of a question for the latest departure, one after the other.
 use Rattle.std.specs.Prelude.{◌≡◌, ◌⊎◌, ℕ, List, [], ◌∷◌, ◌++◌, map, Option, Some, None}
 use Rattle.lc_model.specs.declared.page.PageName.{PageName}
-use Rattle.laws_convoys.specs.Below.ConnectionUri.Base.{BaseParts}
-use Rattle.laws_convoys.specs.Below.ConnectionUri.Page.{gate_target_of, page_target_of, stops_target_of}
-use Rattle.laws_convoys.specs.Below.HttpText.RequestText.{request_text_of}
-use Rattle.laws_convoys.specs.Below.PublisherSpec.Side.{Side}
-use Rattle.laws_convoys.specs.Below.LawsClients.Wants.{HasEnds}
-use Rattle.back_client.specs.Below.BackScan.Forward.{forward_query}
-use Rattle.back_client.specs.Below.BackScan.declared.arrive_query.ArriveQuery.{ArriveQuery}
+use Rattle.connection_uri.specs.Base.{BaseParts}
+use Rattle.connection_uri.specs.Page.{gate_target_of, page_target_of, stops_target_of}
+use Rattle.http_text.specs.RequestText.{request_text_of}
+use Rattle.publisher_spec.specs.Side.{Side}
+use Rattle.laws_clients.specs.Wants.{HasEnds}
+use Rattle.back_scan.specs.Forward.{forward_query}
+use Rattle.back_scan.specs.declared.arrive_query.ArriveQuery.{ArriveQuery}
 use Rattle.laws_arrive.specs.Latest.{NeededBackAt}
 
 -- the request to the time gate

@@ -1,6 +1,6 @@
 ghost use Rattle.laws_arrive.specs.Laws.{LatestEndsRight, LatestIsFound, LatestStays, NamedAtGate, NeededBackStays, OneDepartureAt, OneLatestEnd, OneListOfNeededBackAt};
 
-use laws_convoys::below::Link;
+use lc_world::Link;
 
 /// Over an honest link a question for the latest departure ends rightly. Without a failure it found a journey that leaves as late as any, at
 /// the version which the time gate named. Where there is none, it found none. It asked for the time gate, the stops document and the needed

@@ -3,7 +3,6 @@
 //! on `back_client`, `back_scan`, `laws_pages`, `laws_convoys` and `laws_replies`.
 #![tactic(auto)]
 
-pub mod below;
 mod early;
 mod journeys;
 mod laws;

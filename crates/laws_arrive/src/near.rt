@@ -1,6 +1,6 @@
 ghost use Rattle.laws_arrive.specs.Near.{NotAnotherVersion, NotEarlier, NotNone, NotOneExchangeMore, NotOnePageLess, NotOnePageMore};
 
-use laws_convoys::below::Link;
+use lc_world::Link;
 
 /// What is near a right end is none. It refuses a journey that leaves earlier than another, and no journey where there is one. It refuses a
 /// page more or less, an exchange more, and another version.

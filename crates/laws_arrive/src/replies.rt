@@ -1,6 +1,6 @@
 ghost use Rattle.laws_arrive.specs.ReplyLaws.{LatestByItsReplies, LatestFaultsAreAroundLast, NoLatestFaultIsShrunken, OneLatestByReplies};
 
-use back_client::below::Link;
+use lc_world::Link;
 
 /// A question for the latest departure ends by the replies that it got, whatever the link is. Its answer is a latest chain by the stops
 /// document and the connections of the pages that these say. An unknown stop is one that the document lacks. A fault of the link comes only

@@ -3,15 +3,15 @@ use Rattle.std.proofs.Common.{◌≡◌, ℕ, List, [], ◌∷◌, ◌++◌, dro
 use Rattle.std.specs.List.{filter, find}
 use Rattle.std.specs.Str.{str_eq_ignore_ascii_case}
 use Rattle.std.specs.Prelude.{option_map}
-use Rattle.page_client.specs.Below.ConnectionUri.Base.{BaseParts}
-use Rattle.page_client.specs.Below.HttpText.Fields.{FieldText, is_named, values_of}
-use Rattle.page_client.specs.Below.HttpText.Reply.{IsMomentOf, first_of}
-use Rattle.page_client.specs.Below.HttpText.ReplyText.{reply_text_of}
-use Rattle.page_client.specs.Below.HttpText.RequestText.{dates_of, field_text}
-use Rattle.page_client.specs.Below.HttpText.Target.{members_of, path_of, query_of}
-use Rattle.page_client.specs.Below.HttpText.declared.field.Field.{Field}
-use Rattle.page_client.specs.Below.HttpText.declared.request.Request.{Request}
-use Rattle.page_client.proofs.BelowLemmas.HttpText.MessageLemmas.{one_request}
+use Rattle.connection_uri.specs.Base.{BaseParts}
+use Rattle.http_text.specs.Fields.{FieldText, is_named, values_of}
+use Rattle.http_text.specs.Reply.{IsMomentOf, first_of}
+use Rattle.http_text.specs.ReplyText.{reply_text_of}
+use Rattle.http_text.specs.RequestText.{dates_of, field_text}
+use Rattle.http_text.specs.Target.{members_of, path_of, query_of}
+use Rattle.http_text.specs.declared.field.Field.{Field}
+use Rattle.http_text.specs.declared.request.Request.{Request}
+use Rattle.http_text.proofs.MessageLemmas.{one_request}
 use Rattle.publisher_spec.specs.Asked.{asked_of, field_value, is_head}
 use Rattle.publisher_spec.specs.Reply.{parts_of, sent_parts, text_said}
 use Rattle.publisher_spec.specs.Response.{IsResponse, IsResponseTo}
@@ -21,7 +21,7 @@ use Rattle.publisher_spec.specs.declared.asked.Asked.TheVariants as kinds
 use Rattle.publisher_spec.specs.declared.response.Response.{Response}
 use Rattle.publisher_spec.proofs.AskedLemmas.{same_behind}
 use Rattle.laws_clients.specs.Stated.{IsStatedTo, version_at}
-use Rattle.page_client.specs.Below.Memento.Negotiation.{Negotiates}
+use Rattle.memento.specs.Negotiation.{Negotiates}
 
 -- ---- what the paths ask for
 

@@ -10,9 +10,9 @@ use Rattle.lc_model.specs.Connection.{InDepartureOrder, NoneArrivesEarly, depart
 use Rattle.lc_model.specs.declared.connection.Connection.{Connection}
 use Rattle.lc_model.specs.declared.page.PageName.{PageName}
 use Rattle.lc_model.proofs.ListLemmas.{AllPairs-nil, Contains-cases, Contains-nil}
-use Rattle.laws_pages.specs.Below.LcVersions.Cuts.{AreCuts, first_of}
-use Rattle.laws_pages.specs.Below.LcVersions.Pages.{CutPage, departing, departures_of, is_before, page_for, pages_from, pages_of}
-use Rattle.publisher_spec.specs.Below.PageJson.Valid.{IsOfVersion, IsValidPage}
+use Rattle.lc_versions.specs.Cuts.{AreCuts, first_of}
+use Rattle.lc_versions.specs.Pages.{CutPage, departing, departures_of, is_before, page_for, pages_from, pages_of}
+use Rattle.page_json.specs.Valid.{IsOfVersion, IsValidPage}
 use Rattle.laws_pages.specs.Chain.{ArePagesOf, names_of}
 use Rattle.laws_pages.proofs.ChainLemmas.{Follow, page_of_cut, pages_begin}
 use Rattle.laws_pages.proofs.DeparturesLemmas.{sorted_from_order}

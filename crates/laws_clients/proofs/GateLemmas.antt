@@ -2,15 +2,15 @@
 use Rattle.std.proofs.Common.{◌≡◌, ℕ, ◌<◌, List, codes, true, Option, Some, Ok, refl, sym, ap, subst, ◌∙◌, arith}
 use Rattle.lc_model.specs.declared.page.PageName.{PageName}
 use Rattle.lc_model.specs.declared.query.Query.{Query}
-use Rattle.publisher_spec.proofs.BelowLemmas.LcTime.IsoLemmas.{says_text}
-use Rattle.page_client.specs.Below.ConnectionUri.Base.{BaseParts, IsBase}
-use Rattle.page_client.specs.Below.ConnectionUri.Page.{gate_target_of, page_url_of}
-use Rattle.page_client.proofs.BelowLemmas.ConnectionUri.JoinLemmas.{page_urls_join}
-use Rattle.page_client.specs.Below.HttpText.Reply.{IsMomentOf}
-use Rattle.page_client.specs.Below.HttpText.ReplyText.{reply_said, reply_text_of}
-use Rattle.page_client.proofs.BelowLemmas.HttpText.QueryLemmas.{targets_are_read}
-use Rattle.page_client.specs.Below.Memento.Negotiation.{Negotiates}
-use Rattle.publisher_spec.specs.Below.PageJson.Sound.{IsSoundName}
+use Rattle.lc_time.proofs.IsoLemmas.{says_text}
+use Rattle.connection_uri.specs.Base.{BaseParts, IsBase}
+use Rattle.connection_uri.specs.Page.{gate_target_of, page_url_of}
+use Rattle.connection_uri.proofs.JoinLemmas.{page_urls_join}
+use Rattle.http_text.specs.Reply.{IsMomentOf}
+use Rattle.http_text.specs.ReplyText.{reply_said, reply_text_of}
+use Rattle.http_text.proofs.QueryLemmas.{targets_are_read}
+use Rattle.memento.specs.Negotiation.{Negotiates}
+use Rattle.page_json.specs.Sound.{IsSoundName}
 use Rattle.page_client.specs.Gate.{LeadsTo}
 use Rattle.publisher_spec.specs.Asked.{asked_of, field_value, member_value}
 use Rattle.publisher_spec.specs.Reply.{found_parts, parts_of}

@@ -1,6 +1,5 @@
 pub mod AnsweredLemmas
 mod AskedLemmas
-pub mod BelowLemmas
 mod CutPageLemmas
 pub mod FitsLemmas
 mod GateLemmas

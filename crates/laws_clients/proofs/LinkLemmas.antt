@@ -7,9 +7,9 @@ use Rattle.std.proofs.lemmas.List.Elements.{All-contains, Contains-append_right}
 use Rattle.lc_model.proofs.ListLemmas.{Contains-here}
 use Rattle.lc_model.specs.declared.connection.Connection.{Connection}
 use Rattle.lc_model.specs.declared.page.PageName.{PageName}
-use Rattle.laws_pages.specs.Below.LcVersions.Cuts.{first_of}
-use Rattle.laws_pages.specs.Below.LcVersions.Pages.{CutPage, departing, departures_of, page_for}
-use Rattle.publisher_spec.specs.Below.PageJson.declared.page.Page.{Page}
+use Rattle.lc_versions.specs.Cuts.{first_of}
+use Rattle.lc_versions.specs.Pages.{CutPage, departing, departures_of, page_for}
+use Rattle.page_json.specs.declared.page.Page.{Page}
 use Rattle.laws_pages.specs.Chain.{ArePagesOf, connections_along, names_of}
 use Rattle.laws_pages.proofs.NameLemmas.{cuts_name_neighbours}
 use Rattle.laws_pages.proofs.RowLemmas.{Begin, back_are_the_rest, begin_on_time, found_by_name, is_greatest_by_then, next_are_the_suffix}

@@ -2,18 +2,18 @@
 use Rattle.std.proofs.Common.{◌≡◌, ℕ, List, codes, Bool, true, not, Option, Some, None, Ok, Err, refl, sym, ap, subst, ◌∙◌}
 use Rattle.std.specs.Prelude.{if◌then◌else◌}
 use Rattle.std.proofs.lemmas.Bool.{eq-eqb}
-use Rattle.publisher_spec.proofs.BelowLemmas.LcTime.IsoLemmas.{says_text}
-use Rattle.laws_pages.specs.Below.LcVersions.Pages.{departures_of}
-use Rattle.page_client.specs.Below.ConnectionUri.Page.{page_target_of}
-use Rattle.page_client.specs.Below.HttpText.ReplyText.{reply_said, reply_text_of}
-use Rattle.page_client.proofs.BelowLemmas.HttpText.QueryLemmas.{targets_are_read}
-use Rattle.publisher_spec.specs.Below.PageJson.PageReading.{page_of_bytes}
-use Rattle.publisher_spec.specs.Below.PageJson.Sound.{IsSoundPage}
-use Rattle.publisher_spec.specs.Below.PageJson.Tree.{page_text_of}
-use Rattle.publisher_spec.specs.Below.PageJson.Valid.{IsValidPage}
-use Rattle.publisher_spec.specs.Below.PageJson.declared.page.Page.{Page}
-use Rattle.publisher_spec.proofs.BelowLemmas.PageJson.PageLemmas.{reads_page_text}
-use Rattle.publisher_spec.proofs.BelowLemmas.PageJson.Utf8Lemmas.{page_text_is_utf8}
+use Rattle.lc_time.proofs.IsoLemmas.{says_text}
+use Rattle.lc_versions.specs.Pages.{departures_of}
+use Rattle.connection_uri.specs.Page.{page_target_of}
+use Rattle.http_text.specs.ReplyText.{reply_said, reply_text_of}
+use Rattle.http_text.proofs.QueryLemmas.{targets_are_read}
+use Rattle.page_json.specs.PageReading.{page_of_bytes}
+use Rattle.page_json.specs.Sound.{IsSoundPage}
+use Rattle.page_json.specs.Tree.{page_text_of}
+use Rattle.page_json.specs.Valid.{IsValidPage}
+use Rattle.page_json.specs.declared.page.Page.{Page}
+use Rattle.page_json.proofs.PageLemmas.{reads_page_text}
+use Rattle.page_json.proofs.Utf8Lemmas.{page_text_is_utf8}
 use Rattle.page_client.specs.Page.{IsPageReply, advances, is_asked}
 use Rattle.page_client.specs.Replied.{body_of}
 use Rattle.page_client.specs.declared.fault.PeerFault.TheVariants.{Advance, Identity}

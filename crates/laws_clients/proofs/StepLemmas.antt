@@ -7,12 +7,12 @@ use Rattle.lc_model.specs.Stop.{HasStop}
 use Rattle.lc_model.specs.declared.doc.StopsDoc.{StopsDoc}
 use Rattle.lc_model.specs.declared.page.PageName.{PageName}
 use Rattle.lc_model.specs.declared.query.Query.{Query}
-use Rattle.page_client.specs.Below.ConnectionUri.Base.{BaseParts}
-use Rattle.laws_pages.specs.Below.LcVersions.History.{moments_of}
-use Rattle.laws_pages.specs.Below.LcVersions.Named.{is_by, last_of}
-use Rattle.laws_pages.specs.Below.LcVersions.Pages.{CutPage, departures_of, page_for}
-use Rattle.publisher_spec.specs.Below.PageJson.Sound.{IsSoundName}
-use Rattle.publisher_spec.specs.Below.PageJson.declared.page.Page.{Page}
+use Rattle.connection_uri.specs.Base.{BaseParts}
+use Rattle.lc_versions.specs.History.{moments_of}
+use Rattle.lc_versions.specs.Named.{is_by, last_of}
+use Rattle.lc_versions.specs.Pages.{CutPage, departures_of, page_for}
+use Rattle.page_json.specs.Sound.{IsSoundName}
+use Rattle.page_json.specs.declared.page.Page.{Page}
 use Rattle.laws_pages.specs.Rides.{pages_on}
 use Rattle.laws_pages.proofs.FilterLemmas.{filter_drops, filter_takes}
 use Rattle.laws_pages.proofs.RowLemmas.{is_where_next_begins}
@@ -32,7 +32,7 @@ use Rattle.page_client.specs.declared.want.Want.{Want}
 use Rattle.page_client.specs.declared.want.Want.TheVariants as wants
 use Rattle.page_client.proofs.OneReplyLemmas.{one_gate_reply, one_page_reply, one_stops_reply}
 use Rattle.page_client.proofs.PageLemmas.{waits_for}
-use Rattle.page_client.specs.Below.ConnectionUri.Page.{page_target_of}
+use Rattle.connection_uri.specs.Page.{page_target_of}
 use Rattle.publisher_spec.specs.PageAt.{linked, named, page_among}
 use Rattle.publisher_spec.specs.Response.{IsPageOf}
 use Rattle.publisher_spec.specs.Short.{StandsUnder}

@@ -1,12 +1,12 @@
 -- The reply at the stops document says the document.
 use Rattle.std.proofs.Common.{◌≡◌, ℕ, List, codes, true, None, Ok, refl, sym, ap, subst, ◌∙◌}
-use Rattle.page_client.specs.Below.ConnectionUri.Page.{stops_target_of}
-use Rattle.page_client.specs.Below.HttpText.ReplyText.{reply_said, reply_text_of}
-use Rattle.page_client.proofs.BelowLemmas.HttpText.QueryLemmas.{targets_are_read}
-use Rattle.publisher_spec.specs.Below.PageJson.StopsReading.{doc_of_bytes}
-use Rattle.publisher_spec.specs.Below.PageJson.Tree.{stops_text_of}
-use Rattle.publisher_spec.proofs.BelowLemmas.PageJson.StopsLemmas.{reads_stops_text}
-use Rattle.publisher_spec.proofs.BelowLemmas.PageJson.Utf8Lemmas.{stops_text_is_utf8}
+use Rattle.connection_uri.specs.Page.{stops_target_of}
+use Rattle.http_text.specs.ReplyText.{reply_said, reply_text_of}
+use Rattle.http_text.proofs.QueryLemmas.{targets_are_read}
+use Rattle.page_json.specs.StopsReading.{doc_of_bytes}
+use Rattle.page_json.specs.Tree.{stops_text_of}
+use Rattle.page_json.proofs.StopsLemmas.{reads_stops_text}
+use Rattle.page_json.proofs.Utf8Lemmas.{stops_text_is_utf8}
 use Rattle.page_client.specs.Replied.{body_of}
 use Rattle.publisher_spec.specs.Asked.{asked_of}
 use Rattle.publisher_spec.specs.Reply.{parts_of, stops_parts}

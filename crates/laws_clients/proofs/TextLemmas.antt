@@ -10,22 +10,22 @@ use Rattle.std.proofs.lemmas.List.Sums.{AllPass-from_list_all}
 use Rattle.httparse.specs.Ascii.{crlf_bytes}
 use Rattle.httparse.specs.Grammar.{AllPass, is_uri_byte, is_value_byte}
 use Rattle.lc_model.specs.declared.page.PageName.{PageName}
-use Rattle.publisher_spec.specs.Below.LcTime.Http.{http_date_of}
-use Rattle.publisher_spec.specs.Below.LcTime.Iso.{iso_text_of}
-use Rattle.page_client.specs.Below.ConnectionUri.Base.{BaseParts, IsBase, IsWrittenBase, is_visible}
-use Rattle.page_client.specs.Below.ConnectionUri.Page.{gate_url_of, page_url_of}
-use Rattle.page_client.proofs.BelowLemmas.ConnectionUri.BaseLemmas.{written}
-use Rattle.page_client.specs.Below.HttpText.Line.{line, moment_line}
-use Rattle.page_client.specs.Below.HttpText.Reply.{IsReply}
-use Rattle.page_client.specs.Below.HttpText.ReplyText.{HasReason, IsReadable, allow_line, body_lines, close_line, kind_line, length_line, link_line, location_lines, reply_said, reply_text_of, status_line, target_lines}
-use Rattle.page_client.specs.Below.HttpText.declared.reply_parts.BodyKind.{BodyKind}
-use Rattle.page_client.specs.Below.HttpText.declared.reply_parts.BodyKind.TheVariants as bodies
-use Rattle.page_client.specs.Below.HttpText.declared.reply_parts.ReplyParts.{ReplyParts}
-use Rattle.page_client.proofs.BelowLemmas.HttpText.AnswerLemmas.{answers, body_is}
-use Rattle.page_client.proofs.BelowLemmas.HttpText.ByteLemmas.{value_bytes}
-use Rattle.page_client.proofs.BelowLemmas.HttpText.TargetLemmas.{both, date_len, iso_visible, literal, path_bytes}
-use Rattle.publisher_spec.specs.Below.PageJson.Sound.{IsSoundName}
-use Rattle.publisher_spec.proofs.BelowLemmas.PageJson.Utf8Lemmas.{page_url_is_utf8}
+use Rattle.lc_time.specs.Http.{http_date_of}
+use Rattle.lc_time.specs.Iso.{iso_text_of}
+use Rattle.connection_uri.specs.Base.{BaseParts, IsBase, IsWrittenBase, is_visible}
+use Rattle.connection_uri.specs.Page.{gate_url_of, page_url_of}
+use Rattle.connection_uri.proofs.BaseLemmas.{written}
+use Rattle.http_text.specs.Line.{line, moment_line}
+use Rattle.http_text.specs.Reply.{IsReply}
+use Rattle.http_text.specs.ReplyText.{HasReason, IsReadable, allow_line, body_lines, close_line, kind_line, length_line, link_line, location_lines, reply_said, reply_text_of, status_line, target_lines}
+use Rattle.http_text.specs.declared.reply_parts.BodyKind.{BodyKind}
+use Rattle.http_text.specs.declared.reply_parts.BodyKind.TheVariants as bodies
+use Rattle.http_text.specs.declared.reply_parts.ReplyParts.{ReplyParts}
+use Rattle.http_text.proofs.AnswerLemmas.{answers, body_is}
+use Rattle.http_text.proofs.ByteLemmas.{value_bytes}
+use Rattle.http_text.proofs.TargetLemmas.{both, date_len, iso_visible, literal, path_bytes}
+use Rattle.page_json.specs.Sound.{IsSoundName}
+use Rattle.page_json.proofs.Utf8Lemmas.{page_url_is_utf8}
 use Rattle.page_client.specs.Replied.{body_of}
 
 -- ---- how long the lines are

@@ -11,12 +11,12 @@ use Rattle.lc_model.specs.declared.doc.StopsDoc.{StopsDoc}
 use Rattle.lc_model.specs.declared.journey.Journey.{Journey}
 use Rattle.lc_model.specs.declared.page.PageName.{PageName}
 use Rattle.lc_model.specs.declared.query.Query.{Query}
-use Rattle.laws_pages.specs.Below.LcVersions.Cuts.{first_of}
-use Rattle.laws_pages.specs.Below.LcVersions.Pages.{CutPage}
-use Rattle.page_client.specs.Below.CsaScan.Done.{IsDone}
-use Rattle.page_client.specs.Below.CsaScan.StandsFor.{IsBestChain}
-use Rattle.publisher_spec.specs.Below.PageJson.Sound.{IsSoundName}
-use Rattle.publisher_spec.specs.Below.PageJson.declared.page.Page.{Page}
+use Rattle.lc_versions.specs.Cuts.{first_of}
+use Rattle.lc_versions.specs.Pages.{CutPage}
+use Rattle.csa_scan.specs.Done.{IsDone}
+use Rattle.csa_scan.specs.StandsFor.{IsBestChain}
+use Rattle.page_json.specs.Sound.{IsSoundName}
+use Rattle.page_json.specs.declared.page.Page.{Page}
 use Rattle.laws_pages.specs.Chain.{along_previous, connections_along, names_of}
 use Rattle.laws_pages.specs.Needed.{IsOver, IsTakenUntilOver}
 use Rattle.laws_pages.specs.Rides.{pages_on}

@@ -4,8 +4,8 @@ use Rattle.lc_model.specs.Stop.{HasStop}
 use Rattle.lc_model.specs.declared.answer.Answer.{Answer}
 use Rattle.lc_model.specs.declared.answer.Answer.TheVariants as answers
 use Rattle.lc_model.specs.declared.page.PageName.{PageName}
-use Rattle.laws_pages.specs.Below.LcVersions.Pages.{CutPage, page_for}
-use Rattle.publisher_spec.specs.Below.PageJson.Sound.{IsSoundName}
+use Rattle.lc_versions.specs.Pages.{CutPage, page_for}
+use Rattle.page_json.specs.Sound.{IsSoundName}
 use Rattle.laws_pages.specs.Chain.{connections_along}
 use Rattle.laws_pages.specs.Needed.{IsOver}
 use Rattle.laws_pages.specs.Rides.{pages_on}

@@ -1,5 +1,4 @@
 pub mod Answered
-pub mod Below
 pub mod Fits
 pub mod Laws
 pub mod Links

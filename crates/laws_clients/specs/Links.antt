@@ -3,9 +3,9 @@
 use Rattle.std.specs.Prelude.{◌≡◌, ◌⊎◌, ℕ, List, [], ◌∷◌, reverse, Some, None}
 use Rattle.std.specs.List.{flat_map}
 use Rattle.lc_model.specs.declared.connection.Connection.{Connection}
-use Rattle.laws_pages.specs.Below.LcVersions.Cuts.{first_of}
-use Rattle.laws_pages.specs.Below.LcVersions.Pages.{departing, departures_of}
-use Rattle.publisher_spec.specs.Below.PageJson.declared.page.Page.{Page}
+use Rattle.lc_versions.specs.Cuts.{first_of}
+use Rattle.lc_versions.specs.Pages.{departing, departures_of}
+use Rattle.page_json.specs.declared.page.Page.{Page}
 use Rattle.publisher_spec.specs.Response.{IsPageOf}
 use Rattle.publisher_spec.specs.Side.{IsTimetableAt, IsValidSide, Side}
 

@@ -4,12 +4,12 @@ use Rattle.std.specs.List.{last_or}
 use Rattle.lc_model.specs.Connection.{AreConnectionsOf}
 use Rattle.lc_model.specs.declared.connection.Connection.{Connection}
 use Rattle.lc_model.specs.declared.run.Run.{Run}
-use Rattle.laws_pages.specs.Below.LcVersions.Cuts.{first_of}
-use Rattle.laws_pages.specs.Below.LcVersions.History.{news_at}
-use Rattle.laws_pages.specs.Below.LcVersions.Pages.{CutPage, departures_of, pages_of}
-use Rattle.laws_pages.specs.Below.LcVersions.Timetable.{AreLiveRuns}
-use Rattle.publisher_spec.specs.Below.PageJson.Sound.{IsSoundPage}
-use Rattle.publisher_spec.specs.Below.PageJson.declared.page.Page.{Page}
+use Rattle.lc_versions.specs.Cuts.{first_of}
+use Rattle.lc_versions.specs.History.{news_at}
+use Rattle.lc_versions.specs.Pages.{CutPage, departures_of, pages_of}
+use Rattle.lc_versions.specs.Timetable.{AreLiveRuns}
+use Rattle.page_json.specs.Sound.{IsSoundPage}
+use Rattle.page_json.specs.declared.page.Page.{Page}
 use Rattle.laws_pages.specs.Chain.{names_of}
 use Rattle.publisher_spec.specs.PageAt.{named}
 use Rattle.publisher_spec.specs.Response.{IsPageOf}

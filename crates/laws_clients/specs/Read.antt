@@ -3,13 +3,13 @@ use Rattle.std.specs.Prelude.{◌≡◌, ℕ, true, List, None, Result, Ok}
 use Rattle.lc_model.specs.declared.doc.StopsDoc.{StopsDoc}
 use Rattle.lc_model.specs.declared.page.PageName.{PageName}
 use Rattle.lc_model.specs.declared.query.Query.{Query}
-use Rattle.page_client.specs.Below.ConnectionUri.Page.{gate_target_of, page_target_of, stops_target_of}
+use Rattle.connection_uri.specs.Page.{gate_target_of, page_target_of, stops_target_of}
 use Rattle.page_client.specs.Gate.{IsGateReply}
 use Rattle.page_client.specs.Page.{IsPageReply}
 use Rattle.page_client.specs.Stops.{IsStopsReply}
 use Rattle.page_client.specs.declared.fault.PeerFault.{PeerFault}
-use Rattle.publisher_spec.specs.Below.PageJson.Sound.{IsSoundName}
-use Rattle.publisher_spec.specs.Below.PageJson.declared.page.Page.{Page}
+use Rattle.page_json.specs.Sound.{IsSoundName}
+use Rattle.page_json.specs.declared.page.Page.{Page}
 use Rattle.publisher_spec.specs.Response.{IsPageOf}
 use Rattle.publisher_spec.specs.Short.{StandsUnder}
 use Rattle.publisher_spec.specs.Side.{Side, has_version}

@@ -3,15 +3,15 @@
 use Rattle.std.specs.Prelude.{◌≡◌, ℕ, true, List, Option, None, Ok}
 use Rattle.lc_model.specs.declared.page.PageName.{PageName}
 use Rattle.lc_model.specs.declared.query.Query.{Query}
-use Rattle.page_client.specs.Below.ConnectionUri.Page.{gate_target_of, page_target_of, stops_target_of}
-use Rattle.laws_pages.specs.Below.LcVersions.History.{moments_of}
-use Rattle.laws_pages.specs.Below.LcVersions.Named.{version_named}
+use Rattle.connection_uri.specs.Page.{gate_target_of, page_target_of, stops_target_of}
+use Rattle.lc_versions.specs.History.{moments_of}
+use Rattle.lc_versions.specs.Named.{version_named}
 use Rattle.page_client.specs.Gate.{IsGateReply}
 use Rattle.page_client.specs.Page.{IsPageReply}
 use Rattle.page_client.specs.Request.{Asks}
 use Rattle.page_client.specs.Stops.{IsStopsReply}
-use Rattle.publisher_spec.specs.Below.PageJson.Sound.{IsSoundName, IsSoundPage}
-use Rattle.publisher_spec.specs.Below.PageJson.declared.page.Page.{Page}
+use Rattle.page_json.specs.Sound.{IsSoundName, IsSoundPage}
+use Rattle.page_json.specs.declared.page.Page.{Page}
 use Rattle.publisher_spec.specs.Reply.{IsReply}
 use Rattle.publisher_spec.specs.Response.{IsPageOf}
 use Rattle.publisher_spec.specs.Short.{StandsUnder}

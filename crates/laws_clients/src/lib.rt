@@ -3,7 +3,6 @@
 //! needed pages. It builds on `page_client`, `laws_pages` and `publisher_spec`.
 #![tactic(auto)]
 
-pub mod below;
 mod laws;
 mod sides;
 mod steps;

@@ -7,22 +7,22 @@ use Rattle.std.proofs.lemmas.List.Elements.{All-contains, Contains-append_right}
 use Rattle.lc_model.specs.declared.page.PageName.{PageName}
 use Rattle.lc_model.specs.declared.query.Query.{Query}
 use Rattle.lc_model.proofs.ListLemmas.{AllPairs-head, AllPairs-tail, ComesFrom, ComesFrom-map, Contains-cases, Contains-here, Contains-nil}
-use Rattle.laws_clients.specs.Below.LcVersions.History.{Entry}
-use Rattle.laws_clients.specs.Below.LcVersions.Pages.{CutPage}
-use Rattle.laws_clients.specs.Below.LawsPages.Chain.{along_previous}
-use Rattle.laws_clients.proofs.BelowLemmas.LawsPages.RowLemmas.{names_rise}
-use Rattle.convoy.specs.Below.PageClient.Client.{shown}
-use Rattle.convoy.specs.Below.PageClient.Shown.{Shown, want_of}
-use Rattle.convoy.specs.Below.PageClient.declared.client.Client.{Client}
-use Rattle.convoy.specs.Below.PageClient.declared.outcome.Outcome.TheVariants.{LinkFault}
-use Rattle.convoy.specs.Below.PageClient.declared.phase.Phase.{Phase}
-use Rattle.convoy.specs.Below.PageClient.declared.phase.Phase.TheVariants as phases
-use Rattle.convoy.specs.Below.PageClient.declared.want.Want.{Want}
-use Rattle.convoy.specs.Below.PageClient.declared.want.Want.TheVariants as wants
-use Rattle.convoy.proofs.BelowLemmas.PageClient.PageLemmas.{waits_for}
-use Rattle.laws_clients.specs.Below.PublisherSpec.PageAt.{named}
-use Rattle.laws_clients.specs.Below.PublisherSpec.Side.{IsLater, IsValidSide, Side}
-use Rattle.laws_clients.proofs.BelowLemmas.PublisherSpec.LaterLemmas.{with_more}
+use Rattle.lc_versions.specs.History.{Entry}
+use Rattle.lc_versions.specs.Pages.{CutPage}
+use Rattle.laws_pages.specs.Chain.{along_previous}
+use Rattle.laws_pages.proofs.RowLemmas.{names_rise}
+use Rattle.page_client.specs.Client.{shown}
+use Rattle.page_client.specs.Shown.{Shown, want_of}
+use Rattle.page_client.specs.declared.client.Client.{Client}
+use Rattle.page_client.specs.declared.outcome.Outcome.TheVariants.{LinkFault}
+use Rattle.page_client.specs.declared.phase.Phase.{Phase}
+use Rattle.page_client.specs.declared.phase.Phase.TheVariants as phases
+use Rattle.page_client.specs.declared.want.Want.{Want}
+use Rattle.page_client.specs.declared.want.Want.TheVariants as wants
+use Rattle.page_client.proofs.PageLemmas.{waits_for}
+use Rattle.publisher_spec.specs.PageAt.{named}
+use Rattle.publisher_spec.specs.Side.{IsLater, IsValidSide, Side}
+use Rattle.publisher_spec.proofs.LaterLemmas.{with_more}
 use Rattle.laws_clients.specs.Stated.{version_at}
 use Rattle.laws_clients.specs.Answered.{names_at}
 use Rattle.laws_clients.specs.Fits.{FitsAt, FitsSide, WaitsForPage}

@@ -4,18 +4,18 @@ use Rattle.std.specs.Prelude.{if◌then◌else◌}
 use Rattle.std.proofs.lemmas.List.{append-nil, append_assoc}
 use Rattle.lc_model.specs.declared.page.PageName.{PageName}
 use Rattle.lc_model.specs.declared.query.Query.{Query}
-use Rattle.laws_clients.specs.Below.PageJson.declared.page.Page.{Page}
-use Rattle.convoy.specs.Below.PageClient.Kept.{Kept, page_named, with_put, with_used}
-use Rattle.convoy.proofs.BelowLemmas.PageClient.KeptLemmas.{named}
-use Rattle.convoy.specs.Below.PageClient.Client.{AfterPage, TakesPage, shown}
-use Rattle.convoy.specs.Below.PageClient.Shown.{Shown, is_off, want_of, wrong_gate}
-use Rattle.convoy.specs.Below.PageClient.declared.client.Client.{Client}
-use Rattle.convoy.specs.Below.PageClient.declared.fault.PeerFault.TheVariants.{GateWrong}
-use Rattle.convoy.specs.Below.PageClient.declared.outcome.Outcome.{Outcome}
-use Rattle.convoy.specs.Below.PageClient.declared.outcome.Outcome.TheVariants.{LinkFault, PeerWrong}
-use Rattle.convoy.specs.Below.PageClient.declared.want.Want.{Want}
-use Rattle.convoy.specs.Below.PageClient.declared.want.Want.TheVariants as wants
-use Rattle.laws_clients.specs.Below.PublisherSpec.Side.{IsLater, IsValidSide, Side, has_version}
+use Rattle.page_json.specs.declared.page.Page.{Page}
+use Rattle.page_client.specs.Kept.{Kept, page_named, with_put, with_used}
+use Rattle.page_client.proofs.KeptLemmas.{named}
+use Rattle.page_client.specs.Client.{AfterPage, TakesPage, shown}
+use Rattle.page_client.specs.Shown.{Shown, is_off, want_of, wrong_gate}
+use Rattle.page_client.specs.declared.client.Client.{Client}
+use Rattle.page_client.specs.declared.fault.PeerFault.TheVariants.{GateWrong}
+use Rattle.page_client.specs.declared.outcome.Outcome.{Outcome}
+use Rattle.page_client.specs.declared.outcome.Outcome.TheVariants.{LinkFault, PeerWrong}
+use Rattle.page_client.specs.declared.want.Want.{Want}
+use Rattle.page_client.specs.declared.want.Want.TheVariants as wants
+use Rattle.publisher_spec.specs.Side.{IsLater, IsValidSide, Side, has_version}
 use Rattle.laws_clients.specs.Fits.{FitsSide}
 use Rattle.laws_clients.specs.Steps.{KeepsVersion}
 use Rattle.laws_clients.specs.Wants.{AreWants, IsItsVersion}

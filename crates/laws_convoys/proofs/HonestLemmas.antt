@@ -1,10 +1,10 @@
 -- What is left of an honest link, step after step.
 use Rattle.std.proofs.Common.{ℕ, ◌≤◌, List, Option, refl, ◌∙◌, arith}
-use Rattle.convoy.specs.Below.ConnectionUri.Base.{BaseParts}
-use Rattle.convoy.specs.Below.LcWorld.Link.{IsGet, IsHonestWith, LinkSeen}
-use Rattle.convoy.specs.Below.PageClient.Request.{Asks}
-use Rattle.laws_clients.specs.Below.PublisherSpec.Side.{Side}
-use Rattle.laws_clients.proofs.BelowLemmas.PublisherSpec.LaterLemmas.{later_itself, later_on}
+use Rattle.connection_uri.specs.Base.{BaseParts}
+use Rattle.lc_world.specs.Link.{IsGet, IsHonestWith, LinkSeen}
+use Rattle.page_client.specs.Request.{Asks}
+use Rattle.publisher_spec.specs.Side.{Side}
+use Rattle.publisher_spec.proofs.LaterLemmas.{later_itself, later_on}
 use Rattle.laws_convoys.specs.Leaves.{LeavesHonest}
 
 -- who asks makes a GET

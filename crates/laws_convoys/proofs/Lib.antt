@@ -1,7 +1,6 @@
 pub mod AloneLemmas
 mod AskedLemmas
 pub mod BeginLemmas
-pub mod BelowLemmas
 pub mod HonestLemmas
 mod MemberLemmas
 pub mod NamedLemmas

@@ -5,22 +5,22 @@ use Rattle.std.proofs.lemmas.List.{append-nil}
 use Rattle.std.proofs.lemmas.List.Elements.{All-contains}
 use Rattle.lc_model.specs.declared.page.PageName.{PageName}
 use Rattle.lc_model.proofs.ListLemmas.{All-from_contains}
-use Rattle.convoy.specs.Below.ConnectionUri.Base.{BaseParts}
-use Rattle.laws_clients.specs.Below.PageJson.declared.page.Page.{Page}
-use Rattle.convoy.specs.Below.PageClient.Kept.{Kept, has_name, page_named, with_put}
-use Rattle.convoy.proofs.BelowLemmas.PageClient.KeptLemmas.{All-with_put, All-with_used, found, named}
+use Rattle.connection_uri.specs.Base.{BaseParts}
+use Rattle.page_json.specs.declared.page.Page.{Page}
+use Rattle.page_client.specs.Kept.{Kept, has_name, page_named, with_put}
+use Rattle.page_client.proofs.KeptLemmas.{All-with_put, All-with_used, found, named}
 use Rattle.lc_io.specs.Counts.{Rose}
-use Rattle.convoy.specs.Below.LcWorld.Link.{Exchanges, IsHonestWith, LinkSeen}
-use Rattle.convoy.specs.Below.PageClient.Client.{shown}
-use Rattle.convoy.specs.Below.PageClient.Shown.{Shown, ended, want_of, wrong_gate}
-use Rattle.convoy.specs.Below.PageClient.declared.fault.PeerFault.{PeerFault}
-use Rattle.convoy.specs.Below.PageClient.declared.outcome.Outcome.{Outcome}
-use Rattle.convoy.specs.Below.PageClient.declared.outcome.Outcome.TheVariants.{LinkFault}
-use Rattle.convoy.specs.Below.PageClient.declared.want.Want.{Want}
-use Rattle.convoy.specs.Below.PageClient.declared.want.Want.TheVariants as wants
-use Rattle.convoy.proofs.BelowLemmas.PageClient.PageLemmas.{waits_for}
-use Rattle.laws_clients.specs.Below.PublisherSpec.Side.{IsLater, IsValidSide, Side}
-use Rattle.laws_clients.proofs.BelowLemmas.PublisherSpec.LaterLemmas.{later_itself}
+use Rattle.lc_world.specs.Link.{Exchanges, IsHonestWith, LinkSeen}
+use Rattle.page_client.specs.Client.{shown}
+use Rattle.page_client.specs.Shown.{Shown, ended, want_of, wrong_gate}
+use Rattle.page_client.specs.declared.fault.PeerFault.{PeerFault}
+use Rattle.page_client.specs.declared.outcome.Outcome.{Outcome}
+use Rattle.page_client.specs.declared.outcome.Outcome.TheVariants.{LinkFault}
+use Rattle.page_client.specs.declared.want.Want.{Want}
+use Rattle.page_client.specs.declared.want.Want.TheVariants as wants
+use Rattle.page_client.proofs.PageLemmas.{waits_for}
+use Rattle.publisher_spec.specs.Side.{IsLater, IsValidSide, Side}
+use Rattle.publisher_spec.proofs.LaterLemmas.{later_itself}
 use Rattle.laws_clients.specs.Fits.{FitsAt, FitsSide, WaitsForPage}
 use Rattle.laws_clients.specs.Published.{IsOwnPage}
 use Rattle.laws_clients.specs.Steps.{IsReplyTo, SaysOwnPage}

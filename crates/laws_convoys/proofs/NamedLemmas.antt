@@ -1,11 +1,11 @@
 -- The version of a client, turn after turn.
 use Rattle.std.proofs.Common.{◌≡◌, ◌≢◌, ℕ, List, [], ◌∷◌, ◌++◌, Option, Some, refl, ap, ◌∙◌}
 use Rattle.lc_model.specs.declared.query.Query.{Query}
-use Rattle.convoy.specs.Below.PageClient.Shown.{Shown}
-use Rattle.convoy.specs.Below.PageClient.declared.want.Want.{Want}
-use Rattle.convoy.specs.Below.PageClient.declared.want.Want.TheVariants as wants
-use Rattle.laws_clients.specs.Below.PublisherSpec.Side.{IsLater, Side}
-use Rattle.laws_clients.proofs.BelowLemmas.PublisherSpec.LaterLemmas.{later_itself, later_on}
+use Rattle.page_client.specs.Shown.{Shown}
+use Rattle.page_client.specs.declared.want.Want.{Want}
+use Rattle.page_client.specs.declared.want.Want.TheVariants as wants
+use Rattle.publisher_spec.specs.Side.{IsLater, Side}
+use Rattle.publisher_spec.proofs.LaterLemmas.{later_itself, later_on}
 use Rattle.laws_clients.specs.Stated.{version_at}
 use Rattle.laws_convoys.specs.Leaves.{IsNamedBetween, VersionAfter}
 

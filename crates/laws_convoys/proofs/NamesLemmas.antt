@@ -5,11 +5,11 @@ use Rattle.std.specs.Option.{option_map_or}
 use Rattle.std.proofs.lemmas.List.{append_assoc, take-map}
 use Rattle.lc_model.specs.declared.page.PageName.{PageName}
 use Rattle.lc_model.proofs.ListLemmas.{Contains-cases, Contains-here, Contains-nil, Contains-there, IsKept-filter}
-use Rattle.laws_clients.specs.Below.PageJson.declared.page.Page.{Page}
-use Rattle.convoy.specs.Below.PageClient.Kept.{Kept, has_name, is_same, page_named, with_put, with_used, without}
-use Rattle.convoy.proofs.BelowLemmas.PageClient.KeptLemmas.{named}
-use Rattle.convoy.specs.Below.PageClient.declared.want.Want.{Want}
-use Rattle.convoy.specs.Below.PageClient.declared.want.Want.TheVariants as wants
+use Rattle.page_json.specs.declared.page.Page.{Page}
+use Rattle.page_client.specs.Kept.{Kept, has_name, is_same, page_named, with_put, with_used, without}
+use Rattle.page_client.proofs.KeptLemmas.{named}
+use Rattle.page_client.specs.declared.want.Want.{Want}
+use Rattle.page_client.specs.declared.want.Want.TheVariants as wants
 use Rattle.laws_convoys.specs.Names.{AskByNames, IsByNames, Round, names_behind, asked_for, asked_of, is_among, names_after, names_of, names_then, names_with, others}
 
 -- the names after wants and further wants

@@ -4,17 +4,17 @@ use Rattle.std.specs.Prelude.{if◌then◌else◌}
 use Rattle.lc_model.specs.declared.connection.Connection.{Connection}
 use Rattle.lc_model.specs.declared.doc.StopsDoc.{StopsDoc}
 use Rattle.lc_model.specs.declared.page.PageName.{PageName}
-use Rattle.laws_clients.specs.Below.PageJson.declared.page.Page.{Page}
-use Rattle.convoy.specs.Below.PageClient.Client.{AfterDoc, AfterPage, AfterStops, Leaves, StandsFor, TakesPage, shown}
-use Rattle.convoy.specs.Below.PageClient.Shown.{Shown, after_gate, answered, is_off, wrong_gate}
-use Rattle.convoy.specs.Below.PageClient.declared.client.Client.{Client}
-use Rattle.convoy.specs.Below.PageClient.declared.fault.PeerFault.{PeerFault}
-use Rattle.convoy.specs.Below.PageClient.declared.fault.PeerFault.TheVariants.{GateWrong}
-use Rattle.convoy.specs.Below.PageClient.declared.fault.QueryFault.TheVariants.{UnknownFrom, UnknownTo}
-use Rattle.convoy.specs.Below.PageClient.declared.outcome.Outcome.{Outcome}
-use Rattle.convoy.specs.Below.PageClient.declared.outcome.Outcome.TheVariants.{LinkFault, PeerWrong, Refused}
-use Rattle.convoy.specs.Below.PageClient.declared.step.Step.{Step}
-use Rattle.convoy.specs.Below.PageClient.declared.step.Step.TheVariants.{Last, Next}
+use Rattle.page_json.specs.declared.page.Page.{Page}
+use Rattle.page_client.specs.Client.{AfterDoc, AfterPage, AfterStops, Leaves, StandsFor, TakesPage, shown}
+use Rattle.page_client.specs.Shown.{Shown, after_gate, answered, is_off, wrong_gate}
+use Rattle.page_client.specs.declared.client.Client.{Client}
+use Rattle.page_client.specs.declared.fault.PeerFault.{PeerFault}
+use Rattle.page_client.specs.declared.fault.PeerFault.TheVariants.{GateWrong}
+use Rattle.page_client.specs.declared.fault.QueryFault.TheVariants.{UnknownFrom, UnknownTo}
+use Rattle.page_client.specs.declared.outcome.Outcome.{Outcome}
+use Rattle.page_client.specs.declared.outcome.Outcome.TheVariants.{LinkFault, PeerWrong, Refused}
+use Rattle.page_client.specs.declared.step.Step.{Step}
+use Rattle.page_client.specs.declared.step.Step.TheVariants.{Last, Next}
 use Rattle.laws_convoys.specs.Leaves.{HasFault}
 
 -- this is no fault of the link

@@ -7,18 +7,18 @@ use Rattle.std.proofs.lemmas.List.Elements.{All-contains_itself}
 use Rattle.lc_model.specs.declared.page.PageName.{PageName}
 use Rattle.lc_model.specs.declared.query.Query.{Query}
 use Rattle.lc_model.proofs.ListLemmas.{Contains-map, Contains-nil}
-use Rattle.laws_clients.specs.Below.PageJson.declared.page.Page.{Page}
-use Rattle.convoy.specs.Below.PageClient.Kept.{Kept, has_name}
-use Rattle.convoy.proofs.BelowLemmas.PageClient.KeptLemmas as kept_pages
-use Rattle.convoy.specs.Below.LcWorld.Link.{IsHonestWith, IsQuietWith, LinkSeen}
-use Rattle.convoy.specs.Below.PageClient.Client.{shown}
-use Rattle.convoy.specs.Below.PageClient.Shown.{Begins, Shown, first_outcome, want_of}
-use Rattle.convoy.specs.Below.PageClient.declared.fault.QueryFault.{QueryFault}
-use Rattle.convoy.specs.Below.PageClient.declared.outcome.Outcome.{Outcome}
-use Rattle.convoy.specs.Below.PageClient.declared.outcome.Outcome.TheVariants.{LinkFault, Refused}
-use Rattle.convoy.specs.Below.PageClient.declared.want.Want.{Want}
-use Rattle.convoy.specs.Below.PageClient.declared.want.Want.TheVariants as wants
-use Rattle.laws_clients.specs.Below.PublisherSpec.Side.{IsValidSide, Side}
+use Rattle.page_json.specs.declared.page.Page.{Page}
+use Rattle.page_client.specs.Kept.{Kept, has_name}
+use Rattle.page_client.proofs.KeptLemmas as kept_pages
+use Rattle.lc_world.specs.Link.{IsHonestWith, IsQuietWith, LinkSeen}
+use Rattle.page_client.specs.Client.{shown}
+use Rattle.page_client.specs.Shown.{Begins, Shown, first_outcome, want_of}
+use Rattle.page_client.specs.declared.fault.QueryFault.{QueryFault}
+use Rattle.page_client.specs.declared.outcome.Outcome.{Outcome}
+use Rattle.page_client.specs.declared.outcome.Outcome.TheVariants.{LinkFault, Refused}
+use Rattle.page_client.specs.declared.want.Want.{Want}
+use Rattle.page_client.specs.declared.want.Want.TheVariants as wants
+use Rattle.publisher_spec.specs.Side.{IsValidSide, Side}
 use Rattle.laws_clients.specs.Fits.{FitsSide}
 use Rattle.laws_clients.specs.Steps.{BeginsInAgreement}
 use Rattle.convoy.specs.Finish.{Ends, HasOutcome, IsStep, Rounds, Step, TurnsOf}

@@ -2,8 +2,8 @@
 use Rattle.std.proofs.Common.{◌≡◌, ℕ, zero, suc, List, [], ◌∷◌, ◌++◌, Some, refl, ap, subst}
 use Rattle.std.specs.Prelude.{set}
 use Rattle.std.specs.List.{slice_get}
-use Rattle.convoy.specs.Below.PageClient.declared.want.Want.{Want}
-use Rattle.laws_clients.specs.Below.PublisherSpec.Side.{IsLater, IsValidSide, Side}
+use Rattle.page_client.specs.declared.want.Want.{Want}
+use Rattle.publisher_spec.specs.Side.{IsLater, IsValidSide, Side}
 use Rattle.laws_clients.specs.Fits.{FitsSide}
 use Rattle.laws_clients.proofs.FitsLemmas.{fits_stays}
 use Rattle.convoy.specs.declared.member.Member.{Member}

@@ -4,20 +4,20 @@ use Rattle.std.specs.Prelude.{◌⊎◌, OnOk}
 use Rattle.std.specs.Option.{option_map}
 use Rattle.std.proofs.lemmas.List.{append-nil, append_assoc}
 use Rattle.std.proofs.lemmas.List.Elements.{All-append, All-cons, All-nil}
-use Rattle.convoy.specs.Below.ConnectionUri.Base.{BaseParts}
-use Rattle.convoy.specs.Below.LcWorld.Link.{Exchanges, IsHonestWith, IsQuietWith, LinkSeen, Tells, TellsMore, recorded_of}
-use Rattle.convoy.specs.Below.LcWorld.declared.entry.Entry.{Entry}
-use Rattle.convoy.specs.Below.LcWorld.declared.entry.RecordedReply.{RecordedReply}
-use Rattle.convoy.specs.Below.LcWorld.declared.entry.RecordedReply.TheVariants.{Hidden, Reply}
-use Rattle.convoy.specs.Below.PageClient.Client.{shown}
-use Rattle.convoy.specs.Below.PageClient.Shown.{Shown, want_of}
-use Rattle.convoy.specs.Below.PageClient.declared.client.Client.{Client}
-use Rattle.convoy.specs.Below.PageClient.declared.outcome.Outcome.{Outcome}
-use Rattle.convoy.specs.Below.PageClient.declared.outcome.Outcome.TheVariants as outcomes
-use Rattle.convoy.specs.Below.PageClient.declared.want.Want.{Want}
-use Rattle.convoy.specs.Below.PageClient.Kept.{Kept}
-use Rattle.laws_clients.specs.Below.PublisherSpec.Reply.{IsReply}
-use Rattle.laws_clients.specs.Below.PublisherSpec.Side.{Side}
+use Rattle.connection_uri.specs.Base.{BaseParts}
+use Rattle.lc_world.specs.Link.{Exchanges, IsHonestWith, IsQuietWith, LinkSeen, Tells, TellsMore, recorded_of}
+use Rattle.lc_world.specs.declared.entry.Entry.{Entry}
+use Rattle.lc_world.specs.declared.entry.RecordedReply.{RecordedReply}
+use Rattle.lc_world.specs.declared.entry.RecordedReply.TheVariants.{Hidden, Reply}
+use Rattle.page_client.specs.Client.{shown}
+use Rattle.page_client.specs.Shown.{Shown, want_of}
+use Rattle.page_client.specs.declared.client.Client.{Client}
+use Rattle.page_client.specs.declared.outcome.Outcome.{Outcome}
+use Rattle.page_client.specs.declared.outcome.Outcome.TheVariants as outcomes
+use Rattle.page_client.specs.declared.want.Want.{Want}
+use Rattle.page_client.specs.Kept.{Kept}
+use Rattle.publisher_spec.specs.Reply.{IsReply}
+use Rattle.publisher_spec.specs.Side.{Side}
 use Rattle.convoy.specs.Exchange.{Got, IsExchange, bytes_of, result_of}
 use Rattle.convoy.specs.Finish.{IsStep, Rounds, Step, TurnsOf}
 use Rattle.convoy.specs.State.{ConvoyState}

@@ -4,17 +4,17 @@ use Rattle.std.specs.Prelude.{set}
 use Rattle.std.specs.List.{slice_get}
 use Rattle.std.proofs.lemmas.List.{length-append}
 use Rattle.std.proofs.lemmas.Option.{slice_get_within}
-use Rattle.convoy.proofs.BelowLemmas.CsaScan.ListPlacesLemmas.{same_place, slice_get-append, slice_get-last, slice_get-set_other, slice_get-set_same}
+use Rattle.csa_scan.proofs.ListPlacesLemmas.{same_place, slice_get-append, slice_get-last, slice_get-set_other, slice_get-set_same}
 use Rattle.lc_model.specs.declared.page.PageName.{PageName}
-use Rattle.convoy.specs.Below.ConnectionUri.Base.{BaseParts}
+use Rattle.connection_uri.specs.Base.{BaseParts}
 use Rattle.lc_io.specs.Counts.{Rose, RoseBy}
 use Rattle.lc_io.proofs.CountLemmas.{RoseBy-none, RoseBy-then}
-use Rattle.convoy.specs.Below.LcWorld.Link.{IsHonestWith, LinkSeen}
-use Rattle.convoy.specs.Below.PageClient.Client.{shown}
-use Rattle.convoy.specs.Below.PageClient.Shown.{Shown}
-use Rattle.convoy.specs.Below.PageClient.declared.want.Want.{Want}
-use Rattle.laws_clients.specs.Below.PublisherSpec.Side.{IsLater, Side}
-use Rattle.laws_clients.proofs.BelowLemmas.PublisherSpec.LaterLemmas.{later_itself}
+use Rattle.lc_world.specs.Link.{IsHonestWith, LinkSeen}
+use Rattle.page_client.specs.Client.{shown}
+use Rattle.page_client.specs.Shown.{Shown}
+use Rattle.page_client.specs.declared.want.Want.{Want}
+use Rattle.publisher_spec.specs.Side.{IsLater, Side}
+use Rattle.publisher_spec.proofs.LaterLemmas.{later_itself}
 use Rattle.laws_clients.proofs.FitsLemmas.{fits_stays, has_own}
 use Rattle.convoy.specs.Finish.{Ends, HasOutcome, Rounds}
 use Rattle.convoy.specs.State.{ConvoyState}

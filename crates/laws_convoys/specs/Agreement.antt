@@ -1,8 +1,8 @@
 -- When a convoy agrees with the side that its clients ask.
 use Rattle.std.specs.Prelude.{List, [], ◌∷◌}
 use Rattle.std.specs.List.{All}
-use Rattle.convoy.specs.Below.PageClient.declared.want.Want.{Want}
-use Rattle.laws_clients.specs.Below.PublisherSpec.Side.{Side}
+use Rattle.page_client.specs.declared.want.Want.{Want}
+use Rattle.publisher_spec.specs.Side.{Side}
 use Rattle.laws_clients.specs.Fits.{FitsSide}
 use Rattle.laws_clients.specs.Published.{IsOwnPage}
 use Rattle.convoy.specs.State.{ConvoyState}

@@ -1,12 +1,12 @@
 -- That a convoy over an honest link goes on to agree with the side of that link. X is the type of the link, and `seen` what is promised
 -- of it.
 use Rattle.std.specs.Prelude.{ℕ, List, [], ◌∷◌, ◌++◌}
-use Rattle.convoy.specs.Below.ConnectionUri.Base.{BaseParts}
+use Rattle.connection_uri.specs.Base.{BaseParts}
 use Rattle.lc_model.specs.declared.query.Query.{Query}
-use Rattle.convoy.specs.Below.LcWorld.Link.{IsHonestWith, LinkSeen}
-use Rattle.convoy.specs.Below.PageClient.Client.{shown}
-use Rattle.convoy.specs.Below.PageClient.declared.want.Want.{Want}
-use Rattle.laws_clients.specs.Below.PublisherSpec.Side.{IsLater, IsValidSide, Side}
+use Rattle.lc_world.specs.Link.{IsHonestWith, LinkSeen}
+use Rattle.page_client.specs.Client.{shown}
+use Rattle.page_client.specs.declared.want.Want.{Want}
+use Rattle.publisher_spec.specs.Side.{IsLater, IsValidSide, Side}
 use Rattle.convoy.specs.Finish.{Ends, IsStep, Rounds}
 use Rattle.convoy.specs.State.{Adds, ConvoyState, begun}
 use Rattle.convoy.specs.declared.turn.Turn.{Turn}

@@ -1,16 +1,16 @@
 -- What turns over an honest link leave: of the link, of a client, and of a convoy that agreed with the link's side.
 use Rattle.std.specs.Prelude.{◌≡◌, ◌≢◌, ◌⊎◌, ℕ, ◌+◌, ◌-◌, ◌<◌, ◌≤◌, List, [], ◌∷◌, ◌++◌, length, Option, Some, None, slice_get, slice_set}
 use Rattle.lc_io.specs.Counts.{Rose, RoseBy}
-use Rattle.convoy.specs.Below.ConnectionUri.Base.{BaseParts}
-use Rattle.convoy.specs.Below.LcWorld.Link.{IsHonestWith, LinkSeen}
-use Rattle.convoy.specs.Below.PageClient.Kept.{Kept}
-use Rattle.convoy.specs.Below.PageClient.Client.{shown}
-use Rattle.convoy.specs.Below.PageClient.Shown.{Shown, want_of}
-use Rattle.convoy.specs.Below.PageClient.declared.outcome.Outcome.{Outcome}
-use Rattle.convoy.specs.Below.PageClient.declared.outcome.Outcome.TheVariants.{LinkFault}
-use Rattle.convoy.specs.Below.PageClient.declared.want.Want.{Want}
-use Rattle.convoy.specs.Below.PageClient.declared.want.Want.TheVariants as wants
-use Rattle.laws_clients.specs.Below.PublisherSpec.Side.{IsLater, Side}
+use Rattle.connection_uri.specs.Base.{BaseParts}
+use Rattle.lc_world.specs.Link.{IsHonestWith, LinkSeen}
+use Rattle.page_client.specs.Kept.{Kept}
+use Rattle.page_client.specs.Client.{shown}
+use Rattle.page_client.specs.Shown.{Shown, want_of}
+use Rattle.page_client.specs.declared.outcome.Outcome.{Outcome}
+use Rattle.page_client.specs.declared.outcome.Outcome.TheVariants.{LinkFault}
+use Rattle.page_client.specs.declared.want.Want.{Want}
+use Rattle.page_client.specs.declared.want.Want.TheVariants as wants
+use Rattle.publisher_spec.specs.Side.{IsLater, Side}
 use Rattle.laws_clients.specs.Stated.{version_at}
 use Rattle.laws_clients.specs.Fits.{FitsSide}
 use Rattle.laws_clients.specs.Wants.{AreWants}

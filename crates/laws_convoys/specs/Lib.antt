@@ -1,5 +1,4 @@
 pub mod Agreement
-pub mod Below
 pub mod Laws
 pub mod Leaves
 pub mod Names

@@ -2,10 +2,10 @@
 use Rattle.std.specs.Prelude.{◌≡◌, ℕ, ◌+◌, Bool, not, List, [], ◌∷◌, ◌++◌, length, map, filter, take, if◌then◌else◌}
 use Rattle.std.specs.List.{list_any}
 use Rattle.lc_model.specs.declared.page.PageName.{PageName}
-use Rattle.laws_clients.specs.Below.PageJson.declared.page.Page.{Page}
-use Rattle.convoy.specs.Below.PageClient.Kept.{is_same}
-use Rattle.convoy.specs.Below.PageClient.declared.want.Want.{Want}
-use Rattle.convoy.specs.Below.PageClient.declared.want.Want.TheVariants as wants
+use Rattle.page_json.specs.declared.page.Page.{Page}
+use Rattle.page_client.specs.Kept.{is_same}
+use Rattle.page_client.specs.declared.want.Want.{Want}
+use Rattle.page_client.specs.declared.want.Want.TheVariants as wants
 
 -- the names of pages
 abbrev pub names_of : List Page → List PageName

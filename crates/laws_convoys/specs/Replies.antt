@@ -1,10 +1,10 @@
 -- That the replies that a link records are those of the publisher at its other end.
 use Rattle.std.specs.Prelude.{◌≡◌, ℕ, List, ◌++◌, length, Option, option_map}
 use Rattle.std.specs.List.{All}
-use Rattle.convoy.specs.Below.LcWorld.declared.entry.Entry.{Entry}
-use Rattle.convoy.specs.Below.LcWorld.declared.entry.RecordedReply.TheVariants.{Reply}
-use Rattle.laws_clients.specs.Below.PublisherSpec.Reply.{IsReply}
-use Rattle.laws_clients.specs.Below.PublisherSpec.Side.{Side}
+use Rattle.lc_world.specs.declared.entry.Entry.{Entry}
+use Rattle.lc_world.specs.declared.entry.RecordedReply.TheVariants.{Reply}
+use Rattle.publisher_spec.specs.Reply.{IsReply}
+use Rattle.publisher_spec.specs.Side.{Side}
 
 -- the reply of the entry, where it has one, is what the side replies to its request
 abbrev pub IsRepliedBy : Side → Entry → Type 0

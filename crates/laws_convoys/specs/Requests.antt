@@ -2,12 +2,12 @@
 use Rattle.std.specs.Prelude.{◌≡◌, ℕ, List, [], ◌∷◌, ◌++◌, map, Option, option_map}
 use Rattle.std.specs.List.{All}
 use Rattle.lc_model.specs.declared.query.Query.{Query}
-use Rattle.convoy.specs.Below.ConnectionUri.Base.{BaseParts}
-use Rattle.convoy.specs.Below.HttpText.RequestText.{request_text_of}
-use Rattle.convoy.specs.Below.LcWorld.declared.entry.Entry.{Entry}
-use Rattle.convoy.specs.Below.PageClient.Client.{shown}
-use Rattle.convoy.specs.Below.PageClient.Request.{known_at, target_of}
-use Rattle.convoy.specs.Below.PageClient.declared.want.Want.{Want}
+use Rattle.connection_uri.specs.Base.{BaseParts}
+use Rattle.http_text.specs.RequestText.{request_text_of}
+use Rattle.lc_world.specs.declared.entry.Entry.{Entry}
+use Rattle.page_client.specs.Client.{shown}
+use Rattle.page_client.specs.Request.{known_at, target_of}
+use Rattle.page_client.specs.declared.want.Want.{Want}
 use Rattle.convoy.specs.declared.member.Member.{Member}
 use Rattle.laws_convoys.specs.Names.{Round}
 

@@ -1,8 +1,8 @@
 -- Worked values: what is asked for where two pages are cached at most.
 use Rattle.std.specs.Prelude.{◌≡◌, ℕ, [], ◌∷◌}
 use Rattle.lc_model.specs.declared.page.PageName.{PageName}
-use Rattle.convoy.specs.Below.PageClient.declared.want.Want.{Want}
-use Rattle.convoy.specs.Below.PageClient.declared.want.Want.TheVariants as wants
+use Rattle.page_client.specs.declared.want.Want.{Want}
+use Rattle.page_client.specs.declared.want.Want.TheVariants as wants
 use Rattle.laws_convoys.specs.Names.{asked_of, names_after}
 
 -- the name of a page

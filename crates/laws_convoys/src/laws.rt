@@ -1,8 +1,8 @@
 ghost use Rattle.laws_convoys.specs.Laws.{AddedAgrees, EndKeepsAgreement, LaterAgrees, NoneAgrees, RoundsKeepAgreement, TurnKeepsAgreement};
 ghost use Rattle.laws_convoys.specs.OneClient.{OneClientEndsRight};
 
-use convoy::below::Link;
 use laws_clients::steps_keep_agreement;
+use lc_world::Link;
 
 /// A convoy without clients agrees with every side, and a client more may come. What agrees with a side agrees with each later one.
 pub fn agreement_begins()

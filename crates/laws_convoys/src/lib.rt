@@ -2,7 +2,6 @@
 //! one client alone asks and finds. It builds on `convoy` and `laws_clients`.
 #![tactic(auto)]
 
-pub mod below;
 mod laws;
 mod worked;
 

@@ -1,4 +1,3 @@
-pub mod Below
 pub mod Chain
 pub mod Least
 pub mod Needed

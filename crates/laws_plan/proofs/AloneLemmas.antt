@@ -2,11 +2,11 @@
 use Rattle.std.proofs.Common.{◌∙◌, List, [], ◌∷◌, ap, refl, subst}
 use Rattle.std.specs.List.{slice_get}
 use Rattle.laws_plan.specs.Laws.{OneClientAsks}
-use Rattle.laws_replay.specs.Below.LawsReplies.Laws.{AloneAsksAll}
-use Rattle.laws_replay.specs.Below.LawsReplies.Met.{AreMet, met_by}
-use Rattle.laws_replay.proofs.BelowLemmas.LawsReplies.AloneLemmas.{met_alone}
+use Rattle.laws_replies.specs.Laws.{AloneAsksAll}
+use Rattle.laws_replies.specs.Met.{AreMet, met_by}
+use Rattle.laws_replies.proofs.AloneLemmas.{met_alone}
 use Rattle.lc_model.specs.declared.query.Query.{Query}
-use Rattle.laws_replay.specs.Below.LcWorld.Link.{LinkSeen}
+use Rattle.lc_world.specs.Link.{LinkSeen}
 
 pub one_client_asks : {X : Type 0} (seen : X → LinkSeen) → AloneAsksAll → OneClientAsks seen
 one_client_asks seen asks_all base all cache query before after text end one planned =

@@ -3,14 +3,14 @@ use Rattle.std.proofs.Common.{◌≡◌, ◌∙◌, ◌⊎◌, ◌+◌, ◌<◌,
 use Rattle.std.specs.List.{slice_get}
 use Rattle.std.proofs.lemmas.List.Elements.{All-nil}
 use Rattle.std.proofs.lemmas.Option.{slice_get_within}
-use Rattle.laws_replay.specs.Below.ConnectionUri.Base.{BaseParts}
-use Rattle.laws_replay.specs.Below.Convoy.State.{Adds, ConvoyState, begun}
-use Rattle.laws_replay.specs.Below.Convoy.declared.member.Member.{Member}
-use Rattle.laws_replay.proofs.BelowLemmas.CsaScan.ListPlacesLemmas.{push_cases}
-use Rattle.laws_replay.specs.Below.LawsConvoys.Agreement.{FitsConvoy}
-use Rattle.laws_replay.specs.Below.LawsConvoys.Laws.{AddedAgrees, NoneAgrees}
-use Rattle.laws_replay.specs.Below.LawsConvoys.Names.{Round}
-use Rattle.laws_replay.specs.Below.LawsConvoys.Requests.{TellsRequests}
+use Rattle.connection_uri.specs.Base.{BaseParts}
+use Rattle.convoy.specs.State.{Adds, ConvoyState, begun}
+use Rattle.convoy.specs.declared.member.Member.{Member}
+use Rattle.csa_scan.proofs.ListPlacesLemmas.{push_cases}
+use Rattle.laws_convoys.specs.Agreement.{FitsConvoy}
+use Rattle.laws_convoys.specs.Laws.{AddedAgrees, NoneAgrees}
+use Rattle.laws_convoys.specs.Names.{Round}
+use Rattle.laws_convoys.specs.Requests.{TellsRequests}
 use Rattle.laws_plan.proofs.MetLemmas.{HasMetAt}
 use Rattle.laws_plan.proofs.PlannedTo.{IsMemberAt, IsPlannedTo}
 use Rattle.laws_plan.proofs.SidesLemmas.{sides_of-none}
@@ -21,12 +21,12 @@ use Rattle.laws_replay.proofs.PlayedTo.{HasFailedSo, HasMet}
 use Rattle.laws_replay.specs.Turns.{rounds_of}
 use Rattle.lc_io.proofs.CountLemmas.{RoseBy-none}
 use Rattle.lc_model.specs.declared.query.Query.{Query}
-use Rattle.laws_replay.specs.Below.LcWorld.Link.{IsHonestWith, LinkSeen}
-use Rattle.laws_replay.specs.Below.PageClient.Client.{shown}
-use Rattle.laws_replay.specs.Below.PageClient.Shown.{Shown}
-use Rattle.laws_replay.specs.Below.PageClient.declared.want.Want.{Want}
-use Rattle.laws_replay.proofs.BelowLemmas.PublisherSpec.LaterLemmas.{later_itself}
-use Rattle.laws_replay.specs.Below.PublisherSpec.Side.{Side}
+use Rattle.lc_world.specs.Link.{IsHonestWith, LinkSeen}
+use Rattle.page_client.specs.Client.{shown}
+use Rattle.page_client.specs.Shown.{Shown}
+use Rattle.page_client.specs.declared.want.Want.{Want}
+use Rattle.publisher_spec.proofs.LaterLemmas.{later_itself}
+use Rattle.publisher_spec.specs.Side.{Side}
 
 no_less : (n : ℕ) → n ≤ n
 no_less n = omega arith

@@ -2,23 +2,23 @@
 use Rattle.std.proofs.Common.{◌≡◌, ◌∙◌, ◌+◌, ◌<◌, ℕ, zero, suc, List, [], Some, ap, arith, length, subst, sym}
 use Rattle.std.specs.List.{AllZip, slice_get}
 use Rattle.std.proofs.lemmas.Option.{slice_get_within}
-use Rattle.laws_replay.specs.Below.CliAsk.Laws.{AreOneEnd}
-use Rattle.laws_replay.specs.Below.CliAsk.declared.end.ClientEnd.{ClientEnd}
-use Rattle.laws_replay.specs.Below.ConnectionUri.Base.{BaseParts}
-use Rattle.laws_replay.proofs.BelowLemmas.CsaScan.ListPlacesLemmas.{item_within}
-use Rattle.laws_replay.specs.Below.LawsConvoys.Names.{Round}
+use Rattle.cli_ask.specs.Laws.{AreOneEnd}
+use Rattle.cli_ask.specs.declared.end.ClientEnd.{ClientEnd}
+use Rattle.connection_uri.specs.Base.{BaseParts}
+use Rattle.csa_scan.proofs.ListPlacesLemmas.{item_within}
+use Rattle.laws_convoys.specs.Names.{Round}
 use Rattle.laws_plan.specs.Planned.{ArePlanned}
 use Rattle.laws_replay.proofs.OneCourseLemmas.{all_are_clients, zip_places}
 use Rattle.laws_replay.proofs.OneRoundsLemmas.{MetTheSame, met_in_all, same_rounds}
 use Rattle.laws_replay.specs.Events.{TurnsAreOfClients, questions_in}
 use Rattle.laws_replay.specs.Turns.{asked_in, order_of, rounds_of}
 use Rattle.laws_replay.specs.declared.event.Event.{Event}
-use Rattle.laws_replay.specs.Below.LawsReplies.Laws.{SayTheSame}
-use Rattle.laws_replay.specs.Below.LawsReplies.Met.{Met}
+use Rattle.laws_replies.specs.Laws.{SayTheSame}
+use Rattle.laws_replies.specs.Met.{Met}
 use Rattle.lc_model.specs.declared.query.Query.{Query}
-use Rattle.laws_replay.specs.Below.LcWorld.Link.{LinkSeen}
-use Rattle.laws_replay.specs.Below.PublisherSpec.Side.{Side}
-use Rattle.laws_replay.specs.Below.JourneyText.Script.{IsClient}
+use Rattle.lc_world.specs.Link.{LinkSeen}
+use Rattle.publisher_spec.specs.Side.{Side}
+use Rattle.journey_text.specs.Script.{IsClient}
 
 -- the ends of one client in two plans, and what it received in its turns
 pub record EndAlike (d e : ClientEnd) (rs ts : List Round) : Type 0 where

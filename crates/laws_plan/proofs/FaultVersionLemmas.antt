@@ -4,26 +4,26 @@ use Rattle.std.specs.List.{filter}
 use Rattle.std.specs.Prelude.{map}
 use Rattle.std.proofs.lemmas.List.{map-append}
 use Rattle.std.proofs.lemmas.List.Elements.{filter-append}
-use Rattle.laws_replay.specs.Below.CliAsk.Client.{shown_of}
-use Rattle.laws_replay.specs.Below.CliAsk.declared.end.ClientEnd.{ClientEnd}
-use Rattle.laws_replay.specs.Below.ConnectionUri.Base.{BaseParts}
-use Rattle.laws_replay.specs.Below.LawsClients.Fits.{HasEnded, HasFailed}
-use Rattle.laws_replay.specs.Below.LawsConvoys.Names.{Round}
+use Rattle.cli_ask.specs.Client.{shown_of}
+use Rattle.cli_ask.specs.declared.end.ClientEnd.{ClientEnd}
+use Rattle.connection_uri.specs.Base.{BaseParts}
+use Rattle.laws_clients.specs.Fits.{HasEnded, HasFailed}
+use Rattle.laws_convoys.specs.Names.{Round}
 use Rattle.laws_plan.specs.Planned.{VersionFitsFault}
 use Rattle.laws_replay.proofs.FaultLemmas.{fails, fails_in, fails_of}
 use Rattle.laws_replay.specs.History.{AreMetIn, wants_of}
 use Rattle.laws_replay.specs.Right.{FailsWith}
 use Rattle.laws_replay.specs.Turns.{failed_in, given_in, rounds_of}
-use Rattle.laws_replay.specs.Below.LawsReplies.Course.{WantsAfter}
-use Rattle.laws_replay.specs.Below.LawsReplies.Ends.{EndsBy, IsCutOff}
-use Rattle.laws_replay.specs.Below.LawsReplies.Made.{Made, failure_of}
-use Rattle.laws_replay.specs.Below.LawsReplies.Met.{Met, is_by, met_by}
+use Rattle.laws_replies.specs.Course.{WantsAfter}
+use Rattle.laws_replies.specs.Ends.{EndsBy, IsCutOff}
+use Rattle.laws_replies.specs.Made.{Made, failure_of}
+use Rattle.laws_replies.specs.Met.{Met, is_by, met_by}
 use Rattle.lc_model.specs.declared.query.Query.{Query}
-use Rattle.laws_replay.specs.Below.PageClient.declared.outcome.Outcome.{Outcome}
-use Rattle.laws_replay.specs.Below.PageClient.declared.outcome.Outcome.TheVariants as outcomes
-use Rattle.laws_replay.specs.Below.PageClient.declared.want.Want.{Want}
-use Rattle.laws_replay.specs.Below.PageClient.declared.want.Want.TheVariants as wants
-use Rattle.laws_replay.specs.Below.PublisherSpec.Side.{Side}
+use Rattle.page_client.specs.declared.outcome.Outcome.{Outcome}
+use Rattle.page_client.specs.declared.outcome.Outcome.TheVariants as outcomes
+use Rattle.page_client.specs.declared.want.Want.{Want}
+use Rattle.page_client.specs.declared.want.Want.TheVariants as wants
+use Rattle.publisher_spec.specs.Side.{Side}
 
 -- an exchange that failed
 abbrev is_failure : Made → Bool

@@ -1,11 +1,11 @@
 -- Whose failure an exchange was that failed over an honest link.
 use Rattle.std.proofs.Common.{◌∙◌, ◌+◌, ℕ, List, ap}
-use Rattle.laws_replay.specs.Below.LawsConvoys.Names.{Round}
+use Rattle.laws_convoys.specs.Names.{Round}
 use Rattle.laws_plan.specs.Laws.{PlanFaultsAreOwn}
 use Rattle.laws_replay.proofs.FaultLemmas.{none_failed, one_failed, one_pair, only_fault}
 use Rattle.laws_replay.specs.Turns.{failed_in, given_in, order_of, rounds_of}
-use Rattle.laws_replay.specs.Below.LcWorld.Link.{LinkSeen}
-use Rattle.laws_replay.specs.Below.PageClient.declared.outcome.Outcome.TheVariants as outcomes
+use Rattle.lc_world.specs.Link.{LinkSeen}
+use Rattle.page_client.specs.declared.outcome.Outcome.TheVariants as outcomes
 
 pub plan_faults_are_own : {X : Type 0} (seen : X → LinkSeen) → PlanFaultsAreOwn seen
 plan_faults_are_own seen base first all cache start after ends caused planned place query end asks ended low high fell =

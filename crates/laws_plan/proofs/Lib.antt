@@ -1,6 +1,5 @@
 mod AloneLemmas
 mod AsksLemmas
-pub mod BelowLemmas
 mod EachAlikeLemmas
 mod FaultVersionLemmas
 mod FaultsLemmas

@@ -2,18 +2,18 @@
 use Rattle.std.proofs.Common.{◌≡◌, ◌∙◌, ◌⊎◌, ◌≤◌, ◌<◌, ℕ, inl, inr, List, [], ◌∷◌, ◌++◌, Option, Some, None, refl, ap, ap₂, sym, subst, append-nil, append_assoc}
 use Rattle.std.specs.Prelude.{IsSome}
 use Rattle.std.proofs.lemmas.List.Elements.{All-append, All-cons, All-nil}
-use Rattle.laws_replay.specs.Below.Convoy.declared.member.Member.{Member}
-use Rattle.laws_replay.specs.Below.LawsConvoys.Names.{Round}
-use Rattle.laws_replay.specs.Below.LawsConvoys.Rounds.{round_with}
+use Rattle.convoy.specs.declared.member.Member.{Member}
+use Rattle.laws_convoys.specs.Names.{Round}
+use Rattle.laws_convoys.specs.Rounds.{round_with}
 use Rattle.laws_replay.proofs.FailureLemmas.{fails_idle, fails_last}
 use Rattle.laws_replay.proofs.FinishesListLemmas.{ones_and_idle, ones_and_last}
 use Rattle.laws_replay.proofs.PlayedTo.{HasMet}
 use Rattle.laws_replay.proofs.TurnsClientLemmas.{CameOf, all_ones}
 use Rattle.laws_replay.specs.Turns.{EndByFailure, IsIdle, IsOne, TakeOneEach, failed_in}
-use Rattle.laws_replay.specs.Below.PageClient.Client.{shown}
-use Rattle.laws_replay.specs.Below.PageClient.declared.outcome.Outcome.{Outcome}
-use Rattle.laws_replay.specs.Below.PageClient.declared.want.Want.{Want}
-use Rattle.laws_replay.specs.Below.PublisherSpec.Side.{Side}
+use Rattle.page_client.specs.Client.{shown}
+use Rattle.page_client.specs.declared.outcome.Outcome.{Outcome}
+use Rattle.page_client.specs.declared.want.Want.{Want}
+use Rattle.publisher_spec.specs.Side.{Side}
 
 -- each client received one want a turn up to now
 abbrev pub HasMetAt : ℕ → List Round → Option Outcome → Type 0

@@ -1,29 +1,29 @@
 -- Near values are refused.
 use Rattle.std.proofs.Common.{◌≡◌, ◌∙◌, ◌<◌, ◌+◌, ℕ, List, [], ◌∷◌, ◌++◌, Option, Some, None, length, refl, ap, inl, inr, subst, sym, arith, length-append}
 use Rattle.std.specs.List.{filter}
-use Rattle.laws_replay.specs.Below.CliAsk.Client.{shown_of}
-use Rattle.laws_replay.specs.Below.CliAsk.declared.end.ClientEnd.{ClientEnd}
-use Rattle.laws_replay.specs.Below.LawsClients.Fits.{HasAnswered, HasEnded, IsDenied}
-use Rattle.laws_replay.specs.Below.LawsClients.Wants.{AreWants, IsItsVersion, IsNoFault}
-use Rattle.laws_replay.proofs.BelowLemmas.LawsClients.WantsLemmas.{one_list_of_wants}
-use Rattle.laws_replay.specs.Below.LawsConvoys.Names.{Round}
+use Rattle.cli_ask.specs.Client.{shown_of}
+use Rattle.cli_ask.specs.declared.end.ClientEnd.{ClientEnd}
+use Rattle.laws_clients.specs.Fits.{HasAnswered, HasEnded, IsDenied}
+use Rattle.laws_clients.specs.Wants.{AreWants, IsItsVersion, IsNoFault}
+use Rattle.laws_clients.proofs.WantsLemmas.{one_list_of_wants}
+use Rattle.laws_convoys.specs.Names.{Round}
 use Rattle.laws_plan.specs.Near.{NoVersionAtGate, NoneIsCountedTwice, NoneIsLost, NotAnothersVersion, NotNewer, NotOneMore, SomeVersionElse}
 use Rattle.laws_plan.specs.Planned.{EndsAt, VersionFitsFault}
 use Rattle.laws_plan.specs.Sides.{version_with}
 use Rattle.laws_replay.specs.Turns.{failed_in, given_in}
-use Rattle.laws_replay.specs.Below.LawsClients.Stated.{version_at}
+use Rattle.laws_clients.specs.Stated.{version_at}
 use Rattle.lc_model.specs.declared.answer.Answer.{Answer}
 use Rattle.lc_model.specs.declared.query.Query.{Query}
-use Rattle.laws_replay.specs.Below.LcVersions.History.{Entry, moments_of}
-use Rattle.laws_replay.specs.Below.LcVersions.Named.{is_by, last_of}
-use Rattle.laws_replay.specs.Below.PageClient.Shown.{Shown}
-use Rattle.laws_replay.specs.Below.PageClient.declared.fault.QueryFault.{QueryFault}
-use Rattle.laws_replay.specs.Below.PageClient.declared.fault.QueryFault.TheVariants.{HorizonRange, SameStop, UnknownFrom, UnknownTo}
-use Rattle.laws_replay.specs.Below.PageClient.declared.outcome.Outcome.{Outcome}
-use Rattle.laws_replay.specs.Below.PageClient.declared.outcome.Outcome.TheVariants as outcomes
-use Rattle.laws_replay.specs.Below.PageClient.declared.want.Want.{Want}
-use Rattle.laws_replay.specs.Below.PageClient.declared.want.Want.TheVariants as wants
-use Rattle.laws_replay.specs.Below.PublisherSpec.Side.{Side}
+use Rattle.lc_versions.specs.History.{Entry, moments_of}
+use Rattle.lc_versions.specs.Named.{is_by, last_of}
+use Rattle.page_client.specs.Shown.{Shown}
+use Rattle.page_client.specs.declared.fault.QueryFault.{QueryFault}
+use Rattle.page_client.specs.declared.fault.QueryFault.TheVariants.{HorizonRange, SameStop, UnknownFrom, UnknownTo}
+use Rattle.page_client.specs.declared.outcome.Outcome.{Outcome}
+use Rattle.page_client.specs.declared.outcome.Outcome.TheVariants as outcomes
+use Rattle.page_client.specs.declared.want.Want.{Want}
+use Rattle.page_client.specs.declared.want.Want.TheVariants as wants
+use Rattle.publisher_spec.specs.Side.{Side}
 
 -- the version after one turn that begins with the time gate's reply
 version_at_turn : (last side : Side) (query : Query) (round : Round) (more : List Want) (end : ClientEnd) → EndsAt last query (round ∷ []) (side ∷ []) end → round.given ≡ wants.Gate ∷ more →

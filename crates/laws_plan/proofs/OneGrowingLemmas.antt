@@ -1,18 +1,18 @@
 -- Two plans over links whose sides grow result in the same, where the time gates named the same versions.
 use Rattle.std.proofs.Common.{◌≡◌, ◌∙◌, ◌⊎◌, ◌+◌, ℕ, zero, suc, true, List, [], ◌∷◌, ◌++◌, Option, Some, None, ap, arith, inl, inr, length, refl, subst, sym}
 use Rattle.std.specs.List.{AllZip, slice_get}
-use Rattle.laws_replay.proofs.BelowLemmas.CliAsk.OneAnswerLemmas.{alike}
-use Rattle.laws_replay.specs.Below.CliAsk.Client.{shown_of}
-use Rattle.laws_replay.specs.Below.CliAsk.Laws.{AreOneEnd, IsNoLinkFault}
-use Rattle.laws_replay.specs.Below.CliAsk.declared.end.ClientEnd.{ClientEnd}
-use Rattle.laws_replay.specs.Below.ConnectionUri.Base.{BaseParts}
-use Rattle.laws_replay.specs.Below.LawsClients.Fits.{HasAnswered, HasEnded, IsDenied}
-use Rattle.laws_replay.specs.Below.LawsClients.Laws.{AnswersStay, NeededStays, OneArrivalAt, OneListOfNeededAt}
-use Rattle.laws_replay.specs.Below.LawsClients.Wants.{HasEnds}
+use Rattle.cli_ask.proofs.OneAnswerLemmas.{alike}
+use Rattle.cli_ask.specs.Client.{shown_of}
+use Rattle.cli_ask.specs.Laws.{AreOneEnd, IsNoLinkFault}
+use Rattle.cli_ask.specs.declared.end.ClientEnd.{ClientEnd}
+use Rattle.connection_uri.specs.Base.{BaseParts}
+use Rattle.laws_clients.specs.Fits.{HasAnswered, HasEnded, IsDenied}
+use Rattle.laws_clients.specs.Laws.{AnswersStay, NeededStays, OneArrivalAt, OneListOfNeededAt}
+use Rattle.laws_clients.specs.Wants.{HasEnds}
 use Rattle.lc_model.specs.Stop.{HasStop}
-use Rattle.laws_replay.proofs.BelowLemmas.LawsConvoys.AloneLemmas.{BeginsAtGate}
-use Rattle.laws_replay.specs.Below.LawsConvoys.Names.{Round}
-use Rattle.laws_replay.specs.Below.LawsConvoys.OneClient.{version_of}
+use Rattle.laws_convoys.proofs.AloneLemmas.{BeginsAtGate}
+use Rattle.laws_convoys.specs.Names.{Round}
+use Rattle.laws_convoys.specs.OneClient.{version_of}
 use Rattle.laws_plan.proofs.EachAlikeLemmas.{EndAlike, come_to_one}
 use Rattle.laws_plan.proofs.OnePlanLemmas.{gate_first}
 use Rattle.laws_plan.proofs.SidesLemmas.{as_many_sides}
@@ -24,22 +24,22 @@ use Rattle.laws_replay.proofs.OneRoundsLemmas.{as_many_rounds, met_the_same}
 use Rattle.laws_replay.specs.Events.{TurnsAreOfClients, questions_in}
 use Rattle.laws_replay.specs.Turns.{failed_in, given_in, order_of, rounds_of}
 use Rattle.laws_replay.specs.declared.event.Event.{Event}
-use Rattle.laws_replay.specs.Below.LawsReplies.Met.{Met}
-use Rattle.laws_replay.specs.Below.LawsClients.Stated.{version_at}
+use Rattle.laws_replies.specs.Met.{Met}
+use Rattle.laws_clients.specs.Stated.{version_at}
 use Rattle.lc_model.specs.declared.answer.Answer.{Answer}
 use Rattle.lc_model.specs.declared.answer.Answer.TheVariants as answers
 use Rattle.lc_model.specs.declared.doc.StopsDoc.{StopsDoc}
 use Rattle.lc_model.specs.declared.query.Query.{Query}
-use Rattle.laws_replay.specs.Below.LcWorld.Link.{LinkSeen}
-use Rattle.laws_replay.specs.Below.PageClient.Shown.{Shown}
-use Rattle.laws_replay.specs.Below.PageClient.declared.fault.QueryFault.{QueryFault}
-use Rattle.laws_replay.specs.Below.PageClient.declared.fault.QueryFault.TheVariants.{HorizonRange, SameStop, UnknownFrom, UnknownTo}
-use Rattle.laws_replay.specs.Below.PageClient.declared.outcome.Outcome.{Outcome}
-use Rattle.laws_replay.specs.Below.PageClient.declared.outcome.Outcome.TheVariants as outcomes
-use Rattle.laws_replay.specs.Below.PageClient.declared.want.Want.{Want}
-use Rattle.laws_replay.specs.Below.PageClient.declared.want.Want.TheVariants as wants
-use Rattle.laws_replay.proofs.BelowLemmas.PublisherSpec.VersionLemmas.{still_found}
-use Rattle.laws_replay.specs.Below.PublisherSpec.Side.{IsLater, IsValidSide, Side, has_version}
+use Rattle.lc_world.specs.Link.{LinkSeen}
+use Rattle.page_client.specs.Shown.{Shown}
+use Rattle.page_client.specs.declared.fault.QueryFault.{QueryFault}
+use Rattle.page_client.specs.declared.fault.QueryFault.TheVariants.{HorizonRange, SameStop, UnknownFrom, UnknownTo}
+use Rattle.page_client.specs.declared.outcome.Outcome.{Outcome}
+use Rattle.page_client.specs.declared.outcome.Outcome.TheVariants as outcomes
+use Rattle.page_client.specs.declared.want.Want.{Want}
+use Rattle.page_client.specs.declared.want.Want.TheVariants as wants
+use Rattle.publisher_spec.proofs.VersionLemmas.{still_found}
+use Rattle.publisher_spec.specs.Side.{IsLater, IsValidSide, Side, has_version}
 
 -- how a client ended by a side is how it ended by a later one
 module _ (answers_stay : AnswersStay) (needed_stays : NeededStays) (before after : Side) (valid : IsValidSide after) (later : IsLater before after) where

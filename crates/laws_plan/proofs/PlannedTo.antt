@@ -1,23 +1,23 @@
 -- How far clients planned rightly: what holds after the turns that are done.
 use Rattle.std.proofs.Common.{◌≡◌, ℕ, ◌+◌, List, [], Option, Some, None, length}
 use Rattle.std.specs.List.{All, slice_get}
-use Rattle.laws_replay.specs.Below.ConnectionUri.Base.{BaseParts}
-use Rattle.laws_replay.specs.Below.Convoy.State.{ConvoyState}
-use Rattle.laws_replay.specs.Below.Convoy.declared.member.Member.{Member}
-use Rattle.laws_replay.specs.Below.LawsConvoys.Agreement.{FitsConvoy}
-use Rattle.laws_replay.specs.Below.LawsConvoys.Leaves.{LeavesHonest}
-use Rattle.laws_replay.specs.Below.LawsConvoys.Names.{AskByNames, Round, failures_in, names_behind, names_of}
-use Rattle.laws_replay.specs.Below.LawsConvoys.Requests.{TellsRequests}
+use Rattle.connection_uri.specs.Base.{BaseParts}
+use Rattle.convoy.specs.State.{ConvoyState}
+use Rattle.convoy.specs.declared.member.Member.{Member}
+use Rattle.laws_convoys.specs.Agreement.{FitsConvoy}
+use Rattle.laws_convoys.specs.Leaves.{LeavesHonest}
+use Rattle.laws_convoys.specs.Names.{AskByNames, Round, failures_in, names_behind, names_of}
+use Rattle.laws_convoys.specs.Requests.{TellsRequests}
 use Rattle.laws_plan.specs.Sides.{AreLater, sides_of, version_after}
 use Rattle.laws_replay.proofs.PlayedTo.{HasFailedSo}
 use Rattle.laws_replay.specs.Turns.{asked_in, failed_in, given_in, requests_in, rounds_of}
 use Rattle.lc_io.specs.Counts.{RoseBy}
 use Rattle.lc_model.specs.declared.query.Query.{Query}
-use Rattle.laws_replay.specs.Below.LcWorld.Link.{LinkSeen}
-use Rattle.laws_replay.specs.Below.PageClient.Client.{shown}
-use Rattle.laws_replay.specs.Below.PageClient.declared.outcome.Outcome.{Outcome}
-use Rattle.laws_replay.specs.Below.PageClient.declared.want.Want.{Want}
-use Rattle.laws_replay.specs.Below.PublisherSpec.Side.{Side}
+use Rattle.lc_world.specs.Link.{LinkSeen}
+use Rattle.page_client.specs.Client.{shown}
+use Rattle.page_client.specs.declared.outcome.Outcome.{Outcome}
+use Rattle.page_client.specs.declared.want.Want.{Want}
+use Rattle.publisher_spec.specs.Side.{Side}
 
 -- The client of the question, after these turns of its own, at these sides. `Turns` is what is said of its turns and its outcome.
 pub record IsMemberAt (Turns : List Round → Option Outcome → Type 0) (side : Side) (query : Query) (member : Member) (own : List Want) (rounds : List Round) (sides : List Side) : Type 0 where

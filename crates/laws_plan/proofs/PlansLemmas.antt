@@ -3,18 +3,18 @@ use Rattle.std.proofs.Common.{◌≡◌, ◌∙◌, ◌+◌, ◌<◌, ◌≤◌,
 use Rattle.std.specs.List.{slice_get}
 use Rattle.std.proofs.lemmas.List.Elements.{All-head, All-tail}
 use Rattle.std.proofs.lemmas.Option.{slice_get_within}
-use Rattle.laws_replay.proofs.BelowLemmas.CliAsk.ClientLemmas.{at_end, same_end}
-use Rattle.laws_replay.specs.Below.CliAsk.Client.{shown_of}
-use Rattle.laws_replay.specs.Below.CliAsk.declared.end.ClientEnd.{ClientEnd}
-use Rattle.laws_replay.specs.Below.ConnectionUri.Base.{BaseParts}
-use Rattle.laws_replay.specs.Below.Convoy.State.{ConvoyState, begun}
-use Rattle.laws_replay.specs.Below.Convoy.declared.member.Member.{Member}
-use Rattle.laws_replay.specs.Below.LawsClients.Fits.{FitsSide, HasEnded}
-use Rattle.laws_replay.specs.Below.LawsClients.Laws.{WantsStay}
-use Rattle.laws_replay.proofs.BelowLemmas.LawsConvoys.PlaceLemmas.{at_place}
-use Rattle.laws_replay.specs.Below.LawsConvoys.Laws.{AddedAgrees, EndKeepsAgreement, NoneAgrees, TurnKeepsAgreement}
-use Rattle.laws_replay.specs.Below.LawsConvoys.Names.{Round}
-use Rattle.laws_replay.specs.Below.LawsConvoys.Rounds.{round_at}
+use Rattle.cli_ask.proofs.ClientLemmas.{at_end, same_end}
+use Rattle.cli_ask.specs.Client.{shown_of}
+use Rattle.cli_ask.specs.declared.end.ClientEnd.{ClientEnd}
+use Rattle.connection_uri.specs.Base.{BaseParts}
+use Rattle.convoy.specs.State.{ConvoyState, begun}
+use Rattle.convoy.specs.declared.member.Member.{Member}
+use Rattle.laws_clients.specs.Fits.{FitsSide, HasEnded}
+use Rattle.laws_clients.specs.Laws.{WantsStay}
+use Rattle.laws_convoys.proofs.PlaceLemmas.{at_place}
+use Rattle.laws_convoys.specs.Laws.{AddedAgrees, EndKeepsAgreement, NoneAgrees, TurnKeepsAgreement}
+use Rattle.laws_convoys.specs.Names.{Round}
+use Rattle.laws_convoys.specs.Rounds.{round_at}
 use Rattle.laws_plan.proofs.AsksLemmas.{asks, begins}
 use Rattle.laws_plan.proofs.FaultVersionLemmas.{lacks_version}
 use Rattle.laws_plan.proofs.MetLemmas.{HasFinished, HasMetAt, HaveFinished}
@@ -37,10 +37,10 @@ use Rattle.laws_replay.specs.declared.event.Event.{Event}
 use Rattle.laws_replay.specs.declared.event.Event.TheVariants as events
 use Rattle.laws_replay.proofs.PlayedTo.{HasFailedSo}
 use Rattle.lc_model.specs.declared.query.Query.{Query}
-use Rattle.laws_replay.specs.Below.LcWorld.Link.{LinkSeen}
-use Rattle.laws_replay.specs.Below.PageClient.Client.{shown}
-use Rattle.laws_replay.specs.Below.PageClient.declared.want.Want.{Want}
-use Rattle.laws_replay.specs.Below.PublisherSpec.Side.{Side}
+use Rattle.lc_world.specs.Link.{LinkSeen}
+use Rattle.page_client.specs.Client.{shown}
+use Rattle.page_client.specs.declared.want.Want.{Want}
+use Rattle.publisher_spec.specs.Side.{Side}
 
 module _ {X : Type 0} (seen : X → LinkSeen) (added : AddedAgrees) (wants_stay : WantsStay) (keeps : TurnKeepsAgreement seen) (base : BaseParts) (first : Side) (cache : ℕ) (start : LinkSeen) where
   -- the events that are left happen

@@ -2,28 +2,28 @@
 use Rattle.std.proofs.Common.{◌≡◌, ◌∙◌, ℕ, zero, suc, inl, inr, List, [], ◌∷◌, ◌++◌, length, refl, ap, sym, subst}
 use Rattle.std.specs.Option.{option_map}
 use Rattle.std.proofs.lemmas.List.Elements.{All-head, All-tail}
-use Rattle.laws_replay.specs.Below.ConnectionUri.Base.{BaseParts}
-use Rattle.laws_replay.specs.Below.Convoy.Exchange.{Got, IsExchange, bytes_of, result_of}
-use Rattle.laws_replay.specs.Below.Convoy.Finish.{IsStep, Rounds, Step, TurnsOf}
-use Rattle.laws_replay.specs.Below.Convoy.State.{ConvoyState, begun}
-use Rattle.laws_replay.specs.Below.Convoy.Turn.{Asks, Turned}
-use Rattle.laws_replay.specs.Below.Convoy.declared.turn.Turn.{Turn}
-use Rattle.laws_replay.specs.Below.Convoy.declared.turn.Turn.TheVariants.{Cached, Exchanged, Finished}
-use Rattle.laws_replay.proofs.BelowLemmas.LawsConvoys.HonestLemmas.{is_get}
-use Rattle.laws_replay.proofs.BelowLemmas.LawsConvoys.RepliesLemmas.{one_more, recorded_no_more, recorded_then, replied_by}
+use Rattle.connection_uri.specs.Base.{BaseParts}
+use Rattle.convoy.specs.Exchange.{Got, IsExchange, bytes_of, result_of}
+use Rattle.convoy.specs.Finish.{IsStep, Rounds, Step, TurnsOf}
+use Rattle.convoy.specs.State.{ConvoyState, begun}
+use Rattle.convoy.specs.Turn.{Asks, Turned}
+use Rattle.convoy.specs.declared.turn.Turn.{Turn}
+use Rattle.convoy.specs.declared.turn.Turn.TheVariants.{Cached, Exchanged, Finished}
+use Rattle.laws_convoys.proofs.HonestLemmas.{is_get}
+use Rattle.laws_convoys.proofs.RepliesLemmas.{one_more, recorded_no_more, recorded_then, replied_by}
 use Rattle.laws_plan.specs.Laws.{PlanRecordsReplies}
 use Rattle.laws_plan.specs.Planned.{IsNoMessage, NoneIsMessage}
 use Rattle.laws_plan.specs.Replied.{AreRepliedAlong}
 use Rattle.laws_replay.specs.Played.{Plays}
 use Rattle.laws_replay.specs.declared.event.Event.{Event}
 use Rattle.laws_replay.specs.declared.event.Event.TheVariants as events
-use Rattle.laws_replay.specs.Below.LcWorld.Link.{Exchanges, IsHonestWith, LinkSeen, TellsMore}
-use Rattle.laws_replay.specs.Below.LcWorld.declared.entry.Entry.{Entry}
-use Rattle.laws_replay.specs.Below.PageClient.Client.{shown}
-use Rattle.laws_replay.specs.Below.PageClient.Shown.{Shown}
-use Rattle.laws_replay.specs.Below.PageClient.declared.client.Client.{Client}
-use Rattle.laws_replay.proofs.BelowLemmas.PublisherSpec.LaterLemmas.{later_itself, later_on}
-use Rattle.laws_replay.specs.Below.PublisherSpec.Side.{IsLater, Side}
+use Rattle.lc_world.specs.Link.{Exchanges, IsHonestWith, LinkSeen, TellsMore}
+use Rattle.lc_world.specs.declared.entry.Entry.{Entry}
+use Rattle.page_client.specs.Client.{shown}
+use Rattle.page_client.specs.Shown.{Shown}
+use Rattle.page_client.specs.declared.client.Client.{Client}
+use Rattle.publisher_spec.proofs.LaterLemmas.{later_itself, later_on}
+use Rattle.publisher_spec.specs.Side.{IsLater, Side}
 
 -- replies from an earlier side on
 from_earlier : (first side : Side) (entries : List Entry) (last : Side) → IsLater first side → AreRepliedAlong side entries last → AreRepliedAlong first entries last

@@ -2,16 +2,16 @@
 use Rattle.std.proofs.Common.{◌≡◌, ◌∙◌, ◌==◌, ℕ, suc, Bool, true, false, List, [], ◌∷◌, ◌++◌, Option, length, refl, ap, sym, arith, append-nil, eq-eqb}
 use Rattle.std.specs.Prelude.{if◌then◌else◌}
 use Rattle.std.proofs.lemmas.Bool.{false≢true, ne_eqb}
-use Rattle.laws_replay.specs.Below.LawsConvoys.Leaves.{IsNamedBetween, VersionAfter}
-use Rattle.laws_replay.specs.Below.LawsConvoys.Names.{Round}
+use Rattle.laws_convoys.specs.Leaves.{IsNamedBetween, VersionAfter}
+use Rattle.laws_convoys.specs.Names.{Round}
 use Rattle.laws_plan.specs.Sides.{AreLater, sides_of, version_after, version_with}
 use Rattle.laws_replay.proofs.EventLemmas.{has_turn}
 use Rattle.laws_replay.specs.Turns.{rounds_of}
-use Rattle.laws_replay.specs.Below.PageClient.Shown.{Shown}
-use Rattle.laws_replay.specs.Below.PageClient.declared.want.Want.{Want}
-use Rattle.laws_replay.specs.Below.PageClient.declared.want.Want.TheVariants as wants
-use Rattle.laws_replay.proofs.BelowLemmas.PublisherSpec.LaterLemmas.{later_itself, later_on}
-use Rattle.laws_replay.specs.Below.PublisherSpec.Side.{IsLater, Side}
+use Rattle.page_client.specs.Shown.{Shown}
+use Rattle.page_client.specs.declared.want.Want.{Want}
+use Rattle.page_client.specs.declared.want.Want.TheVariants as wants
+use Rattle.publisher_spec.proofs.LaterLemmas.{later_itself, later_on}
+use Rattle.publisher_spec.specs.Side.{IsLater, Side}
 
 -- one side more
 pub later_more : (first : Side) (sides : List Side) (last side left : Side) → AreLater first sides last → IsLater last side → IsLater side left → AreLater first (sides ++ side ∷ []) left

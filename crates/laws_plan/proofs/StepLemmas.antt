@@ -5,20 +5,20 @@ use Rattle.std.specs.List.{slice_get}
 use Rattle.std.proofs.lemmas.List.{length-set}
 use Rattle.std.proofs.lemmas.List.Elements.{All-push}
 use Rattle.std.proofs.lemmas.Option.{slice_get_within}
-use Rattle.laws_replay.specs.Below.ConnectionUri.Base.{BaseParts}
-use Rattle.laws_replay.specs.Below.Convoy.Finish.{HasOutcome}
-use Rattle.laws_replay.specs.Below.Convoy.State.{ConvoyState}
-use Rattle.laws_replay.specs.Below.Convoy.declared.member.Member.{Member}
-use Rattle.laws_replay.proofs.BelowLemmas.CsaScan.ListPlacesLemmas.{item_within, same_place, slice_get-set_other, slice_get-set_same}
-use Rattle.laws_replay.specs.Below.LawsClients.Fits.{IsOfSide}
-use Rattle.laws_replay.specs.Below.LawsClients.Laws.{WantsStay}
-use Rattle.laws_replay.specs.Below.LawsClients.Wants.{AreWants}
-use Rattle.laws_replay.proofs.BelowLemmas.LawsConvoys.AloneLemmas.{between_itself}
-use Rattle.laws_replay.proofs.BelowLemmas.LawsConvoys.NamedLemmas.{kept_version}
-use Rattle.laws_replay.specs.Below.LawsConvoys.Leaves.{HasMoved, LeavesHonest, NoneFailed, OneFailed, AgreesAfterTurnsOf}
-use Rattle.laws_replay.specs.Below.LawsConvoys.Names.{Round, asked_of, failures_in, names_after, names_behind, names_of}
-use Rattle.laws_replay.specs.Below.LawsConvoys.Requests.{TellsAsked, TellsRequests, request_of}
-use Rattle.laws_replay.specs.Below.LawsConvoys.Rounds.{round_with}
+use Rattle.connection_uri.specs.Base.{BaseParts}
+use Rattle.convoy.specs.Finish.{HasOutcome}
+use Rattle.convoy.specs.State.{ConvoyState}
+use Rattle.convoy.specs.declared.member.Member.{Member}
+use Rattle.csa_scan.proofs.ListPlacesLemmas.{item_within, same_place, slice_get-set_other, slice_get-set_same}
+use Rattle.laws_clients.specs.Fits.{IsOfSide}
+use Rattle.laws_clients.specs.Laws.{WantsStay}
+use Rattle.laws_clients.specs.Wants.{AreWants}
+use Rattle.laws_convoys.proofs.AloneLemmas.{between_itself}
+use Rattle.laws_convoys.proofs.NamedLemmas.{kept_version}
+use Rattle.laws_convoys.specs.Leaves.{HasMoved, LeavesHonest, NoneFailed, OneFailed, AgreesAfterTurnsOf}
+use Rattle.laws_convoys.specs.Names.{Round, asked_of, failures_in, names_after, names_behind, names_of}
+use Rattle.laws_convoys.specs.Requests.{TellsAsked, TellsRequests, request_of}
+use Rattle.laws_convoys.specs.Rounds.{round_with}
 use Rattle.laws_plan.proofs.PlannedTo.{IsMemberAt, IsPlannedTo}
 use Rattle.laws_plan.proofs.SidesLemmas.{IsSideOfTurn, as_many_sides, later_more, side_of_turn, sides_of-other, sides_of-own, version_after-more}
 use Rattle.laws_plan.specs.Sides.{sides_of, version_after, version_with}
@@ -32,16 +32,16 @@ use Rattle.lc_io.proofs.CountLemmas.{RoseBy-none, RoseBy-then}
 use Rattle.lc_io.specs.Counts.{Rose, RoseBy}
 use Rattle.lc_model.specs.declared.page.PageName.{PageName}
 use Rattle.lc_model.specs.declared.query.Query.{Query}
-use Rattle.laws_replay.specs.Below.LcWorld.Link.{LinkSeen}
-use Rattle.laws_replay.specs.Below.PageClient.Client.{shown}
-use Rattle.laws_replay.specs.Below.PageClient.Shown.{Shown}
-use Rattle.laws_replay.specs.Below.PageClient.declared.outcome.Outcome.{Outcome}
-use Rattle.laws_replay.specs.Below.PageClient.declared.outcome.Outcome.TheVariants as outcomes
-use Rattle.laws_replay.specs.Below.PageClient.declared.want.Want.{Want}
-use Rattle.laws_replay.specs.Below.PageClient.declared.want.Want.TheVariants as wants
-use Rattle.laws_replay.proofs.BelowLemmas.PublisherSpec.LaterLemmas.{later_on}
-use Rattle.laws_replay.specs.Below.PublisherSpec.Side.{IsLater, Side}
-use Rattle.laws_replay.specs.Below.JourneyText.Script.{IsClient}
+use Rattle.lc_world.specs.Link.{LinkSeen}
+use Rattle.page_client.specs.Client.{shown}
+use Rattle.page_client.specs.Shown.{Shown}
+use Rattle.page_client.specs.declared.outcome.Outcome.{Outcome}
+use Rattle.page_client.specs.declared.outcome.Outcome.TheVariants as outcomes
+use Rattle.page_client.specs.declared.want.Want.{Want}
+use Rattle.page_client.specs.declared.want.Want.TheVariants as wants
+use Rattle.publisher_spec.proofs.LaterLemmas.{later_on}
+use Rattle.publisher_spec.specs.Side.{IsLater, Side}
+use Rattle.journey_text.specs.Script.{IsClient}
 
 -- a link that was left so, and then so
 pub leaves_then : (base : BaseParts) (side mid left : Side) (a b c : LinkSeen) → LeavesHonest base side mid a b → LeavesHonest base mid left b c → LeavesHonest base side left a c

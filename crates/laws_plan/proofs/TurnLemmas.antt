@@ -1,18 +1,18 @@
 -- A client has its turn, and, when the events are over, is turned until it ends.
 use Rattle.std.proofs.Common.{◌≡◌, ◌⊎◌, ◌-◌, ◌<◌, ◌≤◌, ℕ, zero, suc, inl, inr, List, [], ◌∷◌, ◌++◌, Option, Some, None, length, ap₂, sym, subst, arith, append-nil, append_assoc}
 use Rattle.std.specs.Prelude.{IsSome}
-use Rattle.laws_replay.specs.Below.ConnectionUri.Base.{BaseParts}
-use Rattle.laws_replay.specs.Below.Convoy.Finish.{Ends, HasOutcome, IsStep, Rounds}
-use Rattle.laws_replay.specs.Below.Convoy.State.{ConvoyState}
-use Rattle.laws_replay.specs.Below.Convoy.declared.turn.Turn.{Turn}
-use Rattle.laws_replay.proofs.BelowLemmas.LawsClients.FitsLemmas.{fits_stays}
-use Rattle.laws_replay.specs.Below.LawsClients.Fits.{FitsSide}
-use Rattle.laws_replay.specs.Below.LawsClients.Laws.{WantsStay}
-use Rattle.laws_replay.proofs.BelowLemmas.LawsConvoys.TurnLemmas.{honest_still}
-use Rattle.laws_replay.specs.Below.LawsConvoys.Laws.{EndKeepsAgreement, TurnKeepsAgreement}
-use Rattle.laws_replay.specs.Below.LawsConvoys.Leaves.{AgreesAfterOutcome, NoneFailed, OneFailed, AgreesAfterTurn}
-use Rattle.laws_replay.specs.Below.LawsConvoys.Names.{Round}
-use Rattle.laws_replay.specs.Below.LawsConvoys.Rounds.{round_at, round_in, rounds_up_to}
+use Rattle.connection_uri.specs.Base.{BaseParts}
+use Rattle.convoy.specs.Finish.{Ends, HasOutcome, IsStep, Rounds}
+use Rattle.convoy.specs.State.{ConvoyState}
+use Rattle.convoy.specs.declared.turn.Turn.{Turn}
+use Rattle.laws_clients.proofs.FitsLemmas.{fits_stays}
+use Rattle.laws_clients.specs.Fits.{FitsSide}
+use Rattle.laws_clients.specs.Laws.{WantsStay}
+use Rattle.laws_convoys.proofs.TurnLemmas.{honest_still}
+use Rattle.laws_convoys.specs.Laws.{EndKeepsAgreement, TurnKeepsAgreement}
+use Rattle.laws_convoys.specs.Leaves.{AgreesAfterOutcome, NoneFailed, OneFailed, AgreesAfterTurn}
+use Rattle.laws_convoys.specs.Names.{Round}
+use Rattle.laws_convoys.specs.Rounds.{round_at, round_in, rounds_up_to}
 use Rattle.laws_plan.proofs.MetLemmas.{HasMetAt, HaveFinished, finished, met_more}
 use Rattle.laws_plan.proofs.PlannedTo.{IsPlannedTo}
 use Rattle.laws_plan.proofs.StepLemmas.{HasStepped, one_step}
@@ -20,12 +20,12 @@ use Rattle.laws_replay.proofs.TurnsClientLemmas.{came_of, none_in_vain}
 use Rattle.laws_replay.proofs.TurnsLemmas.{fits_at}
 use Rattle.laws_replay.specs.Turns.{counted, failed_in}
 use Rattle.lc_model.specs.declared.query.Query.{Query}
-use Rattle.laws_replay.specs.Below.LcWorld.Link.{LinkSeen}
-use Rattle.laws_replay.specs.Below.PageClient.Client.{shown}
-use Rattle.laws_replay.specs.Below.PageClient.declared.outcome.Outcome.{Outcome}
-use Rattle.laws_replay.specs.Below.PageClient.declared.want.Want.{Want}
-use Rattle.laws_replay.specs.Below.PublisherSpec.Side.{Side}
-use Rattle.laws_replay.specs.Below.JourneyText.Script.{IsClient}
+use Rattle.lc_world.specs.Link.{LinkSeen}
+use Rattle.page_client.specs.Client.{shown}
+use Rattle.page_client.specs.declared.outcome.Outcome.{Outcome}
+use Rattle.page_client.specs.declared.want.Want.{Want}
+use Rattle.publisher_spec.specs.Side.{Side}
+use Rattle.journey_text.specs.Script.{IsClient}
 
 -- said in other words of the turns
 pub said_so : (Turns Next : ℕ → List Round → Option Outcome → Type 0) (base : BaseParts) (first : Side) (cache : ℕ) (questions : List Query) (order : List ℕ) (convoy : ConvoyState) (start now : LinkSeen)

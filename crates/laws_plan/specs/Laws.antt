@@ -1,10 +1,10 @@
 -- That clients which plan over an honest link end rightly, also where its side grows. X is the type of the link, and `seen` what is promised of it.
 use Rattle.std.specs.Prelude.{◌≡◌, ℕ, ◌+◌, List, [], ◌∷◌, Some, length, slice_get}
-use Rattle.laws_replay.specs.Below.CliAsk.Client.{Asks}
-use Rattle.laws_replay.specs.Below.CliAsk.declared.end.ClientEnd.{ClientEnd}
-use Rattle.laws_replay.specs.Below.ConnectionUri.Base.{BaseParts}
-use Rattle.laws_replay.specs.Below.Convoy.Finish.{Rounds}
-use Rattle.laws_replay.specs.Below.Convoy.State.{ConvoyState, begun}
+use Rattle.cli_ask.specs.Client.{Asks}
+use Rattle.cli_ask.specs.declared.end.ClientEnd.{ClientEnd}
+use Rattle.connection_uri.specs.Base.{BaseParts}
+use Rattle.convoy.specs.Finish.{Rounds}
+use Rattle.convoy.specs.State.{ConvoyState, begun}
 use Rattle.laws_plan.specs.Planned.{ArePlanned, IsPlanned, NoneIsMessage}
 use Rattle.laws_plan.specs.Replied.{TellsAlong}
 use Rattle.laws_replay.specs.Caused.{AreCaused}
@@ -14,11 +14,11 @@ use Rattle.laws_replay.specs.Played.{HaveEndedSo, Plays}
 use Rattle.laws_replay.specs.Rounds.{all_rounds}
 use Rattle.laws_replay.specs.Turns.{order_of}
 use Rattle.laws_replay.specs.declared.event.Event.{Event}
-use Rattle.laws_replay.specs.Below.LawsReplies.Met.{HasFailedBetween}
+use Rattle.laws_replies.specs.Met.{HasFailedBetween}
 use Rattle.lc_model.specs.declared.query.Query.{Query}
-use Rattle.laws_replay.specs.Below.LcWorld.Link.{IsHonestWith, LinkSeen}
-use Rattle.laws_replay.specs.Below.PageClient.declared.outcome.Outcome.TheVariants.{LinkFault}
-use Rattle.laws_replay.specs.Below.PublisherSpec.Side.{Side}
+use Rattle.lc_world.specs.Link.{IsHonestWith, LinkSeen}
+use Rattle.page_client.specs.declared.outcome.Outcome.TheVariants.{LinkFault}
+use Rattle.publisher_spec.specs.Side.{Side}
 
 -- where the events happened over an honest link, and each client was turned until it ended, each of them ended rightly by what it received
 abbrev pub PlansRight : {X : Type 0} → (X → LinkSeen) → Type 0

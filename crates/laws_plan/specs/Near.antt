@@ -1,18 +1,18 @@
 -- Near values that the definitions of a plan refuse: wrong versions, wrong sides and wrong counts.
 use Rattle.std.specs.Prelude.{◌≡◌, ◌<◌, ℕ, ◌+◌, List, [], ◌∷◌, ◌++◌, Some, None, length}
-use Rattle.laws_replay.specs.Below.CliAsk.declared.end.ClientEnd.{ClientEnd}
-use Rattle.laws_replay.specs.Below.LawsClients.Wants.{IsNoFault}
-use Rattle.laws_replay.specs.Below.LawsConvoys.Names.{Round}
+use Rattle.cli_ask.specs.declared.end.ClientEnd.{ClientEnd}
+use Rattle.laws_clients.specs.Wants.{IsNoFault}
+use Rattle.laws_convoys.specs.Names.{Round}
 use Rattle.laws_plan.specs.Planned.{EndsAt}
 use Rattle.laws_plan.specs.Sides.{AreLater, sides_of}
 use Rattle.laws_replay.specs.Turns.{asked_in, failed_in, given_in}
-use Rattle.laws_replay.specs.Below.LawsClients.Stated.{version_at}
+use Rattle.laws_clients.specs.Stated.{version_at}
 use Rattle.lc_model.specs.declared.query.Query.{Query}
-use Rattle.laws_replay.specs.Below.LcVersions.declared.update.Update.{Update}
-use Rattle.laws_replay.specs.Below.PageClient.declared.outcome.Outcome.TheVariants.{LinkFault}
-use Rattle.laws_replay.specs.Below.PageClient.declared.want.Want.{Want}
-use Rattle.laws_replay.specs.Below.PageClient.declared.want.Want.TheVariants as wants
-use Rattle.laws_replay.specs.Below.PublisherSpec.Side.{Side, newest_of, with_message}
+use Rattle.lc_versions.specs.declared.update.Update.{Update}
+use Rattle.page_client.specs.declared.outcome.Outcome.TheVariants.{LinkFault}
+use Rattle.page_client.specs.declared.want.Want.{Want}
+use Rattle.page_client.specs.declared.want.Want.TheVariants as wants
+use Rattle.publisher_spec.specs.Side.{Side, newest_of, with_message}
 
 -- A client that received the time gate's reply does not have the version that the side of another client's reply names.
 abbrev pub NotAnothersVersion : Type 0

@@ -1,15 +1,15 @@
 -- That plans over quiet links with one side result in the same, where no exchange failed.
 use Rattle.std.specs.Prelude.{◌≡◌, ℕ, List, length}
 use Rattle.std.specs.List.{All, AllZip}
-use Rattle.laws_replay.specs.Below.CliAsk.Laws.{AreOneEnd, IsNoLinkFault}
-use Rattle.laws_replay.specs.Below.CliAsk.declared.end.ClientEnd.{ClientEnd}
-use Rattle.laws_replay.specs.Below.ConnectionUri.Base.{BaseParts}
+use Rattle.cli_ask.specs.Laws.{AreOneEnd, IsNoLinkFault}
+use Rattle.cli_ask.specs.declared.end.ClientEnd.{ClientEnd}
+use Rattle.connection_uri.specs.Base.{BaseParts}
 use Rattle.laws_plan.specs.Planned.{ArePlanned}
 use Rattle.laws_replay.specs.Events.{TurnsAreOfClients, questions_in}
 use Rattle.laws_replay.specs.declared.event.Event.{Event}
-use Rattle.laws_replay.specs.Below.LawsReplies.Met.{Met}
-use Rattle.laws_replay.specs.Below.LcWorld.Link.{LinkSeen}
-use Rattle.laws_replay.specs.Below.PublisherSpec.Side.{Side}
+use Rattle.laws_replies.specs.Met.{Met}
+use Rattle.lc_world.specs.Link.{LinkSeen}
+use Rattle.publisher_spec.specs.Side.{Side}
 
 -- The link was quiet with this side, and each question has an end, which is no fault of the link.
 pub record IsQuietPlan (base : BaseParts) (side : Side) (all : List Event) (cache : ℕ) (before after : LinkSeen) (ends : List ClientEnd) (met : List Met) : Type 0 where

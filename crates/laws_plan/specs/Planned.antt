@@ -1,13 +1,13 @@
 -- Clients that plan over one link, whose side may grow between their exchanges: how each of them ends, and what is printed.
 use Rattle.std.specs.Prelude.{◌≡◌, ◌↔◌, ◌≤◌, ℕ, ◌+◌, List, [], ◌∷◌, Option, Some, None, length, slice_get}
 use Rattle.std.specs.List.{All}
-use Rattle.laws_replay.specs.Below.CliAsk.Client.{shown_of}
-use Rattle.laws_replay.specs.Below.CliAsk.declared.end.ClientEnd.{ClientEnd}
-use Rattle.laws_replay.specs.Below.ConnectionUri.Base.{BaseParts}
-use Rattle.laws_replay.specs.Below.LawsClients.Fits.{HasEnded}
-use Rattle.laws_replay.specs.Below.LawsConvoys.Leaves.{LeavesHonest}
-use Rattle.laws_replay.specs.Below.LawsConvoys.Names.{AskByNames, Round, failures_in}
-use Rattle.laws_replay.specs.Below.LawsConvoys.Requests.{TellsRequests}
+use Rattle.cli_ask.specs.Client.{shown_of}
+use Rattle.cli_ask.specs.declared.end.ClientEnd.{ClientEnd}
+use Rattle.connection_uri.specs.Base.{BaseParts}
+use Rattle.laws_clients.specs.Fits.{HasEnded}
+use Rattle.laws_convoys.specs.Leaves.{LeavesHonest}
+use Rattle.laws_convoys.specs.Names.{AskByNames, Round, failures_in}
+use Rattle.laws_convoys.specs.Requests.{TellsRequests}
 use Rattle.laws_plan.specs.Replied.{TellsAlong}
 use Rattle.laws_plan.specs.Sides.{AreLater, sides_of, version_after}
 use Rattle.laws_replay.specs.Caused.{AreCaused}
@@ -18,15 +18,15 @@ use Rattle.laws_replay.specs.Right.{FailsWith}
 use Rattle.laws_replay.specs.Turns.{EndByFailure, TakeOneEach, asked_in, failed_in, given_in, order_of, requests_in, rounds_of}
 use Rattle.laws_replay.specs.declared.event.Event.{Event}
 use Rattle.laws_replay.specs.declared.event.Event.TheVariants as events
-use Rattle.laws_replay.specs.Below.LawsReplies.Met.{Met}
+use Rattle.laws_replies.specs.Met.{Met}
 use Rattle.lc_io.specs.Counts.{RoseBy}
 use Rattle.lc_model.specs.declared.query.Query.{Query}
-use Rattle.laws_replay.specs.Below.LcWorld.Link.{IsHonestWith, LinkSeen}
-use Rattle.laws_replay.specs.Below.PageClient.declared.outcome.Outcome.{Outcome}
-use Rattle.laws_replay.specs.Below.PageClient.declared.outcome.Outcome.TheVariants as outcomes
-use Rattle.laws_replay.specs.Below.PageClient.declared.want.Want.{Want}
-use Rattle.laws_replay.specs.Below.PageClient.declared.want.Want.TheVariants as wants
-use Rattle.laws_replay.specs.Below.PublisherSpec.Side.{Side}
+use Rattle.lc_world.specs.Link.{IsHonestWith, LinkSeen}
+use Rattle.page_client.specs.declared.outcome.Outcome.{Outcome}
+use Rattle.page_client.specs.declared.outcome.Outcome.TheVariants as outcomes
+use Rattle.page_client.specs.declared.want.Want.{Want}
+use Rattle.page_client.specs.declared.want.Want.TheVariants as wants
+use Rattle.publisher_spec.specs.Side.{Side}
 
 -- a client asks or has its turn
 abbrev pub IsNoMessage : Event → Type 0

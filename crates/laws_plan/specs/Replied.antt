@@ -1,9 +1,9 @@
 -- That over an honest link each reply that is recorded is that of the publisher's side at its exchange, also where the side grows.
 use Rattle.std.specs.Prelude.{◌≡◌, List, [], ◌∷◌, ◌++◌, Some, option_map}
-use Rattle.laws_replay.specs.Below.LawsConvoys.Replies.{IsRepliedBy}
-use Rattle.laws_replay.specs.Below.LcWorld.Link.{LinkSeen}
-use Rattle.laws_replay.specs.Below.LcWorld.declared.entry.Entry.{Entry}
-use Rattle.laws_replay.specs.Below.PublisherSpec.Side.{IsLater, Side}
+use Rattle.laws_convoys.specs.Replies.{IsRepliedBy}
+use Rattle.lc_world.specs.Link.{LinkSeen}
+use Rattle.lc_world.specs.declared.entry.Entry.{Entry}
+use Rattle.publisher_spec.specs.Side.{IsLater, Side}
 
 -- From the first side on to the last, each exchange was replied to by a side. Each of them is a later one of the one before.
 abbrev pub AreRepliedAlong : Side → List Entry → Side → Type 0

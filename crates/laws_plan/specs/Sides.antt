@@ -1,10 +1,10 @@
 -- The sides of a link that grows while clients have their turns, and which version the time gate names to each client.
 use Rattle.std.specs.Prelude.{◌==◌, ℕ, List, [], ◌∷◌, Option, Some, if◌then◌else◌}
-use Rattle.laws_replay.specs.Below.LawsConvoys.Names.{Round}
-use Rattle.laws_replay.specs.Below.LawsClients.Stated.{version_at}
-use Rattle.laws_replay.specs.Below.PageClient.declared.want.Want.{Want}
-use Rattle.laws_replay.specs.Below.PageClient.declared.want.Want.TheVariants as wants
-use Rattle.laws_replay.specs.Below.PublisherSpec.Side.{IsLater, Side}
+use Rattle.laws_convoys.specs.Names.{Round}
+use Rattle.laws_clients.specs.Stated.{version_at}
+use Rattle.page_client.specs.declared.want.Want.{Want}
+use Rattle.page_client.specs.declared.want.Want.TheVariants as wants
+use Rattle.publisher_spec.specs.Side.{IsLater, Side}
 
 -- each side is a later one of the side before it, from the first to the last
 abbrev pub AreLater : Side → List Side → Side → Type 0

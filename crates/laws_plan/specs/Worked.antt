@@ -1,11 +1,11 @@
 -- Worked values: three turns of two clients, at three sides.
 use Rattle.std.specs.Prelude.{◌≡◌, ℕ, [], ◌∷◌, Option, Some, None}
-use Rattle.laws_replay.specs.Below.LawsConvoys.Names.{Round}
+use Rattle.laws_convoys.specs.Names.{Round}
 use Rattle.laws_plan.specs.Sides.{sides_of, version_after}
-use Rattle.laws_replay.specs.Below.LawsClients.Stated.{version_at}
-use Rattle.laws_replay.specs.Below.PageClient.declared.want.Want.{Want}
-use Rattle.laws_replay.specs.Below.PageClient.declared.want.Want.TheVariants as wants
-use Rattle.laws_replay.specs.Below.PublisherSpec.Side.{Side}
+use Rattle.laws_clients.specs.Stated.{version_at}
+use Rattle.page_client.specs.declared.want.Want.{Want}
+use Rattle.page_client.specs.declared.want.Want.TheVariants as wants
+use Rattle.publisher_spec.specs.Side.{Side}
 
 -- a turn in which this was received
 abbrev pub received : Want → Round

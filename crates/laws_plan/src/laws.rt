@@ -2,10 +2,10 @@ ghost use Rattle.laws_plan.specs.Laws.{OneClientAsks, PlanFaultsAreOwn, PlanReco
 ghost use Rattle.laws_plan.specs.OneGrowing.{OneGrowingPlan};
 ghost use Rattle.laws_plan.specs.OnePlan.{OnePlan};
 
-use laws_replay::below::{
-    Link, agreement_begins, alone_asks_all, one_answer, steps_keep_agreement, turns_keep_agreement,
-    versions_stay,
-};
+use laws_clients::{one_answer, steps_keep_agreement, versions_stay};
+use laws_convoys::{agreement_begins, turns_keep_agreement};
+use laws_replies::alone_asks_all;
+use lc_world::Link;
 
 /// Over every honest link, also one whose side grows between exchanges, each client ended rightly. It has a best journey by the timetable
 /// of the version that its own time gate exchange named, or none where there is none.

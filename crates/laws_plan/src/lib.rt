@@ -2,7 +2,6 @@
 //! that they do. It builds on `laws_replay`.
 #![tactic(auto)]
 
-pub mod below;
 mod laws;
 mod near;
 

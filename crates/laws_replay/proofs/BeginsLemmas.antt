@@ -4,26 +4,26 @@ use Rattle.std.specs.List.{slice_get}
 use Rattle.std.proofs.lemmas.List.{length-append}
 use Rattle.std.proofs.lemmas.List.Elements.{All-nil}
 use Rattle.std.proofs.lemmas.Option.{slice_get_within}
-use Rattle.cli_ask.proofs.BelowLemmas.CsaScan.ListPlacesLemmas.{push_cases, slice_get-last}
-use Rattle.cli_ask.specs.Below.CliWords.declared.command.Publishing.{Publishing}
-use Rattle.cli_ask.specs.Below.Convoy.State.{Adds, ConvoyState, begun}
-use Rattle.cli_ask.specs.Below.Convoy.declared.member.Member.{Member}
-use Rattle.cli_ask.specs.Below.LawsConvoys.Agreement.{AllFit, FitsConvoy}
-use Rattle.cli_ask.specs.Below.LawsConvoys.Laws.{AddedAgrees, NoneAgrees}
-use Rattle.cli_ask.specs.Below.LawsConvoys.Names.{Round}
-use Rattle.cli_ask.specs.Below.LawsConvoys.Requests.{TellsRequests}
+use Rattle.csa_scan.proofs.ListPlacesLemmas.{push_cases, slice_get-last}
+use Rattle.cli_words.specs.declared.command.Publishing.{Publishing}
+use Rattle.convoy.specs.State.{Adds, ConvoyState, begun}
+use Rattle.convoy.specs.declared.member.Member.{Member}
+use Rattle.laws_convoys.specs.Agreement.{AllFit, FitsConvoy}
+use Rattle.laws_convoys.specs.Laws.{AddedAgrees, NoneAgrees}
+use Rattle.laws_convoys.specs.Names.{Round}
+use Rattle.laws_convoys.specs.Requests.{TellsRequests}
 use Rattle.lc_io.proofs.CountLemmas.{RoseBy-none}
 use Rattle.lc_model.specs.declared.query.Query.{Query}
-use Rattle.cli_ask.specs.Below.LcWorld.Link.{LinkSeen}
-use Rattle.cli_ask.specs.Below.PageClient.Client.{shown}
-use Rattle.cli_ask.specs.Below.PageClient.Shown.{Shown, first_outcome}
-use Rattle.cli_ask.specs.Below.PageClient.declared.fault.QueryFault.{QueryFault}
-use Rattle.cli_ask.specs.Below.PageClient.declared.outcome.Outcome.{Outcome}
-use Rattle.cli_ask.specs.Below.PageClient.declared.want.Want.{Want}
-use Rattle.cli_ask.specs.Below.PublisherSpec.Short.{IsShort}
-use Rattle.cli_ask.specs.Below.PublisherSpec.Side.{Side}
-use Rattle.cli_ask.specs.Below.Timetable.declared.timetable.Timetable.{Timetable}
-use Rattle.cli_ask.specs.Below.VersionStore.Store.{Stored}
+use Rattle.lc_world.specs.Link.{LinkSeen}
+use Rattle.page_client.specs.Client.{shown}
+use Rattle.page_client.specs.Shown.{Shown, first_outcome}
+use Rattle.page_client.specs.declared.fault.QueryFault.{QueryFault}
+use Rattle.page_client.specs.declared.outcome.Outcome.{Outcome}
+use Rattle.page_client.specs.declared.want.Want.{Want}
+use Rattle.publisher_spec.specs.Short.{IsShort}
+use Rattle.publisher_spec.specs.Side.{Side}
+use Rattle.timetable.specs.declared.timetable.Timetable.{Timetable}
+use Rattle.version_store.specs.Store.{Stored}
 use Rattle.cli_ask.specs.Publishing.{side_with, store_of}
 use Rattle.laws_replay.specs.Laws.{IsQuietAt}
 use Rattle.laws_replay.proofs.EventLemmas.{before_none, given_none, has_turn, heard_behind_ask, meant_on, no_turn_yet, questions_in-append, requests_of_more, rounds_of-none, slice_get-more, tells_none, turns_behind_ask, turns_of_clients}

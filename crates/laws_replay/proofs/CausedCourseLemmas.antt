@@ -3,21 +3,21 @@ use Rattle.std.proofs.Common.{◌≡◌, ◌≢◌, ◌∙◌, ◌⊎◌, ◌-�
 use Rattle.std.specs.List.{All, slice_get}
 use Rattle.std.proofs.lemmas.List.Elements.{All-append, All-cons, All-head, All-nil, All-tail, All-weaker}
 use Rattle.std.proofs.lemmas.Option.{slice_get_within}
-use Rattle.cli_ask.specs.Below.LawsReplies.Met.{Met}
-use Rattle.cli_ask.proofs.BelowLemmas.LawsReplies.ClientsLemmas.{AreSo, HasGrown, Meets, MeetsNone, MeetsOne, are_asked, are_later, not_yet, turn_meets}
-use Rattle.cli_ask.specs.Below.ConnectionUri.Base.{BaseParts}
-use Rattle.cli_ask.specs.Below.Convoy.Finish.{HasOutcome, IsStep, Rounds, Step, TurnsOf}
-use Rattle.cli_ask.specs.Below.Convoy.State.{Adds, ConvoyState}
-use Rattle.cli_ask.specs.Below.Convoy.declared.member.Member.{Member}
-use Rattle.cli_ask.specs.Below.Convoy.declared.turn.Turn.{Turn}
-use Rattle.cli_ask.specs.Below.LawsConvoys.Names.{Round}
-use Rattle.cli_ask.specs.Below.LawsConvoys.Rounds.{round_at, round_in, round_then, rounds_up_to}
-use Rattle.cli_ask.proofs.BelowLemmas.CsaScan.ListPlacesLemmas.{same_place, slice_get-append, slice_get-set_other, slice_get-set_same}
+use Rattle.laws_replies.specs.Met.{Met}
+use Rattle.laws_replies.proofs.ClientsLemmas.{AreSo, HasGrown, Meets, MeetsNone, MeetsOne, are_asked, are_later, not_yet, turn_meets}
+use Rattle.connection_uri.specs.Base.{BaseParts}
+use Rattle.convoy.specs.Finish.{HasOutcome, IsStep, Rounds, Step, TurnsOf}
+use Rattle.convoy.specs.State.{Adds, ConvoyState}
+use Rattle.convoy.specs.declared.member.Member.{Member}
+use Rattle.convoy.specs.declared.turn.Turn.{Turn}
+use Rattle.laws_convoys.specs.Names.{Round}
+use Rattle.laws_convoys.specs.Rounds.{round_at, round_in, round_then, rounds_up_to}
+use Rattle.csa_scan.proofs.ListPlacesLemmas.{same_place, slice_get-append, slice_get-set_other, slice_get-set_same}
 use Rattle.lc_io.specs.declared.file.File.{File}
 use Rattle.lc_model.specs.declared.query.Query.{Query}
-use Rattle.cli_ask.specs.Below.LcWorld.Link.{LinkSeen}
-use Rattle.cli_ask.specs.Below.PageClient.Client.{shown}
-use Rattle.cli_ask.specs.Below.PageClient.declared.want.Want.{Want}
+use Rattle.lc_world.specs.Link.{LinkSeen}
+use Rattle.page_client.specs.Client.{shown}
+use Rattle.page_client.specs.declared.want.Want.{Want}
 use Rattle.laws_replay.specs.Caused.{AreByNumber, AreMetInTurns, NoneIsOf}
 use Rattle.laws_replay.specs.Events.{questions_in, turns_in}
 use Rattle.laws_replay.specs.History.{AreMetIn, IsMetIn}

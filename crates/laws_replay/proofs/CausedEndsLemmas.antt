@@ -6,24 +6,24 @@ use Rattle.std.proofs.lemmas.List.Elements.{All-cons, All-nil}
 use Rattle.std.proofs.lemmas.Option.{slice_get_within}
 use Rattle.cli_ask.specs.Block.{IsPrintable}
 use Rattle.cli_ask.specs.declared.end.ClientEnd.{ClientEnd}
-use Rattle.cli_ask.specs.Below.LawsReplies.Ends.{EndsBy}
-use Rattle.cli_ask.specs.Below.LawsReplies.Made.{Made}
-use Rattle.cli_ask.specs.Below.LawsReplies.Met.{Met, met_by}
-use Rattle.cli_ask.proofs.BelowLemmas.LawsReplies.ClientsLemmas.{AreSo, IsClientSo, are_begun, has_ended}
-use Rattle.cli_ask.proofs.BelowLemmas.LawsReplies.StepLemmas.{AtEnd}
-use Rattle.cli_ask.specs.Below.ConnectionUri.Base.{BaseParts}
-use Rattle.cli_ask.specs.Below.Convoy.State.{ConvoyState, begun}
-use Rattle.cli_ask.specs.Below.Convoy.declared.member.Member.{Member}
-use Rattle.cli_ask.specs.Below.LawsConvoys.Rounds.{rounds_up_to}
-use Rattle.cli_ask.proofs.BelowLemmas.CsaScan.ListPlacesLemmas.{item_within}
+use Rattle.laws_replies.specs.Ends.{EndsBy}
+use Rattle.laws_replies.specs.Made.{Made}
+use Rattle.laws_replies.specs.Met.{Met, met_by}
+use Rattle.laws_replies.proofs.ClientsLemmas.{AreSo, IsClientSo, are_begun, has_ended}
+use Rattle.laws_replies.proofs.StepLemmas.{AtEnd}
+use Rattle.connection_uri.specs.Base.{BaseParts}
+use Rattle.convoy.specs.State.{ConvoyState, begun}
+use Rattle.convoy.specs.declared.member.Member.{Member}
+use Rattle.laws_convoys.specs.Rounds.{rounds_up_to}
+use Rattle.csa_scan.proofs.ListPlacesLemmas.{item_within}
 use Rattle.lc_model.specs.Journey.{arrives_at}
 use Rattle.lc_model.specs.declared.moment.TheConstants.{MOMENTS_END}
 use Rattle.lc_model.specs.declared.query.Query.{Query}
 use Rattle.lc_model.specs.declared.query.TheConstants.{LAST_LEAVE}
-use Rattle.cli_ask.specs.Below.LcWorld.Link.{LinkSeen}
-use Rattle.cli_ask.specs.Below.PageClient.Client.{shown}
-use Rattle.cli_ask.specs.Below.PageClient.declared.outcome.Outcome.{Outcome}
-use Rattle.cli_ask.specs.Below.PageClient.declared.outcome.Outcome.TheVariants as outcomes
+use Rattle.lc_world.specs.Link.{LinkSeen}
+use Rattle.page_client.specs.Client.{shown}
+use Rattle.page_client.specs.declared.outcome.Outcome.{Outcome}
+use Rattle.page_client.specs.declared.outcome.Outcome.TheVariants as outcomes
 use Rattle.laws_replay.specs.Caused.{EndsByMet}
 use Rattle.laws_replay.specs.Events.{questions_in, turns_in}
 use Rattle.laws_replay.specs.History.{AreMetIn}

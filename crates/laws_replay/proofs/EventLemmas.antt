@@ -7,19 +7,19 @@ use Rattle.std.proofs.lemmas.Bool.{eq-eqb, eqb-true, false≢true}
 use Rattle.std.proofs.lemmas.Grind.{flat_map-append}
 use Rattle.std.proofs.lemmas.List.{append-nil, append_assoc, length-append, map-append}
 use Rattle.std.proofs.lemmas.List.Elements.{All-append, All-nil}
-use Rattle.cli_ask.proofs.BelowLemmas.CsaScan.ListPlacesLemmas.{item_within, slice_get-append}
-use Rattle.cli_ask.specs.Below.CliWords.declared.command.Publishing.{Publishing}
-use Rattle.cli_ask.specs.Below.ConnectionUri.Base.{BaseParts}
-use Rattle.cli_ask.specs.Below.LawsConvoys.Names.{AskByNames, Round, failures_in, names_after, names_behind}
-use Rattle.cli_ask.specs.Below.LawsConvoys.OneClient.{version_of}
-use Rattle.cli_ask.specs.Below.LawsConvoys.Requests.{TellsRequests, request_of}
+use Rattle.csa_scan.proofs.ListPlacesLemmas.{item_within, slice_get-append}
+use Rattle.cli_words.specs.declared.command.Publishing.{Publishing}
+use Rattle.connection_uri.specs.Base.{BaseParts}
+use Rattle.laws_convoys.specs.Names.{AskByNames, Round, failures_in, names_after, names_behind}
+use Rattle.laws_convoys.specs.OneClient.{version_of}
+use Rattle.laws_convoys.specs.Requests.{TellsRequests, request_of}
 use Rattle.lc_model.specs.declared.page.PageName.{PageName}
 use Rattle.lc_model.specs.declared.query.Query.{Query}
-use Rattle.cli_ask.specs.Below.LcWorld.declared.entry.Entry.{Entry}
-use Rattle.cli_ask.specs.Below.PageClient.declared.want.Want.{Want}
-use Rattle.cli_ask.specs.Below.JourneyText.Script.{IsClient}
-use Rattle.cli_ask.specs.Below.Timetable.declared.timetable.Timetable.{Timetable}
-use Rattle.cli_ask.specs.Below.VersionStore.Store.{Stored}
+use Rattle.lc_world.specs.declared.entry.Entry.{Entry}
+use Rattle.page_client.specs.declared.want.Want.{Want}
+use Rattle.journey_text.specs.Script.{IsClient}
+use Rattle.timetable.specs.declared.timetable.Timetable.{Timetable}
+use Rattle.version_store.specs.Store.{Stored}
 use Rattle.cli_ask.specs.Admission.{IsBehind}
 use Rattle.cli_ask.specs.Publishing.{side_with, store_of}
 use Rattle.laws_replay.specs.Events.{TurnsAreOfClients, before_turn_of, questions_in, turns_in}

@@ -2,8 +2,8 @@
 use Rattle.std.proofs.Common.{◌≡◌, ◌⊎◌, inl, inr, List, [], ◌∷◌, ◌++◌, refl}
 use Rattle.std.specs.List.{All}
 use Rattle.std.proofs.lemmas.List.Elements.{All-nil, All-push}
-use Rattle.cli_ask.specs.Below.LawsConvoys.Names.{Round}
-use Rattle.cli_ask.specs.Below.PageClient.declared.want.Want.{Want}
+use Rattle.laws_convoys.specs.Names.{Round}
+use Rattle.page_client.specs.declared.want.Want.{Want}
 use Rattle.laws_replay.specs.Turns.{EndByFailure, IsIdle, failed_in}
 
 -- no list of wants begins or ends with one where there is nothing

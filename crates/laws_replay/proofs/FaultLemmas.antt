@@ -4,16 +4,16 @@ use Rattle.std.specs.Prelude.{IsSome}
 use Rattle.std.specs.List.{All, filter, slice_get}
 use Rattle.std.proofs.lemmas.List.{map-append}
 use Rattle.std.proofs.lemmas.List.Elements.{All-head, All-tail, filter-append}
-use Rattle.cli_ask.specs.Below.LawsReplies.Met.{HasFailedBetween, Met}
-use Rattle.cli_ask.specs.Below.LawsConvoys.Names.{Round}
-use Rattle.cli_ask.specs.Below.PageClient.declared.want.Want.{Want}
+use Rattle.laws_replies.specs.Met.{HasFailedBetween, Met}
+use Rattle.laws_convoys.specs.Names.{Round}
+use Rattle.page_client.specs.declared.want.Want.{Want}
 use Rattle.laws_replay.specs.History.{AreMetIn, IsMetIn, wants_of}
 use Rattle.laws_replay.specs.Turns.{failed_in, given_in, order_of, rounds_of}
 use Rattle.cli_ask.specs.Publishing.{side_with}
-use Rattle.cli_ask.specs.Below.PageClient.declared.outcome.Outcome.{Outcome}
-use Rattle.cli_ask.specs.Below.PageClient.declared.outcome.Outcome.TheVariants as outcomes
+use Rattle.page_client.specs.declared.outcome.Outcome.{Outcome}
+use Rattle.page_client.specs.declared.outcome.Outcome.TheVariants as outcomes
 use Rattle.lc_model.specs.declared.query.Query.{Query}
-use Rattle.cli_ask.specs.Below.PublisherSpec.Side.{Side}
+use Rattle.publisher_spec.specs.Side.{Side}
 use Rattle.laws_replay.specs.Right.{FailsWith}
 use Rattle.laws_replay.specs.Laws.{FaultsAreOwn}
 

@@ -7,30 +7,30 @@ use Rattle.cli_ask.proofs.ClientLemmas.{at_end, same_end}
 use Rattle.cli_ask.specs.Client.{shown_of}
 use Rattle.cli_ask.specs.Publishing.{side_with, store_of}
 use Rattle.cli_ask.specs.declared.end.ClientEnd.{ClientEnd}
-use Rattle.cli_ask.specs.Below.LawsClients.Fits.{HasEnded, HasFailed, IsDenied}
-use Rattle.cli_ask.specs.Below.LawsClients.Wants.{AreWants}
-use Rattle.cli_ask.specs.Below.CliWords.declared.command.Publishing.{Publishing}
-use Rattle.cli_ask.specs.Below.Convoy.Finish.{HasOutcome}
-use Rattle.cli_ask.specs.Below.Convoy.State.{ConvoyState}
-use Rattle.cli_ask.specs.Below.Convoy.declared.member.Member.{Member}
-use Rattle.cli_ask.specs.Below.LawsConvoys.Leaves.{HasReachedOutcome, NoneFailed, OneFailed, VersionAfter}
-use Rattle.cli_ask.specs.Below.LawsConvoys.Names.{Round}
-use Rattle.cli_ask.specs.Below.LawsConvoys.OneClient.{version_of}
-use Rattle.cli_ask.proofs.BelowLemmas.LawsConvoys.AloneLemmas.{BeginsAtGate, version_is}
-use Rattle.cli_ask.proofs.BelowLemmas.LawsConvoys.NamedLemmas.{kept_version}
+use Rattle.laws_clients.specs.Fits.{HasEnded, HasFailed, IsDenied}
+use Rattle.laws_clients.specs.Wants.{AreWants}
+use Rattle.cli_words.specs.declared.command.Publishing.{Publishing}
+use Rattle.convoy.specs.Finish.{HasOutcome}
+use Rattle.convoy.specs.State.{ConvoyState}
+use Rattle.convoy.specs.declared.member.Member.{Member}
+use Rattle.laws_convoys.specs.Leaves.{HasReachedOutcome, NoneFailed, OneFailed, VersionAfter}
+use Rattle.laws_convoys.specs.Names.{Round}
+use Rattle.laws_convoys.specs.OneClient.{version_of}
+use Rattle.laws_convoys.proofs.AloneLemmas.{BeginsAtGate, version_is}
+use Rattle.laws_convoys.proofs.NamedLemmas.{kept_version}
 use Rattle.lc_model.specs.declared.query.Query.{Query}
-use Rattle.cli_ask.specs.Below.LcWorld.Link.{LinkSeen}
-use Rattle.cli_ask.specs.Below.PageClient.Client.{shown}
-use Rattle.cli_ask.specs.Below.PageClient.Shown.{Shown}
-use Rattle.cli_ask.specs.Below.PageClient.declared.fault.QueryFault.{QueryFault}
-use Rattle.cli_ask.specs.Below.PageClient.declared.fault.QueryFault.TheVariants.{HorizonRange, SameStop, UnknownFrom, UnknownTo}
-use Rattle.cli_ask.specs.Below.PageClient.declared.outcome.Outcome.{Outcome}
-use Rattle.cli_ask.specs.Below.PageClient.declared.outcome.Outcome.TheVariants as outcomes
-use Rattle.cli_ask.specs.Below.PageClient.declared.want.Want.{Want}
-use Rattle.cli_ask.specs.Below.PageClient.declared.want.Want.TheVariants as wants
-use Rattle.cli_ask.specs.Below.PublisherSpec.Side.{Side}
-use Rattle.cli_ask.specs.Below.Timetable.declared.timetable.Timetable.{Timetable}
-use Rattle.cli_ask.specs.Below.VersionStore.Store.{Stored}
+use Rattle.lc_world.specs.Link.{LinkSeen}
+use Rattle.page_client.specs.Client.{shown}
+use Rattle.page_client.specs.Shown.{Shown}
+use Rattle.page_client.specs.declared.fault.QueryFault.{QueryFault}
+use Rattle.page_client.specs.declared.fault.QueryFault.TheVariants.{HorizonRange, SameStop, UnknownFrom, UnknownTo}
+use Rattle.page_client.specs.declared.outcome.Outcome.{Outcome}
+use Rattle.page_client.specs.declared.outcome.Outcome.TheVariants as outcomes
+use Rattle.page_client.specs.declared.want.Want.{Want}
+use Rattle.page_client.specs.declared.want.Want.TheVariants as wants
+use Rattle.publisher_spec.specs.Side.{Side}
+use Rattle.timetable.specs.declared.timetable.Timetable.{Timetable}
+use Rattle.version_store.specs.Store.{Stored}
 use Rattle.laws_replay.specs.Events.{before_turn_of}
 use Rattle.laws_replay.specs.Played.{HasEndedSo}
 use Rattle.laws_replay.specs.Right.{EndsSo, FailsWith}

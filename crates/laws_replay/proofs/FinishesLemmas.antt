@@ -4,28 +4,28 @@ use Rattle.std.specs.List.{slice_get}
 use Rattle.std.proofs.lemmas.Option.{slice_get_within}
 use Rattle.cli_ask.specs.Publishing.{side_with}
 use Rattle.cli_ask.specs.declared.end.ClientEnd.{ClientEnd}
-use Rattle.cli_ask.specs.Below.LawsReplies.Met.{Met}
-use Rattle.cli_ask.specs.Below.CliWords.declared.command.Publishing.{Publishing}
-use Rattle.cli_ask.specs.Below.ConnectionUri.Base.{BaseParts}
-use Rattle.cli_ask.specs.Below.Convoy.Finish.{Rounds}
-use Rattle.cli_ask.specs.Below.Convoy.State.{ConvoyState}
-use Rattle.cli_ask.specs.Below.Convoy.declared.member.Member.{Member}
-use Rattle.cli_ask.specs.Below.LawsConvoys.Laws.{RoundsKeepAgreement}
-use Rattle.cli_ask.specs.Below.LawsConvoys.Leaves.{HasReachedOutcome, AgreesAfterRounds}
-use Rattle.cli_ask.specs.Below.LawsConvoys.Names.{AskByNames, Round, failures_in, names_of}
-use Rattle.cli_ask.specs.Below.LawsConvoys.Requests.{TellsRequests, requests_of}
-use Rattle.cli_ask.specs.Below.LawsConvoys.Rounds.{rounds_up_to}
-use Rattle.cli_ask.proofs.BelowLemmas.LawsConvoys.PlaceLemmas.{at_place}
-use Rattle.cli_ask.proofs.BelowLemmas.LawsConvoys.TurnLemmas.{honest_still, one_at}
-use Rattle.cli_ask.proofs.BelowLemmas.CsaScan.ListPlacesLemmas.{item_within}
+use Rattle.laws_replies.specs.Met.{Met}
+use Rattle.cli_words.specs.declared.command.Publishing.{Publishing}
+use Rattle.connection_uri.specs.Base.{BaseParts}
+use Rattle.convoy.specs.Finish.{Rounds}
+use Rattle.convoy.specs.State.{ConvoyState}
+use Rattle.convoy.specs.declared.member.Member.{Member}
+use Rattle.laws_convoys.specs.Laws.{RoundsKeepAgreement}
+use Rattle.laws_convoys.specs.Leaves.{HasReachedOutcome, AgreesAfterRounds}
+use Rattle.laws_convoys.specs.Names.{AskByNames, Round, failures_in, names_of}
+use Rattle.laws_convoys.specs.Requests.{TellsRequests, requests_of}
+use Rattle.laws_convoys.specs.Rounds.{rounds_up_to}
+use Rattle.laws_convoys.proofs.PlaceLemmas.{at_place}
+use Rattle.laws_convoys.proofs.TurnLemmas.{honest_still, one_at}
+use Rattle.csa_scan.proofs.ListPlacesLemmas.{item_within}
 use Rattle.lc_io.specs.Counts.{RoseBy}
 use Rattle.lc_io.proofs.CountLemmas.{RoseBy-then}
 use Rattle.lc_model.specs.declared.page.PageName.{PageName}
 use Rattle.lc_model.specs.declared.query.Query.{Query}
-use Rattle.cli_ask.specs.Below.LcWorld.Link.{LinkSeen}
-use Rattle.cli_ask.specs.Below.PageClient.Client.{shown}
-use Rattle.cli_ask.specs.Below.PublisherSpec.Side.{Side}
-use Rattle.cli_ask.specs.Below.Timetable.declared.timetable.Timetable.{Timetable}
+use Rattle.lc_world.specs.Link.{LinkSeen}
+use Rattle.page_client.specs.Client.{shown}
+use Rattle.publisher_spec.specs.Side.{Side}
+use Rattle.timetable.specs.declared.timetable.Timetable.{Timetable}
 use Rattle.laws_replay.specs.Events.{questions_in, turns_in}
 use Rattle.laws_replay.specs.History.{AreMetIn}
 use Rattle.laws_replay.specs.Played.{HasEndedSo, HaveEndedSo}

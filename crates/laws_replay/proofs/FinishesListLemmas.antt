@@ -4,12 +4,12 @@ use Rattle.std.specs.Prelude.{if◌then◌else◌}
 use Rattle.std.specs.List.{All, slice_get}
 use Rattle.std.proofs.lemmas.Bool.{ne_eqb}
 use Rattle.std.proofs.lemmas.List.Elements.{All-cons, All-head, All-nil, All-tail}
-use Rattle.cli_ask.specs.Below.ConnectionUri.Base.{BaseParts}
-use Rattle.cli_ask.specs.Below.Convoy.declared.member.Member.{Member}
-use Rattle.cli_ask.specs.Below.LawsConvoys.Names.{Round}
-use Rattle.cli_ask.specs.Below.LawsConvoys.Requests.{requests_of}
+use Rattle.connection_uri.specs.Base.{BaseParts}
+use Rattle.convoy.specs.declared.member.Member.{Member}
+use Rattle.laws_convoys.specs.Names.{Round}
+use Rattle.laws_convoys.specs.Requests.{requests_of}
 use Rattle.lc_model.specs.declared.query.Query.{Query}
-use Rattle.cli_ask.specs.Below.PageClient.Client.{shown}
+use Rattle.page_client.specs.Client.{shown}
 use Rattle.laws_replay.specs.Events.{before_turn_of, turns_in}
 use Rattle.laws_replay.specs.Turns.{IsIdle, IsOne, TakeOneEach, counted, requests_by, requests_in, rounds_of}
 use Rattle.laws_replay.specs.declared.event.Event.{Event}

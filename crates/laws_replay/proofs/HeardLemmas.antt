@@ -2,24 +2,24 @@
 use Rattle.std.proofs.Common.{◌≡◌, ℕ, inl, inr, List, [], ◌∷◌, Some, refl, ap, sym, subst, ◌∙◌}
 use Rattle.cli_ask.specs.Admission.{IsBehind}
 use Rattle.cli_ask.specs.Publishing.{side_with, store_of}
-use Rattle.cli_ask.specs.Below.CliWords.declared.command.Publishing.{Publishing}
-use Rattle.cli_ask.specs.Below.Convoy.Exchange.{Got, IsExchange}
-use Rattle.cli_ask.specs.Below.Convoy.Finish.{IsStep}
-use Rattle.cli_ask.specs.Below.Convoy.State.{ConvoyState, begun}
-use Rattle.cli_ask.specs.Below.Convoy.Turn.{Asks, IsExchanged}
-use Rattle.cli_ask.specs.Below.Convoy.declared.turn.Turn.{Turn}
-use Rattle.cli_ask.specs.Below.Convoy.declared.turn.Turn.TheVariants.{Cached, Exchanged, Finished}
-use Rattle.cli_ask.specs.Below.ConnectionUri.Base.{BaseParts}
-use Rattle.cli_ask.specs.Below.Fragmenter.Cutting.{chosen_cuts}
-use Rattle.cli_ask.proofs.BelowLemmas.LawsConvoys.HonestLemmas.{is_get}
+use Rattle.cli_words.specs.declared.command.Publishing.{Publishing}
+use Rattle.convoy.specs.Exchange.{Got, IsExchange}
+use Rattle.convoy.specs.Finish.{IsStep}
+use Rattle.convoy.specs.State.{ConvoyState, begun}
+use Rattle.convoy.specs.Turn.{Asks, IsExchanged}
+use Rattle.convoy.specs.declared.turn.Turn.{Turn}
+use Rattle.convoy.specs.declared.turn.Turn.TheVariants.{Cached, Exchanged, Finished}
+use Rattle.connection_uri.specs.Base.{BaseParts}
+use Rattle.fragmenter.specs.Cutting.{chosen_cuts}
+use Rattle.laws_convoys.proofs.HonestLemmas.{is_get}
 use Rattle.lc_io.specs.declared.file.File.{File}
-use Rattle.cli_ask.specs.Below.LcWorld.Link.{LinkSeen}
-use Rattle.cli_ask.specs.Below.PageClient.Client.{shown}
-use Rattle.cli_ask.specs.Below.PageClient.Shown.{Shown}
-use Rattle.cli_ask.specs.Below.PageClient.declared.client.Client.{Client}
-use Rattle.cli_ask.specs.Below.Publisher.Held.{side_of}
-use Rattle.cli_ask.specs.Below.Timetable.declared.timetable.Timetable.{Timetable}
-use Rattle.cli_ask.specs.Below.VersionStore.Store.{Stored}
+use Rattle.lc_world.specs.Link.{LinkSeen}
+use Rattle.page_client.specs.Client.{shown}
+use Rattle.page_client.specs.Shown.{Shown}
+use Rattle.page_client.specs.declared.client.Client.{Client}
+use Rattle.publisher.specs.Held.{side_of}
+use Rattle.timetable.specs.declared.timetable.Timetable.{Timetable}
+use Rattle.version_store.specs.Store.{Stored}
 use Rattle.laws_replay.specs.Laws.{PlaysHeard}
 use Rattle.laws_replay.specs.Played.{IsGiven, Plays}
 use Rattle.laws_replay.specs.Versions.{HasHeard}

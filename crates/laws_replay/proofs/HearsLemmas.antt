@@ -2,35 +2,35 @@
 use Rattle.std.proofs.Common.{◌≡◌, ℕ, zero, suc, ◌+◌, inl, inr, List, [], ◌∷◌, ◌++◌, length, Option, Some, None, refl, ap, sym, subst, ◌∙◌}
 use Rattle.std.specs.List.{slice_get}
 use Rattle.std.proofs.lemmas.List.{append-nil}
-use Rattle.cli_ask.specs.Below.LawsClients.Fits.{IsOfSide}
-use Rattle.cli_ask.specs.Below.LawsClients.Laws.{WantsStay}
-use Rattle.cli_ask.specs.Below.CliWords.declared.command.Publishing.{Publishing}
-use Rattle.cli_ask.specs.Below.Convoy.State.{ConvoyState}
-use Rattle.cli_ask.specs.Below.Convoy.declared.member.Member.{Member}
-use Rattle.cli_ask.specs.Below.LawsConvoys.Agreement.{AllFit}
-use Rattle.cli_ask.specs.Below.LawsConvoys.Laws.{LaterAgrees}
-use Rattle.cli_ask.specs.Below.LawsConvoys.Names.{Round, failures_in}
-use Rattle.cli_ask.specs.Below.LawsConvoys.Requests.{TellsRequests}
-use Rattle.cli_ask.specs.Below.Fragmenter.Cutting.{chosen_cuts}
-use Rattle.cli_ask.specs.Below.Fragmenter.declared.cutting.Cutting.{Cutting}
+use Rattle.laws_clients.specs.Fits.{IsOfSide}
+use Rattle.laws_clients.specs.Laws.{WantsStay}
+use Rattle.cli_words.specs.declared.command.Publishing.{Publishing}
+use Rattle.convoy.specs.State.{ConvoyState}
+use Rattle.convoy.specs.declared.member.Member.{Member}
+use Rattle.laws_convoys.specs.Agreement.{AllFit}
+use Rattle.laws_convoys.specs.Laws.{LaterAgrees}
+use Rattle.laws_convoys.specs.Names.{Round, failures_in}
+use Rattle.laws_convoys.specs.Requests.{TellsRequests}
+use Rattle.fragmenter.specs.Cutting.{chosen_cuts}
+use Rattle.fragmenter.specs.declared.cutting.Cutting.{Cutting}
 use Rattle.lc_io.specs.Counts.{RoseBy}
 use Rattle.lc_io.specs.declared.file.File.{File}
 use Rattle.lc_model.specs.declared.query.Query.{Query}
 use Rattle.lc_model.specs.declared.run.Run.{Run}
 use Rattle.lc_model.specs.declared.stop.Stop.{Stop}
-use Rattle.cli_ask.specs.Below.LcTime.declared.zone.Zone.{Zone}
-use Rattle.cli_ask.specs.Below.LcVersions.History.{Entry}
-use Rattle.cli_ask.specs.Below.LcWorld.Link.{LinkSeen}
-use Rattle.cli_ask.specs.Below.LcWorld.declared.entry.Entry.{Entry as RecordedEntry}
-use Rattle.cli_ask.specs.Below.PageClient.Client.{shown}
-use Rattle.cli_ask.specs.Below.PageClient.declared.outcome.Outcome.{Outcome}
-use Rattle.cli_ask.specs.Below.PageClient.declared.outcome.Outcome.TheVariants as outcomes
-use Rattle.cli_ask.specs.Below.PageClient.declared.want.Want.{Want}
-use Rattle.cli_ask.specs.Below.Publisher.Held.{Held, side_of}
-use Rattle.cli_ask.specs.Below.PublisherSpec.Short.{IsShort}
-use Rattle.cli_ask.specs.Below.PublisherSpec.Side.{IsLater, IsValidSide, Side}
-use Rattle.cli_ask.specs.Below.Timetable.declared.timetable.Timetable.{Timetable}
-use Rattle.cli_ask.specs.Below.VersionStore.Store.{Stored, entry_of}
+use Rattle.lc_time.specs.declared.zone.Zone.{Zone}
+use Rattle.lc_versions.specs.History.{Entry}
+use Rattle.lc_world.specs.Link.{LinkSeen}
+use Rattle.lc_world.specs.declared.entry.Entry.{Entry as RecordedEntry}
+use Rattle.page_client.specs.Client.{shown}
+use Rattle.page_client.specs.declared.outcome.Outcome.{Outcome}
+use Rattle.page_client.specs.declared.outcome.Outcome.TheVariants as outcomes
+use Rattle.page_client.specs.declared.want.Want.{Want}
+use Rattle.publisher.specs.Held.{Held, side_of}
+use Rattle.publisher_spec.specs.Short.{IsShort}
+use Rattle.publisher_spec.specs.Side.{IsLater, IsValidSide, Side}
+use Rattle.timetable.specs.declared.timetable.Timetable.{Timetable}
+use Rattle.version_store.specs.Store.{Stored, entry_of}
 use Rattle.cli_ask.specs.Admission.{IsBehind}
 use Rattle.cli_ask.specs.Publishing.{side_with, store_of}
 use Rattle.laws_replay.proofs.EventLemmas.{given_none, heard_behind_message, meant_on, questions_behind_message, turns_behind_message}

@@ -4,18 +4,18 @@ use Rattle.std.specs.Prelude.{IsSome, None}
 use Rattle.std.specs.List.{All}
 use Rattle.std.proofs.lemmas.List.{map-append}
 use Rattle.std.proofs.lemmas.List.Elements.{All-append, All-cons, All-nil, filter-append}
-use Rattle.cli_ask.specs.Below.LawsReplies.Met.{Met, asked_in}
-use Rattle.cli_ask.proofs.BelowLemmas.LawsReplies.ClientsLemmas.{GotNone, GotReply, MeetsIn, MeetsWant}
-use Rattle.cli_ask.specs.Below.Convoy.Finish.{HasOutcome}
-use Rattle.cli_ask.specs.Below.Convoy.declared.member.Member.{Member}
-use Rattle.cli_ask.specs.Below.Convoy.declared.turn.Turn.{Turn}
-use Rattle.cli_ask.specs.Below.Convoy.declared.turn.Turn.TheVariants.{Cached, Exchanged, Finished}
-use Rattle.cli_ask.specs.Below.LawsConvoys.Names.{Round}
-use Rattle.cli_ask.specs.Below.LawsConvoys.Rounds.{round_asked, round_at, round_then, round_with}
-use Rattle.cli_ask.proofs.BelowLemmas.LawsConvoys.RoundLemmas.{round_replied}
-use Rattle.cli_ask.specs.Below.PageClient.Client.{shown}
-use Rattle.cli_ask.specs.Below.PageClient.Shown.{want_of}
-use Rattle.cli_ask.specs.Below.PageClient.declared.want.Want.{Want}
+use Rattle.laws_replies.specs.Met.{Met, asked_in}
+use Rattle.laws_replies.proofs.ClientsLemmas.{GotNone, GotReply, MeetsIn, MeetsWant}
+use Rattle.convoy.specs.Finish.{HasOutcome}
+use Rattle.convoy.specs.declared.member.Member.{Member}
+use Rattle.convoy.specs.declared.turn.Turn.{Turn}
+use Rattle.convoy.specs.declared.turn.Turn.TheVariants.{Cached, Exchanged, Finished}
+use Rattle.laws_convoys.specs.Names.{Round}
+use Rattle.laws_convoys.specs.Rounds.{round_asked, round_at, round_then, round_with}
+use Rattle.laws_convoys.proofs.RoundLemmas.{round_replied}
+use Rattle.page_client.specs.Client.{shown}
+use Rattle.page_client.specs.Shown.{want_of}
+use Rattle.page_client.specs.declared.want.Want.{Want}
 use Rattle.laws_replay.specs.History.{AreMetIn, IsMetIn, wants_of}
 
 -- a reply was got, or none

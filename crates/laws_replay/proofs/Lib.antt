@@ -1,5 +1,4 @@
 pub mod BeginsLemmas
-pub mod BelowLemmas
 mod CausedCourseLemmas
 pub mod CausedEndsLemmas
 pub mod EventLemmas

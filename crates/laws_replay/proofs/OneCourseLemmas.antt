@@ -10,26 +10,26 @@ use Rattle.cli_ask.specs.Client.{shown_of}
 use Rattle.cli_ask.specs.Laws.{AreOneEnd, IsNoLinkFault}
 use Rattle.cli_ask.specs.Publishing.{side_with, store_of}
 use Rattle.cli_ask.specs.declared.end.ClientEnd.{ClientEnd}
-use Rattle.cli_ask.specs.Below.LawsClients.Fits.{HasEnded}
-use Rattle.cli_ask.specs.Below.LawsClients.Laws.{OneArrivalAt, OneListOfNeededAt}
-use Rattle.cli_ask.specs.Below.LawsReplies.Laws.{SayTheSame}
-use Rattle.cli_ask.specs.Below.CliWords.declared.command.Publishing.{Publishing}
-use Rattle.cli_ask.specs.Below.LawsConvoys.Names.{Round}
-use Rattle.cli_ask.specs.Below.LawsConvoys.OneClient.{version_of}
-use Rattle.cli_ask.proofs.BelowLemmas.CsaScan.ListPlacesLemmas.{item_within}
+use Rattle.laws_clients.specs.Fits.{HasEnded}
+use Rattle.laws_clients.specs.Laws.{OneArrivalAt, OneListOfNeededAt}
+use Rattle.laws_replies.specs.Laws.{SayTheSame}
+use Rattle.cli_words.specs.declared.command.Publishing.{Publishing}
+use Rattle.laws_convoys.specs.Names.{Round}
+use Rattle.laws_convoys.specs.OneClient.{version_of}
+use Rattle.csa_scan.proofs.ListPlacesLemmas.{item_within}
 use Rattle.lc_model.specs.declared.query.Query.{Query}
-use Rattle.cli_ask.specs.Below.LcVersions.History.{Entry, moments_of}
-use Rattle.cli_ask.specs.Below.LcVersions.Named.{version_named}
-use Rattle.cli_ask.specs.Below.PageClient.declared.outcome.Outcome.{Outcome}
-use Rattle.cli_ask.specs.Below.PageClient.declared.outcome.Outcome.TheVariants as outcomes
-use Rattle.cli_ask.specs.Below.PageClient.declared.want.Want.{Want}
-use Rattle.cli_ask.specs.Below.PublisherSpec.Side.{Side}
-use Rattle.cli_ask.specs.Below.JourneyText.Script.{IsClient}
-use Rattle.cli_ask.specs.Below.LawsClients.Stated.{version_at}
-use Rattle.cli_ask.specs.Below.Timetable.Laws.{AreSame}
-use Rattle.cli_ask.specs.Below.Timetable.declared.timetable.Timetable.{Timetable}
-use Rattle.cli_ask.specs.Below.VersionStore.Laws.{OneOutcome}
-use Rattle.cli_ask.specs.Below.VersionStore.Store.{Stored}
+use Rattle.lc_versions.specs.History.{Entry, moments_of}
+use Rattle.lc_versions.specs.Named.{version_named}
+use Rattle.page_client.specs.declared.outcome.Outcome.{Outcome}
+use Rattle.page_client.specs.declared.outcome.Outcome.TheVariants as outcomes
+use Rattle.page_client.specs.declared.want.Want.{Want}
+use Rattle.publisher_spec.specs.Side.{Side}
+use Rattle.journey_text.specs.Script.{IsClient}
+use Rattle.laws_clients.specs.Stated.{version_at}
+use Rattle.timetable.specs.Laws.{AreSame}
+use Rattle.timetable.specs.declared.timetable.Timetable.{Timetable}
+use Rattle.version_store.specs.Laws.{OneOutcome}
+use Rattle.version_store.specs.Store.{Stored}
 use Rattle.laws_replay.specs.Events.{TurnsAreOfClients, before_turn_of, questions_in, turns_in}
 use Rattle.laws_replay.specs.OneCourse.{ComeToOne, IsPlayedOut, OneCourse}
 use Rattle.laws_replay.specs.Right.{EndsSo, FailsWith}

@@ -1,8 +1,8 @@
 -- What is heard in an event sequence is one.
 use Rattle.std.proofs.Common.{◌≡◌, ◌∙◌, ℕ, List, [], ◌∷◌, ◌++◌, Some, ap, ap₂, refl, subst, sym}
 use Rattle.cli_ask.proofs.AdmissionLemmas.{AreOne, HaveHeardOne, of_history, one_behind}
-use Rattle.cli_ask.specs.Below.VersionStore.Laws.{OneOutcome}
-use Rattle.cli_ask.specs.Below.VersionStore.Store.{Stored}
+use Rattle.version_store.specs.Laws.{OneOutcome}
+use Rattle.version_store.specs.Store.{Stored}
 use Rattle.laws_replay.specs.Versions.{HasHeard}
 use Rattle.laws_replay.specs.declared.event.Event.{Event}
 use Rattle.laws_replay.specs.declared.event.Event.TheVariants as events

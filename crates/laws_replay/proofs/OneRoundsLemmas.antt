@@ -5,10 +5,10 @@ use Rattle.std.specs.Prelude.{if◌then◌else◌}
 use Rattle.std.proofs.lemmas.Bool.{eq-eqb}
 use Rattle.std.proofs.lemmas.List.{append-nil}
 use Rattle.std.proofs.lemmas.List.Elements.{All-head, All-tail}
-use Rattle.cli_ask.specs.Below.LawsConvoys.Names.{AskByNames, Round, asked_of, names_after}
+use Rattle.laws_convoys.specs.Names.{AskByNames, Round, asked_of, names_after}
 use Rattle.lc_model.specs.declared.page.PageName.{PageName}
-use Rattle.cli_ask.specs.Below.PageClient.declared.want.Want.{Want}
-use Rattle.cli_ask.specs.Below.JourneyText.Script.{IsClient}
+use Rattle.page_client.specs.declared.want.Want.{Want}
+use Rattle.journey_text.specs.Script.{IsClient}
 use Rattle.laws_replay.specs.Turns.{IsIdle, IsOne, TakeOneEach, failed_in, given_in, rounds_of}
 use Rattle.laws_replay.proofs.EventLemmas.{AreClients}
 

@@ -2,21 +2,21 @@
 use Rattle.std.proofs.Common.{◌≡◌, ◌⊎◌, ℕ, ◌+◌, List, [], ◌++◌, Option, Some, None, length}
 use Rattle.std.specs.List.{All, slice_get}
 use Rattle.std.specs.Option.{IsSome}
-use Rattle.cli_ask.specs.Below.CliWords.declared.command.Publishing.{Publishing}
-use Rattle.cli_ask.specs.Below.Convoy.State.{ConvoyState}
-use Rattle.cli_ask.specs.Below.Convoy.declared.member.Member.{Member}
-use Rattle.cli_ask.specs.Below.LawsConvoys.Agreement.{FitsConvoy}
-use Rattle.cli_ask.specs.Below.LawsConvoys.Names.{AskByNames, Round, failures_in, names_behind, names_of}
-use Rattle.cli_ask.specs.Below.LawsConvoys.Requests.{TellsRequests}
+use Rattle.cli_words.specs.declared.command.Publishing.{Publishing}
+use Rattle.convoy.specs.State.{ConvoyState}
+use Rattle.convoy.specs.declared.member.Member.{Member}
+use Rattle.laws_convoys.specs.Agreement.{FitsConvoy}
+use Rattle.laws_convoys.specs.Names.{AskByNames, Round, failures_in, names_behind, names_of}
+use Rattle.laws_convoys.specs.Requests.{TellsRequests}
 use Rattle.lc_io.specs.Counts.{RoseBy}
 use Rattle.lc_model.specs.declared.query.Query.{Query}
-use Rattle.cli_ask.specs.Below.LcWorld.Link.{IsQuietWith, LinkSeen}
-use Rattle.cli_ask.specs.Below.PageClient.Client.{shown}
-use Rattle.cli_ask.specs.Below.PageClient.declared.outcome.Outcome.{Outcome}
-use Rattle.cli_ask.specs.Below.PageClient.declared.want.Want.{Want}
-use Rattle.cli_ask.specs.Below.PublisherSpec.Side.{Side}
-use Rattle.cli_ask.specs.Below.Timetable.declared.timetable.Timetable.{Timetable}
-use Rattle.cli_ask.specs.Below.VersionStore.Store.{Stored}
+use Rattle.lc_world.specs.Link.{IsQuietWith, LinkSeen}
+use Rattle.page_client.specs.Client.{shown}
+use Rattle.page_client.specs.declared.outcome.Outcome.{Outcome}
+use Rattle.page_client.specs.declared.want.Want.{Want}
+use Rattle.publisher_spec.specs.Side.{Side}
+use Rattle.timetable.specs.declared.timetable.Timetable.{Timetable}
+use Rattle.version_store.specs.Store.{Stored}
 use Rattle.cli_ask.specs.Publishing.{side_with, store_of}
 use Rattle.laws_replay.specs.Events.{questions_in, turns_in}
 use Rattle.laws_replay.specs.Right.{FailsWith}

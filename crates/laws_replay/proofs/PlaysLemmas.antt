@@ -2,21 +2,21 @@
 use Rattle.std.proofs.Common.{◌≡◌, ℕ, List, [], ◌∷◌, ◌++◌, length, refl, ap, sym, subst, ◌∙◌}
 use Rattle.std.proofs.Math.Seq.{take-append_seam}
 use Rattle.std.proofs.lemmas.List.{append-nil, append_assoc}
-use Rattle.cli_ask.specs.Below.LawsClients.Laws.{WantsStay}
-use Rattle.cli_ask.specs.Below.LawsReplies.Met.{Met}
-use Rattle.cli_ask.specs.Below.CliWords.declared.command.Publishing.{Publishing}
-use Rattle.cli_ask.specs.Below.Convoy.Finish.{IsStep, Rounds}
-use Rattle.cli_ask.specs.Below.Convoy.State.{ConvoyState, begun}
-use Rattle.cli_ask.specs.Below.Convoy.declared.turn.Turn.{Turn}
-use Rattle.cli_ask.specs.Below.LawsConvoys.Laws.{AddedAgrees, LaterAgrees, NoneAgrees}
-use Rattle.cli_ask.specs.Below.LawsConvoys.Names.{Round}
-use Rattle.cli_ask.specs.Below.LawsConvoys.Rounds.{round_at, rounds_up_to}
-use Rattle.cli_ask.specs.Below.LcWorld.Link.{LinkSeen}
-use Rattle.cli_ask.specs.Below.PageClient.Client.{shown}
-use Rattle.cli_ask.specs.Below.PublisherSpec.Short.{IsShort}
-use Rattle.cli_ask.specs.Below.JourneyText.Script.{IsClient}
-use Rattle.cli_ask.specs.Below.Timetable.declared.timetable.Timetable.{Timetable}
-use Rattle.cli_ask.specs.Below.VersionStore.Store.{Stored}
+use Rattle.laws_clients.specs.Laws.{WantsStay}
+use Rattle.laws_replies.specs.Met.{Met}
+use Rattle.cli_words.specs.declared.command.Publishing.{Publishing}
+use Rattle.convoy.specs.Finish.{IsStep, Rounds}
+use Rattle.convoy.specs.State.{ConvoyState, begun}
+use Rattle.convoy.specs.declared.turn.Turn.{Turn}
+use Rattle.laws_convoys.specs.Laws.{AddedAgrees, LaterAgrees, NoneAgrees}
+use Rattle.laws_convoys.specs.Names.{Round}
+use Rattle.laws_convoys.specs.Rounds.{round_at, rounds_up_to}
+use Rattle.lc_world.specs.Link.{LinkSeen}
+use Rattle.page_client.specs.Client.{shown}
+use Rattle.publisher_spec.specs.Short.{IsShort}
+use Rattle.journey_text.specs.Script.{IsClient}
+use Rattle.timetable.specs.declared.timetable.Timetable.{Timetable}
+use Rattle.version_store.specs.Store.{Stored}
 use Rattle.cli_ask.specs.Publishing.{side_with, store_of}
 use Rattle.cli_ask.specs.declared.end.ClientEnd.{ClientEnd}
 use Rattle.laws_replay.specs.Laws.{IsQuietAt, PlaysRight}

@@ -5,19 +5,19 @@ use Rattle.std.specs.Option.{option_map}
 use Rattle.std.proofs.lemmas.List.{append-nil, append_assoc}
 use Rattle.cli_ask.specs.Admission.{IsBehind}
 use Rattle.cli_ask.specs.Publishing.{side_with, store_of}
-use Rattle.cli_ask.specs.Below.CliWords.declared.command.Publishing.{Publishing}
-use Rattle.cli_ask.specs.Below.Convoy.Finish.{Rounds}
-use Rattle.cli_ask.specs.Below.Convoy.State.{ConvoyState, begun}
-use Rattle.cli_ask.specs.Below.LawsConvoys.Names.{Round}
-use Rattle.cli_ask.specs.Below.LawsConvoys.Replies.{IsRepliedBy}
-use Rattle.cli_ask.specs.Below.LawsConvoys.Rounds.{rounds_up_to}
-use Rattle.cli_ask.proofs.BelowLemmas.LawsConvoys.RepliesLemmas.{rounds_replied, recorded_then, turn_replied}
-use Rattle.cli_ask.specs.Below.LcWorld.Link.{IsQuietWith, LinkSeen}
-use Rattle.cli_ask.specs.Below.LcWorld.declared.entry.Entry.{Entry}
-use Rattle.cli_ask.specs.Below.PublisherSpec.Short.{IsShort}
-use Rattle.cli_ask.specs.Below.PublisherSpec.Side.{IsValidSide}
-use Rattle.cli_ask.specs.Below.Timetable.declared.timetable.Timetable.{Timetable}
-use Rattle.cli_ask.specs.Below.VersionStore.Store.{Stored}
+use Rattle.cli_words.specs.declared.command.Publishing.{Publishing}
+use Rattle.convoy.specs.Finish.{Rounds}
+use Rattle.convoy.specs.State.{ConvoyState, begun}
+use Rattle.laws_convoys.specs.Names.{Round}
+use Rattle.laws_convoys.specs.Replies.{IsRepliedBy}
+use Rattle.laws_convoys.specs.Rounds.{rounds_up_to}
+use Rattle.laws_convoys.proofs.RepliesLemmas.{rounds_replied, recorded_then, turn_replied}
+use Rattle.lc_world.specs.Link.{IsQuietWith, LinkSeen}
+use Rattle.lc_world.specs.declared.entry.Entry.{Entry}
+use Rattle.publisher_spec.specs.Short.{IsShort}
+use Rattle.publisher_spec.specs.Side.{IsValidSide}
+use Rattle.timetable.specs.declared.timetable.Timetable.{Timetable}
+use Rattle.version_store.specs.Store.{Stored}
 use Rattle.laws_replay.specs.Laws.{IsQuietAt}
 use Rattle.laws_replay.specs.Played.{Plays}
 use Rattle.laws_replay.specs.Replied.{AreReplied, TellsOwn}

@@ -5,30 +5,30 @@ use Rattle.std.specs.Option.{IsSome}
 use Rattle.std.proofs.lemmas.Grind.{flat_map-append}
 use Rattle.std.proofs.lemmas.List.{append-nil, append_assoc, length-append}
 use Rattle.std.proofs.lemmas.List.Elements.{All-append, All-cons, All-head, All-nil}
-use Rattle.cli_ask.specs.Below.CliWords.declared.command.Publishing.{Publishing}
-use Rattle.cli_ask.specs.Below.Convoy.declared.member.Member.{Member}
-use Rattle.cli_ask.specs.Below.Convoy.declared.turn.Turn.{Turn}
-use Rattle.cli_ask.specs.Below.Convoy.declared.turn.Turn.TheVariants.{Cached, Exchanged, Finished}
-use Rattle.cli_ask.specs.Below.LawsConvoys.Leaves.{Gave, HasFault, NoneFailed, OneFailed, VersionThen}
-use Rattle.cli_ask.specs.Below.LawsConvoys.Names.{Round}
-use Rattle.cli_ask.specs.Below.LawsConvoys.OneClient.{version_of}
-use Rattle.cli_ask.specs.Below.LawsClients.Answered.{names_at}
-use Rattle.cli_ask.specs.Below.LawsClients.Fits.{FitsAt, FitsSide}
-use Rattle.cli_ask.specs.Below.LawsClients.Wants.{AreWants}
+use Rattle.cli_words.specs.declared.command.Publishing.{Publishing}
+use Rattle.convoy.specs.declared.member.Member.{Member}
+use Rattle.convoy.specs.declared.turn.Turn.{Turn}
+use Rattle.convoy.specs.declared.turn.Turn.TheVariants.{Cached, Exchanged, Finished}
+use Rattle.laws_convoys.specs.Leaves.{Gave, HasFault, NoneFailed, OneFailed, VersionThen}
+use Rattle.laws_convoys.specs.Names.{Round}
+use Rattle.laws_convoys.specs.OneClient.{version_of}
+use Rattle.laws_clients.specs.Answered.{names_at}
+use Rattle.laws_clients.specs.Fits.{FitsAt, FitsSide}
+use Rattle.laws_clients.specs.Wants.{AreWants}
 use Rattle.lc_model.specs.declared.query.Query.{Query}
-use Rattle.cli_ask.specs.Below.PageClient.Client.{shown}
-use Rattle.cli_ask.specs.Below.PageClient.Shown.{Shown, want_of}
-use Rattle.cli_ask.specs.Below.PageClient.declared.client.Client.{Client}
-use Rattle.cli_ask.specs.Below.PageClient.declared.outcome.Outcome.{Outcome}
-use Rattle.cli_ask.specs.Below.PageClient.declared.outcome.Outcome.TheVariants as outcomes
-use Rattle.cli_ask.specs.Below.PageClient.declared.phase.Phase.{Phase}
-use Rattle.cli_ask.specs.Below.PageClient.declared.phase.Phase.TheVariants as phases
-use Rattle.cli_ask.specs.Below.PageClient.declared.want.Want.{Want}
-use Rattle.cli_ask.specs.Below.PageClient.declared.want.Want.TheVariants as wants
-use Rattle.cli_ask.specs.Below.PublisherSpec.Side.{Side}
-use Rattle.cli_ask.specs.Below.LawsClients.Stated.{version_at}
-use Rattle.cli_ask.specs.Below.Timetable.declared.timetable.Timetable.{Timetable}
-use Rattle.cli_ask.specs.Below.VersionStore.Store.{Stored}
+use Rattle.page_client.specs.Client.{shown}
+use Rattle.page_client.specs.Shown.{Shown, want_of}
+use Rattle.page_client.specs.declared.client.Client.{Client}
+use Rattle.page_client.specs.declared.outcome.Outcome.{Outcome}
+use Rattle.page_client.specs.declared.outcome.Outcome.TheVariants as outcomes
+use Rattle.page_client.specs.declared.phase.Phase.{Phase}
+use Rattle.page_client.specs.declared.phase.Phase.TheVariants as phases
+use Rattle.page_client.specs.declared.want.Want.{Want}
+use Rattle.page_client.specs.declared.want.Want.TheVariants as wants
+use Rattle.publisher_spec.specs.Side.{Side}
+use Rattle.laws_clients.specs.Stated.{version_at}
+use Rattle.timetable.specs.declared.timetable.Timetable.{Timetable}
+use Rattle.version_store.specs.Store.{Stored}
 use Rattle.cli_ask.specs.Publishing.{side_with, store_of}
 use Rattle.laws_replay.specs.Events.{before_turn_of}
 use Rattle.laws_replay.specs.Turns.{IsIdle, IsOne, asked_in, failed_in, given_in}

@@ -5,31 +5,31 @@ use Rattle.std.specs.List.{slice_get}
 use Rattle.std.proofs.lemmas.Bool.{false≢true}
 use Rattle.std.proofs.lemmas.List.{length-append, length-set}
 use Rattle.std.proofs.lemmas.Option.{slice_get_within}
-use Rattle.cli_ask.proofs.BelowLemmas.CsaScan.ListPlacesLemmas.{item_within, same_place, slice_get-set_other, slice_get-set_same}
-use Rattle.cli_ask.specs.Below.CliWords.declared.command.Publishing.{Publishing}
-use Rattle.cli_ask.specs.Below.ConnectionUri.Base.{BaseParts}
-use Rattle.cli_ask.specs.Below.Convoy.Finish.{IsStep}
-use Rattle.cli_ask.specs.Below.Convoy.State.{ConvoyState}
-use Rattle.cli_ask.specs.Below.Convoy.declared.member.Member.{Member}
-use Rattle.cli_ask.specs.Below.Convoy.declared.turn.Turn.{Turn}
-use Rattle.cli_ask.specs.Below.LawsConvoys.Agreement.{AllFit, FitsConvoy}
-use Rattle.cli_ask.specs.Below.LawsConvoys.Laws.{TurnKeepsAgreement}
-use Rattle.cli_ask.specs.Below.LawsConvoys.Leaves.{HasMoved, NoneFailed, OneFailed, AgreesAfterTurn, VersionThen}
-use Rattle.cli_ask.specs.Below.LawsConvoys.Names.{Round, asked_of, failures_in, names_after, names_behind, names_of}
-use Rattle.cli_ask.specs.Below.LawsConvoys.Requests.{TellsAsked, TellsRequests, request_of}
-use Rattle.cli_ask.specs.Below.LawsConvoys.Rounds.{round_at}
-use Rattle.cli_ask.specs.Below.LawsClients.Fits.{FitsSide}
+use Rattle.csa_scan.proofs.ListPlacesLemmas.{item_within, same_place, slice_get-set_other, slice_get-set_same}
+use Rattle.cli_words.specs.declared.command.Publishing.{Publishing}
+use Rattle.connection_uri.specs.Base.{BaseParts}
+use Rattle.convoy.specs.Finish.{IsStep}
+use Rattle.convoy.specs.State.{ConvoyState}
+use Rattle.convoy.specs.declared.member.Member.{Member}
+use Rattle.convoy.specs.declared.turn.Turn.{Turn}
+use Rattle.laws_convoys.specs.Agreement.{AllFit, FitsConvoy}
+use Rattle.laws_convoys.specs.Laws.{TurnKeepsAgreement}
+use Rattle.laws_convoys.specs.Leaves.{HasMoved, NoneFailed, OneFailed, AgreesAfterTurn, VersionThen}
+use Rattle.laws_convoys.specs.Names.{Round, asked_of, failures_in, names_after, names_behind, names_of}
+use Rattle.laws_convoys.specs.Requests.{TellsAsked, TellsRequests, request_of}
+use Rattle.laws_convoys.specs.Rounds.{round_at}
+use Rattle.laws_clients.specs.Fits.{FitsSide}
 use Rattle.lc_io.specs.Counts.{Rose, RoseBy}
 use Rattle.lc_io.proofs.CountLemmas.{RoseBy-none, RoseBy-then}
 use Rattle.lc_model.specs.declared.page.PageName.{PageName}
 use Rattle.lc_model.specs.declared.query.Query.{Query}
-use Rattle.cli_ask.specs.Below.LcWorld.Link.{IsHonestWith, IsQuietWith, LinkSeen}
-use Rattle.cli_ask.specs.Below.PageClient.Client.{shown}
-use Rattle.cli_ask.specs.Below.PageClient.declared.want.Want.{Want}
-use Rattle.cli_ask.specs.Below.PublisherSpec.Side.{Side}
-use Rattle.cli_ask.specs.Below.JourneyText.Script.{IsClient}
-use Rattle.cli_ask.specs.Below.Timetable.declared.timetable.Timetable.{Timetable}
-use Rattle.cli_ask.specs.Below.VersionStore.Store.{Stored}
+use Rattle.lc_world.specs.Link.{IsHonestWith, IsQuietWith, LinkSeen}
+use Rattle.page_client.specs.Client.{shown}
+use Rattle.page_client.specs.declared.want.Want.{Want}
+use Rattle.publisher_spec.specs.Side.{Side}
+use Rattle.journey_text.specs.Script.{IsClient}
+use Rattle.timetable.specs.declared.timetable.Timetable.{Timetable}
+use Rattle.version_store.specs.Store.{Stored}
 use Rattle.cli_ask.specs.Publishing.{side_with, store_of}
 use Rattle.laws_replay.specs.Events.{before_turn_of, questions_in, turns_in}
 use Rattle.laws_replay.specs.Turns.{given_in, requests_in, rounds_of}

@@ -2,13 +2,13 @@
 use Rattle.std.specs.Prelude.{◌≡◌, ◌≢◌, ◌⊎◌, ◌≤◌, ℕ, ◌+◌, List, [], ◌∷◌, Option, Some, slice_get}
 use Rattle.std.specs.List.{All}
 use Rattle.cli_ask.specs.declared.end.ClientEnd.{ClientEnd}
-use Rattle.cli_ask.specs.Below.LawsReplies.Cached.{AreCached}
-use Rattle.cli_ask.specs.Below.LawsReplies.Ends.{EndsBy}
-use Rattle.cli_ask.specs.Below.LawsReplies.Met.{AreMet, HasFailedBetween, Met, exchanges_by, met_by}
-use Rattle.cli_ask.specs.Below.ConnectionUri.Base.{BaseParts}
+use Rattle.laws_replies.specs.Cached.{AreCached}
+use Rattle.laws_replies.specs.Ends.{EndsBy}
+use Rattle.laws_replies.specs.Met.{AreMet, HasFailedBetween, Met, exchanges_by, met_by}
+use Rattle.connection_uri.specs.Base.{BaseParts}
 use Rattle.lc_model.specs.declared.query.Query.{Query}
-use Rattle.cli_ask.specs.Below.LcWorld.declared.entry.Entry.{Entry}
-use Rattle.cli_ask.specs.Below.PageClient.declared.outcome.Outcome.TheVariants.{LinkFault}
+use Rattle.lc_world.specs.declared.entry.Entry.{Entry}
+use Rattle.page_client.specs.declared.outcome.Outcome.TheVariants.{LinkFault}
 use Rattle.laws_replay.specs.Events.{questions_in, turns_in}
 use Rattle.laws_replay.specs.declared.event.Event.{Event}
 

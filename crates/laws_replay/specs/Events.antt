@@ -1,7 +1,7 @@
 -- What an event sequence has: its questions, its turns, and what comes before a turn.
 use Rattle.std.specs.Prelude.{◌≡◌, ◌==◌, ◌+◌, ℕ, List, [], ◌∷◌, ◌++◌, length, if◌then◌else◌}
 use Rattle.lc_model.specs.declared.query.Query.{Query}
-use Rattle.cli_ask.specs.Below.JourneyText.Script.{IsClient}
+use Rattle.journey_text.specs.Script.{IsClient}
 use Rattle.laws_replay.specs.declared.event.Event.{Event}
 use Rattle.laws_replay.specs.declared.event.Event.TheVariants as events
 

@@ -1,9 +1,9 @@
 -- That the rounds of clients and what clients received are one history.
 use Rattle.std.specs.Prelude.{◌≡◌, ℕ, List, [], ◌∷◌, ◌++◌, None, IsSome, map}
 use Rattle.std.specs.List.{All}
-use Rattle.cli_ask.specs.Below.LawsReplies.Met.{Met, asked_in}
-use Rattle.cli_ask.specs.Below.LawsConvoys.Names.{Round}
-use Rattle.cli_ask.specs.Below.PageClient.declared.want.Want.{Want}
+use Rattle.laws_replies.specs.Met.{Met, asked_in}
+use Rattle.laws_convoys.specs.Names.{Round}
+use Rattle.page_client.specs.declared.want.Want.{Want}
 
 -- what was wanted
 abbrev pub wants_of : List Met → List Want

@@ -1,4 +1,3 @@
-pub mod Below
 pub mod Caused
 pub mod Events
 pub mod History

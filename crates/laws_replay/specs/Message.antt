@@ -1,9 +1,9 @@
 -- Which bytes are a message that a publisher may receive.
 use Rattle.std.specs.Prelude.{◌≡◌, ◌<◌, ℕ, Bool, true, List, length, is_none}
-use Rattle.cli_ask.specs.Below.TripUpdates.Faults.{fault_of}
-use Rattle.cli_ask.specs.Below.VersionStore.Admission.{IsBroken, IsShort}
-use Rattle.cli_ask.specs.Below.VersionStore.declared.message_fault.MessageFault.{MessageFault}
-use Rattle.cli_ask.specs.Below.VersionStore.declared.message_fault.MessageFault.TheVariants as messages
+use Rattle.trip_updates.specs.Faults.{fault_of}
+use Rattle.version_store.specs.Admission.{IsBroken, IsShort}
+use Rattle.version_store.specs.declared.message_fault.MessageFault.{MessageFault}
+use Rattle.version_store.specs.declared.message_fault.MessageFault.TheVariants as messages
 
 -- whether the bytes are a message
 abbrev pub has_no_fault : List ℕ → Bool

@@ -1,11 +1,11 @@
 -- That two plays of one event sequence result in the same, where the replies come as the publisher gave them.
 use Rattle.std.specs.Prelude.{◌≡◌, ℕ, List, Option, length}
 use Rattle.std.specs.List.{All, AllZip}
-use Rattle.cli_ask.specs.Below.CliWords.declared.command.Publishing.{Publishing}
-use Rattle.cli_ask.specs.Below.LawsReplies.Met.{Met}
-use Rattle.cli_ask.specs.Below.LcWorld.declared.entry.Entry.{Entry}
-use Rattle.cli_ask.specs.Below.Timetable.Laws.{AreSame}
-use Rattle.cli_ask.specs.Below.Timetable.declared.timetable.Timetable.{Timetable}
+use Rattle.cli_words.specs.declared.command.Publishing.{Publishing}
+use Rattle.laws_replies.specs.Met.{Met}
+use Rattle.lc_world.specs.declared.entry.Entry.{Entry}
+use Rattle.timetable.specs.Laws.{AreSame}
+use Rattle.timetable.specs.declared.timetable.Timetable.{Timetable}
 use Rattle.cli_ask.specs.Laws.{AreOneEnd, IsNoLinkFault}
 use Rattle.cli_ask.specs.declared.end.ClientEnd.{ClientEnd}
 use Rattle.laws_replay.specs.Events.{TurnsAreOfClients, questions_in}

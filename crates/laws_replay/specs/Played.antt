@@ -1,19 +1,19 @@
 -- What was done in an event sequence: clients asked, the publisher at the link received messages, and clients had turns. X is the type of the
 -- link, and `seen` what is promised of it.
 use Rattle.std.specs.Prelude.{◌≡◌, ℕ, List, [], ◌∷◌, ◌++◌, Some}
-use Rattle.cli_ask.specs.Below.ConnectionUri.Base.{BaseParts}
-use Rattle.cli_ask.specs.Below.Convoy.Finish.{IsStep}
-use Rattle.cli_ask.specs.Below.Convoy.State.{Adds, ConvoyState}
-use Rattle.cli_ask.specs.Below.Convoy.declared.member.Member.{Member}
-use Rattle.cli_ask.specs.Below.Convoy.declared.turn.Turn.{Turn}
-use Rattle.cli_ask.specs.Below.Fragmenter.Cutting.{chosen_cuts}
-use Rattle.cli_ask.specs.Below.Fragmenter.declared.cutting.Cutting.{Cutting}
+use Rattle.connection_uri.specs.Base.{BaseParts}
+use Rattle.convoy.specs.Finish.{IsStep}
+use Rattle.convoy.specs.State.{Adds, ConvoyState}
+use Rattle.convoy.specs.declared.member.Member.{Member}
+use Rattle.convoy.specs.declared.turn.Turn.{Turn}
+use Rattle.fragmenter.specs.Cutting.{chosen_cuts}
+use Rattle.fragmenter.specs.declared.cutting.Cutting.{Cutting}
 use Rattle.lc_io.specs.declared.file.File.{File}
-use Rattle.cli_ask.specs.Below.LcWorld.Link.{LinkSeen}
-use Rattle.cli_ask.specs.Below.PageClient.Client.{shown}
-use Rattle.cli_ask.specs.Below.Publisher.Held.{Held, side_of}
-use Rattle.cli_ask.specs.Below.PublisherSpec.Side.{IsValidSide}
-use Rattle.cli_ask.specs.Below.VersionStore.Store.{Stored}
+use Rattle.lc_world.specs.Link.{LinkSeen}
+use Rattle.page_client.specs.Client.{shown}
+use Rattle.publisher.specs.Held.{Held, side_of}
+use Rattle.publisher_spec.specs.Side.{IsValidSide}
+use Rattle.version_store.specs.Store.{Stored}
 use Rattle.cli_ask.specs.Admission.{IsBehind}
 use Rattle.cli_ask.specs.declared.end.ClientEnd.{ClientEnd}
 use Rattle.laws_replay.specs.declared.event.Event.{Event}

@@ -1,8 +1,8 @@
 -- What is printed of an event sequence.
 use Rattle.std.specs.Prelude.{◌≡◌, ◌≤◌, ℕ, ◌+◌, List, [], ◌∷◌, ◌++◌, length}
-use Rattle.cli_ask.specs.Below.CliWords.declared.command.Publishing.{Publishing}
-use Rattle.cli_ask.specs.Below.LcWorld.Link.{LinkSeen}
-use Rattle.cli_ask.specs.Below.Timetable.declared.timetable.Timetable.{Timetable}
+use Rattle.cli_words.specs.declared.command.Publishing.{Publishing}
+use Rattle.lc_world.specs.Link.{LinkSeen}
+use Rattle.timetable.specs.declared.timetable.Timetable.{Timetable}
 use Rattle.cli_ask.specs.Block.{client_text_of}
 use Rattle.cli_ask.specs.declared.end.ClientEnd.{ClientEnd}
 use Rattle.laws_replay.specs.Caused.{AreCaused}

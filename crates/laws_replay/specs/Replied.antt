@@ -1,12 +1,12 @@
 -- That a link records what the publisher of an event sequence replied.
 use Rattle.std.specs.Prelude.{◌≡◌, ℕ, List, [], ◌∷◌, ◌++◌, Option, Some, length, option_map}
 use Rattle.std.specs.List.{All}
-use Rattle.cli_ask.specs.Below.CliWords.declared.command.Publishing.{Publishing}
-use Rattle.cli_ask.specs.Below.LawsConvoys.Names.{Round}
-use Rattle.cli_ask.specs.Below.LawsConvoys.Replies.{IsRepliedBy}
-use Rattle.cli_ask.specs.Below.LcWorld.declared.entry.Entry.{Entry}
-use Rattle.cli_ask.specs.Below.Timetable.declared.timetable.Timetable.{Timetable}
-use Rattle.cli_ask.specs.Below.VersionStore.Store.{Stored}
+use Rattle.cli_words.specs.declared.command.Publishing.{Publishing}
+use Rattle.laws_convoys.specs.Names.{Round}
+use Rattle.laws_convoys.specs.Replies.{IsRepliedBy}
+use Rattle.lc_world.specs.declared.entry.Entry.{Entry}
+use Rattle.timetable.specs.declared.timetable.Timetable.{Timetable}
+use Rattle.version_store.specs.Store.{Stored}
 use Rattle.cli_ask.specs.Admission.{IsBehind}
 use Rattle.cli_ask.specs.Publishing.{side_with, store_of}
 use Rattle.laws_replay.specs.declared.event.Event.{Event}

@@ -1,21 +1,21 @@
 -- How the clients of an event sequence end rightly by the publisher's side, where the replies come as it gave them.
 use Rattle.std.specs.Prelude.{◌≡◌, ℕ, ◌+◌, List, [], ◌∷◌, ◌++◌, Option, Some, length, slice_get}
-use Rattle.cli_ask.specs.Below.LawsClients.Fits.{HasEnded}
-use Rattle.cli_ask.specs.Below.LawsClients.Wants.{AreWants}
-use Rattle.cli_ask.specs.Below.LawsReplies.Met.{Met}
-use Rattle.cli_ask.specs.Below.CliWords.declared.command.Publishing.{Publishing}
-use Rattle.cli_ask.specs.Below.LawsConvoys.Names.{AskByNames, Round, failures_in}
-use Rattle.cli_ask.specs.Below.LawsConvoys.Requests.{TellsRequests}
+use Rattle.laws_clients.specs.Fits.{HasEnded}
+use Rattle.laws_clients.specs.Wants.{AreWants}
+use Rattle.laws_replies.specs.Met.{Met}
+use Rattle.cli_words.specs.declared.command.Publishing.{Publishing}
+use Rattle.laws_convoys.specs.Names.{AskByNames, Round, failures_in}
+use Rattle.laws_convoys.specs.Requests.{TellsRequests}
 use Rattle.lc_io.specs.Counts.{RoseBy}
 use Rattle.lc_model.specs.declared.query.Query.{Query}
-use Rattle.cli_ask.specs.Below.LcWorld.declared.entry.Entry.{Entry}
-use Rattle.cli_ask.specs.Below.PageClient.declared.outcome.Outcome.{Outcome}
-use Rattle.cli_ask.specs.Below.PageClient.declared.outcome.Outcome.TheVariants as outcomes
-use Rattle.cli_ask.specs.Below.PageClient.declared.want.Want.{Want}
-use Rattle.cli_ask.specs.Below.PageClient.declared.want.Want.TheVariants as wants
-use Rattle.cli_ask.specs.Below.PublisherSpec.Side.{Side}
-use Rattle.cli_ask.specs.Below.Timetable.declared.timetable.Timetable.{Timetable}
-use Rattle.cli_ask.specs.Below.VersionStore.Store.{Stored}
+use Rattle.lc_world.specs.declared.entry.Entry.{Entry}
+use Rattle.page_client.specs.declared.outcome.Outcome.{Outcome}
+use Rattle.page_client.specs.declared.outcome.Outcome.TheVariants as outcomes
+use Rattle.page_client.specs.declared.want.Want.{Want}
+use Rattle.page_client.specs.declared.want.Want.TheVariants as wants
+use Rattle.publisher_spec.specs.Side.{Side}
+use Rattle.timetable.specs.declared.timetable.Timetable.{Timetable}
+use Rattle.version_store.specs.Store.{Stored}
 use Rattle.cli_ask.specs.Client.{shown_of}
 use Rattle.cli_ask.specs.Publishing.{side_with, store_of}
 use Rattle.cli_ask.specs.declared.end.ClientEnd.{ClientEnd}

@@ -1,12 +1,12 @@
 -- Which messages are heard in an event sequence, and which version each client means.
 use Rattle.std.specs.Prelude.{◌≡◌, ℕ, List, [], ◌∷◌, ◌++◌, length, Option, Some, take}
-use Rattle.cli_ask.specs.Below.CliWords.declared.command.Publishing.{Publishing}
-use Rattle.cli_ask.specs.Below.LawsConvoys.OneClient.{version_of}
+use Rattle.cli_words.specs.declared.command.Publishing.{Publishing}
+use Rattle.laws_convoys.specs.OneClient.{version_of}
 use Rattle.lc_model.specs.declared.query.Query.{Query}
-use Rattle.cli_ask.specs.Below.PageClient.declared.want.Want.{Want}
-use Rattle.cli_ask.specs.Below.PublisherSpec.Short.{IsShort}
-use Rattle.cli_ask.specs.Below.Timetable.declared.timetable.Timetable.{Timetable}
-use Rattle.cli_ask.specs.Below.VersionStore.Store.{Stored}
+use Rattle.page_client.specs.declared.want.Want.{Want}
+use Rattle.publisher_spec.specs.Short.{IsShort}
+use Rattle.timetable.specs.declared.timetable.Timetable.{Timetable}
+use Rattle.version_store.specs.Store.{Stored}
 use Rattle.cli_ask.specs.Admission.{IsBehind}
 use Rattle.cli_ask.specs.Publishing.{side_with, store_of}
 use Rattle.laws_replay.specs.Events.{before_turn_of}

@@ -1,9 +1,10 @@
 ghost use Rattle.laws_replay.specs.Laws.{FaultsAreOwn, OneHearing, PlaysCaused, PlaysHeard, PlaysRight};
 ghost use Rattle.laws_replay.specs.OneCourse.{OneCourse};
 
-use cli_ask::below::{
-    Link, agreement_begins, one_answer, one_outcome, steps_keep_agreement, turns_keep_agreement,
-};
+use laws_clients::{one_answer, steps_keep_agreement};
+use laws_convoys::{agreement_begins, turns_keep_agreement};
+use lc_world::Link;
+use version_store::one_outcome;
 
 /// An event sequence that was played to its end over a quiet link was played rightly. Each client ended with a best journey by the
 /// timetable of the version that it meant when it first asked, or with none.

@@ -2,7 +2,6 @@
 //! and the laws that a sequence which was played over a link was played so. It builds on `cli_ask`.
 #![tactic(auto)]
 
-pub mod below;
 mod event;
 mod laws;
 mod message;

@@ -1,7 +1,7 @@
 ghost use Rattle.std.specs.Prelude.{◌≤◌, IsTrue, length};
 ghost use Rattle.laws_replay.specs.Message.{has_no_fault};
 
-use cli_ask::below::File;
+use lc_io::File;
 
 /// A file with a realtime message: 16 MiB at most, and without a fault.
 #[derive(Drop)]

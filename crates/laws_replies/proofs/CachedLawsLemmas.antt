@@ -2,16 +2,16 @@
 use Rattle.std.proofs.Common.{◌≡◌, ◌∙◌, ◌-◌, ℕ, Bool, true, false, List, [], ◌∷◌, ◌++◌, Option, Some, None, Ok, ap, refl, subst, sym}
 use Rattle.std.specs.Prelude.{if◌then◌else◌}
 use Rattle.std.specs.List.{slice_get}
-use Rattle.convoy.specs.Below.ConnectionUri.Base.{BaseParts}
+use Rattle.connection_uri.specs.Base.{BaseParts}
 use Rattle.lc_model.specs.declared.page.PageName.{PageName}
 use Rattle.lc_model.specs.declared.query.Query.{Query}
-use Rattle.convoy.specs.Below.PageClient.Kept.{Kept, page_named, with_put, with_used}
-use Rattle.convoy.proofs.BelowLemmas.PageClient.OneReplyLemmas.{one_page_reply}
-use Rattle.convoy.specs.Below.PageClient.Page.{IsPageReply}
-use Rattle.convoy.specs.Below.PageClient.Shown.{is_off}
-use Rattle.convoy.specs.Below.PageClient.declared.want.Want.{Want}
-use Rattle.convoy.specs.Below.PageClient.declared.want.Want.TheVariants as wants
-use Rattle.convoy.specs.Below.PageJson.declared.page.Page.{Page}
+use Rattle.page_client.specs.Kept.{Kept, page_named, with_put, with_used}
+use Rattle.page_client.proofs.OneReplyLemmas.{one_page_reply}
+use Rattle.page_client.specs.Page.{IsPageReply}
+use Rattle.page_client.specs.Shown.{is_off}
+use Rattle.page_client.specs.declared.want.Want.{Want}
+use Rattle.page_client.specs.declared.want.Want.TheVariants as wants
+use Rattle.page_json.specs.declared.page.Page.{Page}
 use Rattle.laws_replies.specs.Cached.{AreCached, CacheAlong, IsAfterExchange, IsAfterPage, IsAfterWant, IsCacheAfter, IsPutBy, empty_cache, is_sent_wrong, kept_by}
 use Rattle.laws_replies.specs.CachedLaws.{AreByCapacity, CacheIsOne, CapacityIsBound, IsNotPut, WrongPageIsNotPut, early, late, three_wants, two_wants}
 use Rattle.laws_replies.specs.Made.{Made, reply_to}

@@ -4,7 +4,7 @@ use Rattle.std.specs.Prelude.{IsSome}
 use Rattle.std.specs.List.{All, slice_get, slice_set}
 use Rattle.std.proofs.lemmas.List.Elements.{All-nil, All-push, All-weaker}
 use Rattle.std.proofs.lemmas.Option.{slice_get_within}
-use Rattle.convoy.specs.Below.ConnectionUri.Base.{BaseParts}
+use Rattle.connection_uri.specs.Base.{BaseParts}
 use Rattle.convoy.specs.Exchange.{Got, IsExchange}
 use Rattle.convoy.specs.Finish.{HasOutcome, IsStep}
 use Rattle.convoy.specs.State.{Adds, ConvoyState, begun}
@@ -13,31 +13,31 @@ use Rattle.convoy.specs.Turn.{Asks as AsksOne, IsCached, IsExchanged, IsFinished
 use Rattle.convoy.specs.declared.member.Member.{Member}
 use Rattle.convoy.specs.declared.turn.Turn.{Turn}
 use Rattle.convoy.specs.declared.turn.Turn.TheVariants.{Cached, Exchanged, Finished}
-use Rattle.convoy.proofs.BelowLemmas.CsaScan.ListPlacesLemmas.{item_within, push_cases, same_place, slice_get-append, slice_get-last, slice_get-set_other, slice_get-set_same}
+use Rattle.csa_scan.proofs.ListPlacesLemmas.{item_within, push_cases, same_place, slice_get-append, slice_get-last, slice_get-set_other, slice_get-set_same}
 use Rattle.lc_io.proofs.CountLemmas.{RoseBy-none}
 use Rattle.lc_io.specs.Counts.{RoseBy}
 use Rattle.lc_model.specs.declared.page.PageName.{PageName}
 use Rattle.lc_model.specs.declared.query.Query.{Query}
-use Rattle.convoy.specs.Below.LcWorld.Link.{LinkSeen}
-use Rattle.convoy.specs.Below.LcWorld.declared.entry.Entry.{Entry}
-use Rattle.convoy.proofs.BelowLemmas.PageClient.KeptLemmas.{All-with_put, All-with_used, found, named}
-use Rattle.convoy.specs.Below.PageClient.Kept.{Kept, has_name}
-use Rattle.convoy.proofs.BelowLemmas.PageClient.PageLemmas.{waits_for}
-use Rattle.convoy.specs.Below.PageClient.Client.{shown}
-use Rattle.convoy.specs.Below.PageClient.Page.{IsPageReply}
-use Rattle.convoy.specs.Below.PageClient.Request.{Asks, known_at, target_of}
-use Rattle.convoy.specs.Below.PageClient.Shown.{Begins, IsRefusal, Shown, first_outcome, first_phase, want_of, wrong_gate}
-use Rattle.convoy.specs.Below.PageClient.declared.client.Client.{Client}
-use Rattle.convoy.specs.Below.PageClient.declared.fault.PeerFault.{PeerFault}
-use Rattle.convoy.specs.Below.PageClient.declared.fault.QueryFault.{QueryFault}
-use Rattle.convoy.specs.Below.PageClient.declared.fault.QueryFault.TheVariants.{HorizonRange, SameStop, UnknownFrom, UnknownTo}
-use Rattle.convoy.specs.Below.PageClient.declared.outcome.Outcome.{Outcome}
-use Rattle.convoy.specs.Below.PageClient.declared.outcome.Outcome.TheVariants as outcomes
-use Rattle.convoy.specs.Below.PageClient.declared.phase.Phase.{Phase}
-use Rattle.convoy.specs.Below.PageClient.declared.phase.Phase.TheVariants as phases
-use Rattle.convoy.specs.Below.PageClient.declared.want.Want.{Want}
-use Rattle.convoy.specs.Below.PageClient.declared.want.Want.TheVariants as wants
-use Rattle.convoy.specs.Below.PageJson.declared.page.Page.{Page}
+use Rattle.lc_world.specs.Link.{LinkSeen}
+use Rattle.lc_world.specs.declared.entry.Entry.{Entry}
+use Rattle.page_client.proofs.KeptLemmas.{All-with_put, All-with_used, found, named}
+use Rattle.page_client.specs.Kept.{Kept, has_name}
+use Rattle.page_client.proofs.PageLemmas.{waits_for}
+use Rattle.page_client.specs.Client.{shown}
+use Rattle.page_client.specs.Page.{IsPageReply}
+use Rattle.page_client.specs.Request.{Asks, known_at, target_of}
+use Rattle.page_client.specs.Shown.{Begins, IsRefusal, Shown, first_outcome, first_phase, want_of, wrong_gate}
+use Rattle.page_client.specs.declared.client.Client.{Client}
+use Rattle.page_client.specs.declared.fault.PeerFault.{PeerFault}
+use Rattle.page_client.specs.declared.fault.QueryFault.{QueryFault}
+use Rattle.page_client.specs.declared.fault.QueryFault.TheVariants.{HorizonRange, SameStop, UnknownFrom, UnknownTo}
+use Rattle.page_client.specs.declared.outcome.Outcome.{Outcome}
+use Rattle.page_client.specs.declared.outcome.Outcome.TheVariants as outcomes
+use Rattle.page_client.specs.declared.phase.Phase.{Phase}
+use Rattle.page_client.specs.declared.phase.Phase.TheVariants as phases
+use Rattle.page_client.specs.declared.want.Want.{Want}
+use Rattle.page_client.specs.declared.want.Want.TheVariants as wants
+use Rattle.page_json.specs.declared.page.Page.{Page}
 use Rattle.laws_replies.specs.Cached.{CacheAlong, empty_cache}
 use Rattle.laws_replies.specs.Ends.{EndsBy}
 use Rattle.laws_replies.specs.Made.{Made, failure_of, reply_to}

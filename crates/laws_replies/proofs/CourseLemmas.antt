@@ -9,19 +9,19 @@ use Rattle.lc_model.specs.declared.doc.StopsDoc.{StopsDoc}
 use Rattle.lc_model.specs.declared.page.PageName.{PageName}
 use Rattle.lc_model.specs.declared.query.Query.{Query}
 use Rattle.lc_model.specs.Connection.{last_departure}
-use Rattle.convoy.specs.Below.ConnectionUri.Base.{BaseParts}
-use Rattle.convoy.specs.Below.PageJson.Valid.{IsValidPage}
-use Rattle.convoy.specs.Below.JsonMembers.declared.fault.PageFault.{PageFault}
-use Rattle.convoy.specs.Below.PageJson.declared.page.Page.{Page}
-use Rattle.convoy.specs.Below.PageJson.PageReading.{page_of_bytes}
-use Rattle.convoy.proofs.BelowLemmas.PageJson.ValidResultLemmas.{valid_page_of_bytes}
-use Rattle.convoy.specs.Below.PageClient.Course.{IsOver}
-use Rattle.convoy.specs.Below.PageClient.Page.{IsPageReply, advances, begins_at, is_asked, is_of_version, is_on_from, tested_body}
-use Rattle.convoy.specs.Below.PageClient.Replied.{body_of}
-use Rattle.convoy.specs.Below.PageClient.declared.fault.PeerFault.TheVariants.{Advance, Identity}
-use Rattle.convoy.specs.Below.PageClient.declared.want.Want.{Want}
-use Rattle.convoy.specs.Below.PageClient.declared.want.Want.TheVariants as wants
-use Rattle.convoy.proofs.BelowLemmas.PageClient.OrderLemmas.{LeadsOn, leads_on, spans}
+use Rattle.connection_uri.specs.Base.{BaseParts}
+use Rattle.page_json.specs.Valid.{IsValidPage}
+use Rattle.json_members.specs.declared.fault.PageFault.{PageFault}
+use Rattle.page_json.specs.declared.page.Page.{Page}
+use Rattle.page_json.specs.PageReading.{page_of_bytes}
+use Rattle.page_json.proofs.ValidResultLemmas.{valid_page_of_bytes}
+use Rattle.page_client.specs.Course.{IsOver}
+use Rattle.page_client.specs.Page.{IsPageReply, advances, begins_at, is_asked, is_of_version, is_on_from, tested_body}
+use Rattle.page_client.specs.Replied.{body_of}
+use Rattle.page_client.specs.declared.fault.PeerFault.TheVariants.{Advance, Identity}
+use Rattle.page_client.specs.declared.want.Want.{Want}
+use Rattle.page_client.specs.declared.want.Want.TheVariants as wants
+use Rattle.page_client.proofs.OrderLemmas.{LeadsOn, leads_on, spans}
 use Rattle.laws_replies.specs.Course.{GoesOnAfterEach, WantsAfter, IsReading, IsSentRight, Reads, ReadsPages, connections_in, link_behind}
 use Rattle.laws_replies.specs.Made.{Made, reply_to}
 

@@ -1,10 +1,10 @@
 -- What is recorded grows by one entry with each exchange.
 use Rattle.std.proofs.Common.{◌≡◌, ℕ, List, [], ◌∷◌, ◌++◌, Option, Some, None, refl, ap, ◌∙◌, append-nil, append_assoc, option_map, sym}
 use Rattle.lc_model.specs.declared.query.Query.{Query}
-use Rattle.convoy.specs.Below.ConnectionUri.Base.{BaseParts}
-use Rattle.convoy.specs.Below.LcWorld.Link.{Tells, TellsMore}
-use Rattle.convoy.specs.Below.LcWorld.declared.entry.Entry.{Entry}
-use Rattle.convoy.specs.Below.PageClient.Request.{Asks, known_at, target_of}
+use Rattle.connection_uri.specs.Base.{BaseParts}
+use Rattle.lc_world.specs.Link.{Tells, TellsMore}
+use Rattle.lc_world.specs.declared.entry.Entry.{Entry}
+use Rattle.page_client.specs.Request.{Asks, known_at, target_of}
 use Rattle.convoy.specs.Exchange.{Got, bytes_of, result_of}
 use Rattle.laws_replies.specs.Made.{AreEntriesOf, IsEntryOf, Made, TellsAll}
 

@@ -3,14 +3,14 @@ use Rattle.std.proofs.Common.{◌≡◌, ◌==◌, ◌&&◌, ◌+◌, ◌-◌, �
 use Rattle.std.specs.List.{All, slice_get}
 use Rattle.std.proofs.lemmas.List.{map-append}
 use Rattle.std.proofs.lemmas.List.Elements.{All-head, All-tail, filter-append}
-use Rattle.convoy.specs.Below.ConnectionUri.Base.{BaseParts}
+use Rattle.connection_uri.specs.Base.{BaseParts}
 use Rattle.convoy.specs.Exchange.{bytes_of, result_of}
-use Rattle.convoy.proofs.BelowLemmas.CsaScan.ListPlacesLemmas.{slice_get-append}
+use Rattle.csa_scan.proofs.ListPlacesLemmas.{slice_get-append}
 use Rattle.lc_io.specs.Counts.{RoseBy}
 use Rattle.lc_model.specs.declared.query.Query.{Query}
-use Rattle.convoy.specs.Below.LcWorld.Link.{Tells, TellsMore}
-use Rattle.convoy.specs.Below.LcWorld.declared.entry.Entry.{Entry}
-use Rattle.convoy.specs.Below.PageClient.Request.{Asks, known_at, target_of}
+use Rattle.lc_world.specs.Link.{Tells, TellsMore}
+use Rattle.lc_world.specs.declared.entry.Entry.{Entry}
+use Rattle.page_client.specs.Request.{Asks, known_at, target_of}
 use Rattle.laws_replies.specs.Met.{AreRecordedOf, CountAlong, IsRecordedOf, Met, TakeKept, TellsMet, WasKept, asked_in, exchanges_by, failures_in, is_by, met_by}
 use Rattle.laws_replies.proofs.MadeLemmas.{grows, stays, recorded_by}
 

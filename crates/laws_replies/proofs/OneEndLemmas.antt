@@ -9,22 +9,22 @@ use Rattle.lc_model.specs.declared.doc.StopsDoc.{StopsDoc}
 use Rattle.lc_model.specs.declared.journey.Journey.{Journey}
 use Rattle.lc_model.specs.declared.page.PageName.{PageName}
 use Rattle.lc_model.specs.declared.query.Query.{Query}
-use Rattle.convoy.specs.Below.ConnectionUri.Base.{BaseParts}
-use Rattle.convoy.specs.Below.CsaScan.StandsFor.{IsBestChain}
-use Rattle.convoy.specs.Below.PageJson.declared.page.Page.{Page}
-use Rattle.convoy.specs.Below.PageClient.Gate.{IsGateReply}
-use Rattle.convoy.specs.Below.PageClient.Page.{IsPageReply}
-use Rattle.convoy.specs.Below.PageClient.Shown.{answered, is_off}
-use Rattle.convoy.specs.Below.PageClient.Stops.{IsStopsReply}
-use Rattle.convoy.specs.Below.PageClient.declared.fault.PeerFault.{PeerFault}
-use Rattle.convoy.specs.Below.PageClient.declared.fault.PeerFault.TheVariants.{GateWrong}
-use Rattle.convoy.specs.Below.PageClient.declared.fault.QueryFault.{QueryFault}
-use Rattle.convoy.specs.Below.PageClient.declared.fault.QueryFault.TheVariants.{HorizonRange, SameStop, UnknownFrom, UnknownTo}
-use Rattle.convoy.specs.Below.PageClient.declared.outcome.Outcome.{Outcome}
-use Rattle.convoy.specs.Below.PageClient.declared.outcome.Outcome.TheVariants as outcomes
-use Rattle.convoy.specs.Below.PageClient.declared.want.Want.{Want}
-use Rattle.convoy.specs.Below.PageClient.declared.want.Want.TheVariants as wants
-use Rattle.convoy.proofs.BelowLemmas.PageClient.OneReplyLemmas.{one_gate_reply, one_page_reply, one_stops_reply}
+use Rattle.connection_uri.specs.Base.{BaseParts}
+use Rattle.csa_scan.specs.StandsFor.{IsBestChain}
+use Rattle.page_json.specs.declared.page.Page.{Page}
+use Rattle.page_client.specs.Gate.{IsGateReply}
+use Rattle.page_client.specs.Page.{IsPageReply}
+use Rattle.page_client.specs.Shown.{answered, is_off}
+use Rattle.page_client.specs.Stops.{IsStopsReply}
+use Rattle.page_client.specs.declared.fault.PeerFault.{PeerFault}
+use Rattle.page_client.specs.declared.fault.PeerFault.TheVariants.{GateWrong}
+use Rattle.page_client.specs.declared.fault.QueryFault.{QueryFault}
+use Rattle.page_client.specs.declared.fault.QueryFault.TheVariants.{HorizonRange, SameStop, UnknownFrom, UnknownTo}
+use Rattle.page_client.specs.declared.outcome.Outcome.{Outcome}
+use Rattle.page_client.specs.declared.outcome.Outcome.TheVariants as outcomes
+use Rattle.page_client.specs.declared.want.Want.{Want}
+use Rattle.page_client.specs.declared.want.Want.TheVariants as wants
+use Rattle.page_client.proofs.OneReplyLemmas.{one_gate_reply, one_page_reply, one_stops_reply}
 use Rattle.laws_replies.specs.Course.{WantsAfter, IsReading, IsSentOn, IsSentRight, ReadsPages, connections_in, link_behind}
 use Rattle.laws_replies.specs.Ends.{EndsBy, FailsTest, HasAnswered, IsRefusedAtOnce}
 use Rattle.laws_replies.specs.Laws.{IsOneEnd, OneEnd, SayTheSame, replies_of}

@@ -5,11 +5,11 @@ use Rattle.std.specs.List.{All}
 use Rattle.std.proofs.lemmas.List.{append_cancel_left}
 use Rattle.std.proofs.lemmas.List.Elements.{All-head, All-tail}
 use Rattle.lc_model.specs.declared.query.Query.{Query}
-use Rattle.convoy.specs.Below.ConnectionUri.Base.{BaseParts}
-use Rattle.convoy.specs.Below.LcWorld.Link.{LinkSeen, recorded_of}
-use Rattle.convoy.specs.Below.LcWorld.declared.entry.Entry.{Entry}
-use Rattle.convoy.specs.Below.LcWorld.declared.entry.RecordedReply.{RecordedReply}
-use Rattle.convoy.specs.Below.LcWorld.declared.entry.RecordedReply.TheVariants.{Hidden}
+use Rattle.connection_uri.specs.Base.{BaseParts}
+use Rattle.lc_world.specs.Link.{LinkSeen, recorded_of}
+use Rattle.lc_world.specs.declared.entry.Entry.{Entry}
+use Rattle.lc_world.specs.declared.entry.RecordedReply.{RecordedReply}
+use Rattle.lc_world.specs.declared.entry.RecordedReply.TheVariants.{Hidden}
 use Rattle.laws_replies.specs.Laws.{GotIsRecorded, OneRecordedEnd, TellsReply, replies_of}
 use Rattle.laws_replies.specs.Made.{AreEntriesOf, Made, TellsAll}
 use Rattle.laws_replies.proofs.OneEndLemmas.{one_end}

@@ -11,29 +11,29 @@ use Rattle.lc_model.specs.declared.journey.Journey.{Journey}
 use Rattle.lc_model.specs.declared.page.PageName.{PageName}
 use Rattle.lc_model.specs.declared.query.Query.{Query}
 use Rattle.lc_io.specs.Counts.{HasCause}
-use Rattle.convoy.specs.Below.LcWorld.declared.link.LinkFail.TheVariants.{Failed}
-use Rattle.convoy.specs.Below.ConnectionUri.Base.{BaseParts}
-use Rattle.convoy.specs.Below.CsaScan.StandsFor.{IsBestChain}
-use Rattle.convoy.specs.Below.PageJson.declared.page.Page.{Page}
-use Rattle.convoy.specs.Below.PageClient.Kept.{Kept}
-use Rattle.convoy.specs.Below.PageClient.Client.{AfterDoc, AfterPage, AfterStops, GoesOnBy, Leaves, StandsFor, TakesPage, shown}
-use Rattle.convoy.specs.Below.PageClient.Course.{Follows, IsOver}
-use Rattle.convoy.specs.Below.PageClient.Gate.{IsGateReply}
-use Rattle.convoy.specs.Below.PageClient.Page.{IsPageReply}
-use Rattle.convoy.specs.Below.PageClient.Shown.{IsRefusal, Shown, after_gate, after_stops, answered, behind_stops, ended, is_off, onward, wrong_gate}
-use Rattle.convoy.specs.Below.PageClient.Stops.{IsStopsReply}
-use Rattle.convoy.specs.Below.PageClient.declared.client.Client.{Client}
-use Rattle.convoy.specs.Below.PageClient.declared.fault.PeerFault.{PeerFault}
-use Rattle.convoy.specs.Below.PageClient.declared.fault.PeerFault.TheVariants.{GateWrong}
-use Rattle.convoy.specs.Below.PageClient.declared.fault.QueryFault.TheVariants.{UnknownFrom, UnknownTo}
-use Rattle.convoy.specs.Below.PageClient.declared.outcome.Outcome.{Outcome}
-use Rattle.convoy.specs.Below.PageClient.declared.outcome.Outcome.TheVariants as outcomes
-use Rattle.convoy.specs.Below.PageClient.declared.phase.Phase.{Phase}
-use Rattle.convoy.specs.Below.PageClient.declared.phase.Phase.TheVariants as phases
-use Rattle.convoy.specs.Below.PageClient.declared.step.Step.{Step}
-use Rattle.convoy.specs.Below.PageClient.declared.step.Step.TheVariants.{Last, Next}
-use Rattle.convoy.specs.Below.PageClient.declared.want.Want.{Want}
-use Rattle.convoy.specs.Below.PageClient.declared.want.Want.TheVariants as wants
+use Rattle.lc_world.specs.declared.link.LinkFail.TheVariants.{Failed}
+use Rattle.connection_uri.specs.Base.{BaseParts}
+use Rattle.csa_scan.specs.StandsFor.{IsBestChain}
+use Rattle.page_json.specs.declared.page.Page.{Page}
+use Rattle.page_client.specs.Kept.{Kept}
+use Rattle.page_client.specs.Client.{AfterDoc, AfterPage, AfterStops, GoesOnBy, Leaves, StandsFor, TakesPage, shown}
+use Rattle.page_client.specs.Course.{Follows, IsOver}
+use Rattle.page_client.specs.Gate.{IsGateReply}
+use Rattle.page_client.specs.Page.{IsPageReply}
+use Rattle.page_client.specs.Shown.{IsRefusal, Shown, after_gate, after_stops, answered, behind_stops, ended, is_off, onward, wrong_gate}
+use Rattle.page_client.specs.Stops.{IsStopsReply}
+use Rattle.page_client.specs.declared.client.Client.{Client}
+use Rattle.page_client.specs.declared.fault.PeerFault.{PeerFault}
+use Rattle.page_client.specs.declared.fault.PeerFault.TheVariants.{GateWrong}
+use Rattle.page_client.specs.declared.fault.QueryFault.TheVariants.{UnknownFrom, UnknownTo}
+use Rattle.page_client.specs.declared.outcome.Outcome.{Outcome}
+use Rattle.page_client.specs.declared.outcome.Outcome.TheVariants as outcomes
+use Rattle.page_client.specs.declared.phase.Phase.{Phase}
+use Rattle.page_client.specs.declared.phase.Phase.TheVariants as phases
+use Rattle.page_client.specs.declared.step.Step.{Step}
+use Rattle.page_client.specs.declared.step.Step.TheVariants.{Last, Next}
+use Rattle.page_client.specs.declared.want.Want.{Want}
+use Rattle.page_client.specs.declared.want.Want.TheVariants as wants
 use Rattle.convoy.specs.Exchange.{Got, result_of}
 use Rattle.convoy.specs.Steps.{AfterPage as AfterPageSaid, Takes, TakesAsked, TakesGate, TakesStops}
 use Rattle.laws_replies.specs.Course.{WantsAfter, IsAtGate, IsReading, IsSentOn, IsSentRight, connections_in}

@@ -4,14 +4,14 @@ use Rattle.std.specs.Prelude.{◌≡◌, ◌&&◌, ◌-◌, ℕ, Bool, true, fal
 use Rattle.std.specs.List.{list_any}
 use Rattle.lc_model.specs.declared.page.PageName.{PageName}
 use Rattle.lc_model.specs.declared.query.Query.{Query}
-use Rattle.convoy.specs.Below.ConnectionUri.Base.{BaseParts}
-use Rattle.convoy.specs.Below.PageClient.Kept.{Kept, page_named, with_put, with_used}
-use Rattle.convoy.specs.Below.PageJson.declared.page.Page.{Page}
-use Rattle.convoy.specs.Below.PageClient.Page.{IsPageReply}
-use Rattle.convoy.specs.Below.PageClient.Shown.{is_off}
-use Rattle.convoy.specs.Below.PageClient.declared.fault.PeerFault.{PeerFault}
-use Rattle.convoy.specs.Below.PageClient.declared.want.Want.{Want}
-use Rattle.convoy.specs.Below.PageClient.declared.want.Want.TheVariants as wants
+use Rattle.connection_uri.specs.Base.{BaseParts}
+use Rattle.page_client.specs.Kept.{Kept, page_named, with_put, with_used}
+use Rattle.page_json.specs.declared.page.Page.{Page}
+use Rattle.page_client.specs.Page.{IsPageReply}
+use Rattle.page_client.specs.Shown.{is_off}
+use Rattle.page_client.specs.declared.fault.PeerFault.{PeerFault}
+use Rattle.page_client.specs.declared.want.Want.{Want}
+use Rattle.page_client.specs.declared.want.Want.TheVariants as wants
 use Rattle.laws_replies.specs.Made.{Made}
 use Rattle.laws_replies.specs.Met.{Met, met_by}
 

@@ -2,12 +2,12 @@
 use Rattle.std.specs.Prelude.{◌≡◌, ℕ, Bool, true, false, List, [], ◌∷◌, Ok}
 use Rattle.lc_model.specs.declared.page.PageName.{PageName}
 use Rattle.lc_model.specs.declared.query.Query.{Query}
-use Rattle.convoy.specs.Below.ConnectionUri.Base.{BaseParts}
-use Rattle.convoy.specs.Below.PageClient.Kept.{Kept}
-use Rattle.convoy.specs.Below.PageJson.declared.page.Page.{Page}
-use Rattle.convoy.specs.Below.PageClient.Page.{IsPageReply}
-use Rattle.convoy.specs.Below.PageClient.Shown.{is_off}
-use Rattle.convoy.specs.Below.PageClient.declared.want.Want.TheVariants as wants
+use Rattle.connection_uri.specs.Base.{BaseParts}
+use Rattle.page_client.specs.Kept.{Kept}
+use Rattle.page_json.specs.declared.page.Page.{Page}
+use Rattle.page_client.specs.Page.{IsPageReply}
+use Rattle.page_client.specs.Shown.{is_off}
+use Rattle.page_client.specs.declared.want.Want.TheVariants as wants
 use Rattle.laws_replies.specs.Cached.{AreCached, CacheAlong}
 use Rattle.laws_replies.specs.Made.{reply_to}
 use Rattle.laws_replies.specs.Met.{Met}

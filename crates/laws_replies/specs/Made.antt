@@ -1,12 +1,12 @@
 -- The exchanges that a client made, and the entries by which a link records them.
 use Rattle.std.specs.Prelude.{◌≡◌, ◌⊎◌, ℕ, List, [], ◌∷◌, ◌++◌, Option, Some, None, option_map}
 use Rattle.lc_model.specs.declared.query.Query.{Query}
-use Rattle.convoy.specs.Below.ConnectionUri.Base.{BaseParts}
-use Rattle.convoy.specs.Below.LcWorld.Link.{recorded_of}
-use Rattle.convoy.specs.Below.LcWorld.declared.entry.Entry.{Entry}
-use Rattle.convoy.specs.Below.LcWorld.declared.entry.RecordedReply.TheVariants.{Hidden}
-use Rattle.convoy.specs.Below.PageClient.Request.{Asks, known_at, target_of}
-use Rattle.convoy.specs.Below.PageClient.declared.want.Want.{Want}
+use Rattle.connection_uri.specs.Base.{BaseParts}
+use Rattle.lc_world.specs.Link.{recorded_of}
+use Rattle.lc_world.specs.declared.entry.Entry.{Entry}
+use Rattle.lc_world.specs.declared.entry.RecordedReply.TheVariants.{Hidden}
+use Rattle.page_client.specs.Request.{Asks, known_at, target_of}
+use Rattle.page_client.specs.declared.want.Want.{Want}
 
 -- an exchange: what the client wanted, and the reply that it got, or none where the exchange failed
 pub record Made : Type 0 where

@@ -4,11 +4,11 @@ use Rattle.std.specs.List.{All}
 use Rattle.lc_io.specs.Counts.{RoseBy}
 use Rattle.lc_model.specs.declared.page.PageName.{PageName}
 use Rattle.lc_model.specs.declared.query.Query.{Query}
-use Rattle.convoy.specs.Below.ConnectionUri.Base.{BaseParts}
-use Rattle.convoy.specs.Below.LcWorld.declared.entry.Entry.{Entry}
-use Rattle.convoy.specs.Below.PageClient.Page.{IsPageReply}
-use Rattle.convoy.specs.Below.PageClient.declared.want.Want.TheVariants as wants
-use Rattle.convoy.specs.Below.PageJson.declared.page.Page.{Page}
+use Rattle.connection_uri.specs.Base.{BaseParts}
+use Rattle.lc_world.specs.declared.entry.Entry.{Entry}
+use Rattle.page_client.specs.Page.{IsPageReply}
+use Rattle.page_client.specs.declared.want.Want.TheVariants as wants
+use Rattle.page_json.specs.declared.page.Page.{Page}
 use Rattle.laws_replies.specs.Made.{IsEntryOf, Made, reply_to}
 
 -- What a client received for one of its wants. It is the reply or the failure of its own exchange, or the reply that said a cached page.

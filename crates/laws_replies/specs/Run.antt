@@ -1,11 +1,11 @@
 -- What a client alone did over a link, whatever the link is. X is the type of the link, and `seen` what is promised of it.
 use Rattle.std.specs.Prelude.{◌≡◌, ℕ, ◌≤◌, List, [], ◌∷◌, Option, Some, length, map}
 use Rattle.lc_model.specs.declared.query.Query.{Query}
-use Rattle.convoy.specs.Below.ConnectionUri.Base.{BaseParts}
-use Rattle.convoy.specs.Below.LcWorld.Link.{LinkSeen}
-use Rattle.convoy.specs.Below.PageClient.Client.{shown}
-use Rattle.convoy.specs.Below.PageClient.declared.outcome.Outcome.{Outcome}
-use Rattle.convoy.specs.Below.PageClient.declared.outcome.Outcome.TheVariants.{LinkFault}
+use Rattle.connection_uri.specs.Base.{BaseParts}
+use Rattle.lc_world.specs.Link.{LinkSeen}
+use Rattle.page_client.specs.Client.{shown}
+use Rattle.page_client.specs.declared.outcome.Outcome.{Outcome}
+use Rattle.page_client.specs.declared.outcome.Outcome.TheVariants.{LinkFault}
 use Rattle.convoy.specs.Finish.{Rounds}
 use Rattle.convoy.specs.State.{Adds, ConvoyState, begun}
 use Rattle.convoy.specs.declared.member.Member.{Member}

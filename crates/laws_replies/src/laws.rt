@@ -2,7 +2,7 @@ ghost use Rattle.laws_replies.specs.CachedLaws.{CacheIsOne, CapacityIsBound, Wro
 ghost use Rattle.laws_replies.specs.Laws.{AloneAsksAll, FaultsAreAroundLast, GotIsRecorded, NoFaultIsShrunken, OneEnd, OneRecordedEnd};
 ghost use Rattle.laws_replies.specs.Run.{EndsByItsReplies};
 
-use convoy::below::Link;
+use lc_world::Link;
 
 /// A client that asks alone ends by the replies that it got, whatever the link is. Its answer is a best one by the stops document and the
 /// connections of the pages that these say. An unknown stop is one that the document lacks. A fault of the link comes

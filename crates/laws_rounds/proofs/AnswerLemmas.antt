@@ -2,19 +2,19 @@
 use Rattle.std.proofs.Common.{◌≡◌, ◌∙◌, ℕ, List, [], ◌++◌, Option, Some, None, ap, length, refl, subst, sym}
 use Rattle.std.specs.Prelude.{IsSome}
 use Rattle.std.proofs.lemmas.List.{length-map}
-use Rattle.rounds_client.specs.Below.ChangeRounds.Fewest.{IsFewestChain}
-use Rattle.rounds_client.specs.Below.ConnectionUri.Base.{BaseParts}
+use Rattle.change_rounds.specs.Fewest.{IsFewestChain}
+use Rattle.connection_uri.specs.Base.{BaseParts}
 use Rattle.lc_model.specs.declared.connection.Connection.{Connection}
 use Rattle.lc_model.specs.declared.doc.StopsDoc.{StopsDoc}
 use Rattle.lc_model.specs.declared.query.Query.{Query}
-use Rattle.rounds_client.specs.Below.LcWorld.Link.{LinkSeen}
-use Rattle.rounds_client.specs.Below.PageClient.Client.{shown}
-use Rattle.rounds_client.specs.Below.PageClient.Shown.{Shown}
-use Rattle.rounds_client.specs.Below.PageClient.declared.client.Client.{Client}
-use Rattle.rounds_client.specs.Below.PageClient.declared.outcome.Outcome.{Outcome}
-use Rattle.rounds_client.specs.Below.PageClient.declared.outcome.Outcome.TheVariants as outcomes
-use Rattle.rounds_client.specs.Below.PageClient.declared.phase.Phase.{Phase}
-use Rattle.rounds_client.specs.Below.PageClient.declared.phase.Phase.TheVariants as phases
+use Rattle.lc_world.specs.Link.{LinkSeen}
+use Rattle.page_client.specs.Client.{shown}
+use Rattle.page_client.specs.Shown.{Shown}
+use Rattle.page_client.specs.declared.client.Client.{Client}
+use Rattle.page_client.specs.declared.outcome.Outcome.{Outcome}
+use Rattle.page_client.specs.declared.outcome.Outcome.TheVariants as outcomes
+use Rattle.page_client.specs.declared.phase.Phase.{Phase}
+use Rattle.page_client.specs.declared.phase.Phase.TheVariants as phases
 use Rattle.laws_replies.specs.Course.{connections_in}
 use Rattle.laws_replies.specs.Ends.{EndsBy}
 use Rattle.laws_replies.specs.Made.{Made}

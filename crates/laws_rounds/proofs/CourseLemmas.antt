@@ -3,21 +3,21 @@ use Rattle.std.proofs.Common.{◌≡◌, ℕ, suc, ◌⊎◌, inl, inr, List, []
 use Rattle.std.proofs.lemmas.List.{append-nil, length-append}
 use Rattle.std.proofs.lemmas.List.Elements.{All-nil}
 use Rattle.lc_model.specs.declared.query.Query.{Query}
-use Rattle.laws_convoys.specs.Below.ConnectionUri.Base.{BaseParts}
-use Rattle.laws_convoys.specs.Below.LcWorld.Link.{IsHonestWith, LinkSeen}
-use Rattle.laws_convoys.specs.Below.PageClient.Client.{shown}
-use Rattle.laws_convoys.specs.Below.PageClient.Shown.{Begins, IsRefusal, Shown, first_outcome, first_phase, want_of}
-use Rattle.laws_convoys.specs.Below.PageClient.declared.client.Client.{Client}
-use Rattle.laws_convoys.specs.Below.PageClient.declared.fault.QueryFault.{QueryFault}
-use Rattle.laws_convoys.specs.Below.PageClient.declared.outcome.Outcome.TheVariants.{LinkFault}
-use Rattle.laws_convoys.specs.Below.PageClient.declared.want.Want.{Want}
-use Rattle.laws_convoys.specs.Below.PageClient.declared.want.Want.TheVariants as wants
-use Rattle.laws_convoys.specs.Below.PublisherSpec.Side.{Side}
-use Rattle.laws_convoys.specs.Below.LawsClients.Stated.{version_at}
-use Rattle.laws_convoys.specs.Below.LawsClients.Fits.{FitsSide}
-use Rattle.laws_convoys.specs.Below.LawsClients.Published.{IsOwnPage}
-use Rattle.laws_convoys.specs.Below.LawsClients.Steps.{BeginsInAgreement}
-use Rattle.laws_convoys.specs.Below.LawsClients.Wants.{AreWants}
+use Rattle.connection_uri.specs.Base.{BaseParts}
+use Rattle.lc_world.specs.Link.{IsHonestWith, LinkSeen}
+use Rattle.page_client.specs.Client.{shown}
+use Rattle.page_client.specs.Shown.{Begins, IsRefusal, Shown, first_outcome, first_phase, want_of}
+use Rattle.page_client.specs.declared.client.Client.{Client}
+use Rattle.page_client.specs.declared.fault.QueryFault.{QueryFault}
+use Rattle.page_client.specs.declared.outcome.Outcome.TheVariants.{LinkFault}
+use Rattle.page_client.specs.declared.want.Want.{Want}
+use Rattle.page_client.specs.declared.want.Want.TheVariants as wants
+use Rattle.publisher_spec.specs.Side.{Side}
+use Rattle.laws_clients.specs.Stated.{version_at}
+use Rattle.laws_clients.specs.Fits.{FitsSide}
+use Rattle.laws_clients.specs.Published.{IsOwnPage}
+use Rattle.laws_clients.specs.Steps.{BeginsInAgreement}
+use Rattle.laws_clients.specs.Wants.{AreWants}
 use Rattle.laws_convoys.specs.Leaves.{HasFault, LeavesHonest, RoseWithin}
 use Rattle.laws_convoys.specs.Requests.{TellsAsked}
 use Rattle.laws_convoys.proofs.AloneLemmas.{no_fault_yet}

@@ -6,26 +6,26 @@ use Rattle.lc_model.specs.Stop.{HasStop}
 use Rattle.lc_model.specs.declared.doc.StopsDoc.{StopsDoc}
 use Rattle.lc_model.specs.declared.journey.Journey.{Journey}
 use Rattle.lc_model.specs.declared.query.Query.{Query}
-use Rattle.laws_convoys.specs.Below.ConnectionUri.Base.{BaseParts}
-use Rattle.laws_convoys.specs.Below.PageJson.declared.page.Page.{Page}
-use Rattle.laws_convoys.specs.Below.LcWorld.Link.{LinkSeen}
-use Rattle.laws_convoys.specs.Below.PageClient.Client.{shown}
-use Rattle.laws_convoys.specs.Below.PageClient.Shown.{IsRefusal, answered}
-use Rattle.laws_convoys.specs.Below.PageClient.declared.client.Client.{Client}
-use Rattle.laws_convoys.specs.Below.PageClient.declared.fault.QueryFault.{QueryFault}
-use Rattle.laws_convoys.specs.Below.PageClient.declared.fault.QueryFault.TheVariants.{HorizonRange, SameStop, UnknownFrom, UnknownTo}
-use Rattle.laws_convoys.specs.Below.PageClient.declared.outcome.Outcome.{Outcome}
-use Rattle.laws_convoys.specs.Below.PageClient.declared.outcome.Outcome.TheVariants as outcomes
-use Rattle.laws_convoys.specs.Below.PageClient.declared.phase.Phase.{Phase}
-use Rattle.laws_convoys.specs.Below.PageClient.declared.phase.Phase.TheVariants as phases
-use Rattle.laws_convoys.specs.Below.PageClient.declared.want.Want.{Want}
-use Rattle.laws_convoys.specs.Below.PageClient.declared.want.Want.TheVariants as wants
-use Rattle.laws_convoys.specs.Below.PublisherSpec.Side.{Side}
-use Rattle.laws_convoys.specs.Below.LawsClients.Answered.{AnswersAt, NeededAt, answer_of}
-use Rattle.laws_convoys.specs.Below.LawsClients.Fits.{FitsAt, HasAnswered, HasFailed, IsDenied}
-use Rattle.laws_convoys.specs.Below.LawsClients.Steps.{BeginsInAgreement}
-use Rattle.laws_convoys.specs.Below.LawsClients.Wants.{AreWants, HasEnds, wants_of}
-use Rattle.laws_convoys.proofs.BelowLemmas.LawsClients.WantsLemmas.{ends_with_an_answer, faults_cut_short, no_reply_fails_a_test, refusals_are_deserved}
+use Rattle.connection_uri.specs.Base.{BaseParts}
+use Rattle.page_json.specs.declared.page.Page.{Page}
+use Rattle.lc_world.specs.Link.{LinkSeen}
+use Rattle.page_client.specs.Client.{shown}
+use Rattle.page_client.specs.Shown.{IsRefusal, answered}
+use Rattle.page_client.specs.declared.client.Client.{Client}
+use Rattle.page_client.specs.declared.fault.QueryFault.{QueryFault}
+use Rattle.page_client.specs.declared.fault.QueryFault.TheVariants.{HorizonRange, SameStop, UnknownFrom, UnknownTo}
+use Rattle.page_client.specs.declared.outcome.Outcome.{Outcome}
+use Rattle.page_client.specs.declared.outcome.Outcome.TheVariants as outcomes
+use Rattle.page_client.specs.declared.phase.Phase.{Phase}
+use Rattle.page_client.specs.declared.phase.Phase.TheVariants as phases
+use Rattle.page_client.specs.declared.want.Want.{Want}
+use Rattle.page_client.specs.declared.want.Want.TheVariants as wants
+use Rattle.publisher_spec.specs.Side.{Side}
+use Rattle.laws_clients.specs.Answered.{AnswersAt, NeededAt, answer_of}
+use Rattle.laws_clients.specs.Fits.{FitsAt, HasAnswered, HasFailed, IsDenied}
+use Rattle.laws_clients.specs.Steps.{BeginsInAgreement}
+use Rattle.laws_clients.specs.Wants.{AreWants, HasEnds, wants_of}
+use Rattle.laws_clients.proofs.WantsLemmas.{ends_with_an_answer, faults_cut_short, no_reply_fails_a_test, refusals_are_deserved}
 use Rattle.laws_convoys.specs.Leaves.{HasFault, RoseWithin}
 use Rattle.laws_convoys.specs.Requests.{TellsAsked}
 use Rattle.change_rounds.specs.Fewest.{IsFewestChain}

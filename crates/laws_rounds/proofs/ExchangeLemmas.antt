@@ -6,33 +6,33 @@ use Rattle.lc_io.specs.Counts.{Rose}
 use Rattle.lc_model.specs.declared.doc.StopsDoc.{StopsDoc}
 use Rattle.lc_model.specs.declared.page.PageName.{PageName}
 use Rattle.lc_model.specs.declared.query.Query.{Query}
-use Rattle.laws_convoys.specs.Below.ConnectionUri.Base.{BaseParts}
-use Rattle.laws_convoys.specs.Below.PageJson.declared.page.Page.{Page}
-use Rattle.laws_convoys.specs.Below.LcWorld.Link.{Exchanges, IsHonestWith, LinkSeen}
-use Rattle.laws_convoys.specs.Below.PageClient.Client.{AfterStops, shown}
-use Rattle.laws_convoys.specs.Below.PageClient.Shown.{IsRefusal, Shown, ended, want_of}
-use Rattle.laws_convoys.specs.Below.PageClient.declared.client.Client.{Client}
-use Rattle.laws_convoys.specs.Below.PageClient.declared.fault.PeerFault.{PeerFault}
-use Rattle.laws_convoys.specs.Below.PageClient.declared.outcome.Outcome.{Outcome}
-use Rattle.laws_convoys.specs.Below.PageClient.declared.outcome.Outcome.TheVariants.{LinkFault}
-use Rattle.laws_convoys.specs.Below.PageClient.declared.phase.Phase.{Phase}
-use Rattle.laws_convoys.specs.Below.PageClient.declared.phase.Phase.TheVariants as phases
-use Rattle.laws_convoys.specs.Below.PageClient.declared.want.Want.{Want}
-use Rattle.laws_convoys.specs.Below.PageClient.declared.want.Want.TheVariants as wants
-use Rattle.laws_convoys.proofs.BelowLemmas.PageClient.PageLemmas.{waits_for}
-use Rattle.laws_convoys.specs.Below.PublisherSpec.Short.{StandsUnder}
-use Rattle.laws_convoys.specs.Below.PublisherSpec.Side.{Side}
-use Rattle.laws_convoys.specs.Below.LawsClients.Stated.{version_at}
-use Rattle.laws_convoys.proofs.BelowLemmas.LawsClients.ReadLemmas.{stops_are_read}
-use Rattle.laws_convoys.specs.Below.LawsClients.Fits.{FitsAt, FitsSide, WaitsForPage}
-use Rattle.laws_convoys.specs.Below.LawsClients.Published.{IsOwnPage}
-use Rattle.laws_convoys.specs.Below.LawsClients.Steps.{IsReplyTo, SaysOwnPage}
-use Rattle.laws_convoys.specs.Below.LawsClients.Wants.{AreWants, IsItsVersion}
-use Rattle.laws_convoys.proofs.BelowLemmas.LawsClients.FitsLemmas.{fits_stays}
-use Rattle.laws_convoys.proofs.BelowLemmas.LawsClients.StepLemmas.{gate_keeps_it, link_fault_keeps_it, page_is_own, page_keeps_it, stops_keep_it}
-use Rattle.laws_convoys.proofs.BelowLemmas.LawsClients.WantsLemmas.{wants_the_next}
-use Rattle.laws_convoys.specs.Below.Convoy.Exchange.{Got, IsExchange, bytes_of, result_of}
-use Rattle.laws_convoys.specs.Below.Convoy.Steps.{Takes, TakesGate}
+use Rattle.connection_uri.specs.Base.{BaseParts}
+use Rattle.page_json.specs.declared.page.Page.{Page}
+use Rattle.lc_world.specs.Link.{Exchanges, IsHonestWith, LinkSeen}
+use Rattle.page_client.specs.Client.{AfterStops, shown}
+use Rattle.page_client.specs.Shown.{IsRefusal, Shown, ended, want_of}
+use Rattle.page_client.specs.declared.client.Client.{Client}
+use Rattle.page_client.specs.declared.fault.PeerFault.{PeerFault}
+use Rattle.page_client.specs.declared.outcome.Outcome.{Outcome}
+use Rattle.page_client.specs.declared.outcome.Outcome.TheVariants.{LinkFault}
+use Rattle.page_client.specs.declared.phase.Phase.{Phase}
+use Rattle.page_client.specs.declared.phase.Phase.TheVariants as phases
+use Rattle.page_client.specs.declared.want.Want.{Want}
+use Rattle.page_client.specs.declared.want.Want.TheVariants as wants
+use Rattle.page_client.proofs.PageLemmas.{waits_for}
+use Rattle.publisher_spec.specs.Short.{StandsUnder}
+use Rattle.publisher_spec.specs.Side.{Side}
+use Rattle.laws_clients.specs.Stated.{version_at}
+use Rattle.laws_clients.proofs.ReadLemmas.{stops_are_read}
+use Rattle.laws_clients.specs.Fits.{FitsAt, FitsSide, WaitsForPage}
+use Rattle.laws_clients.specs.Published.{IsOwnPage}
+use Rattle.laws_clients.specs.Steps.{IsReplyTo, SaysOwnPage}
+use Rattle.laws_clients.specs.Wants.{AreWants, IsItsVersion}
+use Rattle.laws_clients.proofs.FitsLemmas.{fits_stays}
+use Rattle.laws_clients.proofs.StepLemmas.{gate_keeps_it, link_fault_keeps_it, page_is_own, page_keeps_it, stops_keep_it}
+use Rattle.laws_clients.proofs.WantsLemmas.{wants_the_next}
+use Rattle.convoy.specs.Exchange.{Got, IsExchange, bytes_of, result_of}
+use Rattle.convoy.specs.Steps.{Takes, TakesGate}
 use Rattle.laws_convoys.specs.Leaves.{HasFault, LeavesHonest, RoseWithin}
 use Rattle.laws_convoys.specs.Requests.{TellsAsked, request_of}
 use Rattle.laws_convoys.proofs.AloneLemmas.{waits_at_first}

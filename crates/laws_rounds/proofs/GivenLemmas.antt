@@ -5,22 +5,22 @@ use Rattle.std.proofs.lemmas.List.{map-append}
 use Rattle.std.proofs.lemmas.List.Elements.{All-append, All-contains, All-cons, All-nil}
 use Rattle.lc_model.specs.declared.page.PageName.{PageName}
 use Rattle.lc_model.proofs.ListLemmas.{All-from_contains}
-use Rattle.laws_convoys.specs.Below.PageJson.declared.page.Page.{Page}
-use Rattle.laws_convoys.specs.Below.PageClient.Client.{AfterDoc, shown}
-use Rattle.laws_convoys.specs.Below.PageClient.Shown.{Shown, after_gate, ended}
-use Rattle.laws_convoys.specs.Below.PageClient.declared.client.Client.{Client}
-use Rattle.laws_convoys.specs.Below.PageClient.declared.fault.PeerFault.{PeerFault}
-use Rattle.laws_convoys.specs.Below.PageClient.declared.fault.QueryFault.TheVariants.{UnknownFrom, UnknownTo}
-use Rattle.laws_convoys.specs.Below.PageClient.declared.outcome.Outcome.{Outcome}
-use Rattle.laws_convoys.specs.Below.PageClient.declared.outcome.Outcome.TheVariants as outcomes
-use Rattle.laws_convoys.specs.Below.PageClient.declared.phase.Phase.{Phase}
-use Rattle.laws_convoys.specs.Below.PageClient.declared.phase.Phase.TheVariants as phases
-use Rattle.laws_convoys.specs.Below.PageClient.declared.want.Want.{Want}
-use Rattle.laws_convoys.specs.Below.PageClient.declared.want.Want.TheVariants as wants
-use Rattle.laws_convoys.specs.Below.PublisherSpec.Side.{IsLater, IsValidSide, Side}
-use Rattle.laws_convoys.specs.Below.LawsClients.Published.{IsOwnPage}
-use Rattle.laws_convoys.specs.Below.LawsClients.Wants.{wants_of}
-use Rattle.laws_convoys.proofs.BelowLemmas.LawsClients.FitsLemmas.{own_pages_stay}
+use Rattle.page_json.specs.declared.page.Page.{Page}
+use Rattle.page_client.specs.Client.{AfterDoc, shown}
+use Rattle.page_client.specs.Shown.{Shown, after_gate, ended}
+use Rattle.page_client.specs.declared.client.Client.{Client}
+use Rattle.page_client.specs.declared.fault.PeerFault.{PeerFault}
+use Rattle.page_client.specs.declared.fault.QueryFault.TheVariants.{UnknownFrom, UnknownTo}
+use Rattle.page_client.specs.declared.outcome.Outcome.{Outcome}
+use Rattle.page_client.specs.declared.outcome.Outcome.TheVariants as outcomes
+use Rattle.page_client.specs.declared.phase.Phase.{Phase}
+use Rattle.page_client.specs.declared.phase.Phase.TheVariants as phases
+use Rattle.page_client.specs.declared.want.Want.{Want}
+use Rattle.page_client.specs.declared.want.Want.TheVariants as wants
+use Rattle.publisher_spec.specs.Side.{IsLater, IsValidSide, Side}
+use Rattle.laws_clients.specs.Published.{IsOwnPage}
+use Rattle.laws_clients.specs.Wants.{wants_of}
+use Rattle.laws_clients.proofs.FitsLemmas.{own_pages_stay}
 use Rattle.rounds_client.specs.Given.{KeepsDoc, Was}
 
 -- the names of the pages among wants

@@ -1,14 +1,14 @@
 -- That the version is the one that is meant at the side which the exchange with the time gate left, whatever the link records.
 use Rattle.std.proofs.Common.{◌≡◌, ◌≢◌, ℕ, ◌⊎◌, inl, inr, List, [], ◌∷◌, ◌++◌, length, Option, Some, None, ap, ap₂, sym, subst, ◌∙◌}
 use Rattle.lc_model.specs.declared.query.Query.{Query}
-use Rattle.laws_convoys.specs.Below.ConnectionUri.Base.{BaseParts}
-use Rattle.laws_convoys.specs.Below.LcWorld.Link.{IsHonestWith, LinkSeen}
-use Rattle.laws_convoys.specs.Below.PageClient.Client.{shown}
-use Rattle.laws_convoys.specs.Below.PageClient.Shown.{Shown}
-use Rattle.laws_convoys.specs.Below.PageClient.declared.want.Want.{Want}
-use Rattle.laws_convoys.specs.Below.PublisherSpec.Side.{Side}
-use Rattle.laws_convoys.specs.Below.LawsClients.Stated.{version_at}
-use Rattle.laws_convoys.specs.Below.LawsClients.Steps.{BeginsInAgreement}
+use Rattle.connection_uri.specs.Base.{BaseParts}
+use Rattle.lc_world.specs.Link.{IsHonestWith, LinkSeen}
+use Rattle.page_client.specs.Client.{shown}
+use Rattle.page_client.specs.Shown.{Shown}
+use Rattle.page_client.specs.declared.want.Want.{Want}
+use Rattle.publisher_spec.specs.Side.{Side}
+use Rattle.laws_clients.specs.Stated.{version_at}
+use Rattle.laws_clients.specs.Steps.{BeginsInAgreement}
 use Rattle.laws_convoys.specs.Leaves.{HasFault}
 use Rattle.laws_convoys.proofs.AloneLemmas.{no_fault_yet}
 use Rattle.rounds_client.specs.Course.{LeadsTo, Point}

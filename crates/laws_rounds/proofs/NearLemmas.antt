@@ -2,17 +2,17 @@
 use Rattle.std.proofs.Common.{◌≡◌, ℕ, ◌+◌, List, length, Option, Some, None, refl, ap, sym, subst, ◌∙◌, arith}
 use Rattle.lc_model.specs.declared.journey.Journey.{Journey}
 use Rattle.lc_model.specs.declared.query.Query.{Query}
-use Rattle.laws_convoys.specs.Below.ConnectionUri.Base.{BaseParts}
-use Rattle.laws_convoys.specs.Below.LcWorld.Link.{LinkSeen}
-use Rattle.laws_convoys.specs.Below.PageClient.Shown.{answered}
-use Rattle.laws_convoys.specs.Below.PageClient.declared.outcome.Outcome.{Outcome}
-use Rattle.laws_convoys.specs.Below.PageClient.declared.outcome.Outcome.TheVariants as outcomes
-use Rattle.laws_convoys.specs.Below.PageClient.declared.want.Want.{Want}
-use Rattle.laws_convoys.specs.Below.PublisherSpec.Side.{Side}
-use Rattle.laws_convoys.specs.Below.LawsClients.Stated.{version_at}
-use Rattle.laws_convoys.specs.Below.LawsClients.Answered.{NeededAt}
-use Rattle.laws_convoys.specs.Below.LawsClients.Laws.{OneListOfNeededAt}
-use Rattle.laws_convoys.specs.Below.LawsClients.Wants.{wants_of}
+use Rattle.connection_uri.specs.Base.{BaseParts}
+use Rattle.lc_world.specs.Link.{LinkSeen}
+use Rattle.page_client.specs.Shown.{answered}
+use Rattle.page_client.specs.declared.outcome.Outcome.{Outcome}
+use Rattle.page_client.specs.declared.outcome.Outcome.TheVariants as outcomes
+use Rattle.page_client.specs.declared.want.Want.{Want}
+use Rattle.publisher_spec.specs.Side.{Side}
+use Rattle.laws_clients.specs.Stated.{version_at}
+use Rattle.laws_clients.specs.Answered.{NeededAt}
+use Rattle.laws_clients.specs.Laws.{OneListOfNeededAt}
+use Rattle.laws_clients.specs.Wants.{wants_of}
 use Rattle.change_rounds.specs.Laws.{AreAlike}
 use Rattle.laws_rounds.specs.Version.{AlikeAt, FewestAt}
 use Rattle.rounds_client.specs.declared.ending.FewestEnd.{FewestEnd}

@@ -11,17 +11,17 @@ use Rattle.lc_model.specs.declared.doc.StopsDoc.{StopsDoc}
 use Rattle.lc_model.specs.declared.journey.Journey.{Journey}
 use Rattle.lc_model.specs.declared.query.Query.{Query}
 use Rattle.lc_model.specs.declared.ride.Ride.{Ride}
-use Rattle.laws_clients.specs.Below.LcVersions.Pages.{CutPage}
+use Rattle.lc_versions.specs.Pages.{CutPage}
 use Rattle.change_rounds.specs.Fewest.{IsFewestAnswer, IsFewestChain}
-use Rattle.laws_clients.specs.Below.LawsPages.Chain.{ArePagesOf, connections_along}
-use Rattle.laws_clients.specs.Below.LawsPages.Needed.{IsTakenUntilOver, needed_pages}
-use Rattle.laws_clients.specs.Below.LawsPages.Rides.{pages_on}
-use Rattle.laws_clients.specs.Below.LawsPages.Stop.{bound_of}
-use Rattle.laws_clients.proofs.BelowLemmas.LawsPages.AlongLemmas.{chains_are_there}
-use Rattle.laws_clients.proofs.BelowLemmas.LawsPages.NeededLemmas.{always_stops, last_taken, same_best}
-use Rattle.laws_clients.proofs.BelowLemmas.LawsPages.PartJourneyLemmas.{chain_before, chain_of_front}
-use Rattle.laws_clients.proofs.BelowLemmas.LawsPages.StopLemmas.{all_of_rest}
-use Rattle.laws_clients.proofs.BelowLemmas.LawsPages.TakenLemmas.{are_taken, left_later}
+use Rattle.laws_pages.specs.Chain.{ArePagesOf, connections_along}
+use Rattle.laws_pages.specs.Needed.{IsTakenUntilOver, needed_pages}
+use Rattle.laws_pages.specs.Rides.{pages_on}
+use Rattle.laws_pages.specs.Stop.{bound_of}
+use Rattle.laws_pages.proofs.AlongLemmas.{chains_are_there}
+use Rattle.laws_pages.proofs.NeededLemmas.{always_stops, last_taken, same_best}
+use Rattle.laws_pages.proofs.PartJourneyLemmas.{chain_before, chain_of_front}
+use Rattle.laws_pages.proofs.StopLemmas.{all_of_rest}
+use Rattle.laws_pages.proofs.TakenLemmas.{are_taken, left_later}
 use Rattle.laws_rounds.specs.Needed.{BestAreInNeeded, FewestAreInNeeded}
 use Rattle.laws_rounds.proofs.PartLemmas.{fewest_of_part}
 

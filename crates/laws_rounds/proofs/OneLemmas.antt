@@ -1,19 +1,19 @@
 -- By the replies that it got a client of the fewest rides ends in one way.
 use Rattle.std.proofs.Common.{◌≡◌, ◌∙◌, ℕ, List, [], ◌++◌, Option, Some, Ok, ap, ap₂, append-nil, arith, length, subst, sym}
-use Rattle.rounds_client.specs.Below.ChangeRounds.Fewest.{IsFewestChain}
-use Rattle.rounds_client.specs.Below.ConnectionUri.Base.{BaseParts}
+use Rattle.change_rounds.specs.Fewest.{IsFewestChain}
+use Rattle.connection_uri.specs.Base.{BaseParts}
 use Rattle.lc_model.specs.declared.connection.Connection.{Connection}
 use Rattle.lc_model.specs.declared.doc.StopsDoc.{StopsDoc}
 use Rattle.lc_model.specs.declared.journey.Journey.{Journey}
 use Rattle.lc_model.specs.declared.page.PageName.{PageName}
 use Rattle.lc_model.specs.declared.query.Query.{Query}
-use Rattle.rounds_client.specs.Below.LcWorld.Link.{LinkSeen}
-use Rattle.rounds_client.proofs.BelowLemmas.PageClient.OneReplyLemmas.{one_page_reply}
-use Rattle.rounds_client.specs.Below.PageClient.Page.{IsPageReply}
-use Rattle.rounds_client.specs.Below.PageClient.declared.outcome.Outcome.{Outcome}
-use Rattle.rounds_client.specs.Below.PageClient.declared.outcome.Outcome.TheVariants as outcomes
-use Rattle.rounds_client.specs.Below.PageClient.declared.want.Want.TheVariants as wants
-use Rattle.rounds_client.specs.Below.PageJson.declared.page.Page.{Page}
+use Rattle.lc_world.specs.Link.{LinkSeen}
+use Rattle.page_client.proofs.OneReplyLemmas.{one_page_reply}
+use Rattle.page_client.specs.Page.{IsPageReply}
+use Rattle.page_client.specs.declared.outcome.Outcome.{Outcome}
+use Rattle.page_client.specs.declared.outcome.Outcome.TheVariants as outcomes
+use Rattle.page_client.specs.declared.want.Want.TheVariants as wants
+use Rattle.page_json.specs.declared.page.Page.{Page}
 use Rattle.laws_replies.specs.Course.{ReadsPages, connections_in}
 use Rattle.laws_replies.specs.Ends.{EndsBy, HasAnswered}
 use Rattle.laws_replies.specs.Made.{Made, reply_to}

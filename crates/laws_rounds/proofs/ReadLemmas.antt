@@ -1,21 +1,21 @@
 -- What a client was given is what its replies say: the stops document, and the pages.
 use Rattle.std.proofs.Common.{◌≡◌, ◌∙◌, ℕ, List, [], ◌∷◌, ◌++◌, Option, Some, None, Result, Ok, ap, ap₂, refl, subst, sym}
-use Rattle.rounds_client.specs.Below.ConnectionUri.Base.{BaseParts}
+use Rattle.connection_uri.specs.Base.{BaseParts}
 use Rattle.lc_model.specs.declared.doc.StopsDoc.{StopsDoc}
 use Rattle.lc_model.specs.declared.journey.Journey.{Journey}
 use Rattle.lc_model.specs.declared.page.PageName.{PageName}
 use Rattle.lc_model.specs.declared.query.Query.{Query}
-use Rattle.rounds_client.proofs.BelowLemmas.PageClient.OneReplyLemmas.{one_gate_reply, one_page_reply, one_stops_reply}
-use Rattle.rounds_client.specs.Below.PageClient.Gate.{IsGateReply}
-use Rattle.rounds_client.specs.Below.PageClient.Page.{IsPageReply}
-use Rattle.rounds_client.specs.Below.PageClient.Stops.{IsStopsReply}
-use Rattle.rounds_client.specs.Below.PageClient.declared.fault.PeerFault.{PeerFault}
-use Rattle.rounds_client.specs.Below.PageClient.declared.outcome.Outcome.{Outcome}
-use Rattle.rounds_client.specs.Below.PageClient.declared.outcome.Outcome.TheVariants as outcomes
-use Rattle.rounds_client.specs.Below.PageClient.declared.phase.Phase.{Phase}
-use Rattle.rounds_client.specs.Below.PageClient.declared.phase.Phase.TheVariants as phases
-use Rattle.rounds_client.specs.Below.PageClient.declared.want.Want.TheVariants as wants
-use Rattle.rounds_client.specs.Below.PageJson.declared.page.Page.{Page}
+use Rattle.page_client.proofs.OneReplyLemmas.{one_gate_reply, one_page_reply, one_stops_reply}
+use Rattle.page_client.specs.Gate.{IsGateReply}
+use Rattle.page_client.specs.Page.{IsPageReply}
+use Rattle.page_client.specs.Stops.{IsStopsReply}
+use Rattle.page_client.specs.declared.fault.PeerFault.{PeerFault}
+use Rattle.page_client.specs.declared.outcome.Outcome.{Outcome}
+use Rattle.page_client.specs.declared.outcome.Outcome.TheVariants as outcomes
+use Rattle.page_client.specs.declared.phase.Phase.{Phase}
+use Rattle.page_client.specs.declared.phase.Phase.TheVariants as phases
+use Rattle.page_client.specs.declared.want.Want.TheVariants as wants
+use Rattle.page_json.specs.declared.page.Page.{Page}
 use Rattle.laws_replies.specs.Course.{IsReading, ReadsPages}
 use Rattle.laws_replies.specs.Ends.{HasAnswered}
 use Rattle.laws_replies.specs.Laws.{replies_of}

@@ -4,10 +4,10 @@ use Rattle.std.specs.Option.{option_map}
 use Rattle.std.proofs.lemmas.List.{map-append}
 use Rattle.std.proofs.lemmas.List.Elements.{All-append, All-cons, All-nil}
 use Rattle.lc_model.specs.declared.query.Query.{Query}
-use Rattle.laws_convoys.specs.Below.ConnectionUri.Base.{BaseParts}
-use Rattle.laws_convoys.specs.Below.LcWorld.Link.{TellsMore}
-use Rattle.laws_convoys.specs.Below.LcWorld.declared.entry.Entry.{Entry}
-use Rattle.laws_convoys.specs.Below.PageClient.declared.want.Want.{Want}
+use Rattle.connection_uri.specs.Base.{BaseParts}
+use Rattle.lc_world.specs.Link.{TellsMore}
+use Rattle.lc_world.specs.declared.entry.Entry.{Entry}
+use Rattle.page_client.specs.declared.want.Want.{Want}
 use Rattle.laws_convoys.specs.Requests.{TellsAsked, request_of}
 use Rattle.laws_convoys.proofs.RepliesLemmas.{recorded_no_more, recorded_then}
 

@@ -1,33 +1,33 @@
 -- A client of the fewest rides, exchange after exchange, over any link.
 use Rattle.std.proofs.Common.{◌≡◌, ◌∙◌, ◌≤◌, ℕ, inl, inr, true, false, List, [], ◌∷◌, ◌++◌, Option, Some, None, Result, Ok, Err, IsErrOf, ap, arith, length, map, refl, subst, sym}
 use Rattle.std.proofs.lemmas.List.{length_push, map-append}
-use Rattle.rounds_client.specs.Below.ConnectionUri.Base.{BaseParts}
-use Rattle.rounds_client.specs.Below.Convoy.Exchange.{Got, IsExchange, result_of}
-use Rattle.rounds_client.specs.Below.Convoy.Steps.{Takes, TakesGate, TakesStops}
-use Rattle.rounds_client.proofs.BelowLemmas.CsaScan.ListPlacesLemmas.{slice_get-last}
+use Rattle.connection_uri.specs.Base.{BaseParts}
+use Rattle.convoy.specs.Exchange.{Got, IsExchange, result_of}
+use Rattle.convoy.specs.Steps.{Takes, TakesGate, TakesStops}
+use Rattle.csa_scan.proofs.ListPlacesLemmas.{slice_get-last}
 use Rattle.lc_io.proofs.CountLemmas.{RoseBy-none}
 use Rattle.lc_io.specs.Counts.{HasCause, RoseBy}
 use Rattle.lc_model.specs.declared.page.PageName.{PageName}
 use Rattle.lc_model.specs.declared.query.Query.{Query}
-use Rattle.rounds_client.specs.Below.LcWorld.Link.{LinkSeen}
-use Rattle.rounds_client.specs.Below.LcWorld.declared.link.LinkFail.TheVariants.{Failed}
-use Rattle.rounds_client.specs.Below.PageClient.Kept.{Kept}
-use Rattle.rounds_client.proofs.BelowLemmas.PageClient.PageLemmas.{waits_for}
-use Rattle.rounds_client.specs.Below.PageClient.Client.{shown}
-use Rattle.rounds_client.specs.Below.PageClient.Page.{IsPageReply}
-use Rattle.rounds_client.specs.Below.PageClient.Request.{Asks, known_at, target_of}
-use Rattle.rounds_client.specs.Below.PageClient.Shown.{Begins, IsRefusal, Shown, ended, first_outcome, first_phase, want_of}
-use Rattle.rounds_client.specs.Below.PageClient.declared.client.Client.{Client}
-use Rattle.rounds_client.specs.Below.PageClient.declared.fault.PeerFault.{PeerFault}
-use Rattle.rounds_client.specs.Below.PageClient.declared.fault.QueryFault.{QueryFault}
-use Rattle.rounds_client.specs.Below.PageClient.declared.fault.QueryFault.TheVariants.{HorizonRange, SameStop, UnknownFrom, UnknownTo}
-use Rattle.rounds_client.specs.Below.PageClient.declared.outcome.Outcome.{Outcome}
-use Rattle.rounds_client.specs.Below.PageClient.declared.outcome.Outcome.TheVariants as outcomes
-use Rattle.rounds_client.specs.Below.PageClient.declared.phase.Phase.{Phase}
-use Rattle.rounds_client.specs.Below.PageClient.declared.phase.Phase.TheVariants as phases
-use Rattle.rounds_client.specs.Below.PageClient.declared.want.Want.{Want}
-use Rattle.rounds_client.specs.Below.PageClient.declared.want.Want.TheVariants as wants
-use Rattle.rounds_client.specs.Below.PageJson.declared.page.Page.{Page}
+use Rattle.lc_world.specs.Link.{LinkSeen}
+use Rattle.lc_world.specs.declared.link.LinkFail.TheVariants.{Failed}
+use Rattle.page_client.specs.Kept.{Kept}
+use Rattle.page_client.proofs.PageLemmas.{waits_for}
+use Rattle.page_client.specs.Client.{shown}
+use Rattle.page_client.specs.Page.{IsPageReply}
+use Rattle.page_client.specs.Request.{Asks, known_at, target_of}
+use Rattle.page_client.specs.Shown.{Begins, IsRefusal, Shown, ended, first_outcome, first_phase, want_of}
+use Rattle.page_client.specs.declared.client.Client.{Client}
+use Rattle.page_client.specs.declared.fault.PeerFault.{PeerFault}
+use Rattle.page_client.specs.declared.fault.QueryFault.{QueryFault}
+use Rattle.page_client.specs.declared.fault.QueryFault.TheVariants.{HorizonRange, SameStop, UnknownFrom, UnknownTo}
+use Rattle.page_client.specs.declared.outcome.Outcome.{Outcome}
+use Rattle.page_client.specs.declared.outcome.Outcome.TheVariants as outcomes
+use Rattle.page_client.specs.declared.phase.Phase.{Phase}
+use Rattle.page_client.specs.declared.phase.Phase.TheVariants as phases
+use Rattle.page_client.specs.declared.want.Want.{Want}
+use Rattle.page_client.specs.declared.want.Want.TheVariants as wants
+use Rattle.page_json.specs.declared.page.Page.{Page}
 use Rattle.laws_replies.specs.Course.{IsReading}
 use Rattle.laws_replies.specs.Made.{Made, TellsAll, reply_to}
 use Rattle.laws_replies.specs.Met.{CountAlong, HasFailedBetween, Met, failures_in}

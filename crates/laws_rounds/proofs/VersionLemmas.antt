@@ -8,18 +8,18 @@ use Rattle.lc_model.specs.declared.connection.Connection.{Connection}
 use Rattle.lc_model.specs.declared.page.PageName.{PageName}
 use Rattle.lc_model.specs.declared.query.Query.{Query}
 use Rattle.lc_model.specs.declared.run.Run.{Run}
-use Rattle.laws_clients.proofs.BelowLemmas.LiveCalls.LawLemmas.{one_live_list}
-use Rattle.laws_clients.specs.Below.LcVersions.Pages.{CutPage}
-use Rattle.laws_clients.proofs.BelowLemmas.LawsPages.JourneysLemmas.{chain_is_journey, journey_is_chain}
-use Rattle.laws_clients.specs.Below.PageJson.declared.page.Page.{Page}
-use Rattle.laws_clients.specs.Below.PublisherSpec.PageAt.{named}
-use Rattle.laws_clients.specs.Below.PublisherSpec.Response.{IsPageOf}
-use Rattle.laws_clients.specs.Below.PublisherSpec.Side.{IsValidSide, Side}
-use Rattle.laws_clients.specs.Below.LawsPages.Chain.{connections_along}
-use Rattle.laws_clients.specs.Below.LawsPages.Needed.{needed_pages}
-use Rattle.laws_clients.specs.Below.LawsPages.Rides.{pages_on}
-use Rattle.laws_clients.specs.Below.LawsPages.Stop.{bound_of}
-use Rattle.laws_clients.proofs.BelowLemmas.LawsPages.UpToLemmas.{is_up_to}
+use Rattle.live_calls.proofs.LawLemmas.{one_live_list}
+use Rattle.lc_versions.specs.Pages.{CutPage}
+use Rattle.laws_pages.proofs.JourneysLemmas.{chain_is_journey, journey_is_chain}
+use Rattle.page_json.specs.declared.page.Page.{Page}
+use Rattle.publisher_spec.specs.PageAt.{named}
+use Rattle.publisher_spec.specs.Response.{IsPageOf}
+use Rattle.publisher_spec.specs.Side.{IsValidSide, Side}
+use Rattle.laws_pages.specs.Chain.{connections_along}
+use Rattle.laws_pages.specs.Needed.{needed_pages}
+use Rattle.laws_pages.specs.Rides.{pages_on}
+use Rattle.laws_pages.specs.Stop.{bound_of}
+use Rattle.laws_pages.proofs.UpToLemmas.{is_up_to}
 use Rattle.laws_clients.specs.Answered.{names_at}
 use Rattle.laws_clients.specs.Links.{connections_on}
 use Rattle.laws_clients.specs.Published.{IsOwnPage, IsPublished, Published}

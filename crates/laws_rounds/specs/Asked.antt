@@ -1,15 +1,15 @@
 -- How a client of the fewest rides ended over any link, by the replies that it got.
 use Rattle.std.specs.Prelude.{ℕ, List, ◌++◌, Option, Some}
-use Rattle.rounds_client.specs.Below.ChangeRounds.Fewest.{IsFewestChain}
-use Rattle.rounds_client.specs.Below.ConnectionUri.Base.{BaseParts}
+use Rattle.change_rounds.specs.Fewest.{IsFewestChain}
+use Rattle.connection_uri.specs.Base.{BaseParts}
 use Rattle.laws_replies.specs.Course.{connections_in}
 use Rattle.laws_replies.specs.Ends.{EndsBy}
 use Rattle.laws_replies.specs.Made.{Made}
 use Rattle.laws_replies.specs.Run.{HasAsked}
 use Rattle.lc_model.specs.declared.query.Query.{Query}
-use Rattle.rounds_client.specs.Below.LcWorld.Link.{LinkSeen}
-use Rattle.rounds_client.specs.Below.PageClient.declared.outcome.Outcome.{Outcome}
-use Rattle.rounds_client.specs.Below.PageClient.declared.outcome.Outcome.TheVariants as outcomes
+use Rattle.lc_world.specs.Link.{LinkSeen}
+use Rattle.page_client.specs.declared.outcome.Outcome.{Outcome}
+use Rattle.page_client.specs.declared.outcome.Outcome.TheVariants as outcomes
 
 -- a journey that was found has the fewest rides of all best chains of the pages that were read
 abbrev pub HasFewestRead : (base : BaseParts) (query : Query) (before now : ℕ) (version : Option ℕ) (made : List Made) (outcome : Outcome) → EndsBy base query before now version made outcome → Type 0

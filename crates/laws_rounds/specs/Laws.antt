@@ -3,12 +3,12 @@ use Rattle.std.specs.Prelude.{◌≡◌, List, [], ◌∷◌, ◌++◌, Option, 
 use Rattle.lc_io.specs.Counts.{Rose}
 use Rattle.lc_model.specs.declared.journey.Journey.{Journey}
 use Rattle.lc_model.specs.declared.query.Query.{Query}
-use Rattle.laws_convoys.specs.Below.ConnectionUri.Base.{BaseParts}
-use Rattle.laws_convoys.specs.Below.LcWorld.Link.{IsHonestWith, IsQuietWith, LinkSeen}
-use Rattle.laws_convoys.specs.Below.PageClient.Shown.{IsRefusal, answered}
-use Rattle.laws_convoys.specs.Below.PublisherSpec.Side.{Side}
-use Rattle.laws_convoys.specs.Below.LawsClients.Stated.{version_at}
-use Rattle.laws_convoys.specs.Below.LawsClients.Wants.{HasEnds}
+use Rattle.connection_uri.specs.Base.{BaseParts}
+use Rattle.lc_world.specs.Link.{IsHonestWith, IsQuietWith, LinkSeen}
+use Rattle.page_client.specs.Shown.{IsRefusal, answered}
+use Rattle.publisher_spec.specs.Side.{Side}
+use Rattle.laws_clients.specs.Stated.{version_at}
+use Rattle.laws_clients.specs.Wants.{HasEnds}
 use Rattle.change_rounds.specs.Laws.{AreAlike}
 use Rattle.rounds_client.specs.Course.{Point}
 use Rattle.rounds_client.specs.End.{EndsSo}

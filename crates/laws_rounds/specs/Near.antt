@@ -2,12 +2,12 @@
 use Rattle.std.specs.Prelude.{◌≡◌, ◌≢◌, ℕ, ◌+◌, Option, Some, length}
 use Rattle.lc_model.specs.declared.journey.Journey.{Journey}
 use Rattle.lc_model.specs.declared.query.Query.{Query}
-use Rattle.laws_convoys.specs.Below.ConnectionUri.Base.{BaseParts}
-use Rattle.laws_convoys.specs.Below.LcWorld.Link.{IsQuietWith, LinkSeen}
-use Rattle.laws_convoys.specs.Below.PageClient.Shown.{answered}
-use Rattle.laws_convoys.specs.Below.PageClient.declared.outcome.Outcome.TheVariants as outcomes
-use Rattle.laws_convoys.specs.Below.PublisherSpec.Side.{Side}
-use Rattle.laws_convoys.specs.Below.LawsClients.Stated.{version_at}
+use Rattle.connection_uri.specs.Base.{BaseParts}
+use Rattle.lc_world.specs.Link.{IsQuietWith, LinkSeen}
+use Rattle.page_client.specs.Shown.{answered}
+use Rattle.page_client.specs.declared.outcome.Outcome.TheVariants as outcomes
+use Rattle.publisher_spec.specs.Side.{Side}
+use Rattle.laws_clients.specs.Stated.{version_at}
 use Rattle.rounds_client.specs.declared.ending.FewestEnd.{FewestEnd}
 use Rattle.laws_rounds.specs.Right.{IsRight}
 

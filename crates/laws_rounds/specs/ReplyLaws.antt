@@ -1,11 +1,11 @@
 -- That a client of the fewest rides ends by the replies that it got, and in one way.
 use Rattle.std.specs.Prelude.{◌≡◌, ℕ, length, Option}
-use Rattle.rounds_client.specs.Below.ConnectionUri.Base.{BaseParts}
+use Rattle.connection_uri.specs.Base.{BaseParts}
 use Rattle.laws_replies.specs.Laws.{SayTheSame, replies_of}
 use Rattle.lc_model.specs.declared.query.Query.{Query}
-use Rattle.rounds_client.specs.Below.LcWorld.Link.{LinkSeen}
-use Rattle.rounds_client.specs.Below.PageClient.declared.outcome.Outcome.{Outcome}
-use Rattle.rounds_client.specs.Below.PageClient.declared.outcome.Outcome.TheVariants as outcomes
+use Rattle.lc_world.specs.Link.{LinkSeen}
+use Rattle.page_client.specs.declared.outcome.Outcome.{Outcome}
+use Rattle.page_client.specs.declared.outcome.Outcome.TheVariants as outcomes
 use Rattle.rounds_client.specs.End.{EndsSo}
 use Rattle.rounds_client.specs.declared.ending.FewestEnd.{FewestEnd}
 use Rattle.laws_rounds.specs.Asked.{HasAskedFewest}

@@ -1,7 +1,8 @@
 ghost use Rattle.laws_rounds.specs.Laws.{FewestEndsRight, FewestIsFound, NamedAtGate, OneFewestEnd};
 
 use crate::fewest_at_version;
-use laws_convoys::below::{Link, one_answer, steps_keep_agreement};
+use laws_clients::{one_answer, steps_keep_agreement};
+use lc_world::Link;
 
 /// Over an honest link a client of the fewest rides ends rightly. Without a failure it found a journey that is best at the version which the
 /// time gate named, with the fewest rides of all best ones. Where there is none, it found none. It asked for the time gate, the stops document

@@ -3,7 +3,6 @@
 //! It builds on `rounds_client`, `change_rounds`, `laws_clients`, `laws_convoys` and `laws_replies`.
 #![tactic(auto)]
 
-pub mod below;
 mod laws;
 mod near;
 mod needed;

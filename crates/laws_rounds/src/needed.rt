@@ -5,13 +5,13 @@ ghost use Rattle.lc_model.specs.Connection.{AreConnectionsOf};
 ghost use Rattle.lc_model.specs.Ride.{IsRideAt};
 ghost use Rattle.lc_model.specs.declared.journey.Journey.{Journey as JourneyValue};
 ghost use Rattle.lc_model.specs.declared.run.Run.{Run as RunValue};
-ghost use Rattle.laws_clients.specs.Below.LcVersions.Pages.{CutPage};
+ghost use Rattle.lc_versions.specs.Pages.{CutPage};
 ghost use Rattle.change_rounds.specs.Fewest.{IsFewestAnswer, IsFewestChain};
-ghost use Rattle.laws_clients.specs.Below.LawsPages.Chain.{ArePagesOf, connections_along};
-ghost use Rattle.laws_clients.specs.Below.LawsPages.Needed.{AreNeeded};
+ghost use Rattle.laws_pages.specs.Chain.{ArePagesOf, connections_along};
+ghost use Rattle.laws_pages.specs.Needed.{AreNeeded};
 ghost use Rattle.laws_rounds.specs.Needed.{BestAreInNeeded, FewestAreInNeeded};
 
-use laws_clients::below::journeys_along_next;
+use laws_pages::journeys_along_next;
 use lc_model::{Connections, Query, Runs, StopsDoc};
 
 /// Every connection of every best journey is on the needed pages: it departs no later than the best arrival, and no second is split.

@@ -1,6 +1,6 @@
 ghost use Rattle.laws_rounds.specs.ReplyLaws.{FewestByItsReplies, OneFewestByReplies};
 
-use rounds_client::below::Link;
+use lc_world::Link;
 
 /// A client of the fewest rides ends by the replies that it got, whatever the link is. It asks as a client that asks alone. Where that has a
 /// best journey of the pages that the replies say, its own has the fewest rides of them.

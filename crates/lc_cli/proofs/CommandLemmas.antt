@@ -6,25 +6,25 @@ use Rattle.cli_inputs.specs.Inputs.{IsMessageRefusal, IsRefusedFor, ReadsInputs}
 use Rattle.cli_inputs.proofs.InputsLemmas.{message_refused}
 use Rattle.cli_inputs.specs.declared.refusal.Refusal.{Refusal}
 use Rattle.cli_inputs.specs.declared.refusal.Refusal.TheVariants.{Load}
-use Rattle.cli_ask.specs.Below.CliWords.Words.{SaysCommand}
-use Rattle.cli_ask.specs.Below.CliWords.declared.command.Command.{Command}
-use Rattle.cli_ask.specs.Below.CliWords.declared.command.Command.TheVariants as commands
+use Rattle.cli_words.specs.Words.{SaysCommand}
+use Rattle.cli_words.specs.declared.command.Command.{Command}
+use Rattle.cli_words.specs.declared.command.Command.TheVariants as commands
 use Rattle.lc_io.specs.Folder.{FolderSeen}
 use Rattle.lc_io.specs.declared.file.File.{File}
-use Rattle.cli_ask.proofs.BelowLemmas.LcWorld.GoneOnLemmas.{no_gets, no_passes}
-use Rattle.cli_ask.specs.Below.LcWorld.GoneOn.{HasGoneOn}
-use Rattle.cli_ask.specs.Below.LcWorld.Link.{LinkSeen}
-use Rattle.cli_ask.specs.Below.Timetable.declared.fault.LoadFault.TheVariants.{NoMemory as OutOfMemory}
-use Rattle.cli_ask.specs.Below.Timetable.declared.scope.Scope.{Scope}
-use Rattle.cli_ask.specs.Below.Timetable.declared.timetable.Timetable.{Timetable}
-use Rattle.cli_ask.specs.Below.VersionStore.declared.message_fault.MessageFault.{MessageFault}
-use Rattle.cli_ask.specs.Below.VersionStore.declared.message_fault.MessageFault.TheVariants as messages
+use Rattle.lc_world.proofs.GoneOnLemmas.{no_gets, no_passes}
+use Rattle.lc_world.specs.GoneOn.{HasGoneOn}
+use Rattle.lc_world.specs.Link.{LinkSeen}
+use Rattle.timetable.specs.declared.fault.LoadFault.TheVariants.{NoMemory as OutOfMemory}
+use Rattle.timetable.specs.declared.scope.Scope.{Scope}
+use Rattle.timetable.specs.declared.timetable.Timetable.{Timetable}
+use Rattle.version_store.specs.declared.message_fault.MessageFault.{MessageFault}
+use Rattle.version_store.specs.declared.message_fault.MessageFault.TheVariants as messages
 use Rattle.lc_cli.specs.Command.{IsQuestionBlock, IsRefusedAs, IsRightRefusal, IsRightWork, LeavesLink, Prints, ResultsIn}
 use Rattle.lc_cli.specs.Question.{IsAskedSo, IsEndBlock, IsUnasked}
 use Rattle.lc_cli.specs.declared.block.Block.{Block}
 use Rattle.lc_cli.specs.declared.work.Work.{Work}
 use Rattle.lc_cli.specs.Scope.{scope_of}
-use Rattle.cli_ask.specs.Below.CliWords.declared.command.Published.{Published}
+use Rattle.cli_words.specs.declared.command.Published.{Published}
 use Rattle.lc_cli.specs.declared.question.Asking.{Asking}
 use Rattle.lc_cli.specs.declared.work.Work.TheVariants as works
 

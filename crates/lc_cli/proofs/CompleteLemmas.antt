@@ -7,23 +7,23 @@ use Rattle.cli_inputs.specs.Script.{IsReplayRefused}
 use Rattle.cli_inputs.specs.declared.refusal.Refusal.{Refusal}
 use Rattle.cli_inputs.specs.declared.refusal.Refusal.TheVariants as refused
 use Rattle.cli_plan.specs.Laws.{RelaysPlanRight}
-use Rattle.cli_ask.specs.Below.CliWords.Drill.{drilled_words}
-use Rattle.cli_ask.specs.Below.CliWords.Laws.{OneCommand}
-use Rattle.cli_ask.specs.Below.CliWords.Words.{SaysCommand}
-use Rattle.cli_ask.specs.Below.CliWords.declared.command.Command.{Command}
-use Rattle.cli_ask.specs.Below.CliWords.declared.command.Command.TheVariants as commands
-use Rattle.cli_ask.specs.Below.CliWords.declared.command.Replay.{Replay}
+use Rattle.cli_words.specs.Drill.{drilled_words}
+use Rattle.cli_words.specs.Laws.{OneCommand}
+use Rattle.cli_words.specs.Words.{SaysCommand}
+use Rattle.cli_words.specs.declared.command.Command.{Command}
+use Rattle.cli_words.specs.declared.command.Command.TheVariants as commands
+use Rattle.cli_words.specs.declared.command.Replay.{Replay}
 use Rattle.lc_io.specs.Counts.{Rose}
 use Rattle.lc_io.specs.Folder.{FolderSeen}
 use Rattle.lc_io.specs.declared.file.File.{File}
-use Rattle.cli_ask.specs.Below.LcWorld.Link.{LinkSeen}
-use Rattle.cli_ask.specs.Below.JourneyText.ScriptLaws.{NeverBoth, OneScript}
-use Rattle.cli_ask.specs.Below.Timetable.Recorded.{IsSound}
-use Rattle.cli_ask.specs.Below.Timetable.Laws.{LoadsRecorded, NotBroken, NotTooLarge}
-use Rattle.cli_ask.specs.Below.Timetable.declared.fault.LoadFault.TheVariants as fault
-use Rattle.cli_ask.specs.Below.Timetable.declared.scope.Scope.{Scope}
-use Rattle.cli_ask.specs.Below.Timetable.declared.timetable.Timetable.{Timetable}
-use Rattle.cli_ask.specs.Below.VersionStore.Laws.{OneOutcome}
+use Rattle.lc_world.specs.Link.{LinkSeen}
+use Rattle.journey_text.specs.ScriptLaws.{NeverBoth, OneScript}
+use Rattle.timetable.specs.Recorded.{IsSound}
+use Rattle.timetable.specs.Laws.{LoadsRecorded, NotBroken, NotTooLarge}
+use Rattle.timetable.specs.declared.fault.LoadFault.TheVariants as fault
+use Rattle.timetable.specs.declared.scope.Scope.{Scope}
+use Rattle.timetable.specs.declared.timetable.Timetable.{Timetable}
+use Rattle.version_store.specs.Laws.{OneOutcome}
 use Rattle.lc_cli.specs.Block.{IsBlockEnd, client_status_of}
 use Rattle.lc_cli.specs.Clear.{IsAnswered, IsClear, IsFed, IsHeard}
 use Rattle.lc_cli.specs.Command.{IsRefusedAs, IsRightRefusal, Prints}

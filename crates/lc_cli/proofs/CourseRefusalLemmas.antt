@@ -5,29 +5,29 @@ use Rattle.cli_ask.specs.Publishing.{store_of}
 use Rattle.cli_inputs.specs.Script.{IsReplayRefused, StopsAtRecord}
 use Rattle.cli_inputs.specs.declared.refusal.Refusal.{Refusal}
 use Rattle.cli_inputs.specs.declared.refusal.Refusal.TheVariants as refused
-use Rattle.cli_ask.specs.Below.CliWords.declared.command.Replay.{Replay}
-use Rattle.cli_ask.specs.Below.GtfsTables.declared.what.What.TheVariants as what
+use Rattle.cli_words.specs.declared.command.Replay.{Replay}
+use Rattle.gtfs_tables.specs.declared.what.What.TheVariants as what
 use Rattle.lc_io.specs.Counts.{Rose}
 use Rattle.lc_io.specs.Folder.{FolderSeen, bytes_named}
 use Rattle.lc_io.specs.declared.file.File.{File}
-use Rattle.cli_inputs.specs.Below.LawsReplay.declared.event.Event.{Event}
-use Rattle.cli_inputs.specs.Below.LawsReplay.declared.message.Message.{Message}
-use Rattle.cli_ask.specs.Below.JourneyText.ScriptLaws.{NeverBoth, OneFault, OneScript}
-use Rattle.cli_ask.specs.Below.JourneyText.ScriptReading.{HasFault}
-use Rattle.cli_ask.specs.Below.JourneyText.declared.script_fault.ScriptFault.TheVariants.{Wrong}
-use Rattle.cli_ask.specs.Below.JourneyText.declared.script.Record.{Record}
-use Rattle.cli_ask.specs.Below.JourneyText.declared.script.Record.TheVariants as records
-use Rattle.cli_ask.specs.Below.Timetable.Laws.{IsOfFiles, OneEnd}
-use Rattle.cli_ask.specs.Below.Timetable.Loading.{Loads, LoadsSo}
-use Rattle.cli_ask.specs.Below.Timetable.declared.fault.LoadFault.{LoadFault}
-use Rattle.cli_ask.specs.Below.Timetable.declared.fault.LoadFault.TheVariants as fault
-use Rattle.cli_ask.specs.Below.Timetable.declared.timetable.Timetable.{Timetable}
-use Rattle.cli_ask.specs.Below.TripUpdates.Faults.{fault_of}
-use Rattle.cli_ask.specs.Below.VersionStore.Admission.{IsRefused}
-use Rattle.cli_ask.specs.Below.VersionStore.Laws.{OneOutcome}
-use Rattle.cli_ask.specs.Below.VersionStore.Store.{Stored}
-use Rattle.cli_ask.specs.Below.VersionStore.declared.admission.AdmitFault.{AdmitFault}
-use Rattle.cli_ask.specs.Below.VersionStore.declared.admission.AdmitFault.TheVariants as faults
+use Rattle.laws_replay.specs.declared.event.Event.{Event}
+use Rattle.laws_replay.specs.declared.message.Message.{Message}
+use Rattle.journey_text.specs.ScriptLaws.{NeverBoth, OneFault, OneScript}
+use Rattle.journey_text.specs.ScriptReading.{HasFault}
+use Rattle.journey_text.specs.declared.script_fault.ScriptFault.TheVariants.{Wrong}
+use Rattle.journey_text.specs.declared.script.Record.{Record}
+use Rattle.journey_text.specs.declared.script.Record.TheVariants as records
+use Rattle.timetable.specs.Laws.{IsOfFiles, OneEnd}
+use Rattle.timetable.specs.Loading.{Loads, LoadsSo}
+use Rattle.timetable.specs.declared.fault.LoadFault.{LoadFault}
+use Rattle.timetable.specs.declared.fault.LoadFault.TheVariants as fault
+use Rattle.timetable.specs.declared.timetable.Timetable.{Timetable}
+use Rattle.trip_updates.specs.Faults.{fault_of}
+use Rattle.version_store.specs.Admission.{IsRefused}
+use Rattle.version_store.specs.Laws.{OneOutcome}
+use Rattle.version_store.specs.Store.{Stored}
+use Rattle.version_store.specs.declared.admission.AdmitFault.{AdmitFault}
+use Rattle.version_store.specs.declared.admission.AdmitFault.TheVariants as faults
 use Rattle.lc_cli.specs.Clear.{AreRecordedEvents, IsRecordedCourse, IsRecordedEvent, IsRecordedScript}
 use Rattle.lc_cli.specs.Scope.{scope_of}
 use Rattle.lc_cli.specs.Refusal.{status_of}

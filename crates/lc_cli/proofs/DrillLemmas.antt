@@ -1,19 +1,19 @@
 -- From what is read and played to the block of a replay, and to that of a drill.
 use Rattle.std.proofs.Common.{◌≡◌, ◌∙◌, ◌++◌, ℕ, List, Result, Ok, Err, ap, sym, subst}
 use Rattle.std.specs.Prelude.{IfOk}
-use Rattle.cli_plan.specs.Below.CliReplay.Summary.{leaves_in, summary_of}
-use Rattle.cli_plan.specs.Below.CliReplay.declared.playing.Replayed.{Replayed}
+use Rattle.cli_replay.specs.Summary.{leaves_in, summary_of}
+use Rattle.cli_replay.specs.declared.playing.Replayed.{Replayed}
 use Rattle.cli_inputs.specs.Script.{IsReplayRefused}
 use Rattle.cli_inputs.specs.declared.refusal.Refusal.{Refusal}
-use Rattle.cli_ask.specs.Below.CliWords.declared.command.Drill.{Drill}
-use Rattle.cli_ask.specs.Below.CliWords.declared.command.Publishing.{Publishing}
-use Rattle.cli_ask.specs.Below.CliWords.declared.command.Replay.{Replay}
-use Rattle.cli_inputs.specs.Below.LawsReplay.Events.{messages_in}
-use Rattle.cli_inputs.specs.Below.LawsReplay.Replayed.{IsReplayed}
-use Rattle.cli_inputs.specs.Below.LawsReplay.Versions.{HaveAdmitted}
+use Rattle.cli_words.specs.declared.command.Drill.{Drill}
+use Rattle.cli_words.specs.declared.command.Publishing.{Publishing}
+use Rattle.cli_words.specs.declared.command.Replay.{Replay}
+use Rattle.laws_replay.specs.Events.{messages_in}
+use Rattle.laws_replay.specs.Replayed.{IsReplayed}
+use Rattle.laws_replay.specs.Versions.{HaveAdmitted}
 use Rattle.lc_io.specs.Folder.{FolderSeen}
 use Rattle.lc_io.specs.SureFolder.{SureFolderState}
-use Rattle.cli_ask.specs.Below.LcWorld.Link.{LinkSeen}
+use Rattle.lc_world.specs.Link.{LinkSeen}
 use Rattle.lc_cli.specs.Drill.{IsDrillBlock, IsDrilled, IsRefusedReplay, IsSummary, IsSummed, drill_folder, drill_line_of, sure_seen}
 use Rattle.lc_cli.specs.Replay.{IsCourse, IsPlayedBy, IsReplayBlock}
 use Rattle.lc_cli.specs.Scope.{scope_of}

@@ -7,24 +7,24 @@ use Rattle.std.proofs.lemmas.List.Kept.{AllPairs-cons}
 use Rattle.cli_ask.specs.Admission.{IsBehind}
 use Rattle.cli_ask.specs.Publishing.{side_with}
 use Rattle.cli_ask.proofs.AdmissionLemmas.{of_history, one_behind}
-use Rattle.cli_ask.specs.Below.CliWords.declared.command.Publishing.{Publishing}
-use Rattle.cli_ask.specs.Below.LawsClients.Answered.{AnswersAt}
-use Rattle.cli_inputs.specs.Below.LawsReplay.Events.{before_turn_of}
-use Rattle.cli_inputs.specs.Below.LawsReplay.Versions.{HasHeard}
-use Rattle.cli_inputs.specs.Below.LawsReplay.declared.event.Event.{Event}
-use Rattle.cli_inputs.specs.Below.LawsReplay.declared.event.Event.TheVariants as events
+use Rattle.cli_words.specs.declared.command.Publishing.{Publishing}
+use Rattle.laws_clients.specs.Answered.{AnswersAt}
+use Rattle.laws_replay.specs.Events.{before_turn_of}
+use Rattle.laws_replay.specs.Versions.{HasHeard}
+use Rattle.laws_replay.specs.declared.event.Event.{Event}
+use Rattle.laws_replay.specs.declared.event.Event.TheVariants as events
 use Rattle.lc_io.specs.declared.file.File.{File}
 use Rattle.lc_model.specs.declared.answer.Answer.{Answer}
 use Rattle.lc_model.specs.declared.query.Query.{Query}
-use Rattle.cli_ask.specs.Below.LcVersions.History.{Entry, IsRising, moments_of}
-use Rattle.cli_ask.specs.Below.LcVersions.Named.{is_by, last_of, version_named}
-use Rattle.cli_ask.specs.Below.LcVersions.News.{TripSaid}
-use Rattle.cli_ask.specs.Below.LcVersions.Timetable.{AreLiveRuns}
-use Rattle.cli_ask.proofs.BelowLemmas.PublisherSpec.VersionLemmas.{Rising, below, history_rises, moments_on, news_stay}
-use Rattle.cli_ask.specs.Below.PublisherSpec.Side.{date_in}
-use Rattle.cli_ask.specs.Below.Timetable.declared.timetable.Timetable.{Timetable}
-use Rattle.cli_ask.specs.Below.VersionStore.Laws.{OneOutcome}
-use Rattle.cli_ask.specs.Below.VersionStore.Store.{Stored, entry_of}
+use Rattle.lc_versions.specs.History.{Entry, IsRising, moments_of}
+use Rattle.lc_versions.specs.Named.{is_by, last_of, version_named}
+use Rattle.lc_versions.specs.News.{TripSaid}
+use Rattle.lc_versions.specs.Timetable.{AreLiveRuns}
+use Rattle.publisher_spec.proofs.VersionLemmas.{Rising, below, history_rises, moments_on, news_stay}
+use Rattle.publisher_spec.specs.Side.{date_in}
+use Rattle.timetable.specs.declared.timetable.Timetable.{Timetable}
+use Rattle.version_store.specs.Laws.{OneOutcome}
+use Rattle.version_store.specs.Store.{Stored, entry_of}
 use Rattle.lc_cli.specs.Headline.{version_meant}
 
 -- the store with this history, and the one with these messages more

@@ -8,29 +8,29 @@ use Rattle.cli_ask.specs.Client.{AsksFor, EndsRight, shown_of}
 use Rattle.cli_ask.specs.Laws.{IsNoLinkFault}
 use Rattle.cli_ask.specs.Publishing.{side_with}
 use Rattle.cli_ask.specs.declared.end.ClientEnd.{ClientEnd}
-use Rattle.cli_ask.specs.Below.CliWords.Laws.{OneCommand}
-use Rattle.cli_ask.specs.Below.CliWords.Words.{SaysCommand}
-use Rattle.cli_ask.specs.Below.CliWords.declared.command.Ask.{Ask}
-use Rattle.cli_ask.specs.Below.CliWords.declared.command.Command.{Command}
-use Rattle.cli_ask.specs.Below.CliWords.declared.command.Command.TheVariants as commands
-use Rattle.cli_ask.specs.Below.LawsClients.Answered.{AnswersAt, NeededAt}
-use Rattle.cli_ask.specs.Below.LawsClients.Fits.{HasAnswered, HasEnded}
-use Rattle.cli_ask.specs.Below.LawsClients.Wants.{wants_of}
+use Rattle.cli_words.specs.Laws.{OneCommand}
+use Rattle.cli_words.specs.Words.{SaysCommand}
+use Rattle.cli_words.specs.declared.command.Ask.{Ask}
+use Rattle.cli_words.specs.declared.command.Command.{Command}
+use Rattle.cli_words.specs.declared.command.Command.TheVariants as commands
+use Rattle.laws_clients.specs.Answered.{AnswersAt, NeededAt}
+use Rattle.laws_clients.specs.Fits.{HasAnswered, HasEnded}
+use Rattle.laws_clients.specs.Wants.{wants_of}
 use Rattle.lc_io.specs.Sink.{SinkSeen}
 use Rattle.lc_io.specs.declared.file.File.{File}
 use Rattle.lc_model.specs.declared.answer.Answer.{Answer}
 use Rattle.lc_model.specs.declared.answer.Answer.TheVariants as answers
 use Rattle.lc_model.specs.declared.page.PageName.{PageName}
 use Rattle.lc_model.specs.declared.query.Query.{Query}
-use Rattle.cli_ask.specs.Below.LcWorld.Link.{LinkSeen}
-use Rattle.cli_ask.specs.Below.LcWorld.declared.entry.Entry.{Entry}
-use Rattle.cli_ask.specs.Below.PageClient.Shown.{Shown}
-use Rattle.cli_ask.specs.Below.PageClient.declared.outcome.Outcome.{Outcome}
-use Rattle.cli_ask.specs.Below.PageClient.declared.outcome.Outcome.TheVariants as outcomes
-use Rattle.cli_ask.specs.Below.PageClient.declared.want.Want.{Want}
-use Rattle.cli_ask.specs.Below.PageClient.declared.want.Want.TheVariants as wants
-use Rattle.cli_ask.specs.Below.PublisherSpec.Side.{Side}
-use Rattle.cli_ask.specs.Below.Timetable.Laws.{LoadsRecorded}
+use Rattle.lc_world.specs.Link.{LinkSeen}
+use Rattle.lc_world.specs.declared.entry.Entry.{Entry}
+use Rattle.page_client.specs.Shown.{Shown}
+use Rattle.page_client.specs.declared.outcome.Outcome.{Outcome}
+use Rattle.page_client.specs.declared.outcome.Outcome.TheVariants as outcomes
+use Rattle.page_client.specs.declared.want.Want.{Want}
+use Rattle.page_client.specs.declared.want.Want.TheVariants as wants
+use Rattle.publisher_spec.specs.Side.{Side}
+use Rattle.timetable.specs.Laws.{LoadsRecorded}
 use Rattle.lc_cli.specs.Block.{IsBlockEnd, IsWrittenWhole, client_status_of, failed_status_of}
 use Rattle.lc_cli.specs.Clear.{IsAskedSide}
 use Rattle.lc_cli.specs.Command.{IsAskBlock, Prints}

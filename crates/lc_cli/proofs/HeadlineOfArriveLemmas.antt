@@ -3,37 +3,37 @@ use Rattle.std.proofs.Common.{◌≡◌, ◌∙◌, ◌⊎◌, ◌+◌, ◌≤�
 use Rattle.std.proofs.lemmas.List.{length-map}
 use Rattle.std.specs.List.{slice_get}
 use Rattle.std.specs.Option.{IfSome}
-use Rattle.cli_ask.specs.Below.BackScan.Forward.{forward_query}
-use Rattle.cli_ask.specs.Below.BackScan.declared.arrive_query.ArriveQuery.{ArriveQuery}
+use Rattle.back_scan.specs.Forward.{forward_query}
+use Rattle.back_scan.specs.declared.arrive_query.ArriveQuery.{ArriveQuery}
 use Rattle.cli_arrive.specs.Client.{EndsRightLatest}
 use Rattle.cli_ask.specs.Publishing.{side_with}
 use Rattle.cli_ask.specs.declared.end.ClientEnd.{ClientEnd}
 use Rattle.cli_serve.specs.Written.{Wrote}
-use Rattle.cli_ask.specs.Below.CliWords.Laws.{OneCommand}
-use Rattle.cli_ask.specs.Below.CliWords.Words.{SaysCommand}
-use Rattle.cli_ask.specs.Below.CliWords.declared.command.Arrive.{Arrive}
-use Rattle.cli_ask.specs.Below.CliWords.declared.command.Command.{Command}
-use Rattle.cli_ask.specs.Below.CliWords.declared.command.Command.TheVariants as commands
-use Rattle.cli_ask.specs.Below.ConnectionUri.Base.{BaseParts}
-use Rattle.cli_arrive.specs.Below.LawsArrive.Latest.{LatestAt, NeededBackAt}
-use Rattle.cli_arrive.specs.Below.LawsArrive.Requests.{page_request, requests_of}
-use Rattle.cli_arrive.specs.Below.LawsArrive.Right.{EndsAt, HasLatest}
-use Rattle.cli_arrive.specs.Below.LawsArrive.Ends.{EndsBackBy}
-use Rattle.cli_ask.specs.Below.LawsReplies.Made.{Made}
-use Rattle.cli_ask.specs.Below.LawsClients.Stated.{version_at}
+use Rattle.cli_words.specs.Laws.{OneCommand}
+use Rattle.cli_words.specs.Words.{SaysCommand}
+use Rattle.cli_words.specs.declared.command.Arrive.{Arrive}
+use Rattle.cli_words.specs.declared.command.Command.{Command}
+use Rattle.cli_words.specs.declared.command.Command.TheVariants as commands
+use Rattle.connection_uri.specs.Base.{BaseParts}
+use Rattle.laws_arrive.specs.Latest.{LatestAt, NeededBackAt}
+use Rattle.laws_arrive.specs.Requests.{page_request, requests_of}
+use Rattle.laws_arrive.specs.Right.{EndsAt, HasLatest}
+use Rattle.laws_arrive.specs.Ends.{EndsBackBy}
+use Rattle.laws_replies.specs.Made.{Made}
+use Rattle.laws_clients.specs.Stated.{version_at}
 use Rattle.lc_io.specs.declared.file.File.{File}
 use Rattle.lc_model.specs.Journey.{arrives_at}
 use Rattle.lc_model.specs.declared.answer.Answer.{Answer}
 use Rattle.lc_model.specs.declared.answer.Answer.TheVariants as answers
 use Rattle.lc_model.specs.declared.journey.Journey.{Journey}
 use Rattle.lc_model.specs.declared.page.PageName.{PageName}
-use Rattle.cli_ask.specs.Below.LcWorld.Link.{LinkSeen}
-use Rattle.cli_ask.specs.Below.LcWorld.declared.entry.Entry.{Entry}
-use Rattle.cli_ask.specs.Below.PageClient.Shown.{answered}
-use Rattle.cli_ask.specs.Below.PageClient.declared.outcome.Outcome.{Outcome}
-use Rattle.cli_ask.specs.Below.PublisherSpec.Short.{IsShort}
-use Rattle.cli_ask.specs.Below.PublisherSpec.Side.{Side}
-use Rattle.cli_ask.specs.Below.Timetable.Laws.{LoadsRecorded}
+use Rattle.lc_world.specs.Link.{LinkSeen}
+use Rattle.lc_world.specs.declared.entry.Entry.{Entry}
+use Rattle.page_client.specs.Shown.{answered}
+use Rattle.page_client.specs.declared.outcome.Outcome.{Outcome}
+use Rattle.publisher_spec.specs.Short.{IsShort}
+use Rattle.publisher_spec.specs.Side.{Side}
+use Rattle.timetable.specs.Laws.{LoadsRecorded}
 use Rattle.lc_cli.specs.Block.{IsBlockEnd}
 use Rattle.lc_cli.specs.Clear.{IsAskedSide}
 use Rattle.lc_cli.specs.Command.{IsArriveBlock, Prints}

@@ -1,15 +1,15 @@
 -- Where `drill` ended with status Done, its sums are over best journeys.
 use Rattle.std.proofs.Common.{◌≡◌, ◌⊎◌, ◌+◌, inl, inr, refl, subst}
 use Rattle.cli_drill.specs.Files.{drill_files}
-use Rattle.cli_ask.specs.Below.CliWords.Laws.{OneCommand}
-use Rattle.cli_ask.specs.Below.CliWords.Words.{SaysCommand}
-use Rattle.cli_ask.specs.Below.CliWords.declared.command.Command.{Command}
-use Rattle.cli_ask.specs.Below.CliWords.declared.command.Command.TheVariants as commands
-use Rattle.cli_ask.specs.Below.CliWords.declared.command.Drill.{Drill}
-use Rattle.cli_ask.specs.Below.CliWords.declared.command.Replay.{Replay}
-use Rattle.cli_ask.specs.Below.LcWorld.Link.{LinkSeen}
-use Rattle.cli_ask.specs.Below.Timetable.Laws.{LoadsRecorded}
-use Rattle.cli_ask.specs.Below.VersionStore.Laws.{OneOutcome}
+use Rattle.cli_words.specs.Laws.{OneCommand}
+use Rattle.cli_words.specs.Words.{SaysCommand}
+use Rattle.cli_words.specs.declared.command.Command.{Command}
+use Rattle.cli_words.specs.declared.command.Command.TheVariants as commands
+use Rattle.cli_words.specs.declared.command.Drill.{Drill}
+use Rattle.cli_words.specs.declared.command.Replay.{Replay}
+use Rattle.lc_world.specs.Link.{LinkSeen}
+use Rattle.timetable.specs.Laws.{LoadsRecorded}
+use Rattle.version_store.specs.Laws.{OneOutcome}
 use Rattle.lc_cli.specs.Block.{IsBlockEnd}
 use Rattle.lc_cli.specs.Command.{Prints}
 use Rattle.lc_cli.specs.Drill.{IsDrillBlock, IsDrilled, drill_folder, sure_seen}

@@ -2,27 +2,27 @@
 use Rattle.std.proofs.Common.{◌≡◌, ◌∙◌, ◌⊎◌, ◌∷◌, ℕ, suc, inl, inr, List, [], None, Some, Option, refl, subst, sym}
 use Rattle.cli_ask.specs.Client.{shown_of}
 use Rattle.cli_ask.specs.declared.end.ClientEnd.{ClientEnd}
-use Rattle.cli_ask.specs.Below.CliWords.Laws.{OneCommand}
-use Rattle.cli_ask.specs.Below.CliWords.Words.{SaysCommand}
-use Rattle.cli_ask.specs.Below.CliWords.declared.command.Command.{Command}
-use Rattle.cli_ask.specs.Below.CliWords.declared.command.Command.TheVariants as commands
-use Rattle.cli_ask.specs.Below.CliWords.declared.command.Plan.{Plan}
-use Rattle.cli_ask.specs.Below.LawsClients.Answered.{AnswersAt}
-use Rattle.cli_ask.specs.Below.LawsClients.Fits.{HasAnswered}
-use Rattle.cli_ask.specs.Below.LawsConvoys.Names.{Round}
-use Rattle.cli_ask.specs.Below.ConnectionUri.Base.{BaseParts}
-use Rattle.cli_plan.specs.Planned.{ArePlanned, EndsAt, IsPlanned}
-use Rattle.cli_plan.specs.Replied.{TellsAlong}
-use Rattle.cli_plan.specs.Sides.{version_after, version_with}
-use Rattle.cli_inputs.specs.Below.LawsReplay.Turns.{given_in}
-use Rattle.cli_inputs.specs.Below.LawsReplay.declared.event.Event.{Event}
-use Rattle.cli_ask.specs.Below.LawsClients.Stated.{version_at}
+use Rattle.cli_words.specs.Laws.{OneCommand}
+use Rattle.cli_words.specs.Words.{SaysCommand}
+use Rattle.cli_words.specs.declared.command.Command.{Command}
+use Rattle.cli_words.specs.declared.command.Command.TheVariants as commands
+use Rattle.cli_words.specs.declared.command.Plan.{Plan}
+use Rattle.laws_clients.specs.Answered.{AnswersAt}
+use Rattle.laws_clients.specs.Fits.{HasAnswered}
+use Rattle.laws_convoys.specs.Names.{Round}
+use Rattle.connection_uri.specs.Base.{BaseParts}
+use Rattle.laws_plan.specs.Planned.{ArePlanned, EndsAt, IsPlanned}
+use Rattle.laws_plan.specs.Replied.{TellsAlong}
+use Rattle.laws_plan.specs.Sides.{version_after, version_with}
+use Rattle.laws_replay.specs.Turns.{given_in}
+use Rattle.laws_replay.specs.declared.event.Event.{Event}
+use Rattle.laws_clients.specs.Stated.{version_at}
 use Rattle.lc_io.specs.declared.file.File.{File}
 use Rattle.lc_model.specs.declared.query.Query.{Query}
-use Rattle.cli_ask.specs.Below.LcWorld.Link.{IsHonestWith, LinkSeen}
-use Rattle.cli_ask.specs.Below.PageClient.declared.want.Want.{Want}
-use Rattle.cli_ask.specs.Below.PageClient.declared.want.Want.TheVariants as wants
-use Rattle.cli_ask.specs.Below.PublisherSpec.Side.{Side}
+use Rattle.lc_world.specs.Link.{IsHonestWith, LinkSeen}
+use Rattle.page_client.specs.declared.want.Want.{Want}
+use Rattle.page_client.specs.declared.want.Want.TheVariants as wants
+use Rattle.publisher_spec.specs.Side.{Side}
 use Rattle.lc_cli.specs.Block.{IsBlockEnd, client_status_of}
 use Rattle.lc_cli.specs.Command.{IsPlanBlock, Prints}
 use Rattle.lc_cli.specs.Headline.{EachEndsBest, EndsBestAt, HeadlineOfPlan, IsGateSide, PlannedEachBest}

@@ -3,25 +3,25 @@ use Rattle.std.proofs.Common.{◌≡◌, ◌⊎◌, ◌+◌, ℕ, inl, inr, List
 use Rattle.cli_ask.specs.Client.{shown_of}
 use Rattle.cli_ask.specs.Publishing.{side_with, store_of}
 use Rattle.cli_ask.specs.declared.end.ClientEnd.{ClientEnd}
-use Rattle.cli_ask.specs.Below.CliWords.Laws.{OneCommand}
-use Rattle.cli_ask.specs.Below.CliWords.Words.{SaysCommand}
-use Rattle.cli_ask.specs.Below.CliWords.declared.command.Command.{Command}
-use Rattle.cli_ask.specs.Below.CliWords.declared.command.Command.TheVariants as commands
-use Rattle.cli_ask.specs.Below.CliWords.declared.command.Publishing.{Publishing}
-use Rattle.cli_ask.specs.Below.CliWords.declared.command.Replay.{Replay}
-use Rattle.cli_ask.specs.Below.LawsClients.Answered.{AnswersAt}
-use Rattle.cli_ask.specs.Below.LawsClients.Fits.{HasAnswered}
-use Rattle.cli_inputs.specs.Below.LawsReplay.Right.{EndsSo}
-use Rattle.cli_inputs.specs.Below.LawsReplay.Turns.{given_in}
-use Rattle.cli_inputs.specs.Below.LawsReplay.Versions.{HasHeard}
-use Rattle.cli_inputs.specs.Below.LawsReplay.declared.event.Event.{Event}
+use Rattle.cli_words.specs.Laws.{OneCommand}
+use Rattle.cli_words.specs.Words.{SaysCommand}
+use Rattle.cli_words.specs.declared.command.Command.{Command}
+use Rattle.cli_words.specs.declared.command.Command.TheVariants as commands
+use Rattle.cli_words.specs.declared.command.Publishing.{Publishing}
+use Rattle.cli_words.specs.declared.command.Replay.{Replay}
+use Rattle.laws_clients.specs.Answered.{AnswersAt}
+use Rattle.laws_clients.specs.Fits.{HasAnswered}
+use Rattle.laws_replay.specs.Right.{EndsSo}
+use Rattle.laws_replay.specs.Turns.{given_in}
+use Rattle.laws_replay.specs.Versions.{HasHeard}
+use Rattle.laws_replay.specs.declared.event.Event.{Event}
 use Rattle.lc_io.specs.declared.file.File.{File}
 use Rattle.lc_model.specs.declared.query.Query.{Query}
-use Rattle.cli_ask.specs.Below.LcWorld.Link.{LinkSeen}
-use Rattle.cli_ask.specs.Below.Timetable.Laws.{LoadsRecorded}
-use Rattle.cli_ask.specs.Below.Timetable.declared.timetable.Timetable.{Timetable}
-use Rattle.cli_ask.specs.Below.VersionStore.Laws.{OneOutcome}
-use Rattle.cli_ask.specs.Below.VersionStore.Store.{Stored}
+use Rattle.lc_world.specs.Link.{LinkSeen}
+use Rattle.timetable.specs.Laws.{LoadsRecorded}
+use Rattle.timetable.specs.declared.timetable.Timetable.{Timetable}
+use Rattle.version_store.specs.Laws.{OneOutcome}
+use Rattle.version_store.specs.Store.{Stored}
 use Rattle.lc_cli.specs.Block.{IsBlockEnd}
 use Rattle.lc_cli.specs.Command.{IsReplayBlock, Prints}
 use Rattle.lc_cli.specs.Headline.{EndsBestThen, HeadlineOfReplay, StaysShortThroughout, WroteEachBest, version_meant}

@@ -3,9 +3,9 @@ use Rattle.std.proofs.Common.{◌≡◌, ◌∙◌, ℕ, List, None, Some, Optio
 use Rattle.lc_io.specs.Folder.{FolderSeen, bytes_named}
 use Rattle.lc_io.specs.declared.file.File.{File}
 use Rattle.lc_io.specs.declared.folder.FolderFail.TheVariants.{Absent}
-use Rattle.cli_ask.specs.Below.GtfsTables.Reading.{Keeps}
-use Rattle.cli_ask.specs.Below.Timetable.declared.scope.Scope.{Scope}
-use Rattle.cli_ask.specs.Below.Timetable.declared.timetable.Timetable.{Timetable}
+use Rattle.gtfs_tables.specs.Reading.{Keeps}
+use Rattle.timetable.specs.declared.scope.Scope.{Scope}
+use Rattle.timetable.specs.declared.timetable.Timetable.{Timetable}
 use Rattle.lc_cli.specs.Clear.{IsRecordedFile}
 use Rattle.cli_inputs.specs.Inputs.{ReadsFile, ReadsInputs, ReadsUpdate}
 

@@ -1,17 +1,17 @@
 -- Two ends with the latest departure leave at one moment after as many exchanges, and what is near one of them is none.
 use Rattle.std.proofs.Common.{◌≡◌, ◌∙◌, ◌∷◌, ◌++◌, [], List, Option, Some, None, ap, arith, length, refl, subst, sym}
-use Rattle.cli_ask.specs.Below.BackScan.Forward.{forward_query}
-use Rattle.cli_ask.specs.Below.BackScan.declared.arrive_query.ArriveQuery.{ArriveQuery}
+use Rattle.back_scan.specs.Forward.{forward_query}
+use Rattle.back_scan.specs.declared.arrive_query.ArriveQuery.{ArriveQuery}
 use Rattle.cli_ask.specs.declared.end.ClientEnd.{ClientEnd}
-use Rattle.cli_arrive.specs.Below.LawsArrive.Latest.{LatestAt}
-use Rattle.cli_arrive.specs.Below.LawsArrive.Laws.{OneDepartureAt, OneListOfNeededBackAt}
-use Rattle.cli_ask.specs.Below.LawsClients.Stated.{version_at}
+use Rattle.laws_arrive.specs.Latest.{LatestAt}
+use Rattle.laws_arrive.specs.Laws.{OneDepartureAt, OneListOfNeededBackAt}
+use Rattle.laws_clients.specs.Stated.{version_at}
 use Rattle.lc_model.specs.Journey.{leaves_at}
 use Rattle.lc_model.specs.declared.journey.Journey.{Journey}
 use Rattle.lc_model.specs.declared.page.PageName.{PageName}
-use Rattle.cli_ask.specs.Below.PageClient.Shown.{answered}
-use Rattle.cli_ask.specs.Below.PageClient.declared.outcome.Outcome.TheVariants as outcomes
-use Rattle.cli_ask.specs.Below.PublisherSpec.Side.{Side}
+use Rattle.page_client.specs.Shown.{answered}
+use Rattle.page_client.specs.declared.outcome.Outcome.TheVariants as outcomes
+use Rattle.publisher_spec.specs.Side.{Side}
 use Rattle.lc_cli.specs.HeadlineOfArrive.{EndsLatest}
 use Rattle.lc_cli.specs.NearArrive.{NotAnotherOrder, NotEarlier, NotLater, NotNone, NotOneExchangeMore, NotVersion}
 use Rattle.lc_cli.proofs.NearFewestLemmas.{one_answer}

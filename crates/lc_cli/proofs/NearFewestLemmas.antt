@@ -1,12 +1,12 @@
 -- Two ends with the fewest rides are alike, and what is near one of them is none.
 use Rattle.std.proofs.Common.{◌≡◌, ◌∙◌, Option, Some, None, length, refl, subst, sym, arith}
 use Rattle.cli_ask.specs.declared.end.ClientEnd.{ClientEnd}
-use Rattle.cli_fewest.specs.Below.LawsRounds.Version.{AlikeAt, FewestAt}
+use Rattle.laws_rounds.specs.Version.{AlikeAt, FewestAt}
 use Rattle.lc_model.specs.declared.journey.Journey.{Journey}
 use Rattle.lc_model.specs.declared.query.Query.{Query}
-use Rattle.cli_ask.specs.Below.PageClient.Shown.{answered}
-use Rattle.cli_ask.specs.Below.PageClient.declared.outcome.Outcome.TheVariants as outcomes
-use Rattle.cli_ask.specs.Below.PublisherSpec.Side.{Side}
+use Rattle.page_client.specs.Shown.{answered}
+use Rattle.page_client.specs.declared.outcome.Outcome.TheVariants as outcomes
+use Rattle.publisher_spec.specs.Side.{Side}
 use Rattle.lc_cli.specs.Headline.{version_meant}
 use Rattle.lc_cli.specs.HeadlineOfFewest.{EndsFewest}
 use Rattle.lc_cli.specs.NearFewest.{NotAnotherVersion, NotNoJourney, NotOneRideFewer, NotOneRideMore}

@@ -2,7 +2,7 @@
 use Rattle.std.proofs.Common.{◌≡◌, ◌∙◌, ◌+◌, ◌<◌, ◌≤◌, ◌∷◌, ℕ, Bool, true, false, [], Some, None, ap, arith, cond, lit<, nat_le, refl, subst, sym}
 use Rattle.std.proofs.lemmas.Bool.Decides.{nat_tests}
 use Rattle.cli_ask.specs.Publishing.{side_with, store_of}
-use Rattle.cli_ask.specs.Below.LawsClients.Answered.{AnswersAt}
+use Rattle.laws_clients.specs.Answered.{AnswersAt}
 use Rattle.lc_model.specs.Journey.{IsAnswer, arrives_at}
 use Rattle.lc_model.specs.Laws.{OneArrival}
 use Rattle.lc_model.specs.Ride.{IsRideAt}
@@ -10,10 +10,10 @@ use Rattle.lc_model.specs.declared.answer.Answer.{Answer}
 use Rattle.lc_model.specs.declared.answer.Answer.TheVariants as answers
 use Rattle.lc_model.specs.declared.journey.Journey.{Journey}
 use Rattle.lc_model.specs.declared.query.Query.{Query}
-use Rattle.cli_ask.specs.Below.LcVersions.Named.{last_of}
-use Rattle.cli_ask.specs.Below.LiveCalls.Laws.{LiveWithoutNews, RunsAreLive}
-use Rattle.cli_ask.specs.Below.PageClient.declared.outcome.Outcome.TheVariants as outcomes
-use Rattle.cli_ask.specs.Below.Timetable.Tiny.{moment}
+use Rattle.lc_versions.specs.Named.{last_of}
+use Rattle.live_calls.specs.Laws.{LiveWithoutNews, RunsAreLive}
+use Rattle.page_client.specs.declared.outcome.Outcome.TheVariants as outcomes
+use Rattle.timetable.specs.Tiny.{moment}
 use Rattle.lc_cli.specs.Headline.{outcome_of}
 use Rattle.lc_cli.specs.NearHeadline.{EndAtOneVersion, EndAtTheBase, EndAtTheMessage, IsBestEnd, IsNoBestEnd, within}
 use Rattle.lc_cli.specs.Tiny.{IsMadeOf, from_a_to_d, nine_minutes_late, worked}

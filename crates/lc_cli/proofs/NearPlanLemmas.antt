@@ -3,11 +3,11 @@ use Rattle.std.proofs.Common.{◌≡◌, ◌≢◌, ◌∙◌, ◌+◌, ◌<◌,
 use Rattle.std.specs.List.{All, slice_get}
 use Rattle.std.proofs.lemmas.List.Elements.{All-cons, All-nil}
 use Rattle.cli_ask.specs.declared.end.ClientEnd.{ClientEnd}
-use Rattle.cli_ask.specs.Below.CliWords.declared.command.Publishing.{Publishing}
-use Rattle.cli_ask.specs.Below.LawsClients.Answered.{AnswersAt}
-use Rattle.cli_ask.specs.Below.LawsConvoys.Names.{Round}
-use Rattle.cli_plan.specs.Worked.{received}
-use Rattle.cli_inputs.proofs.BelowLemmas.LawsReplay.OneCourseLemmas.{at_place}
+use Rattle.cli_words.specs.declared.command.Publishing.{Publishing}
+use Rattle.laws_clients.specs.Answered.{AnswersAt}
+use Rattle.laws_convoys.specs.Names.{Round}
+use Rattle.laws_plan.specs.Worked.{received}
+use Rattle.laws_replay.proofs.OneCourseLemmas.{at_place}
 use Rattle.lc_model.specs.Journey.{IsAnswer, arrives_at}
 use Rattle.lc_model.specs.Laws.{OneArrival}
 use Rattle.lc_model.specs.Ride.{IsRideAt}
@@ -15,12 +15,12 @@ use Rattle.lc_model.specs.declared.answer.Answer.{Answer}
 use Rattle.lc_model.specs.declared.answer.Answer.TheVariants as answers
 use Rattle.lc_model.specs.declared.journey.Journey.{Journey}
 use Rattle.lc_model.specs.declared.query.Query.{Query}
-use Rattle.cli_ask.specs.Below.LiveCalls.Laws.{LiveWithoutNews, RunsAreLive}
-use Rattle.cli_ask.specs.Below.PageClient.declared.want.Want.{Want}
-use Rattle.cli_ask.specs.Below.PageClient.declared.want.Want.TheVariants as wants
-use Rattle.cli_ask.specs.Below.PublisherSpec.Side.{Side, with_message}
-use Rattle.cli_ask.specs.Below.Timetable.Tiny.{moment}
-use Rattle.cli_ask.specs.Below.Timetable.declared.timetable.Timetable.{Timetable}
+use Rattle.live_calls.specs.Laws.{LiveWithoutNews, RunsAreLive}
+use Rattle.page_client.specs.declared.want.Want.{Want}
+use Rattle.page_client.specs.declared.want.Want.TheVariants as wants
+use Rattle.publisher_spec.specs.Side.{Side, with_message}
+use Rattle.timetable.specs.Tiny.{moment}
+use Rattle.timetable.specs.declared.timetable.Timetable.{Timetable}
 use Rattle.lc_cli.specs.Headline.{EndsBestAt, IsGateSide, version_meant}
 use Rattle.lc_cli.specs.NearPlan.{AreAfterGate, IsBestPlan, IsNoBestPlan, NotWithoutGate, PlanAfterTheMessage, PlanAtOneVersion, PlanBeforeTheMessage, bare_side}
 use Rattle.lc_cli.specs.NearHeadline.{end_of, within}

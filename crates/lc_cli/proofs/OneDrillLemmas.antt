@@ -6,29 +6,29 @@ use Rattle.cli_ask.specs.Laws.{AreOneEnd}
 use Rattle.cli_ask.specs.Publishing.{store_of}
 use Rattle.cli_ask.specs.declared.end.ClientEnd.{ClientEnd}
 use Rattle.cli_drill.specs.Files.{drill_files}
-use Rattle.cli_plan.specs.Below.CliReplay.Summary.{arrivals_line_of, exchanges_line_of, found_line_of, has_found, has_none, leaves_in, seconds_of, summary_of, updates_line_of, arrivals_of, exchanges_of, found_in, none_in}
-use Rattle.cli_ask.specs.Below.CliWords.Laws.{OneCommand}
-use Rattle.cli_ask.specs.Below.CliWords.Drill.{drilled_words}
-use Rattle.cli_ask.specs.Below.CliWords.declared.command.Command.{Command}
-use Rattle.cli_ask.specs.Below.CliWords.declared.command.Command.TheVariants as commands
-use Rattle.cli_ask.specs.Below.CliWords.declared.command.Drill.{Drill}
-use Rattle.cli_ask.specs.Below.CliWords.declared.command.Replay.{Replay}
-use Rattle.cli_inputs.proofs.BelowLemmas.LawsReplay.OneHeardLemmas.{one_course_heard}
-use Rattle.cli_inputs.specs.Below.LawsReplay.Events.{messages_in}
-use Rattle.cli_inputs.specs.Below.LawsReplay.OneCourse.{IsPlayedOut, OneCourse}
-use Rattle.cli_inputs.specs.Below.LawsReplay.declared.event.Event.{Event}
-use Rattle.cli_ask.specs.Below.LawsReplies.Laws.{SayTheSame}
-use Rattle.cli_ask.specs.Below.LcVersions.History.{Entry}
+use Rattle.cli_replay.specs.Summary.{arrivals_line_of, exchanges_line_of, found_line_of, has_found, has_none, leaves_in, seconds_of, summary_of, updates_line_of, arrivals_of, exchanges_of, found_in, none_in}
+use Rattle.cli_words.specs.Laws.{OneCommand}
+use Rattle.cli_words.specs.Drill.{drilled_words}
+use Rattle.cli_words.specs.declared.command.Command.{Command}
+use Rattle.cli_words.specs.declared.command.Command.TheVariants as commands
+use Rattle.cli_words.specs.declared.command.Drill.{Drill}
+use Rattle.cli_words.specs.declared.command.Replay.{Replay}
+use Rattle.laws_replay.proofs.OneHeardLemmas.{one_course_heard}
+use Rattle.laws_replay.specs.Events.{messages_in}
+use Rattle.laws_replay.specs.OneCourse.{IsPlayedOut, OneCourse}
+use Rattle.laws_replay.specs.declared.event.Event.{Event}
+use Rattle.laws_replies.specs.Laws.{SayTheSame}
+use Rattle.lc_versions.specs.History.{Entry}
 use Rattle.lc_model.specs.declared.doc.StopsDoc.{StopsDoc}
 use Rattle.lc_model.specs.declared.journey.Journey.{Journey}
 use Rattle.lc_io.specs.SureFolder.{SureFolderState}
-use Rattle.cli_ask.specs.Below.LcWorld.Link.{LinkSeen}
-use Rattle.cli_ask.specs.Below.PageClient.declared.outcome.Outcome.{Outcome}
-use Rattle.cli_ask.specs.Below.PageClient.declared.outcome.Outcome.TheVariants as outcomes
-use Rattle.cli_ask.specs.Below.JourneyText.ScriptLaws.{OneScript}
-use Rattle.cli_ask.specs.Below.Timetable.Laws.{AreSame, LoadsRecorded, OneTimetable}
-use Rattle.cli_ask.specs.Below.Timetable.declared.timetable.Timetable.{Timetable}
-use Rattle.cli_ask.specs.Below.VersionStore.Laws.{OneOutcome}
+use Rattle.lc_world.specs.Link.{LinkSeen}
+use Rattle.page_client.specs.declared.outcome.Outcome.{Outcome}
+use Rattle.page_client.specs.declared.outcome.Outcome.TheVariants as outcomes
+use Rattle.journey_text.specs.ScriptLaws.{OneScript}
+use Rattle.timetable.specs.Laws.{AreSame, LoadsRecorded, OneTimetable}
+use Rattle.timetable.specs.declared.timetable.Timetable.{Timetable}
+use Rattle.version_store.specs.Laws.{OneOutcome}
 use Rattle.lc_cli.specs.Clear.{HasFairCourse, IsRecordedCourse}
 use Rattle.lc_cli.specs.Scope.{scope_of}
 use Rattle.lc_cli.specs.Replay.{IsPlayedBy}

@@ -3,28 +3,28 @@ use Rattle.std.proofs.Common.{◌≡◌, ◌+◌, ◌∷◌, ℕ, false, List, [
 use Rattle.std.specs.List.{AllZip}
 use Rattle.cli_ask.specs.Laws.{AreOneEnd}
 use Rattle.cli_inputs.specs.Plan.{SayEvents, SaysEvent, ReadsPlan}
-use Rattle.cli_ask.specs.Below.CliWords.Laws.{OneCommand}
-use Rattle.cli_ask.specs.Below.CliWords.Words.{SaysCommand}
-use Rattle.cli_ask.specs.Below.CliWords.declared.command.Command.{Command}
-use Rattle.cli_ask.specs.Below.CliWords.declared.command.Command.TheVariants as commands
-use Rattle.cli_ask.specs.Below.CliWords.declared.command.Plan.{Plan}
+use Rattle.cli_words.specs.Laws.{OneCommand}
+use Rattle.cli_words.specs.Words.{SaysCommand}
+use Rattle.cli_words.specs.declared.command.Command.{Command}
+use Rattle.cli_words.specs.declared.command.Command.TheVariants as commands
+use Rattle.cli_words.specs.declared.command.Plan.{Plan}
 use Rattle.cli_ask.specs.declared.end.ClientEnd.{ClientEnd}
-use Rattle.cli_ask.specs.Below.ConnectionUri.Base.{BaseParts}
-use Rattle.cli_plan.specs.OneGrowing.{IsGrowingPlan, NameTheSame, OneGrowingPlan}
-use Rattle.cli_plan.specs.OnePlan.{IsQuietPlan, OnePlan}
-use Rattle.cli_plan.specs.Planned.{ArePlanned, IsPlanned}
-use Rattle.cli_inputs.specs.Below.LawsReplay.Events.{TurnsAreOfClients, questions_in}
-use Rattle.cli_inputs.specs.Below.LawsReplay.declared.event.Event.{Event}
-use Rattle.cli_inputs.specs.Below.LawsReplay.declared.event.Event.TheVariants as events
+use Rattle.connection_uri.specs.Base.{BaseParts}
+use Rattle.laws_plan.specs.OneGrowing.{IsGrowingPlan, NameTheSame, OneGrowingPlan}
+use Rattle.laws_plan.specs.OnePlan.{IsQuietPlan, OnePlan}
+use Rattle.laws_plan.specs.Planned.{ArePlanned, IsPlanned}
+use Rattle.laws_replay.specs.Events.{TurnsAreOfClients, questions_in}
+use Rattle.laws_replay.specs.declared.event.Event.{Event}
+use Rattle.laws_replay.specs.declared.event.Event.TheVariants as events
 use Rattle.lc_io.specs.Counts.{Rose}
 use Rattle.lc_io.specs.Folder.{FolderSeen}
 use Rattle.lc_io.specs.declared.file.File.{File}
-use Rattle.cli_ask.specs.Below.PublisherSpec.Side.{IsLater, IsValidSide, Side}
-use Rattle.cli_ask.specs.Below.LcWorld.Link.{LinkSeen}
-use Rattle.cli_ask.specs.Below.JourneyText.ScriptLaws.{OneScript}
-use Rattle.cli_ask.specs.Below.JourneyText.Script.{IsClient}
-use Rattle.cli_ask.specs.Below.JourneyText.declared.script.Record.{Record}
-use Rattle.cli_ask.specs.Below.JourneyText.declared.script.Record.TheVariants as records
+use Rattle.publisher_spec.specs.Side.{IsLater, IsValidSide, Side}
+use Rattle.lc_world.specs.Link.{LinkSeen}
+use Rattle.journey_text.specs.ScriptLaws.{OneScript}
+use Rattle.journey_text.specs.Script.{IsClient}
+use Rattle.journey_text.specs.declared.script.Record.{Record}
+use Rattle.journey_text.specs.declared.script.Record.TheVariants as records
 use Rattle.lc_cli.specs.Clear.{AreRecordedAsks, AreRecordedEvents, IsRecordedEvent}
 use Rattle.lc_cli.specs.Command.{IsPlanBlock, Prints}
 use Rattle.lc_cli.specs.OnePlan.{OneNamedPlan, OneQuietPlan, PlanTheSame, PrintOnePlan}

@@ -6,22 +6,22 @@ use Rattle.cli_ask.specs.Laws.{AreOneEnd}
 use Rattle.cli_ask.specs.declared.end.ClientEnd.{ClientEnd}
 use Rattle.cli_plan.specs.Laws.{RelaysPlanRight}
 use Rattle.cli_plan.specs.Relayed.{IsRelayed, counts_line_of, exchanges_in, relay_after, relay_over}
-use Rattle.cli_ask.specs.Below.CliWords.Laws.{OneCommand}
-use Rattle.cli_ask.specs.Below.CliWords.declared.command.Command.TheVariants as commands
-use Rattle.cli_ask.specs.Below.CliWords.declared.command.Relay.{Relay}
-use Rattle.cli_ask.specs.Below.ConnectionUri.Base.{BaseParts}
-use Rattle.cli_plan.specs.OneGrowing.{OneGrowingPlan}
-use Rattle.cli_plan.specs.OnePlan.{OnePlan}
-use Rattle.cli_inputs.specs.Below.LawsReplay.Replayed.{clients_text_of}
-use Rattle.cli_inputs.specs.Below.LawsReplay.declared.event.Event.{Event}
+use Rattle.cli_words.specs.Laws.{OneCommand}
+use Rattle.cli_words.specs.declared.command.Command.TheVariants as commands
+use Rattle.cli_words.specs.declared.command.Relay.{Relay}
+use Rattle.connection_uri.specs.Base.{BaseParts}
+use Rattle.laws_plan.specs.OneGrowing.{OneGrowingPlan}
+use Rattle.laws_plan.specs.OnePlan.{OnePlan}
+use Rattle.laws_replay.specs.Replayed.{clients_text_of}
+use Rattle.laws_replay.specs.declared.event.Event.{Event}
 use Rattle.lc_io.specs.Counts.{Rose}
 use Rattle.lc_io.specs.declared.file.File.{File}
-use Rattle.cli_ask.specs.Below.LcWorld.Link.{IsHonestWith, LinkSeen}
-use Rattle.cli_ask.specs.Below.LcWorld.declared.entry.Entry.{Entry}
-use Rattle.cli_plan.specs.Below.PageRelay.Kept.{Kept}
-use Rattle.cli_plan.specs.Below.PageRelay.Relay.{RelayState, new_relay, relay_seen}
-use Rattle.cli_ask.specs.Below.PublisherSpec.Side.{Side}
-use Rattle.cli_ask.specs.Below.JourneyText.ScriptLaws.{OneScript}
+use Rattle.lc_world.specs.Link.{IsHonestWith, LinkSeen}
+use Rattle.lc_world.specs.declared.entry.Entry.{Entry}
+use Rattle.page_relay.specs.Kept.{Kept}
+use Rattle.page_relay.specs.Relay.{RelayState, new_relay, relay_seen}
+use Rattle.publisher_spec.specs.Side.{Side}
+use Rattle.journey_text.specs.ScriptLaws.{OneScript}
 use Rattle.lc_cli.specs.Command.{IsRelayBlock}
 use Rattle.lc_cli.specs.OnePlan.{PlanTheSame}
 use Rattle.lc_cli.specs.OneRelay.{OneNamedRelay, OneQuietRelay, PrintOneRelay}

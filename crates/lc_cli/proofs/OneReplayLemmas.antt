@@ -5,27 +5,27 @@ use Rattle.std.proofs.lemmas.List.Elements.{All-cons, All-nil}
 use Rattle.std.specs.List.{All}
 use Rattle.cli_ask.specs.Laws.{IsNoLinkFault}
 use Rattle.cli_ask.specs.declared.end.ClientEnd.{ClientEnd}
-use Rattle.cli_ask.specs.Below.CliWords.declared.command.Replay.{Replay}
+use Rattle.cli_words.specs.declared.command.Replay.{Replay}
 use Rattle.lc_io.specs.Folder.{FolderSeen}
 use Rattle.lc_io.specs.declared.file.File.{File}
 use Rattle.lc_model.specs.declared.query.Query.{Query}
-use Rattle.cli_ask.specs.Below.LcWorld.Link.{LinkSeen}
-use Rattle.cli_ask.specs.Below.PageClient.declared.outcome.Outcome.{Outcome}
-use Rattle.cli_ask.specs.Below.PageClient.declared.outcome.Outcome.TheVariants as outcomes
-use Rattle.cli_inputs.specs.Below.LawsReplay.Events.{TurnsAreOfClients, questions_in}
-use Rattle.cli_inputs.specs.Below.LawsReplay.OneCourse.{IsPlayedOut, OneCourse}
-use Rattle.cli_inputs.specs.Below.LawsReplay.Message.{IsMessageText}
-use Rattle.cli_inputs.specs.Below.LawsReplay.Replayed.{clients_text_of}
-use Rattle.cli_inputs.specs.Below.LawsReplay.declared.event.Event.{Event}
-use Rattle.cli_inputs.specs.Below.LawsReplay.declared.event.Event.TheVariants as events
-use Rattle.cli_inputs.specs.Below.LawsReplay.declared.message.Message.{Message}
-use Rattle.cli_ask.specs.Below.JourneyText.ScriptLaws.{OneScript}
-use Rattle.cli_ask.specs.Below.JourneyText.ScriptReading.{SaysScript}
-use Rattle.cli_ask.specs.Below.JourneyText.Script.{IsClient, SayRecords, clients_of}
-use Rattle.cli_ask.specs.Below.JourneyText.declared.script.Record.{Record}
-use Rattle.cli_ask.specs.Below.JourneyText.declared.script.Record.TheVariants as records
-use Rattle.cli_ask.specs.Below.Timetable.Laws.{LoadsRecorded, OneTimetable}
-use Rattle.cli_ask.specs.Below.Timetable.declared.timetable.Timetable.{Timetable}
+use Rattle.lc_world.specs.Link.{LinkSeen}
+use Rattle.page_client.specs.declared.outcome.Outcome.{Outcome}
+use Rattle.page_client.specs.declared.outcome.Outcome.TheVariants as outcomes
+use Rattle.laws_replay.specs.Events.{TurnsAreOfClients, questions_in}
+use Rattle.laws_replay.specs.OneCourse.{IsPlayedOut, OneCourse}
+use Rattle.laws_replay.specs.Message.{IsMessageText}
+use Rattle.laws_replay.specs.Replayed.{clients_text_of}
+use Rattle.laws_replay.specs.declared.event.Event.{Event}
+use Rattle.laws_replay.specs.declared.event.Event.TheVariants as events
+use Rattle.laws_replay.specs.declared.message.Message.{Message}
+use Rattle.journey_text.specs.ScriptLaws.{OneScript}
+use Rattle.journey_text.specs.ScriptReading.{SaysScript}
+use Rattle.journey_text.specs.Script.{IsClient, SayRecords, clients_of}
+use Rattle.journey_text.specs.declared.script.Record.{Record}
+use Rattle.journey_text.specs.declared.script.Record.TheVariants as records
+use Rattle.timetable.specs.Laws.{LoadsRecorded, OneTimetable}
+use Rattle.timetable.specs.declared.timetable.Timetable.{Timetable}
 use Rattle.lc_cli.specs.Clear.{AreRecordedEvents, HasFairCourse, IsRecordedCourse, IsRecordedEvent, IsRecordedScript}
 use Rattle.lc_cli.specs.Command.{IsReplayBlock}
 use Rattle.lc_cli.specs.Scope.{scope_of}

@@ -5,21 +5,21 @@ use Rattle.cli_ask.specs.Laws.{IsFair, OneOutput, PrintOneClient}
 use Rattle.cli_ask.specs.Publishing.{side_with}
 use Rattle.cli_ask.specs.declared.end.ClientEnd.{ClientEnd}
 use Rattle.cli_fewest.specs.Laws.{OneFewestOutput, PrintOneFewest}
-use Rattle.cli_ask.specs.Below.CliWords.Laws.{OneCommand}
-use Rattle.cli_ask.specs.Below.CliWords.Words.{SaysCommand}
-use Rattle.cli_ask.specs.Below.CliWords.declared.command.Command.{Command}
-use Rattle.cli_ask.specs.Below.CliWords.declared.command.Publishing.{Publishing}
-use Rattle.cli_ask.specs.Below.CliWords.declared.command.Command.TheVariants as commands
+use Rattle.cli_words.specs.Laws.{OneCommand}
+use Rattle.cli_words.specs.Words.{SaysCommand}
+use Rattle.cli_words.specs.declared.command.Command.{Command}
+use Rattle.cli_words.specs.declared.command.Publishing.{Publishing}
+use Rattle.cli_words.specs.declared.command.Command.TheVariants as commands
 use Rattle.lc_io.specs.Folder.{FolderSeen}
 use Rattle.lc_io.specs.declared.file.File.{File}
 use Rattle.lc_model.specs.declared.doc.StopsDoc.{StopsDoc}
 use Rattle.lc_model.specs.declared.run.Run.{Run}
-use Rattle.cli_ask.specs.Below.LcWorld.Link.{LinkSeen}
-use Rattle.cli_inputs.specs.Below.LawsReplay.OneCourse.{OneCourse}
-use Rattle.cli_ask.specs.Below.JourneyText.ScriptLaws.{OneScript}
-use Rattle.cli_ask.specs.Below.Timetable.Laws.{AreSame, LoadsRecorded, OneTimetable}
-use Rattle.cli_ask.specs.Below.Timetable.declared.timetable.Timetable.{Timetable}
-use Rattle.cli_ask.specs.Below.VersionStore.Laws.{OneOutcome}
+use Rattle.lc_world.specs.Link.{LinkSeen}
+use Rattle.laws_replay.specs.OneCourse.{OneCourse}
+use Rattle.journey_text.specs.ScriptLaws.{OneScript}
+use Rattle.timetable.specs.Laws.{AreSame, LoadsRecorded, OneTimetable}
+use Rattle.timetable.specs.declared.timetable.Timetable.{Timetable}
+use Rattle.version_store.specs.Laws.{OneOutcome}
 use Rattle.lc_cli.specs.CheckText.{check_text_of, count_line_of}
 use Rattle.lc_cli.specs.Clear.{HasFairLink, IsRecordedFile}
 use Rattle.lc_cli.specs.Command.{IsQuestionBlock, Prints}
@@ -32,7 +32,7 @@ use Rattle.lc_cli.specs.declared.question.Asking.TheVariants as askings
 use Rattle.lc_cli.proofs.InputsLemmas.{inputs_recorded}
 use Rattle.lc_cli.proofs.OneDrillLemmas.{summed_alike, summed_out}
 use Rattle.lc_cli.proofs.OneReplayLemmas.{one_replay}
-use Rattle.cli_ask.specs.Below.CliWords.declared.command.Published.{Published}
+use Rattle.cli_words.specs.declared.command.Published.{Published}
 use Rattle.lc_cli.proofs.TopLemmas.{side_asked_with}
 
 -- the counts of timetables that are the same

@@ -9,26 +9,26 @@ use Rattle.cli_serve.specs.SameBytes.{AreOneSide, AskOne, OneOverBytes}
 use Rattle.cli_serve.specs.Serve.{IsServedWhole, ServesTo}
 use Rattle.cli_serve.specs.declared.fault.ServeFault.{ServeFault}
 use Rattle.cli_serve.specs.declared.fault.ServeFault.TheVariants as faults
-use Rattle.cli_ask.specs.Below.CliWords.Laws.{OneCommand}
-use Rattle.cli_ask.specs.Below.CliWords.Words.{SaysCommand}
-use Rattle.cli_ask.specs.Below.CliWords.declared.command.Command.TheVariants as commands
-use Rattle.cli_ask.specs.Below.CliWords.declared.command.Publishing.{Publishing}
-use Rattle.cli_ask.specs.Below.CliWords.declared.command.Serve.{Serve}
-use Rattle.cli_ask.specs.Below.Fragmenter.Cutting.{chosen_cuts}
+use Rattle.cli_words.specs.Laws.{OneCommand}
+use Rattle.cli_words.specs.Words.{SaysCommand}
+use Rattle.cli_words.specs.declared.command.Command.TheVariants as commands
+use Rattle.cli_words.specs.declared.command.Publishing.{Publishing}
+use Rattle.cli_words.specs.declared.command.Serve.{Serve}
+use Rattle.fragmenter.specs.Cutting.{chosen_cuts}
 use Rattle.lc_io.specs.Door.{DoorSeen}
 use Rattle.lc_io.specs.Folder.{FolderSeen}
 use Rattle.lc_io.specs.Sink.{SinkSeen}
 use Rattle.lc_io.specs.declared.file.File.{File}
 use Rattle.lc_model.specs.declared.doc.StopsDoc.{StopsDoc}
 use Rattle.lc_model.specs.declared.run.Run.{Run}
-use Rattle.cli_ask.specs.Below.LcVersions.History.{Entry}
-use Rattle.cli_ask.specs.Below.LcWorld.Link.{LinkSeen}
-use Rattle.cli_ask.specs.Below.Publisher.Held.{side_of}
-use Rattle.cli_ask.specs.Below.PublisherSpec.Side.{Side, date_in}
-use Rattle.cli_ask.specs.Below.Timetable.Laws.{AreSame, LoadsRecorded, OneTimetable}
-use Rattle.cli_ask.specs.Below.Timetable.declared.timetable.Timetable.{Timetable}
-use Rattle.cli_ask.specs.Below.VersionStore.Laws.{OneOutcome}
-use Rattle.cli_ask.specs.Below.VersionStore.Store.{Stored}
+use Rattle.lc_versions.specs.History.{Entry}
+use Rattle.lc_world.specs.Link.{LinkSeen}
+use Rattle.publisher.specs.Held.{side_of}
+use Rattle.publisher_spec.specs.Side.{Side, date_in}
+use Rattle.timetable.specs.Laws.{AreSame, LoadsRecorded, OneTimetable}
+use Rattle.timetable.specs.declared.timetable.Timetable.{Timetable}
+use Rattle.version_store.specs.Laws.{OneOutcome}
+use Rattle.version_store.specs.Store.{Stored}
 use Rattle.lc_cli.specs.Clear.{IsPublishedSide, IsRecordedFile, IsServedSide}
 use Rattle.lc_cli.specs.Command.{IsServer}
 use Rattle.lc_cli.specs.Scope.{scope_of}
@@ -37,7 +37,7 @@ use Rattle.lc_cli.specs.Serving.{IsSaidLast, IsServingEnd, asked_of, served_stat
 use Rattle.lc_cli.specs.declared.server.Server.{Server}
 use Rattle.lc_cli.specs.declared.status.Status.TheVariants.{Done}
 use Rattle.lc_cli.proofs.InputsLemmas.{inputs_recorded}
-use Rattle.cli_ask.specs.Below.CliWords.declared.command.Published.{Published}
+use Rattle.cli_words.specs.declared.command.Published.{Published}
 use Rattle.lc_cli.proofs.OneRunLemmas.{one_file}
 
 -- the sides of timetables that are the same differ in their zones alone

@@ -7,36 +7,36 @@ use Rattle.cli_arrive.specs.Laws.{OneLatestOutput}
 use Rattle.cli_ask.specs.Laws.{AreOneEnd, OneOutput}
 use Rattle.cli_ask.specs.declared.end.ClientEnd.{ClientEnd}
 use Rattle.cli_fewest.specs.Laws.{OneFewestOutput}
-use Rattle.cli_arrive.specs.Below.LawsArrive.ReplyLaws.{SayOneLatest}
-use Rattle.cli_ask.specs.Below.LawsReplies.Laws.{SayTheSame}
-use Rattle.cli_ask.specs.Below.CliWords.Laws.{OneCommand}
-use Rattle.cli_ask.specs.Below.CliWords.Words.{SaysCommand}
-use Rattle.cli_ask.specs.Below.CliWords.declared.command.Command.{Command}
-use Rattle.cli_ask.specs.Below.CliWords.declared.command.Command.TheVariants as commands
-use Rattle.cli_ask.specs.Below.CliWords.declared.command.Drill.{Drill}
-use Rattle.cli_ask.specs.Below.CliWords.declared.command.Replay.{Replay}
-use Rattle.cli_ask.specs.Below.CliWords.Drill.{drilled_words}
+use Rattle.laws_arrive.specs.ReplyLaws.{SayOneLatest}
+use Rattle.laws_replies.specs.Laws.{SayTheSame}
+use Rattle.cli_words.specs.Laws.{OneCommand}
+use Rattle.cli_words.specs.Words.{SaysCommand}
+use Rattle.cli_words.specs.declared.command.Command.{Command}
+use Rattle.cli_words.specs.declared.command.Command.TheVariants as commands
+use Rattle.cli_words.specs.declared.command.Drill.{Drill}
+use Rattle.cli_words.specs.declared.command.Replay.{Replay}
+use Rattle.cli_words.specs.Drill.{drilled_words}
 use Rattle.lc_io.specs.Counts.{Rose}
 use Rattle.lc_io.specs.Folder.{FolderSeen}
 use Rattle.lc_io.specs.declared.file.File.{File}
 use Rattle.lc_io.specs.declared.folder.FolderFail.{FolderFail}
 use Rattle.lc_io.specs.declared.folder.FolderFail.TheVariants.{Absent}
-use Rattle.cli_ask.specs.Below.LcWorld.Link.{LinkSeen}
-use Rattle.cli_ask.specs.Below.PageClient.declared.fault.QueryFault.{QueryFault}
-use Rattle.cli_ask.specs.Below.PageClient.declared.outcome.Outcome.{Outcome}
-use Rattle.cli_ask.specs.Below.PageClient.declared.outcome.Outcome.TheVariants as outcomes
-use Rattle.cli_inputs.specs.Below.LawsReplay.OneCourse.{OneCourse}
-use Rattle.cli_inputs.specs.Below.LawsReplay.declared.event.Event.{Event}
-use Rattle.cli_ask.specs.Below.JourneyText.ScriptLaws.{NeverBoth, OneFault, OneScript}
-use Rattle.cli_ask.specs.Below.Timetable.Laws.{AreSameEnds, IsOfFiles, LoadsRecorded, OneEnd, OneTimetable}
-use Rattle.cli_ask.specs.Below.Timetable.Loading.{Loads, LoadsSo}
-use Rattle.cli_ask.specs.Below.Timetable.declared.fault.LoadFault.{LoadFault}
-use Rattle.cli_ask.specs.Below.Timetable.declared.fault.LoadFault.TheVariants as fault
-use Rattle.cli_ask.specs.Below.Timetable.declared.scope.Scope.{Scope}
-use Rattle.cli_ask.specs.Below.Timetable.declared.timetable.Timetable.{Timetable}
-use Rattle.cli_ask.specs.Below.VersionStore.Laws.{OneOutcome}
-use Rattle.cli_ask.specs.Below.VersionStore.declared.admission.AdmitFault.{AdmitFault}
-use Rattle.cli_ask.specs.Below.VersionStore.declared.admission.AdmitFault.TheVariants as faults
+use Rattle.lc_world.specs.Link.{LinkSeen}
+use Rattle.page_client.specs.declared.fault.QueryFault.{QueryFault}
+use Rattle.page_client.specs.declared.outcome.Outcome.{Outcome}
+use Rattle.page_client.specs.declared.outcome.Outcome.TheVariants as outcomes
+use Rattle.laws_replay.specs.OneCourse.{OneCourse}
+use Rattle.laws_replay.specs.declared.event.Event.{Event}
+use Rattle.journey_text.specs.ScriptLaws.{NeverBoth, OneFault, OneScript}
+use Rattle.timetable.specs.Laws.{AreSameEnds, IsOfFiles, LoadsRecorded, OneEnd, OneTimetable}
+use Rattle.timetable.specs.Loading.{Loads, LoadsSo}
+use Rattle.timetable.specs.declared.fault.LoadFault.{LoadFault}
+use Rattle.timetable.specs.declared.fault.LoadFault.TheVariants as fault
+use Rattle.timetable.specs.declared.scope.Scope.{Scope}
+use Rattle.timetable.specs.declared.timetable.Timetable.{Timetable}
+use Rattle.version_store.specs.Laws.{OneOutcome}
+use Rattle.version_store.specs.declared.admission.AdmitFault.{AdmitFault}
+use Rattle.version_store.specs.declared.admission.AdmitFault.TheVariants as faults
 use Rattle.lc_cli.specs.Block.{IsBlockEnd, client_status_of, failed_status_of}
 use Rattle.lc_cli.specs.Clear.{HasFairLink, HasTimetable, IsClear, IsRecordedCourse, IsRecordedFile, IsUnhindered}
 use Rattle.lc_cli.specs.Command.{IsQuestionBlock, IsRefusedAs, IsRightBlock, IsRightRefusal, Prints}
@@ -61,7 +61,7 @@ use Rattle.lc_cli.proofs.OneReplayLemmas.{one_replay}
 use Rattle.lc_cli.proofs.OneRunLemmas.{PrintOneSo, one_client}
 use Rattle.lc_cli.proofs.PlanLemmas.{asks_recorded}
 use Rattle.lc_cli.proofs.ReplayLemmas.{course_fine, course_recorded}
-use Rattle.cli_ask.specs.Below.CliWords.declared.command.Published.{Published}
+use Rattle.cli_words.specs.declared.command.Published.{Published}
 use Rattle.lc_cli.proofs.TopLemmas.{AreNoFaults, IsHeardBy, IsNoFault, first_heard, heard_fine, heard_nothing, no_fault, side_asked, side_served}
 
 -- the block was printed whole

@@ -6,21 +6,21 @@ use Rattle.cli_inputs.specs.declared.refusal.Refusal.{Refusal}
 use Rattle.cli_inputs.specs.declared.refusal.Refusal.TheVariants as refused
 use Rattle.cli_ask.specs.declared.end.ClientEnd.{ClientEnd}
 use Rattle.cli_plan.specs.Laws.{RelaysPlanRight}
-use Rattle.cli_ask.specs.Below.CliWords.declared.command.Plan.{Plan}
-use Rattle.cli_ask.specs.Below.CliWords.declared.command.Relay.{Relay}
-use Rattle.cli_ask.specs.Below.ConnectionUri.Base.{BaseParts}
-use Rattle.cli_plan.specs.Planned.{ArePlanned, IsPlanned}
-use Rattle.cli_inputs.specs.Below.LawsReplay.Events.{questions_in}
-use Rattle.cli_inputs.specs.Below.LawsReplay.declared.event.Event.{Event}
+use Rattle.cli_words.specs.declared.command.Plan.{Plan}
+use Rattle.cli_words.specs.declared.command.Relay.{Relay}
+use Rattle.connection_uri.specs.Base.{BaseParts}
+use Rattle.laws_plan.specs.Planned.{ArePlanned, IsPlanned}
+use Rattle.laws_replay.specs.Events.{questions_in}
+use Rattle.laws_replay.specs.declared.event.Event.{Event}
 use Rattle.lc_io.specs.Counts.{Rose}
 use Rattle.lc_io.specs.Folder.{FolderSeen}
 use Rattle.lc_io.specs.declared.file.File.{File}
-use Rattle.cli_ask.specs.Below.LcWorld.Link.{LinkSeen}
-use Rattle.cli_ask.specs.Below.PublisherSpec.Side.{Side}
-use Rattle.cli_ask.specs.Below.JourneyText.ScriptLaws.{NeverBoth}
-use Rattle.cli_ask.specs.Below.JourneyText.ScriptReading.{HasFault}
-use Rattle.cli_ask.specs.Below.JourneyText.declared.script_fault.ScriptFault.TheVariants.{Wrong}
-use Rattle.cli_ask.specs.Below.Timetable.declared.fault.LoadFault.TheVariants as fault
+use Rattle.lc_world.specs.Link.{LinkSeen}
+use Rattle.publisher_spec.specs.Side.{Side}
+use Rattle.journey_text.specs.ScriptLaws.{NeverBoth}
+use Rattle.journey_text.specs.ScriptReading.{HasFault}
+use Rattle.journey_text.specs.declared.script_fault.ScriptFault.TheVariants.{Wrong}
+use Rattle.timetable.specs.declared.fault.LoadFault.TheVariants as fault
 use Rattle.lc_cli.specs.Clear.{AreRecordedAsks, HasHonestLink}
 use Rattle.lc_cli.specs.Command.{IsPlanBlock, IsRelayBlock}
 use Rattle.lc_cli.specs.Refusal.{status_of}

@@ -3,37 +3,37 @@ use Rattle.std.proofs.Common.{◌≡◌, ◌∙◌, ◌⊎◌, ◌<◌, ◌++◌
 use Rattle.std.specs.List.{slice_get}
 use Rattle.cli_ask.specs.Client.{shown_of}
 use Rattle.cli_ask.specs.declared.end.ClientEnd.{ClientEnd}
-use Rattle.cli_ask.specs.Below.LawsClients.Fits.{HasEnded}
-use Rattle.cli_ask.specs.Below.LawsReplies.Ends.{EndsBy}
-use Rattle.cli_ask.specs.Below.LawsReplies.Made.{Made}
+use Rattle.laws_clients.specs.Fits.{HasEnded}
+use Rattle.laws_replies.specs.Ends.{EndsBy}
+use Rattle.laws_replies.specs.Made.{Made}
 use Rattle.cli_inputs.specs.Script.{IsEventOf, IsReplayRefused, ReadsEvents, ReadsReplay, StopsAtRecord}
 use Rattle.cli_inputs.specs.declared.refusal.Refusal.{Refusal}
 use Rattle.cli_inputs.specs.declared.refusal.Refusal.TheVariants as refused
-use Rattle.cli_ask.specs.Below.CliWords.declared.command.Replay.{Replay}
+use Rattle.cli_words.specs.declared.command.Replay.{Replay}
 use Rattle.lc_io.specs.Counts.{Rose}
 use Rattle.lc_io.specs.Folder.{FolderSeen, bytes_named}
 use Rattle.lc_io.specs.declared.file.File.{File}
 use Rattle.lc_model.specs.declared.query.Query.{Query}
-use Rattle.cli_ask.specs.Below.LcWorld.Link.{LinkSeen}
-use Rattle.cli_ask.specs.Below.PageClient.declared.outcome.Outcome.{Outcome}
-use Rattle.cli_ask.specs.Below.PageClient.declared.outcome.Outcome.TheVariants as outcomes
-use Rattle.cli_ask.specs.Below.PageClient.declared.want.Want.{Want}
-use Rattle.cli_ask.specs.Below.PublisherSpec.Side.{Side}
-use Rattle.cli_inputs.specs.Below.LawsReplay.Events.{questions_in}
-use Rattle.cli_inputs.specs.Below.LawsReplay.declared.event.Event.{Event}
-use Rattle.cli_inputs.specs.Below.LawsReplay.declared.event.Event.TheVariants as events
-use Rattle.cli_inputs.specs.Below.LawsReplay.declared.message.Message.{Message}
-use Rattle.cli_ask.specs.Below.JourneyText.ScriptLaws.{NeverBoth, OneScript}
-use Rattle.cli_ask.specs.Below.JourneyText.ScriptReading.{HasFault, SaysScript}
-use Rattle.cli_ask.specs.Below.JourneyText.declared.script_fault.ScriptFault.TheVariants.{Wrong}
-use Rattle.cli_ask.specs.Below.JourneyText.declared.script.Record.{Record}
-use Rattle.cli_ask.specs.Below.JourneyText.declared.script.Record.TheVariants as records
-use Rattle.cli_ask.specs.Below.Timetable.Recorded.{IsSound}
-use Rattle.cli_ask.specs.Below.Timetable.Laws.{LoadsRecorded, NotBroken, NotTooLarge}
-use Rattle.cli_ask.specs.Below.Timetable.declared.fault.LoadFault.TheVariants as fault
-use Rattle.cli_ask.specs.Below.Timetable.declared.timetable.Timetable.{Timetable}
-use Rattle.cli_ask.specs.Below.TripUpdates.Faults.{fault_of}
-use Rattle.cli_ask.specs.Below.TripUpdates.declared.fault.RtFault.{RtFault}
+use Rattle.lc_world.specs.Link.{LinkSeen}
+use Rattle.page_client.specs.declared.outcome.Outcome.{Outcome}
+use Rattle.page_client.specs.declared.outcome.Outcome.TheVariants as outcomes
+use Rattle.page_client.specs.declared.want.Want.{Want}
+use Rattle.publisher_spec.specs.Side.{Side}
+use Rattle.laws_replay.specs.Events.{questions_in}
+use Rattle.laws_replay.specs.declared.event.Event.{Event}
+use Rattle.laws_replay.specs.declared.event.Event.TheVariants as events
+use Rattle.laws_replay.specs.declared.message.Message.{Message}
+use Rattle.journey_text.specs.ScriptLaws.{NeverBoth, OneScript}
+use Rattle.journey_text.specs.ScriptReading.{HasFault, SaysScript}
+use Rattle.journey_text.specs.declared.script_fault.ScriptFault.TheVariants.{Wrong}
+use Rattle.journey_text.specs.declared.script.Record.{Record}
+use Rattle.journey_text.specs.declared.script.Record.TheVariants as records
+use Rattle.timetable.specs.Recorded.{IsSound}
+use Rattle.timetable.specs.Laws.{LoadsRecorded, NotBroken, NotTooLarge}
+use Rattle.timetable.specs.declared.fault.LoadFault.TheVariants as fault
+use Rattle.timetable.specs.declared.timetable.Timetable.{Timetable}
+use Rattle.trip_updates.specs.Faults.{fault_of}
+use Rattle.trip_updates.specs.declared.fault.RtFault.{RtFault}
 use Rattle.lc_cli.specs.Clear.{AreRecordedEvents, HasFairCourse, IsRecordedCourse, IsRecordedEvent}
 use Rattle.lc_cli.specs.Command.{IsPlayedBy}
 use Rattle.lc_cli.specs.Scope.{scope_of}

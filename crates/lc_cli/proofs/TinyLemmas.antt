@@ -17,9 +17,9 @@ use Rattle.lc_model.specs.RunKey.{key_cmp}
 use Rattle.std.specs.Ordering.{on}
 use Rattle.std.specs.declared.cmp.Ordering.TheVariants.{Less}
 use Rattle.lc_model.specs.declared.moment.TheConstants.{MOMENTS_END}
-use Rattle.cli_ask.specs.Below.LcVersions.Timetable.{AreLiveRuns}
-use Rattle.cli_ask.specs.Below.LiveCalls.Laws.{IsOnTime, LiveWithoutNews, RunsAreLive, RunsOnTime}
-use Rattle.cli_ask.specs.Below.CliWords.declared.command.Publishing.{Publishing}
+use Rattle.lc_versions.specs.Timetable.{AreLiveRuns}
+use Rattle.live_calls.specs.Laws.{IsOnTime, LiveWithoutNews, RunsAreLive, RunsOnTime}
+use Rattle.cli_words.specs.declared.command.Publishing.{Publishing}
 use Rattle.lc_model.specs.Change.{change_between, is_same_id}
 use Rattle.lc_model.specs.Journey.{AreRides, GoesOn, IsAnswer, IsJourney, alight_of, arrival_of_rides, arrives_at, board_of, departure_of, leaves_at}
 use Rattle.lc_model.specs.Question.{IsEnd, IsFrom, IsTo, latest_of}
@@ -27,7 +27,7 @@ use Rattle.lc_model.specs.Ride.{IsRideAt, IsRideOn}
 use Rattle.lc_model.specs.Stop.{HasStop}
 use Rattle.lc_model.specs.StopsDoc.{NamesItsStops}
 use Rattle.lc_model.proofs.OneValueLemmas.{documents_are_one}
-use Rattle.cli_ask.specs.Below.LcTime.declared.zone.Zone.TheVariants.{Utc}
+use Rattle.lc_time.specs.declared.zone.Zone.TheVariants.{Utc}
 use Rattle.lc_model.specs.Walk.{IsWalkAfter, IsWalkBefore, seconds_of}
 use Rattle.lc_model.specs.declared.answer.Answer.{Answer}
 use Rattle.lc_model.specs.declared.answer.Answer.TheVariants as answers
@@ -41,8 +41,8 @@ use Rattle.lc_model.specs.declared.ride.Ride.{Ride}
 use Rattle.lc_model.specs.declared.run.Run.{Run}
 use Rattle.lc_model.specs.declared.stop.Stop.{Stop}
 use Rattle.lc_model.specs.declared.walk.Walk.{Walk}
-use Rattle.cli_ask.specs.Below.Timetable.Tiny.{IsTiny, call, change_at, key_of, moment, run_of, stop_ids, stop_named, tiny_changes, tiny_runs, tiny_stops}
-use Rattle.cli_ask.specs.Below.Timetable.declared.timetable.Timetable.{Timetable}
+use Rattle.timetable.specs.Tiny.{IsTiny, call, change_at, key_of, moment, run_of, stop_ids, stop_named, tiny_changes, tiny_runs, tiny_stops}
+use Rattle.timetable.specs.declared.timetable.Timetable.{Timetable}
 use Rattle.lc_cli.specs.NearHeadline.{within}
 use Rattle.lc_cli.specs.Tiny.{AnswersNever, AnswersTiny, AreJourneyBy, AreRefused, AreTaken, IsMadeOf, MakeJourneys, from_a_to_d, in_place, nine_minutes_late, to_b, to_d_at, to_d_later, worked}
 

@@ -1,20 +1,20 @@
 -- What follows from the cause of a status.
 use Rattle.std.proofs.Common.{◌≡◌, ◌∙◌, ◌⊎◌, ◌+◌, ◌∷◌, ℕ, inl, inr, Bool, false, List, [], None, Some, Option, Result, Ok, Err, ap, arith, refl, subst, sym}
 use Rattle.std.specs.Option.{unwrap_or}
-use Rattle.cli_ask.specs.Below.BackScan.declared.arrive_query.ArriveQuery.{ArriveQuery}
+use Rattle.back_scan.specs.declared.arrive_query.ArriveQuery.{ArriveQuery}
 use Rattle.cli_arrive.specs.Asked.{IsAskedLatest}
 use Rattle.cli_ask.specs.Admission.{IsBehind, IsIgnored}
 use Rattle.cli_ask.specs.Asked.{IsAsked}
 use Rattle.cli_ask.specs.Client.{shown_of}
 use Rattle.cli_ask.specs.Publishing.{side_for, side_with, store_of}
-use Rattle.cli_arrive.specs.Below.LawsArrive.Right.{EndsAt}
-use Rattle.cli_ask.specs.Below.LawsClients.Fits.{HasEnded}
-use Rattle.cli_ask.specs.Below.LawsReplies.Ends.{EndsBy}
-use Rattle.cli_ask.specs.Below.CliWords.Words.{SaysCommand}
-use Rattle.cli_ask.specs.Below.CliWords.declared.command.Publishing.{Publishing}
-use Rattle.cli_ask.specs.Below.CliWords.declared.command.Serve.{Serve}
-use Rattle.cli_ask.specs.Below.CliWords.declared.command.Command.{Command}
-use Rattle.cli_ask.specs.Below.CliWords.declared.command.Command.TheVariants as commands
+use Rattle.laws_arrive.specs.Right.{EndsAt}
+use Rattle.laws_clients.specs.Fits.{HasEnded}
+use Rattle.laws_replies.specs.Ends.{EndsBy}
+use Rattle.cli_words.specs.Words.{SaysCommand}
+use Rattle.cli_words.specs.declared.command.Publishing.{Publishing}
+use Rattle.cli_words.specs.declared.command.Serve.{Serve}
+use Rattle.cli_words.specs.declared.command.Command.{Command}
+use Rattle.cli_words.specs.declared.command.Command.TheVariants as commands
 use Rattle.lc_io.specs.Counts.{Rose}
 use Rattle.lc_io.specs.Folder.{FolderSeen, bytes_named}
 use Rattle.lc_io.specs.declared.file.File.{File}
@@ -22,22 +22,22 @@ use Rattle.lc_io.specs.declared.folder.FolderFail.{FolderFail}
 use Rattle.lc_io.specs.declared.folder.FolderFail.TheVariants.{Absent}
 use Rattle.lc_io.specs.Sink.{SinkSeen}
 use Rattle.lc_model.specs.declared.query.Query.{Query}
-use Rattle.cli_ask.specs.Below.LcWorld.Link.{LinkSeen}
-use Rattle.cli_ask.specs.Below.PageClient.declared.outcome.Outcome.{Outcome}
-use Rattle.cli_ask.specs.Below.PageClient.declared.outcome.Outcome.TheVariants as outcomes
-use Rattle.cli_ask.specs.Below.PageClient.declared.want.Want.{Want}
-use Rattle.cli_ask.specs.Below.PublisherSpec.Short.{IsShort}
-use Rattle.cli_ask.specs.Below.PublisherSpec.Side.{Side}
-use Rattle.cli_ask.specs.Below.Timetable.Laws.{LoadsRecorded}
-use Rattle.cli_ask.specs.Below.Timetable.declared.fault.LoadFault.TheVariants as fault
-use Rattle.cli_ask.specs.Below.Timetable.declared.scope.Scope.{Scope}
-use Rattle.cli_ask.specs.Below.Timetable.declared.timetable.Timetable.{Timetable}
-use Rattle.cli_ask.specs.Below.TripUpdates.declared.fault.RtFault.{RtFault}
-use Rattle.cli_ask.specs.Below.VersionStore.Admission.{IsRefused, IsTaken}
-use Rattle.cli_ask.specs.Below.VersionStore.Laws.{OneOutcome}
-use Rattle.cli_ask.specs.Below.VersionStore.Store.{Stored}
-use Rattle.cli_ask.specs.Below.VersionStore.declared.admission.AdmitFault.{AdmitFault}
-use Rattle.cli_ask.specs.Below.VersionStore.declared.admission.AdmitFault.TheVariants as faults
+use Rattle.lc_world.specs.Link.{LinkSeen}
+use Rattle.page_client.specs.declared.outcome.Outcome.{Outcome}
+use Rattle.page_client.specs.declared.outcome.Outcome.TheVariants as outcomes
+use Rattle.page_client.specs.declared.want.Want.{Want}
+use Rattle.publisher_spec.specs.Short.{IsShort}
+use Rattle.publisher_spec.specs.Side.{Side}
+use Rattle.timetable.specs.Laws.{LoadsRecorded}
+use Rattle.timetable.specs.declared.fault.LoadFault.TheVariants as fault
+use Rattle.timetable.specs.declared.scope.Scope.{Scope}
+use Rattle.timetable.specs.declared.timetable.Timetable.{Timetable}
+use Rattle.trip_updates.specs.declared.fault.RtFault.{RtFault}
+use Rattle.version_store.specs.Admission.{IsRefused, IsTaken}
+use Rattle.version_store.specs.Laws.{OneOutcome}
+use Rattle.version_store.specs.Store.{Stored}
+use Rattle.version_store.specs.declared.admission.AdmitFault.{AdmitFault}
+use Rattle.version_store.specs.declared.admission.AdmitFault.TheVariants as faults
 use Rattle.cli_ask.specs.declared.end.ClientEnd.{ClientEnd}
 use Rattle.lc_cli.specs.Block.{IsBlockEnd, client_status_of, failed_status_of}
 use Rattle.lc_cli.specs.Clear.{HasFairLink, IsAnswered, IsPublishedSide, IsServedSide, IsRecordedFile}
@@ -55,7 +55,7 @@ use Rattle.cli_inputs.specs.declared.refusal.Refusal.{Refusal}
 use Rattle.cli_inputs.specs.declared.refusal.Refusal.TheVariants as refused
 use Rattle.lc_cli.specs.declared.status.Status.{Status}
 use Rattle.lc_cli.specs.declared.status.Status.TheVariants.{Usage, NoMemory}
-use Rattle.cli_ask.specs.Below.CliWords.declared.command.Published.{Published}
+use Rattle.cli_words.specs.declared.command.Published.{Published}
 use Rattle.lc_cli.proofs.InputsLemmas.{absent_recorded, bytes_recorded, inputs_recorded, still_recorded}
 
 -- every other status has a command that the arguments say

@@ -2,10 +2,10 @@
 use Rattle.std.proofs.Common.{◌≡◌, ℕ, pos, arith, ap}
 use Rattle.jiff_core.proofs.SignedLemmas.{signed_arith}
 use Rattle.lc_model.specs.declared.date.ServiceDate.{ServiceDate}
-use Rattle.cli_ask.proofs.BelowLemmas.LcTime.CalendarLemmas.{from_1970, number_at_date}
-use Rattle.cli_ask.specs.Below.ServiceDays.Days.{day_number}
-use Rattle.cli_ask.specs.Below.CliWords.Window.{IsWindow as IsSaidWindow}
-use Rattle.cli_ask.specs.Below.Timetable.Scope.{IsWindow}
+use Rattle.lc_time.proofs.CalendarLemmas.{from_1970, number_at_date}
+use Rattle.service_days.specs.Days.{day_number}
+use Rattle.cli_words.specs.Window.{IsWindow as IsSaidWindow}
+use Rattle.timetable.specs.Scope.{IsWindow}
 
 pub window_said : (first : ServiceDate) (days : ℕ) → IsSaidWindow first days → IsWindow first days
 window_said first days said =

@@ -6,8 +6,8 @@ use Rattle.std.proofs.lemmas.List.Kept.{AllPairs-cons}
 use Rattle.std.proofs.lemmas.List.Sums.{AllPass-from_list_all}
 use Rattle.std.proofs.lemmas.Slice.Eq.{bytes_eq-Decides}
 use Rattle.cli_ask.specs.Publishing.{side_with, store_of}
-use Rattle.cli_ask.specs.Below.CliWords.declared.command.Publishing.{Publishing}
-use Rattle.cli_fewest.specs.Below.LawsRounds.Version.{FewestAt}
+use Rattle.cli_words.specs.declared.command.Publishing.{Publishing}
+use Rattle.laws_rounds.specs.Version.{FewestAt}
 use Rattle.lc_model.specs.Change.{is_same_id}
 use Rattle.lc_model.specs.Journey.{AreRides, IsBest, IsJourney, alight_of, arrival_of_rides, arrives_at, board_of}
 use Rattle.lc_model.specs.Ride.{IsRideAt}
@@ -20,12 +20,12 @@ use Rattle.lc_model.specs.declared.moment.TheConstants.{MOMENTS_END}
 use Rattle.lc_model.specs.declared.ride.Ride.{Ride}
 use Rattle.lc_model.specs.declared.run.Run.{Run}
 use Rattle.lc_model.proofs.OneValueLemmas.{documents_are_one}
-use Rattle.cli_ask.specs.Below.LcTime.declared.zone.Zone.TheVariants.{Utc}
-use Rattle.cli_ask.specs.Below.LcVersions.Timetable.{AreLiveRuns}
-use Rattle.cli_ask.specs.Below.LiveCalls.Laws.{LiveWithoutNews, RunsAreLive, RunsOnTime}
-use Rattle.cli_ask.specs.Below.PublisherSpec.Side.{Side}
-use Rattle.cli_ask.specs.Below.Timetable.Tiny.{call, key_of, moment, run_of}
-use Rattle.cli_ask.specs.Below.Timetable.declared.timetable.Timetable.{Timetable}
+use Rattle.lc_time.specs.declared.zone.Zone.TheVariants.{Utc}
+use Rattle.lc_versions.specs.Timetable.{AreLiveRuns}
+use Rattle.live_calls.specs.Laws.{LiveWithoutNews, RunsAreLive, RunsOnTime}
+use Rattle.publisher_spec.specs.Side.{Side}
+use Rattle.timetable.specs.Tiny.{call, key_of, moment, run_of}
+use Rattle.timetable.specs.declared.timetable.Timetable.{Timetable}
 use Rattle.lc_cli.specs.NearHeadline.{end_of}
 use Rattle.lc_cli.specs.Tiny.{IsMadeOf, from_a_to_d, ride_of, to_b, to_d_at, worked}
 use Rattle.lc_cli.specs.WorkedQuestions.{EndBest, EndFewest, EndFewestAtOneVersion, EndNotFewest, EndsFewestWith, HasDirect, IsNoFewestEnd, direct, with_direct}

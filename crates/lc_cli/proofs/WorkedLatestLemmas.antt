@@ -1,10 +1,10 @@
 -- Which journeys of the small feed leave latest.
 use Rattle.std.proofs.Common.{◌≡◌, ◌∙◌, ◌+◌, ◌-◌, ◌<◌, ◌≤◌, ℕ, inl, List, [], ◌∷◌, Some, None, ap, arith, codes, lit<, lit≤, refl, subst, sym}
-use Rattle.cli_ask.specs.Below.BackScan.Forward.{forward_query}
-use Rattle.cli_ask.specs.Below.BackScan.Latest.{IsLatest}
-use Rattle.cli_ask.specs.Below.BackScan.declared.arrive_query.ArriveQuery.{ArriveQuery}
-use Rattle.cli_ask.specs.Below.CliWords.declared.command.Publishing.{Publishing}
-use Rattle.cli_ask.specs.Below.LiveCalls.Laws.{LiveWithoutNews, RunsAreLive}
+use Rattle.back_scan.specs.Forward.{forward_query}
+use Rattle.back_scan.specs.Latest.{IsLatest}
+use Rattle.back_scan.specs.declared.arrive_query.ArriveQuery.{ArriveQuery}
+use Rattle.cli_words.specs.declared.command.Publishing.{Publishing}
+use Rattle.live_calls.specs.Laws.{LiveWithoutNews, RunsAreLive}
 use Rattle.lc_model.specs.Journey.{AreRides, IsJourney, arrives_at, departure_of, leaves_at}
 use Rattle.lc_model.specs.Ride.{IsRideAt}
 use Rattle.lc_model.specs.Walk.{seconds_of}
@@ -12,7 +12,7 @@ use Rattle.lc_model.specs.declared.doc.StopsDoc.{StopsDoc}
 use Rattle.lc_model.specs.declared.journey.Journey.{Journey}
 use Rattle.lc_model.specs.declared.ride.Ride.{Ride}
 use Rattle.lc_model.specs.declared.run.Run.{Run}
-use Rattle.cli_ask.specs.Below.Timetable.Tiny.{call, key_of, moment}
+use Rattle.timetable.specs.Tiny.{call, key_of, moment}
 use Rattle.lc_cli.specs.Tiny.{AreJourneyBy, IsMadeOf, ride_of, to_b, to_d_at, worked}
 use Rattle.lc_cli.specs.WorkedQuestions.{AllLeaveAt, LatestAlways, LatestNever, LatestTiny, LeaveLatest, LeaveNotLatest, at_nine, at_ten, by_1010, by_831, by_a_second_before}
 use Rattle.lc_cli.proofs.TinyLemmas.{doc, from_first, in_order, is_tiny, journeys_after, journeys_before, just_before, live_are, rides_after, rides_before, rides_make, rides_to_b, rides_to_d, run_at, runs, runs_on_time, same_doc, the_worked, tiny, walks_nowhere, worked_arrives}

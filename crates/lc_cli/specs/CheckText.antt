@@ -1,6 +1,6 @@
 -- The counts of a timetable, a line each.
 use Rattle.std.specs.Prelude.{ℕ, ◌+◌, List, ◌++◌, codes, decimal, length}
-use Rattle.cli_ask.specs.Below.Timetable.declared.timetable.Timetable.{Timetable}
+use Rattle.timetable.specs.declared.timetable.Timetable.{Timetable}
 
 -- `{name} {count}`
 abbrev pub count_line_of : List ℕ → ℕ → List ℕ

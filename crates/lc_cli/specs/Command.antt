@@ -3,26 +3,26 @@ use Rattle.std.specs.Prelude.{◌≡◌, ◌⊎◌, ℕ, false, List, [], ◌∷
 use Rattle.cli_ask.specs.Publishing.{PublishesAfter}
 use Rattle.cli_ask.specs.declared.end.ClientEnd.{ClientEnd}
 use Rattle.cli_plan.specs.Relayed.{IsRelayed}
-use Rattle.cli_ask.specs.Below.CliWords.Words.{SaysCommand}
-use Rattle.cli_ask.specs.Below.CliWords.declared.command.Arrive.{Arrive}
-use Rattle.cli_ask.specs.Below.CliWords.declared.command.Ask.{Ask}
-use Rattle.cli_ask.specs.Below.CliWords.declared.command.Check.{Check}
-use Rattle.cli_ask.specs.Below.CliWords.declared.command.Fewest.{Fewest}
-use Rattle.cli_ask.specs.Below.CliWords.declared.command.Plan.{Plan}
-use Rattle.cli_ask.specs.Below.CliWords.declared.command.Published.{Published}
-use Rattle.cli_ask.specs.Below.CliWords.declared.command.Relay.{Relay}
-use Rattle.cli_ask.specs.Below.CliWords.declared.command.Serve.{Serve}
-use Rattle.cli_ask.specs.Below.CliWords.declared.command.Command.{Command}
-use Rattle.cli_ask.specs.Below.CliWords.declared.command.Command.TheVariants as commands
+use Rattle.cli_words.specs.Words.{SaysCommand}
+use Rattle.cli_words.specs.declared.command.Arrive.{Arrive}
+use Rattle.cli_words.specs.declared.command.Ask.{Ask}
+use Rattle.cli_words.specs.declared.command.Check.{Check}
+use Rattle.cli_words.specs.declared.command.Fewest.{Fewest}
+use Rattle.cli_words.specs.declared.command.Plan.{Plan}
+use Rattle.cli_words.specs.declared.command.Published.{Published}
+use Rattle.cli_words.specs.declared.command.Relay.{Relay}
+use Rattle.cli_words.specs.declared.command.Serve.{Serve}
+use Rattle.cli_words.specs.declared.command.Command.{Command}
+use Rattle.cli_words.specs.declared.command.Command.TheVariants as commands
 use Rattle.lc_io.specs.Folder.{FolderSeen}
 use Rattle.lc_io.specs.declared.file.File.{File}
-use Rattle.cli_ask.specs.Below.LcWorld.GoneOn.{IsLeftByGets, IsLeftByPasses}
-use Rattle.cli_ask.specs.Below.LcWorld.Link.{LinkSeen}
-use Rattle.cli_plan.specs.Planned.{IsPlanned}
-use Rattle.cli_inputs.specs.Below.LawsReplay.declared.event.Event.{Event}
-use Rattle.cli_ask.specs.Below.Timetable.Loading.{Loads}
-use Rattle.cli_ask.specs.Below.Timetable.declared.fault.LoadFault.TheVariants as fault
-use Rattle.cli_ask.specs.Below.Timetable.declared.timetable.Timetable.{Timetable}
+use Rattle.lc_world.specs.GoneOn.{IsLeftByGets, IsLeftByPasses}
+use Rattle.lc_world.specs.Link.{LinkSeen}
+use Rattle.laws_plan.specs.Planned.{IsPlanned}
+use Rattle.laws_replay.specs.declared.event.Event.{Event}
+use Rattle.timetable.specs.Loading.{Loads}
+use Rattle.timetable.specs.declared.fault.LoadFault.TheVariants as fault
+use Rattle.timetable.specs.declared.timetable.Timetable.{Timetable}
 use Rattle.lc_cli.specs.CheckText.{check_text_of}
 use Rattle.lc_cli.specs.Drill.{IsDrillBlock, IsDrillRefused}
 pub use Rattle.lc_cli.specs.Replay.{IsPlayedBy, IsReplayBlock}

@@ -3,40 +3,40 @@ use Rattle.std.specs.Prelude.{◌≡◌, ℕ, ◌+◌, List, ◌∷◌, ◌++◌
 use Rattle.cli_ask.specs.Block.{client_text_of}
 use Rattle.cli_ask.specs.Publishing.{side_with, store_of}
 use Rattle.cli_ask.specs.declared.end.ClientEnd.{ClientEnd}
-use Rattle.cli_ask.specs.Below.CliWords.Words.{SaysCommand}
-use Rattle.cli_ask.specs.Below.CliWords.declared.command.Ask.{Ask}
-use Rattle.cli_ask.specs.Below.CliWords.declared.command.Command.TheVariants as commands
-use Rattle.cli_ask.specs.Below.CliWords.declared.command.Plan.{Plan}
-use Rattle.cli_ask.specs.Below.CliWords.declared.command.Publishing.{Publishing}
-use Rattle.cli_ask.specs.Below.CliWords.declared.command.Replay.{Replay}
-use Rattle.cli_ask.specs.Below.ConnectionUri.Base.{BaseParts}
-use Rattle.cli_ask.specs.Below.LawsClients.Answered.{AnswersAt, NeededAt}
-use Rattle.cli_ask.specs.Below.LawsConvoys.Names.{Round}
-use Rattle.cli_plan.specs.Planned.{ArePlanned, IsPlanned}
-use Rattle.cli_plan.specs.Replied.{TellsAlong}
-use Rattle.cli_plan.specs.Sides.{sides_of}
-use Rattle.cli_inputs.specs.Below.LawsReplay.Events.{before_turn_of, questions_in}
-use Rattle.cli_inputs.specs.Below.LawsReplay.OneCourse.{IsPlayedOut}
-use Rattle.cli_inputs.specs.Below.LawsReplay.Replayed.{clients_text_of}
-use Rattle.cli_inputs.specs.Below.LawsReplay.Turns.{order_of, rounds_of}
-use Rattle.cli_inputs.specs.Below.LawsReplay.Versions.{AreShort, HasHeard}
-use Rattle.cli_inputs.specs.Below.LawsReplay.declared.event.Event.{Event}
+use Rattle.cli_words.specs.Words.{SaysCommand}
+use Rattle.cli_words.specs.declared.command.Ask.{Ask}
+use Rattle.cli_words.specs.declared.command.Command.TheVariants as commands
+use Rattle.cli_words.specs.declared.command.Plan.{Plan}
+use Rattle.cli_words.specs.declared.command.Publishing.{Publishing}
+use Rattle.cli_words.specs.declared.command.Replay.{Replay}
+use Rattle.connection_uri.specs.Base.{BaseParts}
+use Rattle.laws_clients.specs.Answered.{AnswersAt, NeededAt}
+use Rattle.laws_convoys.specs.Names.{Round}
+use Rattle.laws_plan.specs.Planned.{ArePlanned, IsPlanned}
+use Rattle.laws_plan.specs.Replied.{TellsAlong}
+use Rattle.laws_plan.specs.Sides.{sides_of}
+use Rattle.laws_replay.specs.Events.{before_turn_of, questions_in}
+use Rattle.laws_replay.specs.OneCourse.{IsPlayedOut}
+use Rattle.laws_replay.specs.Replayed.{clients_text_of}
+use Rattle.laws_replay.specs.Turns.{order_of, rounds_of}
+use Rattle.laws_replay.specs.Versions.{AreShort, HasHeard}
+use Rattle.laws_replay.specs.declared.event.Event.{Event}
 use Rattle.lc_io.specs.declared.file.File.{File}
 use Rattle.lc_model.specs.declared.answer.Answer.{Answer}
 use Rattle.lc_model.specs.declared.answer.Answer.TheVariants as answers
 use Rattle.lc_model.specs.declared.page.PageName.{PageName}
 use Rattle.lc_model.specs.declared.query.Query.{Query}
-use Rattle.cli_ask.specs.Below.LcVersions.History.{moments_of}
-use Rattle.cli_ask.specs.Below.LcVersions.Named.{version_named}
-use Rattle.cli_ask.specs.Below.LcWorld.Link.{IsHonestWith, LinkSeen}
-use Rattle.cli_ask.specs.Below.PageClient.declared.outcome.Outcome.{Outcome}
-use Rattle.cli_ask.specs.Below.PageClient.declared.outcome.Outcome.TheVariants as outcomes
-use Rattle.cli_ask.specs.Below.PageClient.declared.want.Want.{Want}
-use Rattle.cli_ask.specs.Below.PageClient.declared.want.Want.TheVariants as wants
-use Rattle.cli_ask.specs.Below.PublisherSpec.Short.{IsShort}
-use Rattle.cli_ask.specs.Below.PublisherSpec.Side.{Side}
-use Rattle.cli_ask.specs.Below.Timetable.declared.timetable.Timetable.{Timetable}
-use Rattle.cli_ask.specs.Below.VersionStore.Store.{Stored}
+use Rattle.lc_versions.specs.History.{moments_of}
+use Rattle.lc_versions.specs.Named.{version_named}
+use Rattle.lc_world.specs.Link.{IsHonestWith, LinkSeen}
+use Rattle.page_client.specs.declared.outcome.Outcome.{Outcome}
+use Rattle.page_client.specs.declared.outcome.Outcome.TheVariants as outcomes
+use Rattle.page_client.specs.declared.want.Want.{Want}
+use Rattle.page_client.specs.declared.want.Want.TheVariants as wants
+use Rattle.publisher_spec.specs.Short.{IsShort}
+use Rattle.publisher_spec.specs.Side.{Side}
+use Rattle.timetable.specs.declared.timetable.Timetable.{Timetable}
+use Rattle.version_store.specs.Store.{Stored}
 use Rattle.lc_cli.specs.Clear.{AreRecordedAsks, IsAskedSide, IsRecordedCourse}
 use Rattle.lc_cli.specs.Top.{IsRight, Past}
 use Rattle.cli_serve.specs.Written.{Wrote}

@@ -2,16 +2,16 @@
 use Rattle.std.specs.Prelude.{◌≡◌, ℕ, ◌+◌, List, Some, slice_get}
 use Rattle.cli_ask.specs.declared.end.ClientEnd.{ClientEnd}
 use Rattle.cli_drill.specs.Files.{drill_files}
-use Rattle.cli_ask.specs.Below.CliWords.Words.{SaysCommand}
-use Rattle.cli_ask.specs.Below.CliWords.declared.command.Command.TheVariants as commands
-use Rattle.cli_ask.specs.Below.CliWords.declared.command.Drill.{Drill}
-use Rattle.cli_ask.specs.Below.CliWords.declared.command.Replay.{Replay}
-use Rattle.cli_inputs.specs.Below.LawsReplay.Events.{questions_in}
-use Rattle.cli_inputs.specs.Below.LawsReplay.OneCourse.{IsPlayedOut}
-use Rattle.cli_inputs.specs.Below.LawsReplay.declared.event.Event.{Event}
+use Rattle.cli_words.specs.Words.{SaysCommand}
+use Rattle.cli_words.specs.declared.command.Command.TheVariants as commands
+use Rattle.cli_words.specs.declared.command.Drill.{Drill}
+use Rattle.cli_words.specs.declared.command.Replay.{Replay}
+use Rattle.laws_replay.specs.Events.{questions_in}
+use Rattle.laws_replay.specs.OneCourse.{IsPlayedOut}
+use Rattle.laws_replay.specs.declared.event.Event.{Event}
 use Rattle.lc_model.specs.declared.query.Query.{Query}
-use Rattle.cli_ask.specs.Below.LcWorld.Link.{LinkSeen}
-use Rattle.cli_ask.specs.Below.Timetable.declared.timetable.Timetable.{Timetable}
+use Rattle.lc_world.specs.Link.{LinkSeen}
+use Rattle.timetable.specs.declared.timetable.Timetable.{Timetable}
 use Rattle.lc_cli.specs.Clear.{IsRecordedCourse}
 use Rattle.lc_cli.specs.Drill.{IsDrilled, IsSummary}
 use Rattle.lc_cli.specs.Headline.{EndsBestThen, StaysShortThroughout}

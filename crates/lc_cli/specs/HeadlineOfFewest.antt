@@ -3,19 +3,19 @@ use Rattle.std.specs.Prelude.{◌≡◌, ◌+◌, List, ◌++◌, Option, Some, 
 use Rattle.cli_ask.specs.Block.{client_text_of}
 use Rattle.cli_ask.specs.declared.end.ClientEnd.{ClientEnd}
 use Rattle.cli_serve.specs.Written.{Wrote}
-use Rattle.cli_ask.specs.Below.CliWords.Words.{SaysCommand}
-use Rattle.cli_ask.specs.Below.CliWords.declared.command.Command.TheVariants as commands
-use Rattle.cli_ask.specs.Below.CliWords.declared.command.Fewest.{Fewest}
-use Rattle.cli_ask.specs.Below.LawsClients.Answered.{NeededAt}
-use Rattle.cli_fewest.specs.Below.LawsRounds.Version.{FewestAt}
+use Rattle.cli_words.specs.Words.{SaysCommand}
+use Rattle.cli_words.specs.declared.command.Command.TheVariants as commands
+use Rattle.cli_words.specs.declared.command.Fewest.{Fewest}
+use Rattle.laws_clients.specs.Answered.{NeededAt}
+use Rattle.laws_rounds.specs.Version.{FewestAt}
 use Rattle.lc_io.specs.declared.file.File.{File}
 use Rattle.lc_model.specs.declared.journey.Journey.{Journey}
 use Rattle.lc_model.specs.declared.page.PageName.{PageName}
 use Rattle.lc_model.specs.declared.query.Query.{Query}
-use Rattle.cli_ask.specs.Below.LcWorld.Link.{LinkSeen}
-use Rattle.cli_ask.specs.Below.PageClient.Shown.{answered}
-use Rattle.cli_ask.specs.Below.PublisherSpec.Short.{IsShort}
-use Rattle.cli_ask.specs.Below.PublisherSpec.Side.{Side}
+use Rattle.lc_world.specs.Link.{LinkSeen}
+use Rattle.page_client.specs.Shown.{answered}
+use Rattle.publisher_spec.specs.Short.{IsShort}
+use Rattle.publisher_spec.specs.Side.{Side}
 use Rattle.lc_cli.specs.Clear.{IsAskedSide}
 use Rattle.lc_cli.specs.Headline.{version_meant}
 use Rattle.lc_cli.specs.Top.{IsRight, Past}

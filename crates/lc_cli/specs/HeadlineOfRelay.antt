@@ -3,14 +3,14 @@ use Rattle.std.specs.Prelude.{◌≡◌, ℕ, List, ◌++◌, Some}
 use Rattle.cli_ask.specs.declared.end.ClientEnd.{ClientEnd}
 use Rattle.cli_plan.specs.Relayed.{IsRelayed, counts_line_of, relay_after, relay_over}
 use Rattle.cli_serve.specs.Written.{Wrote}
-use Rattle.cli_ask.specs.Below.CliWords.Words.{SaysCommand}
-use Rattle.cli_ask.specs.Below.CliWords.declared.command.Command.TheVariants as commands
-use Rattle.cli_ask.specs.Below.CliWords.declared.command.Relay.{Relay}
-use Rattle.cli_inputs.specs.Below.LawsReplay.Replayed.{clients_text_of}
-use Rattle.cli_inputs.specs.Below.LawsReplay.declared.event.Event.{Event}
+use Rattle.cli_words.specs.Words.{SaysCommand}
+use Rattle.cli_words.specs.declared.command.Command.TheVariants as commands
+use Rattle.cli_words.specs.declared.command.Relay.{Relay}
+use Rattle.laws_replay.specs.Replayed.{clients_text_of}
+use Rattle.laws_replay.specs.declared.event.Event.{Event}
 use Rattle.lc_io.specs.declared.file.File.{File}
-use Rattle.cli_ask.specs.Below.LcWorld.Link.{IsHonestWith, LinkSeen}
-use Rattle.cli_ask.specs.Below.PublisherSpec.Side.{Side}
+use Rattle.lc_world.specs.Link.{IsHonestWith, LinkSeen}
+use Rattle.publisher_spec.specs.Side.{Side}
 use Rattle.lc_cli.specs.Clear.{AreRecordedAsks}
 use Rattle.lc_cli.specs.Headline.{EachEndsBest}
 use Rattle.lc_cli.specs.Top.{IsRight, Past}

@@ -5,12 +5,12 @@ use Rattle.cli_arrive.specs.Laws.{PrintOneLatest}
 use Rattle.cli_ask.specs.Laws.{AreOneEnd, PrintOneClient}
 use Rattle.cli_ask.specs.declared.end.ClientEnd.{ClientEnd}
 use Rattle.cli_fewest.specs.Laws.{PrintOneFewest}
-use Rattle.cli_ask.specs.Below.CliWords.Words.{SaysCommand}
-use Rattle.cli_ask.specs.Below.CliWords.declared.command.Command.{Command}
-use Rattle.cli_ask.specs.Below.CliWords.declared.command.Command.TheVariants as commands
+use Rattle.cli_words.specs.Words.{SaysCommand}
+use Rattle.cli_words.specs.declared.command.Command.{Command}
+use Rattle.cli_words.specs.declared.command.Command.TheVariants as commands
 use Rattle.lc_io.specs.declared.file.File.{File}
-use Rattle.cli_ask.specs.Below.LcWorld.Link.{LinkSeen}
-use Rattle.cli_inputs.specs.Below.LawsReplay.Replayed.{clients_text_of}
+use Rattle.lc_world.specs.Link.{LinkSeen}
+use Rattle.laws_replay.specs.Replayed.{clients_text_of}
 use Rattle.lc_cli.specs.Clear.{IsClear, IsUnhindered}
 use Rattle.lc_cli.specs.Top.{HasPrinted, HasServed, IsRight, Past}
 use Rattle.lc_cli.specs.declared.block.Block.{Block}

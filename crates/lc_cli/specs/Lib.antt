@@ -1,4 +1,3 @@
-pub mod Below
 pub mod Scope
 pub mod Block
 pub mod CheckText

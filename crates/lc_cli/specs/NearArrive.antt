@@ -1,16 +1,16 @@
 -- What is near the end of a question for the latest departure, and is none. It is a journey that leaves earlier or later, no journey, another
 -- version, an exchange more or less, or another order of the needed pages back.
 use Rattle.std.specs.Prelude.{◌≡◌, ◌≢◌, ◌+◌, ◌<◌, ◌∷◌, ◌++◌, ℕ, List, Some}
-use Rattle.cli_ask.specs.Below.BackScan.Forward.{forward_query}
-use Rattle.cli_ask.specs.Below.BackScan.declared.arrive_query.ArriveQuery.{ArriveQuery}
+use Rattle.back_scan.specs.Forward.{forward_query}
+use Rattle.back_scan.specs.declared.arrive_query.ArriveQuery.{ArriveQuery}
 use Rattle.cli_ask.specs.declared.end.ClientEnd.{ClientEnd}
-use Rattle.cli_arrive.specs.Below.LawsArrive.Latest.{NeededBackAt}
-use Rattle.cli_ask.specs.Below.LawsClients.Stated.{version_at}
+use Rattle.laws_arrive.specs.Latest.{NeededBackAt}
+use Rattle.laws_clients.specs.Stated.{version_at}
 use Rattle.lc_model.specs.Journey.{leaves_at}
 use Rattle.lc_model.specs.declared.journey.Journey.{Journey}
 use Rattle.lc_model.specs.declared.page.PageName.{PageName}
-use Rattle.cli_ask.specs.Below.PageClient.declared.outcome.Outcome.TheVariants as outcomes
-use Rattle.cli_ask.specs.Below.PublisherSpec.Side.{Side}
+use Rattle.page_client.specs.declared.outcome.Outcome.TheVariants as outcomes
+use Rattle.publisher_spec.specs.Side.{Side}
 use Rattle.lc_cli.specs.HeadlineOfArrive.{EndsLatest}
 
 -- A journey that leaves earlier is refused, as the one where a client stops that takes the first journey it finds.

@@ -2,17 +2,17 @@
 use Rattle.std.specs.Prelude.{◌≡◌, List, Some}
 use Rattle.std.specs.List.{AllZip}
 use Rattle.cli_ask.specs.Laws.{AreOneEnd}
-use Rattle.cli_ask.specs.Below.CliWords.Words.{SaysCommand}
-use Rattle.cli_ask.specs.Below.CliWords.declared.command.Command.{Command}
-use Rattle.cli_ask.specs.Below.CliWords.declared.command.Command.TheVariants as commands
-use Rattle.cli_ask.specs.Below.CliWords.declared.command.Plan.{Plan}
-use Rattle.cli_ask.specs.Below.ConnectionUri.Base.{BaseParts}
-use Rattle.cli_plan.specs.OneGrowing.{NameTheSame}
-use Rattle.cli_inputs.specs.Below.LawsReplay.Replayed.{clients_text_of}
+use Rattle.cli_words.specs.Words.{SaysCommand}
+use Rattle.cli_words.specs.declared.command.Command.{Command}
+use Rattle.cli_words.specs.declared.command.Command.TheVariants as commands
+use Rattle.cli_words.specs.declared.command.Plan.{Plan}
+use Rattle.connection_uri.specs.Base.{BaseParts}
+use Rattle.laws_plan.specs.OneGrowing.{NameTheSame}
+use Rattle.laws_replay.specs.Replayed.{clients_text_of}
 use Rattle.lc_io.specs.Counts.{Rose}
 use Rattle.lc_io.specs.declared.file.File.{File}
-use Rattle.cli_ask.specs.Below.LcWorld.Link.{IsHonestWith, IsQuietWith, LinkSeen}
-use Rattle.cli_ask.specs.Below.PublisherSpec.Side.{IsLater, IsValidSide, Side}
+use Rattle.lc_world.specs.Link.{IsHonestWith, IsQuietWith, LinkSeen}
+use Rattle.publisher_spec.specs.Side.{IsLater, IsValidSide, Side}
 use Rattle.lc_cli.specs.Top.{HasPrinted, Past}
 use Rattle.lc_cli.specs.declared.block.Block.{Block}
 use Rattle.lc_cli.specs.declared.status.Status.{Status}

@@ -3,13 +3,13 @@ use Rattle.std.specs.Prelude.{◌≡◌, ℕ, List, ◌++◌}
 use Rattle.std.specs.List.{AllZip}
 use Rattle.cli_ask.specs.Laws.{AreOneEnd}
 use Rattle.cli_plan.specs.Relayed.{counts_line_of}
-use Rattle.cli_ask.specs.Below.CliWords.declared.command.Command.TheVariants as commands
-use Rattle.cli_ask.specs.Below.CliWords.declared.command.Relay.{Relay}
-use Rattle.cli_plan.specs.OneGrowing.{NameTheSame}
-use Rattle.cli_inputs.specs.Below.LawsReplay.Replayed.{clients_text_of}
+use Rattle.cli_words.specs.declared.command.Command.TheVariants as commands
+use Rattle.cli_words.specs.declared.command.Relay.{Relay}
+use Rattle.laws_plan.specs.OneGrowing.{NameTheSame}
+use Rattle.laws_replay.specs.Replayed.{clients_text_of}
 use Rattle.lc_io.specs.declared.file.File.{File}
-use Rattle.cli_ask.specs.Below.LcWorld.Link.{LinkSeen}
-use Rattle.cli_ask.specs.Below.PublisherSpec.Side.{IsLater, IsValidSide, Side}
+use Rattle.lc_world.specs.Link.{LinkSeen}
+use Rattle.publisher_spec.specs.Side.{IsLater, IsValidSide, Side}
 use Rattle.lc_cli.specs.OnePlan.{HasGrowingLink, HasQuietLink, PlanTheSame}
 use Rattle.lc_cli.specs.Top.{HasPrinted, Past}
 use Rattle.lc_cli.specs.declared.block.Block.{Block}

@@ -1,12 +1,12 @@
 -- A command begins from one side by its files. Two runs of `serve` over the same files and the same bytes answer the same.
 use Rattle.std.specs.Prelude.{◌≡◌, ◌≢◌, Bool, [], List, None, Some}
 use Rattle.cli_serve.specs.SameBytes.{AreOneSide, RecordsWell, ServeAlike}
-use Rattle.cli_ask.specs.Below.CliWords.declared.command.Published.{Published}
-use Rattle.cli_ask.specs.Below.CliWords.declared.command.Serve.{Serve}
+use Rattle.cli_words.specs.declared.command.Published.{Published}
+use Rattle.cli_words.specs.declared.command.Serve.{Serve}
 use Rattle.lc_io.specs.Door.{DoorRecorded}
 use Rattle.lc_io.specs.declared.file.File.{File}
-use Rattle.cli_ask.specs.Below.LcWorld.Link.{LinkSeen}
-use Rattle.cli_ask.specs.Below.PublisherSpec.Side.{Side}
+use Rattle.lc_world.specs.Link.{LinkSeen}
+use Rattle.publisher_spec.specs.Side.{Side}
 use Rattle.lc_cli.specs.Clear.{IsPublishedSide, IsServedSide}
 use Rattle.lc_cli.specs.Serving.{asked_of}
 use Rattle.lc_cli.specs.Top.{HasServed, Past}

@@ -1,12 +1,12 @@
 -- The line and the status of a command that is refused, and how the run ends that says it.
 use Rattle.std.specs.Prelude.{◌≡◌, ◌⊎◌, ℕ, List, ◌++◌, codes, decimal}
 use Rattle.lc_io.specs.Sink.{SinkSeen}
-use Rattle.cli_ask.specs.Below.GtfsTables.Texts.{what_text}
-use Rattle.cli_ask.specs.Below.GtfsTables.declared.what.What.{What}
-use Rattle.cli_ask.specs.Below.GtfsTables.declared.what.What.TheVariants as what
-use Rattle.cli_ask.specs.Below.Timetable.declared.fault.LoadFault.TheVariants as fault
-use Rattle.cli_ask.specs.Below.TripUpdates.Texts as messages
-use Rattle.cli_ask.specs.Below.TripUpdates.declared.fault.RtFault.{RtFault}
+use Rattle.gtfs_tables.specs.Texts.{what_text}
+use Rattle.gtfs_tables.specs.declared.what.What.{What}
+use Rattle.gtfs_tables.specs.declared.what.What.TheVariants as what
+use Rattle.timetable.specs.declared.fault.LoadFault.TheVariants as fault
+use Rattle.trip_updates.specs.Texts as messages
+use Rattle.trip_updates.specs.declared.fault.RtFault.{RtFault}
 use Rattle.lc_cli.specs.Writing.{Said}
 use Rattle.cli_inputs.specs.declared.refusal.Refusal.{Refusal}
 use Rattle.cli_inputs.specs.declared.refusal.Refusal.TheVariants as refused

@@ -2,12 +2,12 @@
 use Rattle.std.specs.Prelude.{◌≡◌, ℕ, List}
 use Rattle.cli_ask.specs.declared.end.ClientEnd.{ClientEnd}
 use Rattle.cli_inputs.specs.Script.{ReadsReplay}
-use Rattle.cli_ask.specs.Below.CliWords.declared.command.Replay.{Replay}
-use Rattle.cli_inputs.specs.Below.LawsReplay.Replayed.{IsReplayed}
-use Rattle.cli_inputs.specs.Below.LawsReplay.declared.event.Event.{Event}
+use Rattle.cli_words.specs.declared.command.Replay.{Replay}
+use Rattle.laws_replay.specs.Replayed.{IsReplayed}
+use Rattle.laws_replay.specs.declared.event.Event.{Event}
 use Rattle.lc_io.specs.Folder.{FolderSeen}
-use Rattle.cli_ask.specs.Below.LcWorld.Link.{LinkSeen}
-use Rattle.cli_ask.specs.Below.Timetable.declared.timetable.Timetable.{Timetable}
+use Rattle.lc_world.specs.Link.{LinkSeen}
+use Rattle.timetable.specs.declared.timetable.Timetable.{Timetable}
 use Rattle.lc_cli.specs.Scope.{scope_of}
 use Rattle.lc_cli.specs.declared.block.Block.{Block}
 use Rattle.lc_cli.specs.declared.course.Course.{Course}

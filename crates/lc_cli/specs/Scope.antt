@@ -1,6 +1,6 @@
 -- What a command asks of its feed.
-use Rattle.cli_ask.specs.Below.CliWords.declared.command.FeedWindow.{FeedWindow}
-use Rattle.cli_ask.specs.Below.Timetable.declared.scope.Scope.{Scope}
+use Rattle.cli_words.specs.declared.command.FeedWindow.{FeedWindow}
+use Rattle.timetable.specs.declared.scope.Scope.{Scope}
 
 -- its timetable in this window
 abbrev pub scope_of : FeedWindow → Scope

@@ -3,10 +3,10 @@ use Rattle.std.specs.Prelude.{◌≡◌, codes, Result, Ok, Err}
 use Rattle.cli_serve.specs.Serve.{Asked, ServesTo}
 use Rattle.cli_serve.specs.declared.fault.ServeFault.{ServeFault}
 use Rattle.cli_serve.specs.declared.fault.ServeFault.TheVariants as faults
-use Rattle.cli_ask.specs.Below.Fragmenter.Cutting.{chosen_cuts}
+use Rattle.fragmenter.specs.Cutting.{chosen_cuts}
 use Rattle.lc_io.specs.Door.{DoorSeen}
 use Rattle.lc_io.specs.Sink.{SinkSeen}
-use Rattle.cli_ask.specs.Below.Publisher.Held.{side_of}
+use Rattle.publisher.specs.Held.{side_of}
 use Rattle.lc_cli.specs.Refusal.{no_memory_line}
 use Rattle.cli_serve.specs.Written.{SinkNeverFell}
 use Rattle.lc_cli.specs.Writing.{Said}

@@ -2,8 +2,8 @@
 use Rattle.std.specs.Prelude.{◌≡◌, ℕ, ◌+◌, List, [], ◌∷◌, Option, None, codes}
 use Rattle.std.proofs.Common.{lit≤}
 use Rattle.cli_ask.specs.Publishing.{side_with, store_of}
-use Rattle.cli_ask.specs.Below.LawsClients.Answered.{AnswersAt}
-use Rattle.cli_ask.specs.Below.CliWords.declared.command.Publishing.{Publishing}
+use Rattle.laws_clients.specs.Answered.{AnswersAt}
+use Rattle.cli_words.specs.declared.command.Publishing.{Publishing}
 use Rattle.lc_model.specs.Journey.{IsJourney}
 use Rattle.lc_model.specs.Ride.{IsRideAt}
 use Rattle.lc_model.specs.declared.answer.Answer.{Answer}
@@ -12,8 +12,8 @@ use Rattle.lc_model.specs.declared.journey.Journey.{Journey}
 use Rattle.lc_model.specs.declared.query.Query.{Query}
 use Rattle.lc_model.specs.declared.ride.Ride.{Ride}
 use Rattle.lc_model.specs.declared.walk.Walk.{Walk}
-use Rattle.cli_ask.specs.Below.Timetable.Tiny.{IsTiny, key_of, moment}
-use Rattle.cli_ask.specs.Below.Timetable.declared.timetable.Timetable.{Timetable}
+use Rattle.timetable.specs.Tiny.{IsTiny, key_of, moment}
+use Rattle.timetable.specs.declared.timetable.Timetable.{Timetable}
 
 -- the answer is one to the question at a version of a publisher of the small feed's timetable, to which no message was admitted
 abbrev pub AnswersTiny : Publishing → ℕ → Query → Answer → Type 0

@@ -3,7 +3,7 @@ use Rattle.std.specs.Prelude.{◌≡◌, ◌⊎◌, ℕ, List}
 use Rattle.lc_io.specs.Door.{DoorSeen}
 use Rattle.lc_io.specs.Folder.{FolderSeen}
 use Rattle.lc_io.specs.Sink.{SinkSeen}
-use Rattle.cli_ask.specs.Below.LcWorld.Link.{LinkSeen}
+use Rattle.lc_world.specs.Link.{LinkSeen}
 use Rattle.lc_cli.specs.Block.{IsBlockEnd}
 use Rattle.lc_cli.specs.Command.{IsRightBlock, IsRightRefusal, IsRightServer}
 use Rattle.lc_cli.specs.Refusal.{IsRefusalEnd}

@@ -1,21 +1,21 @@
 -- Questions of the small feed for the latest departure and for the fewest rides, with answers worked out by hand and answers that are wrong.
 use Rattle.std.specs.Prelude.{◌≡◌, ℕ, ◌+◌, List, [], ◌∷◌, Option, None, Some, codes}
 use Rattle.std.proofs.Common.{lit≤}
-use Rattle.cli_ask.specs.Below.BackScan.Forward.{forward_query}
-use Rattle.cli_ask.specs.Below.BackScan.declared.arrive_query.ArriveQuery.{ArriveQuery}
+use Rattle.back_scan.specs.Forward.{forward_query}
+use Rattle.back_scan.specs.declared.arrive_query.ArriveQuery.{ArriveQuery}
 use Rattle.cli_ask.specs.Publishing.{side_with, store_of}
 use Rattle.cli_ask.specs.declared.end.ClientEnd.{ClientEnd}
-use Rattle.cli_ask.specs.Below.CliWords.declared.command.Publishing.{Publishing}
-use Rattle.cli_arrive.specs.Below.LawsArrive.Latest.{LatestAt}
+use Rattle.cli_words.specs.declared.command.Publishing.{Publishing}
+use Rattle.laws_arrive.specs.Latest.{LatestAt}
 use Rattle.lc_model.specs.Journey.{leaves_at}
 use Rattle.lc_model.specs.declared.answer.Answer.{Answer}
 use Rattle.lc_model.specs.declared.answer.Answer.TheVariants as answers
 use Rattle.lc_model.specs.declared.journey.Journey.{Journey}
 use Rattle.lc_model.specs.declared.ride.Ride.{Ride}
 use Rattle.lc_model.specs.declared.run.Run.{Run}
-use Rattle.cli_ask.specs.Below.PublisherSpec.Side.{Side}
-use Rattle.cli_ask.specs.Below.Timetable.Tiny.{IsTiny, call, moment, run_of, tiny_changes, tiny_runs, tiny_stops}
-use Rattle.cli_ask.specs.Below.Timetable.declared.timetable.Timetable.{Timetable}
+use Rattle.publisher_spec.specs.Side.{Side}
+use Rattle.timetable.specs.Tiny.{IsTiny, call, moment, run_of, tiny_changes, tiny_runs, tiny_stops}
+use Rattle.timetable.specs.declared.timetable.Timetable.{Timetable}
 use Rattle.lc_cli.specs.Headline.{EndsBest}
 use Rattle.lc_cli.specs.HeadlineOfFewest.{EndsFewest}
 use Rattle.lc_cli.specs.NearHeadline.{end_of}

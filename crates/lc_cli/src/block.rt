@@ -4,7 +4,8 @@ ghost use Rattle.cli_serve.specs.Written.{SinkNeverFell};
 
 use crate::status::Status;
 use cli_ask::ClientEnd;
-use cli_ask::below::{Outcome, Sink, SinkFail, put_all};
+use lc_io::{Sink, SinkFail, put_all};
+use page_client::Outcome;
 
 /// What is printed, and how the clients ended, if there are any, in the order in which they asked.
 #[derive(Drop)]

@@ -1,9 +1,9 @@
 ghost use Rattle.std.specs.Prelude.{◌≡◌, ◌++◌, IfOk, OnOk};
 ghost use Rattle.lc_cli.specs.CheckText.{check_text_of, count_line_of};
 
-use cli_ask::below::Timetable;
 use lc_model::NoMemory;
 use std::alloc::Global;
+use timetable::Timetable;
 
 /// The counts of the timetable, a line each.
 pub(crate) fn check_text(alloc: Global, made: &Timetable) -> Result<Vec<u8>, NoMemory>

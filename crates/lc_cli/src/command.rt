@@ -1,18 +1,18 @@
 ghost use Rattle.std.specs.Prelude.{◌≡◌, ◌≢◌, Err, IfErr, IfOk, None, Ok};
-ghost use Rattle.cli_ask.specs.Below.CliWords.Line.{texts_of};
-ghost use Rattle.cli_ask.specs.Below.CliWords.Words.{SaysCommand};
-ghost use Rattle.cli_ask.specs.Below.CliWords.declared.command.Check.{Check as Said};
-ghost use Rattle.cli_ask.specs.Below.CliWords.declared.command.Command.{Command as SaidCommand};
-ghost use Rattle.cli_ask.specs.Below.CliWords.declared.command.Command.TheVariants as commands;
-ghost use Rattle.cli_ask.specs.Below.CliWords.declared.command.Serve.{Serve as Served};
-ghost use Rattle.cli_ask.specs.Below.LcWorld.GoneOn.{HasGoneOn};
-ghost use Rattle.cli_ask.specs.Below.GtfsTables.Reading.{Keeps};
+ghost use Rattle.cli_words.specs.Line.{texts_of};
+ghost use Rattle.cli_words.specs.Words.{SaysCommand};
+ghost use Rattle.cli_words.specs.declared.command.Check.{Check as Said};
+ghost use Rattle.cli_words.specs.declared.command.Command.{Command as SaidCommand};
+ghost use Rattle.cli_words.specs.declared.command.Command.TheVariants as commands;
+ghost use Rattle.cli_words.specs.declared.command.Serve.{Serve as Served};
+ghost use Rattle.lc_world.specs.GoneOn.{HasGoneOn};
+ghost use Rattle.gtfs_tables.specs.Reading.{Keeps};
 ghost use Rattle.lc_cli.specs.Command.{IsCheckBlock, IsRefusedAs, IsRightRefusal, IsRightWork, LeavesLink, ResultsIn};
 ghost use Rattle.lc_cli.specs.Scope.{scope_of};
 ghost use Rattle.lc_cli.specs.declared.work.Work.TheVariants as works;
 ghost use Rattle.cli_inputs.specs.Inputs.{IsRefusedFor};
 ghost use Rattle.cli_inputs.specs.declared.refusal.Refusal.TheVariants.{Load};
-ghost use Rattle.cli_ask.specs.Below.Timetable.declared.fault.LoadFault.TheVariants.{NoMemory as OutOfMemory};
+ghost use Rattle.timetable.specs.declared.fault.LoadFault.TheVariants.{NoMemory as OutOfMemory};
 
 use crate::block::Block;
 use crate::check_text::check_text;
@@ -23,10 +23,13 @@ use crate::replay::replay_block;
 use crate::scope::scope_of;
 use crate::serve::server;
 use crate::work::Work;
-use cli_ask::below::{Check, Command, Folder, Link, LoadFault, load, one_command, read_words};
 use cli_inputs::Refusal;
+use cli_words::{Check, Command, one_command, read_words};
+use lc_io::Folder;
 use lc_model::NoMemory;
+use lc_world::Link;
 use std::alloc::Global;
+use timetable::{LoadFault, load};
 
 /// What the command of these arguments results in, and the link, as it is left. Nothing is written yet, and nothing is served.
 pub(crate) fn outcome<F: Folder, L: Link>(

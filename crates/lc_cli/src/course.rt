@@ -1,8 +1,9 @@
 ghost use Rattle.std.specs.Prelude.{◌≤◌};
-ghost use Rattle.cli_inputs.specs.Below.LawsReplay.Events.{TurnsAreOfClients};
+ghost use Rattle.laws_replay.specs.Events.{TurnsAreOfClients};
 
-use cli_ask::below::{Publishing, Timetable};
-use cli_inputs::below::Event;
+use cli_words::Publishing;
+use laws_replay::Event;
+use timetable::Timetable;
 
 /// An event sequence, with what it is played to and how.
 #[derive(Drop)]

@@ -1,20 +1,23 @@
 ghost use Rattle.std.specs.Prelude.{◌≡◌, ◌≢◌, ◌++◌, IfErr, IfOk, OnOk};
-ghost use Rattle.cli_plan.specs.Below.CliReplay.Summary.{leaves_in, summary_of};
-ghost use Rattle.cli_inputs.specs.Below.LawsReplay.Events.{messages_in};
-ghost use Rattle.cli_ask.specs.Below.LcWorld.GoneOn.{IsLeftByPasses};
+ghost use Rattle.cli_replay.specs.Summary.{leaves_in, summary_of};
+ghost use Rattle.laws_replay.specs.Events.{messages_in};
+ghost use Rattle.lc_world.specs.GoneOn.{IsLeftByPasses};
 ghost use Rattle.cli_inputs.specs.declared.refusal.Refusal.TheVariants.{Load};
-ghost use Rattle.cli_ask.specs.Below.Timetable.declared.fault.LoadFault.TheVariants.{NoMemory as OutOfMemory};
+ghost use Rattle.timetable.specs.declared.fault.LoadFault.TheVariants.{NoMemory as OutOfMemory};
 ghost use Rattle.lc_cli.specs.Drill.{IsDrillBlock, IsDrillRefused, IsDrilled, IsSummed, drill_folder, drill_line_of, size_line_of};
 
 use crate::block::Block;
 use crate::course::Course;
 use crate::replay::{play_course, read_course};
-use cli_ask::below::{Drill, Link, Replay, SureFolder, Timetable, drilled_replay};
 use cli_drill::drill_files;
 use cli_inputs::Refusal;
-use cli_plan::below::{Measures, Replayed, measures_of, summary_text};
+use cli_replay::{Measures, Replayed, measures_of, summary_text};
+use cli_words::{Drill, Replay, drilled_replay};
+use lc_io::SureFolder;
 use lc_model::NoMemory;
+use lc_world::Link;
 use std::alloc::Global;
+use timetable::Timetable;
 
 /// What a drill is played from: its files, and the replay of them.
 #[derive(Drop)]

@@ -10,16 +10,21 @@ ghost use Rattle.lc_cli.specs.OnePlan.{OneNamedPlan, OneQuietPlan};
 ghost use Rattle.lc_cli.specs.OneRelay.{OneNamedRelay, OneQuietRelay};
 ghost use Rattle.lc_cli.specs.OneServing.{BeginsFromIt, NotAnotherBase, NotMadeUp, NotUnasked, OneServing, OneSide};
 
-use cli_arrive::below::one_latest_answer;
 use cli_arrive::one_latest_output;
-use cli_ask::below::{Link, one_command, one_end, one_outcome, one_script, one_timetable};
 use cli_ask::one_output;
-use cli_fewest::below::fewest_at_version;
 use cli_fewest::one_fewest_output;
-use cli_inputs::below::one_course;
-use cli_plan::below::Relay;
-use cli_plan::{one_growing_plan, one_plan, relays_plan_right};
+use cli_plan::relays_plan_right;
 use cli_serve::one_over_bytes;
+use cli_words::one_command;
+use journey_text::one_script;
+use laws_arrive::one_latest_answer;
+use laws_plan::{one_growing_plan, one_plan};
+use laws_replay::one_course;
+use laws_rounds::fewest_at_version;
+use lc_world::Link;
+use page_relay::Relay;
+use timetable::{one_end, one_timetable};
+use version_store::one_outcome;
 
 /// A run of `ask` with status Done wrote a best journey at the version that its question means, or that there is none. A run of `replay` did so for
 /// each client that asked, at the version that its question meant before its first turn. A run of `plan` over an honest link did so for each

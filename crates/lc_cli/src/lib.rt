@@ -2,7 +2,6 @@
 //! arguments, the timetable of a feed, `cli_ask`, `cli_fewest`, `cli_arrive`, `cli_replay`, `cli_drill`, `cli_serve` and `cli_plan`.
 #![tactic(auto)]
 
-pub mod below;
 mod block;
 mod check_text;
 mod command;

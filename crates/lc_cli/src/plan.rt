@@ -1,16 +1,18 @@
 ghost use Rattle.std.specs.Prelude.{◌≡◌, ◌≢◌, IfErr, IfOk, false};
 ghost use Rattle.cli_inputs.specs.Script.{IsScriptRefused};
 ghost use Rattle.cli_inputs.specs.declared.refusal.Refusal.TheVariants.{Load};
-ghost use Rattle.cli_ask.specs.Below.GtfsTables.Reading.{Keeps};
-ghost use Rattle.cli_ask.specs.Below.LcWorld.GoneOn.{IsLeftByGets};
-ghost use Rattle.cli_ask.specs.Below.Timetable.declared.fault.LoadFault.TheVariants.{NoMemory as OutOfMemory};
+ghost use Rattle.gtfs_tables.specs.Reading.{Keeps};
+ghost use Rattle.lc_world.specs.GoneOn.{IsLeftByGets};
+ghost use Rattle.timetable.specs.declared.fault.LoadFault.TheVariants.{NoMemory as OutOfMemory};
 ghost use Rattle.lc_cli.specs.Command.{IsPlanBlock, IsRelayBlock};
 
 use crate::block::Block;
-use cli_ask::below::{Folder, Link, Plan, Relay};
 use cli_inputs::{Refusal, read_plan};
 use cli_plan::Planned;
+use cli_words::{Plan, Relay};
+use lc_io::Folder;
 use lc_model::NoMemory;
+use lc_world::Link;
 use std::alloc::Global;
 
 /// Reads questions and turns, and lets the clients ask over the link.

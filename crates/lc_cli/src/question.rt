@@ -2,10 +2,10 @@ ghost use Rattle.std.specs.Prelude.{◌≡◌, ◌≢◌, [], ◌∷◌, IfErr, 
 ghost use Rattle.cli_ask.specs.Admission.{IsFaulty};
 ghost use Rattle.cli_inputs.specs.Inputs.{IsMessageRefusal, IsRefusedFor};
 ghost use Rattle.cli_inputs.specs.declared.refusal.Refusal.TheVariants.{Load};
-ghost use Rattle.cli_ask.specs.Below.GtfsTables.Reading.{Keeps};
-ghost use Rattle.cli_ask.specs.Below.LcWorld.GoneOn.{IsLeftByPasses};
-ghost use Rattle.cli_ask.specs.Below.Timetable.declared.fault.LoadFault.TheVariants.{NoMemory as OutOfMemory};
-ghost use Rattle.cli_ask.specs.Below.VersionStore.declared.message_fault.MessageFault.TheVariants as messages;
+ghost use Rattle.gtfs_tables.specs.Reading.{Keeps};
+ghost use Rattle.lc_world.specs.GoneOn.{IsLeftByPasses};
+ghost use Rattle.timetable.specs.declared.fault.LoadFault.TheVariants.{NoMemory as OutOfMemory};
+ghost use Rattle.version_store.specs.declared.message_fault.MessageFault.TheVariants as messages;
 ghost use Rattle.lc_cli.specs.Command.{IsQuestionBlock};
 ghost use Rattle.lc_cli.specs.Question.{CachesPages, IsAskedSo, IsEndBlock, IsUnasked};
 ghost use Rattle.lc_cli.specs.Scope.{scope_of};
@@ -13,11 +13,16 @@ ghost use Rattle.lc_cli.specs.Scope.{scope_of};
 use crate::block::Block;
 use crate::refusal::message_refusal;
 use crate::scope::scope_of;
-use cli_ask::below::{ArriveQuery, File, Folder, Link, Published, Publishing, Timetable};
-use cli_ask::{Asked, MessageFault};
+use back_scan::ArriveQuery;
+use cli_ask::Asked;
 use cli_inputs::{Inputs, Refusal, read_inputs};
+use cli_words::{Published, Publishing};
+use lc_io::{File, Folder};
 use lc_model::{NoMemory, Query};
+use lc_world::Link;
 use std::alloc::Global;
+use timetable::Timetable;
+use version_store::MessageFault;
 
 /// What a client asks an in-process publisher.
 #[derive(Drop)]

@@ -1,21 +1,23 @@
 ghost use Rattle.std.specs.Prelude.{◌≡◌, ◌≢◌, IfErr, IfOk};
 ghost use Rattle.cli_inputs.specs.Script.{IsReplayRefused};
 ghost use Rattle.cli_inputs.specs.declared.refusal.Refusal.TheVariants.{Load};
-ghost use Rattle.cli_ask.specs.Below.GtfsTables.Reading.{Keeps};
-ghost use Rattle.cli_inputs.specs.Below.LawsReplay.Replayed.{IsReplayed};
-ghost use Rattle.cli_inputs.specs.Below.LawsReplay.Versions.{HaveAdmitted};
-ghost use Rattle.cli_ask.specs.Below.LcWorld.GoneOn.{IsLeftByPasses};
-ghost use Rattle.cli_ask.specs.Below.Timetable.declared.fault.LoadFault.TheVariants.{NoMemory as OutOfMemory};
+ghost use Rattle.gtfs_tables.specs.Reading.{Keeps};
+ghost use Rattle.laws_replay.specs.Replayed.{IsReplayed};
+ghost use Rattle.laws_replay.specs.Versions.{HaveAdmitted};
+ghost use Rattle.lc_world.specs.GoneOn.{IsLeftByPasses};
+ghost use Rattle.timetable.specs.declared.fault.LoadFault.TheVariants.{NoMemory as OutOfMemory};
 ghost use Rattle.lc_cli.specs.Replay.{IsCourse, IsReplayBlock};
 ghost use Rattle.lc_cli.specs.Scope.{scope_of};
 
 use crate::block::Block;
 use crate::course::Course;
 use crate::scope::scope_of;
-use cli_ask::below::{Folder, Link, Replay};
 use cli_inputs::{Refusal, ReplayInputs, read_replay};
-use cli_plan::below::Replayed;
+use cli_replay::Replayed;
+use cli_words::Replay;
+use lc_io::Folder;
 use lc_model::NoMemory;
+use lc_world::Link;
 use std::alloc::Global;
 
 /// Reads what an event sequence is played from, and plays it.
@@ -98,5 +100,5 @@ pub(crate) fn play_course<L: Link>(
         cache,
         ..
     } = course;
-    cli_plan::below::replay(alloc, made, publishing, events, cache as usize, link)
+    cli_replay::replay(alloc, made, publishing, events, cache as usize, link)
 }

@@ -1,8 +1,9 @@
 ghost use Rattle.std.specs.Prelude.{◌≡◌};
-ghost use Rattle.cli_ask.specs.Below.Timetable.Scope.{IsWindow};
+ghost use Rattle.timetable.specs.Scope.{IsWindow};
 ghost use Rattle.lc_cli.specs.Scope.{scope_of};
 
-use cli_ask::below::{FeedWindow, Scope};
+use cli_words::FeedWindow;
+use timetable::Scope;
 
 /// What a command asks of its feed.
 pub(crate) fn scope_of(window: FeedWindow) -> Scope

@@ -3,7 +3,7 @@ ghost use Rattle.cli_inputs.specs.Inputs.{IsRefusedFor};
 ghost use Rattle.cli_serve.specs.Serve.{DoorNeverFell};
 ghost use Rattle.lc_cli.specs.Serving.{IsServingEnd};
 ghost use Rattle.cli_serve.specs.Written.{SinkNeverFell};
-ghost use Rattle.cli_ask.specs.Below.GtfsTables.Reading.{Keeps};
+ghost use Rattle.gtfs_tables.specs.Reading.{Keeps};
 ghost use Rattle.lc_cli.specs.Command.{IsServer};
 ghost use Rattle.lc_cli.specs.Scope.{scope_of};
 
@@ -11,10 +11,11 @@ use crate::refusal::{NO_MEMORY, message_refusal, say};
 use crate::scope::scope_of;
 use crate::server::Server;
 use crate::status::Status;
-use cli_ask::below::{Door, Folder, Published, Serve, Sink};
 use cli_ask::serving_publisher;
 use cli_inputs::{Inputs, Refusal, read_inputs};
 use cli_serve::ServeFault;
+use cli_words::{Published, Serve};
+use lc_io::{Door, Folder, Sink};
 use std::alloc::Global;
 
 /// Reads what is to be served, and makes its publisher.

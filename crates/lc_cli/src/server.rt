@@ -1,6 +1,7 @@
 ghost use Rattle.std.specs.Prelude.{◌≤◌};
 
-use cli_ask::below::{Cutting, Publisher};
+use fragmenter::Cutting;
+use publisher::Publisher;
 
 /// What is served: a publisher at a port, to so many connections, after the line of its message, if it has one.
 #[derive(Drop)]

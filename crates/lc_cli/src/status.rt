@@ -1,9 +1,11 @@
 ghost use Rattle.std.specs.Prelude.{◌≡◌};
 ghost use Rattle.lc_cli.specs.Status.{code_of};
 
-use cli_ask::below::{PeerFault, QueryFault, RtFault, What};
+use gtfs_tables::What;
 use lc_model::{Bytes, NoMemory, PlainData, Text};
+use page_client::{PeerFault, QueryFault};
 use std::alloc::Global;
+use trip_updates::RtFault;
 
 /// How a run ended.
 #[derive(Drop)]

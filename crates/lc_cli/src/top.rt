@@ -1,13 +1,13 @@
 ghost use Rattle.std.specs.Prelude.{◌≡◌, ◌⊎◌};
-ghost use Rattle.cli_ask.specs.Below.CliWords.Line.{texts_of};
-ghost use Rattle.cli_ask.specs.Below.CliWords.Words.{SaysCommand};
-ghost use Rattle.cli_ask.specs.Below.CliWords.declared.command.Check.{Check};
-ghost use Rattle.cli_ask.specs.Below.CliWords.declared.command.Command.{Command};
-ghost use Rattle.cli_ask.specs.Below.CliWords.declared.command.Command.TheVariants as commands;
-ghost use Rattle.cli_ask.specs.Below.CliWords.declared.command.Serve.{Serve as Served};
+ghost use Rattle.cli_words.specs.Line.{texts_of};
+ghost use Rattle.cli_words.specs.Words.{SaysCommand};
+ghost use Rattle.cli_words.specs.declared.command.Check.{Check};
+ghost use Rattle.cli_words.specs.declared.command.Command.{Command};
+ghost use Rattle.cli_words.specs.declared.command.Command.TheVariants as commands;
+ghost use Rattle.cli_words.specs.declared.command.Serve.{Serve as Served};
 ghost use Rattle.cli_serve.specs.Serve.{DoorNeverFell};
-ghost use Rattle.cli_ask.specs.Below.GtfsTables.Reading.{Keeps};
-ghost use Rattle.cli_ask.specs.Below.LcWorld.GoneOn.{HasGoneOn};
+ghost use Rattle.gtfs_tables.specs.Reading.{Keeps};
+ghost use Rattle.lc_world.specs.GoneOn.{HasGoneOn};
 ghost use Rattle.lc_cli.specs.Clear.{IsAnswered, IsClear};
 ghost use Rattle.lc_cli.specs.Command.{LeavesLink};
 ghost use Rattle.lc_cli.specs.Top.{IsEarlyRefusal, IsRight};
@@ -19,11 +19,14 @@ use crate::refusal::refuse;
 use crate::serve::serve;
 use crate::status::Status;
 use crate::work::Work;
-use cli_ask::below::{
-    Door, Folder, Link, Sink, one_command, one_outcome, one_script, one_timetable,
-};
 use cli_plan::relays_plan_right;
+use cli_words::one_command;
+use journey_text::one_script;
+use lc_io::{Door, Folder, Sink};
+use lc_world::Link;
 use std::alloc::Global;
+use timetable::one_timetable;
+use version_store::one_outcome;
 
 /// Runs the command of these arguments, over a directory, a link, a door and a sink, and gives the link back.
 ///

@@ -8,8 +8,8 @@ ghost use Rattle.lc_cli.specs.NearHeadline.{EndAtOneVersion, EndAtTheBase, EndAt
 ghost use Rattle.lc_cli.specs.NearPlan.{IsBestPlan, IsNoBestPlan, NotWithoutGate, PlanAfterTheMessage, PlanAtOneVersion, PlanBeforeTheMessage};
 ghost use Rattle.lc_cli.specs.Tiny.{AnswersNever, AreJourneyBy, AreRefused, AreTaken, IsMadeOf, MakeJourneys, a_second_late, from_a_to_d, in_place, nine_minutes_late, swapped, worked};
 
-use cli_ask::below::live_without_news;
 use lc_model::one_arrival;
+use live_calls::live_without_news;
 
 /// Of the small feed, the worked journey answers its question, and each wrong answer is refused.
 pub fn worked_answer()

@@ -1,11 +1,11 @@
 ghost use Rattle.std.specs.Prelude.{◌+◌, None, Some};
-ghost use Rattle.cli_ask.specs.Below.BackScan.Forward.{forward_query};
+ghost use Rattle.back_scan.specs.Forward.{forward_query};
 ghost use Rattle.lc_model.specs.declared.answer.Answer.TheVariants.{NoJourney};
-ghost use Rattle.cli_ask.specs.Below.Timetable.Tiny.{moment};
+ghost use Rattle.timetable.specs.Tiny.{moment};
 ghost use Rattle.lc_cli.specs.Tiny.{AreJourneyBy, worked};
 ghost use Rattle.lc_cli.specs.WorkedQuestions.{AllLeaveAt, EndBest, EndFewest, EndFewestAtOneVersion, EndNotFewest, IsNoFewestEnd, LatestAlways, LatestNever, LeaveLatest, LeaveNotLatest, at_nine, at_ten, by_1010, by_831, by_a_second_before, direct, leaving_a_second_earlier, leaving_a_second_later};
 
-use cli_ask::below::live_without_news;
+use live_calls::live_without_news;
 
 /// Of the small feed, the worked journey leaves latest of those that arrive by 08:31, by the definition that the headline of `arrive` cites. Each
 /// wrong answer is refused.

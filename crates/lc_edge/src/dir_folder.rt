@@ -3,7 +3,7 @@ ghost use Rattle.std.specs.declared.io.ErrorKind.TheVariants.{NotFound, OutOfMem
 ghost use Rattle.lc_io.specs.declared.folder.FolderFail.TheVariants.{Absent, NoMemory as WantOfMemory};
 
 use crate::bounded::read_at_most;
-use lc_world::{Folder, FolderFail};
+use lc_io::{Folder, FolderFail};
 use std::alloc::Global;
 use std::fs::File;
 use std::io::{self, ErrorKind};

@@ -1,6 +1,6 @@
 ghost use Rattle.std.specs.Prelude.{◌≡◌, ◌≤◌, IfOk, None, length};
 
-use lc_world::{Sink, SinkFail};
+use lc_io::{Sink, SinkFail};
 use std::io::{self, Write};
 
 /// The standard output. Each write is flushed, and one that takes nothing is a fault. It records nothing that is there.

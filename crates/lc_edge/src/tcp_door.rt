@@ -5,7 +5,7 @@ ghost use Rattle.lc_io.specs.declared.door.DoorFail.TheVariants.{Failed};
 ghost use Rattle.lc_io.specs.declared.door.Next.TheVariants.{Connection};
 
 use crate::caller::Caller;
-use lc_world::{Door, DoorFail, Next};
+use lc_io::{Door, DoorFail, Next};
 use std::io::{self, ErrorKind, Read, Write};
 use std::marker::Model;
 use std::net::{Ipv4Addr, Net, OpenListener, OpenStream, TcpListener};

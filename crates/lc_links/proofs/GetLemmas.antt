@@ -1,17 +1,17 @@
 -- What a GET leaves: the side as it was.
 use Rattle.std.proofs.Common.{◌≡◌, ◌∙◌, ℕ, List, Bool, true, false, drop, refl, sym, ap, subst}
 use Rattle.std.specs.Prelude.{codes, if◌then◌else◌, ◌&&◌}
-use Rattle.publisher.specs.Below.HttpText.Request.{IsWhole}
-use Rattle.publisher.specs.Below.HttpText.declared.reply_parts.Allow.TheVariants.{Posting, Reading}
-use Rattle.publisher.specs.Below.HttpText.declared.request.Request.{Request}
-use Rattle.publisher.proofs.BelowLemmas.HttpText.MessageLemmas.{one_request}
+use Rattle.http_text.specs.Request.{IsWhole}
+use Rattle.http_text.specs.declared.reply_parts.Allow.TheVariants.{Posting, Reading}
+use Rattle.http_text.specs.declared.request.Request.{Request}
+use Rattle.http_text.proofs.MessageLemmas.{one_request}
 use Rattle.lc_world.specs.Link.{IsGet}
-use Rattle.publisher.specs.Below.PublisherSpec.Asked.{is_posting, is_reading, is_under}
-use Rattle.publisher.specs.Below.PublisherSpec.Reply.{IsBehind, IsNextSide}
-use Rattle.publisher.specs.Below.PublisherSpec.Response.{asked_at}
-use Rattle.publisher.specs.Below.PublisherSpec.Side.{Side}
-use Rattle.publisher.specs.Below.PublisherSpec.declared.asked.Asked.{Asked}
-use Rattle.publisher.specs.Below.PublisherSpec.declared.asked.Asked.TheVariants as kinds
+use Rattle.publisher_spec.specs.Asked.{is_posting, is_reading, is_under}
+use Rattle.publisher_spec.specs.Reply.{IsBehind, IsNextSide}
+use Rattle.publisher_spec.specs.Response.{asked_at}
+use Rattle.publisher_spec.specs.Side.{Side}
+use Rattle.publisher_spec.specs.declared.asked.Asked.{Asked}
+use Rattle.publisher_spec.specs.declared.asked.Asked.TheVariants as kinds
 
 -- what is asked for, by the tests of its path and its method
 abbrev asked_by : Bool → Bool → Bool → Bool → Bool → Bool → Asked

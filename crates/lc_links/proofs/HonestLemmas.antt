@@ -1,13 +1,13 @@
 -- Honest links: one whose side stays, and one after which an answer is handed on.
 use Rattle.std.proofs.Common.{◌≡◌, ◌∙◌, ℕ, List, Option, Some, refl, sym, ap, subst}
 use Rattle.std.specs.Prelude.{OnOk, Result, Ok, Err, unwrap_or}
-use Rattle.publisher.specs.Below.ConnectionUri.Base.{BaseParts}
+use Rattle.connection_uri.specs.Base.{BaseParts}
 use Rattle.lc_world.specs.Link.{IsGet, IsHonest, StaysHonest}
 use Rattle.lc_world.specs.declared.link.LinkFail.{LinkFail}
-use Rattle.publisher.specs.Below.PublisherSpec.Reply.{IsNextSide, IsReply}
-use Rattle.publisher.specs.Below.PublisherSpec.Short.{StandsUnder}
-use Rattle.publisher.specs.Below.PublisherSpec.Side.{Side}
-use Rattle.publisher.proofs.BelowLemmas.PublisherSpec.LaterLemmas.{later_itself}
+use Rattle.publisher_spec.specs.Reply.{IsNextSide, IsReply}
+use Rattle.publisher_spec.specs.Short.{StandsUnder}
+use Rattle.publisher_spec.specs.Side.{Side}
+use Rattle.publisher_spec.proofs.LaterLemmas.{later_itself}
 use Rattle.lc_links.proofs.GetLemmas.{get_leaves}
 
 -- a link of which nothing has to be said but its side

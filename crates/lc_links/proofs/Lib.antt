@@ -1,4 +1,3 @@
-pub mod BelowLemmas
 mod GetLemmas
 mod HonestLemmas
 mod TakingLemmas

@@ -1,9 +1,9 @@
 -- Bytes that are one whole request: what is taken from their front is all of them.
 use Rattle.std.proofs.Common.{◌≡◌, ℕ, ◌≤◌, List, take, length, sym, subst, arith}
 use Rattle.std.proofs.Math.Seq.{take-length}
-use Rattle.publisher.specs.Below.HttpText.Request.{IsWhole}
-use Rattle.publisher.specs.Below.HttpText.declared.taken.Taken.{Taken}
-use Rattle.publisher.specs.Below.HttpText.declared.taken.Taken.TheVariants.{Whole}
+use Rattle.http_text.specs.Request.{IsWhole}
+use Rattle.http_text.specs.declared.taken.Taken.{Taken}
+use Rattle.http_text.specs.declared.taken.Taken.TheVariants.{Whole}
 
 pub all_is_whole : (bytes : List ℕ) (taken : Taken) → ((n : ℕ) → taken ≡ Whole n → (n ≤ length bytes) × IsWhole (take n bytes))
     → taken ≡ Whole (length bytes) → IsWhole bytes

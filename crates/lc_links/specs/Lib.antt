@@ -1,4 +1,3 @@
-pub mod Below
 pub mod ClosedLink
 pub mod FaultyLink
 pub mod HomeLink

@@ -1,10 +1,10 @@
 ghost use Rattle.std.specs.Prelude.{◌≡◌, ◌≤◌, ◌↔◌, [], Contains, None, OnErr, OnOk, IsErrOf, IsTrue};
-ghost use Rattle.publisher.specs.Below.ConnectionUri.Base.{BaseParts};
+ghost use Rattle.connection_uri.specs.Base.{BaseParts};
 ghost use Rattle.lc_io.specs.Counts.{Counts, HasCause, Rose, one_more};
 ghost use Rattle.lc_links.specs.FaultyLink.{Reaches};
 ghost use Rattle.lc_world.specs.Link.{Exchanges, IsGet, IsHonestWith, Tells};
 ghost use Rattle.lc_world.specs.declared.link.LinkFail.TheVariants.{Failed};
-ghost use Rattle.publisher.specs.Below.PublisherSpec.Side.{Side};
+ghost use Rattle.publisher_spec.specs.Side.{Side};
 
 use lc_world::{Link, LinkFail};
 use std::alloc::Global;

@@ -1,9 +1,9 @@
 ghost use Rattle.std.specs.Prelude.{◌≡◌};
 
 use crate::LocalLink;
+use fragmenter::Fragmenter;
 use lc_world::{Link, LinkFail};
 use publisher::Publisher;
-use publisher::below::Fragmenter;
 use std::alloc::Global;
 use std::marker::Model;
 

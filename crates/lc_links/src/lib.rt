@@ -2,7 +2,6 @@
 //! program answers and hands the answer on. It builds on `publisher` and on `lc_world`.
 #![tactic(auto)]
 
-pub mod below;
 mod closed_link;
 mod faulty_link;
 mod home_link;

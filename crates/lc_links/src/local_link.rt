@@ -1,19 +1,19 @@
 ghost use Rattle.std.specs.Prelude.{◌≡◌, ◌⊎◌, [], ◌∷◌, ◌++◌, IfOk, OnErr, OnOk, IsErrOf, Some};
-ghost use Rattle.publisher.specs.Below.ConnectionUri.Base.{BaseParts};
-ghost use Rattle.publisher.specs.Below.HttpText.Request.{IsWhole};
+ghost use Rattle.connection_uri.specs.Base.{BaseParts};
+ghost use Rattle.http_text.specs.Request.{IsWhole};
 ghost use Rattle.lc_links.specs.Taking.{asked_entry};
 ghost use Rattle.lc_io.specs.Counts.{HasCause, one_more};
 ghost use Rattle.lc_world.specs.Link.{IsGet, IsHonest, StaysHonest, Tells};
 ghost use Rattle.lc_world.specs.declared.link.LinkFail.TheVariants.{Failed, NoMemory as OutOfMemory};
 ghost use Rattle.publisher.specs.Held.{side_of};
-ghost use Rattle.publisher.specs.Below.PublisherSpec.Reply.{IsNextSide, IsReply};
-ghost use Rattle.publisher.specs.Below.PublisherSpec.Side.{Side};
+ghost use Rattle.publisher_spec.specs.Reply.{IsNextSide, IsReply};
+ghost use Rattle.publisher_spec.specs.Side.{Side};
 
 use crate::taking::{is_whole, tell};
+use fragmenter::Fragmenter;
 use lc_model::NoMemory;
 use lc_world::{Entry, Link, LinkFail};
 use publisher::Publisher;
-use publisher::below::Fragmenter;
 use std::alloc::Global;
 use std::marker::Model;
 

@@ -1,11 +1,11 @@
 ghost use Rattle.std.specs.Prelude.{◌≡◌, ◌↔◌, ◌∷◌, ◌++◌, [], IfOk, IsTrue, None, OnErr, OnOk};
-ghost use Rattle.publisher.specs.Below.HttpText.Request.{IsWhole};
-ghost use Rattle.publisher.specs.Below.HttpText.declared.taken.Taken.TheVariants.{Whole as WholeRequest};
+ghost use Rattle.http_text.specs.Request.{IsWhole};
+ghost use Rattle.http_text.specs.declared.taken.Taken.TheVariants.{Whole as WholeRequest};
 ghost use Rattle.lc_links.specs.Taking.{asked_entry};
 
+use http_text::{Taken, take_request};
 use lc_model::{Bytes, NoMemory, Text};
 use lc_world::{Entry, RecordedReply};
-use publisher::below::{Taken, take_request};
 use std::alloc::Global;
 
 /// Whether the bytes are one whole request. Linear in their first 16,384 bytes.

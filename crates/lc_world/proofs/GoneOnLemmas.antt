@@ -1,6 +1,6 @@
 -- What calls leave of a link is left by no call, by one, and by more calls after it.
 use Rattle.std.proofs.Common.{◌≡◌, ℕ, ◌≤◌, List, [], ◌∷◌, ◌++◌, Option, Some, None, option_map, Result, Ok, Err, inl, inr, refl, ap, ◌∙◌, sym, subst, append-nil, append_assoc, arith}
-use Rattle.publisher_spec.specs.Below.ConnectionUri.Base.{BaseParts}
+use Rattle.connection_uri.specs.Base.{BaseParts}
 use Rattle.publisher_spec.specs.Side.{Side}
 use Rattle.publisher_spec.proofs.LaterLemmas.{later_itself, later_on}
 use Rattle.lc_world.specs.GoneOn.{HasGoneOn, IsLeftByPasses, IsLeftByGets, IsLeftHonest, RecordsMore}

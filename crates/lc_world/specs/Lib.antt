@@ -1,4 +1,3 @@
-pub mod Below
 pub mod GoneOn
 pub mod Link
 pub mod ListLink

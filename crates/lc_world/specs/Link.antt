@@ -1,8 +1,8 @@
 -- What a link is seen to be: a way to ask a publisher, which answers from its side.
 use Rattle.std.specs.Prelude.{◌≡◌, ◌⊎◌, ℕ, List, [], ◌∷◌, ◌++◌, codes, Option, Some, None, option_map, Result, Ok, Err, OnOk}
-use Rattle.publisher_spec.specs.Below.ConnectionUri.Base.{BaseParts}
-use Rattle.publisher_spec.specs.Below.HttpText.Request.{IsWholeRequest}
-use Rattle.publisher_spec.specs.Below.HttpText.declared.request.Request.{Request}
+use Rattle.connection_uri.specs.Base.{BaseParts}
+use Rattle.http_text.specs.Request.{IsWholeRequest}
+use Rattle.http_text.specs.declared.request.Request.{Request}
 use Rattle.publisher_spec.specs.Reply.{IsReply}
 use Rattle.publisher_spec.specs.Short.{StandsUnder}
 use Rattle.publisher_spec.specs.Side.{IsLater, Side}

@@ -3,7 +3,6 @@
 //! `publisher_spec` for what a link may have at its other end.
 #![tactic(auto)]
 
-pub mod below;
 mod entry;
 mod link;
 mod list_link;

@@ -1,2 +1,1 @@
-pub mod BelowLemmas
 pub mod VersionsLemmas

@@ -2,7 +2,6 @@
 //! builds on `connection_uri`, `lc_time` and the definitions of `lc_versions`.
 #![tactic(auto)]
 
-pub mod below;
 mod gate;
 mod negotiation;
 

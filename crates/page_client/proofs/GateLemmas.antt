@@ -4,8 +4,8 @@ use Rattle.url.specs.Parser.{parse_url}
 use Rattle.url.specs.Parts.{Parts}
 use Rattle.lc_model.specs.declared.memory.NoMemory.{NoMemory}
 use Rattle.lc_model.specs.declared.page.PageName.{PageName}
-use Rattle.memento.specs.Below.ConnectionUri.Base.{BaseParts}
-use Rattle.memento.specs.Below.ConnectionUri.Page.{gate_url_of}
+use Rattle.connection_uri.specs.Base.{BaseParts}
+use Rattle.connection_uri.specs.Page.{gate_url_of}
 use Rattle.page_client.specs.Gate.{IsJoined, IsSent, LeadsTo}
 use Rattle.page_client.specs.declared.fault.PeerFault.TheVariants.{Location}
 

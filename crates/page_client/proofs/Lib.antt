@@ -1,5 +1,4 @@
 pub mod BeginLemmas
-pub mod BelowLemmas
 pub mod BodyLemmas
 pub mod GateLemmas
 pub mod LastLemmas

@@ -4,8 +4,8 @@ use Rattle.url.specs.Parser.{parse_url}
 use Rattle.url.specs.Parts.{Parts, serialize}
 use Rattle.lc_model.specs.declared.doc.StopsDoc.{StopsDoc}
 use Rattle.lc_model.specs.declared.page.PageName.{PageName}
-use Rattle.memento.specs.Below.ConnectionUri.Base.{BaseParts}
-use Rattle.memento.proofs.BelowLemmas.ConnectionUri.PageLemmas.{page_urls_differ}
+use Rattle.connection_uri.specs.Base.{BaseParts}
+use Rattle.connection_uri.proofs.PageLemmas.{page_urls_differ}
 use Rattle.http_text.specs.declared.reply.Reply.{Reply}
 use Rattle.http_text.proofs.MessageLemmas.{one_read}
 use Rattle.page_json.specs.declared.page.Page.{Page}

@@ -3,8 +3,8 @@ use Rattle.std.specs.Prelude.{◌≡◌, ℕ, List, Option, Some, None, Ok, Err}
 use Rattle.url.specs.Parser.{parse_url}
 use Rattle.url.specs.Parts.{Parts, serialize}
 use Rattle.lc_model.specs.declared.page.PageName.{PageName}
-use Rattle.memento.specs.Below.ConnectionUri.Base.{BaseParts}
-use Rattle.memento.specs.Below.ConnectionUri.Page.{gate_url_of}
+use Rattle.connection_uri.specs.Base.{BaseParts}
+use Rattle.connection_uri.specs.Page.{gate_url_of}
 use Rattle.http_text.specs.declared.reply.Reply.{Reply}
 use Rattle.page_json.specs.Says.{SaysPage}
 use Rattle.page_client.specs.Fault.{Tested}

@@ -1,4 +1,3 @@
-pub mod Below
 pub mod Client
 pub mod Course
 pub mod Fault

@@ -3,10 +3,10 @@ use Rattle.std.specs.Prelude.{ℕ, Bool, true, false, not, ◌&&◌, ◌==◌, n
 use Rattle.lc_model.specs.Connection.{last_departure}
 use Rattle.lc_model.specs.declared.connection.Connection.{Connection}
 use Rattle.lc_model.specs.declared.page.PageName.{PageName}
-use Rattle.memento.specs.Below.ConnectionUri.Base.{BaseParts}
+use Rattle.connection_uri.specs.Base.{BaseParts}
 use Rattle.http_text.specs.declared.reply.Reply.{Reply}
 use Rattle.page_json.specs.PageReading.{page_of_bytes}
-use Rattle.page_json.specs.Below.JsonMembers.declared.fault.PageFault.{PageFault}
+use Rattle.json_members.specs.declared.fault.PageFault.{PageFault}
 use Rattle.page_json.specs.declared.page.Page.{Page}
 use Rattle.page_client.specs.Fault.{Tested}
 use Rattle.page_client.specs.Replied.{IsTested, body_of}

@@ -1,8 +1,8 @@
 -- The requests of a client: at the time gate with the moment up to which it knows, if it has one.
 use Rattle.std.specs.Prelude.{◌≡◌, ℕ, List, [], Option, None}
 use Rattle.lc_model.specs.declared.query.Query.{Query}
-use Rattle.memento.specs.Below.ConnectionUri.Base.{BaseParts}
-use Rattle.memento.specs.Below.ConnectionUri.Page.{gate_target_of, page_target_of, stops_target_of}
+use Rattle.connection_uri.specs.Base.{BaseParts}
+use Rattle.connection_uri.specs.Page.{gate_target_of, page_target_of, stops_target_of}
 use Rattle.http_text.specs.Request.{IsWholeRequest}
 use Rattle.http_text.specs.RequestText.{SaysGet, request_text_of}
 use Rattle.http_text.specs.declared.request.Request.{Request}

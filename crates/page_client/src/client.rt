@@ -8,9 +8,9 @@ use crate::request::{ask_gate, ask_page, ask_stops};
 use crate::step::{Sequel, after_page};
 use crate::stops_reply::stops_said;
 use crate::{Outcome, PeerFault, QueryFault, Want};
+use connection_uri::Base;
 use csa_scan::{BeginFault, Scan};
 use lc_model::{Bytes, Moment, NoMemory, PageName, Query, StopsDoc};
-use memento::below::Base;
 use page_json::Page;
 use std::alloc::Global;
 

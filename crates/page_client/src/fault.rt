@@ -3,8 +3,9 @@ ghost use Rattle.page_client.specs.Fault.{IsWant};
 ghost use Rattle.page_client.specs.Texts.{peer_fault_text, query_fault_text};
 
 use http_text::ReplyFault;
+use json_members::PageFault;
 use lc_model::{NoMemory, PlainData};
-use page_json::{Page, PageFault};
+use page_json::Page;
 use std::alloc::Global;
 use std::error::Error;
 use std::fmt;

@@ -5,8 +5,8 @@ ghost use Rattle.page_client.specs.Gate.{IsGateReply, IsJoined, IsSent, LeadsTo}
 
 use crate::PeerFault;
 use crate::replied::replied;
+use connection_uri::{Base, read_page_url};
 use lc_model::{Moment, NoMemory, PageName, Text};
-use memento::below::{Base, read_page_url};
 use memento::gate_url;
 use std::alloc::Global;
 use url::{ParseError, Url};

@@ -1,5 +1,5 @@
 ghost use Rattle.std.specs.Prelude.{◌≡◌, ℕ, List, Result};
-ghost use Rattle.memento.specs.Below.ConnectionUri.Base.{BaseParts};
+ghost use Rattle.connection_uri.specs.Base.{BaseParts};
 ghost use Rattle.lc_model.specs.declared.doc.StopsDoc.{StopsDoc};
 ghost use Rattle.lc_model.specs.declared.page.PageName.{PageName};
 ghost use Rattle.page_json.specs.declared.page.Page.{Page};

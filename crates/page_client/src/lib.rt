@@ -5,7 +5,6 @@
 #![tactic(auto)]
 
 mod beginning;
-pub mod below;
 mod cache;
 mod client;
 mod fault;

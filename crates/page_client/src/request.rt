@@ -1,12 +1,12 @@
 ghost use Rattle.std.specs.Prelude.{◌≡◌, None, IfOk};
-ghost use Rattle.memento.specs.Below.ConnectionUri.Page.{gate_target_of, page_target_of, stops_target_of};
-ghost use Rattle.memento.specs.Below.ConnectionUri.Base.{IsBase};
+ghost use Rattle.connection_uri.specs.Page.{gate_target_of, page_target_of, stops_target_of};
+ghost use Rattle.connection_uri.specs.Base.{IsBase};
 ghost use Rattle.http_text.specs.Targets.{CanAskFor};
 ghost use Rattle.page_client.specs.Request.{Asks};
 
+use connection_uri::{Base, append_moment};
 use http_text::{request_text, targets_are_good};
 use lc_model::{Moment, NoMemory, PageName, Text};
-use memento::below::{Base, append_moment};
 use memento::gate_target;
 use std::alloc::Global;
 

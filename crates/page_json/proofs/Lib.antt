@@ -1,6 +1,5 @@
 pub mod AppendLemmas
 pub mod BaseLemmas
-pub mod BelowLemmas
 pub mod ConnectionLemmas
 pub mod IdLemmas
 pub mod MembersLemmas

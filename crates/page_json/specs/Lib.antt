@@ -1,4 +1,3 @@
-pub mod Below
 pub mod ConnectionWriting
 pub mod Fronts
 pub mod MomentText

@@ -1,20 +1,20 @@
 -- Of the replies of a side to GETs only documents have the status 200, whatever the base.
 use Rattle.std.proofs.Common.{◌≡◌, ◌∙◌, ℕ, List, drop, get_or, codes, Bool, true, false, Option, Some, None, Result, Ok, Err, ap, arith, sym, subst}
 use Rattle.std.specs.Prelude.{◌&&◌, if◌then◌else◌}
-use Rattle.lc_world.specs.Below.HttpText.Reply.{IsReply}
-use Rattle.lc_world.specs.Below.HttpText.declared.reply.Reply.{Reply}
-use Rattle.lc_world.specs.Below.HttpText.declared.reply_fault.ReplyFault.{ReplyFault}
-use Rattle.lc_world.specs.Below.HttpText.declared.reply_parts.Allow.TheVariants.{Posting}
-use Rattle.lc_world.specs.Below.HttpText.declared.request.Request.{Request}
-use Rattle.lc_world.proofs.BelowLemmas.HttpText.MessageLemmas.{one_read, one_request}
-use Rattle.lc_world.specs.Below.PublisherSpec.Asked.{asked_by_posting, asked_by_reading, is_head, is_under}
-use Rattle.lc_world.specs.Below.PublisherSpec.Reply.{parts_of, sent_parts, text_said}
-use Rattle.lc_world.specs.Below.PublisherSpec.Response.{IsDocument, IsGateResponse, IsPageResponse, IsResponseTo, IsSentOf, asked_at}
-use Rattle.lc_world.specs.Below.PublisherSpec.Side.{Side, has_version}
-use Rattle.lc_world.specs.Below.PublisherSpec.declared.asked.Asked.{Asked}
-use Rattle.lc_world.specs.Below.PublisherSpec.declared.asked.Asked.TheVariants as kinds
-use Rattle.lc_world.specs.Below.PublisherSpec.declared.response.Response.{Response}
-use Rattle.lc_world.specs.Below.PublisherSpec.declared.response.Response.TheVariants as responses
+use Rattle.http_text.specs.Reply.{IsReply}
+use Rattle.http_text.specs.declared.reply.Reply.{Reply}
+use Rattle.http_text.specs.declared.reply_fault.ReplyFault.{ReplyFault}
+use Rattle.http_text.specs.declared.reply_parts.Allow.TheVariants.{Posting}
+use Rattle.http_text.specs.declared.request.Request.{Request}
+use Rattle.http_text.proofs.MessageLemmas.{one_read, one_request}
+use Rattle.publisher_spec.specs.Asked.{asked_by_posting, asked_by_reading, is_head, is_under}
+use Rattle.publisher_spec.specs.Reply.{parts_of, sent_parts, text_said}
+use Rattle.publisher_spec.specs.Response.{IsDocument, IsGateResponse, IsPageResponse, IsResponseTo, IsSentOf, asked_at}
+use Rattle.publisher_spec.specs.Side.{Side, has_version}
+use Rattle.publisher_spec.specs.declared.asked.Asked.{Asked}
+use Rattle.publisher_spec.specs.declared.asked.Asked.TheVariants as kinds
+use Rattle.publisher_spec.specs.declared.response.Response.{Response}
+use Rattle.publisher_spec.specs.declared.response.Response.TheVariants as responses
 use Rattle.page_relay.specs.Keeping.{IsLastingReply}
 use Rattle.page_relay.specs.Laws.{OnlyDocuments}
 use Rattle.page_relay.proofs.StatusLemmas.{bad, digit, found, missing, other_method, tenth, written}

@@ -1,6 +1,6 @@
 -- What is kept after exchanges is one, and so are those that were handed on.
 use Rattle.std.proofs.Common.{◌≡◌, ◌∙◌, ◌⊎◌, ℕ, List, [], ◌∷◌, length, Option, Some, None, arith, inl, inr, refl, subst, sym}
-use Rattle.lc_world.specs.Below.ConnectionUri.Base.{BaseParts}
+use Rattle.connection_uri.specs.Base.{BaseParts}
 use Rattle.lc_world.specs.declared.entry.Entry.{Entry}
 use Rattle.lc_world.specs.declared.entry.RecordedReply.TheVariants.{Hidden}
 use Rattle.page_relay.specs.Exchanges.{GoesOn, KeepsReply}

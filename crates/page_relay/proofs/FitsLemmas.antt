@@ -1,10 +1,10 @@
 -- What a relay keeps agrees with the sides of its link.
 use Rattle.std.proofs.Common.{◌≡◌, ℕ, List, Some, inl, inr, subst, sym}
 use Rattle.std.proofs.lemmas.List.Elements.{All-contains, All-weaker}
-use Rattle.lc_world.specs.Below.ConnectionUri.Base.{BaseParts}
-use Rattle.lc_world.specs.Below.PublisherSpec.Reply.{IsReply}
-use Rattle.lc_world.specs.Below.PublisherSpec.Side.{IsLater, IsValidSide, Side}
-use Rattle.lc_world.proofs.BelowLemmas.PublisherSpec.LaterLemmas.{mementos_stay}
+use Rattle.connection_uri.specs.Base.{BaseParts}
+use Rattle.publisher_spec.specs.Reply.{IsReply}
+use Rattle.publisher_spec.specs.Side.{IsLater, IsValidSide, Side}
+use Rattle.publisher_spec.proofs.LaterLemmas.{mementos_stay}
 use Rattle.page_relay.specs.Exchanges.{KeepsReply}
 use Rattle.page_relay.specs.Fits.{IsReplyOf, RelayFits}
 use Rattle.page_relay.specs.Kept.{Kept, reply_for, with_used}

@@ -1,7 +1,7 @@
 -- What a relay keeps and which exchanges it handed on follow from its own exchanges, from each call to the next.
 use Rattle.std.proofs.Common.{◌≡◌, ◌∙◌, ℕ, Bool, true, false, IsTrue, List, [], ◌∷◌, ◌++◌, Option, Some, None, Result, Ok, Err, ap, append-nil, refl, subst, sym}
 use Rattle.std.specs.Prelude.{◌&&◌}
-use Rattle.lc_world.specs.Below.ConnectionUri.Base.{BaseParts}
+use Rattle.connection_uri.specs.Base.{BaseParts}
 use Rattle.lc_io.specs.Counts.{one_more}
 use Rattle.lc_world.specs.Link.{LinkSeen, TellsMore, recorded_of}
 use Rattle.lc_world.specs.ListLink.{entry_of}

@@ -2,13 +2,13 @@
 use Rattle.std.proofs.Common.{◌≡◌, ℕ, List, [], Option, Some, Result, Ok, Err, refl, sym, subst}
 use Rattle.std.specs.Option.{IfSome}
 use Rattle.std.specs.Prelude.{IsErr, OnOk}
-use Rattle.lc_world.specs.Below.ConnectionUri.Base.{BaseParts}
+use Rattle.connection_uri.specs.Base.{BaseParts}
 use Rattle.lc_model.proofs.ListLemmas.{All-from_contains, Contains-nil}
 use Rattle.lc_world.specs.Link.{IsHonest, StaysHonest}
 use Rattle.lc_world.specs.declared.link.LinkFail.{LinkFail}
-use Rattle.lc_world.specs.Below.PublisherSpec.Reply.{IsReply}
-use Rattle.lc_world.specs.Below.PublisherSpec.Side.{Side}
-use Rattle.lc_world.proofs.BelowLemmas.PublisherSpec.LaterLemmas.{later_itself}
+use Rattle.publisher_spec.specs.Reply.{IsReply}
+use Rattle.publisher_spec.specs.Side.{Side}
+use Rattle.publisher_spec.proofs.LaterLemmas.{later_itself}
 use Rattle.page_relay.specs.Exchanges.{KeepsReply}
 use Rattle.page_relay.specs.Fits.{IsReplyOf, RelayFits, RelaysHonestly}
 use Rattle.page_relay.specs.Kept.{Kept, reply_for, with_used}

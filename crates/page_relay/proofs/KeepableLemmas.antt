@@ -2,18 +2,18 @@
 use Rattle.std.proofs.Common.{◌≡◌, ◌≢◌, ◌↔◌, ◌⊎◌, ◌≤◌, ℕ, Bool, IsTrue, Result, Ok, Err, List, [], ◌∷◌, ◌++◌, codes, length, take, inl, inr, sym, ap, subst, ◌∙◌, arith}
 use Rattle.std.proofs.Math.Seq.{take-length}
 use Rattle.std.specs.Prelude.{IfOk, OnOk}
-use Rattle.lc_world.specs.Below.ConnectionUri.Base.{BaseParts}
-use Rattle.lc_world.specs.Below.HttpText.Reply.{HasFault, IsReply}
-use Rattle.lc_world.specs.Below.HttpText.Request.{IsWhole, IsWholeRequest}
-use Rattle.lc_world.specs.Below.HttpText.declared.reply.Reply.{Reply}
-use Rattle.lc_world.specs.Below.HttpText.declared.reply_fault.ReplyFault.{ReplyFault}
-use Rattle.lc_world.specs.Below.HttpText.declared.reply_fault.ReplyFault.TheVariants as faults
-use Rattle.lc_world.specs.Below.HttpText.declared.request.Request.{Request}
-use Rattle.lc_world.specs.Below.HttpText.declared.taken.Taken.{Taken}
-use Rattle.lc_world.specs.Below.HttpText.declared.taken.Taken.TheVariants.{Whole}
-use Rattle.lc_world.proofs.BelowLemmas.HttpText.MessageLemmas.{one_request}
-use Rattle.lc_world.proofs.BelowLemmas.HttpText.QueryLemmas.{targets_are_read}
-use Rattle.lc_world.proofs.BelowLemmas.HttpText.ReplyLemmas.{faultless}
+use Rattle.connection_uri.specs.Base.{BaseParts}
+use Rattle.http_text.specs.Reply.{HasFault, IsReply}
+use Rattle.http_text.specs.Request.{IsWhole, IsWholeRequest}
+use Rattle.http_text.specs.declared.reply.Reply.{Reply}
+use Rattle.http_text.specs.declared.reply_fault.ReplyFault.{ReplyFault}
+use Rattle.http_text.specs.declared.reply_fault.ReplyFault.TheVariants as faults
+use Rattle.http_text.specs.declared.request.Request.{Request}
+use Rattle.http_text.specs.declared.taken.Taken.{Taken}
+use Rattle.http_text.specs.declared.taken.Taken.TheVariants.{Whole}
+use Rattle.http_text.proofs.MessageLemmas.{one_request}
+use Rattle.http_text.proofs.QueryLemmas.{targets_are_read}
+use Rattle.http_text.proofs.ReplyLemmas.{faultless}
 use Rattle.page_relay.specs.Keeping.{IsKeepable, IsLastingPath, IsLastingReply}
 use Rattle.page_relay.specs.Laws.{ClientsAreKept}
 use Rattle.page_relay.proofs.DocumentLemmas.{one_status}

@@ -1,4 +1,3 @@
-pub mod BelowLemmas
 mod DocumentLemmas
 mod ExchangeLemmas
 mod FitsLemmas

@@ -1,7 +1,7 @@
 -- Near relays that the definitions refuse.
 use Rattle.std.proofs.Common.{◌≡◌, ◌∙◌, ◌+◌, ◌-◌, ◌^◌, ◌<◌, ◌∷◌, ◌++◌, [], ℕ, Some, List, ap, arith, inr, length, length-append, min, refl, subst, sym}
 use Rattle.std.proofs.lemmas.List.Elements.{All-contains, All-head}
-use Rattle.lc_world.specs.Below.ConnectionUri.Base.{BaseParts}
+use Rattle.connection_uri.specs.Base.{BaseParts}
 use Rattle.lc_model.proofs.ListLemmas.{Contains-nil}
 use Rattle.lc_world.specs.declared.entry.Entry.{Entry}
 use Rattle.lc_world.specs.declared.entry.RecordedReply.TheVariants.{Reply}

@@ -7,19 +7,19 @@ use Rattle.std.proofs.lemmas.List.{get_or-take}
 use Rattle.std.proofs.lemmas.Str.{digit_value_digit}
 use Rattle.httparse.specs.Grammar.{AllPass, LineEnd, crlf, lf, print_blank, print_end, print_reason, print_section, print_version}
 use Rattle.httparse.proofs.GrammarLemmas.{print_response-append}
-use Rattle.lc_world.specs.Below.ConnectionUri.Base.{BaseParts}
-use Rattle.lc_world.specs.Below.HttpText.Reply.{IsReply}
-use Rattle.lc_world.specs.Below.HttpText.ReplyText.{reply_text_of}
-use Rattle.lc_world.specs.Below.HttpText.Request.{front_of}
-use Rattle.lc_world.specs.Below.HttpText.declared.reply.Reply.{Reply}
-use Rattle.lc_world.specs.Below.HttpText.declared.reply_parts.Allow.{Allow}
-use Rattle.lc_world.specs.Below.HttpText.declared.reply_parts.ReplyParts.{ReplyParts}
+use Rattle.connection_uri.specs.Base.{BaseParts}
+use Rattle.http_text.specs.Reply.{IsReply}
+use Rattle.http_text.specs.ReplyText.{reply_text_of}
+use Rattle.http_text.specs.Request.{front_of}
+use Rattle.http_text.specs.declared.reply.Reply.{Reply}
+use Rattle.http_text.specs.declared.reply_parts.Allow.{Allow}
+use Rattle.http_text.specs.declared.reply_parts.ReplyParts.{ReplyParts}
 use Rattle.lc_model.specs.declared.doc.StopsDoc.{StopsDoc}
 use Rattle.lc_model.specs.declared.page.PageName.{PageName}
-use Rattle.lc_world.specs.Below.PublisherSpec.Reply.{bare_parts, found_parts, method_parts, parts_of, sent_parts}
-use Rattle.lc_world.specs.Below.PublisherSpec.Response.{IsDocument}
-use Rattle.lc_world.specs.Below.PublisherSpec.declared.response.Response.{Response}
-use Rattle.lc_world.specs.Below.PublisherSpec.declared.response.Response.TheVariants as responses
+use Rattle.publisher_spec.specs.Reply.{bare_parts, found_parts, method_parts, parts_of, sent_parts}
+use Rattle.publisher_spec.specs.Response.{IsDocument}
+use Rattle.publisher_spec.specs.declared.response.Response.{Response}
+use Rattle.publisher_spec.specs.declared.response.Response.TheVariants as responses
 
 -- the first digit of a reply's status
 abbrev pub digit : List ℕ → ℕ

@@ -1,6 +1,6 @@
 -- A transcript of a relay says how the relay was made, and what the link below had recorded then.
 use Rattle.std.proofs.Common.{◌≡◌, ◌∙◌, ◌+◌, ◌-◌, ◌^◌, ℕ, Bool, min, List, [], ◌∷◌, ◌++◌, length, Option, Some, None, Result, Ok, Err, inl, inr, refl, sym, ap, subst, append-nil, append_assoc, length-append, arith}
-use Rattle.lc_world.specs.Below.ConnectionUri.Base.{BaseParts}
+use Rattle.connection_uri.specs.Base.{BaseParts}
 use Rattle.lc_world.specs.Link.{LinkSeen, Tells}
 use Rattle.lc_world.specs.ListLink.{entry_of}
 use Rattle.lc_world.specs.declared.entry.Entry.{Entry}

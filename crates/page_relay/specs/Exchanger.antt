@@ -1,6 +1,6 @@
 -- Links with the replies that are kept of them.
 use Rattle.std.specs.Prelude.{ℕ, List, []}
-use Rattle.lc_world.specs.Below.ConnectionUri.Base.{BaseParts}
+use Rattle.connection_uri.specs.Base.{BaseParts}
 use Rattle.lc_world.specs.Link.{LinkSeen}
 use Rattle.page_relay.specs.Fits.{RelaysHonestly}
 use Rattle.page_relay.specs.Kept.{Kept}

@@ -1,6 +1,6 @@
 -- What a relay keeps after an exchange, and when it asks the link below.
 use Rattle.std.specs.Prelude.{◌≡◌, ◌⊎◌, ℕ, List, [], Option, Some, None, Result, Ok, Err, IsErrOf}
-use Rattle.lc_world.specs.Below.ConnectionUri.Base.{BaseParts}
+use Rattle.connection_uri.specs.Base.{BaseParts}
 use Rattle.lc_io.specs.Counts.{HasCause, one_more}
 use Rattle.lc_world.specs.Link.{LinkSeen, Tells}
 use Rattle.lc_world.specs.declared.link.LinkFail.{LinkFail}

@@ -1,6 +1,6 @@
 -- Which exchanges of a relay are handed on, and what it keeps after them. Both follow from its own exchanges.
 use Rattle.std.specs.Prelude.{◌≡◌, ◌⊎◌, ◌-◌, ◌^◌, ℕ, List, [], ◌∷◌, ◌++◌, length, min, Option, Some, None, option_map}
-use Rattle.lc_world.specs.Below.ConnectionUri.Base.{BaseParts}
+use Rattle.connection_uri.specs.Base.{BaseParts}
 use Rattle.lc_world.specs.declared.entry.Entry.{Entry}
 use Rattle.lc_world.specs.declared.entry.RecordedReply.{RecordedReply}
 use Rattle.lc_world.specs.declared.entry.RecordedReply.TheVariants.{Failed, Hidden, Reply}

@@ -1,10 +1,10 @@
 -- To which requests replies are kept, and which: documents that never change (RFC 7089, section 4.5.1: a memento is what its time gate sent).
 use Rattle.std.specs.Prelude.{◌≡◌, ◌⊎◌, ◌≤◌, ℕ, List, ◌++◌, length, codes}
-use Rattle.lc_world.specs.Below.ConnectionUri.Base.{BaseParts}
-use Rattle.lc_world.specs.Below.HttpText.Reply.{IsReply}
-use Rattle.lc_world.specs.Below.HttpText.Request.{IsWholeRequest}
-use Rattle.lc_world.specs.Below.HttpText.declared.reply.Reply.{Reply}
-use Rattle.lc_world.specs.Below.HttpText.declared.request.Request.{Request}
+use Rattle.connection_uri.specs.Base.{BaseParts}
+use Rattle.http_text.specs.Reply.{IsReply}
+use Rattle.http_text.specs.Request.{IsWholeRequest}
+use Rattle.http_text.specs.declared.reply.Reply.{Reply}
+use Rattle.http_text.specs.declared.request.Request.{Request}
 
 -- the path is that of pages at a version, or of the stops document, under the base
 abbrev pub IsLastingPath : BaseParts → List ℕ → Type 0

@@ -1,19 +1,19 @@
 -- The laws of relays. X is the type of the link below, and `seen` what is promised of it.
 use Rattle.std.specs.Prelude.{◌≡◌, ◌⊎◌, ◌<◌, ◌-◌, ◌^◌, ℕ, true, min, List, [], ◌∷◌, length, Option, Some}
-use Rattle.lc_world.specs.Below.ConnectionUri.Base.{BaseParts, IsBase}
-use Rattle.lc_world.specs.Below.HttpText.Request.{IsWholeRequest}
-use Rattle.lc_world.specs.Below.HttpText.RequestText.{SaysGet}
-use Rattle.lc_world.specs.Below.HttpText.declared.request.Request.{Request}
-use Rattle.lc_world.specs.Below.ConnectionUri.Page.{gate_target_of, page_target_of, stops_target_of}
+use Rattle.connection_uri.specs.Base.{BaseParts, IsBase}
+use Rattle.http_text.specs.Request.{IsWholeRequest}
+use Rattle.http_text.specs.RequestText.{SaysGet}
+use Rattle.http_text.specs.declared.request.Request.{Request}
+use Rattle.connection_uri.specs.Page.{gate_target_of, page_target_of, stops_target_of}
 use Rattle.lc_model.specs.declared.page.PageName.{PageName}
 use Rattle.lc_world.specs.GoneOn.{IsLeftByGets, RecordsMore}
 use Rattle.lc_world.specs.Link.{IsHonestWith, IsQuietWith, LinkSeen}
 use Rattle.lc_world.specs.declared.entry.Entry.{Entry}
 use Rattle.lc_world.specs.declared.entry.RecordedReply.TheVariants.{Hidden}
-use Rattle.lc_world.specs.Below.PublisherSpec.Reply.{HasReply}
-use Rattle.lc_world.specs.Below.PublisherSpec.Response.{IsDocument}
-use Rattle.lc_world.specs.Below.PublisherSpec.Side.{IsLater, IsValidSide, Side}
-use Rattle.lc_world.specs.Below.PublisherSpec.declared.response.Response.{Response}
+use Rattle.publisher_spec.specs.Reply.{HasReply}
+use Rattle.publisher_spec.specs.Response.{IsDocument}
+use Rattle.publisher_spec.specs.Side.{IsLater, IsValidSide, Side}
+use Rattle.publisher_spec.specs.declared.response.Response.{Response}
 use Rattle.page_relay.specs.Fits.{RelayFits}
 use Rattle.page_relay.specs.HandedOn.{AreRelayed}
 use Rattle.page_relay.specs.Keeping.{IsKeepable, IsToKeep}

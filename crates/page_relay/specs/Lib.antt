@@ -1,4 +1,3 @@
-pub mod Below
 pub mod Exchanger
 pub mod Exchanges
 pub mod Fits

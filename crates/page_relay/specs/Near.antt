@@ -1,15 +1,15 @@
 -- Near values that the definitions of relays refuse.
 use Rattle.std.specs.Prelude.{◌≡◌, ◌≢◌, ◌+◌, ◌-◌, ◌^◌, ◌<◌, ℕ, Bool, true, ◌++◌, ◌∷◌, [], List, length, Option, Some, codes}
 use Rattle.std.specs.List.{Contains}
-use Rattle.lc_world.specs.Below.ConnectionUri.Base.{BaseParts}
-use Rattle.lc_world.specs.Below.HttpText.Reply.{IsReply}
-use Rattle.lc_world.specs.Below.HttpText.declared.reply.Reply.{Reply}
+use Rattle.connection_uri.specs.Base.{BaseParts}
+use Rattle.http_text.specs.Reply.{IsReply}
+use Rattle.http_text.specs.declared.reply.Reply.{Reply}
 use Rattle.lc_model.specs.declared.page.PageName.{PageName}
 use Rattle.lc_world.specs.declared.entry.Entry.{Entry}
 use Rattle.lc_world.specs.declared.entry.RecordedReply.TheVariants as recorded_replies
-use Rattle.lc_world.specs.Below.PublisherSpec.Reply.{HasReply}
-use Rattle.lc_world.specs.Below.PublisherSpec.Side.{Side}
-use Rattle.lc_world.specs.Below.PublisherSpec.declared.response.Response.TheVariants.{Found}
+use Rattle.publisher_spec.specs.Reply.{HasReply}
+use Rattle.publisher_spec.specs.Side.{Side}
+use Rattle.publisher_spec.specs.declared.response.Response.TheVariants.{Found}
 use Rattle.page_relay.specs.Fits.{RelayFits}
 use Rattle.page_relay.specs.HandedOn.{Follows}
 use Rattle.page_relay.specs.Keeping.{IsKeepable, IsLastingReply, IsToKeep}

@@ -1,7 +1,7 @@
 -- What a relay records of its exchanges, and what it says of the link below.
 use Rattle.std.specs.Prelude.{◌≡◌, ◌⊎◌, ◌-◌, ◌^◌, ℕ, Bool, true, false, IsTrue, min, List, [], ◌∷◌, ◌++◌, length, Option, option_map, Result, Ok, Err, Contains}
 use Rattle.std.specs.List.{All}
-use Rattle.lc_world.specs.Below.ConnectionUri.Base.{BaseParts}
+use Rattle.connection_uri.specs.Base.{BaseParts}
 use Rattle.lc_world.specs.ListLink.{entry_of}
 use Rattle.lc_world.specs.declared.entry.Entry.{Entry}
 use Rattle.lc_world.specs.declared.entry.RecordedReply.{RecordedReply}

@@ -1,6 +1,6 @@
 -- Relays: links over a link, which keep replies.
 use Rattle.std.specs.Prelude.{ℕ, Bool, true, List, [], ◌∷◌, ◌++◌, length, Option, Some, None}
-use Rattle.lc_world.specs.Below.ConnectionUri.Base.{BaseParts}
+use Rattle.connection_uri.specs.Base.{BaseParts}
 use Rattle.lc_world.specs.Link.{LinkSeen}
 use Rattle.lc_world.specs.ListLink.{entry_of}
 use Rattle.lc_world.specs.declared.entry.Entry.{Entry}

@@ -1,6 +1,6 @@
 -- Worked memories, transcripts and counts.
 use Rattle.std.specs.Prelude.{◌≡◌, ℕ, true, ◌++◌, List, [], ◌∷◌, codes, Some, None}
-use Rattle.lc_world.specs.Below.ConnectionUri.Base.{BaseParts}
+use Rattle.connection_uri.specs.Base.{BaseParts}
 use Rattle.lc_world.specs.ListLink.{entry_of}
 use Rattle.lc_world.specs.declared.entry.Entry.{Entry}
 use Rattle.lc_world.specs.declared.entry.RecordedReply.TheVariants.{Failed, Hidden, Reply}

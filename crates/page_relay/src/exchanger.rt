@@ -1,17 +1,17 @@
 ghost use Rattle.std.specs.Prelude.{◌≡◌, ◌≤◌, [], None, IfErr, IfOk, IsErrOf, OnErr, OnOk};
-ghost use Rattle.lc_world.specs.Below.ConnectionUri.Base.{BaseParts};
+ghost use Rattle.connection_uri.specs.Base.{BaseParts};
 ghost use Rattle.lc_io.specs.Counts.{HasCause};
 ghost use Rattle.lc_world.specs.Link.{Exchanges, IsGet, IsHonestWith, Tells};
 ghost use Rattle.lc_world.specs.declared.link.LinkFail.TheVariants.{Failed};
 ghost use Rattle.page_relay.specs.Exchanges.{AsksBelow, GoesOn, IsKeptAfter, reply_of};
 ghost use Rattle.page_relay.specs.Exchanger.{exchanger_seen, new_exchanger};
 ghost use Rattle.page_relay.specs.Kept.{reply_for};
-ghost use Rattle.lc_world.specs.Below.PublisherSpec.Side.{Side};
+ghost use Rattle.publisher_spec.specs.Side.{Side};
 
 use crate::SentRequest;
 use crate::keeper::Keeper;
+use connection_uri::Base;
 use lc_model::NoMemory;
-use lc_world::below::Base;
 use lc_world::{Link, LinkFail};
 use std::alloc::Global;
 use std::marker::Model;

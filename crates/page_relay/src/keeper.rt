@@ -5,8 +5,9 @@ ghost use Rattle.page_relay.specs.Kept.{reply_for, with_kept, with_used};
 use crate::SentRequest;
 use crate::keeping::is_to_keep;
 use crate::memory::Memory;
+use connection_uri::Base;
+use http_text::HeadRoom;
 use lc_model::{Bytes, NoMemory};
-use lc_world::below::{Base, HeadRoom};
 use std::alloc::Global;
 use std::marker::Model;
 

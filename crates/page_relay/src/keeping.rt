@@ -1,11 +1,12 @@
 ghost use Rattle.std.specs.Prelude.{◌≡◌, ◌≢◌, ◌↔◌, ◌⊎◌, codes, IfOk, IsTrue, OnOk};
-ghost use Rattle.lc_world.specs.Below.HttpText.Request.{IsWhole};
-ghost use Rattle.lc_world.specs.Below.HttpText.declared.reply_fault.ReplyFault.TheVariants.{NoMemory as OutOfMemory};
-ghost use Rattle.lc_world.specs.Below.HttpText.declared.taken.Taken.TheVariants.{Whole as WholeRequest};
+ghost use Rattle.http_text.specs.Request.{IsWhole};
+ghost use Rattle.http_text.specs.declared.reply_fault.ReplyFault.TheVariants.{NoMemory as OutOfMemory};
+ghost use Rattle.http_text.specs.declared.taken.Taken.TheVariants.{Whole as WholeRequest};
 ghost use Rattle.page_relay.specs.Keeping.{IsKeepable, IsLastingPath, IsLastingReply, IsToKeep};
 
+use connection_uri::{Base, behind};
+use http_text::{HeadRoom, ReplyFault, Request, Taken, read_request};
 use lc_model::NoMemory;
-use lc_world::below::{Base, HeadRoom, ReplyFault, Request, Taken, behind, read_request};
 use std::alloc::Global;
 
 /// The most bytes of a reply that is kept.

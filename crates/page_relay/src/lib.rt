@@ -2,7 +2,6 @@
 //! what it keeps, and hands on the rest. It builds on `lc_world`, on `publisher_spec` and `http_text`, and on `lru` and the log for proofs of `http_server` of the kit.
 #![tactic(auto)]
 
-pub mod below;
 mod exchanger;
 mod keeper;
 mod keeping;

@@ -1,5 +1,5 @@
 ghost use Rattle.std.specs.Prelude.{◌≡◌, ◌≤◌, ◌&&◌, false, [], Some, IfErr, IfOk, IsErrOf, OnErr, OnOk};
-ghost use Rattle.lc_world.specs.Below.ConnectionUri.Base.{BaseParts};
+ghost use Rattle.connection_uri.specs.Base.{BaseParts};
 ghost use Rattle.lc_io.specs.Counts.{HasCause, one_more};
 ghost use Rattle.lc_world.specs.Link.{Exchanges, IsGet, IsHonestWith, Tells};
 ghost use Rattle.lc_world.specs.declared.link.LinkFail.TheVariants.{Failed};
@@ -8,13 +8,13 @@ ghost use Rattle.page_relay.specs.Exchanger.{exchanger_seen};
 ghost use Rattle.page_relay.specs.Kept.{reply_for, sent_to};
 ghost use Rattle.page_relay.specs.Relay.{HasRelayedOf, new_relay, relay_seen, transcript_in};
 ghost use Rattle.page_relay.specs.Recorded.{Records, known_of};
-ghost use Rattle.lc_world.specs.Below.PublisherSpec.Side.{Side};
+ghost use Rattle.publisher_spec.specs.Side.{Side};
 
 use crate::SentRequest;
 use crate::exchanger::Exchanger;
 use crate::transcript::Transcript;
+use connection_uri::Base;
 use lc_model::NoMemory;
-use lc_world::below::Base;
 use lc_world::{Link, LinkFail};
 use std::alloc::Global;
 use std::marker::Model;

@@ -1,8 +1,8 @@
 -- The reply and the next side of a request, by what it asks for.
 use Rattle.std.proofs.Common.{Vec, Global, Result, Ok, Err, ◌≡◌, ℕ, List, drop, refl, ap, subst}
 use Rattle.std.specs.Prelude.{IfOk, OnOk}
-use Rattle.publisher_spec.specs.Below.HttpText.Request.{IsWholeRequest}
-use Rattle.publisher_spec.specs.Below.HttpText.declared.request.Request.{Request}
+use Rattle.http_text.specs.Request.{IsWholeRequest}
+use Rattle.http_text.specs.declared.request.Request.{Request}
 use Rattle.publisher.specs.Updated.{IsUpdated}
 use Rattle.publisher.specs.Writable.{IsSoundResponse}
 use Rattle.publisher_spec.specs.Reply.{IsBehind, IsNextSide, IsReply, text_said}

@@ -1,11 +1,10 @@
 -- Paths under a base, and what is read of a request.
 use Rattle.std.proofs.Common.{◌≡◌, ℕ, List, ◌++◌, Bool, true, false, Option, Some, None, refl}
-use Rattle.std.specs.Prelude.{nat_eq, ◌&&◌, if◌then◌else◌}
+use Rattle.std.specs.Prelude.{nat_eq, ◌&&◌, if◌then◌else◌, codes}
 use Rattle.std.specs.Option.{IfSome}
 use Rattle.std.specs.Cmp.Lexicographic.{same_text}
 use lib.Pointwise.{pointwise}
-use Rattle.std.specs.Prelude.{codes}
-use Rattle.publisher_spec.specs.Below.ConnectionUri.Base.{BaseParts}
+use Rattle.connection_uri.specs.Base.{BaseParts}
 use Rattle.publisher_spec.specs.Asked.{asked_by_posting, asked_by_reading, asked_of, is_under}
 use Rattle.publisher_spec.specs.Response.{IsTheOne}
 use Rattle.publisher_spec.specs.declared.asked.Asked.TheVariants as kinds

@@ -1,6 +1,5 @@
 pub mod AnswerLemmas
 pub mod AskingLemmas
-pub mod BelowLemmas
 pub mod CutsLemmas
 pub mod PageLemmas
 pub mod PlaceLemmas

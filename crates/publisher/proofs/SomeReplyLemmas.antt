@@ -4,21 +4,21 @@ use Rattle.std.specs.Prelude.{codes, nat_le, IfSome}
 use Rattle.std.proofs.lemmas.Bool.Decides.{nat_tests}
 use Rattle.httpdate.specs.Date.{IsPartsText}
 use Rattle.httpdate.specs.declared.parts.Parts.{Parts}
-use Rattle.publisher_spec.proofs.BelowLemmas.JsonMembers.DecisionsLemmas.{below, both, same_text, turn}
-use Rattle.publisher_spec.proofs.BelowLemmas.JsonMembers.MomentDecidedLemmas.{moments}
-use Rattle.publisher_spec.specs.Below.LcTime.Http.{SaysHttpDate, http_parts_of, without_blanks}
-use Rattle.version_store.specs.Below.LcVersions.History.{moments_of}
-use Rattle.version_store.specs.Below.LcVersions.Named.{version_named}
-use Rattle.version_store.specs.Below.LcVersions.Pages.{departures_of}
-use Rattle.version_store.specs.Below.LcVersions.declared.update.Update.{Update}
-use Rattle.publisher_spec.specs.Below.HttpText.Request.{request_of}
-use Rattle.publisher_spec.specs.Below.HttpText.declared.request.Request.{Request}
-use Rattle.publisher_spec.specs.Below.Memento.Negotiation.{Negotiates}
-use Rattle.publisher_spec.specs.Below.PageJson.declared.page.Page.{Page}
-use Rattle.publisher_spec.specs.Below.TripUpdates.Faults.{fault_of}
-use Rattle.publisher_spec.specs.Below.TripUpdates.Message.{IsMessage}
-use Rattle.publisher_spec.specs.Below.TripUpdates.declared.fault.RtFault.{RtFault}
-use Rattle.publisher_spec.proofs.BelowLemmas.TripUpdates.TreesLemmas.{has_meaning, never_both}
+use Rattle.json_members.proofs.DecisionsLemmas.{below, both, same_text, turn}
+use Rattle.json_members.proofs.MomentDecidedLemmas.{moments}
+use Rattle.lc_time.specs.Http.{SaysHttpDate, http_parts_of, without_blanks}
+use Rattle.lc_versions.specs.History.{moments_of}
+use Rattle.lc_versions.specs.Named.{version_named}
+use Rattle.lc_versions.specs.Pages.{departures_of}
+use Rattle.lc_versions.specs.declared.update.Update.{Update}
+use Rattle.http_text.specs.Request.{request_of}
+use Rattle.http_text.specs.declared.request.Request.{Request}
+use Rattle.memento.specs.Negotiation.{Negotiates}
+use Rattle.page_json.specs.declared.page.Page.{Page}
+use Rattle.trip_updates.specs.Faults.{fault_of}
+use Rattle.trip_updates.specs.Message.{IsMessage}
+use Rattle.trip_updates.specs.declared.fault.RtFault.{RtFault}
+use Rattle.trip_updates.proofs.TreesLemmas.{has_meaning, never_both}
 use Rattle.publisher_spec.specs.Asked.{field_value, member_value}
 use Rattle.publisher_spec.specs.PageAt.{page_at}
 use Rattle.publisher_spec.specs.Reply.{IsBehind, side_behind, text_said}

@@ -3,13 +3,13 @@ use Rattle.std.proofs.Common.{Vec, Global, Result, Ok, Err, ◌≡◌, ℕ, ◌<
 use Rattle.std.specs.Prelude.{nat_le, nat_lt, ◌==◌, ◌||◌, ◌+◌, IfOk, OnErr}
 use Rattle.std.proofs.lemmas.Bool.{le-leb, lt-leb, lt-ltb}
 use Rattle.std.proofs.lemmas.Bool.Decides.{nat_tests}
-use Rattle.version_store.specs.Below.LcVersions.History.{Entry}
-use Rattle.version_store.specs.Below.LcVersions.declared.update.Update.{Update}
-use Rattle.publisher_spec.specs.Below.HttpText.declared.request.Request.{Request}
-use Rattle.publisher_spec.specs.Below.TripUpdates.Faults.{fault_of}
-use Rattle.publisher_spec.specs.Below.TripUpdates.Message.{IsMessage}
-use Rattle.publisher_spec.specs.Below.TripUpdates.declared.fault.RtFault.{RtFault}
-use Rattle.publisher_spec.proofs.BelowLemmas.TripUpdates.TreesLemmas.{has_meaning, never_both}
+use Rattle.lc_versions.specs.History.{Entry}
+use Rattle.lc_versions.specs.declared.update.Update.{Update}
+use Rattle.http_text.specs.declared.request.Request.{Request}
+use Rattle.trip_updates.specs.Faults.{fault_of}
+use Rattle.trip_updates.specs.Message.{IsMessage}
+use Rattle.trip_updates.specs.declared.fault.RtFault.{RtFault}
+use Rattle.trip_updates.proofs.TreesLemmas.{has_meaning, never_both}
 use Rattle.version_store.specs.Admission.{HasRoom, IsFullFor, IsRefused, IsTaken}
 use Rattle.version_store.specs.declared.admission.AdmitFault.{AdmitFault}
 use Rattle.version_store.specs.declared.admission.AdmitFault.TheVariants as faults

@@ -4,8 +4,8 @@ use Rattle.std.specs.Prelude.{◌==◌}
 use Rattle.std.specs.List.{Contains, filter, list_any}
 use Rattle.std.proofs.lemmas.Bool.{eq-eqb}
 use Rattle.std.proofs.lemmas.List.Folds.{list_any-from_Any}
-use Rattle.version_store.specs.Below.LcVersions.Named.{is_by, last_of, version_among}
-use Rattle.publisher_spec.specs.Below.Memento.Negotiation.{Negotiates}
+use Rattle.lc_versions.specs.Named.{is_by, last_of, version_among}
+use Rattle.memento.specs.Negotiation.{Negotiates}
 use Rattle.publisher_spec.proofs.VersionLemmas.{contains_found}
 
 -- one of these is the version

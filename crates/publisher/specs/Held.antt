@@ -1,7 +1,7 @@
 -- What a publisher has, and the side that it stands for.
 use Rattle.std.specs.Prelude.{ℕ, Bool, List}
 use Rattle.lc_model.specs.declared.doc.StopsDoc.{StopsDoc}
-use Rattle.publisher_spec.specs.Below.ConnectionUri.Base.{BaseParts}
+use Rattle.connection_uri.specs.Base.{BaseParts}
 use Rattle.version_store.specs.Store.{Stored}
 use Rattle.publisher_spec.specs.Side.{Side}
 

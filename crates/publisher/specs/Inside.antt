@@ -4,8 +4,8 @@ use Rattle.std.specs.List.{All}
 use Rattle.lc_model.specs.Call.{InSequence}
 use Rattle.lc_model.specs.Run.{InKeyOrder}
 use Rattle.lc_model.specs.declared.run.Run.{Run}
-use Rattle.publisher_spec.specs.Below.PageJson.Sound.{IsSoundDoc}
-use Rattle.publisher_spec.specs.Below.PageJson.Tree.{stops_text_of}
+use Rattle.page_json.specs.Sound.{IsSoundDoc}
+use Rattle.page_json.specs.Tree.{stops_text_of}
 use Rattle.publisher.specs.Cuts.{KeepsCuts}
 use Rattle.publisher.specs.Held.{Held, side_of}
 use Rattle.publisher.specs.declared.publisher.Publisher.TheInside.{Inside}

@@ -1,9 +1,9 @@
 -- A side that is valid has what its pages are made of, and a reply to each request.
 use Rattle.std.specs.Prelude.{◌≡◌, ℕ, true, List}
 use Rattle.lc_model.specs.declared.connection.Connection.{Connection}
-use Rattle.publisher_spec.specs.Below.HttpText.Request.{IsWhole}
-use Rattle.publisher_spec.specs.Below.PageJson.Sound.{IsSoundDoc, IsSoundPage}
-use Rattle.publisher_spec.specs.Below.PageJson.declared.page.Page.{Page}
+use Rattle.http_text.specs.Request.{IsWhole}
+use Rattle.page_json.specs.Sound.{IsSoundDoc, IsSoundPage}
+use Rattle.page_json.specs.declared.page.Page.{Page}
 use Rattle.publisher_spec.specs.Reply.{IsNextSide, IsReply}
 use Rattle.publisher_spec.specs.Response.{IsPageOf}
 use Rattle.publisher_spec.specs.Side.{IsTimetableAt, IsValidSide, Side, has_version}

@@ -1,4 +1,3 @@
-pub mod Below
 pub mod Cuts
 pub mod Held
 pub mod Inside

@@ -1,7 +1,7 @@
 -- Which responses can be written as replies, and what is known of those that were.
-use Rattle.publisher_spec.specs.Below.HttpText.ReplyText.{HasReason}
-use Rattle.publisher_spec.specs.Below.PageJson.Sound.{IsSoundPage}
-use Rattle.publisher_spec.specs.Below.PageJson.Valid.{IsValidPage}
+use Rattle.http_text.specs.ReplyText.{HasReason}
+use Rattle.page_json.specs.Sound.{IsSoundPage}
+use Rattle.page_json.specs.Valid.{IsValidPage}
 use Rattle.publisher_spec.specs.declared.response.Response.{Response}
 use Rattle.publisher_spec.specs.declared.response.Response.TheVariants as responses
 

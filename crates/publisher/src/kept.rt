@@ -1,7 +1,7 @@
 //! What the types of values say of them. A call reads the parts of what it borrows, and does nothing else.
 
 ghost use Rattle.lc_model.specs.Run.{InKeyOrder};
-ghost use Rattle.publisher_spec.specs.Below.PageJson.Valid.{IsValidDoc};
+ghost use Rattle.page_json.specs.Valid.{IsValidDoc};
 
 use lc_model::{Runs, StopsDoc};
 

@@ -2,7 +2,6 @@
 //! replies. It builds on `version_store`, on `fragmenter`, on the definitions of `publisher_spec`, and on `lru` of the kit.
 #![tactic(auto)]
 
-pub mod below;
 mod cut_cache;
 mod kept;
 mod laws;

@@ -1,5 +1,5 @@
+use connection_uri::Base;
 use lc_model::{NoMemory, PlainData};
-use publisher_spec::below::Base;
 use std::alloc::Global;
 
 /// How a publisher publishes: under which base, and whether it takes messages.

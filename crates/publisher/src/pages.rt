@@ -1,7 +1,7 @@
 ghost use Rattle.std.specs.Prelude.{◌≡◌, IfOk, IfSome, option_map};
 ghost use Rattle.publisher_spec.specs.PageAt.{named as named_there};
 ghost use Rattle.std.specs.List.{Contains};
-ghost use Rattle.publisher_spec.specs.Below.PageJson.Valid.{IsValidPage};
+ghost use Rattle.page_json.specs.Valid.{IsValidPage};
 ghost use Rattle.publisher.specs.Cuts.{HasCuts};
 ghost use Rattle.publisher.specs.Held.{side_of};
 ghost use Rattle.publisher.specs.PlaceOf.{IsPlaceOf};
@@ -12,7 +12,7 @@ use crate::Publisher;
 use crate::place::{Place, place_of};
 use fragmenter::Fragmenter;
 use lc_model::{Moment, NoMemory, PageName};
-use publisher_spec::below::Page;
+use page_json::Page;
 use std::alloc::Global;
 
 /// The page of a version that begins there, if a departure is named.

@@ -1,14 +1,15 @@
 ghost use Rattle.std.specs.Prelude.{◌≡◌, IfSome, find};
 ghost use Rattle.std.specs.Option.{option_copied};
 ghost use Rattle.std.specs.Str.{str_eq_ignore_ascii_case};
-ghost use Rattle.publisher_spec.specs.Below.HttpText.declared.field.Field.{Field as FieldSaid};
-ghost use Rattle.publisher_spec.specs.Below.HttpText.declared.member.Member.{Member as MemberSaid};
+ghost use Rattle.http_text.specs.declared.field.Field.{Field as FieldSaid};
+ghost use Rattle.http_text.specs.declared.member.Member.{Member as MemberSaid};
 ghost use Rattle.publisher_spec.specs.Asked.{field_value, is_same, member_value};
 ghost use Rattle.publisher_spec.specs.Response.{IsDeparture, IsVersion, says_length};
 
 use crate::place::first_moment;
+use http_text::{Field, Member, Request};
 use lc_model::Moment;
-use publisher_spec::below::{Field, Member, Request, read_iso};
+use lc_time::read_iso;
 
 /// The moment of departure that a request says, moment 0 where it says none. None where what it says is no moment.
 pub(crate) fn departure(request: &Request) -> Option<Moment>

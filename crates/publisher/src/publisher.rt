@@ -1,17 +1,19 @@
 ghost use Rattle.std.specs.Prelude.{◌≡◌, [], All, IfOk, OnOk};
 ghost use Rattle.lc_model.specs.Call.{InSequence};
 ghost use Rattle.lc_model.specs.declared.run.Run.{Run as RunSaid};
-ghost use Rattle.publisher_spec.specs.Below.PageJson.Sound.{IsSoundDoc};
-ghost use Rattle.publisher_spec.specs.Below.PageJson.Tree.{stops_text_of};
+ghost use Rattle.page_json.specs.Sound.{IsSoundDoc};
+ghost use Rattle.page_json.specs.Tree.{stops_text_of};
 ghost use Rattle.publisher.specs.Held.{side_of};
 ghost use Rattle.publisher_spec.specs.Side.{IsValidSide, newest_of};
 
 use crate::Options;
 use crate::cut_cache::CutCache;
 use crate::kept::{doc_is_valid, runs_are_in_order};
+use connection_uri::Base;
 use fragmenter::Fragmenter;
 use lc_model::{Moment, NoMemory, PlainData, Runs, StopsDoc};
-use publisher_spec::below::{Base, Zone, stops_text};
+use lc_time::Zone;
+use page_json::stops_text;
 use std::alloc::Global;
 use std::marker::Model;
 use version_store::Store;

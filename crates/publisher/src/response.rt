@@ -1,22 +1,23 @@
 ghost use Rattle.std.specs.Prelude.{◌≡◌, IfOk, OnOk};
-ghost use Rattle.publisher_spec.specs.Below.ConnectionUri.Base.{BaseParts};
-ghost use Rattle.publisher_spec.specs.Below.HttpText.ReplyText.{reply_text_of};
+ghost use Rattle.connection_uri.specs.Base.{BaseParts};
+ghost use Rattle.http_text.specs.ReplyText.{reply_text_of};
 ghost use Rattle.lc_model.specs.declared.doc.StopsDoc.{StopsDoc as Doc};
-ghost use Rattle.publisher_spec.specs.Below.PageJson.Tree.{stops_text_of};
+ghost use Rattle.page_json.specs.Tree.{stops_text_of};
 ghost use Rattle.publisher.specs.Held.{side_of};
-ghost use Rattle.publisher_spec.specs.Below.PageJson.Sound.{IsSoundPage};
-ghost use Rattle.publisher_spec.specs.Below.PageJson.Valid.{IsValidPage};
+ghost use Rattle.page_json.specs.Sound.{IsSoundPage};
+ghost use Rattle.page_json.specs.Valid.{IsValidPage};
 ghost use Rattle.publisher.specs.Writable.{IsSoundResponse, IsWritable};
 ghost use Rattle.publisher_spec.specs.Reply.{bare_parts, found_parts, method_parts, page_parts, parts_of, sent_parts, stops_parts, text_said};
 
 use crate::Publisher;
 use crate::router::is_head;
+use connection_uri::{Base, page_url};
 use fragmenter::Fragmenter;
+use http_text::{Allow, BodyKind, ReplyParts, Request, reply_text};
 use lc_model::{Bytes, Moment, NoMemory, PageName};
+use memento::gate_url;
+use page_json::{Page, page_text};
 use publisher_spec::Response;
-use publisher_spec::below::{
-    Allow, Base, BodyKind, Page, ReplyParts, Request, gate_url, page_text, page_url, reply_text,
-};
 use std::alloc::Global;
 
 /// A status and nothing else.

@@ -1,5 +1,5 @@
 ghost use Rattle.std.specs.Prelude.{◌≡◌, ◌≤◌, ℕ, List, IfOk, IfSome, OnErr, OnOk, drop, length, true};
-ghost use Rattle.publisher_spec.specs.Below.HttpText.Request.{IsWhole, IsWholeRequest};
+ghost use Rattle.http_text.specs.Request.{IsWhole, IsWholeRequest};
 ghost use Rattle.publisher.specs.Held.{side_of};
 ghost use Rattle.publisher.specs.Writable.{IsSoundResponse, IsWritable};
 ghost use Rattle.publisher_spec.specs.Asked.{asked_by_posting, asked_by_reading, asked_of, is_head, is_reading, is_under};
@@ -11,9 +11,11 @@ ghost use Rattle.publisher_spec.specs.declared.asked.Asked.TheVariants.{Gate as 
 
 use crate::Publisher;
 use crate::parameters::{departure, field_value, is_same, version_said};
+use connection_uri::{Base, behind};
 use fragmenter::Fragmenter;
+use http_text::{Allow, Request, read_request};
 use lc_model::{Moment, NoMemory, PageName};
-use publisher_spec::below::{Allow, Base, Request, behind, negotiate, read_request};
+use memento::negotiate;
 use publisher_spec::{Asked, Response};
 use std::alloc::Global;
 

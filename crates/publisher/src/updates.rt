@@ -1,6 +1,6 @@
 ghost use Rattle.std.specs.Prelude.{◌≡◌, ◌⊎◌, IfErr, IfOk, IfSome, IsOk, OnErr};
-ghost use Rattle.publisher_spec.specs.Below.HttpText.ReplyText.{HasReason};
-ghost use Rattle.version_store.specs.Below.LcVersions.declared.update.Update.{Update as Said};
+ghost use Rattle.http_text.specs.ReplyText.{HasReason};
+ghost use Rattle.lc_versions.specs.declared.update.Update.{Update as Said};
 ghost use Rattle.publisher.specs.Held.{side_of};
 ghost use Rattle.publisher.specs.Updated.{IsRefusal, IsUpdated, status_of_fault};
 ghost use Rattle.version_store.specs.Admission.{Admits, IsRefused, IsTaken};
@@ -10,9 +10,9 @@ ghost use Rattle.version_store.specs.declared.admission.AdmitFault.TheVariants.{
 use crate::Publisher;
 use crate::parameters::says_length;
 use fragmenter::Fragmenter;
+use http_text::Request;
 use lc_model::NoMemory;
 use publisher_spec::Response;
-use publisher_spec::below::Request;
 use std::alloc::Global;
 use version_store::{AdmitFault, Admitted};
 

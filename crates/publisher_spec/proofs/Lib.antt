@@ -1,5 +1,4 @@
 pub mod AskedLemmas
-pub mod BelowLemmas
 pub mod LaterLemmas
 pub mod NearLemmas
 pub mod NearReplyLemmas

@@ -2,7 +2,7 @@
 use Rattle.std.specs.Prelude.{ℕ, Bool, ◌||◌, ◌&&◌, List, ◌++◌, codes, Option, option_map, find, if◌then◌else◌}
 use Rattle.std.specs.Str.{str_eq_ignore_ascii_case}
 use Rattle.lc_model.specs.Change.{is_same_id}
-use Rattle.memento.specs.Below.ConnectionUri.Base.{BaseParts}
+use Rattle.connection_uri.specs.Base.{BaseParts}
 use Rattle.http_text.specs.declared.field.Field.{Field}
 use Rattle.http_text.specs.declared.member.Member.{Member}
 use Rattle.http_text.specs.declared.reply_parts.Allow.TheVariants.{Posting, Reading}

@@ -1,5 +1,4 @@
 pub mod Asked
-pub mod Below
 pub mod Laws
 pub mod Near
 pub mod PageAt

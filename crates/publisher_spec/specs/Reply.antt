@@ -2,9 +2,9 @@
 use Rattle.std.specs.Prelude.{◌≡◌, ℕ, ◌==◌, Bool, List, [], length, drop, Option, Some, None, if◌then◌else◌}
 use Rattle.lc_model.specs.declared.doc.StopsDoc.{StopsDoc}
 use Rattle.lc_model.specs.declared.page.PageName.{PageName}
-use Rattle.memento.specs.Below.LcVersions.declared.update.Update.{Update}
-use Rattle.memento.specs.Below.ConnectionUri.Base.{BaseParts}
-use Rattle.memento.specs.Below.ConnectionUri.Page.{gate_url_of, page_url_of}
+use Rattle.lc_versions.specs.declared.update.Update.{Update}
+use Rattle.connection_uri.specs.Base.{BaseParts}
+use Rattle.connection_uri.specs.Page.{gate_url_of, page_url_of}
 use Rattle.http_text.specs.ReplyText.{reply_text_of}
 use Rattle.http_text.specs.Request.{IsWholeRequest}
 use Rattle.http_text.specs.declared.reply_parts.Allow.{Allow}

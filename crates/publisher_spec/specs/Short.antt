@@ -1,6 +1,6 @@
 -- Sides whose texts fit into replies: the length of a body is read in ten digits at most.
 use Rattle.std.specs.Prelude.{◌≡◌, ℕ, ◌<◌, true, length}
-use Rattle.memento.specs.Below.ConnectionUri.Base.{BaseParts}
+use Rattle.connection_uri.specs.Base.{BaseParts}
 use Rattle.page_json.specs.Tree.{page_text_of, stops_text_of}
 use Rattle.page_json.specs.declared.page.Page.{Page}
 use Rattle.publisher_spec.specs.Response.{IsPageOf}

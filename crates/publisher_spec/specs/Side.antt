@@ -11,12 +11,12 @@ use Rattle.lc_model.specs.declared.doc.StopsDoc.{StopsDoc}
 use Rattle.lc_model.specs.declared.run.Run.{Run}
 use Rattle.lc_time.specs.Zone.{date_shown}
 use Rattle.lc_time.specs.declared.zone.Zone.{Zone}
-use Rattle.memento.specs.Below.LcVersions.Cuts.{AreCuts, NeverFalls}
-use Rattle.memento.specs.Below.LcVersions.History.{Entry, IsRising, moments_of, news_at}
-use Rattle.memento.specs.Below.LcVersions.Named.{last_of}
-use Rattle.memento.specs.Below.LcVersions.Timetable.{AreLiveRuns}
-use Rattle.memento.specs.Below.LcVersions.declared.update.Update.{Update}
-use Rattle.memento.specs.Below.ConnectionUri.Base.{BaseParts, IsBase}
+use Rattle.lc_versions.specs.Cuts.{AreCuts, NeverFalls}
+use Rattle.lc_versions.specs.History.{Entry, IsRising, moments_of, news_at}
+use Rattle.lc_versions.specs.Named.{last_of}
+use Rattle.lc_versions.specs.Timetable.{AreLiveRuns}
+use Rattle.lc_versions.specs.declared.update.Update.{Update}
+use Rattle.connection_uri.specs.Base.{BaseParts, IsBase}
 use Rattle.page_json.specs.Valid.{IsValidDoc}
 
 -- What a publisher has. It has the runs of its timetable and its stops document. It has the base under which its documents are, the moment

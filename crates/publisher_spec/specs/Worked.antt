@@ -2,8 +2,8 @@
 use Rattle.std.specs.Prelude.{◌≡◌, ◌∷◌, ◌++◌, [], codes, true, false, Some, None}
 use Rattle.lc_model.specs.declared.doc.StopsDoc.{StopsDoc}
 use Rattle.lc_model.specs.declared.key.RunKey.{RunKey}
-use Rattle.memento.specs.Below.LcVersions.Worked.{at, connections_at}
-use Rattle.memento.specs.Below.ConnectionUri.Base.{BaseParts}
+use Rattle.lc_versions.specs.Worked.{at, connections_at}
+use Rattle.connection_uri.specs.Base.{BaseParts}
 use Rattle.http_text.specs.Line.{line}
 use Rattle.http_text.specs.ReplyText.{reply_text_of}
 use Rattle.http_text.specs.declared.reply_parts.Allow.TheVariants.{Posting, Reading}

@@ -3,7 +3,6 @@
 #![tactic(auto)]
 
 mod asked;
-pub mod below;
 mod laws;
 mod response;
 mod worked;

@@ -10,25 +10,25 @@ use Rattle.lc_model.specs.declared.connection.Connection.{Connection}
 use Rattle.lc_model.specs.declared.doc.StopsDoc.{StopsDoc}
 use Rattle.lc_model.specs.declared.page.PageName.{PageName}
 use Rattle.lc_model.specs.declared.query.Query.{Query}
-use Rattle.change_rounds.specs.Below.CsaScan.StandsFor.{IsBestChain}
-use Rattle.convoy.specs.Below.ConnectionUri.Base.{BaseParts}
-use Rattle.convoy.specs.Below.PageJson.declared.page.Page.{Page}
-use Rattle.convoy.specs.Below.LcWorld.Link.{LinkSeen}
-use Rattle.convoy.specs.Below.PageClient.Client.{AfterDoc, AfterPage, AfterStops, Leaves, StandsFor, shown}
-use Rattle.convoy.specs.Below.PageClient.Course.{Follows}
-use Rattle.convoy.specs.Below.PageClient.Shown.{Shown, after_gate, after_stops, answered, ended, is_off, onward, want_of, wrong_gate}
-use Rattle.convoy.specs.Below.PageClient.declared.client.Client.{Client}
-use Rattle.convoy.specs.Below.PageClient.declared.fault.PeerFault.{PeerFault}
-use Rattle.convoy.specs.Below.PageClient.declared.fault.PeerFault.TheVariants.{GateWrong}
-use Rattle.convoy.specs.Below.PageClient.declared.fault.QueryFault.TheVariants.{UnknownFrom, UnknownTo}
-use Rattle.convoy.specs.Below.PageClient.declared.outcome.Outcome.{Outcome}
-use Rattle.convoy.specs.Below.PageClient.declared.outcome.Outcome.TheVariants.{LinkFault, PeerWrong, Refused}
-use Rattle.convoy.specs.Below.PageClient.declared.phase.Phase.{Phase}
-use Rattle.convoy.specs.Below.PageClient.declared.phase.Phase.TheVariants as phases
-use Rattle.convoy.specs.Below.PageClient.declared.step.Step.{Step}
-use Rattle.convoy.specs.Below.PageClient.declared.step.Step.TheVariants.{Last, Next}
-use Rattle.convoy.specs.Below.PageClient.declared.want.Want.TheVariants as wants
-use Rattle.convoy.proofs.BelowLemmas.PageClient.PageLemmas.{behind_taken, waits_for}
+use Rattle.csa_scan.specs.StandsFor.{IsBestChain}
+use Rattle.connection_uri.specs.Base.{BaseParts}
+use Rattle.page_json.specs.declared.page.Page.{Page}
+use Rattle.lc_world.specs.Link.{LinkSeen}
+use Rattle.page_client.specs.Client.{AfterDoc, AfterPage, AfterStops, Leaves, StandsFor, shown}
+use Rattle.page_client.specs.Course.{Follows}
+use Rattle.page_client.specs.Shown.{Shown, after_gate, after_stops, answered, ended, is_off, onward, want_of, wrong_gate}
+use Rattle.page_client.specs.declared.client.Client.{Client}
+use Rattle.page_client.specs.declared.fault.PeerFault.{PeerFault}
+use Rattle.page_client.specs.declared.fault.PeerFault.TheVariants.{GateWrong}
+use Rattle.page_client.specs.declared.fault.QueryFault.TheVariants.{UnknownFrom, UnknownTo}
+use Rattle.page_client.specs.declared.outcome.Outcome.{Outcome}
+use Rattle.page_client.specs.declared.outcome.Outcome.TheVariants.{LinkFault, PeerWrong, Refused}
+use Rattle.page_client.specs.declared.phase.Phase.{Phase}
+use Rattle.page_client.specs.declared.phase.Phase.TheVariants as phases
+use Rattle.page_client.specs.declared.step.Step.{Step}
+use Rattle.page_client.specs.declared.step.Step.TheVariants.{Last, Next}
+use Rattle.page_client.specs.declared.want.Want.TheVariants as wants
+use Rattle.page_client.proofs.PageLemmas.{behind_taken, waits_for}
 use Rattle.convoy.specs.Exchange.{Got}
 use Rattle.convoy.specs.Steps.{Takes, TakesGate}
 use Rattle.rounds_client.specs.Course.{HasRead, IsReading, IsUnread, LeadsTo, Point, Reads, ReadsAt}
@@ -78,7 +78,7 @@ doc_reads old new given now doc (inr (inl (from, no_to, is))) keeps same unread 
 doc_reads old new given now doc (inr (inr (from, to, is, stands))) keeps same unread =
     let query : new.query ≡ old.query = ap (λ (s : Shown). s.query) is in
     let none : now.pages ≡ [] = same ∙ unread.pages in
-    let H : Query → Type 0 = λ q. Rattle.convoy.specs.Below.PageClient.Shown.HasHorizon q in
+    let H : Query → Type 0 = λ q. Rattle.page_client.specs.Shown.HasHorizon q in
     let F : Query → Type 0 = λ q. HasStop doc.stops q.from in
     let T : Query → Type 0 = λ q. HasStop doc.stops q.to in
     let S : List Page → Type 0 = λ pages. StandsFor new doc (connections_of_pages pages) in
@@ -119,7 +119,7 @@ step_reads : (old new : Client) (given now : Was) (page : Page) (reading : IsRea
     (step : Step) → Follows old.query reading.doc (connections_of_pages given.pages ++ page.list) page step → Leaves (shown old) reading.doc (connections_of_pages given.pages ++ page.list) step new → Reads new now
 step_reads old new given now page reading same_doc pages in_order (Next next) follows (is, stands) =
     let query : new.query ≡ old.query = ap (λ (s : Shown). s.query) is in
-    let H : Query → Type 0 = λ q. Rattle.convoy.specs.Below.PageClient.Shown.HasHorizon q in
+    let H : Query → Type 0 = λ q. Rattle.page_client.specs.Shown.HasHorizon q in
     let F : Query → Type 0 = λ q. HasStop reading.doc.stops q.from in
     let T : Query → Type 0 = λ q. HasStop reading.doc.stops q.to in
     let S : List Connection → Type 0 = λ l. StandsFor new reading.doc l in

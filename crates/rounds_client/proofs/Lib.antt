@@ -1,4 +1,3 @@
-pub mod BelowLemmas
 pub mod CourseLemmas
 mod MomentLemmas
 pub mod StartLemmas

@@ -7,7 +7,7 @@ use Rattle.lc_model.specs.declared.journey.Journey.{Journey}
 use Rattle.lc_model.specs.declared.moment.TheConstants.{MOMENTS_END}
 use Rattle.lc_model.specs.declared.query.Query.{Query}
 use Rattle.lc_model.specs.declared.query.TheConstants.{LAST_LEAVE}
-use Rattle.convoy.specs.Below.PageClient.Shown.{HasHorizon}
+use Rattle.page_client.specs.Shown.{HasHorizon}
 use Rattle.change_rounds.specs.Fewest.{IsFewestChain}
 
 -- within a week of any moment of leaving there are only moments

@@ -1,13 +1,13 @@
 -- What a client has read where it begins, and where it ends.
 use Rattle.std.proofs.Common.{◌≡◌, [], Option, Some, None, sym, subst}
 use Rattle.lc_model.specs.declared.query.Query.{Query}
-use Rattle.convoy.specs.Below.PageClient.Client.{shown}
-use Rattle.convoy.specs.Below.PageClient.Shown.{Begins, IsRefusal, Shown, StaysOrEnds, first_outcome, first_phase}
-use Rattle.convoy.specs.Below.PageClient.declared.client.Client.{Client}
-use Rattle.convoy.specs.Below.PageClient.declared.fault.QueryFault.{QueryFault}
-use Rattle.convoy.specs.Below.PageClient.declared.outcome.Outcome.{Outcome}
-use Rattle.convoy.specs.Below.PageClient.declared.phase.Phase.{Phase}
-use Rattle.convoy.specs.Below.PageClient.declared.phase.Phase.TheVariants as phases
+use Rattle.page_client.specs.Client.{shown}
+use Rattle.page_client.specs.Shown.{Begins, IsRefusal, Shown, StaysOrEnds, first_outcome, first_phase}
+use Rattle.page_client.specs.declared.client.Client.{Client}
+use Rattle.page_client.specs.declared.fault.QueryFault.{QueryFault}
+use Rattle.page_client.specs.declared.outcome.Outcome.{Outcome}
+use Rattle.page_client.specs.declared.phase.Phase.{Phase}
+use Rattle.page_client.specs.declared.phase.Phase.TheVariants as phases
 use Rattle.convoy.specs.Steps.{IsDecided}
 use Rattle.rounds_client.specs.Course.{HasRead, Reads, ReadsAt}
 use Rattle.rounds_client.specs.Given.{Was}

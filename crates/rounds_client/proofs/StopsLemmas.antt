@@ -3,10 +3,10 @@ use Rattle.std.proofs.Common.{◌≡◌, ℕ, List, [], Option, Some, None, Resu
 use Rattle.std.specs.Option.{option_copied}
 use Rattle.lc_model.specs.declared.connection.Connection.{Connection}
 use Rattle.lc_model.specs.declared.doc.StopsDoc.{StopsDoc}
-use Rattle.convoy.specs.Below.PageClient.Client.{AfterStops, StandsFor, shown}
-use Rattle.convoy.specs.Below.PageClient.Stops.{IsStopsReply}
-use Rattle.convoy.specs.Below.PageClient.declared.client.Client.{Client}
-use Rattle.convoy.specs.Below.PageClient.declared.fault.PeerFault.{PeerFault}
+use Rattle.page_client.specs.Client.{AfterStops, StandsFor, shown}
+use Rattle.page_client.specs.Stops.{IsStopsReply}
+use Rattle.page_client.specs.declared.client.Client.{Client}
+use Rattle.page_client.specs.declared.fault.PeerFault.{PeerFault}
 use Rattle.rounds_client.specs.Given.{KeepsDoc, TakesDoc, Was}
 
 -- where the document has both ends of the question, the client stands for it, and it is kept

@@ -5,16 +5,16 @@ use Rattle.lc_model.specs.Stop.{HasStop}
 use Rattle.lc_model.specs.declared.doc.StopsDoc.{StopsDoc}
 use Rattle.lc_model.specs.declared.journey.Journey.{Journey}
 use Rattle.lc_model.specs.declared.query.Query.{Query}
-use Rattle.change_rounds.specs.Below.CsaScan.StandsFor.{IsBestChain}
-use Rattle.convoy.specs.Below.ConnectionUri.Base.{BaseParts}
-use Rattle.convoy.specs.Below.LcWorld.Link.{LinkSeen}
-use Rattle.convoy.specs.Below.PageClient.Client.{StandsFor, shown}
-use Rattle.convoy.specs.Below.PageClient.Shown.{HasHorizon}
-use Rattle.convoy.specs.Below.PageClient.declared.client.Client.{Client}
-use Rattle.convoy.specs.Below.PageClient.declared.outcome.Outcome.{Outcome}
-use Rattle.convoy.specs.Below.PageClient.declared.outcome.Outcome.TheVariants as outcomes
-use Rattle.convoy.specs.Below.PageClient.declared.phase.Phase.{Phase}
-use Rattle.convoy.specs.Below.PageClient.declared.phase.Phase.TheVariants as phases
+use Rattle.csa_scan.specs.StandsFor.{IsBestChain}
+use Rattle.connection_uri.specs.Base.{BaseParts}
+use Rattle.lc_world.specs.Link.{LinkSeen}
+use Rattle.page_client.specs.Client.{StandsFor, shown}
+use Rattle.page_client.specs.Shown.{HasHorizon}
+use Rattle.page_client.specs.declared.client.Client.{Client}
+use Rattle.page_client.specs.declared.outcome.Outcome.{Outcome}
+use Rattle.page_client.specs.declared.outcome.Outcome.TheVariants as outcomes
+use Rattle.page_client.specs.declared.phase.Phase.{Phase}
+use Rattle.page_client.specs.declared.phase.Phase.TheVariants as phases
 use Rattle.change_rounds.specs.Fewest.{IsFewestChain}
 use Rattle.rounds_client.specs.Given.{Gives, Was, connections_of_pages}
 

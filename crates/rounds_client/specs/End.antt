@@ -3,13 +3,13 @@ use Rattle.std.specs.Prelude.{◌≡◌, ◌<◌, ℕ, List, [], Some, None, len
 use Rattle.lc_model.specs.Journey.{arrives_at}
 use Rattle.lc_model.specs.declared.moment.TheConstants.{MOMENTS_END}
 use Rattle.lc_model.specs.declared.query.Query.{Query}
-use Rattle.convoy.specs.Below.ConnectionUri.Base.{BaseParts}
-use Rattle.convoy.specs.Below.LcWorld.Link.{LinkSeen}
-use Rattle.convoy.specs.Below.PageClient.Client.{shown}
-use Rattle.convoy.specs.Below.PageClient.Shown.{Begins}
-use Rattle.convoy.specs.Below.PageClient.declared.client.Client.{Client}
-use Rattle.convoy.specs.Below.PageClient.declared.outcome.Outcome.{Outcome}
-use Rattle.convoy.specs.Below.PageClient.declared.outcome.Outcome.TheVariants as outcomes
+use Rattle.connection_uri.specs.Base.{BaseParts}
+use Rattle.lc_world.specs.Link.{LinkSeen}
+use Rattle.page_client.specs.Client.{shown}
+use Rattle.page_client.specs.Shown.{Begins}
+use Rattle.page_client.specs.declared.client.Client.{Client}
+use Rattle.page_client.specs.declared.outcome.Outcome.{Outcome}
+use Rattle.page_client.specs.declared.outcome.Outcome.TheVariants as outcomes
 use Rattle.rounds_client.specs.Course.{AnswersFewest, LeadsTo, Point}
 use Rattle.rounds_client.specs.Given.{Was}
 use Rattle.rounds_client.specs.declared.ending.FewestEnd.{FewestEnd}

@@ -6,18 +6,18 @@ use Rattle.lc_model.specs.declared.connection.Connection.{Connection}
 use Rattle.lc_model.specs.declared.doc.StopsDoc.{StopsDoc}
 use Rattle.lc_model.specs.declared.page.PageName.{PageName}
 use Rattle.lc_model.specs.declared.query.Query.{Query}
-use Rattle.convoy.specs.Below.ConnectionUri.Base.{BaseParts}
-use Rattle.convoy.specs.Below.PageJson.Valid.{IsValidPage}
-use Rattle.convoy.specs.Below.PageJson.declared.page.Page.{Page}
-use Rattle.convoy.specs.Below.LcWorld.Link.{LinkSeen}
-use Rattle.convoy.specs.Below.PageClient.Client.{AfterStops, TakesPage, shown}
-use Rattle.convoy.specs.Below.PageClient.Page.{IsPageReply, advances}
-use Rattle.convoy.specs.Below.PageClient.Shown.{ended, want_of}
-use Rattle.convoy.specs.Below.PageClient.Stops.{IsStopsReply}
-use Rattle.convoy.specs.Below.PageClient.declared.client.Client.{Client}
-use Rattle.convoy.specs.Below.PageClient.declared.fault.PeerFault.{PeerFault}
-use Rattle.convoy.specs.Below.PageClient.declared.outcome.Outcome.TheVariants.{LinkFault, PeerWrong}
-use Rattle.convoy.specs.Below.PageClient.declared.want.Want.TheVariants as wants
+use Rattle.connection_uri.specs.Base.{BaseParts}
+use Rattle.page_json.specs.Valid.{IsValidPage}
+use Rattle.page_json.specs.declared.page.Page.{Page}
+use Rattle.lc_world.specs.Link.{LinkSeen}
+use Rattle.page_client.specs.Client.{AfterStops, TakesPage, shown}
+use Rattle.page_client.specs.Page.{IsPageReply, advances}
+use Rattle.page_client.specs.Shown.{ended, want_of}
+use Rattle.page_client.specs.Stops.{IsStopsReply}
+use Rattle.page_client.specs.declared.client.Client.{Client}
+use Rattle.page_client.specs.declared.fault.PeerFault.{PeerFault}
+use Rattle.page_client.specs.declared.outcome.Outcome.TheVariants.{LinkFault, PeerWrong}
+use Rattle.page_client.specs.declared.want.Want.TheVariants as wants
 use Rattle.convoy.specs.Exchange.{Got, IsExchange}
 use Rattle.convoy.specs.Steps.{AsksGate}
 use Rattle.rounds_client.specs.declared.given.Given.{Given}

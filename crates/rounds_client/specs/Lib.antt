@@ -1,4 +1,3 @@
-pub mod Below
 pub mod Course
 pub mod End
 pub mod Given

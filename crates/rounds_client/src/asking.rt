@@ -1,19 +1,22 @@
 ghost use Rattle.std.specs.Prelude.{◌≡◌, ◌≢◌, ◌<◌, ◌∷◌, ◌++◌, [], List, true, Some, OnOk};
 ghost use Rattle.lc_model.specs.declared.connection.Connection.{Connection as Listed};
 ghost use Rattle.lc_model.specs.declared.doc.StopsDoc.{StopsDoc as Document};
-ghost use Rattle.convoy.specs.Below.LcWorld.GoneOn.{IsLeftByGets};
-ghost use Rattle.convoy.specs.Below.PageJson.Valid.{IsValidPage};
-ghost use Rattle.convoy.specs.Below.PageClient.Client.{StandsFor, TakesPage, shown};
-ghost use Rattle.convoy.specs.Below.PageClient.Page.{advances};
-ghost use Rattle.convoy.specs.Below.PageClient.Shown.{exchanges_left, want_of};
-ghost use Rattle.convoy.specs.Below.PageClient.declared.want.Want.TheVariants as wants;
+ghost use Rattle.lc_world.specs.GoneOn.{IsLeftByGets};
+ghost use Rattle.page_json.specs.Valid.{IsValidPage};
+ghost use Rattle.page_client.specs.Client.{StandsFor, TakesPage, shown};
+ghost use Rattle.page_client.specs.Page.{advances};
+ghost use Rattle.page_client.specs.Shown.{exchanges_left, want_of};
+ghost use Rattle.page_client.specs.declared.want.Want.TheVariants as wants;
 ghost use Rattle.convoy.specs.Steps.{AsksGate, GoesDown, IsDecided};
 ghost use Rattle.rounds_client.specs.Given.{Gives, GivesPage, GivesStops, ReadsReply, TakesDoc, was_given};
 
 use crate::given::Given;
-use convoy::below::{Base, Client, Link, Page, Want, page_of};
+use connection_uri::Base;
 use convoy::exchanged;
 use lc_model::{NoMemory, PageName, PlainData};
+use lc_world::Link;
+use page_client::{Client, Want, page_of};
+use page_json::Page;
 use std::alloc::Global;
 
 /// The client asks for what it wants, once. What it is given is kept.

@@ -1,9 +1,9 @@
 ghost use Rattle.std.specs.Prelude.{◌≡◌, ◌<◌, ◌^◌, ◌++◌, IfOk, OnOk, Some};
 ghost use Rattle.lc_model.specs.Connection.{NoneArrivesEarly};
-ghost use Rattle.convoy.specs.Below.LcWorld.GoneOn.{IsLeftByGets};
-ghost use Rattle.convoy.specs.Below.PageClient.Client.{shown};
-ghost use Rattle.convoy.specs.Below.PageClient.Shown.{exchanges_left};
-ghost use Rattle.convoy.specs.Below.PageClient.declared.outcome.Outcome.TheVariants as outcomes;
+ghost use Rattle.lc_world.specs.GoneOn.{IsLeftByGets};
+ghost use Rattle.page_client.specs.Client.{shown};
+ghost use Rattle.page_client.specs.Shown.{exchanges_left};
+ghost use Rattle.page_client.specs.declared.outcome.Outcome.TheVariants as outcomes;
 ghost use Rattle.convoy.specs.Steps.{IsDecided};
 ghost use Rattle.rounds_client.specs.Course.{AnswersFewest, HasEnded, HasFound, HasRead, Reads};
 ghost use Rattle.rounds_client.specs.End.{ArrivesAtAMoment, EndsFrom, EndsSo, IsEndOf};
@@ -12,8 +12,11 @@ ghost use Rattle.rounds_client.specs.Given.{connections_of_pages, was_given};
 use crate::asking::ask;
 use crate::given::Given;
 use change_rounds::fewest_of;
-use convoy::below::{Base, Client, Link, Outcome, Page};
+use connection_uri::Base;
 use lc_model::{Connection, Connections, Journey, Moment, NoMemory, PlainData, Query};
+use lc_world::Link;
+use page_client::{Client, Outcome};
+use page_json::Page;
 use std::alloc::Global;
 
 /// How a client of the fewest rides ended.

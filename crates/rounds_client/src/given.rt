@@ -1,5 +1,5 @@
-use convoy::below::Page;
 use lc_model::StopsDoc;
+use page_json::Page;
 
 /// What a client was given: the stops document, once it took that, and the pages that it took, one after the other.
 #[derive(Drop)]

@@ -3,7 +3,6 @@
 #![tactic(auto)]
 
 mod asking;
-pub mod below;
 mod ending;
 mod given;
 

@@ -1,7 +1,8 @@
 //! Doors and links that fail.
 use crate::links::{authority_of, put_faults};
 use lc_edge::{TcpDoor, TcpLink};
-use lc_world::{Door, Link, LinkFail};
+use lc_io::Door;
+use lc_world::{Link, LinkFail};
 use rows_common::Draft;
 use std::alloc::Global;
 

@@ -2,7 +2,7 @@
 ghost use Rattle.std.specs.Prelude.{◌≡◌, ◌≤◌, IfSome, IsTrue};
 
 use lc_edge::TcpDoor;
-use lc_world::{Door, EchoTalk, Next, Served, serve_one};
+use lc_io::{Door, EchoTalk, Next, Served, serve_one};
 use rows_common::Unmade;
 use std::process;
 

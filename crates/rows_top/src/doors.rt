@@ -1,6 +1,6 @@
 //! Doors in memory to which the connections of a case come, a line for each of them.
 use crate::messages::MESSAGES;
-use lc_cli::below::{MemDoor, Pieces, SureDoor};
+use lc_io::{MemDoor, Pieces, SureDoor};
 use lc_model::Bytes;
 use rows_common::Unmade;
 use std::alloc::Global;

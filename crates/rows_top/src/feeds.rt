@@ -2,7 +2,7 @@
 use crate::links::reply_at;
 use crate::playing::put_each;
 use crate::running::{A_TO_D, Case, over_tiny, put_line, put_run, run_list};
-use lc_cli::below::ListLink;
+use lc_world::ListLink;
 use rows_common::{Draft, Unmade};
 use std::alloc::Global;
 use tiny_feed::{STOPS, TINY};

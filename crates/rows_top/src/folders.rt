@@ -1,7 +1,7 @@
 //! The directories that cases run over.
 use crate::messages::MESSAGES;
 use crate::running::Case;
-use lc_cli::below::{File, MemFolder};
+use lc_io::{File, MemFolder};
 use lc_model::{Bytes, Text};
 use rows_common::Unmade;
 use std::alloc::Global;

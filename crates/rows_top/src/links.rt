@@ -1,6 +1,6 @@
 //! Links that give other replies than the publisher's: those of another one, and no page.
 use crate::running::{A_TO_D, Case, over_tiny, put_line, put_list, run_list, text_of};
-use lc_cli::below::{ListLink, RecordedReply};
+use lc_world::{ListLink, RecordedReply};
 use rows_common::{Draft, Unmade};
 use std::alloc::Global;
 use tiny_feed::{CALENDAR_DATES, STOPS};

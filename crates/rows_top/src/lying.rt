@@ -2,7 +2,7 @@
 use crate::links::reply_at;
 use crate::planning::{ASK, put_planned};
 use crate::running::{A_TO_D, over_tiny, put_line, put_list, run_list};
-use lc_cli::below::ListLink;
+use lc_world::ListLink;
 use rows_common::{Draft, Unmade};
 use std::alloc::Global;
 

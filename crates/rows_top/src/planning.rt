@@ -1,16 +1,18 @@
 //! Clients that ask a publisher of Tiny over the link handed in, of which an exchange fails or none.
-ghost use Rattle.lc_cli.specs.Below.Timetable.Scope.{IsWindow};
+ghost use Rattle.timetable.specs.Scope.{IsWindow};
 
 use crate::folders::folder_of;
 use crate::running::{
     Fails, NONE, Stage, over_tiny, put_failing, put_line, put_linked, put_list, stage_of, words_of,
 };
-use lc_cli::below::{
-    Command, Cutting, FaultyLink, LocalLink, Publisher, Replay, Scope, Timetable, load,
-    publisher_of, read_words,
-};
+use cli_ask::publisher_of;
+use cli_words::{Command, Replay, read_words};
+use fragmenter::Cutting;
+use lc_links::{FaultyLink, LocalLink};
+use publisher::Publisher;
 use rows_common::{Draft, Unmade};
 use std::alloc::Global;
+use timetable::{Scope, Timetable, load};
 
 pub const PLAN: &str = "plan http://lc.example/ a.csv";
 

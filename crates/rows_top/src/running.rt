@@ -1,8 +1,10 @@
 //! How a case is run, and what is printed of it.
 use crate::folders::folder_of;
-use lc_cli::below::{ClosedLink, Door, FaultyLink, Link, ListLink, MemFolder, MemSink, SureDoor};
 use lc_cli::{Status, code, run};
+use lc_io::{Door, MemFolder, MemSink, SureDoor};
+use lc_links::{ClosedLink, FaultyLink};
 use lc_model::Bytes;
+use lc_world::{Link, ListLink};
 use rows_common::{Draft, Unmade};
 use std::alloc::Global;
 use tiny_feed::TINY;

@@ -1,7 +1,8 @@
 //! A server of Tiny: what it prints, and what it sends on each connection.
 use crate::doors::{WHOLE, mem_door, sure_door};
 use crate::running::{Fails, NONE, Stage, over_tiny, put_line, put_over, stage_of};
-use lc_cli::below::{ClosedLink, MemDoor, SureDoor};
+use lc_io::{MemDoor, SureDoor};
+use lc_links::ClosedLink;
 use rows_common::{Draft, Unmade};
 use std::alloc::Global;
 

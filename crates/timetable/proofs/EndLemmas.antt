@@ -2,7 +2,7 @@
 use Rattle.std.proofs.Common.{◌≡◌, ◌∙◌, inl, inr, ℕ, ◌≤◌, Result, Ok, Err, IfErr, IfOk, arith, refl, subst, sym}
 use Rattle.lc_io.specs.Counts.{Rose}
 use Rattle.lc_io.specs.Folder.{FolderSeen}
-use Rattle.trip_calls.specs.Below.LcTime.declared.zone.Zone.{Zone}
+use Rattle.lc_time.specs.declared.zone.Zone.{Zone}
 use Rattle.gtfs_tables.specs.Reading.{EndsSo, Keeps}
 use Rattle.gtfs_tables.specs.declared.fault.FeedFault.{FeedFault}
 use Rattle.gtfs_tables.specs.declared.fault.FeedFault.TheVariants as feed

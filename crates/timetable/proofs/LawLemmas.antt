@@ -6,17 +6,17 @@ use Rattle.lc_io.specs.declared.file.File.{File}
 use Rattle.lc_model.specs.Connection.{connections_of}
 use Rattle.lc_model.specs.declared.run.Run.{Run}
 use Rattle.lc_model.proofs.OneValueLemmas.{documents_are_one}
-use Rattle.trip_calls.specs.Below.LcTime.declared.zone.Zone.{Zone}
+use Rattle.lc_time.specs.declared.zone.Zone.{Zone}
 use Rattle.change_table.specs.ChangeTable.{OneListOfChanges}
-use Rattle.trip_calls.specs.Below.ServiceDays.Laws.{OneListOfDays, OneZone, ShowSame}
-use Rattle.trip_calls.specs.Below.ServiceDays.ZoneWord.{IsWrong, SaysZone, file_named}
-use Rattle.trip_calls.specs.Below.ServiceDays.declared.service_day.ServiceDay.{ServiceDay}
-use Rattle.trip_calls.specs.Below.GtfsFields.declared.trip_rows.TripRow.{TripRow}
-use Rattle.trip_calls.specs.Below.GtfsTrips.declared.stop_times.StopTime.{StopTime}
-use Rattle.trip_calls.specs.Below.GtfsCalendars.declared.frequency.Frequency.{Frequency}
+use Rattle.service_days.specs.Laws.{OneListOfDays, OneZone, ShowSame}
+use Rattle.service_days.specs.ZoneWord.{IsWrong, SaysZone, file_named}
+use Rattle.service_days.specs.declared.service_day.ServiceDay.{ServiceDay}
+use Rattle.gtfs_fields.specs.declared.trip_rows.TripRow.{TripRow}
+use Rattle.gtfs_trips.specs.declared.stop_times.StopTime.{StopTime}
+use Rattle.gtfs_calendars.specs.declared.frequency.Frequency.{Frequency}
 use Rattle.gtfs_tables.specs.Feed.{AreTables, IsFirstBroken}
-use Rattle.trip_calls.specs.Below.GtfsFields.declared.fault.FileFault.{FileFault}
-use Rattle.trip_calls.specs.Below.GtfsFields.declared.fault.FileFault.TheVariants as wrong
+use Rattle.gtfs_fields.specs.declared.fault.FileFault.{FileFault}
+use Rattle.gtfs_fields.specs.declared.fault.FileFault.TheVariants as wrong
 use Rattle.gtfs_tables.specs.Files.{Found, files_of}
 use Rattle.gtfs_tables.specs.Laws.{NeverBoth, OneTables}
 use Rattle.gtfs_tables.specs.Reading.{Reads}

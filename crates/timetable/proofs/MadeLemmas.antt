@@ -16,12 +16,12 @@ use Rattle.lc_model.specs.declared.date.ServiceDate.{ServiceDate}
 use Rattle.lc_model.specs.declared.key.RunKey.{RunKey}
 use Rattle.lc_model.specs.declared.run.Run.{Run}
 use Rattle.lc_model.specs.declared.stop.Stop.{Stop}
-use Rattle.trip_calls.specs.Below.GtfsTrips.Stops.{HaveKnownParents}
-use Rattle.trip_calls.specs.Below.GtfsCalendars.declared.calendar.Weekly.{Weekly}
-use Rattle.trip_calls.specs.Below.GtfsCalendars.declared.calendar_dates.DateRow.{DateRow}
-use Rattle.trip_calls.specs.Below.GtfsCalendars.declared.transfer.Transfer.{Transfer}
-use Rattle.trip_calls.specs.Below.ServiceDays.Days.{AreDays, IsInWindow}
-use Rattle.trip_calls.specs.Below.ServiceDays.declared.service_day.ServiceDay.{ServiceDay}
+use Rattle.gtfs_trips.specs.Stops.{HaveKnownParents}
+use Rattle.gtfs_calendars.specs.declared.calendar.Weekly.{Weekly}
+use Rattle.gtfs_calendars.specs.declared.calendar_dates.DateRow.{DateRow}
+use Rattle.gtfs_calendars.specs.declared.transfer.Transfer.{Transfer}
+use Rattle.service_days.specs.Days.{AreDays, IsInWindow}
+use Rattle.service_days.specs.declared.service_day.ServiceDay.{ServiceDay}
 use Rattle.change_table.specs.ChangeRule.{change_from_to, change_of, stop_of}
 use Rattle.change_table.specs.ChangeTable.{AreChangesOf}
 use Rattle.change_table.proofs.ListLemmas.{IsKept-find}

@@ -6,10 +6,10 @@ use Rattle.std.proofs.lemmas.Slice.Eq.{bytes_eq-Decides}
 use Rattle.jiff_tz.specs.PosixReader.{read_whole}
 use Rattle.jiff_tz.specs.PosixText.{tz_view}
 use Rattle.jiff_tz.specs.TzifReader.{read_tzif}
-use Rattle.trip_calls.specs.Below.LcTime.declared.zone.Zone.{Zone}
-use Rattle.trip_calls.specs.Below.LcTime.declared.zone.Zone.TheVariants.{Utc, Posix, File}
-use Rattle.trip_calls.specs.Below.ServiceDays.ZoneWord.{IsBadFile, IsTableOf, IsWrong, SaysZone, behind, file_named, rule_named}
-use Rattle.trip_calls.proofs.BelowLemmas.ServiceDays.RuleLemmas.{good_file}
+use Rattle.lc_time.specs.declared.zone.Zone.{Zone}
+use Rattle.lc_time.specs.declared.zone.Zone.TheVariants.{Utc, Posix, File}
+use Rattle.service_days.specs.ZoneWord.{IsBadFile, IsTableOf, IsWrong, SaysZone, behind, file_named, rule_named}
+use Rattle.service_days.proofs.RuleLemmas.{good_file}
 
 -- a text with something after a front begins with it
 begins : (same : Bool) (rest : List ℕ) (text : List ℕ) → cond same (Some rest) None ≡ Some text → same ≡ true

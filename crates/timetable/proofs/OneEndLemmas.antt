@@ -4,12 +4,12 @@ use Rattle.lc_io.specs.Folder.{FolderSeen}
 use Rattle.lc_io.specs.declared.file.File.{File}
 use Rattle.lc_model.specs.Connection.{connections_of}
 use Rattle.lc_model.specs.declared.run.Run.{Run}
-use Rattle.trip_calls.specs.Below.LcTime.declared.zone.Zone.{Zone}
-use Rattle.trip_calls.specs.Below.ServiceDays.Laws.{OneListOfDays, OneZone}
-use Rattle.trip_calls.specs.Below.ServiceDays.ZoneWord.{IsWrong, SaysZone, file_named}
+use Rattle.lc_time.specs.declared.zone.Zone.{Zone}
+use Rattle.service_days.specs.Laws.{OneListOfDays, OneZone}
+use Rattle.service_days.specs.ZoneWord.{IsWrong, SaysZone, file_named}
 use Rattle.gtfs_tables.specs.Feed.{AreTables, IsFirstBroken, named_at, what_of}
-use Rattle.trip_calls.specs.Below.GtfsFields.declared.fault.FileFault.{FileFault}
-use Rattle.trip_calls.specs.Below.GtfsFields.declared.fault.FileFault.TheVariants as wrong
+use Rattle.gtfs_fields.specs.declared.fault.FileFault.{FileFault}
+use Rattle.gtfs_fields.specs.declared.fault.FileFault.TheVariants as wrong
 use Rattle.gtfs_tables.specs.Files.{Found, files_of, name_of}
 use Rattle.gtfs_tables.specs.Laws.{NeverBoth, OneFirst, OneTables}
 use Rattle.gtfs_tables.specs.declared.feed_file.FeedFile.{FeedFile}

@@ -6,7 +6,7 @@ use Rattle.std.specs.Str.{bytes_eq}
 use Rattle.std.specs.Str.Pattern.{FindsTextPrefix, StripsPrefix}
 use Rattle.std.proofs.lemmas.Slice.Eq.{bytes_eq-Decides}
 use lib.Seq.{take-append_seam}
-use Rattle.trip_calls.specs.Below.ServiceDays.ZoneWord.{behind}
+use Rattle.service_days.specs.ZoneWord.{behind}
 use denote.Ref.{Bor}
 
 parted : (same : Bool) (rest : List ℕ) → same ≡ true → Some rest ≡ cond same (Some rest) None

@@ -1,4 +1,3 @@
-pub mod Below
 pub mod Laws
 pub mod Loading
 pub mod Made

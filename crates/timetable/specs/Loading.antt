@@ -2,7 +2,7 @@
 use Rattle.std.specs.Prelude.{◌≡◌, ◌⊎◌, ℕ, List, Result, Ok, Err}
 use Rattle.lc_io.specs.Counts.{Rose}
 use Rattle.lc_io.specs.Folder.{FolderSeen}
-use Rattle.trip_calls.specs.Below.LcTime.declared.zone.Zone.{Zone}
+use Rattle.lc_time.specs.declared.zone.Zone.{Zone}
 use Rattle.gtfs_tables.specs.Files.{name_of}
 use Rattle.gtfs_tables.specs.Reading.{EndsSo}
 use Rattle.gtfs_tables.specs.declared.fault.FeedFault.{FeedFault}

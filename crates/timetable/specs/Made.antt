@@ -2,7 +2,7 @@
 use Rattle.std.specs.Prelude.{◌≡◌, ◌⊎◌, ℕ, ◌<◌, List, length}
 use Rattle.lc_model.specs.Connection.{connections_of}
 use Rattle.lc_model.specs.declared.run.Run.{Run}
-use Rattle.trip_calls.specs.Below.LcTime.declared.zone.Zone.{Zone}
+use Rattle.lc_time.specs.declared.zone.Zone.{Zone}
 use Rattle.change_table.specs.ChangeTable.{count_of_changes}
 use Rattle.gtfs_tables.specs.declared.tables.Tables.{Tables}
 use Rattle.gtfs_tables.specs.declared.what.What.{What}

@@ -2,8 +2,8 @@
 use Rattle.std.specs.Prelude.{ℕ, List, Option, option_and_then}
 use Rattle.lc_io.specs.Folder.{bytes_named}
 use Rattle.lc_io.specs.declared.file.File.{File}
-use Rattle.trip_calls.specs.Below.LcTime.declared.zone.Zone.{Zone}
-use Rattle.trip_calls.specs.Below.ServiceDays.ZoneWord.{SaysZone, file_named}
+use Rattle.lc_time.specs.declared.zone.Zone.{Zone}
+use Rattle.service_days.specs.ZoneWord.{SaysZone, file_named}
 use Rattle.gtfs_tables.specs.Feed.{AreTables}
 use Rattle.gtfs_tables.specs.Files.{files_of}
 use Rattle.gtfs_tables.specs.declared.tables.Tables.{Tables}

@@ -1,7 +1,7 @@
 -- Which windows of dates may be asked.
 use Rattle.std.specs.Prelude.{ℕ, pos, ◌+ℤ◌, ◌≤ℤ◌}
 use Rattle.lc_model.specs.declared.date.ServiceDate.{ServiceDate}
-use Rattle.trip_calls.specs.Below.ServiceDays.Days.{day_number}
+use Rattle.service_days.specs.Days.{day_number}
 
 -- The dates, so many from the first on, are of 1970-01-10 to 9999-12-15: so each time of a service day is a moment.
 pub record IsWindow (first : ServiceDate) (days : ℕ) : Type 0 where

@@ -3,11 +3,11 @@ use Rattle.std.specs.Prelude.{◌≡◌, ◌≤◌, List, length}
 use Rattle.lc_model.specs.Connection.{connections_of}
 use Rattle.lc_model.specs.declared.doc.StopsDoc.{StopsDoc}
 use Rattle.lc_model.specs.declared.run.Run.{Run}
-use Rattle.trip_calls.specs.Below.LcTime.declared.zone.Zone.{Zone}
+use Rattle.lc_time.specs.declared.zone.Zone.{Zone}
 use Rattle.change_table.specs.ChangeTable.{AreChangesOf, count_of_changes}
 use Rattle.gtfs_tables.specs.declared.tables.Tables.{Tables}
-use Rattle.trip_calls.specs.Below.ServiceDays.Days.{AreDays}
-use Rattle.trip_calls.specs.Below.ServiceDays.declared.service_day.ServiceDay.{ServiceDay}
+use Rattle.service_days.specs.Days.{AreDays}
+use Rattle.service_days.specs.declared.service_day.ServiceDay.{ServiceDay}
 use Rattle.timetable.specs.declared.scope.Scope.{Scope}
 use Rattle.timetable.specs.declared.timetable.Timetable.{Timetable}
 use Rattle.trip_calls.specs.Runs.{AreRunsOf}

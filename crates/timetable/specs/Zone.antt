@@ -2,8 +2,8 @@
 use Rattle.std.specs.Prelude.{◌≡◌, ◌⊎◌, ℕ, List, Option, Some, None, IfSome, IsNone, MatchOption, Result, Ok, Err}
 use Rattle.lc_io.specs.Counts.{Rose}
 use Rattle.lc_io.specs.Folder.{FolderSeen, asked_after, bytes_named}
-use Rattle.trip_calls.specs.Below.LcTime.declared.zone.Zone.{Zone}
-use Rattle.trip_calls.specs.Below.ServiceDays.ZoneWord.{IsWrong, SaysZone, file_named}
+use Rattle.lc_time.specs.declared.zone.Zone.{Zone}
+use Rattle.service_days.specs.ZoneWord.{IsWrong, SaysZone, file_named}
 use Rattle.gtfs_tables.specs.Reading.{Keeps}
 use Rattle.timetable.specs.declared.zone_end.ZoneEnd.{ZoneEnd}
 use Rattle.timetable.specs.declared.zone_end.ZoneEnd.TheVariants.{Wrong, Failed, NoMemory}

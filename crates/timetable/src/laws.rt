@@ -2,7 +2,7 @@ ghost use Rattle.timetable.specs.Laws.{BrokenEnds, FineEnds, LoadsRecorded, Much
 
 use change_table::one_list_of_changes;
 use gtfs_tables::one_feed;
-use trip_calls::below::{one_list_of_days, one_zone_a_word};
+use service_days::{one_list_of_days, one_zone_a_word};
 use trip_calls::one_list_of_runs;
 
 /// The files that a directory records have one timetable in a scope. It is what is loaded from it. A feed that has one is not

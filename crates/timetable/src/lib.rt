@@ -2,7 +2,6 @@
 //! is none. Each of its parts alone. It builds on `gtfs_tables`, `service_days`, `trip_calls` and `change_table`.
 #![tactic(auto)]
 
-pub mod below;
 mod fault;
 mod laws;
 mod loading;

@@ -12,9 +12,9 @@ use crate::{LoadFault, Scope, Timetable};
 use change_table::ChangeFault;
 use gtfs_tables::{Tables, What};
 use lc_model::{Call, Changes, Run, Runs, StopsDoc};
+use lc_time::Zone;
 use std::alloc::Global;
 use trip_calls::LoadFault as RunsFault;
-use trip_calls::below::Zone;
 
 // The runs of a timetable, how many connections they have, and the changes between its stops.
 #[derive(Drop)]

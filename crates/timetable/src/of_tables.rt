@@ -8,7 +8,7 @@ ghost use Rattle.change_table.specs.declared.fault.TheConstants.{MOST_CHANGES};
 ghost use Rattle.lc_model.specs.Change.{change_between};
 ghost use Rattle.lc_model.specs.Connection.{connections_of};
 ghost use Rattle.lc_model.specs.Run.{RunsForward};
-ghost use Rattle.trip_calls.specs.Below.ServiceDays.Days.{AreDays};
+ghost use Rattle.service_days.specs.Days.{AreDays};
 ghost use Rattle.trip_calls.specs.LoadFault.{HasCause as IsRunsFault};
 ghost use Rattle.trip_calls.specs.Plannable.{ArePlannable};
 ghost use Rattle.trip_calls.specs.Runs.{AreRunsOf};
@@ -17,9 +17,10 @@ ghost use Rattle.trip_calls.specs.declared.load_fault.TheConstants.{MOST_CONNECT
 use change_table::ChangeFault;
 use gtfs_tables::Tables;
 use lc_model::{Changes, NoMemory, Runs, ServiceDate};
+use lc_time::Zone;
+use service_days::Days;
 use std::alloc::Global;
 use trip_calls::LoadFault as RunsFault;
-use trip_calls::below::{Days, Zone};
 
 /// The dates, of so many from the first on, on which the services of the tables run. It takes the time of a sort of the days that it
 /// finds. It takes two looks at each row of calendar.txt for each date, and a sort of the rows of calendar_dates.txt.
@@ -32,7 +33,7 @@ pub fn days(
     ensures { IfOk result (AreDays tables.now.services.weekly tables.now.services.dates first count) }
 {
     let services = &tables.services;
-    trip_calls::below::days(
+    service_days::days(
         alloc,
         services.weekly.as_slice(),
         services.dates.as_slice(),

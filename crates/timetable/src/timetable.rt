@@ -1,7 +1,7 @@
 ghost use Rattle.lc_model.specs.Run.{RunsForward};
 
 use lc_model::{Runs, StopsDoc};
-use trip_calls::below::Zone;
+use lc_time::Zone;
 
 /// The timetable of a feed in a window.
 #[derive(Drop)]

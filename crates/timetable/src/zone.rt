@@ -1,14 +1,15 @@
 ghost use Rattle.std.specs.Prelude.{◌≡◌};
 ghost use Rattle.std.specs.Option.{option_copied};
 ghost use Rattle.gtfs_tables.specs.Reading.{Keeps};
-ghost use Rattle.trip_calls.specs.Below.ServiceDays.ZoneWord.{file_named};
+ghost use Rattle.service_days.specs.ZoneWord.{file_named};
 ghost use Rattle.timetable.specs.Zone.{EndsAtLook, EndsAtZone};
 
 use crate::zone_end::ZoneEnd;
 use lc_io::{Folder, FolderFail};
 use lc_model::Bytes;
+use lc_time::Zone;
+use service_days::{ZoneFault, read_zone};
 use std::alloc::Global;
-use trip_calls::below::{Zone, ZoneFault, read_zone};
 
 /// The zone that the word says, with the file that it names.
 pub(crate) fn find_zone<F: Folder>(

@@ -1,5 +1,4 @@
 pub mod AnchorLemmas
-pub mod BelowLemmas
 pub mod BlankLemmas
 pub mod CallLemmas
 pub mod ConnectionLemmas

@@ -23,7 +23,8 @@ use gtfs_calendars::{Frequencies, Frequency};
 use gtfs_fields::{TripRow, TripRows};
 use gtfs_trips::{StopTime, StopTimes};
 use lc_model::{NoMemory, Run, Runs};
-use service_days::{Days, Zone};
+use lc_time::Zone;
+use service_days::Days;
 use std::alloc::Global;
 use std::cmp::Ordering;
 

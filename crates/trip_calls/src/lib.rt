@@ -3,7 +3,6 @@
 #![tactic(auto)]
 
 mod all_runs;
-pub mod below;
 mod counting;
 mod laws;
 mod load_fault;

@@ -20,7 +20,8 @@ use gtfs_calendars::Frequency;
 use gtfs_fields::TripRow;
 use gtfs_trips::StopTime;
 use lc_model::{Call, Calls, Id, Moment, NoMemory, PlainData, Run, RunKey, ServiceDate, items_of};
-use service_days::{Days, ServiceDay, Zone, anchor};
+use lc_time::{Zone, anchor};
+use service_days::{Days, ServiceDay};
 use std::alloc::Global;
 
 /// The moment that comes so many seconds after another one.

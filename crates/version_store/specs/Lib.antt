@@ -1,6 +1,5 @@
 pub mod Admission
 pub mod BaseRuns
-pub mod Below
 pub mod CallsBy
 pub mod Changes
 pub mod Dates

@@ -1,4 +1,3 @@
-pub mod BelowLemmas
 pub mod EndLemmas
 pub mod GrowLemmas
 pub mod FrontLemmas

@@ -3,7 +3,6 @@
 #![tactic(auto)]
 
 mod answering;
-pub mod below;
 mod fed;
 mod hearing;
 mod laws;

@@ -3,9 +3,9 @@ use super::zone_cases::put_moment;
 use gtfs_calendars::{Frequencies, read_calendar_dates, read_frequencies};
 use gtfs_trips::{TimedTrips, read_stop_times, read_stops, read_trips};
 use lc_model::{Call, Connection, Connections, Run, Runs, Stops};
-use lc_time::read_date;
+use lc_time::{Zone, read_date};
 use rows_common::{Draft, Unmade};
-use service_days::{Days, Zone, days, read_zone};
+use service_days::{Days, days, read_zone};
 use std::alloc::Global;
 use trip_calls::{are_plannable, connections, is_plannable, runs};
 

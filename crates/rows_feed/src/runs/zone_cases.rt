@@ -1,8 +1,8 @@
 //! Zones, from outside: dates and moments that Python's `zoneinfo` gives, and the GTFS Schedule Reference.
 use lc_model::Moment;
-use lc_time::{date_text, iso_text, read_date, read_iso};
+use lc_time::{Zone, anchor, civil_date, date_text, iso_text, read_date, read_iso};
 use rows_common::Draft;
-use service_days::{Zone, ZoneFault, anchor, civil_date, read_zone, zone_file};
+use service_days::{ZoneFault, read_zone, zone_file};
 use std::alloc::Global;
 
 /// Asia/Kathmandu of Debian's tzdata: 5:30 ahead of UTC from 1920, 5:45 from 1986 on.

@@ -1,8 +1,8 @@
 //! Which version a request means, and the URLs that name versions.
 use super::lines::{moment, put_read, seconds_of};
-use connection_uri::Base;
+use connection_uri::{Base, page_url, read_page_url};
 use lc_model::{Moment, PageName};
-use memento::{gate_target, negotiate, page_url, read_page_url};
+use memento::{gate_target, negotiate};
 use rows_common::{Unmade, put_line};
 use std::alloc::Global;
 

@@ -5,9 +5,10 @@ use crate::making::{ALONE, BY_HALF_HOURS, OF_NOTHING, ONE_BY_ONE, Plan, WHOLE, p
 use fragmenter::Cutting;
 use http_text::{HeadRoom, Taken};
 use lc_model::NoMemory;
-use publisher::{Admitted, Publisher};
+use publisher::Publisher;
 use rows_common::{Draft, Unmade};
 use std::alloc::Global;
+use version_store::Admitted;
 
 /// What is said of a publisher after its replies.
 #[derive(Clone, Copy)]

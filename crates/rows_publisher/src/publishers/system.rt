@@ -1,6 +1,6 @@
 //! What the files of the system hold, and what its standard output takes.
 use lc_edge::{DirFolder, StdSink};
-use lc_world::{Folder, FolderFail, Sink, put_all};
+use lc_io::{Folder, FolderFail, Sink, put_all};
 use rows_common::Draft;
 use std::alloc::Global;
 use std::str;

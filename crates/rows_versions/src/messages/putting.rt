@@ -1,11 +1,10 @@
 //! The line of a message of trip updates: all that it says, or its fault.
 use lc_model::ServiceDate;
+use lc_versions::{EntityNews, Event, Relation, StopNews, TripKind, TripNews, Update};
 use rows_common::Unmade;
 use std::alloc::Global;
 use std::{fmt, str};
-use trip_updates::{
-    EntityNews, Event, Relation, RtFault, StopNews, TripKind, TripNews, Update, read_message,
-};
+use trip_updates::{RtFault, read_message};
 
 /// A line for each name and message.
 pub(super) fn put_each(

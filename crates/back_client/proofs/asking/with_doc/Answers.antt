@@ -1,4 +1,4 @@
-use Rattle.convoy.proofs.BelowLemmas.LcWorld.GoneOnLemmas.{no_gets}
+use Rattle.lc_world.proofs.GoneOnLemmas.{no_gets}
 use Rattle.back_client.proofs.asking.with_doc.Goals as goal
 
 pub returns-in-Err-UnknownFrom-clause-left : goal.returns-in-Err-UnknownFrom-clause-left

@@ -1,9 +1,9 @@
 use Rattle.std.proofs.Common.{List, ℕ, Some, None, Ok, Err, refl, ap, sym, subst, ◌∙◌}
 use Rattle.std.proofs.lemmas.Result.{IfOk-weaker}
-use Rattle.convoy.specs.Below.ConnectionUri.Page.{gate_target_of}
-use Rattle.convoy.proofs.BelowLemmas.LcWorld.GoneOnLemmas.{gets_then, no_gets}
-use Rattle.convoy.specs.Below.PageClient.Request.{Asks}
-use Rattle.convoy.specs.Below.PageClient.declared.outcome.Outcome.{Outcome}
+use Rattle.connection_uri.specs.Page.{gate_target_of}
+use Rattle.lc_world.proofs.GoneOnLemmas.{gets_then, no_gets}
+use Rattle.page_client.specs.Request.{Asks}
+use Rattle.page_client.specs.declared.outcome.Outcome.{Outcome}
 use Rattle.back_client.specs.Arrives.{ended}
 use Rattle.back_client.proofs.asking.with_gate.Goals as goal
 

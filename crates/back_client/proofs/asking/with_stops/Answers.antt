@@ -1,7 +1,7 @@
 use Rattle.std.proofs.Common.{List, ℕ, None, sym, subst}
-use Rattle.convoy.specs.Below.ConnectionUri.Page.{stops_target_of}
-use Rattle.convoy.proofs.BelowLemmas.LcWorld.GoneOnLemmas.{gets_then, no_gets}
-use Rattle.convoy.specs.Below.PageClient.Request.{Asks}
+use Rattle.connection_uri.specs.Page.{stops_target_of}
+use Rattle.lc_world.proofs.GoneOnLemmas.{gets_then, no_gets}
+use Rattle.page_client.specs.Request.{Asks}
 use Rattle.back_client.proofs.asking.with_stops.Goals as goal
 
 pub returns-in_err-request-clause-left : goal.returns-in_err-request-clause-left

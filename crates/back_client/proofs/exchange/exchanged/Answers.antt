@@ -1,8 +1,8 @@
 use Rattle.std.proofs.Common.{ℕ, List, Option}
-use Rattle.convoy.specs.Below.ConnectionUri.Base.{BaseParts}
-use Rattle.convoy.proofs.BelowLemmas.LcWorld.GoneOnLemmas.{one_get}
-use Rattle.convoy.specs.Below.LcWorld.Link.{IsGet}
-use Rattle.convoy.specs.Below.PageClient.Request.{Asks}
+use Rattle.connection_uri.specs.Base.{BaseParts}
+use Rattle.lc_world.proofs.GoneOnLemmas.{one_get}
+use Rattle.lc_world.specs.Link.{IsGet}
+use Rattle.page_client.specs.Request.{Asks}
 use Rattle.back_client.proofs.exchange.exchanged.Goals as goal
 
 pub returns-in-Ok-clause-replied : goal.returns-in-Ok-clause-replied

@@ -1,8 +1,8 @@
 use Rattle.std.proofs.Common.{List, ℕ, Some, None, sym, subst}
 use Rattle.std.proofs.lemmas.Result.{IfOk-weaker}
-use Rattle.convoy.specs.Below.ConnectionUri.Page.{page_target_of}
-use Rattle.convoy.proofs.BelowLemmas.LcWorld.GoneOnLemmas.{no_gets}
-use Rattle.convoy.specs.Below.PageClient.Request.{Asks}
+use Rattle.connection_uri.specs.Page.{page_target_of}
+use Rattle.lc_world.proofs.GoneOnLemmas.{no_gets}
+use Rattle.page_client.specs.Request.{Asks}
 use Rattle.back_client.proofs.walk.page_turn.Goals as goal
 
 pub returns-in_err-request-clause-left : goal.returns-in_err-request-clause-left

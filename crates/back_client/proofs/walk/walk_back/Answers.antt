@@ -1,5 +1,5 @@
 use Rattle.std.proofs.Common.{◌≡◌, ◌+◌, ◌<◌, ◌∙◌, ℕ, refl, sym, subst, arith}
-use Rattle.convoy.proofs.BelowLemmas.LcWorld.GoneOnLemmas.{gets_then, no_gets}
+use Rattle.lc_world.proofs.GoneOnLemmas.{gets_then, no_gets}
 use Rattle.back_client.specs.Steps.{GoesBelow, IsTurn}
 use Rattle.back_client.specs.declared.page.Place.{Place}
 use Rattle.back_client.specs.declared.step.Sequel.{Sequel}

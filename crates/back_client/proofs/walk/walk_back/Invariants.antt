@@ -1,6 +1,6 @@
 use Rattle.std.proofs.Common.{◌≡◌, ◌≤◌, ◌+◌, []}
 use Rattle.lc_model.specs.declared.doc.StopsDoc.{StopsDoc}
-use Rattle.convoy.specs.Below.LcWorld.GoneOn.{IsLeftByGets}
+use Rattle.lc_world.specs.GoneOn.{IsLeftByGets}
 use Rattle.back_scan.specs.Forward.{forward_query}
 use Rattle.back_scan.specs.StandsFor.{StandsFor}
 use Rattle.back_client.proofs.WalkLemmas.{IsWalking}

@@ -1,7 +1,7 @@
 use Rattle.std.proofs.Common.{subst, sym}
 use Rattle.std.proofs.lemmas.Result.{IfOk-weaker}
-use Rattle.cli_ask.specs.Below.LcWorld.GoneOn.{IsLeftByPasses}
-use Rattle.cli_ask.proofs.BelowLemmas.LcWorld.GoneOnLemmas.{no_passes}
+use Rattle.lc_world.specs.GoneOn.{IsLeftByPasses}
+use Rattle.lc_world.proofs.GoneOnLemmas.{no_passes}
 use Rattle.cli_arrive.proofs.HomeLemmas.{is_asked}
 use Rattle.cli_arrive.proofs.question.ask_arrive.Goals as goal
 

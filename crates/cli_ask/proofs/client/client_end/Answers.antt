@@ -2,13 +2,13 @@ use Rattle.std.proofs.Common.{◌≡◌, ◌∙◌, ◌+◌, ◌-◌, ℕ, ap, l
 use Rattle.std.specs.List.{slice_get}
 use Rattle.std.specs.Option.{IfSome}
 use Rattle.laws_replies.specs.Run.{HasRun}
-use Rattle.laws_convoys.specs.Below.Convoy.Finish.{Rounds}
-use Rattle.laws_convoys.specs.Below.Convoy.State.{Adds, ConvoyState, begun}
-use Rattle.laws_convoys.specs.Below.Convoy.declared.member.Member.{Member}
-use Rattle.laws_convoys.specs.Below.PageClient.Client.{shown}
+use Rattle.convoy.specs.Finish.{Rounds}
+use Rattle.convoy.specs.State.{Adds, ConvoyState, begun}
+use Rattle.convoy.specs.declared.member.Member.{Member}
+use Rattle.page_client.specs.Client.{shown}
 use Rattle.cli_ask.proofs.ClientLemmas.{IsSaid, asks, printable, right}
 use Rattle.cli_ask.specs.declared.end.ClientEnd.{ClientEnd}
-use Rattle.lc_links.proofs.BelowLemmas.LcWorld.GoneOnLemmas.{no_gets}
+use Rattle.lc_world.proofs.GoneOnLemmas.{no_gets}
 use Rattle.cli_ask.proofs.client.client_end.Goals as goal
 
 -- the client was added to a convoy without clients

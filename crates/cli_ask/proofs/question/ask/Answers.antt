@@ -1,7 +1,7 @@
 use Rattle.std.proofs.Common.{subst, sym}
 use Rattle.std.proofs.lemmas.Result.{IfOk-weaker}
-use Rattle.lc_links.specs.Below.LcWorld.GoneOn.{IsLeftByPasses}
-use Rattle.lc_links.proofs.BelowLemmas.LcWorld.GoneOnLemmas.{no_passes}
+use Rattle.lc_world.specs.GoneOn.{IsLeftByPasses}
+use Rattle.lc_world.proofs.GoneOnLemmas.{no_passes}
 use Rattle.cli_ask.proofs.OpeningLemmas.{is_asked}
 use Rattle.cli_ask.proofs.question.ask.Goals as goal
 

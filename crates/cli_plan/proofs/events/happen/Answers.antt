@@ -1,11 +1,11 @@
 use Rattle.std.proofs.Common.{◌≡◌, ◌∙◌, ◌∷◌, [], List, ap, arith, length, map-id, refl, rules, subst, sym}
 use Rattle.std.proofs.lemmas.Iterator.Adapters.{YieldsList-from_vec}
 use Rattle.std.proofs.lemmas.Iterator.Consumers.{YieldsList-end, YieldsList-so_far, YieldsList-turn}
-use Rattle.laws_plan.specs.Below.Convoy.declared.member.Member.{Member}
-use Rattle.laws_plan.proofs.BelowLemmas.LcWorld.GoneOnLemmas.{gets_then, no_gets}
-use Rattle.laws_plan.specs.Below.LawsReplay.Events.{questions_in}
-use Rattle.laws_plan.specs.Below.LawsReplay.Played.{Plays}
-use Rattle.laws_plan.specs.Below.LawsReplay.declared.event.Event.{Event}
+use Rattle.convoy.specs.declared.member.Member.{Member}
+use Rattle.lc_world.proofs.GoneOnLemmas.{gets_then, no_gets}
+use Rattle.laws_replay.specs.Events.{questions_in}
+use Rattle.laws_replay.specs.Played.{Plays}
+use Rattle.laws_replay.specs.declared.event.Event.{Event}
 use Rattle.cli_replay.proofs.PlayedLemmas.{clients, may_happen, parts, plays_on}
 use Rattle.cli_plan.proofs.HappenLemmas.{no_message_at}
 use Rattle.cli_plan.proofs.events.happen.Goals as goal

@@ -1,6 +1,6 @@
 use Rattle.std.proofs.Common.{[]}
-use Rattle.laws_plan.specs.Below.LawsReplay.Played.{Plays}
-use Rattle.laws_plan.specs.Below.LcWorld.GoneOn.{IsLeftByGets}
+use Rattle.laws_replay.specs.Played.{Plays}
+use Rattle.lc_world.specs.GoneOn.{IsLeftByGets}
 use Rattle.cli_plan.proofs.events.happen.Given as goal
 
 abbrev pub invariant-events : goal.invariant-events

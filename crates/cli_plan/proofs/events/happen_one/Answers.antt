@@ -1,6 +1,6 @@
 use Rattle.std.proofs.Common.{refl}
 use Rattle.cli_replay.proofs.PlayedLemmas.{one_turn}
-use Rattle.laws_plan.proofs.BelowLemmas.LcWorld.GoneOnLemmas.{no_gets}
+use Rattle.lc_world.proofs.GoneOnLemmas.{no_gets}
 use Rattle.cli_plan.proofs.events.happen_one.Goals as goal
 
 pub returns-in_ok-turn-in-Turn-clause-plays : goal.returns-in_ok-turn-in-Turn-clause-plays

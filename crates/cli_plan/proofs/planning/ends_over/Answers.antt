@@ -1,8 +1,8 @@
 use Rattle.std.proofs.Common.{[], subst}
 use Rattle.std.proofs.lemmas.Result.{IfOk-weaker}
-use Rattle.laws_plan.specs.Below.Convoy.State.{ConvoyState}
-use Rattle.laws_plan.proofs.BelowLemmas.LcWorld.GoneOnLemmas.{gets_then, no_gets}
-use Rattle.laws_plan.specs.Below.LawsReplay.Played.{Plays}
+use Rattle.convoy.specs.State.{ConvoyState}
+use Rattle.lc_world.proofs.GoneOnLemmas.{gets_then, no_gets}
+use Rattle.laws_replay.specs.Played.{Plays}
 use Rattle.cli_plan.proofs.planning.ends_over.Goals as goal
 
 pub returns-in_err-convoy-clause-left : goal.returns-in_err-convoy-clause-left

@@ -2,7 +2,7 @@ use Rattle.std.proofs.Common.{subst}
 use Rattle.std.proofs.lemmas.Result.{IfOk-weaker}
 use Rattle.cli_plan.specs.RelayedBy.{IsLeftBelow, IsRelayedBy}
 use Rattle.cli_plan.proofs.RelayedLemmas.{is_left, is_relayed}
-use Rattle.page_relay.proofs.BelowLemmas.LcWorld.GoneOnLemmas.{no_gets}
+use Rattle.lc_world.proofs.GoneOnLemmas.{no_gets}
 use Rattle.page_relay.specs.Relay.{RelayState}
 use Rattle.cli_plan.proofs.relaying.relay.Goals as goal
 

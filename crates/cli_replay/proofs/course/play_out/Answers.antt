@@ -1,9 +1,9 @@
 use Rattle.std.proofs.Common.{◌∙◌, ◌++◌, List, ap, subst, sym}
 use Rattle.std.specs.List.{All}
-use Rattle.laws_replay.specs.Below.CliAsk.Block.{IsPrintable}
-use Rattle.laws_replay.specs.Below.CliAsk.declared.end.ClientEnd.{ClientEnd}
-use Rattle.laws_replay.specs.Below.Convoy.State.{ConvoyState}
-use Rattle.laws_replay.proofs.BelowLemmas.LcWorld.GoneOnLemmas.{no_passes, passes_then}
+use Rattle.cli_ask.specs.Block.{IsPrintable}
+use Rattle.cli_ask.specs.declared.end.ClientEnd.{ClientEnd}
+use Rattle.convoy.specs.State.{ConvoyState}
+use Rattle.lc_world.proofs.GoneOnLemmas.{no_passes, passes_then}
 use Rattle.laws_replay.specs.Played.{Plays}
 use Rattle.laws_replay.specs.Replayed.{clients_text_of}
 use Rattle.cli_replay.specs.Home.{home_seen}

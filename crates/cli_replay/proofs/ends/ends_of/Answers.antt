@@ -1,5 +1,5 @@
 use Rattle.std.proofs.Common.{◌++◌, ◌∷◌, [], List, subst, sym}
-use Rattle.laws_replay.specs.Below.CliAsk.declared.end.ClientEnd.{ClientEnd}
+use Rattle.cli_ask.specs.declared.end.ClientEnd.{ClientEnd}
 use Rattle.laws_replay.specs.Played.{HaveEndedSo}
 use Rattle.cli_replay.proofs.EndsLemmas.{one_end_more}
 use Rattle.cli_replay.proofs.ends.ends_of.Goals as goal

@@ -1,8 +1,8 @@
 use Rattle.std.proofs.Common.{◌≡◌, ◌∙◌, ◌++◌, ◌∷◌, ℕ, [], List, ap, arith, length, map-id, refl, rules, subst, sym}
 use Rattle.std.proofs.lemmas.Iterator.Adapters.{YieldsList-from_vec}
 use Rattle.std.proofs.lemmas.Iterator.Consumers.{YieldsList-end, YieldsList-so_far, YieldsList-turn}
-use Rattle.laws_replay.specs.Below.Convoy.declared.member.Member.{Member}
-use Rattle.laws_replay.proofs.BelowLemmas.LcWorld.GoneOnLemmas.{no_passes, passes_then}
+use Rattle.convoy.specs.declared.member.Member.{Member}
+use Rattle.lc_world.proofs.GoneOnLemmas.{no_passes, passes_then}
 use Rattle.laws_replay.specs.Events.{questions_in}
 use Rattle.laws_replay.specs.Played.{Plays}
 use Rattle.laws_replay.specs.declared.event.Event.{Event}

@@ -1,4 +1,4 @@
-use Rattle.laws_replay.proofs.BelowLemmas.LcWorld.GoneOnLemmas.{no_passes}
+use Rattle.lc_world.proofs.GoneOnLemmas.{no_passes}
 use Rattle.cli_replay.specs.Home.{home_seen}
 use Rattle.cli_replay.proofs.HearingLemmas.{turn_admits_none}
 use Rattle.cli_replay.proofs.PlayedLemmas.{one_message, one_turn}

@@ -1,9 +1,9 @@
 use Rattle.std.proofs.Common.{◌≡◌, ◌+◌, length, subst}
 use Rattle.std.proofs.lemmas.Result.{IfOk-weaker}
-use Rattle.laws_replay.specs.Below.Fragmenter.declared.cutting.Cutting.{Cutting}
-use Rattle.laws_replay.specs.Below.Publisher.Held.{Held}
+use Rattle.fragmenter.specs.declared.cutting.Cutting.{Cutting}
+use Rattle.publisher.specs.Held.{Held}
 use Rattle.cli_replay.proofs.HearingLemmas.{given}
-use Rattle.laws_replay.proofs.BelowLemmas.LcWorld.GoneOnLemmas.{no_passes}
+use Rattle.lc_world.proofs.GoneOnLemmas.{no_passes}
 use Rattle.cli_replay.proofs.hearing.hear.Goals as goal
 
 pub returns-clause-given : goal.returns-clause-given

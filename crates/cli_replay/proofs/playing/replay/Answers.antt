@@ -1,12 +1,12 @@
 use Rattle.std.proofs.Common.{◌∙◌, ap, subst}
 use Rattle.std.proofs.lemmas.Result.{IfOk-weaker}
-use Rattle.laws_replay.specs.Below.ConnectionUri.Base.{BaseParts}
-use Rattle.laws_replay.specs.Below.Fragmenter.declared.cutting.Cutting.{Cutting}
-use Rattle.laws_replay.specs.Below.LcLinks.HomeLink.{HomeLinkState}
+use Rattle.connection_uri.specs.Base.{BaseParts}
+use Rattle.fragmenter.specs.declared.cutting.Cutting.{Cutting}
+use Rattle.lc_links.specs.HomeLink.{HomeLinkState}
 use Rattle.cli_replay.specs.Course.{IsPlayed}
 use Rattle.cli_replay.specs.Home.{home_seen}
 use Rattle.cli_replay.proofs.ReplayedLemmas.{admits, left_outside, replayed_over}
-use Rattle.laws_replay.proofs.BelowLemmas.LcWorld.GoneOnLemmas.{no_passes}
+use Rattle.lc_world.proofs.GoneOnLemmas.{no_passes}
 use Rattle.cli_replay.proofs.playing.replay.Goals as goal
 
 pub returns-in-Ok-clause-left : goal.returns-in-Ok-clause-left

@@ -1,6 +1,6 @@
 use Rattle.std.proofs.Common.{◌≡◌, ◌∙◌, ◌+◌, ap, arith, cond, take}
 use Rattle.std.specs.Prelude.{Bool}
-use Rattle.laws_replay.specs.Below.CliAsk.declared.end.ClientEnd.{ClientEnd}
+use Rattle.cli_ask.specs.declared.end.ClientEnd.{ClientEnd}
 use Rattle.cli_replay.specs.Summary.{has_found, found_in}
 use Rattle.cli_replay.proofs.SummaryLemmas.{more_counted, number_of, one_at_most}
 use Rattle.cli_replay.proofs.summary.count_found.Goals as goal

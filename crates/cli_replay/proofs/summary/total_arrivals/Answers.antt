@@ -1,5 +1,5 @@
 use Rattle.std.proofs.Common.{◌≡◌, ◌+◌, ap, arith, drop}
-use Rattle.laws_replay.specs.Below.CliAsk.declared.end.ClientEnd.{ClientEnd}
+use Rattle.cli_ask.specs.declared.end.ClientEnd.{ClientEnd}
 use Rattle.cli_replay.specs.Summary.{arrivals_of, seconds_of}
 use Rattle.cli_replay.proofs.SummaryLemmas.{next_arrivals, no_arrivals_left}
 use Rattle.cli_replay.proofs.summary.total_arrivals.Goals as goal

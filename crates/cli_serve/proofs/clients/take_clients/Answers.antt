@@ -1,9 +1,9 @@
 -- What was taken so far goes on by what `next` answers.
 use Rattle.std.proofs.Common.{Err, Ok, subst, sym}
-use Rattle.wire_session.specs.Below.Fragmenter.Cutting.{chosen_cuts}
+use Rattle.fragmenter.specs.Cutting.{chosen_cuts}
 use Rattle.lc_io.specs.declared.door.DoorFail.{DoorFail}
 use Rattle.lc_io.specs.declared.door.Next.{Next}
-use Rattle.wire_session.specs.Below.Publisher.Held.{side_of}
+use Rattle.publisher.specs.Held.{side_of}
 use Rattle.cli_serve.specs.Clients.{HasTaken}
 use Rattle.cli_serve.proofs.ClientLemmas.{NextSaid, all_came, fails_next, none_next, one_next}
 use Rattle.cli_serve.proofs.clients.take_clients.Goals as goal

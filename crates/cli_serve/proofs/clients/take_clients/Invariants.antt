@@ -1,7 +1,7 @@
 -- These visits were made so far, and are counted.
 use Rattle.std.proofs.Common.{◌-◌}
-use Rattle.wire_session.specs.Below.Fragmenter.Cutting.{chosen_cuts}
-use Rattle.wire_session.specs.Below.Publisher.Held.{side_of}
+use Rattle.fragmenter.specs.Cutting.{chosen_cuts}
+use Rattle.publisher.specs.Held.{side_of}
 use Rattle.cli_serve.specs.Clients.{HasServedSoFar}
 use Rattle.cli_serve.proofs.clients.take_clients.Given as goal
 

@@ -1,6 +1,6 @@
 -- Each part of serving goes on from where the one before ended.
-use Rattle.wire_session.specs.Below.Fragmenter.Cutting.{chosen_cuts}
-use Rattle.wire_session.specs.Below.Publisher.Held.{side_of}
+use Rattle.fragmenter.specs.Cutting.{chosen_cuts}
+use Rattle.publisher.specs.Held.{side_of}
 use Rattle.cli_serve.specs.Serve.{Asked, Outside}
 use Rattle.cli_serve.proofs.EndLemmas.{closed_so, not_announced}
 use Rattle.cli_serve.proofs.command.serve_all.Goals as goal

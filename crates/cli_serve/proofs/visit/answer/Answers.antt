@@ -1,7 +1,7 @@
-use Rattle.wire_session.specs.Below.Fragmenter.Cutting.{chosen_cuts}
-use Rattle.wire_session.specs.Below.Fragmenter.declared.cutting.Cutting.{Cutting}
-use Rattle.wire_session.specs.Below.Publisher.Held.{side_of}
-use Rattle.wire_session.specs.Below.PublisherSpec.Side.{Side}
+use Rattle.fragmenter.specs.Cutting.{chosen_cuts}
+use Rattle.fragmenter.specs.declared.cutting.Cutting.{Cutting}
+use Rattle.publisher.specs.Held.{side_of}
+use Rattle.publisher_spec.specs.Side.{Side}
 use Rattle.cli_serve.specs.Serving.{ServingState}
 use Rattle.cli_serve.proofs.AnswerLemmas.{all_answered, none_answered, starts}
 use Rattle.cli_serve.proofs.visit.answer.Goals as goal

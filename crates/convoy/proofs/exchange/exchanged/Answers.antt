@@ -1,5 +1,5 @@
 use Rattle.std.proofs.Common.{ℕ, List, Option, ap, ◌∙◌, refl}
-use Rattle.page_client.specs.Below.ConnectionUri.Base.{BaseParts}
+use Rattle.connection_uri.specs.Base.{BaseParts}
 use Rattle.lc_world.proofs.GoneOnLemmas.{no_gets, one_get}
 use Rattle.lc_world.specs.Link.{IsGet}
 use Rattle.page_client.specs.Client.{shown}

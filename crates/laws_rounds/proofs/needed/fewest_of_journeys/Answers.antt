@@ -2,10 +2,10 @@ use Rattle.std.proofs.Common.{List, sym, subst}
 use Rattle.std.specs.Prelude.{◌↔◌}
 use Rattle.lc_model.specs.Connection.{NoneArrivesEarly}
 use Rattle.lc_model.specs.Ride.{IsRideAt}
-use Rattle.laws_clients.specs.Below.LcVersions.Pages.{CutPage}
+use Rattle.lc_versions.specs.Pages.{CutPage}
 use Rattle.change_rounds.specs.Fewest.{IsFewestAnswer, IsFewestChain}
-use Rattle.laws_clients.specs.Below.LawsPages.Chain.{connections_along}
-use Rattle.laws_clients.proofs.BelowLemmas.LawsPages.AlongLemmas.{chains_are_there, least_is_there}
+use Rattle.laws_pages.specs.Chain.{connections_along}
+use Rattle.laws_pages.proofs.AlongLemmas.{chains_are_there, least_is_there}
 use Rattle.laws_rounds.proofs.NeededLemmas.{fewest_of_rides}
 use Rattle.laws_rounds.proofs.needed.fewest_of_journeys.Goals as goal
 

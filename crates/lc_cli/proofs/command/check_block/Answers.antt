@@ -1,6 +1,6 @@
 use Rattle.std.proofs.Common.{subst}
-use Rattle.cli_ask.specs.Below.Timetable.Loading.{Loads}
-use Rattle.cli_ask.specs.Below.Timetable.declared.scope.Scope.{Scope}
+use Rattle.timetable.specs.Loading.{Loads}
+use Rattle.timetable.specs.declared.scope.Scope.{Scope}
 use Rattle.lc_cli.proofs.command.check_block.Goals as goal
 
 pub returns-in-Ok-check_text-clause-block : goal.returns-in-Ok-check_text-clause-block

@@ -1,6 +1,6 @@
 use Rattle.std.proofs.Common.{subst}
-use Rattle.cli_ask.specs.Below.CliWords.declared.command.Command.{Command}
-use Rattle.cli_ask.proofs.BelowLemmas.LcWorld.GoneOnLemmas.{goes_on_itself}
+use Rattle.cli_words.specs.declared.command.Command.{Command}
+use Rattle.lc_world.proofs.GoneOnLemmas.{goes_on_itself}
 use Rattle.lc_cli.specs.Command.{LeavesLink}
 use Rattle.lc_cli.proofs.CommandLemmas.{has_gone_on, leaves_alone, said_refusals, said_works}
 use Rattle.lc_cli.proofs.command.outcome.Goals as goal

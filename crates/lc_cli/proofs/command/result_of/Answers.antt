@@ -1,6 +1,6 @@
 use Rattle.std.proofs.Common.{refl}
 use Rattle.std.proofs.lemmas.Result.{IfErr-weaker, IfOk-weaker}
-use Rattle.cli_ask.specs.Below.CliWords.declared.command.Command.TheVariants as commands
+use Rattle.cli_words.specs.declared.command.Command.TheVariants as commands
 use Rattle.lc_cli.proofs.CommandLemmas.{leaves_alone, refused_printed, results_printed}
 use Rattle.lc_cli.proofs.command.result_of.Goals as goal
 

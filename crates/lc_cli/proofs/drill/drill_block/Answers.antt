@@ -1,5 +1,5 @@
 use Rattle.std.proofs.Common.{inl}
-use Rattle.cli_ask.proofs.BelowLemmas.LcWorld.GoneOnLemmas.{no_passes}
+use Rattle.lc_world.proofs.GoneOnLemmas.{no_passes}
 use Rattle.lc_cli.proofs.drill.drill_block.Goals as goal
 
 pub returns-in-Err-clause-refused : goal.returns-in-Err-clause-refused

@@ -1,4 +1,4 @@
-use Rattle.cli_ask.proofs.BelowLemmas.LcWorld.GoneOnLemmas.{no_passes}
+use Rattle.lc_world.proofs.GoneOnLemmas.{no_passes}
 use Rattle.lc_cli.proofs.DrillLemmas.{summed_of}
 use Rattle.lc_cli.proofs.drill.play_to_sums.Goals as goal
 

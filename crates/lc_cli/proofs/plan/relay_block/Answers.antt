@@ -1,4 +1,4 @@
-use Rattle.cli_ask.proofs.BelowLemmas.LcWorld.GoneOnLemmas.{no_gets}
+use Rattle.lc_world.proofs.GoneOnLemmas.{no_gets}
 use Rattle.lc_cli.proofs.plan.relay_block.Goals as goal
 
 pub returns-in-Err-clause-left : goal.returns-in-Err-clause-left

@@ -1,7 +1,7 @@
 use Rattle.std.proofs.Common.{subst}
 use Rattle.cli_inputs.specs.Inputs.{ReadsInputs}
-use Rattle.cli_ask.proofs.BelowLemmas.LcWorld.GoneOnLemmas.{no_passes}
-use Rattle.cli_ask.specs.Below.Timetable.declared.scope.Scope.{Scope}
+use Rattle.lc_world.proofs.GoneOnLemmas.{no_passes}
+use Rattle.timetable.specs.declared.scope.Scope.{Scope}
 use Rattle.lc_cli.specs.Scope.{scope_of}
 use Rattle.lc_cli.proofs.CommandLemmas.{ended_printed, ended_refused, ended_unasked}
 use Rattle.lc_cli.proofs.question.question_block.Goals as goal

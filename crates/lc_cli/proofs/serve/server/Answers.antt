@@ -1,7 +1,7 @@
 use Rattle.std.proofs.Common.{refl, subst}
 use Rattle.cli_inputs.proofs.InputsLemmas.{message_refused}
 use Rattle.cli_inputs.specs.Inputs.{ReadsInputs}
-use Rattle.cli_ask.specs.Below.Timetable.declared.scope.Scope.{Scope}
+use Rattle.timetable.specs.declared.scope.Scope.{Scope}
 use Rattle.lc_cli.proofs.serve.server.Goals as goal
 
 pub returns-in-Ok-clause-refused : goal.returns-in-Ok-clause-refused

@@ -1,5 +1,5 @@
 use Rattle.std.proofs.Common.{◌≡◌, inl, inr, refl}
-use Rattle.cli_ask.specs.Below.CliWords.Line.{texts_of}
+use Rattle.cli_words.specs.Line.{texts_of}
 use Rattle.lc_cli.specs.Command.{IsRightServer}
 use Rattle.lc_cli.specs.Top.{IsRight, Past}
 use Rattle.lc_cli.proofs.CompleteLemmas.{complete}

@@ -1,5 +1,5 @@
 use Rattle.std.proofs.Common.{◌+◌, lit<, sym}
-use Rattle.cli_ask.specs.Below.Timetable.Tiny.{moment}
+use Rattle.timetable.specs.Tiny.{moment}
 use Rattle.lc_cli.specs.Tiny.{a_second_late, nine_minutes_late, swapped}
 use Rattle.lc_cli.proofs.TinyLemmas.{apart, later_is_journey, none_make_none, refused_arrival, refused_none, refused_walk, rides_make, worked_answers}
 use Rattle.lc_cli.proofs.worked.worked_answer.Goals as goal

@@ -1,5 +1,5 @@
 use Rattle.std.proofs.Common.{◌+◌, lit<, sym}
-use Rattle.cli_ask.specs.Below.Timetable.Tiny.{moment}
+use Rattle.timetable.specs.Tiny.{moment}
 use Rattle.lc_cli.specs.WorkedQuestions.{leaving_a_second_earlier, leaving_a_second_later}
 use Rattle.lc_cli.proofs.TinyLemmas.{apart}
 use Rattle.lc_cli.proofs.WorkedLatestLemmas.{all_leave_at_eight, never_none, nine_is_earlier, nine_is_journey, none_yet, not_yet, other_departure, ten_leaves_latest, worked_leaves_latest}

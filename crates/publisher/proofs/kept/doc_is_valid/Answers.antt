@@ -1,4 +1,4 @@
-use Rattle.publisher_spec.proofs.BelowLemmas.PageJson.StopsLemmas.{names_its_stops}
+use Rattle.page_json.proofs.StopsLemmas.{names_its_stops}
 use Rattle.std.proofs.Common.{subst}
 use Rattle.lc_model.specs.Change.{InChangeOrder}
 use Rattle.lc_model.specs.Stop.{InStopOrder}

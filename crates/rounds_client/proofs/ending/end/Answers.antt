@@ -1,6 +1,6 @@
 -- What the client's outcome says of what it was given holds of the outcome that is taken out of it.
 use Rattle.std.proofs.Common.{Option, refl, sym, subst, ◌∙◌}
-use Rattle.convoy.specs.Below.PageClient.declared.outcome.Outcome.{Outcome}
+use Rattle.page_client.specs.declared.outcome.Outcome.{Outcome}
 use Rattle.rounds_client.specs.Course.{HasRead}
 use Rattle.rounds_client.specs.Given.{was_given}
 use Rattle.rounds_client.proofs.ending.end.Goals as goal

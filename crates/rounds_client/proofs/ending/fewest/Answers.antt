@@ -1,9 +1,9 @@
 use Rattle.std.proofs.Common.{List, ap, refl, subst, ◌∙◌, None}
 use Rattle.lc_model.specs.declared.query.Query.{Query}
-use Rattle.convoy.specs.Below.PageJson.declared.page.Page.{Page}
-use Rattle.convoy.specs.Below.PageClient.Client.{shown}
-use Rattle.convoy.specs.Below.PageClient.Shown.{Begins, Shown}
-use Rattle.convoy.proofs.BelowLemmas.LcWorld.GoneOnLemmas.{no_gets}
+use Rattle.page_json.specs.declared.page.Page.{Page}
+use Rattle.page_client.specs.Client.{shown}
+use Rattle.page_client.specs.Shown.{Begins, Shown}
+use Rattle.lc_world.proofs.GoneOnLemmas.{no_gets}
 use Rattle.rounds_client.specs.Course.{LeadsTo}
 use Rattle.rounds_client.proofs.StartLemmas.{reads_at_start}
 use Rattle.rounds_client.proofs.ending.fewest.Goals as goal

@@ -1,5 +1,5 @@
 use Rattle.std.proofs.Common.{ℕ, Option, sym, subst, ◌∙◌}
-use Rattle.convoy.specs.Below.PageClient.declared.outcome.Outcome.{Outcome}
+use Rattle.page_client.specs.declared.outcome.Outcome.{Outcome}
 use Rattle.rounds_client.specs.Course.{HasRead}
 use Rattle.rounds_client.specs.End.{IsEndOf}
 use Rattle.rounds_client.specs.Given.{was_given}

@@ -1,5 +1,5 @@
 use Rattle.std.proofs.Common.{refl, ◌∙◌, arith}
-use Rattle.convoy.proofs.BelowLemmas.LcWorld.GoneOnLemmas.{gets_then, no_gets}
+use Rattle.lc_world.proofs.GoneOnLemmas.{gets_then, no_gets}
 use Rattle.rounds_client.specs.Given.{was_given}
 use Rattle.rounds_client.proofs.CourseLemmas.{none_made, one_more, reads_on}
 use Rattle.rounds_client.proofs.ending.finish.Goals as goal

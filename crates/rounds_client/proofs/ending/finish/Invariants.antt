@@ -1,7 +1,7 @@
 use Rattle.std.proofs.Common.{◌≡◌, ◌+◌, ◌<◌, ◌^◌}
-use Rattle.convoy.specs.Below.LcWorld.GoneOn.{IsLeftByGets}
-use Rattle.convoy.specs.Below.PageClient.Client.{shown}
-use Rattle.convoy.specs.Below.PageClient.Shown.{exchanges_left}
+use Rattle.lc_world.specs.GoneOn.{IsLeftByGets}
+use Rattle.page_client.specs.Client.{shown}
+use Rattle.page_client.specs.Shown.{exchanges_left}
 use Rattle.convoy.specs.Steps.{IsDecided}
 use Rattle.rounds_client.specs.Course.{Reads}
 use Rattle.rounds_client.specs.Given.{was_given}

@@ -1,7 +1,7 @@
 use Rattle.std.proofs.Common.{List, Option, refl, subst}
 use Rattle.lc_model.specs.declared.connection.Connection.{Connection}
 use Rattle.lc_model.specs.declared.journey.Journey.{Journey}
-use Rattle.convoy.specs.Below.PageJson.declared.page.Page.{Page}
+use Rattle.page_json.specs.declared.page.Page.{Page}
 use Rattle.change_rounds.specs.Fewest.{IsFewestChain}
 use Rattle.rounds_client.specs.Given.{connections_of_pages}
 use Rattle.rounds_client.proofs.MomentLemmas.{arrives_at_a_moment}

@@ -1,5 +1,5 @@
 use Rattle.std.proofs.Common.{◌++◌, sym, ap, subst}
-use Rattle.wire_session.specs.Below.Publisher.Held.{Held, side_of}
+use Rattle.publisher.specs.Held.{Held, side_of}
 use Rattle.cli_serve.specs.Said.{left_by}
 use Rattle.cli_serve.specs.Serving.{ServingState}
 use Rattle.wire_session.specs.Phase.{is_ended}

@@ -1,6 +1,6 @@
 use Rattle.std.proofs.Common.{◌≡◌, ◌∙◌, ap, subst, ℕ, List, Option, Some, None, true}
 use Rattle.std.specs.Option.{IfSome, option_copied}
-use Rattle.publisher_spec.specs.Below.Memento.Negotiation.{Negotiates}
+use Rattle.memento.specs.Negotiation.{Negotiates}
 use Rattle.publisher.specs.Held.{side_of}
 use Rattle.publisher_spec.specs.Side.{versions_of}
 use Rattle.publisher.proofs.VersionsLemmas.{has, negotiated_is_there}

@@ -1,6 +1,6 @@
 use Rattle.std.proofs.Common.{◌∙◌, subst, sym}
 use Rattle.lc_model.specs.Connection.{NoneArrivesEarly}
-use Rattle.publisher_spec.specs.Below.PageJson.Valid.{IsValidPage}
+use Rattle.page_json.specs.Valid.{IsValidPage}
 use Rattle.publisher.specs.Held.{side_of}
 use Rattle.publisher.specs.Inside.{held_of}
 use Rattle.publisher.specs.PlaceOf.{IsPlaceOf}

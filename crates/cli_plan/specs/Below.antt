@@ -1,3 +1,0 @@
--- The definitions of the crates below, for the crates above.
-pub mod CliReplay
-pub mod PageRelay

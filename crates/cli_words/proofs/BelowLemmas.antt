@@ -1,3 +1,0 @@
--- The lemmas of the crates below, for the crates above.
-pub mod CsaScan
-pub mod LcTime

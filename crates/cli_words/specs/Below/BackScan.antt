@@ -1,4 +1,0 @@
--- What the crates above name of `back_scan`.
-pub use Rattle.back_scan.specs.Forward
-pub use Rattle.back_scan.specs.Latest
-pub use Rattle.back_scan.specs.declared

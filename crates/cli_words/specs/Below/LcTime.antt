@@ -1,4 +1,0 @@
--- What the crates above name of `lc_time`.
-pub use Rattle.lc_time.specs.Iso
-pub use Rattle.lc_time.specs.Zone
-pub use Rattle.lc_time.specs.declared

@@ -1,2 +1,0 @@
--- What the crates above name of `csa_scan`.
-pub use Rattle.page_client.specs.Below.CsaScan.StandsFor

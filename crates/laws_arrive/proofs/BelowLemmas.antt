@@ -1,2 +1,0 @@
--- The lemmas of the crates below, for the crates above.
-pub mod LawsPages

@@ -1,3 +1,0 @@
--- What the crates above name of `laws_pages`.
-pub use Rattle.laws_pages.proofs.JourneysLemmas
-pub use Rattle.laws_pages.proofs.LegLemmas

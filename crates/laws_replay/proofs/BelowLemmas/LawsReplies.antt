@@ -1,2 +1,0 @@
--- What the crates above name of `laws_replies`.
-pub use Rattle.cli_ask.proofs.BelowLemmas.LawsReplies.AloneLemmas

@@ -1,3 +1,0 @@
--- What the crates above name of `version_store`.
-pub use Rattle.cli_ask.specs.Below.VersionStore.Admission
-pub use Rattle.cli_ask.specs.Below.VersionStore.declared

@@ -1,3 +1,0 @@
--- What the crates above name of `timetable`.
-pub use Rattle.cli_ask.specs.Below.Timetable.Scope
-pub use Rattle.cli_ask.specs.Below.Timetable.declared

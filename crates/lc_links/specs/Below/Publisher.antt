@@ -1,3 +1,0 @@
--- What the crates above name of `publisher`.
-pub use Rattle.publisher.specs.Held
-pub use Rattle.publisher.specs.Laws

@@ -1,4 +1,0 @@
--- What the crates above name of `http_text`.
-pub use Rattle.publisher_spec.proofs.BelowLemmas.HttpText.MessageLemmas
-pub use Rattle.publisher_spec.proofs.BelowLemmas.HttpText.QueryLemmas
-pub use Rattle.publisher_spec.proofs.BelowLemmas.HttpText.ReplyLemmas

@@ -1,2 +1,0 @@
--- What the crates above name of `publisher_spec`.
-pub use Rattle.publisher_spec.proofs.LaterLemmas

@@ -1,4 +1,0 @@
--- The definitions of the crates below, for the crates above.
-pub mod ConnectionUri
-pub mod HttpText
-pub mod PublisherSpec

@@ -1,6 +1,0 @@
--- What the crates above name of `http_text`.
-pub use Rattle.publisher_spec.specs.Below.HttpText.Reply
-pub use Rattle.publisher_spec.specs.Below.HttpText.ReplyText
-pub use Rattle.publisher_spec.specs.Below.HttpText.Request
-pub use Rattle.publisher_spec.specs.Below.HttpText.RequestText
-pub use Rattle.publisher_spec.specs.Below.HttpText.declared

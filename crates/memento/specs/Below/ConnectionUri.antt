@@ -1,3 +1,0 @@
--- What the crates above name of `connection_uri`.
-pub use Rattle.connection_uri.specs.Base
-pub use Rattle.connection_uri.specs.Page

@@ -1,3 +1,0 @@
--- What the crates above name of `connection_uri`.
-pub use Rattle.memento.proofs.BelowLemmas.ConnectionUri.BaseLemmas
-pub use Rattle.memento.proofs.BelowLemmas.ConnectionUri.JoinLemmas

@@ -1,7 +1,0 @@
--- The definitions of the crates below, for the crates above.
-pub mod ConnectionUri
-pub mod CsaScan
-pub mod HttpText
-pub mod JsonMembers
-pub mod Memento
-pub mod PageJson

@@ -1,4 +1,0 @@
--- The lemmas of the crates below, for the crates above.
-pub mod HttpText
-pub mod JsonMembers
-pub mod PublisherSpec

@@ -1,7 +1,0 @@
--- The lemmas of the crates below, for the crates above.
-pub mod ConnectionUri
-pub mod HttpText
-pub mod JsonMembers
-pub mod LcTime
-pub mod PageJson
-pub mod TripUpdates

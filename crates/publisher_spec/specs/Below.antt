@@ -1,7 +1,0 @@
--- The definitions of the crates below, for the crates above.
-pub mod ConnectionUri
-pub mod HttpText
-pub mod LcTime
-pub mod Memento
-pub mod PageJson
-pub mod TripUpdates

@@ -1,3 +1,0 @@
--- What the crates above name of `lc_time`.
-pub use Rattle.lc_time.specs.Http
-pub use Rattle.lc_time.specs.Iso

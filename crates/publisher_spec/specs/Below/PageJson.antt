@@ -1,7 +1,0 @@
--- What the crates above name of `page_json`.
-pub use Rattle.page_json.specs.PageReading
-pub use Rattle.page_json.specs.Sound
-pub use Rattle.page_json.specs.StopsReading
-pub use Rattle.page_json.specs.Tree
-pub use Rattle.page_json.specs.Valid
-pub use Rattle.page_json.specs.declared

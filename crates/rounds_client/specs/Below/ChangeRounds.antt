@@ -1,2 +1,0 @@
--- What the crates above name of `change_rounds`.
-pub use Rattle.change_rounds.specs.Fewest

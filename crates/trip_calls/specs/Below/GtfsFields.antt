@@ -1,2 +1,0 @@
--- What the crates above name of `gtfs_fields`.
-pub use Rattle.gtfs_fields.specs.declared

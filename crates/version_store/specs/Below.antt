@@ -1,2 +1,0 @@
--- The definitions of the crates below, for the crates above.
-pub mod LcVersions

@@ -1,4 +1,0 @@
--- What the crates above name of `lc_versions`.
-pub use Rattle.fragmenter.specs.Below.LcVersions.History
-pub use Rattle.fragmenter.specs.Below.LcVersions.Timetable
-pub use Rattle.fragmenter.specs.Below.LcVersions.declared
