@@ -17,4 +17,4 @@ mod turn;
 mod update;
 
 pub use index::Index;
-pub use laws::one_list_of_rows;
+pub use laws::one_index;

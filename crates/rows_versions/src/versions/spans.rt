@@ -10,7 +10,7 @@ use crate::making::MIDNIGHT;
 use lc_model::{Moment, Run, Stops};
 use live_calls::live;
 use rows_common::{Draft, Unmade};
-use span_index::{Index, one_list_of_rows};
+use span_index::{Index, one_index};
 use std::alloc::Global;
 
 /// The run of a trip with the calls of the list of this name.
@@ -132,7 +132,7 @@ fn index_of(alloc: Global, stops: &Stops) -> Result<Index, Unmade> {
 
 /// The rows of T1, then with T3, then with the calls of T2, then without T3, then as at first.
 pub(super) fn put_spans(alloc: Global, draft: &mut Draft, stops: &Stops) {
-    one_list_of_rows();
+    one_index();
     match index_of(alloc, stops) {
         Ok(index) => put_index(alloc, draft, &index),
         Err(Unmade) => draft.lose(),
