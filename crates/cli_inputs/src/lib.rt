@@ -11,7 +11,7 @@ mod refusal;
 mod script;
 
 pub use inputs::{Inputs, read_inputs};
-pub use laws::one_plan;
+pub use laws::one_planned_script;
 pub use plan::read_plan;
 pub use refusal::Refusal;
 pub use script::{ReplayInputs, read_replay};
