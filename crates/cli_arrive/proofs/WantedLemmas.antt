@@ -28,7 +28,7 @@ use Rattle.lc_model.specs.declared.query.Query.{Query}
 use Rattle.lc_model.specs.declared.query.TheConstants.{LAST_LEAVE}
 use Rattle.lc_model.specs.declared.ride.Ride.{Ride}
 use Rattle.lc_model.specs.declared.run.Run.{Run}
-use Rattle.lc_versions.specs.Pages.{CutPage}
+use Rattle.lc_model.specs.Versions.Pages.{CutPage}
 use Rattle.page_client.specs.Shown.{HasHorizon}
 use Rattle.publisher.specs.Laws.{SomeTimetable}
 use Rattle.publisher_spec.specs.Side.{IsValidSide, Side}

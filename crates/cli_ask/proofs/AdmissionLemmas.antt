@@ -2,9 +2,9 @@
 use Rattle.std.proofs.Common.{◌≡◌, ◌∙◌, ◌⊎◌, ◌+◌, ◌<◌, ◌≤◌, ℕ, inl, inr, List, [], ◌∷◌, ◌++◌, None, Some, Option, ap, ap₂, length, refl, subst, sym}
 use Rattle.std.proofs.lemmas.List.{length_push}
 use Rattle.lc_io.specs.declared.file.File.{File}
-use Rattle.lc_versions.specs.History.{Entry, moments_of}
-use Rattle.lc_versions.specs.Named.{last_of}
-use Rattle.lc_versions.specs.declared.update.Update.{Update}
+use Rattle.lc_model.specs.Versions.History.{Entry, moments_of}
+use Rattle.lc_model.specs.Versions.Named.{last_of}
+use Rattle.lc_model.specs.declared.versions.update.Update.{Update}
 use Rattle.timetable.specs.declared.timetable.Timetable.{Timetable}
 use Rattle.version_store.specs.Admission.{Admits, HasRoom, IsFullFor, IsRefused, IsTaken}
 use Rattle.version_store.specs.Laws.{OneOutcome}

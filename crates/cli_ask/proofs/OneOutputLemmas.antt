@@ -2,7 +2,7 @@
 use Rattle.std.proofs.Common.{◌≡◌, ◌∙◌, ℕ, List, ◌++◌, Option, ap, arith, length, refl, subst, sym}
 use Rattle.lc_io.specs.Counts.{Rose}
 use Rattle.lc_model.specs.declared.query.Query.{Query}
-use Rattle.lc_versions.specs.History.{Entry}
+use Rattle.lc_model.specs.Versions.History.{Entry}
 use Rattle.lc_time.specs.declared.zone.Zone.{Zone}
 use Rattle.lc_world.specs.Link.{LinkSeen}
 use Rattle.lc_world.specs.declared.entry.Entry.{Entry as Recorded}

@@ -1,6 +1,6 @@
 -- A timetable and a message make one publisher.
 use Rattle.std.proofs.Common.{◌≡◌, ◌∙◌, List, ap, refl, sym}
-use Rattle.lc_versions.specs.History.{Entry}
+use Rattle.lc_model.specs.Versions.History.{Entry}
 use Rattle.version_store.specs.Laws.{OneOutcome}
 use Rattle.version_store.specs.Store.{Stored}
 use Rattle.cli_ask.specs.Laws.{OnePublisher}

@@ -8,8 +8,8 @@ use Rattle.lc_model.specs.declared.query.Query.{Query}
 use Rattle.lc_model.specs.declared.run.Run.{Run}
 use Rattle.lc_time.specs.Zone.{date_shown}
 use Rattle.lc_time.specs.declared.zone.Zone.{Zone}
-use Rattle.lc_versions.specs.History.{Entry, news_at}
-use Rattle.lc_versions.specs.Timetable.{AreLiveRuns}
+use Rattle.lc_model.specs.Versions.History.{Entry, news_at}
+use Rattle.lc_model.specs.Versions.Timetable.{AreLiveRuns}
 use Rattle.std.specs.Prelude.{unwrap_or}
 use Rattle.publisher_spec.specs.Side.{Side, date_in, first_date}
 use Rattle.cli_words.specs.declared.command.Publishing.{Publishing}

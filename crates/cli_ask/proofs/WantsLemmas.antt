@@ -7,7 +7,7 @@ use Rattle.lc_model.specs.declared.doc.StopsDoc.{StopsDoc}
 use Rattle.lc_model.specs.declared.page.PageName.{PageName}
 use Rattle.lc_model.specs.declared.query.Query.{Query}
 use Rattle.lc_model.specs.declared.stop.Stop.{Stop}
-use Rattle.lc_versions.specs.Pages.{CutPage}
+use Rattle.lc_model.specs.Versions.Pages.{CutPage}
 use Rattle.laws_clients.specs.Answered.{names_at}
 use Rattle.laws_clients.specs.Wants.{AreWants, HasEnds, wants_of}
 use Rattle.laws_clients.proofs.PublishedLemmas.{made_of}

@@ -9,10 +9,10 @@ use Rattle.std.proofs.lemmas.Fmt.{length-decimal-le}
 use Rattle.std.proofs.lemmas.Int.{to_z_pos}
 use Rattle.std.proofs.lemmas.List.{append-nil, length-append}
 use Rattle.lc_time.specs.Date.{date_said}
-use Rattle.lc_versions.specs.News.{EntitySaid}
-use Rattle.lc_versions.specs.declared.event.Relation.TheVariants as relations
-use Rattle.lc_versions.specs.declared.event.TripKind.TheVariants as kinds
-use Rattle.lc_versions.specs.declared.update.Update.{Update}
+use Rattle.lc_model.specs.Versions.News.{EntitySaid}
+use Rattle.lc_model.specs.declared.versions.event.Relation.TheVariants as relations
+use Rattle.lc_model.specs.declared.versions.event.TripKind.TheVariants as kinds
+use Rattle.lc_model.specs.declared.versions.update.Update.{Update}
 use Rattle.rt_protobuf.specs.Grammar.{WireField, text, varint}
 use Rattle.rt_protobuf.specs.Writing.{IsWritableField, field_text, fields_text, varint_text}
 use Rattle.rt_protobuf.proofs.WritingLemmas.{at_most_ten, fields_are_written}

@@ -1,10 +1,10 @@
 -- The realtime messages: what they say, and their bytes.
 use Rattle.std.specs.Prelude.{ℕ, zero, suc, ◌+◌, ◌*◌, true, List, [], ◌∷◌, ◌++◌, codes, decimal, pos, Some, None}
 use Rattle.lc_time.specs.Date.{date_said}
-use Rattle.lc_versions.specs.News.{EntitySaid, TripSaid}
-use Rattle.lc_versions.specs.declared.event.Relation.TheVariants as relations
-use Rattle.lc_versions.specs.declared.event.TripKind.TheVariants as kinds
-use Rattle.lc_versions.specs.declared.update.Update.{Update}
+use Rattle.lc_model.specs.Versions.News.{EntitySaid, TripSaid}
+use Rattle.lc_model.specs.declared.versions.event.Relation.TheVariants as relations
+use Rattle.lc_model.specs.declared.versions.event.TripKind.TheVariants as kinds
+use Rattle.lc_model.specs.declared.versions.update.Update.{Update}
 use Rattle.rt_protobuf.specs.Grammar.{WireField, text, varint}
 use Rattle.rt_protobuf.specs.Writing.{fields_text}
 use Rattle.cli_drill.specs.Draws.{drawn}

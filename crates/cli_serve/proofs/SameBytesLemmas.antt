@@ -4,7 +4,7 @@ use Rattle.std.specs.List.{concat}
 use Rattle.std.proofs.lemmas.List.Sums.{sum_by-cons}
 use Rattle.lc_io.specs.Door.{DoorRecorded, Wire}
 use Rattle.lc_io.specs.Counts.{Rose, RoseBy}
-use Rattle.lc_versions.specs.History.{Entry}
+use Rattle.lc_model.specs.Versions.History.{Entry}
 use Rattle.publisher_spec.specs.Side.{Side}
 use Rattle.wire_session.specs.Laws.{EndsStay}
 use Rattle.wire_session.specs.SessionOut.{SessionOut}

@@ -5,9 +5,9 @@ use Rattle.http_text.specs.declared.request.Request.{Request}
 use Rattle.lc_model.specs.declared.connection.Connection.{Connection}
 use Rattle.lc_model.specs.declared.date.ServiceDate.{ServiceDate}
 use Rattle.lc_time.specs.declared.zone.Zone.{Zone}
-use Rattle.lc_versions.specs.History.{news_at}
-use Rattle.lc_versions.specs.Timetable.{AreLiveRuns}
-use Rattle.lc_versions.specs.declared.update.Update.{Update}
+use Rattle.lc_model.specs.Versions.History.{news_at}
+use Rattle.lc_model.specs.Versions.Timetable.{AreLiveRuns}
+use Rattle.lc_model.specs.declared.versions.update.Update.{Update}
 use Rattle.publisher_spec.specs.Reply.{IsBehind, IsReply, side_behind}
 use Rattle.publisher_spec.specs.Response.{IsGateResponse, IsPageOf, IsPageResponse, IsResponseTo, IsSentOf, asked_at, status_of_update}
 use Rattle.publisher_spec.specs.Side.{IsTimetableAt, Side, date_in, with_message}

@@ -3,7 +3,7 @@ use Rattle.std.specs.Prelude.{◌≡◌, ◌≢◌, ℕ, true, false, List, ◌+
 use Rattle.lc_io.specs.Door.{DoorRecorded, DoorSeen, Wire}
 use Rattle.lc_io.specs.Counts.{Rose}
 use Rattle.lc_io.specs.Sink.{SinkSeen}
-use Rattle.lc_versions.specs.declared.update.Update.{Update}
+use Rattle.lc_model.specs.declared.versions.update.Update.{Update}
 use Rattle.publisher_spec.specs.Side.{Side, date_in, with_message}
 use Rattle.wire_session.specs.SessionOut.{Said, SessionOut}
 use Rattle.cli_serve.specs.Recorded.{came}

@@ -5,7 +5,7 @@ use Rattle.std.proofs.lemmas.Bool.{cases_order}
 use Rattle.std.proofs.lemmas.Bool.Decides.{nat_tests}
 use Rattle.std.proofs.lemmas.List.Kept.{AllPairs-cons}
 use Rattle.std.proofs.lemmas.List.Elements.{All-cons}
-use Rattle.lc_versions.specs.Cuts.{AreCuts, NeverFalls}
+use Rattle.lc_model.specs.Versions.Cuts.{AreCuts, NeverFalls}
 use Rattle.fragmenter.specs.Cutting.{chosen_cuts}
 use Rattle.fragmenter.specs.Ways.{count_cuts, count_cuts_behind, span_cuts, span_cuts_behind, whole_cuts}
 use Rattle.fragmenter.specs.declared.cutting.Cutting.{Cutting}

@@ -1,5 +1,5 @@
 ghost use Rattle.std.specs.Prelude.{◌≡◌, ℕ, List, IfOk};
-ghost use Rattle.lc_versions.specs.Cuts.{AreCuts, NeverFalls};
+ghost use Rattle.lc_model.specs.Versions.Cuts.{AreCuts, NeverFalls};
 
 use lc_model::{Moment, NoMemory};
 use std::alloc::Global;

@@ -10,7 +10,7 @@ use Rattle.lc_model.specs.declared.page.PageName.{PageName}
 use Rattle.lc_model.specs.declared.query.Query.{Query}
 use Rattle.lc_model.specs.declared.ride.Ride.{Ride}
 use Rattle.lc_model.specs.declared.run.Run.{Run}
-use Rattle.lc_versions.specs.Pages.{CutPage}
+use Rattle.lc_model.specs.Versions.Pages.{CutPage}
 use Rattle.live_calls.proofs.LawLemmas.{one_live_list}
 use Rattle.publisher_spec.specs.PageAt.{named}
 use Rattle.publisher_spec.specs.Side.{IsValidSide, Side}

@@ -13,7 +13,7 @@ use Rattle.lc_model.specs.Ride.{IsRideAt}
 use Rattle.lc_model.specs.declared.connection.Connection.{Connection}
 use Rattle.lc_model.specs.declared.doc.StopsDoc.{StopsDoc}
 use Rattle.lc_model.specs.declared.query.Query.{Query}
-use Rattle.lc_versions.specs.Pages.{CutPage, departing, page_for}
+use Rattle.lc_model.specs.Versions.Pages.{CutPage, departing, page_for}
 use Rattle.laws_pages.specs.Chain.{ArePagesOf, along_next, along_previous, connections_along}
 use Rattle.laws_pages.proofs.ChainLemmas.{before_moment, begins_there, by_or_not, found_by_name, links_part, next_goes_on, next_stays, part_from}
 use Rattle.laws_pages.proofs.FilterLemmas.{pairs_head, pairs_tail}

@@ -7,7 +7,7 @@ use Rattle.lc_model.specs.Stop.{HasStop}
 use Rattle.lc_model.specs.declared.doc.StopsDoc.{StopsDoc}
 use Rattle.lc_model.specs.declared.journey.Journey.{Journey}
 use Rattle.lc_model.specs.declared.page.PageName.{PageName}
-use Rattle.lc_versions.specs.Pages.{CutPage, page_for}
+use Rattle.lc_model.specs.Versions.Pages.{CutPage, page_for}
 use Rattle.connection_uri.specs.Base.{BaseParts}
 use Rattle.connection_uri.specs.Page.{gate_target_of, stops_target_of}
 use Rattle.lc_world.specs.Link.{IsHonestWith, LinkSeen}

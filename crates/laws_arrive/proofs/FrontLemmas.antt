@@ -7,7 +7,7 @@ use Rattle.lc_model.specs.Connection.{NoneArrivesEarly}
 use Rattle.lc_model.specs.declared.connection.Connection.{Connection}
 use Rattle.lc_model.specs.declared.doc.StopsDoc.{StopsDoc}
 use Rattle.lc_model.specs.declared.query.Query.{Query}
-use Rattle.lc_versions.specs.Pages.{CutPage}
+use Rattle.lc_model.specs.Versions.Pages.{CutPage}
 use Rattle.laws_pages.specs.Chain.{ArePagesOf}
 use Rattle.back_scan.specs.Latest.{IsListLatest}
 use Rattle.laws_arrive.specs.Early.{bound_back}

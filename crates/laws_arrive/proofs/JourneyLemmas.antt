@@ -10,7 +10,7 @@ use Rattle.lc_model.specs.declared.doc.StopsDoc.{StopsDoc}
 use Rattle.lc_model.specs.declared.journey.Journey.{Journey}
 use Rattle.lc_model.specs.declared.query.Query.{Query}
 use Rattle.lc_model.specs.declared.ride.Ride.{Ride}
-use Rattle.lc_versions.specs.Pages.{CutPage, page_for}
+use Rattle.lc_model.specs.Versions.Pages.{CutPage, page_for}
 use Rattle.laws_pages.specs.Chain.{ArePagesOf, along_previous, connections_along}
 use Rattle.laws_pages.proofs.ChainLemmas.{begins_there, links_part}
 use Rattle.laws_pages.proofs.PartJourneyLemmas.{chain_of_front, chain_of_rest}

@@ -3,8 +3,8 @@ use Rattle.std.proofs.Common.{◌≡◌, ℕ, List, [], ◌∷◌, Bool, true, f
 use Rattle.std.specs.Prelude.{◌||◌, ◌==◌}
 use Rattle.std.specs.List.{list_any}
 use Rattle.std.proofs.lemmas.Bool.Decides.{nat_tests}
-use Rattle.lc_versions.specs.History.{moments_of}
-use Rattle.lc_versions.specs.Named.{is_by, last_of}
+use Rattle.lc_model.specs.Versions.History.{moments_of}
+use Rattle.lc_model.specs.Versions.Named.{is_by, last_of}
 use Rattle.laws_pages.proofs.FilterLemmas.{filter_drops, filter_takes}
 use Rattle.laws_clients.specs.Stated.{version_at}
 use Rattle.publisher_spec.specs.Side.{Side, has_version}

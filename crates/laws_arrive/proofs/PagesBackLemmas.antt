@@ -10,8 +10,8 @@ use Rattle.lc_model.specs.Question.{latest_of}
 use Rattle.lc_model.specs.declared.connection.Connection.{Connection}
 use Rattle.lc_model.specs.declared.page.PageName.{PageName}
 use Rattle.lc_model.specs.declared.query.Query.{Query}
-use Rattle.lc_versions.specs.Cuts.{first_of}
-use Rattle.lc_versions.specs.Pages.{CutPage, page_for}
+use Rattle.lc_model.specs.Versions.Cuts.{first_of}
+use Rattle.lc_model.specs.Versions.Pages.{CutPage, page_for}
 use Rattle.page_json.specs.declared.page.Page.{Page}
 use Rattle.laws_pages.specs.Chain.{ArePagesOf, along_next, along_previous, connections_along, names_of}
 use Rattle.laws_pages.proofs.ChainLemmas.{by_or_not, links_part, next_goes_on, next_stays, previous_stays}

@@ -8,7 +8,7 @@ use Rattle.lc_model.specs.Leg.{IsLegOf, in_time}
 use Rattle.lc_model.specs.declared.connection.Connection.{Connection}
 use Rattle.lc_model.specs.declared.doc.StopsDoc.{StopsDoc}
 use Rattle.lc_model.specs.declared.query.Query.{Query}
-use Rattle.lc_versions.specs.Pages.{CutPage}
+use Rattle.lc_model.specs.Versions.Pages.{CutPage}
 use Rattle.laws_pages.specs.Chain.{ArePagesOf}
 use Rattle.back_scan.specs.Latest.{IsListLatest}
 use Rattle.back_scan.proofs.OneLatestLemmas.{latest_departures_are_one}

@@ -9,8 +9,8 @@ use Rattle.lc_model.specs.declared.doc.StopsDoc.{StopsDoc}
 use Rattle.lc_model.specs.declared.journey.Journey.{Journey}
 use Rattle.lc_model.specs.declared.page.PageName.{PageName}
 use Rattle.lc_model.specs.declared.query.Query.{Query}
-use Rattle.lc_versions.specs.Cuts.{first_of}
-use Rattle.lc_versions.specs.Pages.{CutPage, departures_of}
+use Rattle.lc_model.specs.Versions.Cuts.{first_of}
+use Rattle.lc_model.specs.Versions.Pages.{CutPage, departures_of}
 use Rattle.connection_uri.specs.Base.{BaseParts}
 use Rattle.connection_uri.specs.Page.{page_target_of}
 use Rattle.lc_world.specs.Link.{IsHonestWith, LinkSeen}

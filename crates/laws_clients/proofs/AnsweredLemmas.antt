@@ -11,7 +11,7 @@ use Rattle.lc_model.specs.declared.journey.Journey.{Journey}
 use Rattle.lc_model.specs.declared.query.Query.{Query}
 use Rattle.lc_model.specs.declared.run.Run.{Run}
 use Rattle.lc_model.proofs.OneValueLemmas.{one_arrival, one_least_arrival}
-use Rattle.lc_versions.specs.Pages.{CutPage}
+use Rattle.lc_model.specs.Versions.Pages.{CutPage}
 use Rattle.csa_scan.specs.StandsFor.{IsBestChain}
 use Rattle.laws_pages.proofs.JourneysLemmas.{chain_is_journey, journey_is_chain}
 use Rattle.laws_pages.proofs.RidesAreLegsLemmas.{Timetable}

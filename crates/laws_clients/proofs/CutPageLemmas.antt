@@ -10,8 +10,8 @@ use Rattle.lc_model.specs.Connection.{InDepartureOrder, NoneArrivesEarly, depart
 use Rattle.lc_model.specs.declared.connection.Connection.{Connection}
 use Rattle.lc_model.specs.declared.page.PageName.{PageName}
 use Rattle.lc_model.proofs.ListLemmas.{AllPairs-nil, Contains-cases, Contains-nil}
-use Rattle.lc_versions.specs.Cuts.{AreCuts, first_of}
-use Rattle.lc_versions.specs.Pages.{CutPage, departing, departures_of, is_before, page_for, pages_from, pages_of}
+use Rattle.lc_model.specs.Versions.Cuts.{AreCuts, first_of}
+use Rattle.lc_model.specs.Versions.Pages.{CutPage, departing, departures_of, is_before, page_for, pages_from, pages_of}
 use Rattle.page_json.specs.Valid.{IsOfVersion, IsValidPage}
 use Rattle.laws_pages.specs.Chain.{ArePagesOf, names_of}
 use Rattle.laws_pages.proofs.ChainLemmas.{Follow, page_of_cut, pages_begin}

@@ -3,7 +3,7 @@ use Rattle.std.proofs.Common.{◌≡◌, ℕ, List, codes, Bool, true, not, Opti
 use Rattle.std.specs.Prelude.{if◌then◌else◌}
 use Rattle.std.proofs.lemmas.Bool.{eq-eqb}
 use Rattle.lc_time.proofs.IsoLemmas.{says_text}
-use Rattle.lc_versions.specs.Pages.{departures_of}
+use Rattle.lc_model.specs.Versions.Pages.{departures_of}
 use Rattle.connection_uri.specs.Page.{page_target_of}
 use Rattle.http_text.specs.ReplyText.{reply_said, reply_text_of}
 use Rattle.http_text.proofs.QueryLemmas.{targets_are_read}

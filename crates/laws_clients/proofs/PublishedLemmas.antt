@@ -7,10 +7,10 @@ use Rattle.lc_model.specs.declared.connection.Connection.{Connection}
 use Rattle.lc_model.specs.declared.run.Run.{Run}
 use Rattle.lc_model.proofs.ConnectionLemmas.{NoneArrivesEarly-sorted}
 use Rattle.lc_model.proofs.OneValueLemmas.{one_list_of_connections}
-use Rattle.lc_versions.specs.History.{Entry, news_at}
-use Rattle.lc_versions.specs.News.{TripSaid}
-use Rattle.lc_versions.specs.Pages.{CutPage, departures_of, pages_of}
-use Rattle.lc_versions.specs.Timetable.{AreLiveRuns}
+use Rattle.lc_model.specs.Versions.History.{Entry, news_at}
+use Rattle.lc_model.specs.Versions.News.{TripSaid}
+use Rattle.lc_model.specs.Versions.Pages.{CutPage, departures_of, pages_of}
+use Rattle.lc_model.specs.Versions.Timetable.{AreLiveRuns}
 use Rattle.live_calls.proofs.LawLemmas.{one_live_list}
 use Rattle.live_calls.proofs.LiveRunsLemmas.{live_runs_go_forward}
 use Rattle.publisher_spec.proofs.PageLemmas.{never_falls}

@@ -8,9 +8,9 @@ use Rattle.lc_model.specs.declared.doc.StopsDoc.{StopsDoc}
 use Rattle.lc_model.specs.declared.page.PageName.{PageName}
 use Rattle.lc_model.specs.declared.query.Query.{Query}
 use Rattle.connection_uri.specs.Base.{BaseParts}
-use Rattle.lc_versions.specs.History.{moments_of}
-use Rattle.lc_versions.specs.Named.{is_by, last_of}
-use Rattle.lc_versions.specs.Pages.{CutPage, departures_of, page_for}
+use Rattle.lc_model.specs.Versions.History.{moments_of}
+use Rattle.lc_model.specs.Versions.Named.{is_by, last_of}
+use Rattle.lc_model.specs.Versions.Pages.{CutPage, departures_of, page_for}
 use Rattle.page_json.specs.Sound.{IsSoundName}
 use Rattle.page_json.specs.declared.page.Page.{Page}
 use Rattle.laws_pages.specs.Rides.{pages_on}

@@ -3,9 +3,9 @@ use Rattle.std.proofs.Common.{ℕ, List, refl}
 use Rattle.lc_model.specs.Connection.{NoneArrivesEarly, connections_of}
 use Rattle.lc_model.specs.declared.connection.Connection.{Connection}
 use Rattle.lc_model.proofs.ConnectionLemmas.{NoneArrivesEarly-sorted}
-use Rattle.lc_versions.specs.Cuts.{AreCuts}
-use Rattle.lc_versions.specs.History.{news_at}
-use Rattle.lc_versions.specs.Pages.{departures_of}
+use Rattle.lc_model.specs.Versions.Cuts.{AreCuts}
+use Rattle.lc_model.specs.Versions.History.{news_at}
+use Rattle.lc_model.specs.Versions.Pages.{departures_of}
 use Rattle.live_calls.proofs.LiveRunsLemmas.{live_runs_go_forward}
 use Rattle.publisher_spec.specs.Side.{IsTimetableAt, IsValidSide, Side, date_in}
 use Rattle.publisher_spec.proofs.PageLemmas.{never_falls}

@@ -11,8 +11,8 @@ use Rattle.lc_model.specs.declared.doc.StopsDoc.{StopsDoc}
 use Rattle.lc_model.specs.declared.journey.Journey.{Journey}
 use Rattle.lc_model.specs.declared.page.PageName.{PageName}
 use Rattle.lc_model.specs.declared.query.Query.{Query}
-use Rattle.lc_versions.specs.Cuts.{first_of}
-use Rattle.lc_versions.specs.Pages.{CutPage}
+use Rattle.lc_model.specs.Versions.Cuts.{first_of}
+use Rattle.lc_model.specs.Versions.Pages.{CutPage}
 use Rattle.csa_scan.specs.Done.{IsDone}
 use Rattle.csa_scan.specs.StandsFor.{IsBestChain}
 use Rattle.page_json.specs.Sound.{IsSoundName}

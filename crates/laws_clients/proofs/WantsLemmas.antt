@@ -7,7 +7,7 @@ use Rattle.lc_model.specs.Leg.{IsListBest}
 use Rattle.lc_model.specs.Ride.{IsRideAt}
 use Rattle.lc_model.specs.declared.page.PageName.{PageName}
 use Rattle.lc_model.specs.declared.query.Query.{Query}
-use Rattle.lc_versions.specs.Pages.{CutPage}
+use Rattle.lc_model.specs.Versions.Pages.{CutPage}
 use Rattle.laws_pages.specs.Needed.{AreNeeded, up_to_bound}
 use Rattle.laws_pages.specs.Rides.{pages_on}
 use Rattle.laws_pages.specs.Stop.{bound_of}

@@ -4,7 +4,7 @@ use Rattle.lc_model.specs.Stop.{HasStop}
 use Rattle.lc_model.specs.declared.answer.Answer.{Answer}
 use Rattle.lc_model.specs.declared.answer.Answer.TheVariants as answers
 use Rattle.lc_model.specs.declared.page.PageName.{PageName}
-use Rattle.lc_versions.specs.Pages.{CutPage, page_for}
+use Rattle.lc_model.specs.Versions.Pages.{CutPage, page_for}
 use Rattle.page_json.specs.Sound.{IsSoundName}
 use Rattle.laws_pages.specs.Chain.{connections_along}
 use Rattle.laws_pages.specs.Needed.{IsOver}

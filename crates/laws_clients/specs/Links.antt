@@ -3,8 +3,8 @@
 use Rattle.std.specs.Prelude.{◌≡◌, ◌⊎◌, ℕ, List, [], ◌∷◌, reverse, Some, None}
 use Rattle.std.specs.List.{flat_map}
 use Rattle.lc_model.specs.declared.connection.Connection.{Connection}
-use Rattle.lc_versions.specs.Cuts.{first_of}
-use Rattle.lc_versions.specs.Pages.{departing, departures_of}
+use Rattle.lc_model.specs.Versions.Cuts.{first_of}
+use Rattle.lc_model.specs.Versions.Pages.{departing, departures_of}
 use Rattle.page_json.specs.declared.page.Page.{Page}
 use Rattle.publisher_spec.specs.Response.{IsPageOf}
 use Rattle.publisher_spec.specs.Side.{IsTimetableAt, IsValidSide, Side}

@@ -4,10 +4,10 @@ use Rattle.std.specs.List.{last_or}
 use Rattle.lc_model.specs.Connection.{AreConnectionsOf}
 use Rattle.lc_model.specs.declared.connection.Connection.{Connection}
 use Rattle.lc_model.specs.declared.run.Run.{Run}
-use Rattle.lc_versions.specs.Cuts.{first_of}
-use Rattle.lc_versions.specs.History.{news_at}
-use Rattle.lc_versions.specs.Pages.{CutPage, departures_of, pages_of}
-use Rattle.lc_versions.specs.Timetable.{AreLiveRuns}
+use Rattle.lc_model.specs.Versions.Cuts.{first_of}
+use Rattle.lc_model.specs.Versions.History.{news_at}
+use Rattle.lc_model.specs.Versions.Pages.{CutPage, departures_of, pages_of}
+use Rattle.lc_model.specs.Versions.Timetable.{AreLiveRuns}
 use Rattle.page_json.specs.Sound.{IsSoundPage}
 use Rattle.page_json.specs.declared.page.Page.{Page}
 use Rattle.laws_pages.specs.Chain.{names_of}

@@ -4,8 +4,8 @@ use Rattle.std.specs.Prelude.{◌≡◌, ℕ, true, List, Option, None, Ok}
 use Rattle.lc_model.specs.declared.page.PageName.{PageName}
 use Rattle.lc_model.specs.declared.query.Query.{Query}
 use Rattle.connection_uri.specs.Page.{gate_target_of, page_target_of, stops_target_of}
-use Rattle.lc_versions.specs.History.{moments_of}
-use Rattle.lc_versions.specs.Named.{version_named}
+use Rattle.lc_model.specs.Versions.History.{moments_of}
+use Rattle.lc_model.specs.Versions.Named.{version_named}
 use Rattle.page_client.specs.Gate.{IsGateReply}
 use Rattle.page_client.specs.Page.{IsPageReply}
 use Rattle.page_client.specs.Request.{Asks}

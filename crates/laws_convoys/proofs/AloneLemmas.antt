@@ -7,8 +7,8 @@ use Rattle.std.proofs.lemmas.List.Elements.{All-contains, Contains-append_right}
 use Rattle.lc_model.specs.declared.page.PageName.{PageName}
 use Rattle.lc_model.specs.declared.query.Query.{Query}
 use Rattle.lc_model.proofs.ListLemmas.{AllPairs-head, AllPairs-tail, ComesFrom, ComesFrom-map, Contains-cases, Contains-here, Contains-nil}
-use Rattle.lc_versions.specs.History.{Entry}
-use Rattle.lc_versions.specs.Pages.{CutPage}
+use Rattle.lc_model.specs.Versions.History.{Entry}
+use Rattle.lc_model.specs.Versions.Pages.{CutPage}
 use Rattle.laws_pages.specs.Chain.{along_previous}
 use Rattle.laws_pages.proofs.RowLemmas.{names_rise}
 use Rattle.page_client.specs.Client.{shown}

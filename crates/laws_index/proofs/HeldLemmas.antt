@@ -21,11 +21,11 @@ use Rattle.lc_model.specs.declared.key.RunKey.{RunKey}
 use Rattle.lc_model.specs.declared.run.Run.{Run}
 use Rattle.lc_model.specs.declared.stop.Stop.{Stop}
 use Rattle.lc_model.proofs.ListLemmas.{AllPairs-weaker, Contains-flat_map, StandsIn-flat_map}
-use Rattle.lc_versions.specs.Added.{IsFurtherRun, added_calls, news_of_key}
-use Rattle.lc_versions.specs.Live.{live_calls_of}
-use Rattle.lc_versions.specs.Naming.{news_for}
-use Rattle.lc_versions.specs.News.{TripSaid}
-use Rattle.lc_versions.specs.Timetable.{IsLiveRun}
+use Rattle.lc_model.specs.Versions.Added.{IsFurtherRun, added_calls, news_of_key}
+use Rattle.lc_model.specs.Versions.Live.{live_calls_of}
+use Rattle.lc_model.specs.Versions.Naming.{news_for}
+use Rattle.lc_model.specs.Versions.News.{TripSaid}
+use Rattle.lc_model.specs.Versions.Timetable.{IsLiveRun}
 use Rattle.live_calls.proofs.LiveRunsLemmas.{live_runs_go_forward}
 use Rattle.laws_index.specs.Held.{HeldAreLive, KeysApart, LiveRunsHold, OneRunOfKey, OrderedAreLive, SameConnections}
 use Rattle.laws_index.proofs.ItemsLemmas.{apart_once, same_items}

@@ -5,9 +5,9 @@ use Rattle.std.proofs.lemmas.List.{append-nil, get_or-drop, get_or-map, get_or-t
 use Rattle.std.proofs.lemmas.List.Elements.{filter-append}
 use Rattle.lc_model.specs.declared.date.ServiceDate.{ServiceDate}
 use Rattle.lc_model.proofs.RangesLemmas.{filter_all, filter_none}
-use Rattle.lc_versions.specs.History.{Entry, IsRising, kept_after, kept_behind, moments_of, news_at, up_to}
-use Rattle.lc_versions.specs.Named.{last_of}
-use Rattle.lc_versions.specs.News.{EntitySaid}
+use Rattle.lc_model.specs.Versions.History.{Entry, IsRising, kept_after, kept_behind, moments_of, news_at, up_to}
+use Rattle.lc_model.specs.Versions.Named.{last_of}
+use Rattle.lc_model.specs.Versions.News.{EntitySaid}
 use Rattle.laws_index.specs.Kept.{ForceGoesOn, NewestNews, NewsOfNumber, OlderNewsStay, entities_after, news_in, version_at}
 
 behind_both : (date_of : ℕ → ServiceDate) (kept : List EntitySaid) (first second : List Entry) → kept_behind date_of kept (first ++ second) ≡ kept_behind date_of (kept_behind date_of kept first) second

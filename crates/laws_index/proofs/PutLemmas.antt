@@ -4,8 +4,8 @@ use Rattle.std.specs.Prelude.{if◌then◌else◌, ◌&&◌, ◌||◌, is_some}
 use Rattle.std.proofs.lemmas.List.{append-nil, append_assoc}
 use Rattle.std.proofs.lemmas.List.Elements.{filter-append}
 use Rattle.lc_model.specs.Change.{is_same_id}
-use Rattle.lc_versions.specs.History.{put, with_news}
-use Rattle.lc_versions.specs.News.{EntitySaid, TripSaid}
+use Rattle.lc_model.specs.Versions.History.{put, with_news}
+use Rattle.lc_model.specs.Versions.News.{EntitySaid, TripSaid}
 use Rattle.laws_index.specs.Kept.{PutAtOnce, has_id, last_of_ids}
 
 one_test : {X : Type 0} (p q r : X → Bool) (x : X) (xs : List X) → filter p (filter q xs) ≡ filter r xs → (b c d : Bool) → q x ≡ b → p x ≡ c → r x ≡ d → r x ≡ (q x && p x)

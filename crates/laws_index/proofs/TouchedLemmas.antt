@@ -14,10 +14,10 @@ use Rattle.lc_model.specs.declared.key.RunKey.{RunKey}
 use Rattle.lc_model.specs.declared.run.Run.{Run}
 use Rattle.lc_model.specs.declared.stop.Stop.{Stop}
 use Rattle.lc_model.proofs.KeyLemmas.{same_dates}
-use Rattle.lc_versions.specs.Added.{has_key, is_start, news_of_key}
-use Rattle.lc_versions.specs.Live.{live_calls_of}
-use Rattle.lc_versions.specs.Naming.{is_added, is_on, names_run, news_for, starts_so}
-use Rattle.lc_versions.specs.News.{TripSaid}
+use Rattle.lc_model.specs.Versions.Added.{has_key, is_start, news_of_key}
+use Rattle.lc_model.specs.Versions.Live.{live_calls_of}
+use Rattle.lc_model.specs.Versions.Naming.{is_added, is_on, names_run, news_for, starts_so}
+use Rattle.lc_model.specs.Versions.News.{TripSaid}
 use Rattle.laws_index.specs.Held.{IsRunBy}
 use Rattle.laws_index.specs.Touched.{HasSameNews, IsLeft, IsRunAfter, IsTouchedKey, LiveAfterLive, NoneHas, OthersStay, SameNewsSameRun, TouchFewKeys, UpdateHolds, is_touched, touches}
 use Rattle.laws_index.proofs.HeldLemmas.{one_run}

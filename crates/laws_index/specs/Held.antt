@@ -11,9 +11,9 @@ use Rattle.lc_model.specs.RunKey.{key_cmp}
 use Rattle.lc_model.specs.declared.connection.Connection.{Connection}
 use Rattle.lc_model.specs.declared.run.Run.{Run}
 use Rattle.lc_model.specs.declared.stop.Stop.{Stop}
-use Rattle.lc_versions.specs.Added.{IsFurtherRun}
-use Rattle.lc_versions.specs.News.{TripSaid}
-use Rattle.lc_versions.specs.Timetable.{AreLiveRuns, IsLiveRun}
+use Rattle.lc_model.specs.Versions.Added.{IsFurtherRun}
+use Rattle.lc_model.specs.Versions.News.{TripSaid}
+use Rattle.lc_model.specs.Versions.Timetable.{AreLiveRuns, IsLiveRun}
 
 -- no item is twice in the list
 abbrev pub NoneTwice : {X : Type 0} → List X → Type 0

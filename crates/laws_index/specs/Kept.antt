@@ -3,9 +3,9 @@ use Rattle.std.specs.Prelude.{◌≡◌, ℕ, ◌<◌, ◌≤◌, List, [], ◌�
 use Rattle.std.specs.List.{filter_map, list_any}
 use Rattle.lc_model.specs.Change.{is_same_id}
 use Rattle.lc_model.specs.declared.date.ServiceDate.{ServiceDate}
-use Rattle.lc_versions.specs.History.{Entry, IsRising, kept_after, kept_behind, moments_of, news_at, put_all, with_news}
-use Rattle.lc_versions.specs.Named.{last_of}
-use Rattle.lc_versions.specs.News.{EntitySaid, TripSaid}
+use Rattle.lc_model.specs.Versions.History.{Entry, IsRising, kept_after, kept_behind, moments_of, news_at, put_all, with_news}
+use Rattle.lc_model.specs.Versions.Named.{last_of}
+use Rattle.lc_model.specs.Versions.News.{EntitySaid, TripSaid}
 
 -- the entities in force after all messages of a history
 abbrev pub entities_after : (ℕ → ServiceDate) → List Entry → List EntitySaid

@@ -5,8 +5,8 @@ use Rattle.lc_model.specs.Connection.{AreConnectionsOf, connections_of, departur
 use Rattle.lc_model.specs.Run.{RunsForward}
 use Rattle.lc_model.specs.declared.connection.Connection.{Connection}
 use Rattle.lc_model.specs.declared.run.Run.{Run}
-use Rattle.lc_versions.specs.Cuts.{NeverFalls}
-use Rattle.lc_versions.specs.Pages.{departing, departures_of}
+use Rattle.lc_model.specs.Versions.Cuts.{NeverFalls}
+use Rattle.lc_model.specs.Versions.Pages.{departing, departures_of}
 use Rattle.laws_index.specs.Held.{KeysApart}
 
 -- the connections of runs that depart from a moment on, and before the other one where there is one, in departure order

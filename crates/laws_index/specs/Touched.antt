@@ -5,10 +5,10 @@ use Rattle.lc_model.specs.Run.{InKeyOrder}
 use Rattle.lc_model.specs.declared.key.RunKey.{RunKey}
 use Rattle.lc_model.specs.declared.run.Run.{Run}
 use Rattle.lc_model.specs.declared.stop.Stop.{Stop}
-use Rattle.lc_versions.specs.Added.{has_key, news_of_key}
-use Rattle.lc_versions.specs.Naming.{names_run, news_for}
-use Rattle.lc_versions.specs.News.{TripSaid}
-use Rattle.lc_versions.specs.Timetable.{AreLiveRuns}
+use Rattle.lc_model.specs.Versions.Added.{has_key, news_of_key}
+use Rattle.lc_model.specs.Versions.Naming.{names_run, news_for}
+use Rattle.lc_model.specs.Versions.News.{TripSaid}
+use Rattle.lc_model.specs.Versions.Timetable.{AreLiveRuns}
 use Rattle.laws_index.specs.Held.{AreRunsBy, IsRunBy}
 
 -- the news touch a key: they name the run of the timetable with this key, or have exactly this key

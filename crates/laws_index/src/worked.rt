@@ -1,5 +1,5 @@
 ghost use Rattle.lc_model.specs.declared.key.RunKey.{RunKey};
-ghost use Rattle.lc_versions.specs.News.{TripSaid};
+ghost use Rattle.lc_model.specs.Versions.News.{TripSaid};
 ghost use Rattle.laws_index.specs.Worked.{WorkedIds, WorkedSpots};
 
 /// Small values that were worked out by hand.

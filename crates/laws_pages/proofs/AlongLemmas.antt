@@ -9,7 +9,7 @@ use Rattle.lc_model.specs.declared.doc.StopsDoc.{StopsDoc}
 use Rattle.lc_model.specs.declared.journey.Journey.{Journey}
 use Rattle.lc_model.specs.declared.query.Query.{Query}
 use Rattle.lc_model.specs.declared.ride.Ride.{Ride}
-use Rattle.lc_versions.specs.Pages.{CutPage, departing}
+use Rattle.lc_model.specs.Versions.Pages.{CutPage, departing}
 use Rattle.laws_pages.specs.Chain.{ArePagesOf, along_previous, connections_along}
 use Rattle.laws_pages.specs.Rides.{ChainsAreThere, EarlyMayGo, LeastIsThere, LeastWithoutEarly, LegsStandThere, LegsThereAreLegs, connections_on}
 use Rattle.laws_pages.proofs.ChainLemmas.{before_moment, part_to}

@@ -8,8 +8,8 @@ use Rattle.std.proofs.lemmas.List.{append-nil, reverse-append}
 use Rattle.std.proofs.lemmas.List.Elements.{All-append, All-cons, All-head, All-nil, All-tail, All-weaker, Contains-append_right, filter-append, filter_passes}
 use Rattle.std.proofs.lemmas.List.Kept.{AllPairs-cons}
 use Rattle.lc_model.specs.declared.connection.Connection.{Connection}
-use Rattle.lc_versions.specs.Cuts.{first_of}
-use Rattle.lc_versions.specs.Pages.{CutPage, departing, departures_of, last_page, page_for, pages_from}
+use Rattle.lc_model.specs.Versions.Cuts.{first_of}
+use Rattle.lc_model.specs.Versions.Pages.{CutPage, departing, departures_of, last_page, page_for, pages_from}
 use Rattle.laws_pages.specs.Chain.{along_next, along_previous, connections_along}
 use Rattle.laws_pages.proofs.DeparturesLemmas.{Sorted, all_after, between, is_within, no_part_beyond, part_at, part_begins, whole_part}
 use Rattle.laws_pages.proofs.FilterLemmas.{filter_all, filter_drops, filter_none, filter_takes, pairs_head, pairs_tail}

@@ -12,8 +12,8 @@ use Rattle.std.proofs.lemmas.List.Elements.{All-cons, All-contains, All-map, All
 use Rattle.lc_model.specs.Connection.{InDepartureOrder, departure_cmp}
 use Rattle.lc_model.specs.RunKey.{key_cmp}
 use Rattle.lc_model.specs.declared.connection.Connection.{Connection}
-use Rattle.lc_versions.specs.Cuts.{first_of}
-use Rattle.lc_versions.specs.Pages.{departing, departures_of, is_before}
+use Rattle.lc_model.specs.Versions.Cuts.{first_of}
+use Rattle.lc_model.specs.Versions.Pages.{departing, departures_of, is_before}
 use Rattle.laws_pages.proofs.FilterLemmas.{filter_all, filter_drops, filter_none, filter_takes, pairs_head, pairs_tail}
 use Rattle.lc_model.proofs.ConnectionLemmas.{departs_by}
 

@@ -6,7 +6,7 @@ use Rattle.std.proofs.lemmas.Bool.Decides.{nat_tests}
 use Rattle.std.proofs.lemmas.List.{append-nil}
 use Rattle.std.proofs.lemmas.List.Elements.{All-cons, All-map, All-nil, All-weaker, filter-append}
 use Rattle.lc_model.specs.declared.connection.Connection.{Connection}
-use Rattle.lc_versions.specs.Pages.{CutPage, pages_from, pages_of}
+use Rattle.lc_model.specs.Versions.Pages.{CutPage, pages_from, pages_of}
 use Rattle.laws_pages.specs.Chain.{CutsNameNeighbours, names_of}
 use Rattle.laws_pages.proofs.ChainLemmas.{all_later}
 use Rattle.laws_pages.proofs.FilterLemmas.{filter_all, filter_drops, filter_none}

@@ -5,8 +5,8 @@ use Rattle.std.specs.List.{All, Contains}
 use Rattle.std.proofs.lemmas.List.Concat.{flat_map-append}
 use Rattle.std.proofs.lemmas.List.Elements.{All-contains, All-nil, Contains-append_cases, Contains-get_or}
 use Rattle.lc_model.specs.declared.connection.Connection.{Connection}
-use Rattle.lc_versions.specs.Cuts.{AreCuts, first_of}
-use Rattle.lc_versions.specs.Pages.{CutPage, departing, departures_of, page_for, pages_from, pages_of}
+use Rattle.lc_model.specs.Versions.Cuts.{AreCuts, first_of}
+use Rattle.lc_model.specs.Versions.Pages.{CutPage, departing, departures_of, page_for, pages_from, pages_of}
 use Rattle.laws_pages.specs.Chain.{AreTheList, ArePagesOf, BackAreTheRest, BeginOnTime, FoundByName, IsGreatestByThen, IsWhereNextBegins, LateAreAlongNext, LinksPartPages, NamesRise, NeverEmpty, NextAreTheSuffix, SecondsAreWhole, along_next, along_previous, connections_along}
 use Rattle.laws_pages.proofs.ChainLemmas.{Follow, all_from_first, before_moment, before_name, begins_there, found_by_name as found_in_row, is_greatest, is_one_of, links_part, names_rise as rise_by_name, next_are_part, no_departures, pages_are_part, pages_begin, pages_follow, part_from, parts_there, seconds_are_whole as are_whole}
 use Rattle.laws_pages.proofs.DeparturesLemmas.{Sorted, sorted_from_order}

@@ -7,7 +7,7 @@ use Rattle.lc_model.specs.Connection.{InDepartureOrder, NoneArrivesEarly, last_d
 use Rattle.lc_model.specs.Leg.{IsListBest}
 use Rattle.lc_model.specs.declared.connection.Connection.{Connection}
 use Rattle.lc_model.specs.declared.query.Query.{Query}
-use Rattle.lc_versions.specs.Pages.{CutPage}
+use Rattle.lc_model.specs.Versions.Pages.{CutPage}
 use Rattle.laws_pages.specs.Chain.{ArePagesOf, along_next, connections_along}
 use Rattle.laws_pages.specs.Rides.{connections_on, pages_on}
 use Rattle.laws_pages.specs.Stop.{PagesMayBeAll}

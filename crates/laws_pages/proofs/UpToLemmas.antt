@@ -1,6 +1,6 @@
 -- The pages up to the first one that reaches a bound.
 use Rattle.std.proofs.Common.{◌≡◌, ℕ, ◌⊎◌, inl, inr, List, [], ◌∷◌, ◌++◌, Bool, true, false, cond, refl, ap, sym, subst, ◌∙◌}
-use Rattle.lc_versions.specs.Pages.{CutPage}
+use Rattle.lc_model.specs.Versions.Pages.{CutPage}
 use Rattle.laws_pages.specs.Needed.{reaches, up_to_bound}
 use Rattle.lc_model.specs.Connection.{last_departure}
 

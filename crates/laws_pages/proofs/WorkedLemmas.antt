@@ -18,9 +18,9 @@ use Rattle.lc_model.specs.declared.journey.Journey.{Journey}
 use Rattle.lc_model.specs.declared.key.RunKey.{RunKey}
 use Rattle.lc_model.specs.declared.query.Query.{Query}
 use Rattle.lc_model.specs.declared.ride.Ride.{Ride}
-use Rattle.lc_versions.specs.Cuts.{first_of}
-use Rattle.lc_versions.specs.Pages.{CutPage, departures_of}
-use Rattle.lc_versions.specs.Worked.{connection_at, page_at}
+use Rattle.lc_model.specs.Versions.Cuts.{first_of}
+use Rattle.lc_model.specs.Versions.Pages.{CutPage, departures_of}
+use Rattle.lc_model.specs.Versions.Worked.{connection_at, page_at}
 use Rattle.laws_pages.specs.Chain.{along_next, names_of}
 use Rattle.laws_pages.specs.Needed.{needed_names, up_to_bound}
 use Rattle.laws_pages.specs.Worked.{FrontMayBeAllAtOnce, Leaves, RefusedCuts, WorkedNeeded, WorkedSeconds, at, at_eight, four, from_nine, in_sequence, page_with, six}

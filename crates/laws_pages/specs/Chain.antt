@@ -4,8 +4,8 @@ use Rattle.std.specs.Prelude.{◌≡◌, ℕ, ◌<◌, ◌≤◌, ◌⊎◌, Lis
 use Rattle.std.specs.List.{All, AllPairs, Contains, flat_map}
 use Rattle.lc_model.specs.Connection.{InDepartureOrder}
 use Rattle.lc_model.specs.declared.connection.Connection.{Connection}
-use Rattle.lc_versions.specs.Cuts.{AreCuts, first_of}
-use Rattle.lc_versions.specs.Pages.{CutPage, departing, departures_of, page_for, pages_of}
+use Rattle.lc_model.specs.Versions.Cuts.{AreCuts, first_of}
+use Rattle.lc_model.specs.Versions.Pages.{CutPage, departing, departures_of, page_for, pages_of}
 
 -- the connections of pages, page by page
 abbrev pub connections_along : List CutPage → List Connection

@@ -9,7 +9,7 @@ use Rattle.lc_model.specs.declared.doc.StopsDoc.{StopsDoc}
 use Rattle.lc_model.specs.declared.query.Query.{Query}
 use Rattle.lc_model.specs.declared.ride.Ride.{Ride}
 use Rattle.lc_model.specs.declared.run.Run.{Run}
-use Rattle.lc_versions.specs.Pages.{CutPage}
+use Rattle.lc_model.specs.Versions.Pages.{CutPage}
 use Rattle.laws_pages.specs.Chain.{ArePagesOf, connections_along, names_of}
 use Rattle.laws_pages.specs.Rides.{pages_on}
 use Rattle.laws_pages.specs.Stop.{bound_of}

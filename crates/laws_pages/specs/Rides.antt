@@ -8,7 +8,7 @@ use Rattle.lc_model.specs.declared.doc.StopsDoc.{StopsDoc}
 use Rattle.lc_model.specs.declared.journey.Journey.{Journey}
 use Rattle.lc_model.specs.declared.query.Query.{Query}
 use Rattle.lc_model.specs.declared.ride.Ride.{Ride}
-use Rattle.lc_versions.specs.Pages.{CutPage, departing}
+use Rattle.lc_model.specs.Versions.Pages.{CutPage, departing}
 use Rattle.laws_pages.specs.Chain.{ArePagesOf, along_next, connections_along}
 
 -- the pages from the one on that is for the moment at which the question leaves

@@ -8,9 +8,9 @@ use Rattle.lc_model.specs.declared.connection.Connection.{Connection}
 use Rattle.lc_model.specs.declared.doc.StopsDoc.{StopsDoc}
 use Rattle.lc_model.specs.declared.key.RunKey.{RunKey}
 use Rattle.lc_model.specs.declared.query.Query.{Query}
-use Rattle.lc_versions.specs.Cuts.{AreCuts}
-use Rattle.lc_versions.specs.Pages.{CutPage, pages_of}
-use Rattle.lc_versions.specs.Worked.{connection_at, connections_at, page_at}
+use Rattle.lc_model.specs.Versions.Cuts.{AreCuts}
+use Rattle.lc_model.specs.Versions.Pages.{CutPage, pages_of}
+use Rattle.lc_model.specs.Versions.Worked.{connection_at, connections_at, page_at}
 use Rattle.laws_pages.specs.Chain.{ArePagesOf, along_next, along_previous, names_of}
 use Rattle.laws_pages.specs.Needed.{needed_names}
 use Rattle.laws_pages.specs.Stop.{bound_of}

@@ -5,7 +5,7 @@ ghost use Rattle.lc_model.specs.Connection.{AreConnectionsOf};
 ghost use Rattle.lc_model.specs.Leg.{IsListBest};
 ghost use Rattle.lc_model.specs.Ride.{IsRideAt};
 ghost use Rattle.lc_model.specs.declared.run.Run.{Run as RunValue};
-ghost use Rattle.lc_versions.specs.Pages.{CutPage};
+ghost use Rattle.lc_model.specs.Versions.Pages.{CutPage};
 ghost use Rattle.laws_pages.specs.Chain.{ArePagesOf};
 ghost use Rattle.laws_pages.specs.Needed.{AlwaysStops, AreNeeded, IsTakenUntilOver, OneListOfNeeded, OverIsOver, TakesTheNeeded};
 ghost use Rattle.laws_pages.specs.Rides.{pages_on};

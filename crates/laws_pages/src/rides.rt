@@ -9,7 +9,7 @@ ghost use Rattle.lc_model.specs.Ride.{IsRideAt};
 ghost use Rattle.lc_model.specs.declared.journey.Journey.{Journey as JourneyValue};
 ghost use Rattle.lc_model.specs.declared.ride.Ride.{Ride as RideValue};
 ghost use Rattle.lc_model.specs.declared.run.Run.{Run as RunValue};
-ghost use Rattle.lc_versions.specs.Pages.{CutPage};
+ghost use Rattle.lc_model.specs.Versions.Pages.{CutPage};
 ghost use Rattle.laws_pages.specs.Chain.{ArePagesOf};
 ghost use Rattle.laws_pages.specs.Rides.{ChainsAreThere, EarlyMayGo, LeastIsThere, LeastWithoutEarly, LegsStandThere, LegsThereAreLegs, connections_on};
 

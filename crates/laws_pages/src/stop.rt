@@ -6,7 +6,7 @@ ghost use Rattle.lc_model.specs.Journey.{IsLeastArrival};
 ghost use Rattle.lc_model.specs.Leg.{IsListBest};
 ghost use Rattle.lc_model.specs.Ride.{IsRideAt};
 ghost use Rattle.lc_model.specs.declared.run.Run.{Run as RunValue};
-ghost use Rattle.lc_versions.specs.Pages.{CutPage};
+ghost use Rattle.lc_model.specs.Versions.Pages.{CutPage};
 ghost use Rattle.laws_pages.specs.Chain.{ArePagesOf, connections_along};
 ghost use Rattle.laws_pages.specs.Rides.{pages_on};
 ghost use Rattle.laws_pages.specs.Stop.{FrontMayBeAll, FrontWithChainMayBeAll, PagesMayBeAll, bound_of};

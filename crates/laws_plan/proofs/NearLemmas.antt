@@ -14,8 +14,8 @@ use Rattle.laws_replay.specs.Turns.{failed_in, given_in}
 use Rattle.laws_clients.specs.Stated.{version_at}
 use Rattle.lc_model.specs.declared.answer.Answer.{Answer}
 use Rattle.lc_model.specs.declared.query.Query.{Query}
-use Rattle.lc_versions.specs.History.{Entry, moments_of}
-use Rattle.lc_versions.specs.Named.{is_by, last_of}
+use Rattle.lc_model.specs.Versions.History.{Entry, moments_of}
+use Rattle.lc_model.specs.Versions.Named.{is_by, last_of}
 use Rattle.page_client.specs.Shown.{Shown}
 use Rattle.page_client.specs.declared.fault.QueryFault.{QueryFault}
 use Rattle.page_client.specs.declared.fault.QueryFault.TheVariants.{HorizonRange, SameStop, UnknownFrom, UnknownTo}

@@ -8,7 +8,7 @@ use Rattle.laws_plan.specs.Sides.{AreLater, sides_of}
 use Rattle.laws_replay.specs.Turns.{asked_in, failed_in, given_in}
 use Rattle.laws_clients.specs.Stated.{version_at}
 use Rattle.lc_model.specs.declared.query.Query.{Query}
-use Rattle.lc_versions.specs.declared.update.Update.{Update}
+use Rattle.lc_model.specs.declared.versions.update.Update.{Update}
 use Rattle.page_client.specs.declared.outcome.Outcome.TheVariants.{LinkFault}
 use Rattle.page_client.specs.declared.want.Want.{Want}
 use Rattle.page_client.specs.declared.want.Want.TheVariants as wants

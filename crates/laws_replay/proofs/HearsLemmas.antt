@@ -19,7 +19,7 @@ use Rattle.lc_model.specs.declared.query.Query.{Query}
 use Rattle.lc_model.specs.declared.run.Run.{Run}
 use Rattle.lc_model.specs.declared.stop.Stop.{Stop}
 use Rattle.lc_time.specs.declared.zone.Zone.{Zone}
-use Rattle.lc_versions.specs.History.{Entry}
+use Rattle.lc_model.specs.Versions.History.{Entry}
 use Rattle.lc_world.specs.Link.{LinkSeen}
 use Rattle.lc_world.specs.declared.entry.Entry.{Entry as RecordedEntry}
 use Rattle.page_client.specs.Client.{shown}

@@ -18,8 +18,8 @@ use Rattle.laws_convoys.specs.Names.{Round}
 use Rattle.laws_convoys.specs.OneClient.{version_of}
 use Rattle.csa_scan.proofs.ListPlacesLemmas.{item_within}
 use Rattle.lc_model.specs.declared.query.Query.{Query}
-use Rattle.lc_versions.specs.History.{Entry, moments_of}
-use Rattle.lc_versions.specs.Named.{version_named}
+use Rattle.lc_model.specs.Versions.History.{Entry, moments_of}
+use Rattle.lc_model.specs.Versions.Named.{version_named}
 use Rattle.page_client.specs.declared.outcome.Outcome.{Outcome}
 use Rattle.page_client.specs.declared.outcome.Outcome.TheVariants as outcomes
 use Rattle.page_client.specs.declared.want.Want.{Want}

@@ -11,7 +11,7 @@ use Rattle.lc_model.specs.declared.doc.StopsDoc.{StopsDoc}
 use Rattle.lc_model.specs.declared.journey.Journey.{Journey}
 use Rattle.lc_model.specs.declared.query.Query.{Query}
 use Rattle.lc_model.specs.declared.ride.Ride.{Ride}
-use Rattle.lc_versions.specs.Pages.{CutPage}
+use Rattle.lc_model.specs.Versions.Pages.{CutPage}
 use Rattle.change_rounds.specs.Fewest.{IsFewestAnswer, IsFewestChain}
 use Rattle.laws_pages.specs.Chain.{ArePagesOf, connections_along}
 use Rattle.laws_pages.specs.Needed.{IsTakenUntilOver, needed_pages}

@@ -9,7 +9,7 @@ use Rattle.lc_model.specs.declared.page.PageName.{PageName}
 use Rattle.lc_model.specs.declared.query.Query.{Query}
 use Rattle.lc_model.specs.declared.run.Run.{Run}
 use Rattle.live_calls.proofs.LawLemmas.{one_live_list}
-use Rattle.lc_versions.specs.Pages.{CutPage}
+use Rattle.lc_model.specs.Versions.Pages.{CutPage}
 use Rattle.laws_pages.proofs.JourneysLemmas.{chain_is_journey, journey_is_chain}
 use Rattle.page_json.specs.declared.page.Page.{Page}
 use Rattle.publisher_spec.specs.PageAt.{named}

@@ -5,7 +5,7 @@ ghost use Rattle.lc_model.specs.Connection.{AreConnectionsOf};
 ghost use Rattle.lc_model.specs.Ride.{IsRideAt};
 ghost use Rattle.lc_model.specs.declared.journey.Journey.{Journey as JourneyValue};
 ghost use Rattle.lc_model.specs.declared.run.Run.{Run as RunValue};
-ghost use Rattle.lc_versions.specs.Pages.{CutPage};
+ghost use Rattle.lc_model.specs.Versions.Pages.{CutPage};
 ghost use Rattle.change_rounds.specs.Fewest.{IsFewestAnswer, IsFewestChain};
 ghost use Rattle.laws_pages.specs.Chain.{ArePagesOf, connections_along};
 ghost use Rattle.laws_pages.specs.Needed.{AreNeeded};

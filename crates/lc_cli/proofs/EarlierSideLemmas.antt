@@ -16,10 +16,10 @@ use Rattle.laws_replay.specs.declared.event.Event.TheVariants as events
 use Rattle.lc_io.specs.declared.file.File.{File}
 use Rattle.lc_model.specs.declared.answer.Answer.{Answer}
 use Rattle.lc_model.specs.declared.query.Query.{Query}
-use Rattle.lc_versions.specs.History.{Entry, IsRising, moments_of}
-use Rattle.lc_versions.specs.Named.{is_by, last_of, version_named}
-use Rattle.lc_versions.specs.News.{TripSaid}
-use Rattle.lc_versions.specs.Timetable.{AreLiveRuns}
+use Rattle.lc_model.specs.Versions.History.{Entry, IsRising, moments_of}
+use Rattle.lc_model.specs.Versions.Named.{is_by, last_of, version_named}
+use Rattle.lc_model.specs.Versions.News.{TripSaid}
+use Rattle.lc_model.specs.Versions.Timetable.{AreLiveRuns}
 use Rattle.publisher_spec.proofs.VersionLemmas.{Rising, below, history_rises, moments_on, news_stay}
 use Rattle.publisher_spec.specs.Side.{date_in}
 use Rattle.timetable.specs.declared.timetable.Timetable.{Timetable}

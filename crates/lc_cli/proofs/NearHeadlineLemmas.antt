@@ -10,7 +10,7 @@ use Rattle.lc_model.specs.declared.answer.Answer.{Answer}
 use Rattle.lc_model.specs.declared.answer.Answer.TheVariants as answers
 use Rattle.lc_model.specs.declared.journey.Journey.{Journey}
 use Rattle.lc_model.specs.declared.query.Query.{Query}
-use Rattle.lc_versions.specs.Named.{last_of}
+use Rattle.lc_model.specs.Versions.Named.{last_of}
 use Rattle.live_calls.specs.Laws.{LiveWithoutNews, RunsAreLive}
 use Rattle.page_client.specs.declared.outcome.Outcome.TheVariants as outcomes
 use Rattle.timetable.specs.Tiny.{moment}

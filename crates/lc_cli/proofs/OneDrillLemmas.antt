@@ -18,7 +18,7 @@ use Rattle.laws_replay.specs.Events.{messages_in}
 use Rattle.laws_replay.specs.OneCourse.{IsPlayedOut, OneCourse}
 use Rattle.laws_replay.specs.declared.event.Event.{Event}
 use Rattle.laws_replies.specs.Laws.{SayTheSame}
-use Rattle.lc_versions.specs.History.{Entry}
+use Rattle.lc_model.specs.Versions.History.{Entry}
 use Rattle.lc_model.specs.declared.doc.StopsDoc.{StopsDoc}
 use Rattle.lc_model.specs.declared.journey.Journey.{Journey}
 use Rattle.lc_io.specs.SureFolder.{SureFolderState}

@@ -21,7 +21,7 @@ use Rattle.lc_io.specs.Sink.{SinkSeen}
 use Rattle.lc_io.specs.declared.file.File.{File}
 use Rattle.lc_model.specs.declared.doc.StopsDoc.{StopsDoc}
 use Rattle.lc_model.specs.declared.run.Run.{Run}
-use Rattle.lc_versions.specs.History.{Entry}
+use Rattle.lc_model.specs.Versions.History.{Entry}
 use Rattle.lc_world.specs.Link.{LinkSeen}
 use Rattle.publisher.specs.Held.{side_of}
 use Rattle.publisher_spec.specs.Side.{Side, date_in}

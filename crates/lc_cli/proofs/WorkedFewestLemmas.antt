@@ -21,7 +21,7 @@ use Rattle.lc_model.specs.declared.ride.Ride.{Ride}
 use Rattle.lc_model.specs.declared.run.Run.{Run}
 use Rattle.lc_model.proofs.OneValueLemmas.{documents_are_one}
 use Rattle.lc_time.specs.declared.zone.Zone.TheVariants.{Utc}
-use Rattle.lc_versions.specs.Timetable.{AreLiveRuns}
+use Rattle.lc_model.specs.Versions.Timetable.{AreLiveRuns}
 use Rattle.live_calls.specs.Laws.{LiveWithoutNews, RunsAreLive, RunsOnTime}
 use Rattle.publisher_spec.specs.Side.{Side}
 use Rattle.timetable.specs.Tiny.{call, key_of, moment, run_of}

@@ -26,8 +26,8 @@ use Rattle.lc_model.specs.declared.answer.Answer.{Answer}
 use Rattle.lc_model.specs.declared.answer.Answer.TheVariants as answers
 use Rattle.lc_model.specs.declared.page.PageName.{PageName}
 use Rattle.lc_model.specs.declared.query.Query.{Query}
-use Rattle.lc_versions.specs.History.{moments_of}
-use Rattle.lc_versions.specs.Named.{version_named}
+use Rattle.lc_model.specs.Versions.History.{moments_of}
+use Rattle.lc_model.specs.Versions.Named.{version_named}
 use Rattle.lc_world.specs.Link.{IsHonestWith, LinkSeen}
 use Rattle.page_client.specs.declared.outcome.Outcome.{Outcome}
 use Rattle.page_client.specs.declared.outcome.Outcome.TheVariants as outcomes

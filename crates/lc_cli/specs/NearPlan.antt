@@ -9,7 +9,7 @@ use Rattle.laws_convoys.specs.Names.{Round}
 use Rattle.laws_plan.specs.Worked.{received}
 use Rattle.lc_model.specs.declared.answer.Answer.{Answer}
 use Rattle.lc_model.specs.declared.query.Query.{Query}
-use Rattle.lc_versions.specs.declared.update.Update.{Update}
+use Rattle.lc_model.specs.declared.versions.update.Update.{Update}
 use Rattle.page_client.specs.declared.want.Want.{Want}
 use Rattle.page_client.specs.declared.want.Want.TheVariants as wants
 use Rattle.publisher_spec.specs.Side.{Side, with_message}

@@ -16,4 +16,5 @@ pub mod Stop
 pub mod StopsDoc
 pub mod Text
 pub mod Totals
+pub mod Versions
 pub mod Walk

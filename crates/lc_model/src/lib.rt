@@ -25,6 +25,7 @@ mod ride;
 mod run;
 mod stop;
 mod text;
+mod versions;
 mod walk;
 
 pub use answer::Answer;
@@ -49,4 +50,8 @@ pub use ride::{Ride, Rides};
 pub use run::{Run, Runs};
 pub use stop::{Stop, Stops};
 pub use text::{Bytes, Text};
+pub use versions::{
+    EntityList, EntityNews, Event, NewsList, Relation, StopNews, StopNewsList, TripKind, TripNews,
+    Update, worked_versions,
+};
 pub use walk::Walk;

@@ -22,9 +22,9 @@ use Rattle.lc_model.specs.Text.{id_cmp}
 use Rattle.lc_model.specs.declared.call.Call.{Call}
 use Rattle.lc_model.specs.declared.stop.Stop.{Stop}
 use Rattle.lc_model.proofs.SearchLemmas.{id_tie, same_id, sorted_from_strict}
-use Rattle.lc_versions.specs.Added.{added_at, added_call, added_call_at, added_calls, added_from, added_known, has_stop, is_skipped, time_of}
-use Rattle.lc_versions.specs.Live.{StatedCall, raised}
-use Rattle.lc_versions.specs.News.{StopSaid}
+use Rattle.lc_model.specs.Versions.Added.{added_at, added_call, added_call_at, added_calls, added_from, added_known, has_stop, is_skipped, time_of}
+use Rattle.lc_model.specs.Versions.Live.{StatedCall, raised}
+use Rattle.lc_model.specs.Versions.News.{StopSaid}
 use Rattle.live_calls.specs.Walk.{added_by, served_times, times_said}
 use Rattle.live_calls.specs.declared.stated.Times.{Times}
 use Rattle.live_calls.proofs.ForwardLemmas.{AllPairs-nil, KeepsTimes, RiseInStated, raised_go_forward, seq_of}

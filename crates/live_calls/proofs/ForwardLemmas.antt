@@ -5,7 +5,7 @@ use Rattle.std.proofs.lemmas.List.Elements.{All-nil, All-cons, All-head, All-tai
 use Rattle.std.proofs.lemmas.List.Kept.{AllPairs-cons}
 use Rattle.lc_model.specs.Call.{GoesForward}
 use Rattle.lc_model.specs.declared.call.Call.{Call}
-use Rattle.lc_versions.specs.Live.{StatedCall, in_range, raised}
+use Rattle.lc_model.specs.Versions.Live.{StatedCall, in_range, raised}
 
 -- the sequence of a call as it is stated, which its moments do not change
 abbrev pub seq_of : StatedCall → ℕ

@@ -1,7 +1,7 @@
 -- Live runs are one list, and the news of an added trip make one run.
 use Rattle.std.proofs.Common.{◌≡◌, inl, inr, ℕ, ◌<◌, ◌≤◌, List, length, Bool, true, false, Option, Some, None, refl, sym, ap, ap₂, ◌∙◌, subst, arith}
 use Rattle.std.specs.Prelude.{◌&&◌}
-use Rattle.std.specs.Ordering.{is_eq}
+use Rattle.std.specs.Ordering.{is_eq, on}
 use Rattle.std.specs.Option.{IsSomeAnd}
 use Rattle.std.proofs.lemmas.Bool.{eqb-true}
 use Rattle.std.proofs.lemmas.Slice.Eq.{bytes_eq-Decides}
@@ -17,10 +17,9 @@ use Rattle.lc_model.specs.declared.key.RunKey.{RunKey}
 use Rattle.lc_model.specs.declared.run.Run.{Run}
 use Rattle.lc_model.specs.declared.stop.Stop.{Stop}
 use Rattle.lc_model.proofs.OrdersLemmas.{strict_lists_are_one}
-use Rattle.std.specs.Ordering.{on}
-use Rattle.lc_versions.specs.Added.{added_calls, has_key, is_start}
-use Rattle.lc_versions.specs.Naming.{is_on}
-use Rattle.lc_versions.specs.News.{TripSaid}
+use Rattle.lc_model.specs.Versions.Added.{added_calls, has_key, is_start}
+use Rattle.lc_model.specs.Versions.Naming.{is_on}
+use Rattle.lc_model.specs.Versions.News.{TripSaid}
 use Rattle.live_calls.specs.AddedRun.{HasNoKey, IsAdded, IsAddedRun}
 use Rattle.live_calls.specs.Laws.{OneAddedRun, OneListOfLiveRuns}
 use Rattle.lc_model.proofs.KeyLemmas.{same_dates, same_key_parts}

@@ -7,11 +7,11 @@ use Rattle.std.proofs.lemmas.List.Elements.{All-nil, All-cons, All-head, All-tai
 use Rattle.std.proofs.lemmas.List.Kept.{AllPairs-cons}
 use Rattle.lc_model.specs.Call.{GoesForward, InSequence}
 use Rattle.lc_model.specs.declared.call.Call.{Call}
-use Rattle.lc_versions.specs.Live.{StatedCall, call_at, calls_with, live_calls_of, raised, stated_calls, stated_with, stated_related}
-use Rattle.lc_versions.specs.Naming.{Naming, is_canceled, namings, news_at_place}
-use Rattle.lc_versions.specs.News.{StopSaid, TripSaid}
-use Rattle.lc_versions.specs.declared.event.Relation.{Relation}
-use Rattle.lc_versions.specs.declared.event.Relation.TheVariants as relations
+use Rattle.lc_model.specs.Versions.Live.{StatedCall, call_at, calls_with, live_calls_of, raised, stated_calls, stated_with, stated_related}
+use Rattle.lc_model.specs.Versions.Naming.{Naming, is_canceled, namings, news_at_place}
+use Rattle.lc_model.specs.Versions.News.{StopSaid, TripSaid}
+use Rattle.lc_model.specs.declared.versions.event.Relation.{Relation}
+use Rattle.lc_model.specs.declared.versions.event.Relation.TheVariants as relations
 use Rattle.live_calls.specs.Walk.{stated_list}
 use Rattle.live_calls.specs.declared.stated.Times.{Times}
 use Rattle.live_calls.proofs.ForwardLemmas.{AllPairs-head, AllPairs-nil, AllPairs-tail, KeepsTimes, RiseInStated, raised_go_forward, seq_of}

@@ -7,9 +7,9 @@ use Rattle.lc_model.specs.Run.{RunsForward}
 use Rattle.lc_model.specs.declared.run.Run.{Run}
 use Rattle.lc_model.specs.declared.stop.Stop.{Stop}
 use Rattle.lc_model.proofs.ListLemmas.{All-from_contains}
-use Rattle.lc_versions.specs.Naming.{news_for}
-use Rattle.lc_versions.specs.News.{TripSaid}
-use Rattle.lc_versions.specs.Timetable.{AreLiveRuns}
+use Rattle.lc_model.specs.Versions.Naming.{news_for}
+use Rattle.lc_model.specs.Versions.News.{TripSaid}
+use Rattle.lc_model.specs.Versions.Timetable.{AreLiveRuns}
 use Rattle.live_calls.proofs.AddedLemmas.{added_go_forward}
 use Rattle.live_calls.proofs.LiveLemmas.{live_go_forward}
 

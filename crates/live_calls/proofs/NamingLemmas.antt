@@ -11,7 +11,7 @@ use Rattle.std.proofs.lemmas.Cmp.{ranked}
 use Rattle.std.proofs.lemmas.Iterator.Adapters.{position_from-zero}
 use Rattle.lc_model.specs.Call.{InSequence}
 use Rattle.lc_model.specs.declared.call.Call.{Call}
-use Rattle.lc_versions.specs.Naming.{Naming, place_of, news_at_place}
+use Rattle.lc_model.specs.Versions.Naming.{Naming, place_of, news_at_place}
 use Rattle.live_calls.specs.Walk.{last_news}
 
 shifted : (i : ℕ) (o : Option ℕ) → option_map (λ k. i + 1 + k) o ≡ option_map (λ k. i + k) (option_map suc o)

@@ -10,9 +10,9 @@ use Rattle.lc_model.specs.declared.call.Call.{Call}
 use Rattle.lc_model.specs.declared.key.RunKey.{RunKey}
 use Rattle.lc_model.specs.declared.moment.TheConstants.{MOMENTS_END}
 use Rattle.lc_model.specs.declared.run.Run.{Run}
-use Rattle.lc_versions.specs.Added.{IsFurtherRun}
-use Rattle.lc_versions.specs.Live.{call_at, calls_with, in_range, raised, stated_calls}
-use Rattle.lc_versions.specs.Timetable.{IsLiveRun}
+use Rattle.lc_model.specs.Versions.Added.{IsFurtherRun}
+use Rattle.lc_model.specs.Versions.Live.{call_at, calls_with, in_range, raised, stated_calls}
+use Rattle.lc_model.specs.Versions.Timetable.{IsLiveRun}
 use Rattle.live_calls.specs.Laws.{IsOnTime, LiveWithoutNews, RunsAreLive, RunsOnTime}
 use Rattle.live_calls.specs.Walk.{IsKeptAfter}
 use Rattle.live_calls.proofs.ForwardLemmas.{AllPairs-head, AllPairs-tail}

@@ -18,7 +18,7 @@ use Rattle.lc_model.specs.Change.{is_same_id}
 use Rattle.lc_model.specs.Text.{id_cmp}
 use Rattle.lc_model.specs.declared.call.Call.{Call}
 use Rattle.lc_model.proofs.SearchLemmas.{id_tie, same_id}
-use Rattle.lc_versions.specs.Naming.{place_of}
+use Rattle.lc_model.specs.Versions.Naming.{place_of}
 use Rattle.live_calls.specs.Places.{ArePlaces, IsOfCall, is_before, place_cmp}
 use Rattle.live_calls.specs.declared.naming.StopPlace.{StopPlace}
 use Rattle.live_calls.proofs.NamingLemmas.{place_of-none, place_of-some}

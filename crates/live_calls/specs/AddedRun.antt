@@ -6,8 +6,8 @@ use Rattle.lc_model.specs.declared.date.ServiceDate.{ServiceDate}
 use Rattle.lc_model.specs.declared.key.RunKey.{RunKey}
 use Rattle.lc_model.specs.declared.run.Run.{Run}
 use Rattle.lc_model.specs.declared.stop.Stop.{Stop}
-use Rattle.lc_versions.specs.Added.{added_calls, has_key}
-use Rattle.lc_versions.specs.News.{TripSaid}
+use Rattle.lc_model.specs.Versions.Added.{added_calls, has_key}
+use Rattle.lc_model.specs.Versions.News.{TripSaid}
 
 -- the run has exactly the key of the news, and the calls that they give, at least two
 pub record IsAddedRun (stops : List Stop) (news : TripSaid) (run : Run) : Type 0 where

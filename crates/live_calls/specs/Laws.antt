@@ -7,10 +7,10 @@ use Rattle.lc_model.specs.declared.call.Call.{Call}
 use Rattle.lc_model.specs.declared.moment.TheConstants.{MOMENTS_END}
 use Rattle.lc_model.specs.declared.run.Run.{Run}
 use Rattle.lc_model.specs.declared.stop.Stop.{Stop}
-use Rattle.lc_versions.specs.Added.{added_calls}
-use Rattle.lc_versions.specs.Live.{live_calls_of}
-use Rattle.lc_versions.specs.News.{StopSaid, TripSaid}
-use Rattle.lc_versions.specs.Timetable.{AreLiveRuns}
+use Rattle.lc_model.specs.Versions.Added.{added_calls}
+use Rattle.lc_model.specs.Versions.Live.{live_calls_of}
+use Rattle.lc_model.specs.Versions.News.{StopSaid, TripSaid}
+use Rattle.lc_model.specs.Versions.Timetable.{AreLiveRuns}
 use Rattle.live_calls.specs.AddedRun.{IsAdded}
 
 -- a timetable has one list of live runs by its news

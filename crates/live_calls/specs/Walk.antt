@@ -3,10 +3,10 @@ use Rattle.std.specs.Prelude.{ℕ, ◌≤◌, ◌≤ℤ◌, ℤ, pos, negsuc, Li
 use Rattle.std.specs.List.{last_or}
 use Rattle.lc_model.specs.declared.call.Call.{Call}
 use Rattle.lc_model.specs.declared.stop.Stop.{Stop}
-use Rattle.lc_versions.specs.Added.{added_known, has_stop, is_skipped, time_of}
-use Rattle.lc_versions.specs.Live.{StatedCall}
-use Rattle.lc_versions.specs.Naming.{Naming}
-use Rattle.lc_versions.specs.News.{StopSaid}
+use Rattle.lc_model.specs.Versions.Added.{added_known, has_stop, is_skipped, time_of}
+use Rattle.lc_model.specs.Versions.Live.{StatedCall}
+use Rattle.lc_model.specs.Versions.Naming.{Naming}
+use Rattle.lc_model.specs.Versions.News.{StopSaid}
 use Rattle.live_calls.specs.Laws.{IsOnTime}
 use Rattle.live_calls.specs.declared.stated.Times.{Times}
 

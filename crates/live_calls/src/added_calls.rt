@@ -2,14 +2,13 @@ ghost use Rattle.std.specs.Prelude.{◌≡◌, ◌++◌, ◌<◌, ℕ, suc, IfOk
 ghost use Rattle.lc_model.specs.Call.{InSequence};
 ghost use Rattle.lc_model.specs.Stop.{InStopOrder};
 ghost use Rattle.lc_model.specs.declared.stop.Stop.{Stop as StatedStop};
-ghost use Rattle.lc_versions.specs.Added.{added_call, added_call_at, added_calls, has_stop, is_skipped, time_of};
-ghost use Rattle.lc_versions.specs.Live.{StatedCall, raised};
+ghost use Rattle.lc_model.specs.Versions.Added.{added_call, added_call_at, added_calls, has_stop, is_skipped, time_of};
+ghost use Rattle.lc_model.specs.Versions.Live.{StatedCall, raised};
 ghost use Rattle.live_calls.specs.Walk.{added_by, served_times, times_said};
 
 use crate::forward::{Raised, nearest, raise};
 use crate::stated::Times;
-use lc_model::{Call, Id, Moment, NoMemory, PlainData, Stop};
-use lc_versions::{Event, Relation, StopNews};
+use lc_model::{Call, Event, Id, Moment, NoMemory, PlainData, Relation, Stop, StopNews};
 use std::alloc::Global;
 
 fn is_skipped(relation: Relation) -> bool

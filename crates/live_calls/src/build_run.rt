@@ -4,8 +4,7 @@ ghost use Rattle.lc_model.specs.Call.{InSequence};
 ghost use Rattle.live_calls.specs.AddedRun.{IsAdded, IsKeyOf, on_date};
 
 use crate::added_calls::added_calls;
-use lc_model::{Calls, Id, NoMemory, Run, RunKey, ServiceDate, Stops};
-use lc_versions::TripNews;
+use lc_model::{Calls, Id, NoMemory, Run, RunKey, ServiceDate, Stops, TripNews};
 use std::alloc::Global;
 
 /// 100 hours in seconds, before which a run starts.

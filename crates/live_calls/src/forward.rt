@@ -1,5 +1,5 @@
 ghost use Rattle.std.specs.Prelude.{◌≡◌, max};
-ghost use Rattle.lc_versions.specs.Live.{in_range};
+ghost use Rattle.lc_model.specs.Versions.Live.{in_range};
 
 use crate::stated::Times;
 use lc_model::{MOMENTS_END, Moment};

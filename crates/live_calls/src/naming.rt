@@ -4,13 +4,12 @@ ghost use Rattle.std.specs.Option.{option_copied};
 ghost use Rattle.lc_model.specs.Call.{InSequence};
 ghost use Rattle.lc_model.specs.Change.{is_same_id};
 ghost use Rattle.lc_model.specs.declared.call.Call.{Call as StatedCall};
-ghost use Rattle.lc_versions.specs.Naming.{named_by, namings, news_at_place, place_of};
-ghost use Rattle.lc_versions.specs.News.{StopSaid};
+ghost use Rattle.lc_model.specs.Versions.Naming.{named_by, namings, news_at_place, place_of};
+ghost use Rattle.lc_model.specs.Versions.News.{StopSaid};
 ghost use Rattle.live_calls.specs.Places.{ArePlaces, AreSortedPlaces, is_before, place_cmp};
 ghost use Rattle.live_calls.specs.Walk.{last_news};
 
-use lc_model::{Call, NoMemory};
-use lc_versions::StopNews;
+use lc_model::{Call, NoMemory, StopNews};
 use std::alloc::Global;
 
 /// The place of the call of this sequence. Takes the logarithm of the calls.

@@ -1,15 +1,14 @@
 ghost use Rattle.std.specs.Prelude.{◌≡◌, ◌++◌, IfOk, IsTrue, List, None, Some};
 ghost use Rattle.std.specs.Option.{option_copied};
 ghost use Rattle.lc_model.specs.Call.{GoesForward, InSequence};
-ghost use Rattle.lc_versions.specs.Live.{StatedCall, call_at, calls_with, live_calls_of, raised};
-ghost use Rattle.lc_versions.specs.Naming.{is_canceled};
+ghost use Rattle.lc_model.specs.Versions.Live.{StatedCall, call_at, calls_with, live_calls_of, raised};
+ghost use Rattle.lc_model.specs.Versions.Naming.{is_canceled};
 ghost use Rattle.live_calls.specs.Walk.{IsKeptAfter, stated_list};
 
 use crate::forward::{Raised, nearest, raise};
 use crate::naming::named_news;
 use crate::stated::{Times, stated_call};
-use lc_model::{Call, Calls, Moment, NoMemory, PlainData, Run};
-use lc_versions::{StopNews, TripKind, TripNews};
+use lc_model::{Call, Calls, Moment, NoMemory, PlainData, Run, StopNews, TripKind, TripNews};
 use std::alloc::Global;
 
 /// A call of the timetable at these moments.

@@ -1,10 +1,9 @@
 ghost use Rattle.std.specs.Prelude.{◌≡◌, ◌∷◌, ◌++◌, [], ℤ, List, None, pos};
 ghost use Rattle.std.specs.Option.{option_copied};
-ghost use Rattle.lc_versions.specs.Live.{StatedCall, call_at, stated, stated_events, stated_with};
+ghost use Rattle.lc_model.specs.Versions.Live.{StatedCall, call_at, stated, stated_events, stated_with};
 ghost use Rattle.live_calls.specs.Walk.{IsLateness, stated_list};
 
-use lc_model::{Call, Moment};
-use lc_versions::{Event, Relation, StopNews};
+use lc_model::{Call, Event, Moment, Relation, StopNews};
 
 /// An arrival and a departure as they are stated, in seconds since 1970, perhaps out of range.
 #[derive(Clone, Copy)]

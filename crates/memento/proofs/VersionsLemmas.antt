@@ -1,6 +1,6 @@
 -- The version that a walk over the versions names.
 use Rattle.std.proofs.Common.{◌≡◌, ℕ, ◌≤◌, List, [], ◌∷◌, length, filter, Bool, true, false, if◌then◌else◌, Option, Some, refl, ap, sym, arith}
-use Rattle.lc_versions.specs.Named.{is_by, last_of, version_among}
+use Rattle.lc_model.specs.Versions.Named.{is_by, last_of, version_among}
 
 -- the first version
 abbrev pub base_of : List ℕ → ℕ

@@ -1,6 +1,6 @@
 ghost use Rattle.std.specs.Prelude.{◌≡◌, ◌≤◌, ℕ, IfSome, IsTrue, Some, length, if◌then◌else◌};
 ghost use Rattle.std.specs.Option.{option_copied};
-ghost use Rattle.lc_versions.specs.Named.{is_by as is_by_it, version_among as named_among};
+ghost use Rattle.lc_model.specs.Versions.Named.{is_by as is_by_it, version_among as named_among};
 ghost use Rattle.memento.specs.Negotiation.{Negotiates};
 
 use lc_model::Moment;

@@ -7,9 +7,9 @@ use Rattle.std.proofs.lemmas.List.{append-nil}
 use Rattle.lru.specs.LruCache.{LruCache, promoted, put_entries}
 use Rattle.lru.proofs.CallerLemmas.{Contains-lookup, Contains-promoted, Contains-put_entries}
 use Rattle.lc_model.proofs.ListLemmas.{Contains-nil}
-use Rattle.lc_versions.specs.Cuts.{AreCuts, NeverFalls}
-use Rattle.lc_versions.specs.History.{Entry, IsRising, moments_of}
-use Rattle.lc_versions.specs.Pages.{departures_of}
+use Rattle.lc_model.specs.Versions.Cuts.{AreCuts, NeverFalls}
+use Rattle.lc_model.specs.Versions.History.{Entry, IsRising, moments_of}
+use Rattle.lc_model.specs.Versions.Pages.{departures_of}
 use Rattle.version_store.specs.Admission.{Admits}
 use Rattle.version_store.specs.Rows.{AreDepartures}
 use Rattle.version_store.specs.Store.{Stored, entry_of, versions_of}

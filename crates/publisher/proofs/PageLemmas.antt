@@ -5,8 +5,8 @@ use Rattle.std.proofs.lemmas.List.Kept.{AllPairs-filter}
 use Rattle.std.specs.declared.cmp.Ordering.TheVariants.{Less}
 use Rattle.lc_model.specs.Connection.{InDepartureOrder, NoneArrivesEarly, departure_cmp}
 use Rattle.lc_model.specs.declared.connection.Connection.{Connection}
-use Rattle.lc_versions.specs.Cuts.{AreCuts, first_of}
-use Rattle.lc_versions.specs.Pages.{departing, departures_of, is_before}
+use Rattle.lc_model.specs.Versions.Cuts.{AreCuts, first_of}
+use Rattle.lc_model.specs.Versions.Pages.{departing, departures_of, is_before}
 use Rattle.page_json.specs.declared.page.Page.{Page}
 use Rattle.page_json.specs.Valid.{IsOfVersion, IsValidPage}
 use Rattle.publisher.specs.Place.{place_of}
@@ -19,8 +19,8 @@ use Rattle.publisher_spec.specs.Side.{IsTimetableAt, Side, date_in}
 use Rattle.publisher_spec.proofs.OneReplyLemmas.{one_timetable}
 use Rattle.lc_model.specs.declared.page.PageName.{PageName}
 use Rattle.lc_model.specs.declared.stop.Stop.{Stop}
-use Rattle.lc_versions.specs.History.{news_at}
-use Rattle.lc_versions.specs.Timetable.{AreLiveRuns}
+use Rattle.lc_model.specs.Versions.History.{news_at}
+use Rattle.lc_model.specs.Versions.Timetable.{AreLiveRuns}
 use Rattle.version_store.specs.Rows.{AreConnectionsAt, AreRows}
 use Rattle.publisher.specs.Held.{Held, side_of}
 

@@ -6,8 +6,8 @@ use Rattle.std.proofs.lemmas.Bool.{lt-leb, lt-ltb, leb-false}
 use Rattle.std.proofs.lemmas.Bool.Decides.{nat_tests}
 use Rattle.std.proofs.lemmas.List.Elements.{All-head, All-tail, All-weaker}
 use Rattle.lc_model.specs.declared.connection.Connection.{Connection}
-use Rattle.lc_versions.specs.Cuts.{first_of}
-use Rattle.lc_versions.specs.Pages.{CutPage, departing, page_for, pages_from, pages_of}
+use Rattle.lc_model.specs.Versions.Cuts.{first_of}
+use Rattle.lc_model.specs.Versions.Pages.{CutPage, departing, page_for, pages_from, pages_of}
 use Rattle.publisher.specs.Place.{AreRising, place_behind, place_of}
 use Rattle.publisher.specs.declared.place.Place.{Place}
 use Rattle.publisher_spec.specs.PageAt.{next_cut, page_among, previous_cut}

@@ -7,10 +7,10 @@ use Rattle.httpdate.specs.declared.parts.Parts.{Parts}
 use Rattle.json_members.proofs.DecisionsLemmas.{below, both, same_text, turn}
 use Rattle.json_members.proofs.MomentDecidedLemmas.{moments}
 use Rattle.lc_time.specs.Http.{SaysHttpDate, http_parts_of, without_blanks}
-use Rattle.lc_versions.specs.History.{moments_of}
-use Rattle.lc_versions.specs.Named.{version_named}
-use Rattle.lc_versions.specs.Pages.{departures_of}
-use Rattle.lc_versions.specs.declared.update.Update.{Update}
+use Rattle.lc_model.specs.Versions.History.{moments_of}
+use Rattle.lc_model.specs.Versions.Named.{version_named}
+use Rattle.lc_model.specs.Versions.Pages.{departures_of}
+use Rattle.lc_model.specs.declared.versions.update.Update.{Update}
 use Rattle.http_text.specs.Request.{request_of}
 use Rattle.http_text.specs.declared.request.Request.{Request}
 use Rattle.memento.specs.Negotiation.{Negotiates}

@@ -1,5 +1,5 @@
 -- Each version of a valid side has some timetable.
-use Rattle.lc_versions.specs.History.{news_at}
+use Rattle.lc_model.specs.Versions.History.{news_at}
 use Rattle.publisher_spec.specs.Side.{date_in}
 use Rattle.version_store.proofs.SomeRowsLemmas.{some_connections}
 use Rattle.publisher.specs.Laws.{SomeTimetable}

@@ -3,8 +3,8 @@ use Rattle.std.proofs.Common.{Vec, Global, Result, Ok, Err, ◌≡◌, ℕ, ◌<
 use Rattle.std.specs.Prelude.{nat_le, nat_lt, ◌==◌, ◌||◌, ◌+◌, IfOk, OnErr}
 use Rattle.std.proofs.lemmas.Bool.{le-leb, lt-leb, lt-ltb}
 use Rattle.std.proofs.lemmas.Bool.Decides.{nat_tests}
-use Rattle.lc_versions.specs.History.{Entry}
-use Rattle.lc_versions.specs.declared.update.Update.{Update}
+use Rattle.lc_model.specs.Versions.History.{Entry}
+use Rattle.lc_model.specs.declared.versions.update.Update.{Update}
 use Rattle.http_text.specs.declared.request.Request.{Request}
 use Rattle.trip_updates.specs.Faults.{fault_of}
 use Rattle.trip_updates.specs.Message.{IsMessage}

@@ -4,7 +4,7 @@ use Rattle.std.specs.Prelude.{◌==◌}
 use Rattle.std.specs.List.{Contains, filter, list_any}
 use Rattle.std.proofs.lemmas.Bool.{eq-eqb}
 use Rattle.std.proofs.lemmas.List.Folds.{list_any-from_Any}
-use Rattle.lc_versions.specs.Named.{is_by, last_of, version_among}
+use Rattle.lc_model.specs.Versions.Named.{is_by, last_of, version_among}
 use Rattle.memento.specs.Negotiation.{Negotiates}
 use Rattle.publisher_spec.proofs.VersionLemmas.{contains_found}
 

@@ -1,8 +1,8 @@
 -- Where the page for a moment of departure is at a version of a side.
 use Rattle.std.specs.Prelude.{◌≡◌, ℕ, List}
 use Rattle.lc_model.specs.declared.connection.Connection.{Connection}
-use Rattle.lc_versions.specs.Cuts.{AreCuts}
-use Rattle.lc_versions.specs.Pages.{departures_of}
+use Rattle.lc_model.specs.Versions.Cuts.{AreCuts}
+use Rattle.lc_model.specs.Versions.Pages.{departures_of}
 use Rattle.publisher_spec.specs.Side.{IsTimetableAt, Side}
 use Rattle.publisher.specs.Place.{place_of}
 use Rattle.publisher.specs.declared.place.Place.{Place}

@@ -1,6 +1,6 @@
 -- What becomes of the body of a request where messages are taken.
 use Rattle.std.specs.Prelude.{◌≡◌, ℕ, List, Option, Some, None}
-use Rattle.lc_versions.specs.declared.update.Update.{Update}
+use Rattle.lc_model.specs.declared.versions.update.Update.{Update}
 use Rattle.http_text.specs.declared.request.Request.{Request}
 use Rattle.publisher_spec.specs.Reply.{side_behind, text_said}
 use Rattle.publisher_spec.specs.Response.{IsMessageIn, status_of_update}

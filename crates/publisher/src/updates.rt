@@ -1,6 +1,6 @@
 ghost use Rattle.std.specs.Prelude.{◌≡◌, ◌⊎◌, IfErr, IfOk, IfSome, IsOk, OnErr};
 ghost use Rattle.http_text.specs.ReplyText.{HasReason};
-ghost use Rattle.lc_versions.specs.declared.update.Update.{Update as Said};
+ghost use Rattle.lc_model.specs.declared.versions.update.Update.{Update as Said};
 ghost use Rattle.publisher.specs.Held.{side_of};
 ghost use Rattle.publisher.specs.Updated.{IsRefusal, IsUpdated, status_of_fault};
 ghost use Rattle.version_store.specs.Admission.{Admits, IsRefused, IsTaken};

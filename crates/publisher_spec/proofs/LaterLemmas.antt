@@ -4,10 +4,10 @@ use Rattle.std.specs.Prelude.{nat_le, nat_lt, ◌==◌, if◌then◌else◌}
 use Rattle.std.proofs.lemmas.Bool.{leb-false}
 use Rattle.std.proofs.lemmas.List.{append-nil, append_assoc}
 use Rattle.lc_model.specs.declared.connection.Connection.{Connection}
-use Rattle.lc_versions.specs.History.{Entry, IsRising, moments_of}
-use Rattle.lc_versions.specs.News.{TripSaid}
-use Rattle.lc_versions.specs.Timetable.{AreLiveRuns}
-use Rattle.lc_versions.specs.declared.update.Update.{Update}
+use Rattle.lc_model.specs.Versions.History.{Entry, IsRising, moments_of}
+use Rattle.lc_model.specs.Versions.News.{TripSaid}
+use Rattle.lc_model.specs.Versions.Timetable.{AreLiveRuns}
+use Rattle.lc_model.specs.declared.versions.update.Update.{Update}
 use Rattle.http_text.specs.declared.request.Request.{Request}
 use Rattle.publisher_spec.specs.Reply.{HasReply, IsBehind, IsNextSide, side_behind}
 use Rattle.publisher_spec.specs.Response.{IsDocument, IsGateResponse, IsPageResponse, IsResponseTo, IsSentOf, asked_at, is_full, says_length, status_of_update}

@@ -14,7 +14,7 @@ use Rattle.lc_model.specs.declared.key.RunKey.{RunKey}
 use Rattle.lc_model.specs.declared.run.Run.{Run}
 use Rattle.lc_model.proofs.ConnectionLemmas.{departs_by}
 use Rattle.lc_model.proofs.ListLemmas.{AllPairs-head, AllPairs-tail, Contains-flat_map, Contains-here, Contains-nil, StandsIn-flat_map}
-use Rattle.lc_versions.specs.History.{Entry}
+use Rattle.lc_model.specs.Versions.History.{Entry}
 use Rattle.page_json.specs.declared.page.Page.{Page}
 use Rattle.publisher_spec.specs.Near.{NoneForgets, NoneIsLeftOut, NoneIsMadeUp, NoneTooEarly, NoneTwice, NotEmpty, NothingIsLost, PagesAreOne}
 use Rattle.publisher_spec.specs.Side.{Side}

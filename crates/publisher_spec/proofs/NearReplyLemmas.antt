@@ -8,9 +8,9 @@ use Rattle.std.proofs.lemmas.List.Elements.{All-contains, All-head, All-tail}
 use Rattle.std.proofs.lemmas.List.Kept.{AllPairs-cons}
 use Rattle.lc_model.proofs.ListLemmas.{AllPairs-head, AllPairs-tail, Contains-cases, Contains-here, Contains-nil}
 use Rattle.lc_time.proofs.OneTextLemmas.{one_http_moment}
-use Rattle.lc_versions.specs.History.{Entry, moments_of}
-use Rattle.lc_versions.specs.Named.{is_by, last_of}
-use Rattle.lc_versions.specs.declared.update.Update.{Update}
+use Rattle.lc_model.specs.Versions.History.{Entry, moments_of}
+use Rattle.lc_model.specs.Versions.Named.{is_by, last_of}
+use Rattle.lc_model.specs.declared.versions.update.Update.{Update}
 use Rattle.http_text.specs.declared.request.Request.{Request}
 use Rattle.http_text.proofs.MessageLemmas.{one_request}
 use Rattle.trip_updates.specs.Message.{IsMessage}

@@ -9,9 +9,9 @@ use Rattle.lc_model.specs.declared.stop.Stop.{Stop}
 use Rattle.lc_model.proofs.OneValueLemmas.{one_list_of_connections}
 use Rattle.lc_model.proofs.OrdersLemmas.{strict_lists_are_one}
 use Rattle.lc_time.proofs.OneTextLemmas.{one_http_moment, one_moment}
-use Rattle.lc_versions.specs.News.{TripSaid}
-use Rattle.lc_versions.specs.Pages.{departures_of}
-use Rattle.lc_versions.specs.Timetable.{AreLiveRuns}
+use Rattle.lc_model.specs.Versions.News.{TripSaid}
+use Rattle.lc_model.specs.Versions.Pages.{departures_of}
+use Rattle.lc_model.specs.Versions.Timetable.{AreLiveRuns}
 use Rattle.http_text.specs.declared.request.Request.{Request}
 use Rattle.http_text.proofs.MessageLemmas.{one_request}
 use Rattle.memento.specs.Negotiation.{Negotiates}

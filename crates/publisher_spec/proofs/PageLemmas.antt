@@ -5,8 +5,8 @@ use Rattle.lc_model.specs.Connection.{InDepartureOrder, departure_cmp}
 use Rattle.lc_model.specs.declared.connection.Connection.{Connection}
 use Rattle.lc_model.proofs.ConnectionLemmas.{departs_by}
 use Rattle.lc_model.proofs.ListLemmas.{AllPairs-map, AllPairs-weaker}
-use Rattle.lc_versions.specs.Cuts.{NeverFalls}
-use Rattle.lc_versions.specs.Pages.{departures_of}
+use Rattle.lc_model.specs.Versions.Cuts.{NeverFalls}
+use Rattle.lc_model.specs.Versions.Pages.{departures_of}
 
 -- in departure order no departure is before an earlier one
 pub never_falls : (list : List Connection) → InDepartureOrder list → NeverFalls (departures_of list)

@@ -9,9 +9,9 @@ use Rattle.std.proofs.lemmas.List.Elements.{All-append, All-cons, All-from_get_o
 use Rattle.std.proofs.lemmas.List.Folds.{Any-from_list_any, list_any-append}
 use Rattle.std.proofs.lemmas.List.Kept.{AllPairs-cons}
 use Rattle.lc_model.specs.declared.date.ServiceDate.{ServiceDate}
-use Rattle.lc_versions.specs.History.{Entry, IsRising, kept_behind, moments_of, news_at, up_to}
-use Rattle.lc_versions.specs.Named.{last_of}
-use Rattle.lc_versions.specs.News.{EntitySaid}
+use Rattle.lc_model.specs.Versions.History.{Entry, IsRising, kept_behind, moments_of, news_at, up_to}
+use Rattle.lc_model.specs.Versions.Named.{last_of}
+use Rattle.lc_model.specs.Versions.News.{EntitySaid}
 
 -- the numbers strictly increase
 abbrev pub Rising : List ℕ → Type 0

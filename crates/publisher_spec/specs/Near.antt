@@ -5,9 +5,9 @@ use Rattle.lc_model.specs.Connection.{connections_of_calls}
 use Rattle.lc_model.specs.declared.connection.Connection.{Connection}
 use Rattle.lc_model.specs.declared.run.Run.{Run}
 use Rattle.lc_time.specs.Http.{SaysHttpDate}
-use Rattle.lc_versions.specs.Added.{IsFurtherRun}
-use Rattle.lc_versions.specs.History.{Entry, IsRising, news_at}
-use Rattle.lc_versions.specs.Timetable.{IsLiveRun}
+use Rattle.lc_model.specs.Versions.Added.{IsFurtherRun}
+use Rattle.lc_model.specs.Versions.History.{Entry, IsRising, news_at}
+use Rattle.lc_model.specs.Versions.Timetable.{IsLiveRun}
 use Rattle.memento.specs.Negotiation.{Negotiates}
 use Rattle.page_json.specs.declared.page.Page.{Page}
 use Rattle.http_text.specs.Request.{IsWholeRequest}

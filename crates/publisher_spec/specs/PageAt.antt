@@ -3,8 +3,8 @@ use Rattle.std.specs.Prelude.{ℕ, nat_lt, List, [], ◌∷◌, filter, Option, 
 use Rattle.std.specs.List.{last_or}
 use Rattle.lc_model.specs.declared.connection.Connection.{Connection}
 use Rattle.lc_model.specs.declared.page.PageName.{PageName}
-use Rattle.lc_versions.specs.Cuts.{first_of}
-use Rattle.lc_versions.specs.Pages.{CutPage, page_for, pages_of}
+use Rattle.lc_model.specs.Versions.Cuts.{first_of}
+use Rattle.lc_model.specs.Versions.Pages.{CutPage, page_for, pages_of}
 use Rattle.page_json.specs.declared.page.Page.{Page}
 
 -- of these pages the one for a moment

@@ -3,9 +3,9 @@
 use Rattle.std.specs.Prelude.{◌≡◌, ℕ, ◌+◌, nat_le, nat_lt, Bool, true, false, ◌||◌, List, length, sum_by, codes, Option, Some, None, is_some, if◌then◌else◌}
 use Rattle.lc_model.specs.declared.connection.Connection.{Connection}
 use Rattle.lc_time.specs.Iso.{SaysMoment}
-use Rattle.lc_versions.specs.History.{Entry}
-use Rattle.lc_versions.specs.Pages.{departures_of}
-use Rattle.lc_versions.specs.declared.update.Update.{Update}
+use Rattle.lc_model.specs.Versions.History.{Entry}
+use Rattle.lc_model.specs.Versions.Pages.{departures_of}
+use Rattle.lc_model.specs.declared.versions.update.Update.{Update}
 use Rattle.http_text.specs.declared.request.Request.{Request}
 use Rattle.memento.specs.Negotiation.{Negotiates}
 use Rattle.page_json.specs.Sound.{IsSoundDoc, IsSoundName, IsSoundPage}

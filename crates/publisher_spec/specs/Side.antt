@@ -11,11 +11,11 @@ use Rattle.lc_model.specs.declared.doc.StopsDoc.{StopsDoc}
 use Rattle.lc_model.specs.declared.run.Run.{Run}
 use Rattle.lc_time.specs.Zone.{date_shown}
 use Rattle.lc_time.specs.declared.zone.Zone.{Zone}
-use Rattle.lc_versions.specs.Cuts.{AreCuts, NeverFalls}
-use Rattle.lc_versions.specs.History.{Entry, IsRising, moments_of, news_at}
-use Rattle.lc_versions.specs.Named.{last_of}
-use Rattle.lc_versions.specs.Timetable.{AreLiveRuns}
-use Rattle.lc_versions.specs.declared.update.Update.{Update}
+use Rattle.lc_model.specs.Versions.Cuts.{AreCuts, NeverFalls}
+use Rattle.lc_model.specs.Versions.History.{Entry, IsRising, moments_of, news_at}
+use Rattle.lc_model.specs.Versions.Named.{last_of}
+use Rattle.lc_model.specs.Versions.Timetable.{AreLiveRuns}
+use Rattle.lc_model.specs.declared.versions.update.Update.{Update}
 use Rattle.connection_uri.specs.Base.{BaseParts, IsBase}
 use Rattle.page_json.specs.Valid.{IsValidDoc}
 

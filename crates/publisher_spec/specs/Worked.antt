@@ -2,7 +2,7 @@
 use Rattle.std.specs.Prelude.{◌≡◌, ◌∷◌, ◌++◌, [], codes, true, false, Some, None}
 use Rattle.lc_model.specs.declared.doc.StopsDoc.{StopsDoc}
 use Rattle.lc_model.specs.declared.key.RunKey.{RunKey}
-use Rattle.lc_versions.specs.Worked.{at, connections_at}
+use Rattle.lc_model.specs.Versions.Worked.{at, connections_at}
 use Rattle.connection_uri.specs.Base.{BaseParts}
 use Rattle.http_text.specs.Line.{line}
 use Rattle.http_text.specs.ReplyText.{reply_text_of}

@@ -2,9 +2,11 @@
 use crate::making::{MIDNIGHT, base, bytes};
 use fragmenter::{BySpan, Cutting};
 use lc_links::LocalLink;
-use lc_model::{Moment, Run, Runs, ServiceDate, Stops, StopsDoc};
+use lc_model::{
+    Event, Moment, Relation, Run, Runs, ServiceDate, StopNews, StopNewsList, Stops, StopsDoc,
+    TripKind, TripNews,
+};
 use lc_time::Zone;
-use lc_versions::{Event, Relation, StopNews, StopNewsList, TripKind, TripNews};
 use live_calls::added_run;
 use page_json::read_stops;
 use publisher::{Options, Publisher};

@@ -1,9 +1,11 @@
 //! Publishers of the small feed Tiny, or of nothing.
 use connection_uri::Base;
 use fragmenter::{ByCount, BySpan, Cutting};
-use lc_model::{Bytes, Moment, Run, Runs, ServiceDate, Stops, StopsDoc};
+use lc_model::{
+    Bytes, Event, Moment, Relation, Run, Runs, ServiceDate, StopNews, StopNewsList, Stops,
+    StopsDoc, TripKind, TripNews,
+};
 use lc_time::Zone;
-use lc_versions::{Event, Relation, StopNews, StopNewsList, TripKind, TripNews};
 use live_calls::added_run;
 use page_json::read_stops;
 use publisher::{Options, Publisher};

@@ -1,14 +1,13 @@
 -- Runs have one list of connections in departure order.
 use Rattle.std.proofs.Common.{◌≡◌, List, ap, sym, subst, ◌∙◌}
 use Rattle.std.specs.Ordering.{on}
-use Rattle.lc_model.specs.Connection.{AreConnectionsOf}
+use Rattle.lc_model.specs.Connection.{AreConnectionsOf, connections_of, departure_cmp}
 use Rattle.lc_model.specs.RunKey.{key_cmp}
 use Rattle.lc_model.specs.Totals.{departure_cmp_total, run_cmp_total}
 use Rattle.lc_model.specs.declared.connection.Connection.{Connection}
 use Rattle.lc_model.specs.declared.run.Run.{Run}
-use Rattle.lc_model.specs.Connection.{connections_of, departure_cmp}
 use Rattle.lc_model.proofs.OrdersLemmas.{strict_lists_are_one, strict_orders_are_one}
-use Rattle.lc_versions.specs.Pages.{departing, departures_of}
+use Rattle.lc_model.specs.Versions.Pages.{departing, departures_of}
 use Rattle.span_index.specs.Laws.{OneListOfRows}
 use Rattle.span_index.specs.Rows.{AreConnections, AreInKeyOrder}
 

@@ -22,7 +22,7 @@ use Rattle.lc_model.specs.declared.run.Run.{Run}
 use Rattle.lc_model.proofs.ConnectionLemmas.{NoneArrivesEarly-connections_of, departs_by}
 use Rattle.lc_model.proofs.ListLemmas.{All-from_contains, AllPairs-map, AllPairs-weaker, Contains-filter, Contains-here, Contains-there, IsKept-filter}
 use Rattle.lc_model.proofs.OrdersLemmas.{IsStrict-from_sorted, strict_lists_are_one}
-use Rattle.lc_versions.specs.Pages.{departing, departures_of, is_before}
+use Rattle.lc_model.specs.Versions.Pages.{departing, departures_of, is_before}
 use Rattle.span_index.specs.Gathered.{IsOfStates}
 use Rattle.span_index.specs.Inside.{ArePlaced, AreSpans}
 use Rattle.span_index.specs.Places.{connection_of, holds_there, is_between, is_held, place_cmp, shown, shown_of}

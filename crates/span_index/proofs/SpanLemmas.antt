@@ -6,7 +6,7 @@ use Rattle.std.specs.Option.{ForSome}
 use Rattle.std.proofs.lemmas.Bool.{and_parts}
 use Rattle.std.proofs.lemmas.Bool.Decides.{nat_tests}
 use Rattle.lc_model.specs.declared.run.Run.{Run}
-use Rattle.lc_versions.specs.Pages.{is_before}
+use Rattle.lc_model.specs.Versions.Pages.{is_before}
 use Rattle.span_index.specs.Inside.{IsPast}
 use Rattle.span_index.specs.Spans.{held, holds, run_of}
 use Rattle.span_index.specs.Turns.{begun, closed_state, ended}

@@ -10,7 +10,7 @@ use Rattle.lc_model.specs.Connection.{connection_between}
 use Rattle.lc_model.specs.declared.call.Call.{Call}
 use Rattle.lc_model.specs.declared.connection.Connection.{Connection}
 use Rattle.lc_model.specs.declared.key.RunKey.{RunKey}
-use Rattle.lc_versions.specs.Pages.{is_before}
+use Rattle.lc_model.specs.Versions.Pages.{is_before}
 use Rattle.span_index.specs.Spans.{holds}
 use Rattle.span_index.specs.declared.place.Place.{Place}
 use Rattle.span_index.specs.declared.state.State.{State}

@@ -5,7 +5,7 @@ use Rattle.lc_model.specs.Connection.{AreConnectionsOf}
 use Rattle.lc_model.specs.Run.{InKeyOrder}
 use Rattle.lc_model.specs.declared.connection.Connection.{Connection}
 use Rattle.lc_model.specs.declared.run.Run.{Run}
-use Rattle.lc_versions.specs.Pages.{departing, departures_of}
+use Rattle.lc_model.specs.Versions.Pages.{departing, departures_of}
 
 -- these are the runs, strictly by their keys
 pub record AreInKeyOrder (runs live : List Run) : Type 0 where

@@ -1,7 +1,7 @@
 -- The states of runs, each with its span of version numbers, and which of them hold in a version.
 use Rattle.std.specs.Prelude.{ℕ, ◌&&◌, nat_le, List, Bool, map, filter}
 use Rattle.lc_model.specs.declared.run.Run.{Run}
-use Rattle.lc_versions.specs.Pages.{is_before}
+use Rattle.lc_model.specs.Versions.Pages.{is_before}
 use Rattle.span_index.specs.declared.state.State.{State}
 
 -- the state holds in a version: from the number at which it begins, and before the one at which it ends

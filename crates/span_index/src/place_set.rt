@@ -1,7 +1,7 @@
 ghost use Rattle.std.specs.Prelude.{◌≡◌, ◌↔◌, ◌⊎◌, IfOk, OnErr, OnOk, filter, nat_le};
 ghost use Rattle.std.specs.List.{Contains};
 ghost use Rattle.lc_model.specs.Order.{AreApart, IsStrict};
-ghost use Rattle.lc_versions.specs.Pages.{is_before};
+ghost use Rattle.lc_model.specs.Versions.Pages.{is_before};
 ghost use Rattle.span_index.specs.Places.{is_between, place_cmp};
 ghost use Rattle.span_index.specs.declared.place.Place.{Place as Stood};
 

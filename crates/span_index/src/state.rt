@@ -1,5 +1,5 @@
 ghost use Rattle.std.specs.Prelude.{◌≡◌};
-ghost use Rattle.lc_versions.specs.Pages.{is_before};
+ghost use Rattle.lc_model.specs.Versions.Pages.{is_before};
 
 use lc_model::{Calls, RunKey};
 

@@ -9,7 +9,7 @@ use Rattle.rt_protobuf.specs.Reading.{parts_of}
 use Rattle.rt_protobuf.proofs.OneWayLemmas.{fields_are, are_fields}
 use Rattle.trip_updates.specs.declared.fault.RtFault.{RtFault}
 use Rattle.trip_updates.specs.declared.fault.RtFault.TheVariants as faults
-use Rattle.lc_versions.specs.declared.update.Update.{Update}
+use Rattle.lc_model.specs.declared.versions.update.Update.{Update}
 use Rattle.trip_updates.specs.Tree.{Tree, empty, and_varint, and_text, and_message, last_message}
 use Rattle.trip_updates.specs.Table.{Message, feed_message, Kind, skipped, a_varint, a_text, one, many, kind, lacks}
 use Rattle.trip_updates.specs.Message.{Adds, Add, IsTreeWith, IsTree, IsMessage}

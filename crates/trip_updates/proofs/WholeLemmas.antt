@@ -1,7 +1,7 @@
 -- A message that has its header is what its fields say.
 use Rattle.std.proofs.Common.{◌≡◌, Bool, true, false, List, Option, Some, None, Result, Ok, Err, refl, sym, ap, ap₂, ◌∙◌}
 use Rattle.std.specs.Prelude.{is_some, option_map, unwrap_or, map, if◌then◌else◌, IfOk, IfErr}
-use Rattle.lc_versions.specs.declared.update.Update.{Update}
+use Rattle.lc_model.specs.declared.versions.update.Update.{Update}
 use Rattle.trip_updates.specs.declared.entity.Entity.{Entity}
 use Rattle.trip_updates.specs.declared.fault.Part.TheVariants as parts
 use Rattle.trip_updates.specs.declared.fault.RtFault.{RtFault}

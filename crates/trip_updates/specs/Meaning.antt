@@ -5,13 +5,13 @@ use Rattle.trip_updates.specs.declared.entity.Entity.{Entity}
 use Rattle.trip_updates.specs.declared.trip.TripSaid.{TripSaid}
 use Rattle.trip_updates.specs.declared.trip.TripSaid.TheVariants as saids
 use Rattle.trip_updates.specs.declared.header.Head.{Head}
-use Rattle.lc_versions.specs.News.{EntitySaid, StopSaid, TripSaid as TripNews}
-use Rattle.lc_versions.specs.declared.event.Event.{Event}
-use Rattle.lc_versions.specs.declared.event.Relation.{Relation}
-use Rattle.lc_versions.specs.declared.event.Relation.TheVariants as relations
-use Rattle.lc_versions.specs.declared.event.TripKind.{TripKind}
-use Rattle.lc_versions.specs.declared.event.TripKind.TheVariants as kinds
-use Rattle.lc_versions.specs.declared.update.Update.{Update}
+use Rattle.lc_model.specs.Versions.News.{EntitySaid, StopSaid, TripSaid as TripNews}
+use Rattle.lc_model.specs.declared.versions.event.Event.{Event}
+use Rattle.lc_model.specs.declared.versions.event.Relation.{Relation}
+use Rattle.lc_model.specs.declared.versions.event.Relation.TheVariants as relations
+use Rattle.lc_model.specs.declared.versions.event.TripKind.{TripKind}
+use Rattle.lc_model.specs.declared.versions.event.TripKind.TheVariants as kinds
+use Rattle.lc_model.specs.declared.versions.update.Update.{Update}
 use Rattle.trip_updates.specs.Tree.{Tree, last_varint, last_text, last_message, messages}
 use Rattle.trip_updates.specs.Table.{low_32}
 use Rattle.lc_time.specs.Clock.{gtfs_time_said}

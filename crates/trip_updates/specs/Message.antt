@@ -1,7 +1,7 @@
 -- Which bytes are a message, as a relation by cases on the bytes.
 use Rattle.std.specs.Prelude.{◌≡◌, ℕ, zero, suc, List, [], ◌∷◌, None}
 use Rattle.rt_protobuf.specs.Grammar.{Content, varint, text, WireField, AreFields}
-use Rattle.lc_versions.specs.declared.update.Update.{Update}
+use Rattle.lc_model.specs.declared.versions.update.Update.{Update}
 use Rattle.trip_updates.specs.Tree.{Tree, empty, and_varint, and_text, and_message, last_message}
 use Rattle.trip_updates.specs.Table.{Message, feed_message, Kind, a_varint, a_text, one, many, kind, lacks}
 use Rattle.trip_updates.specs.Meaning.{update_of}

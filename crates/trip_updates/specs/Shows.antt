@@ -12,11 +12,11 @@ use Rattle.trip_updates.specs.declared.message.FeedFields.{FeedFields}
 use Rattle.trip_updates.specs.declared.stop.StopFields.{StopFields}
 use Rattle.trip_updates.specs.declared.trip.TripFields.{TripFields}
 use Rattle.trip_updates.specs.declared.trip.TripSaid.{TripSaid}
-use Rattle.lc_versions.specs.declared.update.Update.{Update}
+use Rattle.lc_model.specs.declared.versions.update.Update.{Update}
 use Rattle.trip_updates.specs.declared.fault.RtFault.{RtFault}
 use Rattle.trip_updates.specs.declared.fault.RtFault.TheVariants as faults
-use Rattle.lc_versions.specs.declared.event.Event.{Event}
-use Rattle.lc_versions.specs.declared.stop_news.StopNews.{StopNews}
+use Rattle.lc_model.specs.declared.versions.event.Event.{Event}
+use Rattle.lc_model.specs.declared.versions.stop_news.StopNews.{StopNews}
 use Rattle.trip_updates.specs.Tree.{Tree, last_varint, last_text, last_message, messages}
 use Rattle.trip_updates.specs.Table.{low_32}
 use Rattle.trip_updates.specs.Meaning.{event_of, relation_of, stop_news_of, news_of, passed_or, said_of, entity_of, is_deleted, head_of, update_of}

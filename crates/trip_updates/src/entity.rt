@@ -8,8 +8,7 @@ ghost use Rattle.trip_updates.specs.Shows.{Answers, SpanEnds, ShowsEntity, Shows
 
 use crate::fault::{Part, RtFault};
 use crate::trip::{TripSaid, read_trip};
-use lc_model::{Bytes, NoMemory};
-use lc_versions::EntityNews;
+use lc_model::{Bytes, EntityNews, NoMemory};
 use rt_protobuf::{Field, Value, next_field};
 use std::alloc::Global;
 

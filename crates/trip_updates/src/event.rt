@@ -6,7 +6,7 @@ ghost use Rattle.trip_updates.specs.Faults.{Reader, step, read};
 ghost use Rattle.trip_updates.specs.Shows.{Answers, ShowsEvent};
 
 use crate::fault::RtFault;
-use lc_versions::Event;
+use lc_model::Event;
 use rt_protobuf::{Field, Value, next_field};
 
 // The low 32 bits.

@@ -1,5 +1,5 @@
 ghost use Rattle.std.specs.Prelude.{◌≡◌, ℕ, List, None};
-ghost use Rattle.lc_versions.specs.declared.update.Update.{Update};
+ghost use Rattle.lc_model.specs.declared.versions.update.Update.{Update};
 ghost use Rattle.trip_updates.specs.Message.{IsMessage};
 ghost use Rattle.trip_updates.specs.Faults.{fault_of};
 

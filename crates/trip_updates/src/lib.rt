@@ -14,7 +14,7 @@ mod trip;
 
 pub use fault::{Part, RtFault};
 pub use law::one_meaning;
-pub use lc_versions::{
+pub use lc_model::{
     EntityList, EntityNews, Event, Relation, StopNews, StopNewsList, TripKind, TripNews, Update,
 };
 pub use message::read_message;

@@ -2,18 +2,17 @@ ghost use Rattle.std.specs.Prelude.{◌≡◌, ℕ, ◌≤◌, ◌++◌, [], ◌
 ghost use Rattle.rt_protobuf.specs.Message.{field_of};
 ghost use Rattle.trip_updates.specs.Tree.{Tree};
 ghost use Rattle.trip_updates.specs.Table.{feed_message, lacks};
-ghost use Rattle.trip_updates.specs.Faults.{Reader, step, complete, read};
+ghost use Rattle.trip_updates.specs.Faults.{Reader, step, complete, read, fault_of};
 ghost use Rattle.trip_updates.specs.Shows.{Answers, SpanEnds, ShowsFeed, ShowsUpdate};
 ghost use Rattle.trip_updates.specs.Meaning.{update_with, stated as stated_of, counts};
 ghost use Rattle.trip_updates.specs.Message.{IsMessage};
-ghost use Rattle.trip_updates.specs.Faults.{fault_of};
-ghost use Rattle.lc_versions.specs.declared.update.Update.{Update as Said};
+ghost use Rattle.lc_model.specs.declared.versions.update.Update.{Update as Said};
 ghost use Rattle.trip_updates.specs.declared.fault.RtFault.TheVariants.{NoMemory};
 
 use crate::entity::{Entity, read_entity};
 use crate::fault::{Part, RtFault};
 use crate::header::{Head, read_header};
-use lc_versions::{EntityList, EntityNews, Update};
+use lc_model::{EntityList, EntityNews, Update};
 use rt_protobuf::{Field, Value, next_field};
 use std::alloc::Global;
 

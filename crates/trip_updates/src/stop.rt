@@ -8,8 +8,7 @@ ghost use Rattle.trip_updates.specs.Meaning.{if_any as any_of, relation_of as re
 
 use crate::event::{low_32, read_event};
 use crate::fault::{Part, RtFault};
-use lc_model::{Bytes, NoMemory};
-use lc_versions::{Event, Relation, StopNews};
+use lc_model::{Bytes, Event, NoMemory, Relation, StopNews};
 use rt_protobuf::{Field, Value, next_field};
 use std::alloc::Global;
 

@@ -12,9 +12,8 @@ ghost use Rattle.lc_time.specs.Date.{date_said};
 use crate::descriptor::{Descriptor, read_descriptor};
 use crate::fault::{Part, RtFault};
 use crate::stop::{read_stop, stop_news};
-use lc_model::{Bytes, ServiceDate};
+use lc_model::{Bytes, ServiceDate, StopNews, StopNewsList, TripKind, TripNews};
 use lc_time::{read_date, read_gtfs_time};
-use lc_versions::{StopNews, StopNewsList, TripKind, TripNews};
 use rt_protobuf::{Field, Value, next_field};
 use std::alloc::{AllocError, Global};
 

@@ -7,8 +7,8 @@ use Rattle.lc_model.specs.RunKey.{key_cmp}
 use Rattle.lc_model.specs.declared.run.Run.{Run}
 use Rattle.lc_model.specs.declared.stop.Stop.{Stop}
 use Rattle.lc_model.proofs.ListLemmas.{AllPairs-map, ComesFrom-map, Contains-map}
-use Rattle.lc_versions.specs.Added.{IsFurtherRun}
-use Rattle.lc_versions.specs.Timetable.{AreLiveRuns, IsLiveRun}
+use Rattle.lc_model.specs.Versions.Added.{IsFurtherRun}
+use Rattle.lc_model.specs.Versions.Timetable.{AreLiveRuns, IsLiveRun}
 use Rattle.version_store.specs.BaseRuns.{base_run}
 
 pub base_in_order : (runs : List Run) → InKeyOrder runs → InKeyOrder (map base_run runs)

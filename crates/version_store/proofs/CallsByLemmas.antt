@@ -19,10 +19,10 @@ use Rattle.lc_model.specs.declared.run.Run.{Run}
 use Rattle.lc_model.specs.declared.stop.Stop.{Stop}
 use Rattle.lc_model.proofs.KeyLemmas.{same_keys}
 use Rattle.lc_model.proofs.SearchLemmas.{sorted_from_strict}
-use Rattle.lc_versions.specs.Added.{IsFurtherRun, has_key, news_of_key}
-use Rattle.lc_versions.specs.Live.{live_calls_of}
-use Rattle.lc_versions.specs.Naming.{news_for}
-use Rattle.lc_versions.specs.News.{TripSaid}
+use Rattle.lc_model.specs.Versions.Added.{IsFurtherRun, has_key, news_of_key}
+use Rattle.lc_model.specs.Versions.Live.{live_calls_of}
+use Rattle.lc_model.specs.Versions.Naming.{news_for}
+use Rattle.lc_model.specs.Versions.News.{TripSaid}
 use Rattle.laws_index.specs.Held.{IsRunBy}
 use Rattle.version_store.specs.CallsBy.{AreCallsBy, AreFurtherCalls, IsRunOfKey, run_with}
 use Rattle.version_store.specs.Further.{IsFurther, calls_of}

@@ -18,7 +18,7 @@ use Rattle.lc_model.specs.declared.run.Run.{Run}
 use Rattle.lc_model.specs.declared.stop.Stop.{Stop}
 use Rattle.lc_model.proofs.KeyLemmas.{same_keys}
 use Rattle.lc_model.proofs.ListLemmas.{Contains-nil}
-use Rattle.lc_versions.specs.News.{TripSaid}
+use Rattle.lc_model.specs.Versions.News.{TripSaid}
 use Rattle.laws_index.specs.Held.{IsRunBy}
 use Rattle.laws_index.specs.Touched.{NoneHas, is_touched}
 use Rattle.laws_index.proofs.HeldLemmas.{one_run}

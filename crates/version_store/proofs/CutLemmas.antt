@@ -3,8 +3,8 @@ use Rattle.std.proofs.Common.{◌≡◌, ℕ, ◌+◌, List, [], ◌∷◌, leb,
 use Rattle.std.specs.List.{filter_map}
 use Rattle.std.proofs.lemmas.List.Sums.{sum_by-cons}
 use Rattle.lc_model.specs.declared.date.ServiceDate.{ServiceDate}
-use Rattle.lc_versions.specs.History.{Entry, kept_after, kept_behind, moments_of, up_to}
-use Rattle.lc_versions.specs.News.{EntitySaid}
+use Rattle.lc_model.specs.Versions.History.{Entry, kept_after, kept_behind, moments_of, up_to}
+use Rattle.lc_model.specs.Versions.News.{EntitySaid}
 use Rattle.version_store.specs.Laws.{CutsDoNotMatter}
 use Rattle.version_store.specs.Store.{bytes_of, without_cuts}
 

@@ -6,9 +6,9 @@ use Rattle.std.proofs.lemmas.List.{append-nil}
 use Rattle.std.proofs.lemmas.List.Elements.{filter-append, filter_map-append}
 use Rattle.lc_model.specs.declared.key.RunKey.{RunKey}
 use Rattle.lc_model.proofs.ListLemmas.{Contains-cases, Contains-here, Contains-nil, Contains-there}
-use Rattle.lc_versions.specs.Added.{has_key}
-use Rattle.lc_versions.specs.Naming.{names_run}
-use Rattle.lc_versions.specs.News.{EntitySaid, TripSaid}
+use Rattle.lc_model.specs.Versions.Added.{has_key}
+use Rattle.lc_model.specs.Versions.Naming.{names_run}
+use Rattle.lc_model.specs.Versions.News.{EntitySaid, TripSaid}
 use Rattle.laws_index.specs.Kept.{news_in}
 use Rattle.laws_index.specs.Touched.{HasSameNews, touches}
 use Rattle.version_store.specs.Differing.{AreAlikeAt, DifferBy}

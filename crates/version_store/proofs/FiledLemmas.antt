@@ -13,8 +13,8 @@ use Rattle.std.proofs.lemmas.Slice.Eq.{bytes_eq-Decides}
 use Rattle.lc_model.specs.Change.{is_same_id}
 use Rattle.lc_model.specs.declared.date.ServiceDate.{ServiceDate}
 use Rattle.lc_model.proofs.ListLemmas.{Contains-here, Contains-nil, Contains-there}
-use Rattle.lc_versions.specs.History.{filled, filled_news}
-use Rattle.lc_versions.specs.News.{EntitySaid, TripSaid}
+use Rattle.lc_model.specs.Versions.History.{filled, filled_news}
+use Rattle.lc_model.specs.Versions.News.{EntitySaid, TripSaid}
 use Rattle.version_store.specs.Filed.{ArePart, HasBy, HasListsBy, HasListsOf, IsSomeAt, PushesAllAt, PushesAt, TakesOut, is_by, is_staying, list_or, listed, spots_at, spots_by, spots_over, stays, stays_at, text_by, trip_in}
 use Rattle.version_store.specs.Kept.{entity_said}
 use Rattle.version_store.specs.Spots.{IsAtSpot, said_in}

@@ -12,9 +12,9 @@ use Rattle.std.proofs.lemmas.List.Elements.{Contains-append_left, Contains-appen
 use Rattle.lc_model.specs.Change.{is_same_id}
 use Rattle.lc_model.specs.declared.date.ServiceDate.{ServiceDate}
 use Rattle.lc_model.proofs.ListLemmas.{Contains-nil}
-use Rattle.lc_versions.specs.History.{filled, filled_entities, kept_after, put_all, with_news}
-use Rattle.lc_versions.specs.News.{EntitySaid}
-use Rattle.lc_versions.specs.declared.update.Update.{Update}
+use Rattle.lc_model.specs.Versions.History.{filled, filled_entities, kept_after, put_all, with_news}
+use Rattle.lc_model.specs.Versions.News.{EntitySaid}
+use Rattle.lc_model.specs.declared.versions.update.Update.{Update}
 use Rattle.laws_index.specs.Kept.{has_id, news_in}
 use Rattle.laws_index.proofs.PutLemmas.{put_at_once}
 use Rattle.version_store.specs.Differing.{DifferBy}

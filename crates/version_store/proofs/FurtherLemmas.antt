@@ -21,11 +21,11 @@ use Rattle.lc_model.specs.declared.call.Call.{Call}
 use Rattle.lc_model.specs.declared.key.RunKey.{RunKey}
 use Rattle.lc_model.specs.declared.run.Run.{Run}
 use Rattle.lc_model.specs.declared.stop.Stop.{Stop}
-use Rattle.lc_versions.specs.Added.{IsFurtherRun, added_calls, has_key, news_of_key}
-use Rattle.lc_versions.specs.Live.{live_calls_of}
-use Rattle.lc_versions.specs.Naming.{is_added, news_for}
-use Rattle.lc_versions.specs.News.{TripSaid}
-use Rattle.lc_versions.specs.Timetable.{AreLiveRuns, IsLiveRun}
+use Rattle.lc_model.specs.Versions.Added.{IsFurtherRun, added_calls, has_key, news_of_key}
+use Rattle.lc_model.specs.Versions.Live.{live_calls_of}
+use Rattle.lc_model.specs.Versions.Naming.{is_added, news_for}
+use Rattle.lc_model.specs.Versions.News.{TripSaid}
+use Rattle.lc_model.specs.Versions.Timetable.{AreLiveRuns, IsLiveRun}
 use Rattle.lc_model.proofs.KeyLemmas.{same_keys}
 use Rattle.live_calls.proofs.LawLemmas.{keys_are_one, no_key_names_none}
 use Rattle.live_calls.proofs.AddedLemmas.{added_go_forward}

@@ -7,9 +7,9 @@ use Rattle.lc_model.specs.declared.connection.Connection.{Connection}
 use Rattle.lc_model.specs.Run.{InKeyOrder}
 use Rattle.lc_model.specs.declared.key.RunKey.{RunKey}
 use Rattle.lc_model.specs.declared.run.Run.{Run}
-use Rattle.lc_versions.specs.History.{Entry, IsRising, moments_of, news_at}
-use Rattle.lc_versions.specs.News.{TripSaid}
-use Rattle.lc_versions.specs.Timetable.{AreLiveRuns}
+use Rattle.lc_model.specs.Versions.History.{Entry, IsRising, moments_of, news_at}
+use Rattle.lc_model.specs.Versions.News.{TripSaid}
+use Rattle.lc_model.specs.Versions.Timetable.{AreLiveRuns}
 use Rattle.laws_index.specs.Held.{AreRunsBy}
 use Rattle.laws_index.specs.Kept.{entities_after, news_in}
 use Rattle.laws_index.specs.Touched.{AreChanges, IsLeft}

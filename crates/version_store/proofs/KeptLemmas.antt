@@ -8,8 +8,8 @@ use Rattle.std.proofs.lemmas.List.{drop_more, append-nil, append_assoc, map-appe
 use Rattle.std.proofs.lemmas.List.Elements.{Contains-append_right, Contains-push_cases, filter-append}
 use Rattle.std.proofs.lemmas.Slice.Eq.{bytes_eq-Decides}
 use Rattle.lc_model.specs.Change.{is_same_id}
-use Rattle.lc_versions.specs.History.{put, with_news}
-use Rattle.lc_versions.specs.News.{EntitySaid, TripSaid}
+use Rattle.lc_model.specs.Versions.History.{put, with_news}
+use Rattle.lc_model.specs.Versions.News.{EntitySaid, TripSaid}
 use Rattle.version_store.specs.Kept.{entity_said, is_replaced, kept_of, survivors, then_all, then_entities, then_marked}
 use Rattle.version_store.specs.declared.kept.Marked.{Marked}
 

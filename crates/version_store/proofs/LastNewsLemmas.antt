@@ -11,9 +11,9 @@ use Rattle.lc_model.specs.RunKey.{key_cmp}
 use Rattle.lc_model.specs.declared.date.ServiceDate.{ServiceDate}
 use Rattle.lc_model.specs.declared.key.RunKey.{RunKey}
 use Rattle.lc_model.proofs.KeyLemmas.{same_key_parts}
-use Rattle.lc_versions.specs.Added.{has_key, is_start}
-use Rattle.lc_versions.specs.Naming.{is_added, is_on, names_run, starts_so}
-use Rattle.lc_versions.specs.News.{TripSaid}
+use Rattle.lc_model.specs.Versions.Added.{has_key, is_start}
+use Rattle.lc_model.specs.Versions.Naming.{is_added, is_on, names_run, starts_so}
+use Rattle.lc_model.specs.Versions.News.{TripSaid}
 use Rattle.laws_index.specs.Touched.{IsTouchedKey, is_touched, touches}
 use Rattle.laws_index.proofs.TouchedLemmas.{touch_few}
 use Rattle.live_calls.specs.AddedRun.{HasNoKey}

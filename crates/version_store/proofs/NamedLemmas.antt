@@ -13,7 +13,7 @@ use Rattle.lc_model.specs.Change.{is_same_id}
 use Rattle.lc_model.specs.RunKey.{date_cmp, key_cmp}
 use Rattle.lc_model.specs.declared.date.ServiceDate.{ServiceDate}
 use Rattle.lc_model.specs.declared.key.RunKey.{RunKey}
-use Rattle.lc_versions.specs.Naming.{is_added, names_run, starts_so}
+use Rattle.lc_model.specs.Versions.Naming.{is_added, names_run, starts_so}
 use Rattle.version_store.specs.Kept.{news_said}
 use Rattle.version_store.specs.Named.{HasNamed, PutsNamed, names_started}
 use Rattle.version_store.specs.declared.dated.DatedNews.{DatedNews}

@@ -12,12 +12,12 @@ use Rattle.lc_model.specs.RunKey.{date_cmp}
 use Rattle.lc_model.specs.declared.connection.Connection.{Connection}
 use Rattle.lc_model.proofs.KeyLemmas.{same_dates}
 use Rattle.lc_model.proofs.ListLemmas.{IsKept-filter}
-use Rattle.lc_versions.specs.History.{Entry, filled_entities, moments_of, put_all, with_news}
-use Rattle.lc_versions.specs.Named.{last_of}
-use Rattle.lc_versions.specs.Naming.{is_added, starts_so}
-use Rattle.lc_versions.specs.News.{EntitySaid}
-use Rattle.lc_versions.specs.Pages.{departing, is_before}
-use Rattle.lc_versions.specs.declared.update.Update.{Update}
+use Rattle.lc_model.specs.Versions.History.{Entry, filled_entities, moments_of, put_all, with_news}
+use Rattle.lc_model.specs.Versions.Named.{last_of}
+use Rattle.lc_model.specs.Versions.Naming.{is_added, starts_so}
+use Rattle.lc_model.specs.Versions.News.{EntitySaid}
+use Rattle.lc_model.specs.Versions.Pages.{departing, is_before}
+use Rattle.lc_model.specs.declared.versions.update.Update.{Update}
 use Rattle.trip_updates.specs.Faults.{fault_of}
 use Rattle.trip_updates.specs.Message.{IsMessage}
 use Rattle.trip_updates.specs.declared.fault.RtFault.{RtFault}

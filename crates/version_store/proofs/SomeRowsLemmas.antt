@@ -36,11 +36,11 @@ use Rattle.lc_model.specs.declared.run.Run.{Run}
 use Rattle.lc_model.specs.declared.stop.Stop.{Stop}
 use Rattle.lc_model.proofs.ConnectionLemmas.{in_sequence, untied_connections}
 use Rattle.lc_model.proofs.KeyLemmas.{same_keys}
-use Rattle.lc_versions.specs.Added.{IsFurtherRun, added_calls, has_key, is_start}
-use Rattle.lc_versions.specs.Live.{live_calls_of}
-use Rattle.lc_versions.specs.Naming.{is_added, news_for}
-use Rattle.lc_versions.specs.News.{TripSaid}
-use Rattle.lc_versions.specs.Timetable.{AreLiveRuns, IsLiveRun}
+use Rattle.lc_model.specs.Versions.Added.{IsFurtherRun, added_calls, has_key, is_start}
+use Rattle.lc_model.specs.Versions.Live.{live_calls_of}
+use Rattle.lc_model.specs.Versions.Naming.{is_added, news_for}
+use Rattle.lc_model.specs.Versions.News.{TripSaid}
+use Rattle.lc_model.specs.Versions.Timetable.{AreLiveRuns, IsLiveRun}
 use Rattle.live_calls.specs.AddedRun.{HasNoKey, IsAddedRun}
 use Rattle.live_calls.proofs.AddedLemmas.{added_go_forward}
 use Rattle.live_calls.proofs.LiveLemmas.{live_go_forward}

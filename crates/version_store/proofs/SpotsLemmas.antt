@@ -7,8 +7,8 @@ use Rattle.std.proofs.lemmas.List.{append_assoc, map-append, take_more}
 use Rattle.std.proofs.lemmas.List.Elements.{All-push, filter_map-append}
 use Rattle.std.proofs.lemmas.Option.{slice_get-get_or}
 use Rattle.lc_model.specs.declared.date.ServiceDate.{ServiceDate}
-use Rattle.lc_versions.specs.History.{Entry, filled, kept_after}
-use Rattle.lc_versions.specs.News.{EntitySaid, TripSaid}
+use Rattle.lc_model.specs.Versions.History.{Entry, filled, kept_after}
+use Rattle.lc_model.specs.Versions.News.{EntitySaid, TripSaid}
 use Rattle.laws_index.specs.Kept.{entities_after, news_in}
 use Rattle.laws_index.proofs.KeptLemmas.{goes_on}
 use Rattle.span_index.proofs.GatherLemmas.{get_before}

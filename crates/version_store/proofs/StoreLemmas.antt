@@ -2,8 +2,8 @@
 use Rattle.std.proofs.Common.{◌≡◌, ℕ, ◌+◌, ◌<◌, ◌≤◌, List, [], ◌∷◌, ◌++◌, map, sym, ap, ◌∙◌, subst, arith}
 use Rattle.std.proofs.lemmas.List.{map-append}
 use Rattle.std.proofs.lemmas.List.Sums.{sum_by_push}
-use Rattle.lc_versions.specs.History.{Entry, IsRising, moments_of}
-use Rattle.lc_versions.specs.Named.{last_of}
+use Rattle.lc_model.specs.Versions.History.{Entry, IsRising, moments_of}
+use Rattle.lc_model.specs.Versions.Named.{last_of}
 use Rattle.version_store.specs.Kept.{entry_said}
 use Rattle.version_store.specs.Store.{bytes_of}
 use Rattle.version_store.specs.declared.store.Admission.{Admission}

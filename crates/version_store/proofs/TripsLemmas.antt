@@ -12,9 +12,9 @@ use Rattle.std.proofs.lemmas.List.Elements.{filter-append}
 use Rattle.lc_model.specs.Change.{is_same_id}
 use Rattle.lc_model.specs.declared.key.RunKey.{RunKey}
 use Rattle.lc_model.proofs.ListLemmas.{Contains-cases, Contains-nil, IsKept-filter}
-use Rattle.lc_versions.specs.Added.{has_key}
-use Rattle.lc_versions.specs.Naming.{names_run}
-use Rattle.lc_versions.specs.News.{EntitySaid, TripSaid}
+use Rattle.lc_model.specs.Versions.Added.{has_key}
+use Rattle.lc_model.specs.Versions.Naming.{names_run}
+use Rattle.lc_model.specs.Versions.News.{EntitySaid, TripSaid}
 use Rattle.laws_index.specs.Kept.{news_in}
 use Rattle.laws_index.proofs.TouchedLemmas.{touch_few}
 use Rattle.version_store.specs.Changes.{AreNearAt}

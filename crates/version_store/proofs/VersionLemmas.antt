@@ -11,7 +11,7 @@ use Rattle.std.proofs.lemmas.Cmp.{ranked}
 use Rattle.std.proofs.lemmas.List.{get_or_default}
 use Rattle.std.proofs.lemmas.List.Quantifiers.{all_pairs_push}
 use Rattle.std.proofs.lemmas.List.Sorted.{searched}
-use Rattle.lc_versions.specs.Named.{last_of}
+use Rattle.lc_model.specs.Versions.Named.{last_of}
 
 last_there : (first : ℕ) (rest : List ℕ) (d : ℕ) → get_or (first ∷ rest) (length rest) d ≡ last_of first rest
 last_there first [] d = refl

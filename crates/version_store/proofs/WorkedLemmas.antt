@@ -13,14 +13,14 @@ use Rattle.lc_model.specs.declared.key.RunKey.{RunKey}
 use Rattle.lc_model.specs.declared.run.Run.{Run}
 use Rattle.lc_model.proofs.ListLemmas.{Contains-cases, Contains-here, Contains-nil}
 use Rattle.live_calls.proofs.LawLemmas.{one_live_list}
-use Rattle.lc_versions.specs.Added.{IsFurtherRun, added_calls, has_key}
-use Rattle.lc_versions.specs.Live.{live_calls_of}
-use Rattle.lc_versions.specs.Naming.{is_added, news_for}
-use Rattle.lc_versions.specs.News.{TripSaid}
-use Rattle.lc_versions.specs.Timetable.{AreLiveRuns, IsLiveRun}
-use Rattle.lc_versions.specs.Worked.{at, late, stop_news, two_stops}
-use Rattle.lc_versions.specs.declared.event.Relation.TheVariants.{Scheduled}
-use Rattle.lc_versions.specs.declared.event.TripKind.TheVariants as kinds
+use Rattle.lc_model.specs.Versions.Added.{IsFurtherRun, added_calls, has_key}
+use Rattle.lc_model.specs.Versions.Live.{live_calls_of}
+use Rattle.lc_model.specs.Versions.Naming.{is_added, news_for}
+use Rattle.lc_model.specs.Versions.News.{TripSaid}
+use Rattle.lc_model.specs.Versions.Timetable.{AreLiveRuns, IsLiveRun}
+use Rattle.lc_model.specs.Versions.Worked.{at, late, stop_news, two_stops}
+use Rattle.lc_model.specs.declared.versions.event.Relation.TheVariants.{Scheduled}
+use Rattle.lc_model.specs.declared.versions.event.TripKind.TheVariants as kinds
 use Rattle.version_store.specs.Rows.{AreConnectionsAt, AreRows}
 use Rattle.version_store.specs.Store.{AreRunsAt}
 use Rattle.rt_protobuf.specs.Reading.{content_at, field_at, parts_of, parts_within, text_at, varint_at}

@@ -1,7 +1,7 @@
 -- Which messages a store takes, and why it refuses the others.
 use Rattle.std.specs.Prelude.{◌≡◌, ◌⊎◌, ℕ, ◌+◌, ◌<◌, ◌≤◌, List, [], ◌∷◌, ◌++◌, length, Some}
-use Rattle.lc_versions.specs.History.{Entry}
-use Rattle.lc_versions.specs.declared.update.Update.{Update}
+use Rattle.lc_model.specs.Versions.History.{Entry}
+use Rattle.lc_model.specs.declared.versions.update.Update.{Update}
 use Rattle.trip_updates.specs.Faults.{fault_of}
 use Rattle.trip_updates.specs.Message.{IsMessage}
 use Rattle.trip_updates.specs.declared.fault.RtFault.{RtFault}

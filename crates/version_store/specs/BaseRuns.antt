@@ -1,7 +1,7 @@
 -- A run of the timetable in the base version.
 use Rattle.std.specs.Prelude.{None}
 use Rattle.lc_model.specs.declared.run.Run.{Run}
-use Rattle.lc_versions.specs.Live.{live_calls_of}
+use Rattle.lc_model.specs.Versions.Live.{live_calls_of}
 
 -- the run with its live calls where there are no news
 abbrev pub base_run : Run → Run

@@ -5,7 +5,7 @@ use Rattle.lc_model.specs.declared.call.Call.{Call}
 use Rattle.lc_model.specs.declared.key.RunKey.{RunKey}
 use Rattle.lc_model.specs.declared.run.Run.{Run}
 use Rattle.lc_model.specs.declared.stop.Stop.{Stop}
-use Rattle.lc_versions.specs.News.{TripSaid}
+use Rattle.lc_model.specs.Versions.News.{TripSaid}
 use Rattle.laws_index.specs.Held.{IsRunBy}
 use Rattle.version_store.specs.Further.{IsFurther, calls_of}
 

@@ -11,7 +11,7 @@ use Rattle.lc_model.specs.declared.call.Call.{Call}
 use Rattle.lc_model.specs.declared.key.RunKey.{RunKey}
 use Rattle.lc_model.specs.declared.run.Run.{Run}
 use Rattle.lc_model.specs.declared.stop.Stop.{Stop}
-use Rattle.lc_versions.specs.News.{EntitySaid, TripSaid}
+use Rattle.lc_model.specs.Versions.News.{EntitySaid, TripSaid}
 use Rattle.laws_index.specs.Held.{IsRunBy}
 use Rattle.laws_index.specs.Kept.{news_in}
 use Rattle.laws_index.specs.Touched.{AreChanges}

@@ -1,9 +1,9 @@
 -- Which news differ from one list to the next one.
 use Rattle.std.specs.Prelude.{◌≡◌, List, filter, false}
 use Rattle.lc_model.specs.declared.key.RunKey.{RunKey}
-use Rattle.lc_versions.specs.Added.{has_key}
-use Rattle.lc_versions.specs.Naming.{names_run}
-use Rattle.lc_versions.specs.News.{TripSaid}
+use Rattle.lc_model.specs.Versions.Added.{has_key}
+use Rattle.lc_model.specs.Versions.Naming.{names_run}
+use Rattle.lc_model.specs.Versions.News.{TripSaid}
 use Rattle.laws_index.specs.Touched.{is_touched}
 
 -- the same news of both lists name the run of the key, and the same have exactly the key

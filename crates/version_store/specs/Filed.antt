@@ -7,8 +7,8 @@ use Rattle.std.specs.Cmp.Lexicographic.{slice_cmp}
 use Rattle.std.specs.List.{Contains, list_any}
 use Rattle.std.specs.Ordering.{is_eq, nat_cmp}
 use Rattle.lc_model.specs.Change.{is_same_id}
-use Rattle.lc_versions.specs.History.{with_news}
-use Rattle.lc_versions.specs.News.{EntitySaid, TripSaid}
+use Rattle.lc_model.specs.Versions.History.{with_news}
+use Rattle.lc_model.specs.Versions.News.{EntitySaid, TripSaid}
 use Rattle.version_store.specs.Kept.{entity_said}
 use Rattle.version_store.specs.Spots.{said_in}
 use Rattle.version_store.specs.declared.filed.By.{By}

@@ -8,10 +8,10 @@ use Rattle.lc_model.specs.declared.call.Call.{Call}
 use Rattle.lc_model.specs.declared.key.RunKey.{RunKey}
 use Rattle.lc_model.specs.declared.run.Run.{Run}
 use Rattle.lc_model.specs.declared.stop.Stop.{Stop}
-use Rattle.lc_versions.specs.Added.{IsFurtherRun, has_key}
-use Rattle.lc_versions.specs.Naming.{is_added}
-use Rattle.lc_versions.specs.News.{TripSaid}
-use Rattle.lc_versions.specs.Timetable.{IsLiveRun}
+use Rattle.lc_model.specs.Versions.Added.{IsFurtherRun, has_key}
+use Rattle.lc_model.specs.Versions.Naming.{is_added}
+use Rattle.lc_model.specs.Versions.News.{TripSaid}
+use Rattle.lc_model.specs.Versions.Timetable.{IsLiveRun}
 use Rattle.live_calls.specs.AddedRun.{HasNoKey, IsAdded, IsAddedRun}
 
 -- the run that news make, or none where they are of no added trip or make none

@@ -1,6 +1,6 @@
 -- The runs of each version, as the index of a store has them by the numbers of versions.
 use Rattle.std.specs.Prelude.{◌≡◌, ℕ, ◌≤◌, List, length, take}
-use Rattle.lc_versions.specs.News.{TripSaid}
+use Rattle.lc_model.specs.Versions.News.{TripSaid}
 use Rattle.laws_index.specs.Held.{AreRunsBy}
 use Rattle.laws_index.specs.Kept.{entities_after, news_in, version_at}
 use Rattle.span_index.specs.Spans.{Indexed, runs_at}

@@ -5,9 +5,9 @@ use Rattle.lc_model.specs.Text.{IsIdText}
 use Rattle.lc_model.specs.declared.key.RunKey.{RunKey}
 use Rattle.std.specs.BTreeSet.{BTreeSet}
 use Rattle.std.specs.List.{Contains}
-use Rattle.lc_versions.specs.Added.{has_key, news_of_key}
-use Rattle.lc_versions.specs.Naming.{news_for}
-use Rattle.lc_versions.specs.News.{TripSaid}
+use Rattle.lc_model.specs.Versions.Added.{has_key, news_of_key}
+use Rattle.lc_model.specs.Versions.Naming.{news_for}
+use Rattle.lc_model.specs.Versions.News.{TripSaid}
 use Rattle.version_store.specs.Kept.{news_said}
 use Rattle.version_store.specs.Named.{HasNamed, said_at}
 use Rattle.version_store.specs.declared.dated.DatedNews.{DatedNews}

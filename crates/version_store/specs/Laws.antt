@@ -6,8 +6,8 @@ use Rattle.lc_model.specs.Run.{InKeyOrder}
 use Rattle.lc_model.specs.declared.connection.Connection.{Connection}
 use Rattle.lc_model.specs.declared.date.ServiceDate.{ServiceDate}
 use Rattle.lc_model.specs.declared.run.Run.{Run}
-use Rattle.lc_versions.specs.History.{Entry, moments_of, news_at}
-use Rattle.lc_versions.specs.declared.update.Update.{Update}
+use Rattle.lc_model.specs.Versions.History.{Entry, moments_of, news_at}
+use Rattle.lc_model.specs.declared.versions.update.Update.{Update}
 use Rattle.version_store.specs.Admission.{IsRefused, IsTaken}
 use Rattle.version_store.specs.Rows.{AreConnectionsAt}
 use Rattle.version_store.specs.Store.{Stored, bytes_of, without_cuts}

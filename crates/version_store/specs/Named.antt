@@ -5,8 +5,8 @@ use Rattle.std.specs.BTreeMap.{BTreeMap, get}
 use Rattle.lc_model.specs.RunKey.{key_cmp}
 use Rattle.lc_model.specs.Text.{IsIdText}
 use Rattle.lc_model.specs.declared.key.RunKey.{RunKey}
-use Rattle.lc_versions.specs.Naming.{names_run, news_for}
-use Rattle.lc_versions.specs.News.{TripSaid}
+use Rattle.lc_model.specs.Versions.Naming.{names_run, news_for}
+use Rattle.lc_model.specs.Versions.News.{TripSaid}
 use Rattle.version_store.specs.Kept.{news_said}
 use Rattle.version_store.specs.declared.dated.DatedNews.{DatedNews}
 

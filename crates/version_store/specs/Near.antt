@@ -5,11 +5,11 @@ use Rattle.lc_model.specs.Change.{is_same_id}
 use Rattle.lc_model.specs.declared.connection.Connection.{Connection}
 use Rattle.lc_model.specs.declared.date.ServiceDate.{ServiceDate}
 use Rattle.lc_model.specs.declared.key.RunKey.{RunKey}
-use Rattle.lc_versions.specs.History.{filled_news, kept_after, put}
-use Rattle.lc_versions.specs.Naming.{names_run}
-use Rattle.lc_versions.specs.News.{EntitySaid, TripSaid}
-use Rattle.lc_versions.specs.Pages.{is_before}
-use Rattle.lc_versions.specs.declared.update.Update.{Update}
+use Rattle.lc_model.specs.Versions.History.{filled_news, kept_after, put}
+use Rattle.lc_model.specs.Versions.Naming.{names_run}
+use Rattle.lc_model.specs.Versions.News.{EntitySaid, TripSaid}
+use Rattle.lc_model.specs.Versions.Pages.{is_before}
+use Rattle.lc_model.specs.declared.versions.update.Update.{Update}
 use Rattle.trip_updates.specs.declared.fault.RtFault.TheVariants.{NoMemory}
 use Rattle.version_store.specs.Admission.{Admits, IsRefused, IsTaken}
 use Rattle.version_store.specs.Rows.{AreConnectionsAt, AreRows}

@@ -3,7 +3,7 @@ use Rattle.std.specs.Prelude.{◌≡◌, ℕ, List, Option}
 use Rattle.lc_model.specs.Connection.{AreConnectionsOf}
 use Rattle.lc_model.specs.declared.connection.Connection.{Connection}
 use Rattle.lc_model.specs.declared.run.Run.{Run}
-use Rattle.lc_versions.specs.Pages.{departing, departures_of}
+use Rattle.lc_model.specs.Versions.Pages.{departing, departures_of}
 use Rattle.version_store.specs.Store.{Stored, AreRunsAt}
 
 -- the list has exactly the connections of a version, in departure order

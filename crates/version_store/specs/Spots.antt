@@ -1,8 +1,8 @@
 -- Entities by where they are among the messages of a store.
 use Rattle.std.specs.Prelude.{◌≡◌, ℕ, List, All, Option, Some, option_map, option_and_then}
 use Rattle.std.specs.List.{slice_get}
-use Rattle.lc_versions.specs.History.{filled}
-use Rattle.lc_versions.specs.News.{EntitySaid}
+use Rattle.lc_model.specs.Versions.History.{filled}
+use Rattle.lc_model.specs.Versions.News.{EntitySaid}
 use Rattle.version_store.specs.Kept.{entity_said}
 use Rattle.version_store.specs.declared.kept.Marked.{Marked}
 use Rattle.version_store.specs.declared.spots.Spot.{Spot}

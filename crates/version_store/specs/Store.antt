@@ -4,11 +4,11 @@ use Rattle.std.specs.Prelude.{ℕ, List, [], ◌∷◌, map, sum_by}
 use Rattle.lc_model.specs.declared.run.Run.{Run}
 use Rattle.lc_model.specs.declared.stop.Stop.{Stop}
 use Rattle.lc_time.specs.declared.zone.Zone.{Zone}
-use Rattle.lc_versions.specs.History.{Entry, moments_of, news_at}
-use Rattle.lc_versions.specs.Named.{last_of}
-use Rattle.lc_versions.specs.News.{TripSaid}
-use Rattle.lc_versions.specs.Timetable.{AreLiveRuns}
-use Rattle.lc_versions.specs.declared.update.Update.{Update}
+use Rattle.lc_model.specs.Versions.History.{Entry, moments_of, news_at}
+use Rattle.lc_model.specs.Versions.Named.{last_of}
+use Rattle.lc_model.specs.Versions.News.{TripSaid}
+use Rattle.lc_model.specs.Versions.Timetable.{AreLiveRuns}
+use Rattle.lc_model.specs.declared.versions.update.Update.{Update}
 use Rattle.version_store.specs.Dates.{date_in}
 
 -- the runs and the stops of the feed, its zone, the moment of the base version, and the messages that were admitted, without cuts

@@ -4,8 +4,8 @@ use Rattle.std.specs.BTreeSet.{BTreeSet, contains}
 use Rattle.lc_model.specs.RunKey.{key_cmp}
 use Rattle.lc_model.specs.Text.{IsIdText}
 use Rattle.lc_model.specs.declared.key.RunKey.{RunKey}
-use Rattle.lc_versions.specs.Added.{has_key}
-use Rattle.lc_versions.specs.News.{TripSaid}
+use Rattle.lc_model.specs.Versions.Added.{has_key}
+use Rattle.lc_model.specs.Versions.News.{TripSaid}
 use Rattle.laws_index.specs.Touched.{is_touched, touches}
 
 -- the set has the key

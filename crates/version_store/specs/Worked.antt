@@ -7,14 +7,14 @@ use Rattle.lc_model.specs.declared.connection.Connection.{Connection}
 use Rattle.lc_model.specs.declared.key.RunKey.{RunKey}
 use Rattle.lc_model.specs.declared.run.Run.{Run}
 use Rattle.lc_time.specs.declared.zone.Zone.TheVariants.{Utc}
-use Rattle.lc_versions.specs.Added.{IsFurtherRun}
-use Rattle.lc_versions.specs.History.{Entry}
-use Rattle.lc_versions.specs.News.{StopSaid, TripSaid}
-use Rattle.lc_versions.specs.Worked.{at, call, entity, entry, late, stop_news, timed, two_stops}
-use Rattle.lc_versions.specs.declared.event.Relation.TheVariants.{Scheduled}
-use Rattle.lc_versions.specs.declared.event.TripKind.{TripKind}
-use Rattle.lc_versions.specs.declared.event.TripKind.TheVariants as kinds
-use Rattle.lc_versions.specs.declared.update.Update.{Update}
+use Rattle.lc_model.specs.Versions.Added.{IsFurtherRun}
+use Rattle.lc_model.specs.Versions.History.{Entry}
+use Rattle.lc_model.specs.Versions.News.{StopSaid, TripSaid}
+use Rattle.lc_model.specs.Versions.Worked.{at, call, entity, entry, late, stop_news, timed, two_stops}
+use Rattle.lc_model.specs.declared.versions.event.Relation.TheVariants.{Scheduled}
+use Rattle.lc_model.specs.declared.versions.event.TripKind.{TripKind}
+use Rattle.lc_model.specs.declared.versions.event.TripKind.TheVariants as kinds
+use Rattle.lc_model.specs.declared.versions.update.Update.{Update}
 use Rattle.trip_updates.specs.declared.fault.Part.TheVariants.{Header}
 use Rattle.trip_updates.specs.declared.fault.RtFault.TheVariants.{Cut, Missing, NoMoment}
 use Rattle.version_store.specs.Admission.{IsRefused, IsTaken}

@@ -1,6 +1,6 @@
 ghost use Rattle.std.specs.Prelude.{◌≡◌, ◌+◌, ◌<◌, ◌≤◌, ◌⊎◌, ◌∷◌, ◌++◌, [], ⊤, IfErr, IfOk, IfSome, IsOk, OnErr, OnOk, Some, None, length, List, ℕ};
 ghost use Rattle.lc_model.specs.Run.{InKeyOrder};
-ghost use Rattle.lc_versions.specs.declared.update.Update.{Update as Said};
+ghost use Rattle.lc_model.specs.declared.versions.update.Update.{Update as Said};
 ghost use Rattle.version_store.specs.declared.store.Admission.{Admission as StatedAdmission};
 ghost use Rattle.trip_updates.specs.Message.{IsMessage};
 ghost use Rattle.version_store.specs.Admission.{Admits, HasRoom, IsReadFault, IsRefused, IsTaken, Refuses};
@@ -11,8 +11,7 @@ ghost use Rattle.version_store.specs.declared.admission.AdmitFault.TheVariants.{
 use crate::indexed::turn_to;
 use crate::store::Admission;
 use crate::{AdmitFault, Admitted, MOST_BYTES, MOST_MESSAGE_BYTES, MOST_MESSAGES, Store};
-use lc_model::{Moment, NoMemory, Runs};
-use lc_versions::Update;
+use lc_model::{Moment, NoMemory, Runs, Update};
 use std::alloc::Global;
 use trip_updates::{RtFault, read_message};
 

@@ -3,7 +3,7 @@ ghost use Rattle.std.specs.Option.{ForSome, option_copied};
 ghost use Rattle.lc_model.specs.Call.{GoesForward};
 ghost use Rattle.lc_model.specs.Run.{InKeyOrder};
 ghost use Rattle.lc_model.specs.Text.{IsIdText};
-ghost use Rattle.lc_versions.specs.News.{TripSaid};
+ghost use Rattle.lc_model.specs.Versions.News.{TripSaid};
 ghost use Rattle.version_store.specs.CallsBy.{AreCallsBy, AreFurtherCalls, IsRunOfKey};
 ghost use Rattle.version_store.specs.Kept.{news_said};
 ghost use Rattle.version_store.specs.LastNews.{HasLastAt};

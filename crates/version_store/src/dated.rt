@@ -1,9 +1,8 @@
 ghost use Rattle.std.specs.Prelude.{◌≡◌, Some};
-ghost use Rattle.lc_versions.specs.History.{dated, filled_news};
+ghost use Rattle.lc_model.specs.Versions.History.{dated, filled_news};
 ghost use Rattle.version_store.specs.Kept.{news_said};
 
-use lc_model::ServiceDate;
-use lc_versions::TripNews;
+use lc_model::{ServiceDate, TripNews};
 
 /// News of a trip, and the date of its run.
 #[derive(Clone, Copy)]

@@ -1,5 +1,5 @@
 ghost use Rattle.std.specs.Prelude.{◌≡◌, ◌++◌, ◌∷◌, [], Bool, ℕ, All, IfOk, List, OnOk, filter, map};
-ghost use Rattle.lc_versions.specs.News.{EntitySaid};
+ghost use Rattle.lc_model.specs.Versions.News.{EntitySaid};
 ghost use Rattle.version_store.specs.Filed.{AreOut, ArePart, HasBy, HasListsBy, HasListsOf, IsSomeAt, PushesAllAt, PushesAt, TakesOut, spots_at, spots_over, stays, stays_at, text_by};
 ghost use Rattle.version_store.specs.Kept.{entity_said};
 ghost use Rattle.version_store.specs.Spots.{IsAtSpot};
@@ -10,8 +10,7 @@ use crate::kept::{Marked, has_id};
 use crate::label::Label;
 use crate::spots::{Spot, Spots, entity_at};
 use crate::store::Admission;
-use lc_model::NoMemory;
-use lc_versions::EntityNews;
+use lc_model::{EntityNews, NoMemory};
 use std::alloc::Global;
 use std::collections::{BTreeMap, BTreeSet};
 

@@ -1,7 +1,7 @@
 ghost use Rattle.std.specs.Prelude.{◌≡◌, ◌++◌, [], Bool, ℕ, All, IfOk, List, OnOk, Some, filter, map, true};
 ghost use Rattle.std.specs.List.{slice_get};
-ghost use Rattle.lc_versions.specs.History.{filled, put_all, with_news};
-ghost use Rattle.lc_versions.specs.News.{EntitySaid};
+ghost use Rattle.lc_model.specs.Versions.History.{filled, put_all, with_news};
+ghost use Rattle.lc_model.specs.Versions.News.{EntitySaid};
 ghost use Rattle.version_store.specs.Filed.{AreOut, HasBy, TakesOut, spots_at, stays};
 ghost use Rattle.version_store.specs.Force.{AreInForce, GoesOver, GoesWhole, IsPatch};
 ghost use Rattle.version_store.specs.Kept.{entity_said};
@@ -14,8 +14,7 @@ use crate::filed::{By, Filed, patch_by};
 use crate::kept::Marked;
 use crate::store::Admission;
 use crate::taken::{all_entities, entities_of_ids, ids_of, own_entities};
-use lc_model::{NoMemory, ServiceDate};
-use lc_versions::EntityNews;
+use lc_model::{EntityNews, NoMemory, ServiceDate};
 use std::alloc::Global;
 use std::collections::{BTreeMap, BTreeSet};
 

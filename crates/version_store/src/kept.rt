@@ -6,16 +6,15 @@ ghost use Rattle.std.specs.Cmp.Lexicographic.{slice_cmp};
 ghost use Rattle.std.specs.List.{Contains};
 ghost use Rattle.std.specs.Ordering.{nat_cmp};
 ghost use Rattle.lc_model.specs.Change.{is_same_id};
-ghost use Rattle.lc_versions.specs.History.{filled};
+ghost use Rattle.lc_model.specs.Versions.History.{filled};
 ghost use Rattle.version_store.specs.Dates.{date_in};
 ghost use Rattle.version_store.specs.Kept.{PushesKept, entity_said, survivors, then_all, then_entities};
 ghost use Rattle.version_store.specs.Spots.{StayAt};
 ghost use Rattle.version_store.specs.declared.kept.Marked.{Marked as StatedMarked};
 
 use crate::spots::Spot;
-use lc_model::{Moment, NoMemory, ServiceDate};
+use lc_model::{EntityNews, Moment, NoMemory, ServiceDate};
 use lc_time::{Zone, civil_date};
-use lc_versions::EntityNews;
 use std::alloc::Global;
 use std::collections::BTreeSet;
 

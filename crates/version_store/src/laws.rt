@@ -1,5 +1,5 @@
 ghost use Rattle.std.specs.Prelude.{ℕ, List};
-ghost use Rattle.lc_versions.specs.History.{Entry};
+ghost use Rattle.lc_model.specs.Versions.History.{Entry};
 ghost use Rattle.version_store.specs.Laws.{CutsDoNotMatter, OneListOfRows, OneOutcome, SomeListOfRows};
 ghost use Rattle.version_store.specs.Near.{DeletedIsGone, EachIsInTheSpan, FullForgets, NoneForMemory, NoneMore, NoneOlderIsTaken, OneListBetween, RefusedAgain, SaysWhatIs, SomeOutcome, UndatedNameTheirDay};
 ghost use Rattle.version_store.specs.Store.{Stored};

@@ -6,7 +6,7 @@ ghost use Rattle.lc_model.specs.RunKey.{key_cmp};
 ghost use Rattle.lc_model.specs.Run.{InKeyOrder};
 ghost use Rattle.lc_model.specs.Text.{IsIdText};
 ghost use Rattle.lc_model.specs.declared.run.Run.{Run as StatedRun};
-ghost use Rattle.lc_versions.specs.Live.{live_calls_of};
+ghost use Rattle.lc_model.specs.Versions.Live.{live_calls_of};
 ghost use Rattle.version_store.specs.BaseRuns.{base_run};
 ghost use Rattle.version_store.specs.Further.{IsFurther};
 ghost use Rattle.version_store.specs.Kept.{news_said};

@@ -2,13 +2,12 @@ ghost use Rattle.std.specs.Prelude.{◌≡◌, IfOk, OnOk, Some, false, if◌the
 ghost use Rattle.std.specs.BTreeMap.{get};
 ghost use Rattle.lc_model.specs.RunKey.{key_cmp};
 ghost use Rattle.lc_model.specs.declared.key.RunKey.{RunKey as StatedKey};
-ghost use Rattle.lc_versions.specs.Naming.{is_added as is_of_added};
+ghost use Rattle.lc_model.specs.Versions.Naming.{is_added as is_of_added};
 ghost use Rattle.version_store.specs.Kept.{news_said};
 ghost use Rattle.version_store.specs.Named.{HasNamed, PutsNamed, names_started};
 
 use crate::dated::DatedNews;
-use lc_model::{Id, NoMemory, PlainData, RunKey};
-use lc_versions::TripKind;
+use lc_model::{Id, NoMemory, PlainData, RunKey, TripKind};
 use std::alloc::Global;
 use std::collections::BTreeMap;
 

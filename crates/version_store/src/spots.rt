@@ -2,15 +2,14 @@ ghost use Rattle.std.specs.Prelude.{◌≡◌, ◌++◌, ◌∷◌, [], IfOk, Li
 ghost use Rattle.std.specs.List.{filter_map};
 ghost use Rattle.std.specs.Option.{option_copied};
 ghost use Rattle.laws_index.specs.Kept.{news_in};
-ghost use Rattle.lc_versions.specs.History.{filled};
+ghost use Rattle.lc_model.specs.Versions.History.{filled};
 ghost use Rattle.version_store.specs.Kept.{entity_said, news_said};
 ghost use Rattle.version_store.specs.Spots.{said_in};
 
 use crate::dated::{DatedNews, dated_news};
 use crate::kept::Marked;
 use crate::store::Admission;
-use lc_model::{NoMemory, ServiceDate};
-use lc_versions::EntityNews;
+use lc_model::{EntityNews, NoMemory, ServiceDate};
 use std::alloc::Global;
 use std::marker::Model;
 

@@ -2,15 +2,14 @@ ghost use Rattle.std.specs.Prelude.{◌≡◌, ◌↔◌, [], All, IfOk, IsTrue,
 ghost use Rattle.std.specs.List.{Contains};
 ghost use Rattle.lc_model.specs.Call.{InSequence};
 ghost use Rattle.lc_model.specs.declared.run.Run.{Run as StatedRun};
-ghost use Rattle.lc_versions.specs.History.{IsRising, moments_of};
-ghost use Rattle.lc_versions.specs.Named.{is_by, version_named};
+ghost use Rattle.lc_model.specs.Versions.History.{IsRising, moments_of};
+ghost use Rattle.lc_model.specs.Versions.Named.{is_by, version_named};
 ghost use Rattle.version_store.specs.Store.{newest_of, versions_of};
 
 use crate::force::Force;
 use crate::indexed::base_index;
-use lc_model::{Moment, NoMemory, Runs, Stops};
+use lc_model::{Moment, NoMemory, Runs, Stops, Update};
 use lc_time::Zone;
-use lc_versions::Update;
 use span_index::Index;
 use std::alloc::Global;
 use std::marker::Model;

@@ -1,8 +1,8 @@
 ghost use Rattle.std.specs.Prelude.{◌≡◌, ◌++◌, [], Bool, ℕ, All, IfOk, List, OnOk, Some, filter, map, true};
 ghost use Rattle.std.specs.List.{Contains, slice_get};
 ghost use Rattle.laws_index.specs.Kept.{has_id};
-ghost use Rattle.lc_versions.specs.History.{filled, with_news};
-ghost use Rattle.lc_versions.specs.News.{EntitySaid};
+ghost use Rattle.lc_model.specs.Versions.History.{filled, with_news};
+ghost use Rattle.lc_model.specs.Versions.News.{EntitySaid};
 ghost use Rattle.version_store.specs.Filed.{AreOut, HasBy, PutsText, is_by, spots_at};
 ghost use Rattle.version_store.specs.Kept.{entity_said, then_entities};
 ghost use Rattle.version_store.specs.Spots.{IsAtSpot};
@@ -15,8 +15,7 @@ use crate::kept::{Marked, push_entities, survivors_of};
 use crate::label::Label;
 use crate::spots::push_all_spots;
 use crate::store::Admission;
-use lc_model::{NoMemory, ServiceDate};
-use lc_versions::EntityNews;
+use lc_model::{EntityNews, NoMemory, ServiceDate};
 use std::alloc::Global;
 use std::collections::BTreeSet;
 

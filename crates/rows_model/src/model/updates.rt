@@ -1,9 +1,8 @@
 //! What realtime messages say.
 use crate::making::bytes;
-use lc_model::{Moment, PlainData};
-use lc_versions::{
-    EntityList, EntityNews, Event, Relation, StopNews, StopNewsList, TripKind, TripNews, Update,
-    worked_versions,
+use lc_model::{
+    EntityList, EntityNews, Event, Moment, PlainData, Relation, StopNews, StopNewsList, TripKind,
+    TripNews, Update, worked_versions,
 };
 use rows_common::{Unmade, put_bytes, put_count, put_flag, put_line, put_number};
 use std::alloc::Global;

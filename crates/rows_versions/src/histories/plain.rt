@@ -1,8 +1,9 @@
 //! A version worked out anew: the news in force by its messages, the live runs by these, and their connections sorted.
 use super::timetable::FURTHER;
 use crate::making::DATE;
-use lc_model::{Connection, PlainData, Ranked, Run, Runs, Stops};
-use lc_versions::{EntityNews, TripKind, TripNews, Update};
+use lc_model::{
+    Connection, EntityNews, PlainData, Ranked, Run, Runs, Stops, TripKind, TripNews, Update,
+};
 use live_calls::{added_run_on, connections, live};
 use rows_common::Unmade;
 use std::alloc::Global;

@@ -1,7 +1,6 @@
 //! A timetable of ten trips of 2024-05-01 over six stops, and the names of five more trips.
 use crate::making::{DATE, MIDNIGHT, bytes, stops_of};
-use lc_model::{Run, Runs, Stops};
-use lc_versions::{Event, Relation, StopNews, StopNewsList, TripKind, TripNews};
+use lc_model::{Event, Relation, Run, Runs, StopNews, StopNewsList, Stops, TripKind, TripNews};
 use live_calls::added_run;
 use rows_common::Unmade;
 use std::alloc::Global;

@@ -1,6 +1,5 @@
 //! The line of a message of trip updates: all that it says, or its fault.
-use lc_model::ServiceDate;
-use lc_versions::{EntityNews, Event, Relation, StopNews, TripKind, TripNews, Update};
+use lc_model::{EntityNews, Event, Relation, ServiceDate, StopNews, TripKind, TripNews, Update};
 use rows_common::Unmade;
 use std::alloc::Global;
 use std::{fmt, str};

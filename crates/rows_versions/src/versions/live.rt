@@ -2,8 +2,7 @@
 use super::news::news;
 use super::trips::{added, run, second};
 use crate::making::DATE;
-use lc_model::{Call, Connection, Run, Stops};
-use lc_versions::{TripKind, TripNews};
+use lc_model::{Call, Connection, Run, Stops, TripKind, TripNews};
 use live_calls::{
     added_key, added_run_on, calls_go_forward, connections, live, live_without_news, one_added_run,
     one_list_of_live_runs,

@@ -1,8 +1,7 @@
 //! News of trips of 2024-05-01, by the names of lists of news of their stops.
 use crate::making::{DATE, MIDNIGHT, bytes};
 use When::{At, Late, Unsaid};
-use lc_model::Bytes;
-use lc_versions::{Event, Relation, StopNews, StopNewsList, TripKind, TripNews};
+use lc_model::{Bytes, Event, Relation, StopNews, StopNewsList, TripKind, TripNews};
 use rows_common::Unmade;
 use std::alloc::Global;
 

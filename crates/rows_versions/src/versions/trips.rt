@@ -1,8 +1,7 @@
 //! Trips of 2024-05-01 over the stops A to D, made as the runs of added trips.
 use super::news::news;
 use crate::making::{MIDNIGHT, stops_of};
-use lc_model::{Moment, Run, Stops};
-use lc_versions::TripKind;
+use lc_model::{Moment, Run, Stops, TripKind};
 use live_calls::added_run;
 use rows_common::Unmade;
 use std::alloc::Global;

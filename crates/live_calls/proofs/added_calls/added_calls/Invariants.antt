@@ -1,6 +1,6 @@
 use Rattle.std.proofs.Common.{◌≡◌, ◌++◌, ◌+◌, drop}
-use Rattle.lc_versions.specs.Added.{added_calls, added_from}
-use Rattle.lc_versions.specs.Live.{raised}
+use Rattle.lc_model.specs.Versions.Added.{added_calls, added_from}
+use Rattle.lc_model.specs.Versions.Live.{raised}
 use Rattle.live_calls.proofs.added_calls.added_calls.Given as goal
 
 abbrev pub invariant-news : goal.invariant-news

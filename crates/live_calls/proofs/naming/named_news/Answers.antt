@@ -1,8 +1,8 @@
 use Rattle.std.proofs.Common.{◌≡◌, ◌∙◌, List, [], None, ap, arith, drop, get_or, sym}
 use Rattle.std.proofs.lemmas.List.{drop_all}
 use Rattle.std.specs.Option.{option_copied}
-use Rattle.lc_versions.specs.Naming.{namings}
-use Rattle.lc_versions.specs.News.{StopSaid}
+use Rattle.lc_model.specs.Versions.Naming.{namings}
+use Rattle.lc_model.specs.Versions.News.{StopSaid}
 use Rattle.live_calls.specs.Walk.{last_news}
 use Rattle.live_calls.proofs.NamingLemmas.{last_news-none}
 use Rattle.live_calls.proofs.naming.named_news.Goals as goal

@@ -1,6 +1,6 @@
 use Rattle.std.proofs.Common.{◌≡◌, ◌≤◌, ◌<◌, ℕ, None, drop, get_or, length, vec_len}
 use Rattle.std.specs.Option.{option_copied}
-use Rattle.lc_versions.specs.Naming.{namings}
+use Rattle.lc_model.specs.Versions.Naming.{namings}
 use Rattle.live_calls.specs.Walk.{last_news}
 use Rattle.live_calls.proofs.naming.named_news.Given as goal
 

@@ -1,5 +1,5 @@
 use Rattle.std.proofs.Common.{◌≡◌, [], drop, pos, None}
-use Rattle.lc_versions.specs.Live.{live_calls_of, raised, stated_calls}
+use Rattle.lc_model.specs.Versions.Live.{live_calls_of, raised, stated_calls}
 use Rattle.live_calls.proofs.run_calls.are_kept.Given as goal
 
 -- where the calls that are left are the live ones, all are

@@ -4,7 +4,7 @@ use Rattle.std.proofs.lemmas.List.{get_or_read}
 use Rattle.std.specs.Option.{option_copied}
 use mir.Syntax.{w128}
 use mir.Val.{SFits}
-use Rattle.lc_versions.specs.Naming.{namings, news_at_place}
+use Rattle.lc_model.specs.Versions.Naming.{namings, news_at_place}
 use Rattle.live_calls.proofs.LiveLemmas.{live_more}
 use Rattle.live_calls.proofs.run_calls.calls_with.Goals as goal
 

@@ -1,6 +1,6 @@
 use Rattle.std.proofs.Common.{◌≡◌, ◌++◌, drop}
-use Rattle.lc_versions.specs.Live.{calls_with, raised, stated_calls}
-use Rattle.lc_versions.specs.Naming.{namings}
+use Rattle.lc_model.specs.Versions.Live.{calls_with, raised, stated_calls}
+use Rattle.lc_model.specs.Versions.Naming.{namings}
 use Rattle.live_calls.specs.Walk.{IsLateness}
 use Rattle.live_calls.proofs.run_calls.calls_with.Given as goal
 

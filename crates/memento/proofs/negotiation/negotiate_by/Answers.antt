@@ -1,5 +1,5 @@
 use Rattle.std.proofs.Common.{◌∙◌, sym, ap}
-use Rattle.lc_versions.specs.Named.{version_among as named_among}
+use Rattle.lc_model.specs.Versions.Named.{version_among as named_among}
 use Rattle.memento.proofs.negotiation.negotiate_by.Goals as goal
 
 pub returns-clause-exact : goal.returns-clause-exact

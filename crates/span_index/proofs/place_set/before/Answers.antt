@@ -2,7 +2,7 @@ use Rattle.std.proofs.Common.{Option, ℕ, ap, get_or, rules, sym, ◌∙◌}
 use Rattle.std.specs.List.{filter}
 use Rattle.std.proofs.lemmas.List.Sorted.{IsPartitionPoint-from_clause}
 use Rattle.lc_model.proofs.RangesLemmas.{filter_all}
-use Rattle.lc_versions.specs.Pages.{is_before}
+use Rattle.lc_model.specs.Versions.Pages.{is_before}
 use Rattle.span_index.specs.declared.place.Place.{Place}
 use Rattle.span_index.proofs.PlaceLemmas.{leaves_before, parted, to_point}
 use Rattle.span_index.proofs.place_set.before.Goals as goal

@@ -4,7 +4,7 @@ use Rattle.std.specs.List.{filter}
 use Rattle.std.specs.declared.cmp.Ordering.TheVariants.{Less}
 use Rattle.std.proofs.lemmas.List.Kept.{AllPairs-filter}
 use Rattle.lc_model.specs.Order.{IsStrict}
-use Rattle.lc_versions.specs.Pages.{is_before}
+use Rattle.lc_model.specs.Versions.Pages.{is_before}
 use Rattle.span_index.specs.Places.{place_cmp}
 use Rattle.span_index.specs.declared.place.Place.{Place}
 use Rattle.span_index.proofs.PlaceLemmas.{filter_both}

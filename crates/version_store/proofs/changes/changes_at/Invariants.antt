@@ -1,5 +1,5 @@
 use Rattle.std.proofs.Common.{List}
-use Rattle.lc_versions.specs.News.{TripSaid}
+use Rattle.lc_model.specs.Versions.News.{TripSaid}
 use Rattle.version_store.specs.Changes.{AreChangesAt}
 use Rattle.version_store.specs.LastNews.{HasLastOf}
 use Rattle.version_store.proofs.changes.changes_at.Given as goal

@@ -1,5 +1,5 @@
 use Rattle.std.proofs.Common.{ℕ, List, Bool, map, take}
-use Rattle.lc_versions.specs.News.{EntitySaid}
+use Rattle.lc_model.specs.Versions.News.{EntitySaid}
 use Rattle.version_store.specs.Filed.{AreOut, ArePart, HasBy, HasListsBy, spots_at}
 use Rattle.version_store.specs.Kept.{entity_said}
 use Rattle.version_store.proofs.filed.put_all_staying.Given as goal

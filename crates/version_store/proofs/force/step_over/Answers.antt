@@ -1,7 +1,7 @@
 use Rattle.std.proofs.Common.{◌≡◌, ◌∙◌, ◌++◌, List, ap, filter, map, subst, sym}
 use Rattle.std.specs.List.{All}
 use Rattle.std.proofs.lemmas.Result.{IfOk-weaker}
-use Rattle.lc_versions.specs.History.{filled, put_all, with_news}
+use Rattle.lc_model.specs.Versions.History.{filled, put_all, with_news}
 use Rattle.laws_index.specs.Kept.{has_id}
 use Rattle.version_store.specs.Filed.{stays}
 use Rattle.version_store.specs.Force.{GoesOver}

@@ -1,7 +1,7 @@
 use Rattle.std.proofs.Common.{◌≡◌, ◌∙◌, List, ap, map, subst, sym}
 use Rattle.std.specs.List.{All}
 use Rattle.std.proofs.lemmas.Result.{IfOk-weaker}
-use Rattle.lc_versions.specs.History.{filled, with_news}
+use Rattle.lc_model.specs.Versions.History.{filled, with_news}
 use Rattle.version_store.specs.Force.{GoesWhole}
 use Rattle.version_store.specs.Kept.{entity_said}
 use Rattle.version_store.specs.Spots.{IsAtSpot}

@@ -4,7 +4,7 @@ use Rattle.lc_model.specs.Call.{InSequence}
 use Rattle.lc_model.specs.Run.{InKeyOrder}
 use Rattle.lc_model.specs.Text.{IsIdText}
 use Rattle.lc_model.specs.declared.run.Run.{Run}
-use Rattle.lc_versions.specs.Timetable.{AreLiveRuns}
+use Rattle.lc_model.specs.Versions.Timetable.{AreLiveRuns}
 use Rattle.version_store.specs.BaseRuns.{base_run}
 use Rattle.version_store.proofs.BaseRunsLemmas.{base_in_order, base_live}
 use Rattle.version_store.proofs.indexed.base_index.Goals as goal

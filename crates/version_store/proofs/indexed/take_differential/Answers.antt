@@ -1,5 +1,5 @@
 use Rattle.std.proofs.Common.{map}
-use Rattle.lc_versions.specs.History.{filled, put_all}
+use Rattle.lc_model.specs.Versions.History.{filled, put_all}
 use Rattle.version_store.proofs.ForceLemmas.{patch_alike}
 use Rattle.version_store.proofs.indexed.take_differential.Goals as goal
 

@@ -1,5 +1,5 @@
 use Rattle.std.proofs.Common.{map}
-use Rattle.lc_versions.specs.History.{filled, with_news}
+use Rattle.lc_model.specs.Versions.History.{filled, with_news}
 use Rattle.version_store.proofs.indexed.take_full.Goals as goal
 
 pub returns-clause-ok : goal.returns-clause-ok

@@ -1,6 +1,6 @@
 use Rattle.std.proofs.Common.{◌≡◌, ◌∙◌, List, Some, ap, false, subst, sym, true}
 use Rattle.std.proofs.lemmas.Result.{on_ok_weaker}
-use Rattle.lc_versions.specs.News.{EntitySaid}
+use Rattle.lc_model.specs.Versions.News.{EntitySaid}
 use Rattle.version_store.specs.Changes.{GoesOn}
 use Rattle.version_store.specs.Dates.{date_in}
 use Rattle.version_store.specs.declared.store.Admission.{Admission}

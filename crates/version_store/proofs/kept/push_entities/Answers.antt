@@ -1,7 +1,7 @@
 use Rattle.std.proofs.Common.{◌≡◌, ◌∙◌, List, [], ap, arith, drop, map, refl, sym}
 use Rattle.std.proofs.lemmas.List.{drop_all}
-use Rattle.lc_versions.specs.History.{filled}
-use Rattle.lc_versions.specs.News.{EntitySaid}
+use Rattle.lc_model.specs.Versions.History.{filled}
+use Rattle.lc_model.specs.Versions.News.{EntitySaid}
 use Rattle.version_store.specs.Kept.{then_all, then_entities}
 use Rattle.version_store.proofs.KeptLemmas.{entities_none, marks_more}
 use Rattle.version_store.proofs.SpotsLemmas.{stay_pushed}

@@ -1,5 +1,5 @@
 use Rattle.std.proofs.Common.{◌≡◌, [], drop, map}
-use Rattle.lc_versions.specs.History.{filled}
+use Rattle.lc_model.specs.Versions.History.{filled}
 use Rattle.version_store.specs.Kept.{then_all, then_entities}
 use Rattle.version_store.specs.Spots.{StayAt}
 use Rattle.version_store.proofs.kept.push_entities.Given as goal

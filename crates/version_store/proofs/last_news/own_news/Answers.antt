@@ -1,4 +1,4 @@
-use Rattle.lc_versions.specs.Added.{has_key}
+use Rattle.lc_model.specs.Versions.Added.{has_key}
 use Rattle.version_store.proofs.FurtherLemmas.{named_more}
 use Rattle.version_store.proofs.LastNewsLemmas.{none_own}
 use Rattle.version_store.proofs.last_news.own_news.Goals as goal

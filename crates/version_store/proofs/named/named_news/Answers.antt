@@ -1,4 +1,4 @@
-use Rattle.lc_versions.specs.Naming.{names_run}
+use Rattle.lc_model.specs.Versions.Naming.{names_run}
 use Rattle.version_store.proofs.FurtherLemmas.{named_more}
 use Rattle.version_store.proofs.NamedLemmas.{none_named}
 use Rattle.version_store.proofs.named.named_news.Goals as goal

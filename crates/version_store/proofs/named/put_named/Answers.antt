@@ -1,8 +1,8 @@
 use Rattle.std.proofs.Common.{◌≡◌, ◌∙◌, ℕ, List, Option, ap, false, subst, sym}
 use Rattle.std.specs.Option.{SomeIff}
 use Rattle.lc_model.specs.Text.{IsIdText}
-use Rattle.lc_versions.specs.Naming.{is_added}
-use Rattle.lc_versions.specs.News.{TripSaid}
+use Rattle.lc_model.specs.Versions.Naming.{is_added}
+use Rattle.lc_model.specs.Versions.News.{TripSaid}
 use Rattle.version_store.proofs.NamedLemmas.{puts_named}
 use Rattle.version_store.proofs.named.put_named.Goals as goal
 

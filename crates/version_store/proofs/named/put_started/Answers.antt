@@ -1,5 +1,5 @@
 use Rattle.std.proofs.Common.{◌≡◌, ◌∙◌, Some, ap, sym}
-use Rattle.lc_versions.specs.News.{TripSaid}
+use Rattle.lc_model.specs.Versions.News.{TripSaid}
 use Rattle.version_store.proofs.NamedLemmas.{puts_started}
 use Rattle.version_store.proofs.named.put_started.Goals as goal
 

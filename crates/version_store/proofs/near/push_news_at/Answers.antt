@@ -2,7 +2,7 @@ use Rattle.std.proofs.Common.{◌≡◌, ◌∙◌, ◌++◌, Some, ap, map, ref
 use Rattle.std.proofs.lemmas.Result.{on_ok_weaker}
 use Rattle.std.specs.Prelude.{option_to_list}
 use Rattle.laws_index.specs.Kept.{news_in}
-use Rattle.lc_versions.specs.News.{EntitySaid}
+use Rattle.lc_model.specs.Versions.News.{EntitySaid}
 use Rattle.version_store.specs.Kept.{entity_said, news_said}
 use Rattle.version_store.specs.Spots.{said_in}
 use Rattle.version_store.proofs.SpotsLemmas.{one_found}

@@ -1,5 +1,5 @@
 use Rattle.std.proofs.Common.{◌≡◌, drop, filter}
-use Rattle.lc_versions.specs.Named.{is_by, last_of}
+use Rattle.lc_model.specs.Versions.Named.{is_by, last_of}
 use Rattle.version_store.proofs.store.named_among.Given as goal
 
 abbrev pub invariant-later : goal.invariant-later

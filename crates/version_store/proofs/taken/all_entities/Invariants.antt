@@ -1,5 +1,5 @@
 use Rattle.std.proofs.Common.{List, map}
-use Rattle.lc_versions.specs.News.{EntitySaid}
+use Rattle.lc_model.specs.Versions.News.{EntitySaid}
 use Rattle.version_store.specs.Filed.{HasBy, spots_at}
 use Rattle.version_store.specs.Kept.{entity_said}
 use Rattle.version_store.specs.declared.filed.By.{By}

@@ -3,7 +3,7 @@ use Rattle.std.specs.List.{All}
 use Rattle.std.proofs.lemmas.List.Elements.{All-contains}
 use Rattle.std.proofs.lemmas.Result.{IfOk-weaker}
 use Rattle.lc_model.proofs.ListLemmas.{All-from_contains}
-use Rattle.lc_versions.specs.History.{filled, with_news}
+use Rattle.lc_model.specs.Versions.History.{filled, with_news}
 use Rattle.version_store.specs.Kept.{survivors, then_all, then_entities}
 use Rattle.version_store.specs.Spots.{IsAtSpot}
 use Rattle.version_store.specs.declared.kept.Marked.{Marked}

@@ -1,7 +1,7 @@
 use Rattle.std.proofs.Common.{◌≡◌, ◌∙◌, ℕ, List, Option, ap, refl, subst}
 use Rattle.std.specs.Option.{SomeIff}
 use Rattle.lc_model.specs.Text.{IsIdText}
-use Rattle.lc_versions.specs.News.{TripSaid}
+use Rattle.lc_model.specs.Versions.News.{TripSaid}
 use Rattle.version_store.specs.Kept.{news_said}
 use Rattle.version_store.proofs.LastNewsLemmas.{puts_plain_key}
 use Rattle.version_store.proofs.touched_keys.put_plain_key.Goals as goal

@@ -1,7 +1,7 @@
 use Rattle.std.proofs.Common.{arith, rules, ◌≡◌, ◌∙◌, ◌<◌, ◌+◌, ◌≤◌, ◌++◌, ◌∷◌, [], List, Some, ap, length, map, ℕ, subst, subst₂, sym}
 use Rattle.std.specs.List.{slice_get}
-use Rattle.lc_versions.specs.History.{Entry, IsRising, kept_after, moments_of}
-use Rattle.lc_versions.specs.News.{EntitySaid}
+use Rattle.lc_model.specs.Versions.History.{Entry, IsRising, kept_after, moments_of}
+use Rattle.lc_model.specs.Versions.News.{EntitySaid}
 use Rattle.laws_index.specs.Kept.{entities_after, news_in}
 use Rattle.span_index.proofs.GatherLemmas.{get_pushed}
 use Rattle.version_store.specs.Changes.{GoesOn, HasTurned}

@@ -1,5 +1,5 @@
 use Rattle.std.proofs.Common.{◌∙◌, ap}
-use Rattle.lc_versions.specs.History.{moments_of}
+use Rattle.lc_model.specs.Versions.History.{moments_of}
 use Rattle.version_store.specs.Inside.{stored_of}
 use Rattle.version_store.specs.Store.{newest_of}
 use Rattle.version_store.proofs.VersionLemmas.{newest_last}

@@ -1,9 +1,9 @@
 ghost use Rattle.std.specs.Prelude.{◌≡◌, IfOk};
 ghost use Rattle.std.specs.Option.{option_copied};
-ghost use Rattle.lc_versions.specs.News.{StopSaid};
+ghost use Rattle.lc_model.specs.Versions.News.{StopSaid};
 
-use crate::{Event, Relation};
-use lc_model::{Bytes, Items, NoMemory, PlainData};
+use crate::versions::{Event, Relation};
+use crate::{Bytes, Items, NoMemory, PlainData};
 use std::alloc::Global;
 use std::marker::Model;
 
@@ -27,8 +27,8 @@ pub(crate) struct StopMore {
 
 impl Model for StopNews {
     ghost use Rattle.std.specs.Option.{option_map};
-    ghost use Rattle.lc_versions.specs.News.{StopSaid};
-    ghost use Rattle.lc_versions.specs.Packed.{stop_said};
+    ghost use Rattle.lc_model.specs.Versions.News.{StopSaid};
+    ghost use Rattle.lc_model.specs.Versions.Packed.{stop_said};
 
     ghost Value = { StopSaid };
 

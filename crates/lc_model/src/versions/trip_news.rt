@@ -1,5 +1,5 @@
-use crate::{StopNewsList, TripKind};
-use lc_model::{Bytes, Items, NoMemory, PlainData, ServiceDate};
+use crate::versions::{StopNewsList, TripKind};
+use crate::{Bytes, Items, NoMemory, PlainData, ServiceDate};
 use std::alloc::Global;
 use std::marker::Model;
 
@@ -15,7 +15,7 @@ pub struct TripNews {
 }
 
 impl Model for TripNews {
-    ghost use Rattle.lc_versions.specs.News.{TripSaid};
+    ghost use Rattle.lc_model.specs.Versions.News.{TripSaid};
 
     ghost Value = { TripSaid };
 

@@ -1,7 +1,7 @@
 -- The pages of a version (Linked Connections 1.0: pages are sorted by departure time and linked to their neighbours).
 use Rattle.std.specs.Prelude.{ℕ, List, [], ◌∷◌, map, filter, nat_le, nat_lt, Bool, true, ◌&&◌, Option, Some, None}
 use Rattle.lc_model.specs.declared.connection.Connection.{Connection}
-use Rattle.lc_versions.specs.Cuts.{first_of}
+use Rattle.lc_model.specs.Versions.Cuts.{first_of}
 
 -- a page: the departure that names it, and its connections
 pub record CutPage : Type 0 where

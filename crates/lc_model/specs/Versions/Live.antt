@@ -2,11 +2,11 @@
 use Rattle.std.specs.Prelude.{ℕ, suc, ◌-◌, min, max, ℤ, pos, negsuc, ◌+ℤ◌, ◌-ℤ◌, List, [], ◌∷◌, if◌then◌else◌, Option, Some, None}
 use Rattle.lc_model.specs.declared.call.Call.{Call}
 use Rattle.lc_model.specs.declared.moment.TheConstants.{MOMENTS_END}
-use Rattle.lc_versions.specs.Naming.{Naming, is_canceled, namings, news_at_place}
-use Rattle.lc_versions.specs.News.{StopSaid, TripSaid}
-use Rattle.lc_versions.specs.declared.event.Event.{Event}
-use Rattle.lc_versions.specs.declared.event.Relation.{Relation}
-use Rattle.lc_versions.specs.declared.event.Relation.TheVariants as relations
+use Rattle.lc_model.specs.Versions.Naming.{Naming, is_canceled, namings, news_at_place}
+use Rattle.lc_model.specs.Versions.News.{StopSaid, TripSaid}
+use Rattle.lc_model.specs.declared.versions.event.Event.{Event}
+use Rattle.lc_model.specs.declared.versions.event.Relation.{Relation}
+use Rattle.lc_model.specs.declared.versions.event.Relation.TheVariants as relations
 
 -- a moment as it is stated, in seconds since 1970, perhaps out of range, and how late that is
 pub record Stated : Type 0 where

@@ -1,8 +1,8 @@
 ghost use Rattle.std.specs.Prelude.{◌≡◌, IfOk, None};
 ghost use Rattle.std.specs.Option.{option_copied};
 
-use crate::TripNews;
-use lc_model::{Bytes, Items, NoMemory, PlainData};
+use crate::versions::TripNews;
+use crate::{Bytes, Items, NoMemory, PlainData};
 use std::alloc::Global;
 use std::marker::Model;
 
@@ -16,7 +16,7 @@ pub struct EntityNews {
 
 impl Model for EntityNews {
     ghost use Rattle.std.specs.Option.{option_map};
-    ghost use Rattle.lc_versions.specs.News.{EntitySaid};
+    ghost use Rattle.lc_model.specs.Versions.News.{EntitySaid};
 
     ghost Value = { EntitySaid };
 

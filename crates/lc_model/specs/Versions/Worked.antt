@@ -6,17 +6,17 @@ use Rattle.lc_model.specs.declared.connection.Connection.{Connection}
 use Rattle.lc_model.specs.declared.date.ServiceDate.{ServiceDate}
 use Rattle.lc_model.specs.declared.key.RunKey.{RunKey}
 use Rattle.lc_model.specs.declared.stop.Stop.{Stop}
-use Rattle.lc_versions.specs.Added.{added_calls}
-use Rattle.lc_versions.specs.History.{Entry, news_at}
-use Rattle.lc_versions.specs.Live.{live_calls_of}
-use Rattle.lc_versions.specs.Named.{version_named}
-use Rattle.lc_versions.specs.News.{EntitySaid, StopSaid, TripSaid}
-use Rattle.lc_versions.specs.Pages.{CutPage, page_for, pages_of}
-use Rattle.lc_versions.specs.declared.event.Event.{Event}
-use Rattle.lc_versions.specs.declared.event.Relation.{Relation}
-use Rattle.lc_versions.specs.declared.event.Relation.TheVariants.{Scheduled, Skipped, NoData}
-use Rattle.lc_versions.specs.declared.event.TripKind.{TripKind}
-use Rattle.lc_versions.specs.declared.event.TripKind.TheVariants as kinds
+use Rattle.lc_model.specs.Versions.Added.{added_calls}
+use Rattle.lc_model.specs.Versions.History.{Entry, news_at}
+use Rattle.lc_model.specs.Versions.Live.{live_calls_of}
+use Rattle.lc_model.specs.Versions.Named.{version_named}
+use Rattle.lc_model.specs.Versions.News.{EntitySaid, StopSaid, TripSaid}
+use Rattle.lc_model.specs.Versions.Pages.{CutPage, page_for, pages_of}
+use Rattle.lc_model.specs.declared.versions.event.Event.{Event}
+use Rattle.lc_model.specs.declared.versions.event.Relation.{Relation}
+use Rattle.lc_model.specs.declared.versions.event.Relation.TheVariants.{Scheduled, Skipped, NoData}
+use Rattle.lc_model.specs.declared.versions.event.TripKind.{TripKind}
+use Rattle.lc_model.specs.declared.versions.event.TripKind.TheVariants as kinds
 
 -- hours and minutes of a day in seconds
 abbrev pub at : ℕ → ℕ → ℕ

@@ -1,7 +1,5 @@
 //! Versions of a timetable: what realtime messages say of trips and stops, and the definitions of what was known when. It
 //! builds on `lc_model`.
-#![tactic(auto)]
-
 mod entity;
 mod event;
 mod stop_news;

@@ -3,8 +3,8 @@ use Rattle.std.specs.Prelude.{ℕ, ◌<◌, List, [], ◌∷◌, ◌++◌, map, 
 use Rattle.std.specs.List.{AllPairs, filter_map}
 use Rattle.lc_model.specs.Change.{is_same_id}
 use Rattle.lc_model.specs.declared.date.ServiceDate.{ServiceDate}
-use Rattle.lc_versions.specs.News.{EntitySaid, TripSaid}
-use Rattle.lc_versions.specs.declared.update.Update.{Update}
+use Rattle.lc_model.specs.Versions.News.{EntitySaid, TripSaid}
+use Rattle.lc_model.specs.declared.versions.update.Update.{Update}
 
 -- a message that was admitted: what it says, how many bytes it has, and the cuts of the pages of its version
 pub record Entry : Type 0 where

@@ -1,5 +1,5 @@
-use crate::EntityList;
-use lc_model::{Moment, NoMemory, PlainData};
+use crate::versions::EntityList;
+use crate::{Moment, NoMemory, PlainData};
 use std::alloc::Global;
 
 /// What a message of GTFS Realtime says: its moment, whether it is the full state or what changed, and its entities. How many

@@ -4,10 +4,10 @@ use Rattle.std.specs.List.{Contains}
 use Rattle.lc_model.specs.Run.{InKeyOrder}
 use Rattle.lc_model.specs.declared.run.Run.{Run}
 use Rattle.lc_model.specs.declared.stop.Stop.{Stop}
-use Rattle.lc_versions.specs.Added.{IsFurtherRun}
-use Rattle.lc_versions.specs.Live.{live_calls_of}
-use Rattle.lc_versions.specs.Naming.{news_for}
-use Rattle.lc_versions.specs.News.{TripSaid}
+use Rattle.lc_model.specs.Versions.Added.{IsFurtherRun}
+use Rattle.lc_model.specs.Versions.Live.{live_calls_of}
+use Rattle.lc_model.specs.Versions.Naming.{news_for}
+use Rattle.lc_model.specs.Versions.News.{TripSaid}
 
 -- the run is one of the timetable, with its live calls
 pub record IsLiveRun (runs : List Run) (list : List TripSaid) (live : Run) : Type 0 where

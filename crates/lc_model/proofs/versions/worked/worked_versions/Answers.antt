@@ -1,5 +1,5 @@
 use Rattle.std.proofs.Common.{refl}
-use Rattle.lc_versions.proofs.worked.worked_versions.Goals as goal
+use Rattle.lc_model.proofs.versions.worked.worked_versions.Goals as goal
 
 pub returns : goal.returns
 returns c = record {

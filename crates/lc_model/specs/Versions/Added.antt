@@ -7,12 +7,12 @@ use Rattle.lc_model.specs.declared.call.Call.{Call}
 use Rattle.lc_model.specs.declared.key.RunKey.{RunKey}
 use Rattle.lc_model.specs.declared.run.Run.{Run}
 use Rattle.lc_model.specs.declared.stop.Stop.{Stop}
-use Rattle.lc_versions.specs.Live.{StatedCall, raised}
-use Rattle.lc_versions.specs.Naming.{is_added, is_on}
-use Rattle.lc_versions.specs.News.{StopSaid, TripSaid}
-use Rattle.lc_versions.specs.declared.event.Event.{Event}
-use Rattle.lc_versions.specs.declared.event.Relation.{Relation}
-use Rattle.lc_versions.specs.declared.event.Relation.TheVariants as relations
+use Rattle.lc_model.specs.Versions.Live.{StatedCall, raised}
+use Rattle.lc_model.specs.Versions.Naming.{is_added, is_on}
+use Rattle.lc_model.specs.Versions.News.{StopSaid, TripSaid}
+use Rattle.lc_model.specs.declared.versions.event.Event.{Event}
+use Rattle.lc_model.specs.declared.versions.event.Relation.{Relation}
+use Rattle.lc_model.specs.declared.versions.event.Relation.TheVariants as relations
 
 -- whether the list has a stop of this id
 abbrev pub has_stop : List Stop → List ℕ → Bool

@@ -1,8 +1,8 @@
 -- What the news that are held small stand for.
 use Rattle.std.specs.Prelude.{ℕ, Option, Some, None}
-use Rattle.lc_versions.specs.News.{StopSaid}
-use Rattle.lc_versions.specs.declared.event.Relation.TheVariants as relations
-use Rattle.lc_versions.specs.declared.stop_news.StopMore.{StopMore}
+use Rattle.lc_model.specs.Versions.News.{StopSaid}
+use Rattle.lc_model.specs.declared.versions.event.Relation.TheVariants as relations
+use Rattle.lc_model.specs.declared.versions.stop_news.StopMore.{StopMore}
 
 -- the news of a stop of which no more than this is said
 abbrev pub stop_said : Option ℕ → Option StopMore → StopSaid

@@ -1,6 +1,6 @@
 ghost use Rattle.lc_model.specs.declared.date.ServiceDate.{ServiceDate as Date};
 ghost use Rattle.lc_model.specs.declared.key.RunKey.{RunKey as Key};
-ghost use Rattle.lc_versions.specs.Worked.{WorkedAdded, WorkedCalls, WorkedNews, WorkedPages, WorkedVersions};
+ghost use Rattle.lc_model.specs.Versions.Worked.{WorkedAdded, WorkedCalls, WorkedNews, WorkedPages, WorkedVersions};
 
 /// Values that were worked out by hand, which the definitions take. They are what news make of a trip, an added trip, the
 /// news in force, the version that is named, and pages.

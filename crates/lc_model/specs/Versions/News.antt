@@ -1,9 +1,9 @@
 -- What the news of a message say, as plain values (GTFS Realtime Reference: FeedEntity, TripUpdate, StopTimeUpdate).
 use Rattle.std.specs.Prelude.{ℕ, List, Option}
 use Rattle.lc_model.specs.declared.date.ServiceDate.{ServiceDate}
-use Rattle.lc_versions.specs.declared.event.Event.{Event}
-use Rattle.lc_versions.specs.declared.event.Relation.{Relation}
-use Rattle.lc_versions.specs.declared.event.TripKind.{TripKind}
+use Rattle.lc_model.specs.declared.versions.event.Event.{Event}
+use Rattle.lc_model.specs.declared.versions.event.Relation.{Relation}
+use Rattle.lc_model.specs.declared.versions.event.TripKind.{TripKind}
 
 -- The news of one stop of a trip: its sequence and its id, as far as they are said. How the trip serves it, and what is
 -- said of the arrival and of the departure.

@@ -8,9 +8,9 @@ use Rattle.lc_model.specs.RunKey.{date_cmp}
 use Rattle.lc_model.specs.declared.call.Call.{Call}
 use Rattle.lc_model.specs.declared.date.ServiceDate.{ServiceDate}
 use Rattle.lc_model.specs.declared.key.RunKey.{RunKey}
-use Rattle.lc_versions.specs.News.{StopSaid, TripSaid}
-use Rattle.lc_versions.specs.declared.event.TripKind.{TripKind}
-use Rattle.lc_versions.specs.declared.event.TripKind.TheVariants as kinds
+use Rattle.lc_model.specs.Versions.News.{StopSaid, TripSaid}
+use Rattle.lc_model.specs.declared.versions.event.TripKind.{TripKind}
+use Rattle.lc_model.specs.declared.versions.event.TripKind.TheVariants as kinds
 
 -- the news are of a further run
 abbrev pub is_added : TripKind → Bool
