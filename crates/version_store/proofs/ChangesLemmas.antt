@@ -23,7 +23,7 @@ use Rattle.laws_index.specs.Held.{IsRunBy}
 use Rattle.laws_index.specs.Touched.{NoneHas, is_touched}
 use Rattle.laws_index.proofs.HeldLemmas.{one_run}
 use Rattle.laws_index.proofs.TouchedLemmas.{same_news}
-use Rattle.span_index.specs.Spans.{Indexed}
+use Rattle.version_store.specs.Index.Spans.{Indexed}
 use Rattle.version_store.specs.CallsBy.{AreCallsBy, run_with}
 use Rattle.version_store.specs.Changes.{AreChangesAt, AreChangesBy, AreNearAt, HasTurned, IsUpdatedBy, Leaves, PutsCalls, PutsChange, Stands, TurnsKey}
 use Rattle.version_store.specs.Differing.{DifferBy}

@@ -16,9 +16,9 @@ use Rattle.laws_index.specs.Touched.{AreChanges, IsLeft}
 use Rattle.laws_index.proofs.HeldLemmas.{ordered_are_live}
 use Rattle.laws_index.proofs.KeptLemmas.{newest, of_number}
 use Rattle.laws_index.proofs.TouchedLemmas.{update_holds}
-use Rattle.span_index.specs.Rows as index
-use Rattle.span_index.specs.Spans.{Indexed, runs_at}
-use Rattle.span_index.specs.Updates as updates
+use Rattle.version_store.specs.Index.Rows as index
+use Rattle.version_store.specs.Index.Spans.{Indexed, runs_at}
+use Rattle.version_store.specs.Index.Updates as updates
 use Rattle.version_store.specs.Changes.{HasTurned}
 use Rattle.version_store.specs.Dates.{date_in}
 use Rattle.version_store.specs.Indexed.{AreIndexed, IsNumberOf, news_after}

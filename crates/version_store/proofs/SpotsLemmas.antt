@@ -11,7 +11,7 @@ use Rattle.lc_model.specs.Versions.History.{Entry, filled, kept_after}
 use Rattle.lc_model.specs.Versions.News.{EntitySaid, TripSaid}
 use Rattle.laws_index.specs.Kept.{entities_after, news_in}
 use Rattle.laws_index.proofs.KeptLemmas.{goes_on}
-use Rattle.span_index.proofs.GatherLemmas.{get_before}
+use Rattle.version_store.proofs.IndexLemmas.GatherLemmas.{get_before}
 use Rattle.version_store.specs.Kept.{entity_said}
 use Rattle.version_store.specs.Spots.{IsAtSpot, StayAt, said_in}
 use Rattle.version_store.specs.declared.kept.Marked.{Marked}

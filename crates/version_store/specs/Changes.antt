@@ -15,8 +15,8 @@ use Rattle.lc_model.specs.Versions.News.{EntitySaid, TripSaid}
 use Rattle.laws_index.specs.Held.{IsRunBy}
 use Rattle.laws_index.specs.Kept.{news_in}
 use Rattle.laws_index.specs.Touched.{AreChanges}
-use Rattle.span_index.specs.Spans.{Indexed}
-use Rattle.span_index.specs.Updates.{IsUpdated}
+use Rattle.version_store.specs.Index.Spans.{Indexed}
+use Rattle.version_store.specs.Index.Updates.{IsUpdated}
 use Rattle.version_store.specs.CallsBy.{AreCallsBy, run_with}
 use Rattle.version_store.specs.Differing.{AreAlikeAt}
 use Rattle.version_store.specs.Force.{AreInForce}

@@ -3,7 +3,7 @@ use Rattle.std.specs.Prelude.{◌≡◌, ℕ, ◌≤◌, List, length, take}
 use Rattle.lc_model.specs.Versions.News.{TripSaid}
 use Rattle.laws_index.specs.Held.{AreRunsBy}
 use Rattle.laws_index.specs.Kept.{entities_after, news_in, version_at}
-use Rattle.span_index.specs.Spans.{Indexed, runs_at}
+use Rattle.version_store.specs.Index.Spans.{Indexed, runs_at}
 use Rattle.version_store.specs.Dates.{date_in}
 use Rattle.version_store.specs.Store.{Stored}
 

@@ -7,6 +7,7 @@ pub mod Differing
 pub mod Filed
 pub mod Force
 pub mod Further
+pub mod Index
 pub mod Indexed
 pub mod Inside
 pub mod Kept

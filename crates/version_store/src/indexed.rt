@@ -10,8 +10,8 @@ ghost use Rattle.lc_model.specs.declared.stop.Stop.{Stop as StatedStop};
 ghost use Rattle.lc_model.specs.Versions.History.{filled, kept_after, put_all, with_news};
 ghost use Rattle.lc_model.specs.Versions.News.{EntitySaid};
 ghost use Rattle.lc_model.specs.Versions.Timetable.{AreLiveRuns};
-ghost use Rattle.span_index.specs.Spans.{runs_at};
-ghost use Rattle.span_index.specs.Updates.{IsSame};
+ghost use Rattle.version_store.specs.Index.Spans.{runs_at};
+ghost use Rattle.version_store.specs.Index.Updates.{IsSame};
 ghost use Rattle.version_store.specs.Changes.{GoesOn, HasTurned, IsUpdatedBy};
 ghost use Rattle.version_store.specs.Dates.{date_in};
 ghost use Rattle.version_store.specs.Differing.{DifferBy};
@@ -25,13 +25,13 @@ ghost use Rattle.version_store.specs.declared.store.Admission.{Admission as Stat
 use crate::changes::{Changes, changes_of};
 use crate::exchange::{make_room, put_patch};
 use crate::force::{Force, Step, step_over, step_whole};
+use crate::index::Index;
 use crate::kept::{Marked, message_date};
 use crate::live_runs::{base_runs, runs_in};
 use crate::near::FiledTrips;
 use crate::store::Admission;
 use lc_model::{EntityNews, NoMemory, Runs, ServiceDate, Stops};
 use lc_time::Zone;
-use span_index::Index;
 use std::alloc::Global;
 
 /// The index of the base version alone. Takes the time of a sort of the runs and of their connections.

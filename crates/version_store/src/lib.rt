@@ -10,6 +10,7 @@ mod dated;
 mod exchange;
 mod filed;
 mod force;
+mod index;
 mod indexed;
 mod kept;
 mod label;
@@ -27,6 +28,7 @@ mod touched_keys;
 mod trips;
 
 pub use admission::{AdmitFault, Admitted, MOST_BYTES, MOST_MESSAGE_BYTES, MOST_MESSAGES};
+pub use index::{Index, one_index};
 pub use kept::message_date;
 pub use laws::{
     cuts_do_not_matter, near_values, one_list_of_rows, one_outcome, some_list_of_rows, worked_store,

@@ -7,10 +7,10 @@ ghost use Rattle.lc_model.specs.Versions.Named.{is_by, version_named};
 ghost use Rattle.version_store.specs.Store.{newest_of, versions_of};
 
 use crate::force::Force;
+use crate::index::Index;
 use crate::indexed::base_index;
 use lc_model::{Moment, NoMemory, Runs, Stops, Update};
 use lc_time::Zone;
-use span_index::Index;
 use std::alloc::Global;
 use std::marker::Model;
 

@@ -10,8 +10,8 @@ use crate::making::MIDNIGHT;
 use lc_model::{Moment, Run, Stops};
 use live_calls::live;
 use rows_common::{Draft, Unmade};
-use span_index::{Index, one_index};
 use std::alloc::Global;
+use version_store::{Index, one_index};
 
 /// The run of a trip with the calls of the list of this name.
 fn forward_run(alloc: Global, stops: &Stops, trip: &str, name: &str) -> Result<Run, Unmade>

@@ -1,7 +1,0 @@
-use Rattle.std.proofs.Common.{◌≡◌, ◌++◌, map}
-use Rattle.std.specs.Vec.Iter.{into_iter_items}
-use Rattle.span_index.specs.Base.{base_state}
-use Rattle.span_index.proofs.base.base_states.Given as goal
-
-abbrev pub invariant-loop-run : goal.invariant-loop-run
-invariant-loop-run l = l.states.items ++ map base_state (into_iter_items l.run-iterator) ≡ map base_state l.fn.runs.items

@@ -1,8 +1,0 @@
-use Rattle.std.proofs.Common.{take}
-use Rattle.lc_model.specs.Order.{AreApart}
-use Rattle.span_index.specs.Gathered.{AreOfStates}
-use Rattle.span_index.specs.Places.{place_cmp}
-use Rattle.span_index.proofs.gather.places_of.Given as goal
-
-abbrev pub invariant-loop-at : goal.invariant-loop-at
-invariant-loop-at l = record { has : AreOfStates (take l.at l.states) l.places.items; apart : AreApart place_cmp l.places.items }

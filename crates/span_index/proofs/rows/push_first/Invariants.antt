@@ -1,7 +1,0 @@
-use Rattle.std.proofs.Common.{◌≡◌, ◌++◌, take}
-use Rattle.std.specs.List.{filter_map}
-use Rattle.span_index.specs.Places.{shown}
-use Rattle.span_index.proofs.rows.push_first.Given as goal
-
-abbrev pub invariant-loop-place : goal.invariant-loop-place
-invariant-loop-place l = l.list.items ≡ l.initial.list.items ++ filter_map (shown l.version l.states) (take l.place-index l.places)
