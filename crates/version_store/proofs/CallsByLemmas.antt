@@ -23,7 +23,7 @@ use Rattle.lc_model.specs.Versions.Added.{IsFurtherRun, has_key, news_of_key}
 use Rattle.lc_model.specs.Versions.Live.{live_calls_of}
 use Rattle.lc_model.specs.Versions.Naming.{news_for}
 use Rattle.lc_model.specs.Versions.News.{TripSaid}
-use Rattle.laws_index.specs.Held.{IsRunBy}
+use Rattle.version_store.specs.IndexLaws.Held.{IsRunBy}
 use Rattle.version_store.specs.CallsBy.{AreCallsBy, AreFurtherCalls, IsRunOfKey, run_with}
 use Rattle.version_store.specs.Further.{IsFurther, calls_of}
 use Rattle.version_store.specs.LastNews.{HasLastAt}

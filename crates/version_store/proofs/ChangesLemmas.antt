@@ -19,10 +19,10 @@ use Rattle.lc_model.specs.declared.stop.Stop.{Stop}
 use Rattle.lc_model.proofs.KeyLemmas.{same_keys}
 use Rattle.lc_model.proofs.ListLemmas.{Contains-nil}
 use Rattle.lc_model.specs.Versions.News.{TripSaid}
-use Rattle.laws_index.specs.Held.{IsRunBy}
-use Rattle.laws_index.specs.Touched.{NoneHas, is_touched}
-use Rattle.laws_index.proofs.HeldLemmas.{one_run}
-use Rattle.laws_index.proofs.TouchedLemmas.{same_news}
+use Rattle.version_store.specs.IndexLaws.Held.{IsRunBy}
+use Rattle.version_store.specs.IndexLaws.Touched.{NoneHas, is_touched}
+use Rattle.version_store.proofs.IndexLawsLemmas.HeldLemmas.{one_run}
+use Rattle.version_store.proofs.IndexLawsLemmas.TouchedLemmas.{same_news}
 use Rattle.version_store.specs.Index.Spans.{Indexed}
 use Rattle.version_store.specs.CallsBy.{AreCallsBy, run_with}
 use Rattle.version_store.specs.Changes.{AreChangesAt, AreChangesBy, AreNearAt, HasTurned, IsUpdatedBy, Leaves, PutsCalls, PutsChange, Stands, TurnsKey}

@@ -9,8 +9,8 @@ use Rattle.lc_model.proofs.ListLemmas.{Contains-cases, Contains-here, Contains-n
 use Rattle.lc_model.specs.Versions.Added.{has_key}
 use Rattle.lc_model.specs.Versions.Naming.{names_run}
 use Rattle.lc_model.specs.Versions.News.{EntitySaid, TripSaid}
-use Rattle.laws_index.specs.Kept.{news_in}
-use Rattle.laws_index.specs.Touched.{HasSameNews, touches}
+use Rattle.version_store.specs.IndexLaws.Kept.{news_in}
+use Rattle.version_store.specs.IndexLaws.Touched.{HasSameNews, touches}
 use Rattle.version_store.specs.Differing.{AreAlikeAt, DifferBy}
 use Rattle.version_store.specs.Filed.{TakesOut, stays}
 

@@ -15,8 +15,8 @@ use Rattle.lc_model.proofs.ListLemmas.{Contains-nil}
 use Rattle.lc_model.specs.Versions.History.{filled, filled_entities, kept_after, put_all, with_news}
 use Rattle.lc_model.specs.Versions.News.{EntitySaid}
 use Rattle.lc_model.specs.declared.versions.update.Update.{Update}
-use Rattle.laws_index.specs.Kept.{has_id, news_in}
-use Rattle.laws_index.proofs.PutLemmas.{put_at_once}
+use Rattle.version_store.specs.IndexLaws.Kept.{has_id, news_in}
+use Rattle.version_store.proofs.IndexLawsLemmas.PutLemmas.{put_at_once}
 use Rattle.version_store.specs.Differing.{DifferBy}
 use Rattle.version_store.specs.Filed.{AreFiled, AreOut, HasBy, TakesOut, is_by, list_or, listed, spots_at, spots_over, stays}
 use Rattle.version_store.specs.Force.{AreInForce, GoesOver, GoesWhole, IsForceAlike, IsPatch}

@@ -10,12 +10,12 @@ use Rattle.lc_model.specs.declared.run.Run.{Run}
 use Rattle.lc_model.specs.Versions.History.{Entry, IsRising, moments_of, news_at}
 use Rattle.lc_model.specs.Versions.News.{TripSaid}
 use Rattle.lc_model.specs.Versions.Timetable.{AreLiveRuns}
-use Rattle.laws_index.specs.Held.{AreRunsBy}
-use Rattle.laws_index.specs.Kept.{entities_after, news_in}
-use Rattle.laws_index.specs.Touched.{AreChanges, IsLeft}
-use Rattle.laws_index.proofs.HeldLemmas.{ordered_are_live}
-use Rattle.laws_index.proofs.KeptLemmas.{newest, of_number}
-use Rattle.laws_index.proofs.TouchedLemmas.{update_holds}
+use Rattle.version_store.specs.IndexLaws.Held.{AreRunsBy}
+use Rattle.version_store.specs.IndexLaws.Kept.{entities_after, news_in}
+use Rattle.version_store.specs.IndexLaws.Touched.{AreChanges, IsLeft}
+use Rattle.version_store.proofs.IndexLawsLemmas.HeldLemmas.{ordered_are_live}
+use Rattle.version_store.proofs.IndexLawsLemmas.KeptLemmas.{newest, of_number}
+use Rattle.version_store.proofs.IndexLawsLemmas.TouchedLemmas.{update_holds}
 use Rattle.version_store.specs.Index.Rows as index
 use Rattle.version_store.specs.Index.Spans.{Indexed, runs_at}
 use Rattle.version_store.specs.Index.Updates as updates

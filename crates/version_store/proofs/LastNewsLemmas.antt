@@ -14,8 +14,8 @@ use Rattle.lc_model.proofs.KeyLemmas.{same_key_parts}
 use Rattle.lc_model.specs.Versions.Added.{has_key, is_start}
 use Rattle.lc_model.specs.Versions.Naming.{is_added, is_on, names_run, starts_so}
 use Rattle.lc_model.specs.Versions.News.{TripSaid}
-use Rattle.laws_index.specs.Touched.{IsTouchedKey, is_touched, touches}
-use Rattle.laws_index.proofs.TouchedLemmas.{touch_few}
+use Rattle.version_store.specs.IndexLaws.Touched.{IsTouchedKey, is_touched, touches}
+use Rattle.version_store.proofs.IndexLawsLemmas.TouchedLemmas.{touch_few}
 use Rattle.live_calls.specs.AddedRun.{HasNoKey}
 use Rattle.live_calls.proofs.LawLemmas.{keys_are_one, no_key_names_none}
 use Rattle.version_store.specs.Kept.{news_said}

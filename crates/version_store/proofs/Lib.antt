@@ -7,6 +7,7 @@ pub mod ExchangeLemmas
 pub mod FiledLemmas
 pub mod ForceLemmas
 pub mod FurtherLemmas
+pub mod IndexLawsLemmas
 pub mod IndexLemmas
 pub mod IndexedLemmas
 pub mod KeptLemmas

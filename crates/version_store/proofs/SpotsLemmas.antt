@@ -9,8 +9,8 @@ use Rattle.std.proofs.lemmas.Option.{slice_get-get_or}
 use Rattle.lc_model.specs.declared.date.ServiceDate.{ServiceDate}
 use Rattle.lc_model.specs.Versions.History.{Entry, filled, kept_after}
 use Rattle.lc_model.specs.Versions.News.{EntitySaid, TripSaid}
-use Rattle.laws_index.specs.Kept.{entities_after, news_in}
-use Rattle.laws_index.proofs.KeptLemmas.{goes_on}
+use Rattle.version_store.specs.IndexLaws.Kept.{entities_after, news_in}
+use Rattle.version_store.proofs.IndexLawsLemmas.KeptLemmas.{goes_on}
 use Rattle.version_store.proofs.IndexLemmas.GatherLemmas.{get_before}
 use Rattle.version_store.specs.Kept.{entity_said}
 use Rattle.version_store.specs.Spots.{IsAtSpot, StayAt, said_in}

@@ -14,7 +14,7 @@ use Rattle.std.proofs.lemmas.List.Folds.{list_any-append}
 use Rattle.lc_model.specs.Change.{is_same_id}
 use Rattle.lc_model.proofs.ListLemmas.{Contains-filter, Contains-nil}
 use Rattle.lc_model.specs.Versions.News.{EntitySaid}
-use Rattle.laws_index.specs.Kept.{has_id}
+use Rattle.version_store.specs.IndexLaws.Kept.{has_id}
 use Rattle.version_store.specs.Filed.{AreOut, HasBy, PutsText, is_by, list_or, listed, spots_at, text_by}
 use Rattle.version_store.specs.Spots.{said_in}
 use Rattle.version_store.specs.declared.filed.By.{By}

@@ -15,8 +15,8 @@ use Rattle.lc_model.proofs.ListLemmas.{Contains-cases, Contains-nil, IsKept-filt
 use Rattle.lc_model.specs.Versions.Added.{has_key}
 use Rattle.lc_model.specs.Versions.Naming.{names_run}
 use Rattle.lc_model.specs.Versions.News.{EntitySaid, TripSaid}
-use Rattle.laws_index.specs.Kept.{news_in}
-use Rattle.laws_index.proofs.TouchedLemmas.{touch_few}
+use Rattle.version_store.specs.IndexLaws.Kept.{news_in}
+use Rattle.version_store.proofs.IndexLawsLemmas.TouchedLemmas.{touch_few}
 use Rattle.version_store.specs.Changes.{AreNearAt}
 use Rattle.version_store.specs.Differing.{AreAlikeAt}
 use Rattle.version_store.specs.Filed.{PutsText, has_text, is_by, trip_in}

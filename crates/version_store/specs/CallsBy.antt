@@ -6,7 +6,7 @@ use Rattle.lc_model.specs.declared.key.RunKey.{RunKey}
 use Rattle.lc_model.specs.declared.run.Run.{Run}
 use Rattle.lc_model.specs.declared.stop.Stop.{Stop}
 use Rattle.lc_model.specs.Versions.News.{TripSaid}
-use Rattle.laws_index.specs.Held.{IsRunBy}
+use Rattle.version_store.specs.IndexLaws.Held.{IsRunBy}
 use Rattle.version_store.specs.Further.{IsFurther, calls_of}
 
 -- the run has the key, or none of the runs has it

@@ -12,9 +12,9 @@ use Rattle.lc_model.specs.declared.key.RunKey.{RunKey}
 use Rattle.lc_model.specs.declared.run.Run.{Run}
 use Rattle.lc_model.specs.declared.stop.Stop.{Stop}
 use Rattle.lc_model.specs.Versions.News.{EntitySaid, TripSaid}
-use Rattle.laws_index.specs.Held.{IsRunBy}
-use Rattle.laws_index.specs.Kept.{news_in}
-use Rattle.laws_index.specs.Touched.{AreChanges}
+use Rattle.version_store.specs.IndexLaws.Held.{IsRunBy}
+use Rattle.version_store.specs.IndexLaws.Kept.{news_in}
+use Rattle.version_store.specs.IndexLaws.Touched.{AreChanges}
 use Rattle.version_store.specs.Index.Spans.{Indexed}
 use Rattle.version_store.specs.Index.Updates.{IsUpdated}
 use Rattle.version_store.specs.CallsBy.{AreCallsBy, run_with}

@@ -4,7 +4,7 @@ use Rattle.lc_model.specs.declared.key.RunKey.{RunKey}
 use Rattle.lc_model.specs.Versions.Added.{has_key}
 use Rattle.lc_model.specs.Versions.Naming.{names_run}
 use Rattle.lc_model.specs.Versions.News.{TripSaid}
-use Rattle.laws_index.specs.Touched.{is_touched}
+use Rattle.version_store.specs.IndexLaws.Touched.{is_touched}
 
 -- the same news of both lists name the run of the key, and the same have exactly the key
 pub record AreAlikeAt (key : RunKey) (old new : List TripSaid) : Type 0 where

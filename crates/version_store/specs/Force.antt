@@ -1,7 +1,7 @@
 -- What is in force, by where it is, and what a message makes of it.
 use Rattle.std.specs.Prelude.{List, map}
 use Rattle.lc_model.specs.Versions.News.{EntitySaid}
-use Rattle.laws_index.specs.Kept.{news_in}
+use Rattle.version_store.specs.IndexLaws.Kept.{news_in}
 use Rattle.version_store.specs.Differing.{DifferBy}
 use Rattle.version_store.specs.Filed.{AreAlike, AreFiled, HasListsOf, spots_at, spots_over}
 use Rattle.version_store.specs.Kept.{entity_said}

@@ -1,8 +1,8 @@
 -- The runs of each version, as the index of a store has them by the numbers of versions.
 use Rattle.std.specs.Prelude.{◌≡◌, ℕ, ◌≤◌, List, length, take}
 use Rattle.lc_model.specs.Versions.News.{TripSaid}
-use Rattle.laws_index.specs.Held.{AreRunsBy}
-use Rattle.laws_index.specs.Kept.{entities_after, news_in, version_at}
+use Rattle.version_store.specs.IndexLaws.Held.{AreRunsBy}
+use Rattle.version_store.specs.IndexLaws.Kept.{entities_after, news_in, version_at}
 use Rattle.version_store.specs.Index.Spans.{Indexed, runs_at}
 use Rattle.version_store.specs.Dates.{date_in}
 use Rattle.version_store.specs.Store.{Stored}

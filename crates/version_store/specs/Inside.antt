@@ -3,7 +3,7 @@ use Rattle.std.specs.Prelude.{◌≡◌, ◌≤◌, ◌∷◌, All, map}
 use Rattle.lc_model.specs.Text.{IsIdText}
 use Rattle.lc_model.specs.declared.run.Run.{Run}
 use Rattle.lc_model.specs.Versions.History.{IsRising, moments_of}
-use Rattle.laws_index.specs.Kept.{entities_after}
+use Rattle.version_store.specs.IndexLaws.Kept.{entities_after}
 use Rattle.version_store.specs.Dates.{date_in}
 use Rattle.version_store.specs.Force.{AreInForce}
 use Rattle.version_store.specs.Indexed.{AreIndexed}

@@ -8,6 +8,7 @@ pub mod Filed
 pub mod Force
 pub mod Further
 pub mod Index
+pub mod IndexLaws
 pub mod Indexed
 pub mod Inside
 pub mod Kept

@@ -6,7 +6,7 @@ use Rattle.lc_model.specs.Text.{IsIdText}
 use Rattle.lc_model.specs.declared.key.RunKey.{RunKey}
 use Rattle.lc_model.specs.Versions.Added.{has_key}
 use Rattle.lc_model.specs.Versions.News.{TripSaid}
-use Rattle.laws_index.specs.Touched.{is_touched, touches}
+use Rattle.version_store.specs.IndexLaws.Touched.{is_touched, touches}
 
 -- the set has the key
 abbrev pub Has : BTreeSet RunKey → RunKey → Type 0

@@ -2,7 +2,7 @@ ghost use Rattle.std.specs.Prelude.{◌≡◌, ◌⊎◌, All, IfOk, List, OnOk,
 ghost use Rattle.lc_model.specs.Run.{InKeyOrder};
 ghost use Rattle.lc_model.specs.Text.{IsIdText};
 ghost use Rattle.lc_model.specs.declared.run.Run.{Run as StatedRun};
-ghost use Rattle.laws_index.specs.Kept.{news_in};
+ghost use Rattle.version_store.specs.IndexLaws.Kept.{news_in};
 ghost use Rattle.lc_model.specs.Versions.News.{EntitySaid, TripSaid};
 ghost use Rattle.version_store.specs.Changes.{AreChangesAt, AreChangesBy, AreNearAt, PutsBegun, PutsChange, PutsEnded, TurnsKey};
 ghost use Rattle.version_store.specs.Differing.{DifferBy};

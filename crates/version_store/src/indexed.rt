@@ -1,7 +1,7 @@
 ghost use Rattle.std.specs.Prelude.{◌≡◌, ◌<◌, [], All, IfOk, List, OnErr, OnOk, Some, map};
 ghost use Rattle.std.specs.List.{slice_get};
 ghost use Rattle.std.specs.Option.{option_copied};
-ghost use Rattle.laws_index.specs.Kept.{news_in};
+ghost use Rattle.version_store.specs.IndexLaws.Kept.{news_in};
 ghost use Rattle.lc_model.specs.Call.{InSequence};
 ghost use Rattle.lc_model.specs.Run.{InKeyOrder};
 ghost use Rattle.lc_model.specs.Text.{IsIdText};

@@ -11,6 +11,7 @@ mod exchange;
 mod filed;
 mod force;
 mod index;
+mod index_laws;
 mod indexed;
 mod kept;
 mod label;
@@ -29,6 +30,10 @@ mod trips;
 
 pub use admission::{AdmitFault, Admitted, MOST_BYTES, MOST_MESSAGE_BYTES, MOST_MESSAGES};
 pub use index::{Index, one_index};
+pub use index_laws::{
+    force_goes_on, held_are_live, others_stay, put_at_once, same_news_same_run, sorted_are_rows,
+    touch_few_keys, update_holds, walked_are_connections, worked_index,
+};
 pub use kept::message_date;
 pub use laws::{
     cuts_do_not_matter, near_values, one_list_of_rows, one_outcome, some_list_of_rows, worked_store,

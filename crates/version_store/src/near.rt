@@ -1,5 +1,5 @@
 ghost use Rattle.std.specs.Prelude.{◌≡◌, ◌++◌, IfOk, List, OnOk, Some, map, option_to_list};
-ghost use Rattle.laws_index.specs.Kept.{news_in};
+ghost use Rattle.version_store.specs.IndexLaws.Kept.{news_in};
 ghost use Rattle.lc_model.specs.Versions.News.{EntitySaid};
 ghost use Rattle.version_store.specs.Filed.{HasBy, spots_at, spots_over};
 ghost use Rattle.version_store.specs.Kept.{news_said};

@@ -1,7 +1,7 @@
 ghost use Rattle.std.specs.Prelude.{◌≡◌, ◌++◌, ◌∷◌, [], IfOk, List, OnOk, Some, map, option_map, option_to_list};
 ghost use Rattle.std.specs.List.{filter_map};
 ghost use Rattle.std.specs.Option.{option_copied};
-ghost use Rattle.laws_index.specs.Kept.{news_in};
+ghost use Rattle.version_store.specs.IndexLaws.Kept.{news_in};
 ghost use Rattle.lc_model.specs.Versions.History.{filled};
 ghost use Rattle.version_store.specs.Kept.{entity_said, news_said};
 ghost use Rattle.version_store.specs.Spots.{said_in};

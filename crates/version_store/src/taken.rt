@@ -1,6 +1,6 @@
 ghost use Rattle.std.specs.Prelude.{◌≡◌, ◌++◌, [], Bool, ℕ, All, IfOk, List, OnOk, Some, filter, map, true};
 ghost use Rattle.std.specs.List.{Contains, slice_get};
-ghost use Rattle.laws_index.specs.Kept.{has_id};
+ghost use Rattle.version_store.specs.IndexLaws.Kept.{has_id};
 ghost use Rattle.lc_model.specs.Versions.History.{filled, with_news};
 ghost use Rattle.lc_model.specs.Versions.News.{EntitySaid};
 ghost use Rattle.version_store.specs.Filed.{AreOut, HasBy, PutsText, is_by, spots_at};

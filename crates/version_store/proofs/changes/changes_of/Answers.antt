@@ -1,6 +1,6 @@
 use Rattle.std.proofs.Common.{List, ◌∙◌, ap, map, subst}
 use Rattle.std.proofs.lemmas.Result.{IfOk-weaker}
-use Rattle.laws_index.specs.Kept.{news_in}
+use Rattle.version_store.specs.IndexLaws.Kept.{news_in}
 use Rattle.lc_model.specs.Versions.News.{TripSaid}
 use Rattle.version_store.specs.Kept.{entity_said, news_said}
 use Rattle.version_store.specs.TouchedKeys.{HasTouched}

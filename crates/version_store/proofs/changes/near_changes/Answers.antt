@@ -1,6 +1,6 @@
 use Rattle.std.proofs.Common.{List, ap, map, subst, sym}
 use Rattle.std.proofs.lemmas.Result.{IfOk-weaker}
-use Rattle.laws_index.specs.Kept.{news_in}
+use Rattle.version_store.specs.IndexLaws.Kept.{news_in}
 use Rattle.lc_model.specs.Versions.News.{TripSaid}
 use Rattle.version_store.specs.Changes.{AreNearAt}
 use Rattle.version_store.specs.Kept.{news_said}

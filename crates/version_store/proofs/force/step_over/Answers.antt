@@ -2,7 +2,7 @@ use Rattle.std.proofs.Common.{◌≡◌, ◌∙◌, ◌++◌, List, ap, filter, 
 use Rattle.std.specs.List.{All}
 use Rattle.std.proofs.lemmas.Result.{IfOk-weaker}
 use Rattle.lc_model.specs.Versions.History.{filled, put_all, with_news}
-use Rattle.laws_index.specs.Kept.{has_id}
+use Rattle.version_store.specs.IndexLaws.Kept.{has_id}
 use Rattle.version_store.specs.Filed.{stays}
 use Rattle.version_store.specs.Force.{GoesOver}
 use Rattle.version_store.specs.Kept.{entity_said}

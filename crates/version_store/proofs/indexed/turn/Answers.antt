@@ -1,5 +1,5 @@
 use Rattle.std.proofs.lemmas.Result.{on_ok_weaker}
-use Rattle.laws_index.specs.Kept.{news_in}
+use Rattle.version_store.specs.IndexLaws.Kept.{news_in}
 use Rattle.version_store.proofs.ChangesLemmas.{turned_by}
 use Rattle.version_store.proofs.indexed.turn.Goals as goal
 

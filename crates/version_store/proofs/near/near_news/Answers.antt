@@ -1,5 +1,5 @@
 use Rattle.std.proofs.Common.{ap, map}
-use Rattle.laws_index.specs.Kept.{news_in}
+use Rattle.version_store.specs.IndexLaws.Kept.{news_in}
 use Rattle.version_store.specs.Kept.{news_said}
 use Rattle.version_store.proofs.ExchangeLemmas.{none_left}
 use Rattle.version_store.proofs.TripsLemmas.{all_so_far, none_so_far, trip_so_far}

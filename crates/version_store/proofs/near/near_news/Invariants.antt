@@ -1,5 +1,5 @@
 use Rattle.std.proofs.Common.{List, length, map}
-use Rattle.laws_index.specs.Kept.{news_in}
+use Rattle.version_store.specs.IndexLaws.Kept.{news_in}
 use Rattle.lc_model.specs.Versions.News.{EntitySaid}
 use Rattle.version_store.specs.Filed.{HasBy, spots_at, spots_over}
 use Rattle.version_store.specs.Kept.{news_said}

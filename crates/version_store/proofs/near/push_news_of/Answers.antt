@@ -1,5 +1,5 @@
 use Rattle.std.proofs.Common.{◌∙◌, ◌++◌, ap, arith, map}
-use Rattle.laws_index.specs.Kept.{news_in}
+use Rattle.version_store.specs.IndexLaws.Kept.{news_in}
 use Rattle.version_store.specs.Kept.{news_said}
 use Rattle.version_store.specs.Spots.{said_in}
 use Rattle.version_store.proofs.SpotsLemmas.{found_last, news_found}

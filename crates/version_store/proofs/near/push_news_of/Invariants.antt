@@ -1,6 +1,6 @@
 use Rattle.std.proofs.Common.{◌≡◌, ◌++◌, map, take}
 use Rattle.std.specs.List.{filter_map}
-use Rattle.laws_index.specs.Kept.{news_in}
+use Rattle.version_store.specs.IndexLaws.Kept.{news_in}
 use Rattle.version_store.specs.Kept.{news_said}
 use Rattle.version_store.specs.Spots.{said_in}
 use Rattle.version_store.proofs.near.push_news_of.Given as goal

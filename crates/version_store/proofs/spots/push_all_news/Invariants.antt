@@ -1,5 +1,5 @@
 use Rattle.std.proofs.Common.{◌≡◌, ◌++◌, map, take}
-use Rattle.laws_index.specs.Kept.{news_in}
+use Rattle.version_store.specs.IndexLaws.Kept.{news_in}
 use Rattle.version_store.specs.Kept.{entity_said, news_said}
 use Rattle.version_store.proofs.spots.push_all_news.Given as goal
 

@@ -1,5 +1,5 @@
 use Rattle.std.proofs.Common.{List, arith, subst, take_all}
-use Rattle.laws_index.specs.Kept.{has_id}
+use Rattle.version_store.specs.IndexLaws.Kept.{has_id}
 use Rattle.lc_model.specs.Versions.News.{EntitySaid}
 use Rattle.version_store.specs.Filed.{AreOut}
 use Rattle.version_store.proofs.TakenLemmas.{ids_more, no_ids}

@@ -1,5 +1,5 @@
 use Rattle.std.proofs.Common.{take}
-use Rattle.laws_index.specs.Kept.{has_id}
+use Rattle.version_store.specs.IndexLaws.Kept.{has_id}
 use Rattle.version_store.specs.Filed.{AreOut}
 use Rattle.version_store.proofs.taken.ids_of.Given as goal
 

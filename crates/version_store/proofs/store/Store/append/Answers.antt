@@ -2,7 +2,7 @@ use Rattle.std.proofs.Common.{arith, rules, ◌≡◌, ◌∙◌, ◌<◌, ◌+�
 use Rattle.std.specs.List.{slice_get}
 use Rattle.lc_model.specs.Versions.History.{Entry, IsRising, kept_after, moments_of}
 use Rattle.lc_model.specs.Versions.News.{EntitySaid}
-use Rattle.laws_index.specs.Kept.{entities_after, news_in}
+use Rattle.version_store.specs.IndexLaws.Kept.{entities_after, news_in}
 use Rattle.version_store.proofs.IndexLemmas.GatherLemmas.{get_pushed}
 use Rattle.version_store.specs.Changes.{GoesOn, HasTurned}
 use Rattle.version_store.specs.Dates.{date_in}

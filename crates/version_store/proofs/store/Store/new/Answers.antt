@@ -1,5 +1,5 @@
 use Rattle.std.proofs.Common.{List, ap, map, refl, rules}
-use Rattle.laws_index.specs.Kept.{entities_after}
+use Rattle.version_store.specs.IndexLaws.Kept.{entities_after}
 use Rattle.version_store.specs.Dates.{date_in}
 use Rattle.version_store.specs.Store.{entry_of}
 use Rattle.version_store.specs.declared.store.Admission.{Admission}

@@ -1,7 +1,0 @@
-ghost use Rattle.laws_index.specs.Rows.{OrderedAreDepartures, SortedAreRows};
-
-/// From a list that has the connections of runs in any order, rows and departures are made by sorting what is asked for alone.
-pub fn sorted_are_rows()
-    ensures rows { SortedAreRows }
-    ensures departures { OrderedAreDepartures }
-{}

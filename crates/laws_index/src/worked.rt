@@ -1,9 +1,0 @@
-ghost use Rattle.lc_model.specs.declared.key.RunKey.{RunKey};
-ghost use Rattle.lc_model.specs.Versions.News.{TripSaid};
-ghost use Rattle.laws_index.specs.Worked.{WorkedIds, WorkedSpots};
-
-/// Small values that were worked out by hand.
-pub fn worked_index()
-    ensures spots { (key : RunKey) → WorkedSpots key }
-    ensures ids { (first second third : TripSaid) → WorkedIds first second third }
-{}
