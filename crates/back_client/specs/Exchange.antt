@@ -1,7 +1,7 @@
 -- One exchange over a link.
 use Rattle.std.specs.Prelude.{◌≡◌, ℕ, List, Option, IsErrOf}
 use Rattle.connection_uri.specs.Base.{BaseParts}
-use Rattle.publisher_spec.specs.Side.{Side}
+use Rattle.lc_world.specs.Sides.Side.{Side}
 use Rattle.lc_io.specs.Counts.{HasCause}
 use Rattle.lc_world.specs.Link.{Exchanges, IsGet, IsHonestWith, LinkSeen, Tells}
 use Rattle.lc_world.specs.declared.link.LinkFail.TheVariants.{Failed}

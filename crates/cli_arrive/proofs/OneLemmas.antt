@@ -32,7 +32,7 @@ use Rattle.page_client.specs.declared.fault.QueryFault.{QueryFault}
 use Rattle.page_client.specs.declared.fault.QueryFault.TheVariants.{HorizonRange, SameStop, UnknownFrom, UnknownTo}
 use Rattle.page_client.specs.declared.outcome.Outcome.{Outcome}
 use Rattle.page_client.specs.declared.outcome.Outcome.TheVariants as outcomes
-use Rattle.publisher_spec.specs.Side.{Side, date_in}
+use Rattle.lc_world.specs.Sides.Side.{Side, date_in}
 use Rattle.version_store.specs.Laws.{OneOutcome}
 
 -- the question was answered or refused by the side

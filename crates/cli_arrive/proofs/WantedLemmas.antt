@@ -31,7 +31,7 @@ use Rattle.lc_model.specs.declared.run.Run.{Run}
 use Rattle.lc_model.specs.Versions.Pages.{CutPage}
 use Rattle.page_client.specs.Shown.{HasHorizon}
 use Rattle.publisher.specs.Laws.{SomeTimetable}
-use Rattle.publisher_spec.specs.Side.{IsValidSide, Side}
+use Rattle.lc_world.specs.Sides.Side.{IsValidSide, Side}
 
 -- ---- a journey leaves no later than its last second
 

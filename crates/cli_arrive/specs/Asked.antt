@@ -14,7 +14,7 @@ use Rattle.laws_arrive.specs.Asked.{HasAskedLatest}
 use Rattle.lc_io.specs.declared.file.File.{File}
 use Rattle.lc_world.specs.Link.{LinkSeen}
 use Rattle.publisher.specs.Held.{Held, side_of}
-use Rattle.publisher_spec.specs.Short.{IsShort, StandsUnder}
+use Rattle.lc_world.specs.Sides.Short.{IsShort, StandsUnder}
 use Rattle.timetable.specs.declared.timetable.Timetable.{Timetable}
 use Rattle.version_store.specs.Store.{Stored}
 

@@ -10,7 +10,7 @@ use Rattle.laws_convoys.specs.Replies.{TellsReplies}
 use Rattle.laws_convoys.specs.Requests.{TellsRequests}
 use Rattle.laws_clients.specs.Stated.{version_at}
 use Rattle.lc_world.specs.declared.entry.Entry.{Entry}
-use Rattle.publisher_spec.specs.Side.{Side}
+use Rattle.lc_world.specs.Sides.Side.{Side}
 
 -- how such a question ended, as any client
 abbrev pub client_of : ArriveEnd → ClientEnd

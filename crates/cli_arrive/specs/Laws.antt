@@ -13,7 +13,7 @@ use Rattle.lc_io.specs.declared.file.File.{File}
 use Rattle.lc_model.specs.declared.page.PageName.{PageName}
 use Rattle.lc_world.specs.Link.{LinkSeen}
 use Rattle.page_client.specs.Shown.{IsRefusal}
-use Rattle.publisher_spec.specs.Side.{IsValidSide, Side}
+use Rattle.lc_world.specs.Sides.Side.{IsValidSide, Side}
 use Rattle.timetable.specs.Laws.{AreSame}
 use Rattle.timetable.specs.declared.timetable.Timetable.{Timetable}
 

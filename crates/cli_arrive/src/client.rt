@@ -4,7 +4,7 @@ ghost use Rattle.cli_ask.specs.Block.{IsPrintable};
 ghost use Rattle.laws_arrive.specs.Asked.{HasAskedLatest};
 ghost use Rattle.lc_world.specs.GoneOn.{IsLeftByGets};
 ghost use Rattle.lc_world.specs.Link.{IsQuietWith};
-ghost use Rattle.publisher_spec.specs.Side.{Side};
+ghost use Rattle.lc_world.specs.Sides.Side.{Side};
 
 use back_client::{ArriveEnd, arrive};
 use back_scan::ArriveQuery;

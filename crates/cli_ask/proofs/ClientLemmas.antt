@@ -30,7 +30,7 @@ use Rattle.page_client.specs.declared.outcome.Outcome.TheVariants as outcomes
 use Rattle.page_client.specs.declared.phase.Phase.{Phase}
 use Rattle.page_client.specs.declared.phase.Phase.TheVariants as phases
 use Rattle.page_client.specs.declared.want.Want.{Want}
-use Rattle.publisher_spec.specs.Side.{Side}
+use Rattle.lc_world.specs.Sides.Side.{Side}
 use Rattle.cli_ask.specs.Block.{IsPrintable}
 use Rattle.cli_ask.specs.Client.{AsksFor, EndsRight, shown_of}
 use Rattle.cli_ask.specs.declared.end.ClientEnd.{ClientEnd}

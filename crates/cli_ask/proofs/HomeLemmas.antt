@@ -10,8 +10,8 @@ use Rattle.lc_world.specs.Link.{IsQuietWith, LinkSeen}
 use Rattle.laws_replies.specs.Run.{HasAsked}
 use Rattle.page_client.specs.declared.outcome.Outcome.{Outcome}
 use Rattle.publisher.specs.Held.{side_of}
-use Rattle.publisher_spec.specs.Short.{StandsUnder}
-use Rattle.publisher_spec.specs.Side.{Side}
+use Rattle.lc_world.specs.Sides.Short.{StandsUnder}
+use Rattle.lc_world.specs.Sides.Side.{Side}
 use Rattle.cli_ask.specs.Asked.{AsksPublisher}
 use Rattle.cli_ask.specs.Block.{client_text_of}
 use Rattle.cli_ask.specs.Client.{Asks, EndsRight}

@@ -16,7 +16,7 @@ use Rattle.page_client.specs.declared.fault.QueryFault.TheVariants.{HorizonRange
 use Rattle.page_client.specs.declared.outcome.Outcome.{Outcome}
 use Rattle.page_client.specs.declared.outcome.Outcome.TheVariants as outcomes
 use Rattle.page_client.specs.declared.want.Want.{Want}
-use Rattle.publisher_spec.specs.Side.{Side, date_in}
+use Rattle.lc_world.specs.Sides.Side.{Side, date_in}
 use Rattle.laws_clients.specs.Stated.{version_at}
 use Rattle.cli_ask.specs.Client.{shown_of}
 use Rattle.cli_ask.specs.Laws.{IsNoLinkFault}

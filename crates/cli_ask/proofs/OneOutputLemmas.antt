@@ -16,7 +16,7 @@ use Rattle.page_client.specs.declared.outcome.Outcome.TheVariants as outcomes
 use Rattle.page_client.specs.declared.want.Want.{Want}
 use Rattle.cli_words.specs.declared.command.Publishing.{Publishing}
 use Rattle.lc_io.specs.declared.file.File.{File}
-use Rattle.publisher_spec.specs.Side.{Side, date_in}
+use Rattle.lc_world.specs.Sides.Side.{Side, date_in}
 use Rattle.timetable.specs.Laws.{AreSame}
 use Rattle.timetable.specs.declared.timetable.Timetable.{Timetable}
 use Rattle.version_store.specs.Laws.{OneOutcome}

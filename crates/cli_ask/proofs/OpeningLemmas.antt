@@ -9,8 +9,8 @@ use Rattle.lc_links.specs.HomeLink.{HomeLinkState}
 use Rattle.lc_model.specs.declared.query.Query.{Query}
 use Rattle.lc_world.specs.Link.{LinkSeen}
 use Rattle.publisher.specs.Held.{Held, side_of}
-use Rattle.publisher_spec.specs.Short.{IsShort, StandsUnder}
-use Rattle.publisher_spec.specs.Side.{IsValidSide}
+use Rattle.lc_world.specs.Sides.Short.{IsShort, StandsUnder}
+use Rattle.lc_world.specs.Sides.Side.{IsValidSide}
 use Rattle.timetable.specs.declared.timetable.Timetable.{Timetable}
 use Rattle.cli_ask.specs.Admission.{IsBehind}
 use Rattle.cli_ask.specs.Asked.{AsksPublisher, IsAsked}

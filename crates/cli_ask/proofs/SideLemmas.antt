@@ -11,7 +11,7 @@ use Rattle.lc_time.specs.declared.zone.Zone.{Zone}
 use Rattle.lc_model.specs.Versions.History.{Entry, news_at}
 use Rattle.lc_model.specs.Versions.Timetable.{AreLiveRuns}
 use Rattle.std.specs.Prelude.{unwrap_or}
-use Rattle.publisher_spec.specs.Side.{Side, date_in, first_date}
+use Rattle.lc_world.specs.Sides.Side.{Side, date_in, first_date}
 use Rattle.cli_words.specs.declared.command.Publishing.{Publishing}
 use Rattle.timetable.specs.Laws.{AreSame}
 use Rattle.timetable.specs.declared.timetable.Timetable.{Timetable}

@@ -18,7 +18,7 @@ use Rattle.page_client.specs.declared.fault.QueryFault.TheVariants.{HorizonRange
 use Rattle.page_client.specs.declared.want.Want.{Want}
 use Rattle.page_client.specs.declared.want.Want.TheVariants as wants
 use Rattle.publisher.specs.Laws.{SomeTimetable}
-use Rattle.publisher_spec.specs.Side.{IsValidSide, Side}
+use Rattle.lc_world.specs.Sides.Side.{IsValidSide, Side}
 use Rattle.cli_ask.specs.Laws.{AreGivenInOrder, SomeFront, SomeWants}
 
 -- ---- what can be found out of a question

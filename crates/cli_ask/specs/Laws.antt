@@ -16,8 +16,8 @@ use Rattle.page_client.specs.Shown.{Shown}
 use Rattle.page_client.specs.declared.want.Want.{Want}
 use Rattle.page_client.specs.declared.want.Want.TheVariants as wants
 use Rattle.publisher.specs.Held.{Held}
-use Rattle.publisher_spec.specs.Short.{IsShort}
-use Rattle.publisher_spec.specs.Side.{IsValidSide, Side}
+use Rattle.lc_world.specs.Sides.Short.{IsShort}
+use Rattle.lc_world.specs.Sides.Side.{IsValidSide, Side}
 use Rattle.timetable.specs.Laws.{AreSame}
 use Rattle.timetable.specs.declared.timetable.Timetable.{Timetable}
 use Rattle.version_store.specs.Store.{Stored}

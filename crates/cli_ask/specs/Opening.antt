@@ -6,7 +6,7 @@ use Rattle.fragmenter.specs.declared.cutting.Cutting.{Cutting}
 use Rattle.lc_io.specs.declared.file.File.{File}
 use Rattle.lc_links.specs.HomeLink.{HomeLinkState}
 use Rattle.publisher.specs.Held.{Held}
-use Rattle.publisher_spec.specs.Side.{IsValidSide}
+use Rattle.lc_world.specs.Sides.Side.{IsValidSide}
 use Rattle.timetable.specs.declared.timetable.Timetable.{Timetable}
 use Rattle.version_store.specs.Store.{Stored}
 use Rattle.cli_ask.specs.Admission.{IsBehind}

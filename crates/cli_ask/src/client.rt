@@ -3,7 +3,7 @@ ghost use Rattle.cli_ask.specs.Block.{IsPrintable};
 ghost use Rattle.cli_ask.specs.Client.{Asks, EndsRight};
 ghost use Rattle.lc_world.specs.GoneOn.{IsLeftByGets};
 ghost use Rattle.lc_world.specs.Link.{IsQuietWith};
-ghost use Rattle.publisher_spec.specs.Side.{Side};
+ghost use Rattle.lc_world.specs.Sides.Side.{Side};
 
 use crate::ClientEnd;
 use connection_uri::Base;

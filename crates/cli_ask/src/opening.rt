@@ -3,7 +3,7 @@ ghost use Rattle.cli_ask.specs.Admission.{IsFaulty};
 ghost use Rattle.cli_ask.specs.Opening.{IsAtHome, IsOpened, IsPrepared};
 ghost use Rattle.fragmenter.specs.Cutting.{chosen_cuts};
 ghost use Rattle.publisher.specs.Held.{side_of};
-ghost use Rattle.publisher_spec.specs.Side.{IsValidSide};
+ghost use Rattle.lc_world.specs.Sides.Side.{IsValidSide};
 ghost use Rattle.version_store.specs.declared.message_fault.MessageFault.TheVariants.{NoMemory as OutOfMemory};
 
 use crate::publishing::serving_publisher;

@@ -16,7 +16,7 @@ use Rattle.lc_time.specs.declared.zone.Zone.{Zone}
 use Rattle.lc_world.specs.Link.{LinkSeen}
 use Rattle.page_client.specs.declared.outcome.Outcome.{Outcome}
 use Rattle.page_client.specs.declared.outcome.Outcome.TheVariants as outcomes
-use Rattle.publisher_spec.specs.Side.{Side, date_in}
+use Rattle.lc_world.specs.Sides.Side.{Side, date_in}
 use Rattle.version_store.specs.Laws.{OneOutcome}
 
 module _ (alike_at : AlikeAt) (side : Side) (zone : Zone) (same : date_in zone ≡ date_in side.zone) (query : Query) where

@@ -37,7 +37,7 @@ use Rattle.page_client.specs.declared.outcome.Outcome.{Outcome}
 use Rattle.page_client.specs.declared.outcome.Outcome.TheVariants as outcomes
 use Rattle.page_client.specs.declared.want.Want.{Want}
 use Rattle.page_client.specs.declared.want.Want.TheVariants as wants
-use Rattle.publisher_spec.specs.Side.{Side}
+use Rattle.lc_world.specs.Sides.Side.{Side}
 use Rattle.rounds_client.specs.Course.{AnswersFewest, LeadsTo, Point}
 use Rattle.rounds_client.specs.End.{ArrivesAtAMoment, EndsSo}
 use Rattle.rounds_client.specs.Given.{Gives, Was}

@@ -14,7 +14,7 @@ use Rattle.lc_io.specs.declared.file.File.{File}
 use Rattle.lc_model.specs.declared.query.Query.{Query}
 use Rattle.lc_world.specs.Link.{LinkSeen}
 use Rattle.publisher.specs.Held.{Held, side_of}
-use Rattle.publisher_spec.specs.Short.{IsShort, StandsUnder}
+use Rattle.lc_world.specs.Sides.Short.{IsShort, StandsUnder}
 use Rattle.timetable.specs.declared.timetable.Timetable.{Timetable}
 
 -- All that is so of a question is so of it. Besides, a journey that was found has the fewest rides of all best ones: of the pages that were

@@ -9,7 +9,7 @@ use Rattle.lc_model.specs.declared.query.Query.{Query}
 use Rattle.lc_world.specs.declared.entry.Entry.{Entry}
 use Rattle.page_client.specs.declared.outcome.Outcome.{Outcome}
 use Rattle.page_client.specs.declared.outcome.Outcome.TheVariants as outcomes
-use Rattle.publisher_spec.specs.Side.{Side}
+use Rattle.lc_world.specs.Sides.Side.{Side}
 use Rattle.rounds_client.specs.declared.ending.FewestEnd.{FewestEnd}
 
 -- how such a client ended, as any client

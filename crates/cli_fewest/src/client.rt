@@ -4,7 +4,7 @@ ghost use Rattle.cli_fewest.specs.Client.{EndsRightFewest, client_of};
 ghost use Rattle.laws_rounds.specs.Asked.{HasAskedFewest};
 ghost use Rattle.lc_world.specs.GoneOn.{IsLeftByGets};
 ghost use Rattle.lc_world.specs.Link.{IsQuietWith};
-ghost use Rattle.publisher_spec.specs.Side.{Side};
+ghost use Rattle.lc_world.specs.Sides.Side.{Side};
 
 use cli_ask::ClientEnd;
 use connection_uri::Base;

@@ -7,7 +7,7 @@ use Rattle.laws_plan.specs.Replied.{TellsAlong}
 use Rattle.laws_replay.specs.declared.event.Event.{Event}
 use Rattle.lc_world.specs.Link.{IsHonestWith, LinkSeen}
 use Rattle.lc_world.specs.declared.entry.Entry.{Entry}
-use Rattle.publisher_spec.specs.Side.{Side}
+use Rattle.lc_world.specs.Sides.Side.{Side}
 use Rattle.cli_plan.specs.Relayed.{IsRelayed, relay_after, relay_over}
 
 -- The clients planned over the relay as they do over each honest link, and each of them ended rightly. The link is honest with the last side of the

@@ -10,7 +10,7 @@ use Rattle.lc_links.specs.HomeLink.{HomeLinkState}
 use Rattle.lc_io.specs.declared.file.File.{File}
 use Rattle.lc_world.specs.Link.{LinkSeen}
 use Rattle.publisher.specs.Held.{Held, side_of}
-use Rattle.publisher_spec.specs.Side.{IsValidSide, Side}
+use Rattle.lc_world.specs.Sides.Side.{IsValidSide, Side}
 use Rattle.laws_replay.proofs.HeardLemmas.{turn_stays}
 use Rattle.laws_replay.specs.Played.{IsGiven}
 use Rattle.cli_replay.specs.Course.{HasAdmitted}

@@ -9,7 +9,7 @@ use Rattle.lc_links.specs.HomeLink.{HomeLinkState}
 use Rattle.lc_world.specs.GoneOn.{IsLeftByPasses}
 use Rattle.lc_world.specs.Link.{LinkSeen}
 use Rattle.publisher.specs.Held.{Held, side_of}
-use Rattle.publisher_spec.specs.Side.{IsValidSide}
+use Rattle.lc_world.specs.Sides.Side.{IsValidSide}
 use Rattle.laws_replay.specs.Laws.{AreHeardAt, IsQuietAt, IsStillAt, PlaysCaused, PlaysHeard, PlaysRight}
 use Rattle.laws_replay.specs.Events.{TurnsAreOfClients}
 use Rattle.laws_replay.specs.Replayed.{IsReplayed}

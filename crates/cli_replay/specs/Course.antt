@@ -5,7 +5,7 @@ use Rattle.connection_uri.specs.Base.{BaseParts}
 use Rattle.convoy.specs.Finish.{Rounds}
 use Rattle.convoy.specs.State.{ConvoyState, begun}
 use Rattle.lc_world.specs.Link.{LinkSeen}
-use Rattle.publisher_spec.specs.Side.{Side}
+use Rattle.lc_world.specs.Sides.Side.{Side}
 use Rattle.laws_replay.specs.Played.{HaveEndedSo, Plays}
 use Rattle.laws_replay.specs.Replayed.{clients_text_of}
 use Rattle.laws_replay.specs.declared.event.Event.{Event}

@@ -3,7 +3,7 @@ ghost use Rattle.cli_ask.specs.Admission.{IsBehind};
 ghost use Rattle.fragmenter.specs.Cutting.{chosen_cuts};
 ghost use Rattle.lc_world.specs.GoneOn.{IsLeftByPasses};
 ghost use Rattle.publisher.specs.Held.{side_of};
-ghost use Rattle.publisher_spec.specs.Side.{IsValidSide};
+ghost use Rattle.lc_world.specs.Sides.Side.{IsValidSide};
 ghost use Rattle.laws_replay.specs.Played.{IsGiven};
 ghost use Rattle.cli_replay.specs.Home.{admitted_at, home_seen};
 

@@ -1,7 +1,7 @@
 ghost use Rattle.std.specs.Prelude.{◌≡◌, [], ◌≤◌, IfOk, OnOk};
 ghost use Rattle.cli_ask.specs.Publishing.{held_with, side_with, store_of};
 ghost use Rattle.lc_world.specs.GoneOn.{IsLeftByPasses};
-ghost use Rattle.publisher_spec.specs.Side.{IsValidSide};
+ghost use Rattle.lc_world.specs.Sides.Side.{IsValidSide};
 ghost use Rattle.laws_replay.specs.Events.{TurnsAreOfClients};
 ghost use Rattle.laws_replay.specs.Replayed.{IsReplayed};
 ghost use Rattle.laws_replay.specs.Versions.{HaveAdmitted};

@@ -11,7 +11,7 @@ use Rattle.lc_io.specs.declared.serving.Served.{Served}
 use Rattle.lc_io.specs.Counts.{HasCause}
 use Rattle.lc_model.specs.declared.memory.NoMemory.{NoMemory}
 use Rattle.publisher.specs.Held.{side_of}
-use Rattle.publisher_spec.specs.Side.{Side}
+use Rattle.lc_world.specs.Sides.Side.{Side}
 use Rattle.cli_serve.specs.Said.{none_out}
 use Rattle.cli_serve.specs.Serving.{SaysOut, ServingState, StandsOut, serving_seen}
 use Rattle.wire_session.specs.Phase.{is_ended}

@@ -10,7 +10,7 @@ use Rattle.lc_io.specs.declared.serving.Served.{Served}
 use Rattle.lc_io.proofs.CountLemmas.{RoseBy-none, RoseBy-then}
 use Rattle.lc_io.specs.Counts.{Rose, RoseBy}
 use Rattle.lc_model.specs.declared.memory.NoMemory.{NoMemory as OutOfMemory}
-use Rattle.publisher_spec.specs.Side.{Side}
+use Rattle.lc_world.specs.Sides.Side.{Side}
 use Rattle.cli_serve.specs.Clients.{AreAll, HasGone, HasTaken, HasServedSoFar}
 use Rattle.cli_serve.specs.Tally.{Fits, IsTallyOf, ended_so}
 use Rattle.cli_serve.specs.Recorded.{AreRecorded, NoneWaits}

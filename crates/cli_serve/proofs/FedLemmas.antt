@@ -1,7 +1,7 @@
 -- How many bytes a session was fed that goes on.
 use Rattle.std.proofs.Common.{◌≡◌, ◌≢◌, ◌∙◌, ℕ, ◌+◌, List, [], ◌++◌, length, length-append, refl, sym, ap, arith}
 use Rattle.publisher.specs.Held.{Held, side_of}
-use Rattle.publisher_spec.specs.Side.{Side}
+use Rattle.lc_world.specs.Sides.Side.{Side}
 use Rattle.cli_serve.specs.Serving.{WasFed}
 use Rattle.wire_session.specs.Stands.{Stands}
 use Rattle.wire_session.specs.Stands as stands

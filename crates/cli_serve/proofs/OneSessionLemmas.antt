@@ -6,10 +6,10 @@ use Rattle.http_text.specs.declared.request.Request.{Request}
 use Rattle.http_text.specs.declared.taken.Taken.{Taken}
 use Rattle.http_text.specs.declared.taken.Taken.TheVariants.{Whole, NotYet, Refused}
 use Rattle.lc_time.specs.declared.zone.Zone.{Zone}
-use Rattle.publisher_spec.proofs.LaterLemmas.{next_is_later}
-use Rattle.publisher_spec.proofs.OneReplyLemmas.{one_next_side, one_reply}
-use Rattle.publisher_spec.specs.Reply.{IsNextSide}
-use Rattle.publisher_spec.specs.Side.{IsLater, Side, date_in}
+use Rattle.lc_world.proofs.SidesLemmas.LaterLemmas.{next_is_later}
+use Rattle.lc_world.proofs.SidesLemmas.OneReplyLemmas.{one_next_side, one_reply}
+use Rattle.lc_world.specs.Sides.Reply.{IsNextSide}
+use Rattle.lc_world.specs.Sides.Side.{IsLater, Side, date_in}
 use Rattle.wire_session.specs.SessionOut.{IsSaidAfter, IsSaidBy, IsSaidFirst, Said, Says, SessionOut, refusal_text, silent, with_reply}
 use Rattle.cli_serve.specs.SameBytes.{OneSession}
 use Rattle.cli_serve.proofs.ZoneLemmas.{answered_by, in_zone, one_in_zone}

@@ -5,7 +5,7 @@ use Rattle.std.proofs.lemmas.List.Sums.{sum_by-cons}
 use Rattle.lc_io.specs.Door.{DoorRecorded, Wire}
 use Rattle.lc_io.specs.Counts.{Rose, RoseBy}
 use Rattle.lc_model.specs.Versions.History.{Entry}
-use Rattle.publisher_spec.specs.Side.{Side}
+use Rattle.lc_world.specs.Sides.Side.{Side}
 use Rattle.wire_session.specs.Laws.{EndsStay}
 use Rattle.wire_session.specs.SessionOut.{SessionOut}
 use Rattle.cli_serve.specs.Lines.{line_of, listening_line, served_line}

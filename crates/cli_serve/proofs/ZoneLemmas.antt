@@ -8,12 +8,12 @@ use Rattle.lc_time.specs.declared.zone.Zone.{Zone}
 use Rattle.lc_model.specs.Versions.History.{news_at}
 use Rattle.lc_model.specs.Versions.Timetable.{AreLiveRuns}
 use Rattle.lc_model.specs.declared.versions.update.Update.{Update}
-use Rattle.publisher_spec.specs.Reply.{IsBehind, IsReply, side_behind}
-use Rattle.publisher_spec.specs.Response.{IsGateResponse, IsPageOf, IsPageResponse, IsResponseTo, IsSentOf, asked_at, status_of_update}
-use Rattle.publisher_spec.specs.Side.{IsTimetableAt, Side, date_in, with_message}
-use Rattle.publisher_spec.specs.declared.asked.Asked.{Asked}
-use Rattle.publisher_spec.specs.declared.asked.Asked.TheVariants as kinds
-use Rattle.publisher_spec.specs.declared.response.Response.{Response}
+use Rattle.lc_world.specs.Sides.Reply.{IsBehind, IsReply, side_behind}
+use Rattle.lc_world.specs.Sides.Response.{IsGateResponse, IsPageOf, IsPageResponse, IsResponseTo, IsSentOf, asked_at, status_of_update}
+use Rattle.lc_world.specs.Sides.Side.{IsTimetableAt, Side, date_in, with_message}
+use Rattle.lc_world.specs.declared.sides.asked.Asked.{Asked}
+use Rattle.lc_world.specs.declared.sides.asked.Asked.TheVariants as kinds
+use Rattle.lc_world.specs.declared.sides.response.Response.{Response}
 use Rattle.wire_session.specs.SessionOut.{IsAnswered}
 use Rattle.cli_serve.specs.SameBytes.{AreOneSide}
 

@@ -4,7 +4,7 @@ use Rattle.lc_io.specs.Door.{DoorSeen, DoorRecorded, GoesOn}
 use Rattle.lc_io.specs.declared.door.DoorFail.{DoorFail}
 use Rattle.lc_io.specs.declared.door.DoorFail.TheVariants.{Failed, NoMemory}
 use Rattle.lc_io.specs.Counts.{RoseBy}
-use Rattle.publisher_spec.specs.Side.{Side}
+use Rattle.lc_world.specs.Sides.Side.{Side}
 use Rattle.cli_serve.specs.Tally.{Fits, IsTallyOf}
 use Rattle.cli_serve.specs.Recorded.{AreRecorded, NoneWaits}
 use Rattle.cli_serve.specs.Visit.{AreVisits, NoneLost, Visit, faults_of}

@@ -2,7 +2,7 @@
 use Rattle.std.specs.Prelude.{◌≡◌, ◌≢◌, ◌⊎◌, ℕ, true, false, List, [], ◌∷◌, ◌++◌, Some}
 use Rattle.std.specs.List.{concat}
 use Rattle.lc_io.specs.Door.{DoorRecorded, DoorSeen, Wire}
-use Rattle.publisher_spec.specs.Side.{Side}
+use Rattle.lc_world.specs.Sides.Side.{Side}
 use Rattle.wire_session.specs.SessionOut.{Said, SessionOut}
 use Rattle.cli_serve.specs.Serve.{Asked, IsServedWhole, Outside, WasVisited}
 use Rattle.cli_serve.specs.Recorded.{IsWireOf}

@@ -3,7 +3,7 @@ use Rattle.std.proofs.Common.{◌≡◌, ◌≢◌, ◌∙◌, ℕ, Bool, false,
 use Rattle.std.specs.List.{concat}
 use Rattle.lc_io.specs.Talk.{Said}
 use Rattle.publisher.specs.Held.{side_of}
-use Rattle.publisher_spec.specs.Side.{Side}
+use Rattle.lc_world.specs.Sides.Side.{Side}
 use Rattle.cli_serve.specs.Serving.{SaysOut, ServingState, StandsOut, serving_seen}
 use Rattle.wire_session.specs.Phase.{is_ended}
 use Rattle.wire_session.specs.SessionOut as session

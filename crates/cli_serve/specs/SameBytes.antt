@@ -4,7 +4,7 @@ use Rattle.lc_io.specs.Door.{DoorRecorded, DoorSeen, Wire}
 use Rattle.lc_io.specs.Counts.{Rose}
 use Rattle.lc_io.specs.Sink.{SinkSeen}
 use Rattle.lc_model.specs.declared.versions.update.Update.{Update}
-use Rattle.publisher_spec.specs.Side.{Side, date_in, with_message}
+use Rattle.lc_world.specs.Sides.Side.{Side, date_in, with_message}
 use Rattle.wire_session.specs.SessionOut.{Said, SessionOut}
 use Rattle.cli_serve.specs.Recorded.{came}
 use Rattle.cli_serve.specs.Serve.{Asked, IsServedWhole, Outside}

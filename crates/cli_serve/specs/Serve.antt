@@ -3,7 +3,7 @@ use Rattle.std.specs.Prelude.{◌≡◌, ◌⊎◌, ℕ, ◌<◌, ◌≤◌, tru
 use Rattle.lc_io.specs.Door.{DoorSeen, GoesOn}
 use Rattle.lc_io.specs.Counts.{Rose, RoseBy}
 use Rattle.lc_io.specs.Sink.{SinkSeen}
-use Rattle.publisher_spec.specs.Side.{Side}
+use Rattle.lc_world.specs.Sides.Side.{Side}
 use Rattle.cli_serve.specs.Lines.{line_of, listening_line}
 use Rattle.cli_serve.specs.Recorded.{AreRecorded, NoneWaits, opened_at}
 use Rattle.cli_serve.specs.Visit.{AreVisits, NoneLost, Visit, faults_of}

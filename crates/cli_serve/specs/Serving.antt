@@ -3,7 +3,7 @@ use Rattle.std.specs.Prelude.{◌≡◌, ◌≢◌, ℕ, List, length}
 use Rattle.std.specs.List.{concat}
 use Rattle.lc_io.specs.Talk.{Said, TalkSeen}
 use Rattle.publisher.specs.Held.{Held, side_of}
-use Rattle.publisher_spec.specs.Side.{Side}
+use Rattle.lc_world.specs.Sides.Side.{Side}
 use Rattle.wire_session.specs.Phase.{is_ended}
 use Rattle.wire_session.specs.SessionOut.{SessionOut}
 use Rattle.wire_session.specs.SessionOut as session

@@ -2,7 +2,7 @@
 use Rattle.std.specs.Prelude.{◌≡◌, ℕ, Bool, true, false, List, [], ◌∷◌, length, count_by, sum_by}
 use Rattle.std.specs.List.{All, concat}
 use Rattle.lc_io.specs.Serving.{IsFront}
-use Rattle.publisher_spec.specs.Side.{Side}
+use Rattle.lc_world.specs.Sides.Side.{Side}
 use Rattle.wire_session.specs.SessionOut.{Said, SessionOut}
 
 -- What was read on a connection and what was sent. How many requests were answered, and whether the session ended. Whether a read or a

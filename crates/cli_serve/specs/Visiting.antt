@@ -5,7 +5,7 @@ use Rattle.lc_io.specs.Serving.{Exchanges, NothingToCome}
 use Rattle.lc_io.specs.declared.serving.Served.{Served}
 use Rattle.lc_io.specs.Counts.{HasCause}
 use Rattle.lc_model.specs.declared.memory.NoMemory.{NoMemory}
-use Rattle.publisher_spec.specs.Side.{Side}
+use Rattle.lc_world.specs.Sides.Side.{Side}
 use Rattle.cli_serve.specs.Visit.{IsVisit, Visit}
 
 -- the visit was served, or memory ran out

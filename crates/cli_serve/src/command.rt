@@ -1,7 +1,7 @@
 ghost use Rattle.std.specs.Prelude.{◌≡◌, ◌≤◌, ℕ, OnOk, true};
 ghost use Rattle.fragmenter.specs.Cutting.{chosen_cuts};
 ghost use Rattle.publisher.specs.Held.{side_of};
-ghost use Rattle.publisher_spec.specs.Side.{Side};
+ghost use Rattle.lc_world.specs.Sides.Side.{Side};
 ghost use Rattle.cli_serve.specs.Serve.{DoorNeverFell, ServesTo};
 ghost use Rattle.cli_serve.specs.Steps.{Announces, Closes, StopsTo};
 ghost use Rattle.cli_serve.specs.Written.{SinkNeverFell};

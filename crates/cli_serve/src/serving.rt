@@ -1,6 +1,6 @@
 ghost use Rattle.std.specs.Prelude.{◌≡◌, ◌++◌, ℕ, List, []};
 ghost use Rattle.publisher.specs.Held.{side_of};
-ghost use Rattle.publisher_spec.specs.Side.{Side};
+ghost use Rattle.lc_world.specs.Sides.Side.{Side};
 ghost use Rattle.cli_serve.specs.Serving.{StandsOut};
 ghost use Rattle.wire_session.specs.Phase.{is_ended};
 ghost use Rattle.wire_session.specs.Stands.{IsOutput, Means, Stands, fresh};
@@ -64,7 +64,7 @@ impl<G: Fragmenter + Drop> Serving<G> {
 }
 
 impl<G: Fragmenter + Drop> Talk for Serving<G> {
-    ghost use Rattle.publisher_spec.specs.Side.{Side};
+    ghost use Rattle.lc_world.specs.Sides.Side.{Side};
     ghost use Rattle.cli_serve.specs.Serving.{SaysOut, StandsOut, serving_seen};
     ghost use Rattle.cli_serve.specs.Said.{said_of, one_out, nothing_said};
 

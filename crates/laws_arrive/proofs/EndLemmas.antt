@@ -19,8 +19,8 @@ use Rattle.page_client.specs.declared.fault.QueryFault.{QueryFault}
 use Rattle.page_client.specs.declared.fault.QueryFault.TheVariants.{HorizonRange, SameStop, UnknownFrom, UnknownTo}
 use Rattle.page_client.specs.declared.outcome.Outcome.{Outcome}
 use Rattle.page_client.specs.declared.outcome.Outcome.TheVariants as outcomes
-use Rattle.publisher_spec.specs.PageAt.{named}
-use Rattle.publisher_spec.specs.Side.{IsLater, Side}
+use Rattle.lc_world.specs.Sides.PageAt.{named}
+use Rattle.lc_world.specs.Sides.Side.{IsLater, Side}
 use Rattle.laws_pages.specs.Chain.{ArePagesOf, along_previous}
 use Rattle.laws_clients.specs.Stated.{IsGatePage, version_at}
 use Rattle.laws_clients.specs.Answered.{names_at}

@@ -22,11 +22,11 @@ use Rattle.page_client.specs.Request.{Asks}
 use Rattle.page_client.specs.Stops.{IsStopsReply}
 use Rattle.page_client.specs.declared.fault.PeerFault.{PeerFault}
 use Rattle.page_client.proofs.OneReplyLemmas.{one_page_reply}
-use Rattle.publisher_spec.specs.Reply.{IsReply}
-use Rattle.publisher_spec.specs.Response.{IsPageOf}
-use Rattle.publisher_spec.specs.Short.{StandsUnder}
-use Rattle.publisher_spec.specs.Side.{IsLater, Side, has_version}
-use Rattle.publisher_spec.proofs.VersionLemmas.{still_found}
+use Rattle.lc_world.specs.Sides.Reply.{IsReply}
+use Rattle.lc_world.specs.Sides.Response.{IsPageOf}
+use Rattle.lc_world.specs.Sides.Short.{StandsUnder}
+use Rattle.lc_world.specs.Sides.Side.{IsLater, Side, has_version}
+use Rattle.lc_world.proofs.SidesLemmas.VersionLemmas.{still_found}
 use Rattle.laws_clients.specs.Stated.{IsGatePage}
 use Rattle.laws_clients.proofs.PageLemmas.{page_is_stated}
 use Rattle.laws_clients.proofs.ReadLemmas.{gate_is_read, stops_are_read}

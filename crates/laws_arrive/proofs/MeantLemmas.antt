@@ -7,7 +7,7 @@ use Rattle.lc_model.specs.Versions.History.{moments_of}
 use Rattle.lc_model.specs.Versions.Named.{is_by, last_of}
 use Rattle.laws_pages.proofs.FilterLemmas.{filter_drops, filter_takes}
 use Rattle.laws_clients.specs.Stated.{version_at}
-use Rattle.publisher_spec.specs.Side.{Side, has_version}
+use Rattle.lc_world.specs.Sides.Side.{Side, has_version}
 
 or_more : (here there : Bool) → there ≡ true → (here || there) ≡ true
 or_more true there is = refl

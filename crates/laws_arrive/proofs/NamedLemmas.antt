@@ -7,7 +7,7 @@ use Rattle.connection_uri.specs.Page.{gate_target_of}
 use Rattle.lc_world.specs.Link.{IsHonestWith, LinkSeen}
 use Rattle.page_json.specs.declared.page.Page.{Page}
 use Rattle.page_client.specs.declared.fault.PeerFault.{PeerFault}
-use Rattle.publisher_spec.specs.Side.{Side}
+use Rattle.lc_world.specs.Sides.Side.{Side}
 use Rattle.laws_clients.specs.Stated.{IsGatePage, version_at}
 use Rattle.laws_clients.specs.Laws.{IsAmong}
 use Rattle.laws_clients.proofs.PublishedLemmas.{pages_are_among}

@@ -9,7 +9,7 @@ use Rattle.connection_uri.specs.Base.{BaseParts}
 use Rattle.lc_world.specs.Link.{LinkSeen}
 use Rattle.page_client.specs.Shown.{answered}
 use Rattle.page_client.specs.declared.outcome.Outcome.{Outcome}
-use Rattle.publisher_spec.specs.Side.{IsLater, IsValidSide, Side}
+use Rattle.lc_world.specs.Sides.Side.{IsLater, IsValidSide, Side}
 use Rattle.laws_clients.specs.Stated.{version_at}
 use Rattle.laws_clients.specs.Published.{AreLiveAt}
 use Rattle.laws_clients.specs.Wants.{HasEnds}

@@ -17,7 +17,7 @@ use Rattle.laws_pages.specs.Chain.{ArePagesOf, along_next, along_previous, conne
 use Rattle.laws_pages.proofs.ChainLemmas.{by_or_not, links_part, next_goes_on, next_stays, previous_stays}
 use Rattle.laws_pages.proofs.RowLemmas.{found_by_name, is_where_next_begins, late_are_along_next}
 use Rattle.laws_pages.proofs.StopLemmas.{all_of_rest}
-use Rattle.publisher_spec.specs.PageAt.{named}
+use Rattle.lc_world.specs.Sides.PageAt.{named}
 use Rattle.laws_clients.specs.Published.{between}
 use Rattle.laws_arrive.specs.NeededBack.{pages_back}
 use Rattle.laws_arrive.proofs.BackLemmas.{along-append}

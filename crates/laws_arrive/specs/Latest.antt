@@ -7,7 +7,7 @@ use Rattle.lc_model.specs.declared.page.PageName.{PageName}
 use Rattle.lc_model.specs.declared.query.Query.{Query}
 use Rattle.lc_model.specs.declared.run.Run.{Run}
 use Rattle.lc_model.specs.Versions.Pages.{CutPage}
-use Rattle.publisher_spec.specs.Side.{Side}
+use Rattle.lc_world.specs.Sides.Side.{Side}
 use Rattle.laws_arrive.specs.LatestOf.{IsLatestOf}
 use Rattle.laws_arrive.specs.NeededBack.{AreNeededBack}
 use Rattle.laws_clients.specs.Answered.{names_at}

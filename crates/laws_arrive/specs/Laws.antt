@@ -7,7 +7,7 @@ use Rattle.lc_model.specs.declared.query.Query.{Query}
 use Rattle.connection_uri.specs.Base.{BaseParts}
 use Rattle.lc_world.specs.Link.{IsHonestWith, IsQuietWith, LinkSeen}
 use Rattle.page_client.specs.Shown.{IsRefusal, answered}
-use Rattle.publisher_spec.specs.Side.{Side}
+use Rattle.lc_world.specs.Sides.Side.{Side}
 use Rattle.laws_clients.specs.Stated.{version_at}
 use Rattle.laws_clients.specs.Laws.{Stays}
 use Rattle.laws_clients.specs.Wants.{HasEnds}

@@ -10,7 +10,7 @@ use Rattle.connection_uri.specs.Base.{BaseParts}
 use Rattle.lc_world.specs.Link.{IsQuietWith, LinkSeen}
 use Rattle.page_client.specs.Shown.{answered}
 use Rattle.page_client.specs.declared.outcome.Outcome.TheVariants as outcomes
-use Rattle.publisher_spec.specs.Side.{Side}
+use Rattle.lc_world.specs.Sides.Side.{Side}
 use Rattle.laws_clients.specs.Stated.{version_at}
 use Rattle.laws_clients.specs.Published.{AreLiveAt}
 use Rattle.back_scan.specs.Forward.{forward_query}

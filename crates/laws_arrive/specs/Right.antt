@@ -10,7 +10,7 @@ use Rattle.page_client.specs.declared.fault.QueryFault.{QueryFault}
 use Rattle.page_client.specs.declared.fault.QueryFault.TheVariants.{HorizonRange, SameStop, UnknownFrom, UnknownTo}
 use Rattle.page_client.specs.declared.outcome.Outcome.{Outcome}
 use Rattle.page_client.specs.declared.outcome.Outcome.TheVariants as outcomes
-use Rattle.publisher_spec.specs.Side.{Side, has_version}
+use Rattle.lc_world.specs.Sides.Side.{Side, has_version}
 use Rattle.laws_clients.specs.Stated.{version_at}
 use Rattle.laws_clients.specs.Wants.{HasEnds}
 use Rattle.laws_convoys.specs.Leaves.{LeavesHonest, RoseWithin}

@@ -12,14 +12,14 @@ use Rattle.http_text.specs.Target.{members_of, path_of, query_of}
 use Rattle.http_text.specs.declared.field.Field.{Field}
 use Rattle.http_text.specs.declared.request.Request.{Request}
 use Rattle.http_text.proofs.MessageLemmas.{one_request}
-use Rattle.publisher_spec.specs.Asked.{asked_of, field_value, is_head}
-use Rattle.publisher_spec.specs.Reply.{parts_of, sent_parts, text_said}
-use Rattle.publisher_spec.specs.Response.{IsResponse, IsResponseTo}
-use Rattle.publisher_spec.specs.Side.{Side, versions_of}
-use Rattle.publisher_spec.specs.declared.asked.Asked.{Asked}
-use Rattle.publisher_spec.specs.declared.asked.Asked.TheVariants as kinds
-use Rattle.publisher_spec.specs.declared.response.Response.{Response}
-use Rattle.publisher_spec.proofs.AskedLemmas.{same_behind}
+use Rattle.lc_world.specs.Sides.Asked.{asked_of, field_value, is_head}
+use Rattle.lc_world.specs.Sides.Reply.{parts_of, sent_parts, text_said}
+use Rattle.lc_world.specs.Sides.Response.{IsResponse, IsResponseTo}
+use Rattle.lc_world.specs.Sides.Side.{Side, versions_of}
+use Rattle.lc_world.specs.declared.sides.asked.Asked.{Asked}
+use Rattle.lc_world.specs.declared.sides.asked.Asked.TheVariants as kinds
+use Rattle.lc_world.specs.declared.sides.response.Response.{Response}
+use Rattle.lc_world.proofs.SidesLemmas.AskedLemmas.{same_behind}
 use Rattle.laws_clients.specs.Stated.{IsStatedTo, version_at}
 use Rattle.memento.specs.Negotiation.{Negotiates}
 

@@ -20,7 +20,7 @@ use Rattle.laws_pages.proofs.NameLemmas.{cuts_name_neighbours}
 use Rattle.laws_pages.proofs.RowLemmas.{is_greatest_by_then, row}
 use Rattle.laws_pages.proofs.TakenLemmas.{AllFollow, follow_behind}
 use Rattle.page_client.specs.Page.{advances, begins_at, is_on_from}
-use Rattle.publisher_spec.specs.PageAt.{named, next_cut, page_among, page_at, previous_cut}
+use Rattle.lc_world.specs.Sides.PageAt.{named, next_cut, page_among, page_at, previous_cut}
 
 -- ---- valid
 

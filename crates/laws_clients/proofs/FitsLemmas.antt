@@ -14,10 +14,10 @@ use Rattle.page_client.specs.declared.outcome.Outcome.TheVariants as outcomes
 use Rattle.page_client.specs.declared.phase.Phase.{Phase}
 use Rattle.page_client.specs.declared.phase.Phase.TheVariants as phases
 use Rattle.page_client.specs.declared.want.Want.{Want}
-use Rattle.publisher_spec.specs.Response.{IsPageOf}
-use Rattle.publisher_spec.specs.Side.{IsLater, IsValidSide, Side, has_version}
-use Rattle.publisher_spec.proofs.LaterLemmas.{timetables_stay, with_more}
-use Rattle.publisher_spec.proofs.VersionLemmas.{still_found}
+use Rattle.lc_world.specs.Sides.Response.{IsPageOf}
+use Rattle.lc_world.specs.Sides.Side.{IsLater, IsValidSide, Side, has_version}
+use Rattle.lc_world.proofs.SidesLemmas.LaterLemmas.{timetables_stay, with_more}
+use Rattle.lc_world.proofs.SidesLemmas.VersionLemmas.{still_found}
 use Rattle.laws_clients.specs.Fits.{FitsAt, FitsSide, HasAnswered, HasEnded, HasFailed, IsDenied, IsOfSide, IsSentOn, WaitsForPage}
 use Rattle.laws_clients.specs.Laws.{FitsStays, OwnPagesStay}
 use Rattle.laws_clients.proofs.AnsweredLemmas.{answers_stay, needed_stays}

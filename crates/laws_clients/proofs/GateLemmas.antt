@@ -12,13 +12,13 @@ use Rattle.http_text.proofs.QueryLemmas.{targets_are_read}
 use Rattle.memento.specs.Negotiation.{Negotiates}
 use Rattle.page_json.specs.Sound.{IsSoundName}
 use Rattle.page_client.specs.Gate.{LeadsTo}
-use Rattle.publisher_spec.specs.Asked.{asked_of, field_value, member_value}
-use Rattle.publisher_spec.specs.Reply.{found_parts, parts_of}
-use Rattle.publisher_spec.specs.Response.{IsGateResponse, IsMovedTo, SaysDeparture}
-use Rattle.publisher_spec.specs.Side.{Side, versions_of}
-use Rattle.publisher_spec.specs.declared.asked.Asked.TheVariants as kinds
-use Rattle.publisher_spec.specs.declared.response.Response.{Response}
-use Rattle.publisher_spec.proofs.OneReplyLemmas.{one_departure, one_negotiated, the_one}
+use Rattle.lc_world.specs.Sides.Asked.{asked_of, field_value, member_value}
+use Rattle.lc_world.specs.Sides.Reply.{found_parts, parts_of}
+use Rattle.lc_world.specs.Sides.Response.{IsGateResponse, IsMovedTo, SaysDeparture}
+use Rattle.lc_world.specs.Sides.Side.{Side, versions_of}
+use Rattle.lc_world.specs.declared.sides.asked.Asked.TheVariants as kinds
+use Rattle.lc_world.specs.declared.sides.response.Response.{Response}
+use Rattle.lc_world.proofs.SidesLemmas.OneReplyLemmas.{one_departure, one_negotiated, the_one}
 use Rattle.laws_clients.specs.Stated.{GateIsStated, IsSentTo, version_at}
 use Rattle.laws_clients.proofs.AskedLemmas.{answers, gate_asked, version_is_meant}
 use Rattle.laws_clients.proofs.TextLemmas.{CanBeRead, found_len, gate_url_fits, page_url_fits, says_parts}

@@ -13,11 +13,11 @@ use Rattle.page_json.specs.declared.page.Page.{Page}
 use Rattle.laws_pages.specs.Chain.{ArePagesOf, connections_along, names_of}
 use Rattle.laws_pages.proofs.NameLemmas.{cuts_name_neighbours}
 use Rattle.laws_pages.proofs.RowLemmas.{Begin, back_are_the_rest, begin_on_time, found_by_name, is_greatest_by_then, next_are_the_suffix}
-use Rattle.publisher_spec.specs.PageAt.{linked, named, page_among}
-use Rattle.publisher_spec.specs.Response.{IsPageOf}
-use Rattle.publisher_spec.specs.Side.{IsTimetableAt, IsValidSide, Side}
-use Rattle.publisher_spec.proofs.OneReplyLemmas.{one_page, one_timetable}
-use Rattle.publisher_spec.proofs.PageLemmas.{never_falls}
+use Rattle.lc_world.specs.Sides.PageAt.{linked, named, page_among}
+use Rattle.lc_world.specs.Sides.Response.{IsPageOf}
+use Rattle.lc_world.specs.Sides.Side.{IsTimetableAt, IsValidSide, Side}
+use Rattle.lc_world.proofs.SidesLemmas.OneReplyLemmas.{one_page, one_timetable}
+use Rattle.lc_world.proofs.SidesLemmas.PageLemmas.{never_falls}
 use Rattle.laws_clients.specs.Links.{AreAlongNext, AreAlongPrevious, NextLinksEnd, NextLinksHaveTheRest, PagesBeginAtTheirNames, PreviousLinksEnd, PreviousLinksHaveTheFront, connections_on}
 use Rattle.laws_clients.specs.Published.{IsPublished, Published}
 use Rattle.laws_clients.proofs.PublishedLemmas.{pages_are_among}

@@ -19,10 +19,10 @@ use Rattle.laws_pages.proofs.RowLemmas.{found_by_name, is_where_next_begins, row
 use Rattle.page_client.specs.Shown.{is_early, is_late, is_off, wrong_gate}
 use Rattle.page_client.specs.declared.fault.PeerFault.TheVariants.{GateWrong}
 use Rattle.page_client.specs.declared.outcome.Outcome.TheVariants.{PeerWrong}
-use Rattle.publisher_spec.specs.PageAt.{linked, named, previous_cut}
-use Rattle.publisher_spec.specs.Response.{IsPageOf}
-use Rattle.publisher_spec.specs.Side.{IsValidSide, Side}
-use Rattle.publisher_spec.proofs.PageLemmas.{never_falls}
+use Rattle.lc_world.specs.Sides.PageAt.{linked, named, previous_cut}
+use Rattle.lc_world.specs.Sides.Response.{IsPageOf}
+use Rattle.lc_world.specs.Sides.Side.{IsValidSide, Side}
+use Rattle.lc_world.proofs.SidesLemmas.PageLemmas.{never_falls}
 use Rattle.laws_clients.specs.Laws.{IsAmong, LinksLeadAlong}
 use Rattle.laws_clients.specs.Published.{IsPublished, Published, between}
 use Rattle.laws_clients.proofs.PublishedLemmas.{one_published, pages_are_among}

@@ -17,15 +17,15 @@ use Rattle.page_json.proofs.Utf8Lemmas.{page_text_is_utf8}
 use Rattle.page_client.specs.Page.{IsPageReply, advances, is_asked}
 use Rattle.page_client.specs.Replied.{body_of}
 use Rattle.page_client.specs.declared.fault.PeerFault.TheVariants.{Advance, Identity}
-use Rattle.publisher_spec.specs.Asked.{asked_of, member_value}
-use Rattle.publisher_spec.specs.Reply.{page_parts, parts_of}
-use Rattle.publisher_spec.specs.Response.{IsPageOf, IsPageResponse, IsSent, IsSentOf, SaysDeparture, SaysVersion}
-use Rattle.publisher_spec.specs.Short.{StandsUnder}
-use Rattle.publisher_spec.specs.Side.{IsValidSide, Side, has_version}
-use Rattle.publisher_spec.specs.declared.asked.Asked.TheVariants as kinds
-use Rattle.publisher_spec.specs.declared.response.Response.{Response}
-use Rattle.publisher_spec.specs.declared.response.Response.TheVariants as responses
-use Rattle.publisher_spec.proofs.OneReplyLemmas.{one_departure, one_page, one_version, the_one}
+use Rattle.lc_world.specs.Sides.Asked.{asked_of, member_value}
+use Rattle.lc_world.specs.Sides.Reply.{page_parts, parts_of}
+use Rattle.lc_world.specs.Sides.Response.{IsPageOf, IsPageResponse, IsSent, IsSentOf, SaysDeparture, SaysVersion}
+use Rattle.lc_world.specs.Sides.Short.{StandsUnder}
+use Rattle.lc_world.specs.Sides.Side.{IsValidSide, Side, has_version}
+use Rattle.lc_world.specs.declared.sides.asked.Asked.TheVariants as kinds
+use Rattle.lc_world.specs.declared.sides.response.Response.{Response}
+use Rattle.lc_world.specs.declared.sides.response.Response.TheVariants as responses
+use Rattle.lc_world.proofs.SidesLemmas.OneReplyLemmas.{one_departure, one_page, one_version, the_one}
 use Rattle.laws_clients.specs.Stated.{PageIsStated}
 use Rattle.laws_clients.proofs.AskedLemmas.{answers, page_asked}
 use Rattle.laws_clients.proofs.CutPageLemmas.{page_advances, page_is_valid}

@@ -13,13 +13,13 @@ use Rattle.lc_model.specs.Versions.Pages.{CutPage, departures_of, pages_of}
 use Rattle.lc_model.specs.Versions.Timetable.{AreLiveRuns}
 use Rattle.live_calls.proofs.LawLemmas.{one_live_list}
 use Rattle.live_calls.proofs.LiveRunsLemmas.{live_runs_go_forward}
-use Rattle.publisher_spec.proofs.PageLemmas.{never_falls}
+use Rattle.lc_world.proofs.SidesLemmas.PageLemmas.{never_falls}
 use Rattle.laws_pages.proofs.RidesAreLegsLemmas.{Timetable}
 use Rattle.laws_pages.proofs.RowLemmas.{never_empty}
-use Rattle.publisher_spec.specs.PageAt.{linked, page_among}
-use Rattle.publisher_spec.specs.Side.{IsTimetableAt, IsValidSide, Side, date_in, has_version}
-use Rattle.publisher_spec.proofs.LaterLemmas.{with_more}
-use Rattle.publisher_spec.proofs.VersionLemmas.{later_moments, news_stay}
+use Rattle.lc_world.specs.Sides.PageAt.{linked, page_among}
+use Rattle.lc_world.specs.Sides.Side.{IsTimetableAt, IsValidSide, Side, date_in, has_version}
+use Rattle.lc_world.proofs.SidesLemmas.LaterLemmas.{with_more}
+use Rattle.lc_world.proofs.SidesLemmas.VersionLemmas.{later_moments, news_stay}
 use Rattle.laws_clients.specs.Laws.{OnePublished, PagesAreAmong, PublishedIsLawful, PublishedStays, Stays}
 use Rattle.laws_clients.specs.Published.{AreLiveAt, IsPublished, Published}
 

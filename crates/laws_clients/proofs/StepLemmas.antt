@@ -33,10 +33,10 @@ use Rattle.page_client.specs.declared.want.Want.TheVariants as wants
 use Rattle.page_client.proofs.OneReplyLemmas.{one_gate_reply, one_page_reply, one_stops_reply}
 use Rattle.page_client.proofs.PageLemmas.{waits_for}
 use Rattle.connection_uri.specs.Page.{page_target_of}
-use Rattle.publisher_spec.specs.PageAt.{linked, named, page_among}
-use Rattle.publisher_spec.specs.Response.{IsPageOf}
-use Rattle.publisher_spec.specs.Short.{StandsUnder}
-use Rattle.publisher_spec.specs.Side.{IsValidSide, Side, has_version}
+use Rattle.lc_world.specs.Sides.PageAt.{linked, named, page_among}
+use Rattle.lc_world.specs.Sides.Response.{IsPageOf}
+use Rattle.lc_world.specs.Sides.Short.{StandsUnder}
+use Rattle.lc_world.specs.Sides.Side.{IsValidSide, Side, has_version}
 use Rattle.laws_clients.specs.Stated.{IsSentTo, IsStatedTo, version_at}
 use Rattle.laws_clients.proofs.GateLemmas.{gate_is_stated}
 use Rattle.laws_clients.proofs.PageLemmas.{page_is_stated}

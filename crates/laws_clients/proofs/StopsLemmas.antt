@@ -8,12 +8,12 @@ use Rattle.page_json.specs.Tree.{stops_text_of}
 use Rattle.page_json.proofs.StopsLemmas.{reads_stops_text}
 use Rattle.page_json.proofs.Utf8Lemmas.{stops_text_is_utf8}
 use Rattle.page_client.specs.Replied.{body_of}
-use Rattle.publisher_spec.specs.Asked.{asked_of}
-use Rattle.publisher_spec.specs.Reply.{parts_of, stops_parts}
-use Rattle.publisher_spec.specs.Short.{StandsUnder}
-use Rattle.publisher_spec.specs.Side.{Side}
-use Rattle.publisher_spec.specs.declared.asked.Asked.TheVariants as kinds
-use Rattle.publisher_spec.specs.declared.response.Response.{Response}
+use Rattle.lc_world.specs.Sides.Asked.{asked_of}
+use Rattle.lc_world.specs.Sides.Reply.{parts_of, stops_parts}
+use Rattle.lc_world.specs.Sides.Short.{StandsUnder}
+use Rattle.lc_world.specs.Sides.Side.{Side}
+use Rattle.lc_world.specs.declared.sides.asked.Asked.TheVariants as kinds
+use Rattle.lc_world.specs.declared.sides.response.Response.{Response}
 use Rattle.laws_clients.specs.Stated.{StopsAreStated}
 use Rattle.laws_clients.proofs.AskedLemmas.{answers, stops_asked}
 use Rattle.laws_clients.proofs.TextLemmas.{CanBeRead, body_said, ok_len, says_parts}

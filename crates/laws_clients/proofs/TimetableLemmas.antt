@@ -7,8 +7,8 @@ use Rattle.lc_model.specs.Versions.Cuts.{AreCuts}
 use Rattle.lc_model.specs.Versions.History.{news_at}
 use Rattle.lc_model.specs.Versions.Pages.{departures_of}
 use Rattle.live_calls.proofs.LiveRunsLemmas.{live_runs_go_forward}
-use Rattle.publisher_spec.specs.Side.{IsTimetableAt, IsValidSide, Side, date_in}
-use Rattle.publisher_spec.proofs.PageLemmas.{never_falls}
+use Rattle.lc_world.specs.Sides.Side.{IsTimetableAt, IsValidSide, Side, date_in}
+use Rattle.lc_world.proofs.SidesLemmas.PageLemmas.{never_falls}
 
 pub none_arrives_early : (side : Side) (version : ℕ) (list : List Connection) → IsValidSide side → IsTimetableAt side version list → NoneArrivesEarly list
 none_arrives_early side version list valid t =

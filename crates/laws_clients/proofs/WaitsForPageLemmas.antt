@@ -31,9 +31,9 @@ use Rattle.page_client.specs.declared.step.Step.{Step}
 use Rattle.page_client.specs.declared.step.Step.TheVariants.{Last, Next}
 use Rattle.page_client.specs.declared.want.Want.{Want}
 use Rattle.page_client.specs.declared.want.Want.TheVariants as wants
-use Rattle.publisher_spec.specs.PageAt.{named}
-use Rattle.publisher_spec.specs.Response.{IsPageOf}
-use Rattle.publisher_spec.specs.Side.{IsValidSide, Side}
+use Rattle.lc_world.specs.Sides.PageAt.{named}
+use Rattle.lc_world.specs.Sides.Response.{IsPageOf}
+use Rattle.lc_world.specs.Sides.Side.{IsValidSide, Side}
 use Rattle.laws_clients.specs.Answered.{answer_of, names_at}
 use Rattle.laws_clients.specs.Fits.{FitsAt, FitsSide, HasAnswered, HasEnded, IsOfSide, WaitsForPage}
 use Rattle.laws_clients.specs.Published.{IsOwnPage, between}

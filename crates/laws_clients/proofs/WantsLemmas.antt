@@ -24,8 +24,8 @@ use Rattle.page_client.specs.declared.phase.Phase.{Phase}
 use Rattle.page_client.specs.declared.phase.Phase.TheVariants as phases
 use Rattle.page_client.specs.declared.want.Want.{Want}
 use Rattle.page_client.specs.declared.want.Want.TheVariants as wants
-use Rattle.publisher_spec.specs.PageAt.{named}
-use Rattle.publisher_spec.specs.Side.{IsValidSide, Side}
+use Rattle.lc_world.specs.Sides.PageAt.{named}
+use Rattle.lc_world.specs.Sides.Side.{IsValidSide, Side}
 use Rattle.laws_clients.specs.Answered.{NeededAt, names_at}
 use Rattle.laws_clients.specs.Fits.{FitsAt, HasAnswered, HasEnded, IsDenied, WaitsForPage}
 use Rattle.laws_clients.specs.Laws.{OneListOfWants, WantsStay}

@@ -20,8 +20,8 @@ use Rattle.page_client.specs.declared.phase.Phase.{Phase}
 use Rattle.page_client.specs.declared.phase.Phase.TheVariants as phases
 use Rattle.page_client.specs.declared.want.Want.{Want}
 use Rattle.page_client.specs.declared.want.Want.TheVariants as wants
-use Rattle.publisher_spec.specs.PageAt.{named}
-use Rattle.publisher_spec.specs.Side.{Side, has_version}
+use Rattle.lc_world.specs.Sides.PageAt.{named}
+use Rattle.lc_world.specs.Sides.Side.{Side, has_version}
 use Rattle.laws_clients.specs.Answered.{AnswersAt, NeededAt, names_at}
 use Rattle.laws_clients.specs.Published.{IsPublished, Published}
 use Rattle.laws_clients.specs.Wants.{AreWants, HasEnds, wants_of}

@@ -11,9 +11,9 @@ use Rattle.page_json.specs.declared.page.Page.{Page}
 use Rattle.laws_pages.specs.Chain.{ArePagesOf, along_next, along_previous}
 use Rattle.page_client.specs.declared.client.Client.{Client}
 use Rattle.page_client.specs.declared.want.Want.{Want}
-use Rattle.publisher_spec.specs.PageAt.{linked}
-use Rattle.publisher_spec.specs.Response.{IsPageOf}
-use Rattle.publisher_spec.specs.Side.{IsLater, IsValidSide, Side, has_version}
+use Rattle.lc_world.specs.Sides.PageAt.{linked}
+use Rattle.lc_world.specs.Sides.Response.{IsPageOf}
+use Rattle.lc_world.specs.Sides.Side.{IsLater, IsValidSide, Side, has_version}
 use Rattle.laws_clients.specs.Answered.{AnswersAt, NeededAt}
 use Rattle.laws_clients.specs.Fits.{FitsSide}
 use Rattle.laws_clients.specs.Published.{IsOwnPage, IsPublished, Published, between}

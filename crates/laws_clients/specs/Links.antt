@@ -6,8 +6,8 @@ use Rattle.lc_model.specs.declared.connection.Connection.{Connection}
 use Rattle.lc_model.specs.Versions.Cuts.{first_of}
 use Rattle.lc_model.specs.Versions.Pages.{departing, departures_of}
 use Rattle.page_json.specs.declared.page.Page.{Page}
-use Rattle.publisher_spec.specs.Response.{IsPageOf}
-use Rattle.publisher_spec.specs.Side.{IsTimetableAt, IsValidSide, Side}
+use Rattle.lc_world.specs.Sides.Response.{IsPageOf}
+use Rattle.lc_world.specs.Sides.Side.{IsTimetableAt, IsValidSide, Side}
 
 -- After a page of the side come these, one after the other. Each is the page of the side that the link to the next one names. The last
 -- one has no such link.

@@ -11,9 +11,9 @@ use Rattle.lc_model.specs.Versions.Timetable.{AreLiveRuns}
 use Rattle.page_json.specs.Sound.{IsSoundPage}
 use Rattle.page_json.specs.declared.page.Page.{Page}
 use Rattle.laws_pages.specs.Chain.{names_of}
-use Rattle.publisher_spec.specs.PageAt.{named}
-use Rattle.publisher_spec.specs.Response.{IsPageOf}
-use Rattle.publisher_spec.specs.Side.{Side, date_in, has_version}
+use Rattle.lc_world.specs.Sides.PageAt.{named}
+use Rattle.lc_world.specs.Sides.Response.{IsPageOf}
+use Rattle.lc_world.specs.Sides.Side.{Side, date_in, has_version}
 
 -- these are the runs of a side at a version: those of its timetable with their live calls, and the further ones
 abbrev pub AreLiveAt : Side → ℕ → List Run → Type 0

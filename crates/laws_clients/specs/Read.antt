@@ -10,9 +10,9 @@ use Rattle.page_client.specs.Stops.{IsStopsReply}
 use Rattle.page_client.specs.declared.fault.PeerFault.{PeerFault}
 use Rattle.page_json.specs.Sound.{IsSoundName}
 use Rattle.page_json.specs.declared.page.Page.{Page}
-use Rattle.publisher_spec.specs.Response.{IsPageOf}
-use Rattle.publisher_spec.specs.Short.{StandsUnder}
-use Rattle.publisher_spec.specs.Side.{Side, has_version}
+use Rattle.lc_world.specs.Sides.Response.{IsPageOf}
+use Rattle.lc_world.specs.Sides.Short.{StandsUnder}
+use Rattle.lc_world.specs.Sides.Side.{Side, has_version}
 use Rattle.laws_clients.specs.Stated.{IsGatePage, IsStatedTo}
 
 -- of the time gate's reply the page for the moment at which the question leaves

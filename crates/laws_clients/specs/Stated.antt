@@ -12,10 +12,10 @@ use Rattle.page_client.specs.Request.{Asks}
 use Rattle.page_client.specs.Stops.{IsStopsReply}
 use Rattle.page_json.specs.Sound.{IsSoundName, IsSoundPage}
 use Rattle.page_json.specs.declared.page.Page.{Page}
-use Rattle.publisher_spec.specs.Reply.{IsReply}
-use Rattle.publisher_spec.specs.Response.{IsPageOf}
-use Rattle.publisher_spec.specs.Short.{StandsUnder}
-use Rattle.publisher_spec.specs.Side.{Side, has_version}
+use Rattle.lc_world.specs.Sides.Reply.{IsReply}
+use Rattle.lc_world.specs.Sides.Response.{IsPageOf}
+use Rattle.lc_world.specs.Sides.Short.{StandsUnder}
+use Rattle.lc_world.specs.Sides.Side.{Side, has_version}
 
 -- the bytes are the side's reply to a GET of this target by one who knows up to this moment
 pub record IsStatedTo (side : Side) (target : List ℕ) (known : Option ℕ) (reply : List ℕ) : Type 0 where

@@ -18,9 +18,9 @@ use Rattle.page_client.specs.declared.fault.QueryFault.{QueryFault}
 use Rattle.page_client.specs.declared.outcome.Outcome.TheVariants.{LinkFault, PeerWrong, Refused}
 use Rattle.page_client.specs.declared.want.Want.{Want}
 use Rattle.page_client.specs.declared.want.Want.TheVariants as wants
-use Rattle.publisher_spec.specs.Reply.{IsReply}
-use Rattle.publisher_spec.specs.Short.{StandsUnder}
-use Rattle.publisher_spec.specs.Side.{IsValidSide, Side}
+use Rattle.lc_world.specs.Sides.Reply.{IsReply}
+use Rattle.lc_world.specs.Sides.Short.{StandsUnder}
+use Rattle.lc_world.specs.Sides.Side.{IsValidSide, Side}
 use Rattle.laws_clients.specs.Stated.{version_at}
 use Rattle.laws_clients.specs.Answered.{NeededAt, answer_of}
 use Rattle.laws_clients.specs.Fits.{FitsSide, HasAnswered, HasFailed, IsDenied}

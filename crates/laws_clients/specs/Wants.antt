@@ -10,7 +10,7 @@ use Rattle.page_client.specs.declared.outcome.Outcome.{Outcome}
 use Rattle.page_client.specs.declared.outcome.Outcome.TheVariants as outcomes
 use Rattle.page_client.specs.declared.want.Want.{Want}
 use Rattle.page_client.specs.declared.want.Want.TheVariants as wants
-use Rattle.publisher_spec.specs.Side.{Side}
+use Rattle.lc_world.specs.Sides.Side.{Side}
 use Rattle.laws_clients.specs.Answered.{NeededAt}
 
 -- the stops document has the stop where the question begins and the one where it ends

@@ -20,9 +20,9 @@ use Rattle.page_client.specs.declared.phase.Phase.TheVariants as phases
 use Rattle.page_client.specs.declared.want.Want.{Want}
 use Rattle.page_client.specs.declared.want.Want.TheVariants as wants
 use Rattle.page_client.proofs.PageLemmas.{waits_for}
-use Rattle.publisher_spec.specs.PageAt.{named}
-use Rattle.publisher_spec.specs.Side.{IsLater, IsValidSide, Side}
-use Rattle.publisher_spec.proofs.LaterLemmas.{with_more}
+use Rattle.lc_world.specs.Sides.PageAt.{named}
+use Rattle.lc_world.specs.Sides.Side.{IsLater, IsValidSide, Side}
+use Rattle.lc_world.proofs.SidesLemmas.LaterLemmas.{with_more}
 use Rattle.laws_clients.specs.Stated.{version_at}
 use Rattle.laws_clients.specs.Answered.{names_at}
 use Rattle.laws_clients.specs.Fits.{FitsAt, FitsSide, WaitsForPage}

@@ -15,7 +15,7 @@ use Rattle.page_client.specs.declared.outcome.Outcome.{Outcome}
 use Rattle.page_client.specs.declared.outcome.Outcome.TheVariants.{LinkFault, PeerWrong}
 use Rattle.page_client.specs.declared.want.Want.{Want}
 use Rattle.page_client.specs.declared.want.Want.TheVariants as wants
-use Rattle.publisher_spec.specs.Side.{IsLater, IsValidSide, Side, has_version}
+use Rattle.lc_world.specs.Sides.Side.{IsLater, IsValidSide, Side, has_version}
 use Rattle.laws_clients.specs.Fits.{FitsSide}
 use Rattle.laws_clients.specs.Steps.{KeepsVersion}
 use Rattle.laws_clients.specs.Wants.{AreWants, IsItsVersion}

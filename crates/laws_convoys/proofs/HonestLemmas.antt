@@ -3,8 +3,8 @@ use Rattle.std.proofs.Common.{ℕ, ◌≤◌, List, Option, refl, ◌∙◌, ari
 use Rattle.connection_uri.specs.Base.{BaseParts}
 use Rattle.lc_world.specs.Link.{IsGet, IsHonestWith, LinkSeen}
 use Rattle.page_client.specs.Request.{Asks}
-use Rattle.publisher_spec.specs.Side.{Side}
-use Rattle.publisher_spec.proofs.LaterLemmas.{later_itself, later_on}
+use Rattle.lc_world.specs.Sides.Side.{Side}
+use Rattle.lc_world.proofs.SidesLemmas.LaterLemmas.{later_itself, later_on}
 use Rattle.laws_convoys.specs.Leaves.{LeavesHonest}
 
 -- who asks makes a GET

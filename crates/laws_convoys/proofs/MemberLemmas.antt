@@ -19,8 +19,8 @@ use Rattle.page_client.specs.declared.outcome.Outcome.TheVariants.{LinkFault}
 use Rattle.page_client.specs.declared.want.Want.{Want}
 use Rattle.page_client.specs.declared.want.Want.TheVariants as wants
 use Rattle.page_client.proofs.PageLemmas.{waits_for}
-use Rattle.publisher_spec.specs.Side.{IsLater, IsValidSide, Side}
-use Rattle.publisher_spec.proofs.LaterLemmas.{later_itself}
+use Rattle.lc_world.specs.Sides.Side.{IsLater, IsValidSide, Side}
+use Rattle.lc_world.proofs.SidesLemmas.LaterLemmas.{later_itself}
 use Rattle.laws_clients.specs.Fits.{FitsAt, FitsSide, WaitsForPage}
 use Rattle.laws_clients.specs.Published.{IsOwnPage}
 use Rattle.laws_clients.specs.Steps.{IsReplyTo, SaysOwnPage}

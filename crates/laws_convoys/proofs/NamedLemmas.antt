@@ -4,8 +4,8 @@ use Rattle.lc_model.specs.declared.query.Query.{Query}
 use Rattle.page_client.specs.Shown.{Shown}
 use Rattle.page_client.specs.declared.want.Want.{Want}
 use Rattle.page_client.specs.declared.want.Want.TheVariants as wants
-use Rattle.publisher_spec.specs.Side.{IsLater, Side}
-use Rattle.publisher_spec.proofs.LaterLemmas.{later_itself, later_on}
+use Rattle.lc_world.specs.Sides.Side.{IsLater, Side}
+use Rattle.lc_world.proofs.SidesLemmas.LaterLemmas.{later_itself, later_on}
 use Rattle.laws_clients.specs.Stated.{version_at}
 use Rattle.laws_convoys.specs.Leaves.{IsNamedBetween, VersionAfter}
 

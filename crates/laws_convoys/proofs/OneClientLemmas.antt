@@ -18,7 +18,7 @@ use Rattle.page_client.specs.declared.outcome.Outcome.{Outcome}
 use Rattle.page_client.specs.declared.outcome.Outcome.TheVariants.{LinkFault, Refused}
 use Rattle.page_client.specs.declared.want.Want.{Want}
 use Rattle.page_client.specs.declared.want.Want.TheVariants as wants
-use Rattle.publisher_spec.specs.Side.{IsValidSide, Side}
+use Rattle.lc_world.specs.Sides.Side.{IsValidSide, Side}
 use Rattle.laws_clients.specs.Fits.{FitsSide}
 use Rattle.laws_clients.specs.Steps.{BeginsInAgreement}
 use Rattle.convoy.specs.Finish.{Ends, HasOutcome, IsStep, Rounds, Step, TurnsOf}

@@ -16,8 +16,8 @@ use Rattle.page_client.specs.declared.outcome.Outcome.{Outcome}
 use Rattle.page_client.specs.declared.outcome.Outcome.TheVariants as outcomes
 use Rattle.page_client.specs.declared.want.Want.{Want}
 use Rattle.page_client.specs.Kept.{Kept}
-use Rattle.publisher_spec.specs.Reply.{IsReply}
-use Rattle.publisher_spec.specs.Side.{Side}
+use Rattle.lc_world.specs.Sides.Reply.{IsReply}
+use Rattle.lc_world.specs.Sides.Side.{Side}
 use Rattle.convoy.specs.Exchange.{Got, IsExchange, bytes_of, result_of}
 use Rattle.convoy.specs.Finish.{IsStep, Rounds, Step, TurnsOf}
 use Rattle.convoy.specs.State.{ConvoyState}

@@ -13,8 +13,8 @@ use Rattle.lc_world.specs.Link.{IsHonestWith, LinkSeen}
 use Rattle.page_client.specs.Client.{shown}
 use Rattle.page_client.specs.Shown.{Shown}
 use Rattle.page_client.specs.declared.want.Want.{Want}
-use Rattle.publisher_spec.specs.Side.{IsLater, Side}
-use Rattle.publisher_spec.proofs.LaterLemmas.{later_itself}
+use Rattle.lc_world.specs.Sides.Side.{IsLater, Side}
+use Rattle.lc_world.proofs.SidesLemmas.LaterLemmas.{later_itself}
 use Rattle.laws_clients.proofs.FitsLemmas.{fits_stays, has_own}
 use Rattle.convoy.specs.Finish.{Ends, HasOutcome, Rounds}
 use Rattle.convoy.specs.State.{ConvoyState}

@@ -19,7 +19,7 @@ use Rattle.page_client.specs.declared.phase.Phase.{Phase}
 use Rattle.page_client.specs.declared.phase.Phase.TheVariants as phases
 use Rattle.page_client.specs.declared.want.Want.{Want}
 use Rattle.page_client.specs.declared.want.Want.TheVariants as wants
-use Rattle.publisher_spec.specs.Side.{Side}
+use Rattle.lc_world.specs.Sides.Side.{Side}
 use Rattle.laws_clients.specs.Fits.{FitsAt, FitsSide}
 use Rattle.laws_clients.specs.Published.{IsOwnPage}
 use Rattle.laws_clients.proofs.FitsLemmas.{has_own}

@@ -25,8 +25,8 @@ use Rattle.lc_world.specs.Link.{IsHonestWith, LinkSeen}
 use Rattle.page_client.specs.Client.{shown}
 use Rattle.page_client.specs.Shown.{Shown}
 use Rattle.page_client.specs.declared.want.Want.{Want}
-use Rattle.publisher_spec.proofs.LaterLemmas.{later_itself}
-use Rattle.publisher_spec.specs.Side.{Side}
+use Rattle.lc_world.proofs.SidesLemmas.LaterLemmas.{later_itself}
+use Rattle.lc_world.specs.Sides.Side.{Side}
 
 no_less : (n : ℕ) → n ≤ n
 no_less n = omega arith

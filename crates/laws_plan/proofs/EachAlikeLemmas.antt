@@ -17,7 +17,7 @@ use Rattle.laws_replies.specs.Laws.{SayTheSame}
 use Rattle.laws_replies.specs.Met.{Met}
 use Rattle.lc_model.specs.declared.query.Query.{Query}
 use Rattle.lc_world.specs.Link.{LinkSeen}
-use Rattle.publisher_spec.specs.Side.{Side}
+use Rattle.lc_world.specs.Sides.Side.{Side}
 use Rattle.journey_text.specs.Script.{IsClient}
 
 -- the ends of one client in two plans, and what it received in its turns

@@ -13,7 +13,7 @@ use Rattle.laws_replay.specs.Turns.{EndByFailure, IsIdle, IsOne, TakeOneEach, fa
 use Rattle.page_client.specs.Client.{shown}
 use Rattle.page_client.specs.declared.outcome.Outcome.{Outcome}
 use Rattle.page_client.specs.declared.want.Want.{Want}
-use Rattle.publisher_spec.specs.Side.{Side}
+use Rattle.lc_world.specs.Sides.Side.{Side}
 
 -- each client received one want a turn up to now
 abbrev pub HasMetAt : ℕ → List Round → Option Outcome → Type 0

@@ -23,7 +23,7 @@ use Rattle.page_client.specs.declared.outcome.Outcome.{Outcome}
 use Rattle.page_client.specs.declared.outcome.Outcome.TheVariants as outcomes
 use Rattle.page_client.specs.declared.want.Want.{Want}
 use Rattle.page_client.specs.declared.want.Want.TheVariants as wants
-use Rattle.publisher_spec.specs.Side.{Side}
+use Rattle.lc_world.specs.Sides.Side.{Side}
 
 -- the version after one turn that begins with the time gate's reply
 version_at_turn : (last side : Side) (query : Query) (round : Round) (more : List Want) (end : ClientEnd) → EndsAt last query (round ∷ []) (side ∷ []) end → round.given ≡ wants.Gate ∷ more →

@@ -38,8 +38,8 @@ use Rattle.page_client.specs.declared.outcome.Outcome.{Outcome}
 use Rattle.page_client.specs.declared.outcome.Outcome.TheVariants as outcomes
 use Rattle.page_client.specs.declared.want.Want.{Want}
 use Rattle.page_client.specs.declared.want.Want.TheVariants as wants
-use Rattle.publisher_spec.proofs.VersionLemmas.{still_found}
-use Rattle.publisher_spec.specs.Side.{IsLater, IsValidSide, Side, has_version}
+use Rattle.lc_world.proofs.SidesLemmas.VersionLemmas.{still_found}
+use Rattle.lc_world.specs.Sides.Side.{IsLater, IsValidSide, Side, has_version}
 
 -- how a client ended by a side is how it ended by a later one
 module _ (answers_stay : AnswersStay) (needed_stays : NeededStays) (before after : Side) (valid : IsValidSide after) (later : IsLater before after) where

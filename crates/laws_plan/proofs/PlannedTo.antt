@@ -17,7 +17,7 @@ use Rattle.lc_world.specs.Link.{LinkSeen}
 use Rattle.page_client.specs.Client.{shown}
 use Rattle.page_client.specs.declared.outcome.Outcome.{Outcome}
 use Rattle.page_client.specs.declared.want.Want.{Want}
-use Rattle.publisher_spec.specs.Side.{Side}
+use Rattle.lc_world.specs.Sides.Side.{Side}
 
 -- The client of the question, after these turns of its own, at these sides. `Turns` is what is said of its turns and its outcome.
 pub record IsMemberAt (Turns : List Round → Option Outcome → Type 0) (side : Side) (query : Query) (member : Member) (own : List Want) (rounds : List Round) (sides : List Side) : Type 0 where

@@ -40,7 +40,7 @@ use Rattle.lc_model.specs.declared.query.Query.{Query}
 use Rattle.lc_world.specs.Link.{LinkSeen}
 use Rattle.page_client.specs.Client.{shown}
 use Rattle.page_client.specs.declared.want.Want.{Want}
-use Rattle.publisher_spec.specs.Side.{Side}
+use Rattle.lc_world.specs.Sides.Side.{Side}
 
 module _ {X : Type 0} (seen : X → LinkSeen) (added : AddedAgrees) (wants_stay : WantsStay) (keeps : TurnKeepsAgreement seen) (base : BaseParts) (first : Side) (cache : ℕ) (start : LinkSeen) where
   -- the events that are left happen

@@ -22,8 +22,8 @@ use Rattle.lc_world.specs.declared.entry.Entry.{Entry}
 use Rattle.page_client.specs.Client.{shown}
 use Rattle.page_client.specs.Shown.{Shown}
 use Rattle.page_client.specs.declared.client.Client.{Client}
-use Rattle.publisher_spec.proofs.LaterLemmas.{later_itself, later_on}
-use Rattle.publisher_spec.specs.Side.{IsLater, Side}
+use Rattle.lc_world.proofs.SidesLemmas.LaterLemmas.{later_itself, later_on}
+use Rattle.lc_world.specs.Sides.Side.{IsLater, Side}
 
 -- replies from an earlier side on
 from_earlier : (first side : Side) (entries : List Entry) (last : Side) → IsLater first side → AreRepliedAlong side entries last → AreRepliedAlong first entries last

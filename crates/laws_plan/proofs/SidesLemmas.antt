@@ -10,8 +10,8 @@ use Rattle.laws_replay.specs.Turns.{rounds_of}
 use Rattle.page_client.specs.Shown.{Shown}
 use Rattle.page_client.specs.declared.want.Want.{Want}
 use Rattle.page_client.specs.declared.want.Want.TheVariants as wants
-use Rattle.publisher_spec.proofs.LaterLemmas.{later_itself, later_on}
-use Rattle.publisher_spec.specs.Side.{IsLater, Side}
+use Rattle.lc_world.proofs.SidesLemmas.LaterLemmas.{later_itself, later_on}
+use Rattle.lc_world.specs.Sides.Side.{IsLater, Side}
 
 -- one side more
 pub later_more : (first : Side) (sides : List Side) (last side left : Side) → AreLater first sides last → IsLater last side → IsLater side left → AreLater first (sides ++ side ∷ []) left

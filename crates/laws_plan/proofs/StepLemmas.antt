@@ -39,8 +39,8 @@ use Rattle.page_client.specs.declared.outcome.Outcome.{Outcome}
 use Rattle.page_client.specs.declared.outcome.Outcome.TheVariants as outcomes
 use Rattle.page_client.specs.declared.want.Want.{Want}
 use Rattle.page_client.specs.declared.want.Want.TheVariants as wants
-use Rattle.publisher_spec.proofs.LaterLemmas.{later_on}
-use Rattle.publisher_spec.specs.Side.{IsLater, Side}
+use Rattle.lc_world.proofs.SidesLemmas.LaterLemmas.{later_on}
+use Rattle.lc_world.specs.Sides.Side.{IsLater, Side}
 use Rattle.journey_text.specs.Script.{IsClient}
 
 -- a link that was left so, and then so

@@ -24,7 +24,7 @@ use Rattle.lc_world.specs.Link.{LinkSeen}
 use Rattle.page_client.specs.Client.{shown}
 use Rattle.page_client.specs.declared.outcome.Outcome.{Outcome}
 use Rattle.page_client.specs.declared.want.Want.{Want}
-use Rattle.publisher_spec.specs.Side.{Side}
+use Rattle.lc_world.specs.Sides.Side.{Side}
 use Rattle.journey_text.specs.Script.{IsClient}
 
 -- said in other words of the turns

@@ -18,7 +18,7 @@ use Rattle.laws_replies.specs.Met.{HasFailedBetween}
 use Rattle.lc_model.specs.declared.query.Query.{Query}
 use Rattle.lc_world.specs.Link.{IsHonestWith, LinkSeen}
 use Rattle.page_client.specs.declared.outcome.Outcome.TheVariants.{LinkFault}
-use Rattle.publisher_spec.specs.Side.{Side}
+use Rattle.lc_world.specs.Sides.Side.{Side}
 
 -- where the events happened over an honest link, and each client was turned until it ended, each of them ended rightly by what it received
 abbrev pub PlansRight : {X : Type 0} → (X → LinkSeen) → Type 0

@@ -12,7 +12,7 @@ use Rattle.lc_model.specs.declared.versions.update.Update.{Update}
 use Rattle.page_client.specs.declared.outcome.Outcome.TheVariants.{LinkFault}
 use Rattle.page_client.specs.declared.want.Want.{Want}
 use Rattle.page_client.specs.declared.want.Want.TheVariants as wants
-use Rattle.publisher_spec.specs.Side.{Side, newest_of, with_message}
+use Rattle.lc_world.specs.Sides.Side.{Side, newest_of, with_message}
 
 -- A client that received the time gate's reply does not have the version that the side of another client's reply names.
 abbrev pub NotAnothersVersion : Type 0

@@ -9,7 +9,7 @@ use Rattle.laws_replay.specs.Events.{TurnsAreOfClients, questions_in}
 use Rattle.laws_replay.specs.declared.event.Event.{Event}
 use Rattle.laws_replies.specs.Met.{Met}
 use Rattle.lc_world.specs.Link.{LinkSeen}
-use Rattle.publisher_spec.specs.Side.{Side}
+use Rattle.lc_world.specs.Sides.Side.{Side}
 
 -- The link was quiet with this side, and each question has an end, which is no fault of the link.
 pub record IsQuietPlan (base : BaseParts) (side : Side) (all : List Event) (cache : ℕ) (before after : LinkSeen) (ends : List ClientEnd) (met : List Met) : Type 0 where

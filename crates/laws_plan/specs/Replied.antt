@@ -3,7 +3,7 @@ use Rattle.std.specs.Prelude.{◌≡◌, List, [], ◌∷◌, ◌++◌, Some, op
 use Rattle.laws_convoys.specs.Replies.{IsRepliedBy}
 use Rattle.lc_world.specs.Link.{LinkSeen}
 use Rattle.lc_world.specs.declared.entry.Entry.{Entry}
-use Rattle.publisher_spec.specs.Side.{IsLater, Side}
+use Rattle.lc_world.specs.Sides.Side.{IsLater, Side}
 
 -- From the first side on to the last, each exchange was replied to by a side. Each of them is a later one of the one before.
 abbrev pub AreRepliedAlong : Side → List Entry → Side → Type 0

@@ -4,7 +4,7 @@ use Rattle.laws_convoys.specs.Names.{Round}
 use Rattle.laws_clients.specs.Stated.{version_at}
 use Rattle.page_client.specs.declared.want.Want.{Want}
 use Rattle.page_client.specs.declared.want.Want.TheVariants as wants
-use Rattle.publisher_spec.specs.Side.{IsLater, Side}
+use Rattle.lc_world.specs.Sides.Side.{IsLater, Side}
 
 -- each side is a later one of the side before it, from the first to the last
 abbrev pub AreLater : Side → List Side → Side → Type 0

@@ -5,7 +5,7 @@ use Rattle.laws_plan.specs.Sides.{sides_of, version_after}
 use Rattle.laws_clients.specs.Stated.{version_at}
 use Rattle.page_client.specs.declared.want.Want.{Want}
 use Rattle.page_client.specs.declared.want.Want.TheVariants as wants
-use Rattle.publisher_spec.specs.Side.{Side}
+use Rattle.lc_world.specs.Sides.Side.{Side}
 
 -- a turn in which this was received
 abbrev pub received : Want → Round

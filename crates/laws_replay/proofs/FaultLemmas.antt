@@ -13,7 +13,7 @@ use Rattle.cli_ask.specs.Publishing.{side_with}
 use Rattle.page_client.specs.declared.outcome.Outcome.{Outcome}
 use Rattle.page_client.specs.declared.outcome.Outcome.TheVariants as outcomes
 use Rattle.lc_model.specs.declared.query.Query.{Query}
-use Rattle.publisher_spec.specs.Side.{Side}
+use Rattle.lc_world.specs.Sides.Side.{Side}
 use Rattle.laws_replay.specs.Right.{FailsWith}
 use Rattle.laws_replay.specs.Laws.{FaultsAreOwn}
 

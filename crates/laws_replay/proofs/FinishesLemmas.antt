@@ -24,7 +24,7 @@ use Rattle.lc_model.specs.declared.page.PageName.{PageName}
 use Rattle.lc_model.specs.declared.query.Query.{Query}
 use Rattle.lc_world.specs.Link.{LinkSeen}
 use Rattle.page_client.specs.Client.{shown}
-use Rattle.publisher_spec.specs.Side.{Side}
+use Rattle.lc_world.specs.Sides.Side.{Side}
 use Rattle.timetable.specs.declared.timetable.Timetable.{Timetable}
 use Rattle.laws_replay.specs.Events.{questions_in, turns_in}
 use Rattle.laws_replay.specs.History.{AreMetIn}

@@ -27,8 +27,8 @@ use Rattle.page_client.specs.declared.outcome.Outcome.{Outcome}
 use Rattle.page_client.specs.declared.outcome.Outcome.TheVariants as outcomes
 use Rattle.page_client.specs.declared.want.Want.{Want}
 use Rattle.publisher.specs.Held.{Held, side_of}
-use Rattle.publisher_spec.specs.Short.{IsShort}
-use Rattle.publisher_spec.specs.Side.{IsLater, IsValidSide, Side}
+use Rattle.lc_world.specs.Sides.Short.{IsShort}
+use Rattle.lc_world.specs.Sides.Side.{IsLater, IsValidSide, Side}
 use Rattle.timetable.specs.declared.timetable.Timetable.{Timetable}
 use Rattle.version_store.specs.Store.{Stored, entry_of}
 use Rattle.cli_ask.specs.Admission.{IsBehind}

@@ -23,7 +23,7 @@ use Rattle.lc_model.specs.Versions.Named.{version_named}
 use Rattle.page_client.specs.declared.outcome.Outcome.{Outcome}
 use Rattle.page_client.specs.declared.outcome.Outcome.TheVariants as outcomes
 use Rattle.page_client.specs.declared.want.Want.{Want}
-use Rattle.publisher_spec.specs.Side.{Side}
+use Rattle.lc_world.specs.Sides.Side.{Side}
 use Rattle.journey_text.specs.Script.{IsClient}
 use Rattle.laws_clients.specs.Stated.{version_at}
 use Rattle.timetable.specs.Laws.{AreSame}

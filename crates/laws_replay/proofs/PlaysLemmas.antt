@@ -13,7 +13,7 @@ use Rattle.laws_convoys.specs.Names.{Round}
 use Rattle.laws_convoys.specs.Rounds.{round_at, rounds_up_to}
 use Rattle.lc_world.specs.Link.{LinkSeen}
 use Rattle.page_client.specs.Client.{shown}
-use Rattle.publisher_spec.specs.Short.{IsShort}
+use Rattle.lc_world.specs.Sides.Short.{IsShort}
 use Rattle.journey_text.specs.Script.{IsClient}
 use Rattle.timetable.specs.declared.timetable.Timetable.{Timetable}
 use Rattle.version_store.specs.Store.{Stored}

@@ -14,8 +14,8 @@ use Rattle.laws_convoys.specs.Rounds.{rounds_up_to}
 use Rattle.laws_convoys.proofs.RepliesLemmas.{rounds_replied, recorded_then, turn_replied}
 use Rattle.lc_world.specs.Link.{IsQuietWith, LinkSeen}
 use Rattle.lc_world.specs.declared.entry.Entry.{Entry}
-use Rattle.publisher_spec.specs.Short.{IsShort}
-use Rattle.publisher_spec.specs.Side.{IsValidSide}
+use Rattle.lc_world.specs.Sides.Short.{IsShort}
+use Rattle.lc_world.specs.Sides.Side.{IsValidSide}
 use Rattle.timetable.specs.declared.timetable.Timetable.{Timetable}
 use Rattle.version_store.specs.Store.{Stored}
 use Rattle.laws_replay.specs.Laws.{IsQuietAt}

@@ -11,7 +11,7 @@ use Rattle.lc_model.specs.declared.query.Query.{Query}
 use Rattle.lc_world.specs.Link.{LinkSeen}
 use Rattle.lc_world.specs.declared.entry.Entry.{Entry}
 use Rattle.page_client.specs.declared.outcome.Outcome.TheVariants.{LinkFault}
-use Rattle.publisher_spec.specs.Side.{IsValidSide}
+use Rattle.lc_world.specs.Sides.Side.{IsValidSide}
 use Rattle.timetable.specs.declared.timetable.Timetable.{Timetable}
 use Rattle.cli_ask.specs.Block.{IsPrintable}
 use Rattle.cli_ask.specs.Publishing.{side_with, store_of}

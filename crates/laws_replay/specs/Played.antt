@@ -12,7 +12,7 @@ use Rattle.lc_io.specs.declared.file.File.{File}
 use Rattle.lc_world.specs.Link.{LinkSeen}
 use Rattle.page_client.specs.Client.{shown}
 use Rattle.publisher.specs.Held.{Held, side_of}
-use Rattle.publisher_spec.specs.Side.{IsValidSide}
+use Rattle.lc_world.specs.Sides.Side.{IsValidSide}
 use Rattle.version_store.specs.Store.{Stored}
 use Rattle.cli_ask.specs.Admission.{IsBehind}
 use Rattle.cli_ask.specs.declared.end.ClientEnd.{ClientEnd}

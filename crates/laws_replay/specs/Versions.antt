@@ -4,7 +4,7 @@ use Rattle.cli_words.specs.declared.command.Publishing.{Publishing}
 use Rattle.laws_convoys.specs.OneClient.{version_of}
 use Rattle.lc_model.specs.declared.query.Query.{Query}
 use Rattle.page_client.specs.declared.want.Want.{Want}
-use Rattle.publisher_spec.specs.Short.{IsShort}
+use Rattle.lc_world.specs.Sides.Short.{IsShort}
 use Rattle.timetable.specs.declared.timetable.Timetable.{Timetable}
 use Rattle.version_store.specs.Store.{Stored}
 use Rattle.cli_ask.specs.Admission.{IsBehind}

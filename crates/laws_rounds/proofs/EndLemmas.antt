@@ -20,7 +20,7 @@ use Rattle.page_client.specs.declared.phase.Phase.{Phase}
 use Rattle.page_client.specs.declared.phase.Phase.TheVariants as phases
 use Rattle.page_client.specs.declared.want.Want.{Want}
 use Rattle.page_client.specs.declared.want.Want.TheVariants as wants
-use Rattle.publisher_spec.specs.Side.{Side}
+use Rattle.lc_world.specs.Sides.Side.{Side}
 use Rattle.laws_clients.specs.Answered.{AnswersAt, NeededAt, answer_of}
 use Rattle.laws_clients.specs.Fits.{FitsAt, HasAnswered, HasFailed, IsDenied}
 use Rattle.laws_clients.specs.Steps.{BeginsInAgreement}

@@ -20,8 +20,8 @@ use Rattle.page_client.specs.declared.phase.Phase.TheVariants as phases
 use Rattle.page_client.specs.declared.want.Want.{Want}
 use Rattle.page_client.specs.declared.want.Want.TheVariants as wants
 use Rattle.page_client.proofs.PageLemmas.{waits_for}
-use Rattle.publisher_spec.specs.Short.{StandsUnder}
-use Rattle.publisher_spec.specs.Side.{Side}
+use Rattle.lc_world.specs.Sides.Short.{StandsUnder}
+use Rattle.lc_world.specs.Sides.Side.{Side}
 use Rattle.laws_clients.specs.Stated.{version_at}
 use Rattle.laws_clients.proofs.ReadLemmas.{stops_are_read}
 use Rattle.laws_clients.specs.Fits.{FitsAt, FitsSide, WaitsForPage}

@@ -17,7 +17,7 @@ use Rattle.page_client.specs.declared.phase.Phase.{Phase}
 use Rattle.page_client.specs.declared.phase.Phase.TheVariants as phases
 use Rattle.page_client.specs.declared.want.Want.{Want}
 use Rattle.page_client.specs.declared.want.Want.TheVariants as wants
-use Rattle.publisher_spec.specs.Side.{IsLater, IsValidSide, Side}
+use Rattle.lc_world.specs.Sides.Side.{IsLater, IsValidSide, Side}
 use Rattle.laws_clients.specs.Published.{IsOwnPage}
 use Rattle.laws_clients.specs.Wants.{wants_of}
 use Rattle.laws_clients.proofs.FitsLemmas.{own_pages_stay}

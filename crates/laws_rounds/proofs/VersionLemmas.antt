@@ -12,9 +12,9 @@ use Rattle.live_calls.proofs.LawLemmas.{one_live_list}
 use Rattle.lc_model.specs.Versions.Pages.{CutPage}
 use Rattle.laws_pages.proofs.JourneysLemmas.{chain_is_journey, journey_is_chain}
 use Rattle.page_json.specs.declared.page.Page.{Page}
-use Rattle.publisher_spec.specs.PageAt.{named}
-use Rattle.publisher_spec.specs.Response.{IsPageOf}
-use Rattle.publisher_spec.specs.Side.{IsValidSide, Side}
+use Rattle.lc_world.specs.Sides.PageAt.{named}
+use Rattle.lc_world.specs.Sides.Response.{IsPageOf}
+use Rattle.lc_world.specs.Sides.Side.{IsValidSide, Side}
 use Rattle.laws_pages.specs.Chain.{connections_along}
 use Rattle.laws_pages.specs.Needed.{needed_pages}
 use Rattle.laws_pages.specs.Rides.{pages_on}

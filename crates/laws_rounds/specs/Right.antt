@@ -13,7 +13,7 @@ use Rattle.page_client.specs.declared.outcome.Outcome.{Outcome}
 use Rattle.page_client.specs.declared.outcome.Outcome.TheVariants as outcomes
 use Rattle.page_client.specs.declared.want.Want.{Want}
 use Rattle.page_client.specs.declared.want.Want.TheVariants as wants
-use Rattle.publisher_spec.specs.Side.{Side, has_version}
+use Rattle.lc_world.specs.Sides.Side.{Side, has_version}
 use Rattle.laws_clients.specs.Stated.{version_at}
 use Rattle.laws_clients.specs.Answered.{NeededAt}
 use Rattle.laws_clients.specs.Wants.{AreWants, HasEnds, wants_of}

@@ -7,7 +7,7 @@ use Rattle.lc_model.specs.declared.page.PageName.{PageName}
 use Rattle.lc_model.specs.declared.query.Query.{Query}
 use Rattle.lc_model.specs.declared.run.Run.{Run}
 use Rattle.page_json.specs.declared.page.Page.{Page}
-use Rattle.publisher_spec.specs.Side.{IsValidSide, Side}
+use Rattle.lc_world.specs.Sides.Side.{IsValidSide, Side}
 use Rattle.laws_clients.specs.Answered.{NeededAt}
 use Rattle.laws_clients.specs.Links.{connections_on}
 use Rattle.laws_clients.specs.Published.{AreLiveAt, IsOwnPage}

@@ -20,8 +20,8 @@ use Rattle.lc_model.specs.Versions.History.{Entry, IsRising, moments_of}
 use Rattle.lc_model.specs.Versions.Named.{is_by, last_of, version_named}
 use Rattle.lc_model.specs.Versions.News.{TripSaid}
 use Rattle.lc_model.specs.Versions.Timetable.{AreLiveRuns}
-use Rattle.publisher_spec.proofs.VersionLemmas.{Rising, below, history_rises, moments_on, news_stay}
-use Rattle.publisher_spec.specs.Side.{date_in}
+use Rattle.lc_world.proofs.SidesLemmas.VersionLemmas.{Rising, below, history_rises, moments_on, news_stay}
+use Rattle.lc_world.specs.Sides.Side.{date_in}
 use Rattle.timetable.specs.declared.timetable.Timetable.{Timetable}
 use Rattle.version_store.specs.Laws.{OneOutcome}
 use Rattle.version_store.specs.Store.{Stored, entry_of}

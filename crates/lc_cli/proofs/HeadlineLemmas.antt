@@ -29,7 +29,7 @@ use Rattle.page_client.specs.declared.outcome.Outcome.{Outcome}
 use Rattle.page_client.specs.declared.outcome.Outcome.TheVariants as outcomes
 use Rattle.page_client.specs.declared.want.Want.{Want}
 use Rattle.page_client.specs.declared.want.Want.TheVariants as wants
-use Rattle.publisher_spec.specs.Side.{Side}
+use Rattle.lc_world.specs.Sides.Side.{Side}
 use Rattle.timetable.specs.Laws.{LoadsRecorded}
 use Rattle.lc_cli.specs.Block.{IsBlockEnd, IsWrittenWhole, client_status_of, failed_status_of}
 use Rattle.lc_cli.specs.Clear.{IsAskedSide}

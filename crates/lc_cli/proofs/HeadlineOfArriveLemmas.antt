@@ -31,8 +31,8 @@ use Rattle.lc_world.specs.Link.{LinkSeen}
 use Rattle.lc_world.specs.declared.entry.Entry.{Entry}
 use Rattle.page_client.specs.Shown.{answered}
 use Rattle.page_client.specs.declared.outcome.Outcome.{Outcome}
-use Rattle.publisher_spec.specs.Short.{IsShort}
-use Rattle.publisher_spec.specs.Side.{Side}
+use Rattle.lc_world.specs.Sides.Short.{IsShort}
+use Rattle.lc_world.specs.Sides.Side.{Side}
 use Rattle.timetable.specs.Laws.{LoadsRecorded}
 use Rattle.lc_cli.specs.Block.{IsBlockEnd}
 use Rattle.lc_cli.specs.Clear.{IsAskedSide}

@@ -9,7 +9,7 @@ use Rattle.cli_words.specs.declared.command.Command.TheVariants as commands
 use Rattle.cli_words.specs.declared.command.Relay.{Relay}
 use Rattle.lc_io.specs.declared.file.File.{File}
 use Rattle.lc_world.specs.Link.{IsHonestWith, LinkSeen}
-use Rattle.publisher_spec.specs.Side.{Side}
+use Rattle.lc_world.specs.Sides.Side.{Side}
 use Rattle.lc_cli.specs.Block.{IsBlockEnd}
 use Rattle.lc_cli.specs.Command.{IsRelayBlock, Prints}
 use Rattle.lc_cli.specs.HeadlineOfRelay.{HeadlineOfRelay, RelayedEachBest}

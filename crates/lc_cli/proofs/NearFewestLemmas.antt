@@ -6,7 +6,7 @@ use Rattle.lc_model.specs.declared.journey.Journey.{Journey}
 use Rattle.lc_model.specs.declared.query.Query.{Query}
 use Rattle.page_client.specs.Shown.{answered}
 use Rattle.page_client.specs.declared.outcome.Outcome.TheVariants as outcomes
-use Rattle.publisher_spec.specs.Side.{Side}
+use Rattle.lc_world.specs.Sides.Side.{Side}
 use Rattle.lc_cli.specs.Headline.{version_meant}
 use Rattle.lc_cli.specs.HeadlineOfFewest.{EndsFewest}
 use Rattle.lc_cli.specs.NearFewest.{NotAnotherVersion, NotNoJourney, NotOneRideFewer, NotOneRideMore}

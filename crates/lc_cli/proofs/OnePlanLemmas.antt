@@ -19,7 +19,7 @@ use Rattle.laws_replay.specs.declared.event.Event.TheVariants as events
 use Rattle.lc_io.specs.Counts.{Rose}
 use Rattle.lc_io.specs.Folder.{FolderSeen}
 use Rattle.lc_io.specs.declared.file.File.{File}
-use Rattle.publisher_spec.specs.Side.{IsLater, IsValidSide, Side}
+use Rattle.lc_world.specs.Sides.Side.{IsLater, IsValidSide, Side}
 use Rattle.lc_world.specs.Link.{LinkSeen}
 use Rattle.journey_text.specs.ScriptLaws.{OneScript}
 use Rattle.journey_text.specs.Script.{IsClient}

@@ -20,7 +20,7 @@ use Rattle.lc_world.specs.Link.{IsHonestWith, LinkSeen}
 use Rattle.lc_world.specs.declared.entry.Entry.{Entry}
 use Rattle.page_relay.specs.Kept.{Kept}
 use Rattle.page_relay.specs.Relay.{RelayState, new_relay, relay_seen}
-use Rattle.publisher_spec.specs.Side.{Side}
+use Rattle.lc_world.specs.Sides.Side.{Side}
 use Rattle.journey_text.specs.ScriptLaws.{OneScript}
 use Rattle.lc_cli.specs.Command.{IsRelayBlock}
 use Rattle.lc_cli.specs.OnePlan.{PlanTheSame}

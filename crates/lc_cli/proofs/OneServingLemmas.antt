@@ -24,7 +24,7 @@ use Rattle.lc_model.specs.declared.run.Run.{Run}
 use Rattle.lc_model.specs.Versions.History.{Entry}
 use Rattle.lc_world.specs.Link.{LinkSeen}
 use Rattle.publisher.specs.Held.{side_of}
-use Rattle.publisher_spec.specs.Side.{Side, date_in}
+use Rattle.lc_world.specs.Sides.Side.{Side, date_in}
 use Rattle.timetable.specs.Laws.{AreSame, LoadsRecorded, OneTimetable}
 use Rattle.timetable.specs.declared.timetable.Timetable.{Timetable}
 use Rattle.version_store.specs.Laws.{OneOutcome}

@@ -16,7 +16,7 @@ use Rattle.lc_io.specs.Counts.{Rose}
 use Rattle.lc_io.specs.Folder.{FolderSeen}
 use Rattle.lc_io.specs.declared.file.File.{File}
 use Rattle.lc_world.specs.Link.{LinkSeen}
-use Rattle.publisher_spec.specs.Side.{Side}
+use Rattle.lc_world.specs.Sides.Side.{Side}
 use Rattle.journey_text.specs.ScriptLaws.{NeverBoth}
 use Rattle.journey_text.specs.ScriptReading.{HasFault}
 use Rattle.journey_text.specs.declared.script_fault.ScriptFault.TheVariants.{Wrong}

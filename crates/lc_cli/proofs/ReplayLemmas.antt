@@ -18,7 +18,7 @@ use Rattle.lc_world.specs.Link.{LinkSeen}
 use Rattle.page_client.specs.declared.outcome.Outcome.{Outcome}
 use Rattle.page_client.specs.declared.outcome.Outcome.TheVariants as outcomes
 use Rattle.page_client.specs.declared.want.Want.{Want}
-use Rattle.publisher_spec.specs.Side.{Side}
+use Rattle.lc_world.specs.Sides.Side.{Side}
 use Rattle.laws_replay.specs.Events.{questions_in}
 use Rattle.laws_replay.specs.declared.event.Event.{Event}
 use Rattle.laws_replay.specs.declared.event.Event.TheVariants as events

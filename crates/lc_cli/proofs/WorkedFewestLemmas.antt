@@ -23,7 +23,7 @@ use Rattle.lc_model.proofs.OneValueLemmas.{documents_are_one}
 use Rattle.lc_time.specs.declared.zone.Zone.TheVariants.{Utc}
 use Rattle.lc_model.specs.Versions.Timetable.{AreLiveRuns}
 use Rattle.live_calls.specs.Laws.{LiveWithoutNews, RunsAreLive, RunsOnTime}
-use Rattle.publisher_spec.specs.Side.{Side}
+use Rattle.lc_world.specs.Sides.Side.{Side}
 use Rattle.timetable.specs.Tiny.{call, key_of, moment, run_of}
 use Rattle.timetable.specs.declared.timetable.Timetable.{Timetable}
 use Rattle.lc_cli.specs.NearHeadline.{end_of}

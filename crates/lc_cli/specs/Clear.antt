@@ -21,8 +21,8 @@ use Rattle.lc_io.specs.Counts.{Rose}
 use Rattle.lc_io.specs.Folder.{bytes_named}
 use Rattle.lc_io.specs.declared.file.File.{File}
 use Rattle.lc_world.specs.Link.{IsHonestWith, LinkSeen}
-use Rattle.publisher_spec.specs.Short.{IsShort}
-use Rattle.publisher_spec.specs.Side.{Side}
+use Rattle.lc_world.specs.Sides.Short.{IsShort}
+use Rattle.lc_world.specs.Sides.Side.{Side}
 use Rattle.laws_replay.specs.Versions.{AreShort}
 use Rattle.laws_replay.specs.declared.event.Event.{Event}
 use Rattle.laws_replay.specs.declared.event.Event.TheVariants as events

@@ -33,8 +33,8 @@ use Rattle.page_client.specs.declared.outcome.Outcome.{Outcome}
 use Rattle.page_client.specs.declared.outcome.Outcome.TheVariants as outcomes
 use Rattle.page_client.specs.declared.want.Want.{Want}
 use Rattle.page_client.specs.declared.want.Want.TheVariants as wants
-use Rattle.publisher_spec.specs.Short.{IsShort}
-use Rattle.publisher_spec.specs.Side.{Side}
+use Rattle.lc_world.specs.Sides.Short.{IsShort}
+use Rattle.lc_world.specs.Sides.Side.{Side}
 use Rattle.timetable.specs.declared.timetable.Timetable.{Timetable}
 use Rattle.version_store.specs.Store.{Stored}
 use Rattle.lc_cli.specs.Clear.{AreRecordedAsks, IsAskedSide, IsRecordedCourse}

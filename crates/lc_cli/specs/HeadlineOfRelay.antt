@@ -10,7 +10,7 @@ use Rattle.laws_replay.specs.Replayed.{clients_text_of}
 use Rattle.laws_replay.specs.declared.event.Event.{Event}
 use Rattle.lc_io.specs.declared.file.File.{File}
 use Rattle.lc_world.specs.Link.{IsHonestWith, LinkSeen}
-use Rattle.publisher_spec.specs.Side.{Side}
+use Rattle.lc_world.specs.Sides.Side.{Side}
 use Rattle.lc_cli.specs.Clear.{AreRecordedAsks}
 use Rattle.lc_cli.specs.Headline.{EachEndsBest}
 use Rattle.lc_cli.specs.Top.{IsRight, Past}

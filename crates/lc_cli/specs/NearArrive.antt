@@ -10,7 +10,7 @@ use Rattle.lc_model.specs.Journey.{leaves_at}
 use Rattle.lc_model.specs.declared.journey.Journey.{Journey}
 use Rattle.lc_model.specs.declared.page.PageName.{PageName}
 use Rattle.page_client.specs.declared.outcome.Outcome.TheVariants as outcomes
-use Rattle.publisher_spec.specs.Side.{Side}
+use Rattle.lc_world.specs.Sides.Side.{Side}
 use Rattle.lc_cli.specs.HeadlineOfArrive.{EndsLatest}
 
 -- A journey that leaves earlier is refused, as the one where a client stops that takes the first journey it finds.

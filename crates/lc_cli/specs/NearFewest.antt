@@ -4,7 +4,7 @@ use Rattle.cli_ask.specs.declared.end.ClientEnd.{ClientEnd}
 use Rattle.lc_model.specs.declared.journey.Journey.{Journey}
 use Rattle.lc_model.specs.declared.query.Query.{Query}
 use Rattle.page_client.specs.declared.outcome.Outcome.TheVariants as outcomes
-use Rattle.publisher_spec.specs.Side.{Side}
+use Rattle.lc_world.specs.Sides.Side.{Side}
 use Rattle.lc_cli.specs.Headline.{version_meant}
 use Rattle.lc_cli.specs.HeadlineOfFewest.{EndsFewest}
 

@@ -12,7 +12,7 @@ use Rattle.lc_model.specs.declared.query.Query.{Query}
 use Rattle.lc_model.specs.declared.versions.update.Update.{Update}
 use Rattle.page_client.specs.declared.want.Want.{Want}
 use Rattle.page_client.specs.declared.want.Want.TheVariants as wants
-use Rattle.publisher_spec.specs.Side.{Side, with_message}
+use Rattle.lc_world.specs.Sides.Side.{Side, with_message}
 use Rattle.timetable.specs.Tiny.{IsTiny}
 use Rattle.timetable.specs.declared.timetable.Timetable.{Timetable}
 use Rattle.lc_cli.specs.Headline.{EndsBestAt}

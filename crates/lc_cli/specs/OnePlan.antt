@@ -12,7 +12,7 @@ use Rattle.laws_replay.specs.Replayed.{clients_text_of}
 use Rattle.lc_io.specs.Counts.{Rose}
 use Rattle.lc_io.specs.declared.file.File.{File}
 use Rattle.lc_world.specs.Link.{IsHonestWith, IsQuietWith, LinkSeen}
-use Rattle.publisher_spec.specs.Side.{IsLater, IsValidSide, Side}
+use Rattle.lc_world.specs.Sides.Side.{IsLater, IsValidSide, Side}
 use Rattle.lc_cli.specs.Top.{HasPrinted, Past}
 use Rattle.lc_cli.specs.declared.block.Block.{Block}
 use Rattle.lc_cli.specs.declared.status.Status.{Status}

@@ -9,7 +9,7 @@ use Rattle.laws_plan.specs.OneGrowing.{NameTheSame}
 use Rattle.laws_replay.specs.Replayed.{clients_text_of}
 use Rattle.lc_io.specs.declared.file.File.{File}
 use Rattle.lc_world.specs.Link.{LinkSeen}
-use Rattle.publisher_spec.specs.Side.{IsLater, IsValidSide, Side}
+use Rattle.lc_world.specs.Sides.Side.{IsLater, IsValidSide, Side}
 use Rattle.lc_cli.specs.OnePlan.{HasGrowingLink, HasQuietLink, PlanTheSame}
 use Rattle.lc_cli.specs.Top.{HasPrinted, Past}
 use Rattle.lc_cli.specs.declared.block.Block.{Block}

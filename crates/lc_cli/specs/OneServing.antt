@@ -6,7 +6,7 @@ use Rattle.cli_words.specs.declared.command.Serve.{Serve}
 use Rattle.lc_io.specs.Door.{DoorRecorded}
 use Rattle.lc_io.specs.declared.file.File.{File}
 use Rattle.lc_world.specs.Link.{LinkSeen}
-use Rattle.publisher_spec.specs.Side.{Side}
+use Rattle.lc_world.specs.Sides.Side.{Side}
 use Rattle.lc_cli.specs.Clear.{IsPublishedSide, IsServedSide}
 use Rattle.lc_cli.specs.Serving.{asked_of}
 use Rattle.lc_cli.specs.Top.{HasServed, Past}

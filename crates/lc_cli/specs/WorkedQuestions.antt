@@ -13,7 +13,7 @@ use Rattle.lc_model.specs.declared.answer.Answer.TheVariants as answers
 use Rattle.lc_model.specs.declared.journey.Journey.{Journey}
 use Rattle.lc_model.specs.declared.ride.Ride.{Ride}
 use Rattle.lc_model.specs.declared.run.Run.{Run}
-use Rattle.publisher_spec.specs.Side.{Side}
+use Rattle.lc_world.specs.Sides.Side.{Side}
 use Rattle.timetable.specs.Tiny.{IsTiny, call, moment, run_of, tiny_changes, tiny_runs, tiny_stops}
 use Rattle.timetable.specs.declared.timetable.Timetable.{Timetable}
 use Rattle.lc_cli.specs.Headline.{EndsBest}

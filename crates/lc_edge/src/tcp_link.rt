@@ -4,7 +4,7 @@ ghost use Rattle.lc_io.specs.Counts.{Counts, HasCause};
 ghost use Rattle.lc_world.specs.Link.{Exchanges, IsGet, IsHonestWith, Tells};
 ghost use Rattle.lc_world.specs.declared.link.LinkFail.TheVariants.{Failed, NoMemory as WantOfMemory};
 ghost use Rattle.connection_uri.specs.Base.{BaseParts};
-ghost use Rattle.publisher_spec.specs.Side.{Side};
+ghost use Rattle.lc_world.specs.Sides.Side.{Side};
 
 use crate::authority::host_and_port;
 use crate::bounded::read_at_most;

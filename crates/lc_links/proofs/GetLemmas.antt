@@ -6,12 +6,12 @@ use Rattle.http_text.specs.declared.reply_parts.Allow.TheVariants.{Posting, Read
 use Rattle.http_text.specs.declared.request.Request.{Request}
 use Rattle.http_text.proofs.MessageLemmas.{one_request}
 use Rattle.lc_world.specs.Link.{IsGet}
-use Rattle.publisher_spec.specs.Asked.{is_posting, is_reading, is_under}
-use Rattle.publisher_spec.specs.Reply.{IsBehind, IsNextSide}
-use Rattle.publisher_spec.specs.Response.{asked_at}
-use Rattle.publisher_spec.specs.Side.{Side}
-use Rattle.publisher_spec.specs.declared.asked.Asked.{Asked}
-use Rattle.publisher_spec.specs.declared.asked.Asked.TheVariants as kinds
+use Rattle.lc_world.specs.Sides.Asked.{is_posting, is_reading, is_under}
+use Rattle.lc_world.specs.Sides.Reply.{IsBehind, IsNextSide}
+use Rattle.lc_world.specs.Sides.Response.{asked_at}
+use Rattle.lc_world.specs.Sides.Side.{Side}
+use Rattle.lc_world.specs.declared.sides.asked.Asked.{Asked}
+use Rattle.lc_world.specs.declared.sides.asked.Asked.TheVariants as kinds
 
 -- what is asked for, by the tests of its path and its method
 abbrev asked_by : Bool → Bool → Bool → Bool → Bool → Bool → Asked

@@ -4,10 +4,10 @@ use Rattle.std.specs.Prelude.{OnOk, Result, Ok, Err, unwrap_or}
 use Rattle.connection_uri.specs.Base.{BaseParts}
 use Rattle.lc_world.specs.Link.{IsGet, IsHonest, StaysHonest}
 use Rattle.lc_world.specs.declared.link.LinkFail.{LinkFail}
-use Rattle.publisher_spec.specs.Reply.{IsNextSide, IsReply}
-use Rattle.publisher_spec.specs.Short.{StandsUnder}
-use Rattle.publisher_spec.specs.Side.{Side}
-use Rattle.publisher_spec.proofs.LaterLemmas.{later_itself}
+use Rattle.lc_world.specs.Sides.Reply.{IsNextSide, IsReply}
+use Rattle.lc_world.specs.Sides.Short.{StandsUnder}
+use Rattle.lc_world.specs.Sides.Side.{Side}
+use Rattle.lc_world.proofs.SidesLemmas.LaterLemmas.{later_itself}
 use Rattle.lc_links.proofs.GetLemmas.{get_leaves}
 
 -- a link of which nothing has to be said but its side

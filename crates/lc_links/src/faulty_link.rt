@@ -4,7 +4,7 @@ ghost use Rattle.lc_io.specs.Counts.{Counts, HasCause, Rose, one_more};
 ghost use Rattle.lc_links.specs.FaultyLink.{Reaches};
 ghost use Rattle.lc_world.specs.Link.{Exchanges, IsGet, IsHonestWith, Tells};
 ghost use Rattle.lc_world.specs.declared.link.LinkFail.TheVariants.{Failed};
-ghost use Rattle.publisher_spec.specs.Side.{Side};
+ghost use Rattle.lc_world.specs.Sides.Side.{Side};
 
 use lc_world::{Link, LinkFail};
 use std::alloc::Global;

@@ -6,8 +6,8 @@ ghost use Rattle.lc_io.specs.Counts.{HasCause, one_more};
 ghost use Rattle.lc_world.specs.Link.{IsGet, IsHonest, StaysHonest, Tells};
 ghost use Rattle.lc_world.specs.declared.link.LinkFail.TheVariants.{Failed, NoMemory as OutOfMemory};
 ghost use Rattle.publisher.specs.Held.{side_of};
-ghost use Rattle.publisher_spec.specs.Reply.{IsNextSide, IsReply};
-ghost use Rattle.publisher_spec.specs.Side.{Side};
+ghost use Rattle.lc_world.specs.Sides.Reply.{IsNextSide, IsReply};
+ghost use Rattle.lc_world.specs.Sides.Side.{Side};
 
 use crate::taking::{is_whole, tell};
 use fragmenter::Fragmenter;

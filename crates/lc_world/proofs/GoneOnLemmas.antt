@@ -1,8 +1,8 @@
 -- What calls leave of a link is left by no call, by one, and by more calls after it.
 use Rattle.std.proofs.Common.{◌≡◌, ℕ, ◌≤◌, List, [], ◌∷◌, ◌++◌, Option, Some, None, option_map, Result, Ok, Err, inl, inr, refl, ap, ◌∙◌, sym, subst, append-nil, append_assoc, arith}
 use Rattle.connection_uri.specs.Base.{BaseParts}
-use Rattle.publisher_spec.specs.Side.{Side}
-use Rattle.publisher_spec.proofs.LaterLemmas.{later_itself, later_on}
+use Rattle.lc_world.specs.Sides.Side.{Side}
+use Rattle.lc_world.proofs.SidesLemmas.LaterLemmas.{later_itself, later_on}
 use Rattle.lc_world.specs.GoneOn.{HasGoneOn, IsLeftByPasses, IsLeftByGets, IsLeftHonest, RecordsMore}
 use Rattle.lc_world.specs.Link.{Exchanges, IsGet, IsHonestWith, LinkSeen, Tells, TellsMore}
 use Rattle.lc_world.specs.declared.entry.Entry.{Entry}

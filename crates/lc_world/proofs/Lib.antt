@@ -1,1 +1,2 @@
 pub mod GoneOnLemmas
+pub mod SidesLemmas

@@ -1,7 +1,7 @@
 -- What is left of a link after calls, however many there were and however each ended. Each may have run out of memory.
 use Rattle.std.specs.Prelude.{◌≡◌, ◌≤◌, ℕ, List, ◌++◌, Option, option_map}
 use Rattle.connection_uri.specs.Base.{BaseParts}
-use Rattle.publisher_spec.specs.Side.{IsLater, Side}
+use Rattle.lc_world.specs.Sides.Side.{IsLater, Side}
 use Rattle.lc_world.specs.Link.{IsHonestWith, LinkSeen}
 use Rattle.lc_world.specs.declared.entry.Entry.{Entry}
 

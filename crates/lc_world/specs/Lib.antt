@@ -1,3 +1,4 @@
 pub mod GoneOn
 pub mod Link
 pub mod ListLink
+pub mod Sides

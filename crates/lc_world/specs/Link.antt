@@ -3,9 +3,9 @@ use Rattle.std.specs.Prelude.{◌≡◌, ◌⊎◌, ℕ, List, [], ◌∷◌, �
 use Rattle.connection_uri.specs.Base.{BaseParts}
 use Rattle.http_text.specs.Request.{IsWholeRequest}
 use Rattle.http_text.specs.declared.request.Request.{Request}
-use Rattle.publisher_spec.specs.Reply.{IsReply}
-use Rattle.publisher_spec.specs.Short.{StandsUnder}
-use Rattle.publisher_spec.specs.Side.{IsLater, Side}
+use Rattle.lc_world.specs.Sides.Reply.{IsReply}
+use Rattle.lc_world.specs.Sides.Short.{StandsUnder}
+use Rattle.lc_world.specs.Sides.Side.{IsLater, Side}
 use Rattle.lc_world.specs.declared.entry.Entry.{Entry}
 use Rattle.lc_world.specs.declared.entry.RecordedReply.{RecordedReply}
 use Rattle.lc_world.specs.declared.entry.RecordedReply.TheVariants as recorded_replies

@@ -6,6 +6,7 @@
 mod entry;
 mod link;
 mod list_link;
+mod sides;
 
 pub use entry::{Entry, RecordedReply};
 pub use lc_io::{
@@ -14,3 +15,7 @@ pub use lc_io::{
 };
 pub use link::{Link, LinkFail};
 pub use list_link::ListLink;
+pub use sides::{
+    Asked, Response, mementos_stay, near_replies, near_values, next_is_later, one_reply,
+    worked_sides,
+};

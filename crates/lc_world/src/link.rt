@@ -3,7 +3,7 @@ ghost use Rattle.connection_uri.specs.Base.{BaseParts};
 ghost use Rattle.lc_io.specs.Counts.{HasCause};
 ghost use Rattle.lc_world.specs.Link.{Exchanges, IsGet, IsHonestWith, LinkSeen, Tells};
 ghost use Rattle.lc_world.specs.declared.link.LinkFail.TheVariants.{Failed, NoMemory as OutOfMemory};
-ghost use Rattle.publisher_spec.specs.Side.{Side};
+ghost use Rattle.lc_world.specs.Sides.Side.{Side};
 
 use lc_model::NoMemory;
 use std::alloc::Global;

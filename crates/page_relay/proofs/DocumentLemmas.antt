@@ -7,14 +7,14 @@ use Rattle.http_text.specs.declared.reply_fault.ReplyFault.{ReplyFault}
 use Rattle.http_text.specs.declared.reply_parts.Allow.TheVariants.{Posting}
 use Rattle.http_text.specs.declared.request.Request.{Request}
 use Rattle.http_text.proofs.MessageLemmas.{one_read, one_request}
-use Rattle.publisher_spec.specs.Asked.{asked_by_posting, asked_by_reading, is_head, is_under}
-use Rattle.publisher_spec.specs.Reply.{parts_of, sent_parts, text_said}
-use Rattle.publisher_spec.specs.Response.{IsDocument, IsGateResponse, IsPageResponse, IsResponseTo, IsSentOf, asked_at}
-use Rattle.publisher_spec.specs.Side.{Side, has_version}
-use Rattle.publisher_spec.specs.declared.asked.Asked.{Asked}
-use Rattle.publisher_spec.specs.declared.asked.Asked.TheVariants as kinds
-use Rattle.publisher_spec.specs.declared.response.Response.{Response}
-use Rattle.publisher_spec.specs.declared.response.Response.TheVariants as responses
+use Rattle.lc_world.specs.Sides.Asked.{asked_by_posting, asked_by_reading, is_head, is_under}
+use Rattle.lc_world.specs.Sides.Reply.{parts_of, sent_parts, text_said}
+use Rattle.lc_world.specs.Sides.Response.{IsDocument, IsGateResponse, IsPageResponse, IsResponseTo, IsSentOf, asked_at}
+use Rattle.lc_world.specs.Sides.Side.{Side, has_version}
+use Rattle.lc_world.specs.declared.sides.asked.Asked.{Asked}
+use Rattle.lc_world.specs.declared.sides.asked.Asked.TheVariants as kinds
+use Rattle.lc_world.specs.declared.sides.response.Response.{Response}
+use Rattle.lc_world.specs.declared.sides.response.Response.TheVariants as responses
 use Rattle.page_relay.specs.Keeping.{IsLastingReply}
 use Rattle.page_relay.specs.Laws.{OnlyDocuments}
 use Rattle.page_relay.proofs.StatusLemmas.{bad, digit, found, missing, other_method, tenth, written}

@@ -2,9 +2,9 @@
 use Rattle.std.proofs.Common.{◌≡◌, ℕ, List, Some, inl, inr, subst, sym}
 use Rattle.std.proofs.lemmas.List.Elements.{All-contains, All-weaker}
 use Rattle.connection_uri.specs.Base.{BaseParts}
-use Rattle.publisher_spec.specs.Reply.{IsReply}
-use Rattle.publisher_spec.specs.Side.{IsLater, IsValidSide, Side}
-use Rattle.publisher_spec.proofs.LaterLemmas.{mementos_stay}
+use Rattle.lc_world.specs.Sides.Reply.{IsReply}
+use Rattle.lc_world.specs.Sides.Side.{IsLater, IsValidSide, Side}
+use Rattle.lc_world.proofs.SidesLemmas.LaterLemmas.{mementos_stay}
 use Rattle.page_relay.specs.Exchanges.{KeepsReply}
 use Rattle.page_relay.specs.Fits.{IsReplyOf, RelayFits}
 use Rattle.page_relay.specs.Kept.{Kept, reply_for, with_used}

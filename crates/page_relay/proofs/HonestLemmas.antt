@@ -6,9 +6,9 @@ use Rattle.connection_uri.specs.Base.{BaseParts}
 use Rattle.lc_model.proofs.ListLemmas.{All-from_contains, Contains-nil}
 use Rattle.lc_world.specs.Link.{IsHonest, StaysHonest}
 use Rattle.lc_world.specs.declared.link.LinkFail.{LinkFail}
-use Rattle.publisher_spec.specs.Reply.{IsReply}
-use Rattle.publisher_spec.specs.Side.{Side}
-use Rattle.publisher_spec.proofs.LaterLemmas.{later_itself}
+use Rattle.lc_world.specs.Sides.Reply.{IsReply}
+use Rattle.lc_world.specs.Sides.Side.{Side}
+use Rattle.lc_world.proofs.SidesLemmas.LaterLemmas.{later_itself}
 use Rattle.page_relay.specs.Exchanges.{KeepsReply}
 use Rattle.page_relay.specs.Fits.{IsReplyOf, RelayFits, RelaysHonestly}
 use Rattle.page_relay.specs.Kept.{Kept, reply_for, with_used}

@@ -8,7 +8,7 @@ use Rattle.std.proofs.lemmas.Slice.Eq.{bytes_eq-Decides}
 use Rattle.lc_model.proofs.ListLemmas.{All-from_contains}
 use Rattle.lru.specs.LruCache.{LruCache, put_entries}
 use Rattle.lru.proofs.CallerLemmas.{Contains-lookup, Contains-promoted, Contains-take}
-use Rattle.publisher_spec.specs.Asked.{is_same}
+use Rattle.lc_world.specs.Sides.Asked.{is_same}
 use Rattle.page_relay.specs.Kept.{Kept, is_same_request, reply_for, with_kept, with_used}
 use Rattle.page_relay.specs.declared.sent.SentRequest.{SentRequest}
 

@@ -2,7 +2,7 @@
 use Rattle.std.proofs.Common.{◌≡◌, ◌∙◌, ◌∷◌, [], ap, arith, inl, inr, sym}
 use Rattle.std.proofs.lemmas.List.Elements.{All-contains}
 use Rattle.lc_model.proofs.ListLemmas.{Contains-cases, Contains-nil}
-use Rattle.publisher_spec.specs.Asked.{is_head}
+use Rattle.lc_world.specs.Sides.Asked.{is_head}
 use Rattle.page_relay.specs.Fits.{IsReplyOf}
 use Rattle.page_relay.specs.Kept.{Kept}
 use Rattle.page_relay.specs.Near.{FoundIsItsOwn, NoOtherStatusIsKept, NoTimeGateFits, NoTimeGateIsKept, OthersAreNotFound}

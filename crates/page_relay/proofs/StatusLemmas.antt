@@ -16,10 +16,10 @@ use Rattle.http_text.specs.declared.reply_parts.Allow.{Allow}
 use Rattle.http_text.specs.declared.reply_parts.ReplyParts.{ReplyParts}
 use Rattle.lc_model.specs.declared.doc.StopsDoc.{StopsDoc}
 use Rattle.lc_model.specs.declared.page.PageName.{PageName}
-use Rattle.publisher_spec.specs.Reply.{bare_parts, found_parts, method_parts, parts_of, sent_parts}
-use Rattle.publisher_spec.specs.Response.{IsDocument}
-use Rattle.publisher_spec.specs.declared.response.Response.{Response}
-use Rattle.publisher_spec.specs.declared.response.Response.TheVariants as responses
+use Rattle.lc_world.specs.Sides.Reply.{bare_parts, found_parts, method_parts, parts_of, sent_parts}
+use Rattle.lc_world.specs.Sides.Response.{IsDocument}
+use Rattle.lc_world.specs.declared.sides.response.Response.{Response}
+use Rattle.lc_world.specs.declared.sides.response.Response.TheVariants as responses
 
 -- the first digit of a reply's status
 abbrev pub digit : List ℕ → ℕ

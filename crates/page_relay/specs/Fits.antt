@@ -2,10 +2,10 @@
 use Rattle.std.specs.Prelude.{List, Option}
 use Rattle.std.specs.List.{All}
 use Rattle.std.specs.Option.{IfSome}
-use Rattle.publisher_spec.specs.Reply.{HasReply}
-use Rattle.publisher_spec.specs.Response.{IsDocument}
-use Rattle.publisher_spec.specs.Side.{Side}
-use Rattle.publisher_spec.specs.declared.response.Response.{Response}
+use Rattle.lc_world.specs.Sides.Reply.{HasReply}
+use Rattle.lc_world.specs.Sides.Response.{IsDocument}
+use Rattle.lc_world.specs.Sides.Side.{Side}
+use Rattle.lc_world.specs.declared.sides.response.Response.{Response}
 use Rattle.page_relay.specs.Kept.{Kept}
 
 -- the kept reply is that of the side to its request, and a document that never changes: a page at its version, or the stops document

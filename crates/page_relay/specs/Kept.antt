@@ -2,7 +2,7 @@
 use Rattle.std.specs.Prelude.{ℕ, Bool, ◌&&◌, List, ◌∷◌, take, Option}
 use Rattle.std.specs.Map.{lookup, lookup_entry, remove_entry}
 use Rattle.std.specs.Option.{option_map_or}
-use Rattle.publisher_spec.specs.Asked.{is_same}
+use Rattle.lc_world.specs.Sides.Asked.{is_same}
 use Rattle.page_relay.specs.declared.sent.SentRequest.{SentRequest}
 
 -- a reply that is kept, after the request to which it came

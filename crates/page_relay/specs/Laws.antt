@@ -10,10 +10,10 @@ use Rattle.lc_world.specs.GoneOn.{IsLeftByGets, RecordsMore}
 use Rattle.lc_world.specs.Link.{IsHonestWith, IsQuietWith, LinkSeen}
 use Rattle.lc_world.specs.declared.entry.Entry.{Entry}
 use Rattle.lc_world.specs.declared.entry.RecordedReply.TheVariants.{Hidden}
-use Rattle.publisher_spec.specs.Reply.{HasReply}
-use Rattle.publisher_spec.specs.Response.{IsDocument}
-use Rattle.publisher_spec.specs.Side.{IsLater, IsValidSide, Side}
-use Rattle.publisher_spec.specs.declared.response.Response.{Response}
+use Rattle.lc_world.specs.Sides.Reply.{HasReply}
+use Rattle.lc_world.specs.Sides.Response.{IsDocument}
+use Rattle.lc_world.specs.Sides.Side.{IsLater, IsValidSide, Side}
+use Rattle.lc_world.specs.declared.sides.response.Response.{Response}
 use Rattle.page_relay.specs.Fits.{RelayFits}
 use Rattle.page_relay.specs.HandedOn.{AreRelayed}
 use Rattle.page_relay.specs.Keeping.{IsKeepable, IsToKeep}

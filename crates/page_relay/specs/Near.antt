@@ -7,9 +7,9 @@ use Rattle.http_text.specs.declared.reply.Reply.{Reply}
 use Rattle.lc_model.specs.declared.page.PageName.{PageName}
 use Rattle.lc_world.specs.declared.entry.Entry.{Entry}
 use Rattle.lc_world.specs.declared.entry.RecordedReply.TheVariants as recorded_replies
-use Rattle.publisher_spec.specs.Reply.{HasReply}
-use Rattle.publisher_spec.specs.Side.{Side}
-use Rattle.publisher_spec.specs.declared.response.Response.TheVariants.{Found}
+use Rattle.lc_world.specs.Sides.Reply.{HasReply}
+use Rattle.lc_world.specs.Sides.Side.{Side}
+use Rattle.lc_world.specs.declared.sides.response.Response.TheVariants.{Found}
 use Rattle.page_relay.specs.Fits.{RelayFits}
 use Rattle.page_relay.specs.HandedOn.{Follows}
 use Rattle.page_relay.specs.Keeping.{IsKeepable, IsLastingReply, IsToKeep}

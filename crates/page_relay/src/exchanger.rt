@@ -6,7 +6,7 @@ ghost use Rattle.lc_world.specs.declared.link.LinkFail.TheVariants.{Failed};
 ghost use Rattle.page_relay.specs.Exchanges.{AsksBelow, GoesOn, IsKeptAfter, reply_of};
 ghost use Rattle.page_relay.specs.Exchanger.{exchanger_seen, new_exchanger};
 ghost use Rattle.page_relay.specs.Kept.{reply_for};
-ghost use Rattle.publisher_spec.specs.Side.{Side};
+ghost use Rattle.lc_world.specs.Sides.Side.{Side};
 
 use crate::SentRequest;
 use crate::keeper::Keeper;

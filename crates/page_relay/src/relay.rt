@@ -8,7 +8,7 @@ ghost use Rattle.page_relay.specs.Exchanger.{exchanger_seen};
 ghost use Rattle.page_relay.specs.Kept.{reply_for, sent_to};
 ghost use Rattle.page_relay.specs.Relay.{HasRelayedOf, new_relay, relay_seen, transcript_in};
 ghost use Rattle.page_relay.specs.Recorded.{Records, known_of};
-ghost use Rattle.publisher_spec.specs.Side.{Side};
+ghost use Rattle.lc_world.specs.Sides.Side.{Side};
 
 use crate::SentRequest;
 use crate::exchanger::Exchanger;

@@ -5,13 +5,13 @@ use Rattle.http_text.specs.Request.{IsWholeRequest}
 use Rattle.http_text.specs.declared.request.Request.{Request}
 use Rattle.publisher.specs.Updated.{IsUpdated}
 use Rattle.publisher.specs.Writable.{IsSoundResponse}
-use Rattle.publisher_spec.specs.Reply.{IsBehind, IsNextSide, IsReply, text_said}
-use Rattle.publisher_spec.specs.Response.{IsResponseTo, asked_at}
-use Rattle.publisher_spec.specs.Side.{Side}
-use Rattle.publisher_spec.specs.declared.asked.Asked.{Asked}
-use Rattle.publisher_spec.specs.declared.asked.Asked.TheVariants as kinds
-use Rattle.publisher_spec.specs.declared.response.Response.{Response}
-use Rattle.publisher_spec.specs.declared.response.Response.TheVariants.{Status}
+use Rattle.lc_world.specs.Sides.Reply.{IsBehind, IsNextSide, IsReply, text_said}
+use Rattle.lc_world.specs.Sides.Response.{IsResponseTo, asked_at}
+use Rattle.lc_world.specs.Sides.Side.{Side}
+use Rattle.lc_world.specs.declared.sides.asked.Asked.{Asked}
+use Rattle.lc_world.specs.declared.sides.asked.Asked.TheVariants as kinds
+use Rattle.lc_world.specs.declared.sides.response.Response.{Response}
+use Rattle.lc_world.specs.declared.sides.response.Response.TheVariants.{Status}
 
 module _ (side : Side) (bytes : List ℕ) (request : Request) (whole : IsWholeRequest bytes request) where
   -- the reply to a request that a message is admitted

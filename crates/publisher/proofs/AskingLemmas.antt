@@ -5,9 +5,9 @@ use Rattle.std.specs.Option.{IfSome}
 use Rattle.std.specs.Cmp.Lexicographic.{same_text}
 use lib.Pointwise.{pointwise}
 use Rattle.connection_uri.specs.Base.{BaseParts}
-use Rattle.publisher_spec.specs.Asked.{asked_by_posting, asked_by_reading, asked_of, is_under}
-use Rattle.publisher_spec.specs.Response.{IsTheOne}
-use Rattle.publisher_spec.specs.declared.asked.Asked.TheVariants as kinds
+use Rattle.lc_world.specs.Sides.Asked.{asked_by_posting, asked_by_reading, asked_of, is_under}
+use Rattle.lc_world.specs.Sides.Response.{IsTheOne}
+use Rattle.lc_world.specs.declared.sides.asked.Asked.TheVariants as kinds
 
 -- a text without the front is none of those that have it
 not_under_by : (same : Bool) (text other : List ℕ) → (text ≡ other → ⊥) → same ≡ pointwise nat_eq text other → false ≡ same

@@ -15,17 +15,17 @@ use Rattle.version_store.specs.Rows.{AreDepartures}
 use Rattle.version_store.specs.Store.{Stored, entry_of, versions_of}
 use Rattle.version_store.specs.declared.admission.Admitted.{Admitted}
 use Rattle.version_store.specs.declared.admission.AdmitFault.{AdmitFault}
-use Rattle.publisher_spec.specs.Side.{IsLater, Side}
-use Rattle.publisher_spec.specs.Side as sides
-use Rattle.publisher_spec.proofs.LaterLemmas.{timetable_stays}
-use Rattle.publisher_spec.proofs.VersionLemmas.{still_found}
+use Rattle.lc_world.specs.Sides.Side.{IsLater, Side}
+use Rattle.lc_world.specs.Sides.Side as sides
+use Rattle.lc_world.proofs.SidesLemmas.LaterLemmas.{timetable_stays}
+use Rattle.lc_world.proofs.SidesLemmas.VersionLemmas.{still_found}
 use Rattle.publisher.specs.Held.{Held, side_of}
 use Rattle.publisher.specs.Cuts.{AllRise, HasCuts, KeepsCuts}
 use Rattle.publisher.specs.Place.{AreRising, place_of}
 use Rattle.publisher.specs.PlaceOf.{IsPlaceOf}
 use Rattle.publisher.specs.declared.place.Place.{Place}
 use Rattle.publisher.proofs.PageLemmas.{timetable_of}
-use Rattle.publisher_spec.proofs.PageLemmas.{never_falls}
+use Rattle.lc_world.proofs.SidesLemmas.PageLemmas.{never_falls}
 use Rattle.publisher.proofs.VersionsLemmas.{contained_is_there}
 
 -- where a moment is among the cuts of a version

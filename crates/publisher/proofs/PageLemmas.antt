@@ -13,10 +13,10 @@ use Rattle.publisher.specs.Place.{place_of}
 use Rattle.publisher.specs.PlaceOf.{IsPlaceOf}
 use Rattle.publisher.specs.declared.place.Place.{Place}
 use Rattle.publisher.proofs.PlaceLemmas.{next_at_place, page_at_place, page_of_place, previous_at_place}
-use Rattle.publisher_spec.specs.PageAt.{linked, named, page_at}
-use Rattle.publisher_spec.specs.Response.{IsPageOf}
-use Rattle.publisher_spec.specs.Side.{IsTimetableAt, Side, date_in}
-use Rattle.publisher_spec.proofs.OneReplyLemmas.{one_timetable}
+use Rattle.lc_world.specs.Sides.PageAt.{linked, named, page_at}
+use Rattle.lc_world.specs.Sides.Response.{IsPageOf}
+use Rattle.lc_world.specs.Sides.Side.{IsTimetableAt, Side, date_in}
+use Rattle.lc_world.proofs.SidesLemmas.OneReplyLemmas.{one_timetable}
 use Rattle.lc_model.specs.declared.page.PageName.{PageName}
 use Rattle.lc_model.specs.declared.stop.Stop.{Stop}
 use Rattle.lc_model.specs.Versions.History.{news_at}

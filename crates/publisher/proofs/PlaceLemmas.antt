@@ -10,7 +10,7 @@ use Rattle.lc_model.specs.Versions.Cuts.{first_of}
 use Rattle.lc_model.specs.Versions.Pages.{CutPage, departing, page_for, pages_from, pages_of}
 use Rattle.publisher.specs.Place.{AreRising, place_behind, place_of}
 use Rattle.publisher.specs.declared.place.Place.{Place}
-use Rattle.publisher_spec.specs.PageAt.{next_cut, page_among, previous_cut}
+use Rattle.lc_world.specs.Sides.PageAt.{next_cut, page_among, previous_cut}
 
 rising_tail : (x : ℕ) (xs : List ℕ) → AreRising (x ∷ xs) → AreRising xs
 rising_tail x xs rising i j d before inside = rising (suc i) (suc j) d (omega arith) (omega arith)

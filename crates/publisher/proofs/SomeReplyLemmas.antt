@@ -19,16 +19,16 @@ use Rattle.trip_updates.specs.Faults.{fault_of}
 use Rattle.trip_updates.specs.Message.{IsMessage}
 use Rattle.trip_updates.specs.declared.fault.RtFault.{RtFault}
 use Rattle.trip_updates.proofs.TreesLemmas.{has_meaning, never_both}
-use Rattle.publisher_spec.specs.Asked.{field_value, member_value}
-use Rattle.publisher_spec.specs.PageAt.{page_at}
-use Rattle.publisher_spec.specs.Reply.{IsBehind, side_behind, text_said}
-use Rattle.publisher_spec.specs.Response.{IsGateResponse, IsMessageIn, IsPageOf, IsPageResponse, IsResponseTo, IsSentOf, IsTheOne, SaysDeparture, SaysVersion, asked_at, status_of_update}
-use Rattle.publisher_spec.specs.Side.{IsValidSide, Side, has_version, versions_of}
-use Rattle.publisher_spec.specs.declared.asked.Asked.{Asked}
-use Rattle.publisher_spec.specs.declared.asked.Asked.TheVariants as kinds
-use Rattle.publisher_spec.specs.declared.response.Response.{Response}
-use Rattle.publisher_spec.specs.declared.response.Response.TheVariants.{Status, OtherMethod, Found, Stops}
-use Rattle.publisher_spec.specs.declared.response.Response.TheVariants as responses
+use Rattle.lc_world.specs.Sides.Asked.{field_value, member_value}
+use Rattle.lc_world.specs.Sides.PageAt.{page_at}
+use Rattle.lc_world.specs.Sides.Reply.{IsBehind, side_behind, text_said}
+use Rattle.lc_world.specs.Sides.Response.{IsGateResponse, IsMessageIn, IsPageOf, IsPageResponse, IsResponseTo, IsSentOf, IsTheOne, SaysDeparture, SaysVersion, asked_at, status_of_update}
+use Rattle.lc_world.specs.Sides.Side.{IsValidSide, Side, has_version, versions_of}
+use Rattle.lc_world.specs.declared.sides.asked.Asked.{Asked}
+use Rattle.lc_world.specs.declared.sides.asked.Asked.TheVariants as kinds
+use Rattle.lc_world.specs.declared.sides.response.Response.{Response}
+use Rattle.lc_world.specs.declared.sides.response.Response.TheVariants.{Status, OtherMethod, Found, Stops}
+use Rattle.lc_world.specs.declared.sides.response.Response.TheVariants as responses
 use Rattle.publisher.specs.Laws.{IsSoundSide, SomeNextSide, SomeReply}
 use Rattle.publisher.proofs.TimetableLemmas.{some_list}
 use Rattle.publisher.proofs.VersionsLemmas.{negotiated_is_there}

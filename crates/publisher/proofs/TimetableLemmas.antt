@@ -1,6 +1,6 @@
 -- Each version of a valid side has some timetable.
 use Rattle.lc_model.specs.Versions.History.{news_at}
-use Rattle.publisher_spec.specs.Side.{date_in}
+use Rattle.lc_world.specs.Sides.Side.{date_in}
 use Rattle.version_store.proofs.SomeRowsLemmas.{some_connections}
 use Rattle.publisher.specs.Laws.{SomeTimetable}
 

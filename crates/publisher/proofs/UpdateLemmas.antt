@@ -16,10 +16,10 @@ use Rattle.version_store.specs.declared.admission.AdmitFault.TheVariants as faul
 use Rattle.publisher.specs.Held.{Held, side_of}
 use Rattle.publisher.specs.Updated.{Becomes, IsRefusal, IsUpdated, status_of_fault}
 use Rattle.version_store.specs.Store.{Stored, entry_of}
-use Rattle.publisher_spec.specs.declared.response.Response.TheVariants.{Status}
-use Rattle.publisher_spec.specs.Reply.{side_behind, text_said}
-use Rattle.publisher_spec.specs.Response.{IsMessageIn, bytes_of, is_full, says_length, status_of_update}
-use Rattle.publisher_spec.specs.Side.{Side, newest_of, with_message}
+use Rattle.lc_world.specs.declared.sides.response.Response.TheVariants.{Status}
+use Rattle.lc_world.specs.Sides.Reply.{side_behind, text_said}
+use Rattle.lc_world.specs.Sides.Response.{IsMessageIn, bytes_of, is_full, says_length, status_of_update}
+use Rattle.lc_world.specs.Sides.Side.{Side, newest_of, with_message}
 
 -- a body is a message, or none
 some_message_by : (body : List ℕ) (fault : Option RtFault) → fault_of body ≡ fault → (update : Option Update) × IsMessageIn body update

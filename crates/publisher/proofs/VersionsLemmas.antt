@@ -6,7 +6,7 @@ use Rattle.std.proofs.lemmas.Bool.{eq-eqb}
 use Rattle.std.proofs.lemmas.List.Folds.{list_any-from_Any}
 use Rattle.lc_model.specs.Versions.Named.{is_by, last_of, version_among}
 use Rattle.memento.specs.Negotiation.{Negotiates}
-use Rattle.publisher_spec.proofs.VersionLemmas.{contains_found}
+use Rattle.lc_world.proofs.SidesLemmas.VersionLemmas.{contains_found}
 
 -- one of these is the version
 abbrev pub has : ℕ → List ℕ → Bool

@@ -3,7 +3,7 @@ use Rattle.std.specs.Prelude.{◌≡◌, ℕ, true, List, Contains}
 use Rattle.std.proofs.Common.{Global, Vec}
 use Rattle.lc_model.specs.declared.connection.Connection.{Connection}
 use Rattle.lc_model.specs.Versions.Pages.{departures_of}
-use Rattle.publisher_spec.specs.Side.{IsTimetableAt, Side, has_version}
+use Rattle.lc_world.specs.Sides.Side.{IsTimetableAt, Side, has_version}
 use Rattle.publisher.specs.Place.{AreRising}
 
 -- the cuts are those of a version of the side: of the departures of its timetable

@@ -3,7 +3,7 @@ use Rattle.std.specs.Prelude.{ℕ, Bool, List}
 use Rattle.lc_model.specs.declared.doc.StopsDoc.{StopsDoc}
 use Rattle.connection_uri.specs.Base.{BaseParts}
 use Rattle.version_store.specs.Store.{Stored}
-use Rattle.publisher_spec.specs.Side.{Side}
+use Rattle.lc_world.specs.Sides.Side.{Side}
 
 -- the way in which it cuts departures, its timetable with the messages that were admitted, its stops document, its base, and
 -- whether it takes messages

@@ -4,9 +4,9 @@ use Rattle.lc_model.specs.declared.connection.Connection.{Connection}
 use Rattle.http_text.specs.Request.{IsWhole}
 use Rattle.page_json.specs.Sound.{IsSoundDoc, IsSoundPage}
 use Rattle.page_json.specs.declared.page.Page.{Page}
-use Rattle.publisher_spec.specs.Reply.{IsNextSide, IsReply}
-use Rattle.publisher_spec.specs.Response.{IsPageOf}
-use Rattle.publisher_spec.specs.Side.{IsTimetableAt, IsValidSide, Side, has_version}
+use Rattle.lc_world.specs.Sides.Reply.{IsNextSide, IsReply}
+use Rattle.lc_world.specs.Sides.Response.{IsPageOf}
+use Rattle.lc_world.specs.Sides.Side.{IsTimetableAt, IsValidSide, Side, has_version}
 
 -- each version of a valid side has some timetable
 abbrev pub SomeTimetable : Type 0

@@ -3,7 +3,7 @@ use Rattle.std.specs.Prelude.{◌≡◌, ℕ, List}
 use Rattle.lc_model.specs.declared.connection.Connection.{Connection}
 use Rattle.lc_model.specs.Versions.Cuts.{AreCuts}
 use Rattle.lc_model.specs.Versions.Pages.{departures_of}
-use Rattle.publisher_spec.specs.Side.{IsTimetableAt, Side}
+use Rattle.lc_world.specs.Sides.Side.{IsTimetableAt, Side}
 use Rattle.publisher.specs.Place.{place_of}
 use Rattle.publisher.specs.declared.place.Place.{Place}
 

@@ -2,10 +2,10 @@
 use Rattle.std.specs.Prelude.{◌≡◌, ℕ, List, Option, Some, None}
 use Rattle.lc_model.specs.declared.versions.update.Update.{Update}
 use Rattle.http_text.specs.declared.request.Request.{Request}
-use Rattle.publisher_spec.specs.Reply.{side_behind, text_said}
-use Rattle.publisher_spec.specs.Response.{IsMessageIn, status_of_update}
-use Rattle.publisher_spec.specs.Side.{Side}
-use Rattle.publisher_spec.specs.declared.response.Response.TheVariants.{Status}
+use Rattle.lc_world.specs.Sides.Reply.{side_behind, text_said}
+use Rattle.lc_world.specs.Sides.Response.{IsMessageIn, status_of_update}
+use Rattle.lc_world.specs.Sides.Side.{Side}
+use Rattle.lc_world.specs.declared.sides.response.Response.TheVariants.{Status}
 use Rattle.version_store.specs.declared.admission.AdmitFault.{AdmitFault}
 use Rattle.version_store.specs.declared.admission.AdmitFault.TheVariants as faults
 

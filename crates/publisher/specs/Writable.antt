@@ -2,8 +2,8 @@
 use Rattle.http_text.specs.ReplyText.{HasReason}
 use Rattle.page_json.specs.Sound.{IsSoundPage}
 use Rattle.page_json.specs.Valid.{IsValidPage}
-use Rattle.publisher_spec.specs.declared.response.Response.{Response}
-use Rattle.publisher_spec.specs.declared.response.Response.TheVariants as responses
+use Rattle.lc_world.specs.declared.sides.response.Response.{Response}
+use Rattle.lc_world.specs.declared.sides.response.Response.TheVariants as responses
 
 -- a status has a reason, and a page is valid
 abbrev pub IsWritable : Response → Type 0

@@ -1,11 +1,11 @@
 ghost use Rattle.std.specs.Prelude.{◌≡◌, IfOk, IfSome, option_map};
-ghost use Rattle.publisher_spec.specs.PageAt.{named as named_there};
+ghost use Rattle.lc_world.specs.Sides.PageAt.{named as named_there};
 ghost use Rattle.std.specs.List.{Contains};
 ghost use Rattle.page_json.specs.Valid.{IsValidPage};
 ghost use Rattle.publisher.specs.Cuts.{HasCuts};
 ghost use Rattle.publisher.specs.Held.{side_of};
 ghost use Rattle.publisher.specs.PlaceOf.{IsPlaceOf};
-ghost use Rattle.publisher_spec.specs.Response.{IsPageOf};
+ghost use Rattle.lc_world.specs.Sides.Response.{IsPageOf};
 ghost use Rattle.version_store.specs.Store.{versions_of};
 
 use crate::Publisher;

@@ -3,8 +3,8 @@ ghost use Rattle.std.specs.Option.{option_copied};
 ghost use Rattle.std.specs.Str.{str_eq_ignore_ascii_case};
 ghost use Rattle.http_text.specs.declared.field.Field.{Field as FieldSaid};
 ghost use Rattle.http_text.specs.declared.member.Member.{Member as MemberSaid};
-ghost use Rattle.publisher_spec.specs.Asked.{field_value, is_same, member_value};
-ghost use Rattle.publisher_spec.specs.Response.{IsDeparture, IsVersion, says_length};
+ghost use Rattle.lc_world.specs.Sides.Asked.{field_value, is_same, member_value};
+ghost use Rattle.lc_world.specs.Sides.Response.{IsDeparture, IsVersion, says_length};
 
 use crate::place::first_moment;
 use http_text::{Field, Member, Request};

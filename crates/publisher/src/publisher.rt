@@ -4,7 +4,7 @@ ghost use Rattle.lc_model.specs.declared.run.Run.{Run as RunSaid};
 ghost use Rattle.page_json.specs.Sound.{IsSoundDoc};
 ghost use Rattle.page_json.specs.Tree.{stops_text_of};
 ghost use Rattle.publisher.specs.Held.{side_of};
-ghost use Rattle.publisher_spec.specs.Side.{IsValidSide, newest_of};
+ghost use Rattle.lc_world.specs.Sides.Side.{IsValidSide, newest_of};
 
 use crate::Options;
 use crate::cut_cache::CutCache;

@@ -7,7 +7,7 @@ ghost use Rattle.publisher.specs.Held.{side_of};
 ghost use Rattle.page_json.specs.Sound.{IsSoundPage};
 ghost use Rattle.page_json.specs.Valid.{IsValidPage};
 ghost use Rattle.publisher.specs.Writable.{IsSoundResponse, IsWritable};
-ghost use Rattle.publisher_spec.specs.Reply.{bare_parts, found_parts, method_parts, page_parts, parts_of, sent_parts, stops_parts, text_said};
+ghost use Rattle.lc_world.specs.Sides.Reply.{bare_parts, found_parts, method_parts, page_parts, parts_of, sent_parts, stops_parts, text_said};
 
 use crate::Publisher;
 use crate::router::is_head;
@@ -15,9 +15,9 @@ use connection_uri::{Base, page_url};
 use fragmenter::Fragmenter;
 use http_text::{Allow, BodyKind, ReplyParts, Request, reply_text};
 use lc_model::{Bytes, Moment, NoMemory, PageName};
+use lc_world::Response;
 use memento::gate_url;
 use page_json::{Page, page_text};
-use publisher_spec::Response;
 use std::alloc::Global;
 
 /// A status and nothing else.

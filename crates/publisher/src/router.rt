@@ -2,12 +2,12 @@ ghost use Rattle.std.specs.Prelude.{◌≡◌, ◌≤◌, ℕ, List, IfOk, IfSom
 ghost use Rattle.http_text.specs.Request.{IsWhole, IsWholeRequest};
 ghost use Rattle.publisher.specs.Held.{side_of};
 ghost use Rattle.publisher.specs.Writable.{IsSoundResponse, IsWritable};
-ghost use Rattle.publisher_spec.specs.Asked.{asked_by_posting, asked_by_reading, asked_of, is_head, is_reading, is_under};
-ghost use Rattle.publisher_spec.specs.Reply.{IsNextSide, IsReply};
-ghost use Rattle.publisher_spec.specs.Response.{IsGateResponse, IsMovedTo, IsNegotiated, IsPageResponse, IsResponseTo, IsSentOf, IsStopsSent, asked_at};
-ghost use Rattle.publisher_spec.specs.Side.{has_version};
-ghost use Rattle.publisher_spec.specs.declared.asked.Asked.{Asked as AskedFor};
-ghost use Rattle.publisher_spec.specs.declared.asked.Asked.TheVariants.{Gate as TheGate, Page as ThePage, Update as AnUpdate};
+ghost use Rattle.lc_world.specs.Sides.Asked.{asked_by_posting, asked_by_reading, asked_of, is_head, is_reading, is_under};
+ghost use Rattle.lc_world.specs.Sides.Reply.{IsNextSide, IsReply};
+ghost use Rattle.lc_world.specs.Sides.Response.{IsGateResponse, IsMovedTo, IsNegotiated, IsPageResponse, IsResponseTo, IsSentOf, IsStopsSent, asked_at};
+ghost use Rattle.lc_world.specs.Sides.Side.{has_version};
+ghost use Rattle.lc_world.specs.declared.sides.asked.Asked.{Asked as AskedFor};
+ghost use Rattle.lc_world.specs.declared.sides.asked.Asked.TheVariants.{Gate as TheGate, Page as ThePage, Update as AnUpdate};
 
 use crate::Publisher;
 use crate::parameters::{departure, field_value, is_same, version_said};
@@ -15,8 +15,8 @@ use connection_uri::{Base, behind};
 use fragmenter::Fragmenter;
 use http_text::{Allow, Request, read_request};
 use lc_model::{Moment, NoMemory, PageName};
+use lc_world::{Asked, Response};
 use memento::negotiate;
-use publisher_spec::{Asked, Response};
 use std::alloc::Global;
 
 /// What a request asks for, by its path and its method.

@@ -12,7 +12,7 @@ use crate::parameters::says_length;
 use fragmenter::Fragmenter;
 use http_text::Request;
 use lc_model::NoMemory;
-use publisher_spec::Response;
+use lc_world::Response;
 use std::alloc::Global;
 use version_store::{AdmitFault, Admitted};
 

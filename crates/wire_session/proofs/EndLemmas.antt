@@ -7,7 +7,7 @@ use Rattle.http_text.specs.Request.{IsWhole}
 use Rattle.http_text.specs.Taken.{Takes}
 use Rattle.http_text.proofs.StayLemmas.{same_bytes, stays}
 use Rattle.http_text.proofs.TakenLemmas.{is_taken, one_answer, whole_is}
-use Rattle.publisher_spec.specs.Side.{Side}
+use Rattle.lc_world.specs.Sides.Side.{Side}
 use Rattle.wire_session.specs.SessionOut.{IsAnswered, IsSaidAfter, IsSaidBy, IsSaidFirst, Said, Says, silent}
 use Rattle.wire_session.proofs.OneSaidLemmas.{one_said}
 use Rattle.wire_session.proofs.WalkLemmas.{refused_is_some, rest_grows, whole_is_some}

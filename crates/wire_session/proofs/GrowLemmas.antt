@@ -6,7 +6,7 @@ use Rattle.http_text.specs.declared.taken.Taken.TheVariants.{Whole, NotYet, Refu
 use Rattle.http_text.specs.Taken.{Takes}
 use Rattle.http_text.proofs.StayLemmas.{same_bytes, stays}
 use Rattle.http_text.proofs.TakenLemmas.{one_answer}
-use Rattle.publisher_spec.specs.Side.{Side}
+use Rattle.lc_world.specs.Sides.Side.{Side}
 use Rattle.wire_session.specs.Laws.{BeginsWith}
 use Rattle.wire_session.specs.SessionOut.{IsAnswered, IsSaidAfter, IsSaidBy, IsSaidFirst, Said, Says, silent, with_reply}
 use Rattle.wire_session.specs.Stands.{IsCutShort}

@@ -7,8 +7,8 @@ use Rattle.http_text.specs.Fields.{texts_of}
 use Rattle.http_text.specs.Request.{IsWholeRequest}
 use Rattle.http_text.specs.declared.request.Request.{Request}
 use Rattle.httparse.specs.Grammar.{print_request}
-use Rattle.publisher_spec.specs.Response.{is_full, says_length, status_of_bytes}
-use Rattle.publisher_spec.specs.Side.{newest_of}
+use Rattle.lc_world.specs.Sides.Response.{is_full, says_length, status_of_bytes}
+use Rattle.lc_world.specs.Sides.Side.{newest_of}
 use Rattle.wire_session.specs.Laws.{NoneTooLong}
 use Rattle.wire_session.proofs.FrontLemmas.{body_fits}
 

@@ -5,8 +5,8 @@ use Rattle.http_text.specs.declared.taken.Taken.{Taken}
 use Rattle.http_text.specs.declared.taken.Taken.TheVariants.{Whole, NotYet, Refused}
 use Rattle.http_text.proofs.MessageLemmas.{one_request}
 use Rattle.http_text.proofs.TakenLemmas.{one_answer}
-use Rattle.publisher_spec.specs.Side.{Side}
-use Rattle.publisher_spec.proofs.OneReplyLemmas.{one_next_side, one_reply}
+use Rattle.lc_world.specs.Sides.Side.{Side}
+use Rattle.lc_world.proofs.SidesLemmas.OneReplyLemmas.{one_next_side, one_reply}
 use Rattle.wire_session.specs.SessionOut.{IsAnswered, IsSaidAfter, IsSaidBy, IsSaidFirst, Said, Says, with_reply}
 
 -- ---- one answer to a request

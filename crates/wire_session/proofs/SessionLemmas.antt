@@ -1,6 +1,6 @@
 -- What a session stands for when it is made, when bytes were sent, and when a piece was heard.
 use Rattle.std.proofs.Common.{◌≡◌, ◌≢◌, ℕ, true, List, [], ◌++◌, take, drop, sym, ap, subst, ◌∙◌, append_assoc, take-append-drop}
-use Rattle.publisher_spec.specs.Side.{Side}
+use Rattle.lc_world.specs.Sides.Side.{Side}
 use Rattle.wire_session.specs.Stands.{Held, IsCutShort, IsOutput, IsWaiting, Stands, StandsIn, fresh}
 use Rattle.wire_session.specs.declared.phase.Phase.{Phase}
 use Rattle.wire_session.specs.declared.phase.Phase.TheVariants.{Open, Ended, Spent}

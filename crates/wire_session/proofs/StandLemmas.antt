@@ -4,8 +4,8 @@ use Rattle.std.specs.List.{concat}
 use Rattle.http_text.specs.declared.taken.Taken.TheVariants.{Whole, NotYet, Refused}
 use Rattle.http_text.specs.Taken.{Takes}
 use Rattle.http_text.proofs.StayLemmas.{same_bytes, stays}
-use Rattle.publisher_spec.specs.Reply.{IsNextSide}
-use Rattle.publisher_spec.specs.Side.{Side}
+use Rattle.lc_world.specs.Sides.Reply.{IsNextSide}
+use Rattle.lc_world.specs.Sides.Side.{Side}
 use Rattle.wire_session.specs.SessionOut.{IsAnswered, Said, Says, refusal_text, silent, with_reply}
 use Rattle.wire_session.specs.Phase.{is_ended}
 use Rattle.wire_session.specs.Stands.{HasAnswered, Held, IsCutShort, IsLeftByFirst, IsOutput, IsWaiting, MeansIn, Means, Stands, StandsIn}

@@ -3,8 +3,8 @@ use Rattle.std.proofs.Common.{◌≡◌, ℕ, ◌+◌, ◌<◌, ◌≤◌, ◌�
 use Rattle.std.proofs.lemmas.Bool.{eqb-false, eqb-true}
 use Rattle.http_text.specs.declared.taken.Taken.TheVariants.{Whole}
 use Rattle.http_text.specs.Taken.{Takes}
-use Rattle.publisher_spec.specs.Reply.{IsNextSide}
-use Rattle.publisher_spec.specs.Side.{Side}
+use Rattle.lc_world.specs.Sides.Reply.{IsNextSide}
+use Rattle.lc_world.specs.Sides.Side.{Side}
 use Rattle.wire_session.specs.SessionOut.{refusal_text}
 use Rattle.wire_session.specs.Stands.{HasAnswered, IsCutShort, IsLeftByFirst, IsOutput, IsWaiting}
 use Rattle.wire_session.specs.Steps.{Counts, IsLeft, IsReplied, IsWithin, next_after}

@@ -5,7 +5,7 @@ use Rattle.http_text.specs.declared.taken.Taken.TheVariants.{Whole, NotYet, Refu
 use Rattle.http_text.specs.Taken.{Takes}
 use Rattle.http_text.proofs.StayLemmas.{same_bytes, stays}
 use Rattle.http_text.proofs.TakenLemmas.{whole_is}
-use Rattle.publisher_spec.specs.Side.{Side}
+use Rattle.lc_world.specs.Sides.Side.{Side}
 use Rattle.wire_session.specs.SessionOut.{IsAnswered, Said, Says, with_reply}
 use Rattle.wire_session.specs.Walks.{GoesOn, Walks}
 

@@ -3,8 +3,8 @@ use Rattle.std.specs.Prelude.{◌≡◌, ◌≢◌, ℕ, ◌≤◌, true, List, 
 use Rattle.std.specs.List.{concat}
 use Rattle.http_text.specs.Request.{IsWhole, IsWholeRequest}
 use Rattle.http_text.specs.declared.request.Request.{Request}
-use Rattle.publisher_spec.specs.Response.{status_of_update}
-use Rattle.publisher_spec.specs.Side.{Side}
+use Rattle.lc_world.specs.Sides.Response.{status_of_update}
+use Rattle.lc_world.specs.Sides.Side.{Side}
 use Rattle.wire_session.specs.SessionOut.{Said, SessionOut}
 use Rattle.wire_session.specs.Stands.{IsCutShort}
 

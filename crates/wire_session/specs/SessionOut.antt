@@ -7,8 +7,8 @@ use Rattle.http_text.specs.Taken.{Takes}
 use Rattle.http_text.specs.declared.request.Request.{Request}
 use Rattle.http_text.specs.declared.taken.Taken.{Taken}
 use Rattle.http_text.specs.declared.taken.Taken.TheVariants.{Whole, NotYet, Refused}
-use Rattle.publisher_spec.specs.Reply.{IsNextSide, IsReply, bare_parts}
-use Rattle.publisher_spec.specs.Side.{Side}
+use Rattle.lc_world.specs.Sides.Reply.{IsNextSide, IsReply, bare_parts}
+use Rattle.lc_world.specs.Sides.Side.{Side}
 
 -- the replies in their order, the side that they leave, and whether the connection ends: nothing more is said, whatever bytes follow
 pub record Said : Type 0 where

@@ -3,8 +3,8 @@ use Rattle.std.specs.Prelude.{◌≡◌, ℕ, ◌<◌, ◌⊎◌, Bool, true, fa
 use Rattle.std.specs.List.{concat}
 use Rattle.http_text.specs.Taken.{Takes, WaitsFor}
 use Rattle.http_text.specs.declared.taken.Taken.TheVariants.{Whole, NotYet}
-use Rattle.publisher_spec.specs.Reply.{IsNextSide}
-use Rattle.publisher_spec.specs.Side.{Side}
+use Rattle.lc_world.specs.Sides.Reply.{IsNextSide}
+use Rattle.lc_world.specs.Sides.Side.{Side}
 use Rattle.wire_session.specs.SessionOut.{Said, SessionOut}
 use Rattle.wire_session.specs.Walks.{Walks}
 use Rattle.wire_session.specs.declared.phase.Phase.{Phase}

@@ -1,6 +1,6 @@
 -- How a session goes on by what is at the front of its bytes.
 use Rattle.std.specs.Prelude.{◌≡◌, ℕ, ◌+◌, ◌<◌, ◌≤◌, Bool, true, ◌||◌, ◌==◌, List, ◌++◌, drop, Option, Some, None, if◌then◌else◌}
-use Rattle.publisher_spec.specs.Side.{Side}
+use Rattle.lc_world.specs.Sides.Side.{Side}
 use Rattle.wire_session.specs.SessionOut.{IsAnswered}
 use Rattle.wire_session.specs.Stands.{HasAnswered, IsOutput, IsWaiting}
 use Rattle.wire_session.specs.declared.fed.Fed.{Fed}

@@ -2,7 +2,7 @@
 use Rattle.std.specs.Prelude.{◌≡◌, ℕ, false, List, [], ◌∷◌, take, drop}
 use Rattle.http_text.specs.Taken.{Takes}
 use Rattle.http_text.specs.declared.taken.Taken.TheVariants.{Whole}
-use Rattle.publisher_spec.specs.Side.{Side}
+use Rattle.lc_world.specs.Sides.Side.{Side}
 use Rattle.wire_session.specs.SessionOut.{IsAnswered}
 
 -- a whole request that does not close is at the front of the bytes, and is answered so; this side and this rest are left

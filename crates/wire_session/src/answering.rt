@@ -2,8 +2,8 @@ ghost use Rattle.std.specs.Prelude.{◌≡◌, ◌⊎◌, ◌+◌, ◌<◌, ◌�
 ghost use Rattle.http_text.specs.Request.{IsWhole, IsWholeRequest};
 ghost use Rattle.http_text.specs.declared.request.Request.{Request as Said};
 ghost use Rattle.publisher.specs.Held.{side_of};
-ghost use Rattle.publisher_spec.specs.Reply.{IsNextSide};
-ghost use Rattle.publisher_spec.specs.Side.{Side};
+ghost use Rattle.lc_world.specs.Sides.Reply.{IsNextSide};
+ghost use Rattle.lc_world.specs.Sides.Side.{Side};
 ghost use Rattle.wire_session.specs.Stands.{HasAnswered, IsCutShort};
 ghost use Rattle.wire_session.specs.Steps.{Counts, IsLeft, IsReplied, IsWithin, KeepsFront};
 

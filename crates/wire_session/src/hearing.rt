@@ -1,6 +1,6 @@
 ghost use Rattle.std.specs.Prelude.{◌≡◌, ◌<◌, ◌≤◌, ◌++◌, ℕ, List, Ok, length, drop, IfOk, MatchResult};
 ghost use Rattle.publisher.specs.Held.{side_of};
-ghost use Rattle.publisher_spec.specs.Side.{Side};
+ghost use Rattle.lc_world.specs.Sides.Side.{Side};
 ghost use Rattle.wire_session.specs.Stands.{HasAnswered, IsCutShort, IsWaiting};
 ghost use Rattle.wire_session.specs.Steps.{IsAsFed, IsHeard, IsOpenWithin, IsStillOpen, KeepsFront};
 

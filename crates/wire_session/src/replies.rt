@@ -1,6 +1,6 @@
 ghost use Rattle.std.specs.Prelude.{◌≡◌, ◌+◌, ◌<◌, ◌++◌, true, OnErr, OnOk};
 ghost use Rattle.http_text.specs.ReplyText.{HasReason};
-ghost use Rattle.publisher_spec.specs.Reply.{bare_parts};
+ghost use Rattle.lc_world.specs.Sides.Reply.{bare_parts};
 ghost use Rattle.wire_session.specs.SessionOut.{refusal_text};
 
 use crate::output::Output;

@@ -1,6 +1,6 @@
 ghost use Rattle.std.specs.Prelude.{◌≡◌, ◌≢◌, ◌<◌, ◌≤◌, ◌++◌, ℕ, false, List, [], drop, length, take, IfOk};
 ghost use Rattle.publisher.specs.Held.{side_of};
-ghost use Rattle.publisher_spec.specs.Side.{Side};
+ghost use Rattle.lc_world.specs.Sides.Side.{Side};
 ghost use Rattle.wire_session.specs.Phase.{is_ended};
 ghost use Rattle.wire_session.specs.Session.{phase_of};
 ghost use Rattle.wire_session.specs.Stands.{Means, Stands, fresh};

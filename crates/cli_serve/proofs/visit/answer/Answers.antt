@@ -1,7 +1,7 @@
 use Rattle.fragmenter.specs.Cutting.{chosen_cuts}
 use Rattle.fragmenter.specs.declared.cutting.Cutting.{Cutting}
 use Rattle.publisher.specs.Held.{side_of}
-use Rattle.publisher_spec.specs.Side.{Side}
+use Rattle.lc_world.specs.Sides.Side.{Side}
 use Rattle.cli_serve.specs.Serving.{ServingState}
 use Rattle.cli_serve.proofs.AnswerLemmas.{all_answered, none_answered, starts}
 use Rattle.cli_serve.proofs.visit.answer.Goals as goal

@@ -1,8 +1,8 @@
 use Rattle.std.proofs.Common.{◌≡◌, ◌++◌, ◌⊎◌, ℕ, List, inl, inr, refl, sym, ap, subst, take}
 use Rattle.std.proofs.lemmas.Result.{err_from_is_err_and}
 use Rattle.publisher.specs.Held.{side_of}
-use Rattle.publisher_spec.specs.Reply.{IsNextSide}
-use Rattle.publisher_spec.specs.Side.{Side}
+use Rattle.lc_world.specs.Sides.Reply.{IsNextSide}
+use Rattle.lc_world.specs.Sides.Side.{Side}
 use Rattle.wire_session.specs.Stands.{IsCutShort}
 use Rattle.wire_session.specs.declared.replies.Replies.{Replies}
 use Rattle.wire_session.proofs.FrontLemmas.{refused_has_reason}

@@ -1,7 +1,7 @@
 use Rattle.std.proofs.Common.{◌++◌, ℕ, List, sym, subst}
 use Rattle.std.proofs.lemmas.List.{take_rest}
 use Rattle.publisher.specs.Held.{side_of}
-use Rattle.publisher_spec.specs.Side.{Side}
+use Rattle.lc_world.specs.Sides.Side.{Side}
 use Rattle.wire_session.specs.Stands.{HasAnswered, IsWaiting}
 use Rattle.wire_session.proofs.hearing.answer_all.Goals as goal
 

@@ -1,7 +1,7 @@
 use Rattle.std.proofs.Common.{◌≡◌, ◌++◌, ◌<◌, ℕ, List, length, drop, ap, sym, subst, ◌∙◌, arith}
 use Rattle.std.proofs.lemmas.Result.{err_from_is_err_and}
 use Rattle.publisher.specs.Held.{side_of}
-use Rattle.publisher_spec.specs.Side.{Side}
+use Rattle.lc_world.specs.Sides.Side.{Side}
 use Rattle.wire_session.specs.Stands.{IsWaiting}
 use Rattle.wire_session.proofs.StepLemmas.{all_of, answered_with, cut_short_at, waits_with}
 use Rattle.wire_session.proofs.hearing.hear.Goals as goal

@@ -1,6 +1,6 @@
 use Rattle.std.proofs.Common.{◌≡◌, ◌∙◌, ap, sym, subst, List, ℕ}
 use Rattle.std.specs.Prelude.{IfOk, OnOk}
-use Rattle.publisher_spec.specs.Reply.{IsNextSide, text_said}
+use Rattle.lc_world.specs.Sides.Reply.{IsNextSide, text_said}
 use Rattle.publisher.specs.Updated.{IsUpdated}
 use Rattle.publisher.specs.Held.{side_of}
 use Rattle.publisher.proofs.AnswerLemmas.{plain_next_if, plain_reply_if, update_next_if, update_reply_if}

@@ -1,7 +1,7 @@
 use Rattle.std.proofs.Common.{refl, subst, ◌<◌, ℕ}
 use Rattle.lc_model.specs.declared.moment.TheConstants.{MOMENTS_END}
 use Rattle.publisher.specs.Held.{side_of}
-use Rattle.publisher_spec.specs.Side.{versions_of}
+use Rattle.lc_world.specs.Sides.Side.{versions_of}
 use Rattle.publisher.proofs.PageLemmas.{is_page_of, page_made}
 use Rattle.publisher.proofs.VersionsLemmas.{there_is_contained}
 use Rattle.publisher.proofs.publisher.Publisher.moved_to.Goals as goal

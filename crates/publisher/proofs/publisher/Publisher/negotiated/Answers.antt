@@ -2,7 +2,7 @@ use Rattle.std.proofs.Common.{◌≡◌, ◌∙◌, ap, subst, ℕ, List, Option
 use Rattle.std.specs.Option.{IfSome, option_copied}
 use Rattle.memento.specs.Negotiation.{Negotiates}
 use Rattle.publisher.specs.Held.{side_of}
-use Rattle.publisher_spec.specs.Side.{versions_of}
+use Rattle.lc_world.specs.Sides.Side.{versions_of}
 use Rattle.publisher.proofs.VersionsLemmas.{has, negotiated_is_there}
 use Rattle.publisher.proofs.publisher.Publisher.negotiated.Goals as goal
 

@@ -4,7 +4,7 @@ use Rattle.page_json.specs.Valid.{IsValidPage}
 use Rattle.publisher.specs.Held.{side_of}
 use Rattle.publisher.specs.Inside.{held_of}
 use Rattle.publisher.specs.PlaceOf.{IsPlaceOf}
-use Rattle.publisher_spec.specs.Response.{IsPageOf}
+use Rattle.lc_world.specs.Sides.Response.{IsPageOf}
 use Rattle.publisher.proofs.PageLemmas.{is_made, is_page_of, rows_are, valid_page}
 use Rattle.publisher.proofs.publisher.Publisher.page_there.Goals as goal
 

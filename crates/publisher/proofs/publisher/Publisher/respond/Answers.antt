@@ -3,10 +3,10 @@ use Rattle.std.proofs.lemmas.Result.{IfOk-weaker}
 use Rattle.std.specs.Prelude.{IfOk}
 use Rattle.publisher.specs.Held.{side_of}
 use Rattle.publisher.specs.Writable.{IsSoundResponse}
-use Rattle.publisher_spec.specs.Response.{IsResponseTo}
-use Rattle.publisher_spec.specs.declared.asked.Asked.{Asked}
-use Rattle.publisher_spec.specs.declared.asked.Asked.TheVariants as kinds
-use Rattle.publisher_spec.specs.declared.response.Response.{Response}
+use Rattle.lc_world.specs.Sides.Response.{IsResponseTo}
+use Rattle.lc_world.specs.declared.sides.asked.Asked.{Asked}
+use Rattle.lc_world.specs.declared.sides.asked.Asked.TheVariants as kinds
+use Rattle.lc_world.specs.declared.sides.response.Response.{Response}
 use Rattle.publisher.proofs.publisher.Publisher.respond.Goals as goal
 
 pub returns-in-Gate-clause-said : goal.returns-in-Gate-clause-said

@@ -2,9 +2,9 @@ use Rattle.std.proofs.Common.{◌≡◌, subst, sym, refl, Bool, true, false, �
 use Rattle.std.specs.Prelude.{IsTrue}
 use Rattle.std.specs.List.{Contains}
 use Rattle.publisher.specs.Held.{side_of}
-use Rattle.publisher_spec.specs.Response.{IsSentOf}
-use Rattle.publisher_spec.specs.Side.{has_version, versions_of}
-use Rattle.publisher_spec.specs.declared.response.Response.TheVariants.{Status}
+use Rattle.lc_world.specs.Sides.Response.{IsSentOf}
+use Rattle.lc_world.specs.Sides.Side.{has_version, versions_of}
+use Rattle.lc_world.specs.declared.sides.response.Response.TheVariants.{Status}
 use Rattle.publisher.proofs.VersionsLemmas.{not_there}
 use Rattle.publisher.proofs.publisher.Publisher.sent.Goals as goal
 

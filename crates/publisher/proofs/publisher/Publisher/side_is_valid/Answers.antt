@@ -1,6 +1,6 @@
 use Rattle.std.proofs.Common.{◌≡◌, subst}
 use Rattle.publisher.specs.Held.{side_of}
-use Rattle.publisher_spec.specs.Side.{IsValidSide}
+use Rattle.lc_world.specs.Sides.Side.{IsValidSide}
 use Rattle.publisher.proofs.publisher.Publisher.side_is_valid.Goals as goal
 
 pub returns-clause-stops : goal.returns-clause-stops

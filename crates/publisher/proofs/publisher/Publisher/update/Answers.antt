@@ -2,7 +2,7 @@ use Rattle.std.proofs.Common.{◌≡◌, ◌∙◌, sym, subst, length}
 use Rattle.std.specs.Prelude.{IfOk}
 use Rattle.publisher.specs.Held.{side_of}
 use Rattle.publisher.specs.Updated.{Becomes, IsRefusal, IsUpdated}
-use Rattle.publisher_spec.specs.Side.{with_message}
+use Rattle.lc_world.specs.Sides.Side.{with_message}
 use Rattle.publisher.proofs.UpdateLemmas.{admitted_side, refusal_if, taken, updated_if, without_length}
 use Rattle.publisher.proofs.publisher.Publisher.update.Goals as goal
 

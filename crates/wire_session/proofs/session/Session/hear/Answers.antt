@@ -1,6 +1,6 @@
 use Rattle.std.proofs.Common.{◌≡◌, ◌++◌, refl, sym, ap, subst, ◌∙◌}
 use Rattle.publisher.specs.Held.{side_of}
-use Rattle.publisher_spec.specs.Side.{Side}
+use Rattle.lc_world.specs.Sides.Side.{Side}
 use Rattle.wire_session.specs.Session.{held_of}
 use Rattle.wire_session.specs.Stands.{Held, Stands}
 use Rattle.wire_session.specs.declared.phase.Phase.TheVariants.{Open, Ended, Spent}

@@ -1,8 +1,0 @@
-use Rattle.publisher_spec.proofs.LaterLemmas as lemmas
-use Rattle.publisher_spec.proofs.laws.mementos_stay.Goals as goal
-
-pub returns-clause-timetables : goal.returns-clause-timetables
-returns-clause-timetables c = lemmas.timetables_stay
-
-pub returns-clause-replies : goal.returns-clause-replies
-returns-clause-replies c = lemmas.mementos_stay
