@@ -12,9 +12,9 @@ use Rattle.laws_arrive.specs.NeededBack.{needed_pages_back}
 use Rattle.laws_clients.specs.Answered.{names_at}
 use Rattle.laws_clients.specs.Wants.{HasEnds}
 use Rattle.laws_clients.proofs.PublishedLemmas.{is_lawful, is_timetable, made_of}
-use Rattle.laws_pages.specs.Least.{SomeLeastArrival}
-use Rattle.laws_pages.proofs.JourneysLemmas.{journey_is_chain, waits}
-use Rattle.laws_pages.proofs.LegLemmas.{in_time_forward, in_time_in_order, leg_goes_forward}
+use Rattle.convoy.specs.PageLaws.Least.{SomeLeastArrival}
+use Rattle.convoy.proofs.PageLawsLemmas.JourneysLemmas.{journey_is_chain, waits}
+use Rattle.convoy.proofs.PageLawsLemmas.LegLemmas.{in_time_forward, in_time_in_order, leg_goes_forward}
 use Rattle.lc_model.specs.Change.{change_between}
 use Rattle.lc_model.specs.Journey.{AreRides, GoesOn, IsJourney, IsLeastArrival, arrival_of_rides, arrives_at, departure_of, leaves_at}
 use Rattle.lc_model.specs.Leg.{IsLegOf, in_time}

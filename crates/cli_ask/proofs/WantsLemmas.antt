@@ -11,8 +11,8 @@ use Rattle.lc_model.specs.Versions.Pages.{CutPage}
 use Rattle.laws_clients.specs.Answered.{names_at}
 use Rattle.laws_clients.specs.Wants.{AreWants, HasEnds, wants_of}
 use Rattle.laws_clients.proofs.PublishedLemmas.{made_of}
-use Rattle.laws_pages.specs.Least.{SomeLeastArrival}
-use Rattle.laws_pages.specs.Needed.{needed_pages}
+use Rattle.convoy.specs.PageLaws.Least.{SomeLeastArrival}
+use Rattle.convoy.specs.PageLaws.Needed.{needed_pages}
 use Rattle.page_client.specs.Shown.{HasHorizon, IsRefusal}
 use Rattle.page_client.specs.declared.fault.QueryFault.TheVariants.{HorizonRange, SameStop}
 use Rattle.page_client.specs.declared.want.Want.{Want}

@@ -1,5 +1,6 @@
 pub mod Exchange
 pub mod Finish
+pub mod PageLaws
 pub mod State
 pub mod Steps
 pub mod Turn

@@ -4,6 +4,7 @@
 mod convoy;
 mod exchange;
 mod member;
+mod page_laws;
 mod steps;
 mod turn;
 mod turning;
@@ -11,4 +12,9 @@ mod turning;
 pub use convoy::Convoy;
 pub use exchange::exchanged;
 pub use member::Member;
+pub use page_laws::{
+    chains_are_journeys, early_may_go, journeys_along_next, legs_along_next, needed_are_taken,
+    needed_of_journeys, no_journey_arrives_earlier, one_list_of_needed, page_of_a_moment,
+    pages_in_a_row, some_least_arrival, stop_is_right, worked_pages,
+};
 pub use turn::Turn;

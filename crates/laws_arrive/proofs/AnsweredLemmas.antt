@@ -14,7 +14,7 @@ use Rattle.lc_model.specs.Versions.Pages.{CutPage}
 use Rattle.live_calls.proofs.LawLemmas.{one_live_list}
 use Rattle.lc_world.specs.Sides.PageAt.{named}
 use Rattle.lc_world.specs.Sides.Side.{IsValidSide, Side}
-use Rattle.laws_pages.proofs.JourneysLemmas.{chain_is_journey, journey_is_chain}
+use Rattle.convoy.proofs.PageLawsLemmas.JourneysLemmas.{chain_is_journey, journey_is_chain}
 use Rattle.laws_clients.specs.Answered.{names_at}
 use Rattle.laws_clients.specs.Published.{AreLiveAt, IsPublished, Published}
 use Rattle.laws_clients.proofs.PublishedLemmas.{is_lawful, is_timetable, one_published, stays_by_news}

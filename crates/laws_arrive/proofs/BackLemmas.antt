@@ -14,11 +14,11 @@ use Rattle.lc_model.specs.declared.connection.Connection.{Connection}
 use Rattle.lc_model.specs.declared.doc.StopsDoc.{StopsDoc}
 use Rattle.lc_model.specs.declared.query.Query.{Query}
 use Rattle.lc_model.specs.Versions.Pages.{CutPage, departing, page_for}
-use Rattle.laws_pages.specs.Chain.{ArePagesOf, along_next, along_previous, connections_along}
-use Rattle.laws_pages.proofs.ChainLemmas.{before_moment, begins_there, by_or_not, found_by_name, links_part, next_goes_on, next_stays, part_from}
-use Rattle.laws_pages.proofs.FilterLemmas.{pairs_head, pairs_tail}
-use Rattle.laws_pages.proofs.RowLemmas.{IsRow, row}
-use Rattle.laws_pages.proofs.StopLemmas.{all_of_rest}
+use Rattle.convoy.specs.PageLaws.Chain.{ArePagesOf, along_next, along_previous, connections_along}
+use Rattle.convoy.proofs.PageLawsLemmas.ChainLemmas.{before_moment, begins_there, by_or_not, found_by_name, links_part, next_goes_on, next_stays, part_from}
+use Rattle.convoy.proofs.PageLawsLemmas.FilterLemmas.{pairs_head, pairs_tail}
+use Rattle.convoy.proofs.PageLawsLemmas.RowLemmas.{IsRow, row}
+use Rattle.convoy.proofs.PageLawsLemmas.StopLemmas.{all_of_rest}
 use Rattle.back_scan.specs.Latest.{IsListLatest}
 use Rattle.back_scan.proofs.OneLatestLemmas.{latest_departures_are_one}
 use Rattle.laws_arrive.specs.NeededBack.{OneListOfNeededBack, PagesBackMayBeAll, connections_back, needed_pages_back, pages_back}

@@ -15,10 +15,10 @@ use Rattle.lc_model.specs.declared.doc.StopsDoc.{StopsDoc}
 use Rattle.lc_model.specs.declared.journey.Journey.{Journey}
 use Rattle.lc_model.specs.declared.query.Query.{Query}
 use Rattle.lc_model.specs.declared.ride.Ride.{Ride}
-use Rattle.laws_pages.proofs.JourneysLemmas.{of_kind, waits}
-use Rattle.laws_pages.proofs.FilterLemmas.{filter_none}
-use Rattle.laws_pages.proofs.LegLemmas.{in_time_forward, in_time_in_order, in_time_parts, leg_goes_forward}
-use Rattle.laws_pages.proofs.PartJourneyLemmas.{chain_of_rest, leg_stands_behind}
+use Rattle.convoy.proofs.PageLawsLemmas.JourneysLemmas.{of_kind, waits}
+use Rattle.convoy.proofs.PageLawsLemmas.FilterLemmas.{filter_none}
+use Rattle.convoy.proofs.PageLawsLemmas.LegLemmas.{in_time_forward, in_time_in_order, in_time_parts, leg_goes_forward}
+use Rattle.convoy.proofs.PageLawsLemmas.PartJourneyLemmas.{chain_of_rest, leg_stands_behind}
 use Rattle.back_scan.specs.Latest.{IsLatestDeparture, IsListLatest}
 use Rattle.laws_arrive.specs.Early.{EarlierMayGo, LaterMayGo, bound_back}
 

@@ -21,7 +21,7 @@ use Rattle.page_client.specs.declared.outcome.Outcome.{Outcome}
 use Rattle.page_client.specs.declared.outcome.Outcome.TheVariants as outcomes
 use Rattle.lc_world.specs.Sides.PageAt.{named}
 use Rattle.lc_world.specs.Sides.Side.{IsLater, Side}
-use Rattle.laws_pages.specs.Chain.{ArePagesOf, along_previous}
+use Rattle.convoy.specs.PageLaws.Chain.{ArePagesOf, along_previous}
 use Rattle.laws_clients.specs.Stated.{IsGatePage, version_at}
 use Rattle.laws_clients.specs.Answered.{names_at}
 use Rattle.laws_clients.specs.Laws.{IsAmong}

@@ -8,7 +8,7 @@ use Rattle.lc_model.specs.declared.connection.Connection.{Connection}
 use Rattle.lc_model.specs.declared.doc.StopsDoc.{StopsDoc}
 use Rattle.lc_model.specs.declared.query.Query.{Query}
 use Rattle.lc_model.specs.Versions.Pages.{CutPage}
-use Rattle.laws_pages.specs.Chain.{ArePagesOf}
+use Rattle.convoy.specs.PageLaws.Chain.{ArePagesOf}
 use Rattle.back_scan.specs.Latest.{IsListLatest}
 use Rattle.laws_arrive.specs.Early.{bound_back}
 use Rattle.laws_arrive.specs.NeededBack.{IsOverBack, down_to_bound, needed_pages_back, pages_back}

@@ -11,10 +11,10 @@ use Rattle.lc_model.specs.declared.journey.Journey.{Journey}
 use Rattle.lc_model.specs.declared.query.Query.{Query}
 use Rattle.lc_model.specs.declared.ride.Ride.{Ride}
 use Rattle.lc_model.specs.Versions.Pages.{CutPage, page_for}
-use Rattle.laws_pages.specs.Chain.{ArePagesOf, along_previous, connections_along}
-use Rattle.laws_pages.proofs.ChainLemmas.{begins_there, links_part}
-use Rattle.laws_pages.proofs.PartJourneyLemmas.{chain_of_front, chain_of_rest}
-use Rattle.laws_pages.proofs.RowLemmas.{row}
+use Rattle.convoy.specs.PageLaws.Chain.{ArePagesOf, along_previous, connections_along}
+use Rattle.convoy.proofs.PageLawsLemmas.ChainLemmas.{begins_there, links_part}
+use Rattle.convoy.proofs.PageLawsLemmas.PartJourneyLemmas.{chain_of_front, chain_of_rest}
+use Rattle.convoy.proofs.PageLawsLemmas.RowLemmas.{row}
 use Rattle.back_scan.specs.Latest.{IsLatestDeparture, IsListLatest}
 use Rattle.back_scan.specs.StandsFor.{IsLatestChain}
 use Rattle.back_scan.proofs.OneLatestLemmas.{latest_departures_are_one}

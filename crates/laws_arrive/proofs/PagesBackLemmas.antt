@@ -13,10 +13,10 @@ use Rattle.lc_model.specs.declared.query.Query.{Query}
 use Rattle.lc_model.specs.Versions.Cuts.{first_of}
 use Rattle.lc_model.specs.Versions.Pages.{CutPage, page_for}
 use Rattle.page_json.specs.declared.page.Page.{Page}
-use Rattle.laws_pages.specs.Chain.{ArePagesOf, along_next, along_previous, connections_along, names_of}
-use Rattle.laws_pages.proofs.ChainLemmas.{by_or_not, links_part, next_goes_on, next_stays, previous_stays}
-use Rattle.laws_pages.proofs.RowLemmas.{found_by_name, is_where_next_begins, late_are_along_next}
-use Rattle.laws_pages.proofs.StopLemmas.{all_of_rest}
+use Rattle.convoy.specs.PageLaws.Chain.{ArePagesOf, along_next, along_previous, connections_along, names_of}
+use Rattle.convoy.proofs.PageLawsLemmas.ChainLemmas.{by_or_not, links_part, next_goes_on, next_stays, previous_stays}
+use Rattle.convoy.proofs.PageLawsLemmas.RowLemmas.{found_by_name, is_where_next_begins, late_are_along_next}
+use Rattle.convoy.proofs.PageLawsLemmas.StopLemmas.{all_of_rest}
 use Rattle.lc_world.specs.Sides.PageAt.{named}
 use Rattle.laws_clients.specs.Published.{between}
 use Rattle.laws_arrive.specs.NeededBack.{pages_back}

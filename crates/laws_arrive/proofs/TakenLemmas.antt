@@ -9,7 +9,7 @@ use Rattle.lc_model.specs.declared.connection.Connection.{Connection}
 use Rattle.lc_model.specs.declared.doc.StopsDoc.{StopsDoc}
 use Rattle.lc_model.specs.declared.query.Query.{Query}
 use Rattle.lc_model.specs.Versions.Pages.{CutPage}
-use Rattle.laws_pages.specs.Chain.{ArePagesOf}
+use Rattle.convoy.specs.PageLaws.Chain.{ArePagesOf}
 use Rattle.back_scan.specs.Latest.{IsListLatest}
 use Rattle.back_scan.proofs.OneLatestLemmas.{latest_departures_are_one}
 use Rattle.laws_arrive.specs.Early.{bound_back}

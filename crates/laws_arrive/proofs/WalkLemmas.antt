@@ -27,7 +27,7 @@ use Rattle.lc_world.specs.Sides.Reply.{IsReply}
 use Rattle.lc_world.specs.Sides.Response.{IsPageOf}
 use Rattle.lc_world.specs.Sides.Short.{StandsUnder}
 use Rattle.lc_world.specs.Sides.Side.{Side, has_version}
-use Rattle.laws_pages.specs.Chain.{ArePagesOf, connections_along, names_of}
+use Rattle.convoy.specs.PageLaws.Chain.{ArePagesOf, connections_along, names_of}
 use Rattle.laws_clients.specs.Answered.{names_at}
 use Rattle.laws_clients.specs.Published.{IsPublished, Published, between}
 use Rattle.laws_clients.proofs.OwnPageLemmas.{found, own_is_between}

@@ -9,7 +9,7 @@ use Rattle.lc_model.specs.declared.query.Query.{Query}
 use Rattle.lc_model.specs.declared.ride.Ride.{Ride}
 use Rattle.lc_model.specs.declared.run.Run.{Run}
 use Rattle.lc_model.specs.Versions.Pages.{CutPage, page_for}
-use Rattle.laws_pages.specs.Chain.{ArePagesOf, along_previous, connections_along, names_of}
+use Rattle.convoy.specs.PageLaws.Chain.{ArePagesOf, along_previous, connections_along, names_of}
 use Rattle.back_scan.specs.Latest.{IsLatestDeparture, IsListLatest}
 use Rattle.laws_arrive.specs.Early.{bound_back}
 

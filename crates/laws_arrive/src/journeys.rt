@@ -6,12 +6,12 @@ ghost use Rattle.lc_model.specs.Ride.{IsRideAt};
 ghost use Rattle.lc_model.specs.declared.journey.Journey.{Journey as JourneyValue};
 ghost use Rattle.lc_model.specs.declared.run.Run.{Run as RunValue};
 ghost use Rattle.lc_model.specs.Versions.Pages.{CutPage};
-ghost use Rattle.laws_pages.specs.Chain.{ArePagesOf};
+ghost use Rattle.convoy.specs.PageLaws.Chain.{ArePagesOf};
 ghost use Rattle.back_scan.specs.StandsFor.{IsLatestChain};
 ghost use Rattle.laws_arrive.specs.LatestOf.{IsLatestOf};
 ghost use Rattle.laws_arrive.specs.NeededBack.{AreNeededBack, IsTakenBackUntilOver, connections_back, pages_back};
 
-use laws_pages::chains_are_journeys;
+use convoy::chains_are_journeys;
 use lc_model::{Connections, Query, Runs, StopsDoc};
 
 /// A client that takes page after page back until it is over takes the needed pages for the journeys of a timetable. A latest chain of

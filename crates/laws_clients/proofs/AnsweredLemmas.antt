@@ -13,16 +13,16 @@ use Rattle.lc_model.specs.declared.run.Run.{Run}
 use Rattle.lc_model.proofs.OneValueLemmas.{one_arrival, one_least_arrival}
 use Rattle.lc_model.specs.Versions.Pages.{CutPage}
 use Rattle.csa_scan.specs.StandsFor.{IsBestChain}
-use Rattle.laws_pages.proofs.JourneysLemmas.{chain_is_journey, journey_is_chain}
-use Rattle.laws_pages.proofs.RidesAreLegsLemmas.{Timetable}
+use Rattle.convoy.proofs.PageLawsLemmas.JourneysLemmas.{chain_is_journey, journey_is_chain}
+use Rattle.convoy.proofs.PageLawsLemmas.RidesAreLegsLemmas.{Timetable}
 use Rattle.live_calls.proofs.LawLemmas.{one_live_list}
-use Rattle.laws_pages.specs.Chain.{ArePagesOf, connections_along}
-use Rattle.laws_pages.specs.Needed.{AreNeeded, IsTakenUntilOver}
-use Rattle.laws_pages.specs.Rides.{connections_on, pages_on}
-use Rattle.laws_pages.proofs.AlongLemmas.{chains_are_there, least_is_there}
-use Rattle.laws_pages.proofs.NeededLemmas.{one_list_of_needed, same_best, takes_the_needed}
-use Rattle.laws_pages.proofs.PartJourneyLemmas.{chain_of_front, least_over}
-use Rattle.laws_pages.proofs.TakenLemmas.{are_taken}
+use Rattle.convoy.specs.PageLaws.Chain.{ArePagesOf, connections_along}
+use Rattle.convoy.specs.PageLaws.Needed.{AreNeeded, IsTakenUntilOver}
+use Rattle.convoy.specs.PageLaws.Rides.{connections_on, pages_on}
+use Rattle.convoy.proofs.PageLawsLemmas.AlongLemmas.{chains_are_there, least_is_there}
+use Rattle.convoy.proofs.PageLawsLemmas.NeededLemmas.{one_list_of_needed, same_best, takes_the_needed}
+use Rattle.convoy.proofs.PageLawsLemmas.PartJourneyLemmas.{chain_of_front, least_over}
+use Rattle.convoy.proofs.PageLawsLemmas.TakenLemmas.{are_taken}
 use Rattle.laws_clients.specs.Answered.{AnswersAt, NeededAt, answer_of, names_at}
 use Rattle.laws_clients.specs.Laws.{AnswersStay, NeededStays, OneArrivalAt, OneListOfNeededAt}
 use Rattle.laws_clients.specs.Published.{Published}

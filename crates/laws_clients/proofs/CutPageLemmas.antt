@@ -13,12 +13,12 @@ use Rattle.lc_model.proofs.ListLemmas.{AllPairs-nil, Contains-cases, Contains-ni
 use Rattle.lc_model.specs.Versions.Cuts.{AreCuts, first_of}
 use Rattle.lc_model.specs.Versions.Pages.{CutPage, departing, departures_of, is_before, page_for, pages_from, pages_of}
 use Rattle.page_json.specs.Valid.{IsOfVersion, IsValidPage}
-use Rattle.laws_pages.specs.Chain.{ArePagesOf, names_of}
-use Rattle.laws_pages.proofs.ChainLemmas.{Follow, page_of_cut, pages_begin}
-use Rattle.laws_pages.proofs.DeparturesLemmas.{sorted_from_order}
-use Rattle.laws_pages.proofs.NameLemmas.{cuts_name_neighbours}
-use Rattle.laws_pages.proofs.RowLemmas.{is_greatest_by_then, row}
-use Rattle.laws_pages.proofs.TakenLemmas.{AllFollow, follow_behind}
+use Rattle.convoy.specs.PageLaws.Chain.{ArePagesOf, names_of}
+use Rattle.convoy.proofs.PageLawsLemmas.ChainLemmas.{Follow, page_of_cut, pages_begin}
+use Rattle.convoy.proofs.PageLawsLemmas.DeparturesLemmas.{sorted_from_order}
+use Rattle.convoy.proofs.PageLawsLemmas.NameLemmas.{cuts_name_neighbours}
+use Rattle.convoy.proofs.PageLawsLemmas.RowLemmas.{is_greatest_by_then, row}
+use Rattle.convoy.proofs.PageLawsLemmas.TakenLemmas.{AllFollow, follow_behind}
 use Rattle.page_client.specs.Page.{advances, begins_at, is_on_from}
 use Rattle.lc_world.specs.Sides.PageAt.{named, next_cut, page_among, page_at, previous_cut}
 

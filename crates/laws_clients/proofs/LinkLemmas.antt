@@ -10,9 +10,9 @@ use Rattle.lc_model.specs.declared.page.PageName.{PageName}
 use Rattle.lc_model.specs.Versions.Cuts.{first_of}
 use Rattle.lc_model.specs.Versions.Pages.{CutPage, departing, departures_of, page_for}
 use Rattle.page_json.specs.declared.page.Page.{Page}
-use Rattle.laws_pages.specs.Chain.{ArePagesOf, connections_along, names_of}
-use Rattle.laws_pages.proofs.NameLemmas.{cuts_name_neighbours}
-use Rattle.laws_pages.proofs.RowLemmas.{Begin, back_are_the_rest, begin_on_time, found_by_name, is_greatest_by_then, next_are_the_suffix}
+use Rattle.convoy.specs.PageLaws.Chain.{ArePagesOf, connections_along, names_of}
+use Rattle.convoy.proofs.PageLawsLemmas.NameLemmas.{cuts_name_neighbours}
+use Rattle.convoy.proofs.PageLawsLemmas.RowLemmas.{Begin, back_are_the_rest, begin_on_time, found_by_name, is_greatest_by_then, next_are_the_suffix}
 use Rattle.lc_world.specs.Sides.PageAt.{linked, named, page_among}
 use Rattle.lc_world.specs.Sides.Response.{IsPageOf}
 use Rattle.lc_world.specs.Sides.Side.{IsTimetableAt, IsValidSide, Side}

@@ -11,11 +11,11 @@ use Rattle.lc_model.proofs.ListLemmas.{Contains-here}
 use Rattle.lc_model.specs.Versions.Cuts.{first_of}
 use Rattle.lc_model.specs.Versions.Pages.{CutPage, departures_of, page_for}
 use Rattle.page_json.specs.declared.page.Page.{Page}
-use Rattle.laws_pages.specs.Chain.{ArePagesOf, along_next, along_previous, names_of}
-use Rattle.laws_pages.specs.Rides.{pages_on}
-use Rattle.laws_pages.proofs.ChainLemmas.{by_or_not, links_part, next_goes_on, next_stays, previous_stays}
-use Rattle.laws_pages.proofs.NameLemmas.{cuts_name_neighbours}
-use Rattle.laws_pages.proofs.RowLemmas.{found_by_name, is_where_next_begins, row}
+use Rattle.convoy.specs.PageLaws.Chain.{ArePagesOf, along_next, along_previous, names_of}
+use Rattle.convoy.specs.PageLaws.Rides.{pages_on}
+use Rattle.convoy.proofs.PageLawsLemmas.ChainLemmas.{by_or_not, links_part, next_goes_on, next_stays, previous_stays}
+use Rattle.convoy.proofs.PageLawsLemmas.NameLemmas.{cuts_name_neighbours}
+use Rattle.convoy.proofs.PageLawsLemmas.RowLemmas.{found_by_name, is_where_next_begins, row}
 use Rattle.page_client.specs.Shown.{is_early, is_late, is_off, wrong_gate}
 use Rattle.page_client.specs.declared.fault.PeerFault.TheVariants.{GateWrong}
 use Rattle.page_client.specs.declared.outcome.Outcome.TheVariants.{PeerWrong}

@@ -14,8 +14,8 @@ use Rattle.lc_model.specs.Versions.Timetable.{AreLiveRuns}
 use Rattle.live_calls.proofs.LawLemmas.{one_live_list}
 use Rattle.live_calls.proofs.LiveRunsLemmas.{live_runs_go_forward}
 use Rattle.lc_world.proofs.SidesLemmas.PageLemmas.{never_falls}
-use Rattle.laws_pages.proofs.RidesAreLegsLemmas.{Timetable}
-use Rattle.laws_pages.proofs.RowLemmas.{never_empty}
+use Rattle.convoy.proofs.PageLawsLemmas.RidesAreLegsLemmas.{Timetable}
+use Rattle.convoy.proofs.PageLawsLemmas.RowLemmas.{never_empty}
 use Rattle.lc_world.specs.Sides.PageAt.{linked, page_among}
 use Rattle.lc_world.specs.Sides.Side.{IsTimetableAt, IsValidSide, Side, date_in, has_version}
 use Rattle.lc_world.proofs.SidesLemmas.LaterLemmas.{with_more}

@@ -13,9 +13,9 @@ use Rattle.lc_model.specs.Versions.Named.{is_by, last_of}
 use Rattle.lc_model.specs.Versions.Pages.{CutPage, departures_of, page_for}
 use Rattle.page_json.specs.Sound.{IsSoundName}
 use Rattle.page_json.specs.declared.page.Page.{Page}
-use Rattle.laws_pages.specs.Rides.{pages_on}
-use Rattle.laws_pages.proofs.FilterLemmas.{filter_drops, filter_takes}
-use Rattle.laws_pages.proofs.RowLemmas.{is_where_next_begins}
+use Rattle.convoy.specs.PageLaws.Rides.{pages_on}
+use Rattle.convoy.proofs.PageLawsLemmas.FilterLemmas.{filter_drops, filter_takes}
+use Rattle.convoy.proofs.PageLawsLemmas.RowLemmas.{is_where_next_begins}
 use Rattle.page_client.specs.Client.{AfterDoc, AfterStops, StandsFor, shown}
 use Rattle.page_client.specs.Gate.{IsGateReply}
 use Rattle.page_client.specs.Page.{IsPageReply}

@@ -17,10 +17,10 @@ use Rattle.csa_scan.specs.Done.{IsDone}
 use Rattle.csa_scan.specs.StandsFor.{IsBestChain}
 use Rattle.page_json.specs.Sound.{IsSoundName}
 use Rattle.page_json.specs.declared.page.Page.{Page}
-use Rattle.laws_pages.specs.Chain.{along_previous, connections_along, names_of}
-use Rattle.laws_pages.specs.Needed.{IsOver, IsTakenUntilOver}
-use Rattle.laws_pages.specs.Rides.{pages_on}
-use Rattle.laws_pages.specs.Stop.{bound_of}
+use Rattle.convoy.specs.PageLaws.Chain.{along_previous, connections_along, names_of}
+use Rattle.convoy.specs.PageLaws.Needed.{IsOver, IsTakenUntilOver}
+use Rattle.convoy.specs.PageLaws.Rides.{pages_on}
+use Rattle.convoy.specs.PageLaws.Stop.{bound_of}
 use Rattle.page_client.specs.Client.{AfterPage, GoesOnBy, Leaves, StandsFor, TakesPage, shown}
 use Rattle.page_client.specs.Course.{Follows, IsOver as IsOverThen}
 use Rattle.page_client.specs.Shown.{IsRefusal, Shown, answered, ended, onward, wrong_gate}

@@ -8,11 +8,11 @@ use Rattle.lc_model.specs.Ride.{IsRideAt}
 use Rattle.lc_model.specs.declared.page.PageName.{PageName}
 use Rattle.lc_model.specs.declared.query.Query.{Query}
 use Rattle.lc_model.specs.Versions.Pages.{CutPage}
-use Rattle.laws_pages.specs.Needed.{AreNeeded, up_to_bound}
-use Rattle.laws_pages.specs.Rides.{pages_on}
-use Rattle.laws_pages.specs.Stop.{bound_of}
-use Rattle.laws_pages.proofs.NeededLemmas.{over_if_reaches}
-use Rattle.laws_pages.proofs.UpToLemmas.{is_last_by}
+use Rattle.convoy.specs.PageLaws.Needed.{AreNeeded, up_to_bound}
+use Rattle.convoy.specs.PageLaws.Rides.{pages_on}
+use Rattle.convoy.specs.PageLaws.Stop.{bound_of}
+use Rattle.convoy.proofs.PageLawsLemmas.NeededLemmas.{over_if_reaches}
+use Rattle.convoy.proofs.PageLawsLemmas.UpToLemmas.{is_last_by}
 use Rattle.page_client.specs.Client.{shown}
 use Rattle.page_client.specs.Shown.{IsRefusal, Shown, want_of}
 use Rattle.page_client.specs.declared.client.Client.{Client}

@@ -9,7 +9,7 @@ use Rattle.lc_model.specs.declared.page.PageName.{PageName}
 use Rattle.lc_model.specs.declared.query.Query.{Query}
 use Rattle.lc_model.specs.declared.run.Run.{Run}
 use Rattle.lc_model.specs.Versions.Pages.{CutPage}
-use Rattle.laws_pages.specs.Needed.{AreNeeded}
+use Rattle.convoy.specs.PageLaws.Needed.{AreNeeded}
 use Rattle.lc_world.specs.Sides.PageAt.{named}
 use Rattle.lc_world.specs.Sides.Side.{Side}
 use Rattle.laws_clients.specs.Published.{AreLiveAt, IsPublished, Published}

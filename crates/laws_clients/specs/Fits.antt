@@ -6,9 +6,9 @@ use Rattle.lc_model.specs.declared.answer.Answer.TheVariants as answers
 use Rattle.lc_model.specs.declared.page.PageName.{PageName}
 use Rattle.lc_model.specs.Versions.Pages.{CutPage, page_for}
 use Rattle.page_json.specs.Sound.{IsSoundName}
-use Rattle.laws_pages.specs.Chain.{connections_along}
-use Rattle.laws_pages.specs.Needed.{IsOver}
-use Rattle.laws_pages.specs.Rides.{pages_on}
+use Rattle.convoy.specs.PageLaws.Chain.{connections_along}
+use Rattle.convoy.specs.PageLaws.Needed.{IsOver}
+use Rattle.convoy.specs.PageLaws.Rides.{pages_on}
 use Rattle.page_client.specs.Client.{StandsFor, shown}
 use Rattle.page_client.specs.Shown.{IsRefusal, Shown}
 use Rattle.page_client.specs.declared.client.Client.{Client}

@@ -8,7 +8,7 @@ use Rattle.lc_model.specs.declared.page.PageName.{PageName}
 use Rattle.lc_model.specs.declared.query.Query.{Query}
 use Rattle.lc_model.specs.Versions.Pages.{CutPage, departures_of, page_for}
 use Rattle.page_json.specs.declared.page.Page.{Page}
-use Rattle.laws_pages.specs.Chain.{ArePagesOf, along_next, along_previous}
+use Rattle.convoy.specs.PageLaws.Chain.{ArePagesOf, along_next, along_previous}
 use Rattle.page_client.specs.declared.client.Client.{Client}
 use Rattle.page_client.specs.declared.want.Want.{Want}
 use Rattle.lc_world.specs.Sides.PageAt.{linked}

@@ -10,7 +10,7 @@ use Rattle.lc_model.specs.Versions.Pages.{CutPage, departures_of, pages_of}
 use Rattle.lc_model.specs.Versions.Timetable.{AreLiveRuns}
 use Rattle.page_json.specs.Sound.{IsSoundPage}
 use Rattle.page_json.specs.declared.page.Page.{Page}
-use Rattle.laws_pages.specs.Chain.{names_of}
+use Rattle.convoy.specs.PageLaws.Chain.{names_of}
 use Rattle.lc_world.specs.Sides.PageAt.{named}
 use Rattle.lc_world.specs.Sides.Response.{IsPageOf}
 use Rattle.lc_world.specs.Sides.Side.{Side, date_in, has_version}

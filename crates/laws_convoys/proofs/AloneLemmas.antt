@@ -9,8 +9,8 @@ use Rattle.lc_model.specs.declared.query.Query.{Query}
 use Rattle.lc_model.proofs.ListLemmas.{AllPairs-head, AllPairs-tail, ComesFrom, ComesFrom-map, Contains-cases, Contains-here, Contains-nil}
 use Rattle.lc_model.specs.Versions.History.{Entry}
 use Rattle.lc_model.specs.Versions.Pages.{CutPage}
-use Rattle.laws_pages.specs.Chain.{along_previous}
-use Rattle.laws_pages.proofs.RowLemmas.{names_rise}
+use Rattle.convoy.specs.PageLaws.Chain.{along_previous}
+use Rattle.convoy.proofs.PageLawsLemmas.RowLemmas.{names_rise}
 use Rattle.page_client.specs.Client.{shown}
 use Rattle.page_client.specs.Shown.{Shown, want_of}
 use Rattle.page_client.specs.declared.client.Client.{Client}

@@ -13,15 +13,15 @@ use Rattle.lc_model.specs.declared.query.Query.{Query}
 use Rattle.lc_model.specs.declared.ride.Ride.{Ride}
 use Rattle.lc_model.specs.Versions.Pages.{CutPage}
 use Rattle.change_rounds.specs.Fewest.{IsFewestAnswer, IsFewestChain}
-use Rattle.laws_pages.specs.Chain.{ArePagesOf, connections_along}
-use Rattle.laws_pages.specs.Needed.{IsTakenUntilOver, needed_pages}
-use Rattle.laws_pages.specs.Rides.{pages_on}
-use Rattle.laws_pages.specs.Stop.{bound_of}
-use Rattle.laws_pages.proofs.AlongLemmas.{chains_are_there}
-use Rattle.laws_pages.proofs.NeededLemmas.{always_stops, last_taken, same_best}
-use Rattle.laws_pages.proofs.PartJourneyLemmas.{chain_before, chain_of_front}
-use Rattle.laws_pages.proofs.StopLemmas.{all_of_rest}
-use Rattle.laws_pages.proofs.TakenLemmas.{are_taken, left_later}
+use Rattle.convoy.specs.PageLaws.Chain.{ArePagesOf, connections_along}
+use Rattle.convoy.specs.PageLaws.Needed.{IsTakenUntilOver, needed_pages}
+use Rattle.convoy.specs.PageLaws.Rides.{pages_on}
+use Rattle.convoy.specs.PageLaws.Stop.{bound_of}
+use Rattle.convoy.proofs.PageLawsLemmas.AlongLemmas.{chains_are_there}
+use Rattle.convoy.proofs.PageLawsLemmas.NeededLemmas.{always_stops, last_taken, same_best}
+use Rattle.convoy.proofs.PageLawsLemmas.PartJourneyLemmas.{chain_before, chain_of_front}
+use Rattle.convoy.proofs.PageLawsLemmas.StopLemmas.{all_of_rest}
+use Rattle.convoy.proofs.PageLawsLemmas.TakenLemmas.{are_taken, left_later}
 use Rattle.laws_rounds.specs.Needed.{BestAreInNeeded, FewestAreInNeeded}
 use Rattle.laws_rounds.proofs.PartLemmas.{fewest_of_part}
 

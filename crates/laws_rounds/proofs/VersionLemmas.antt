@@ -10,16 +10,16 @@ use Rattle.lc_model.specs.declared.query.Query.{Query}
 use Rattle.lc_model.specs.declared.run.Run.{Run}
 use Rattle.live_calls.proofs.LawLemmas.{one_live_list}
 use Rattle.lc_model.specs.Versions.Pages.{CutPage}
-use Rattle.laws_pages.proofs.JourneysLemmas.{chain_is_journey, journey_is_chain}
+use Rattle.convoy.proofs.PageLawsLemmas.JourneysLemmas.{chain_is_journey, journey_is_chain}
 use Rattle.page_json.specs.declared.page.Page.{Page}
 use Rattle.lc_world.specs.Sides.PageAt.{named}
 use Rattle.lc_world.specs.Sides.Response.{IsPageOf}
 use Rattle.lc_world.specs.Sides.Side.{IsValidSide, Side}
-use Rattle.laws_pages.specs.Chain.{connections_along}
-use Rattle.laws_pages.specs.Needed.{needed_pages}
-use Rattle.laws_pages.specs.Rides.{pages_on}
-use Rattle.laws_pages.specs.Stop.{bound_of}
-use Rattle.laws_pages.proofs.UpToLemmas.{is_up_to}
+use Rattle.convoy.specs.PageLaws.Chain.{connections_along}
+use Rattle.convoy.specs.PageLaws.Needed.{needed_pages}
+use Rattle.convoy.specs.PageLaws.Rides.{pages_on}
+use Rattle.convoy.specs.PageLaws.Stop.{bound_of}
+use Rattle.convoy.proofs.PageLawsLemmas.UpToLemmas.{is_up_to}
 use Rattle.laws_clients.specs.Answered.{names_at}
 use Rattle.laws_clients.specs.Links.{connections_on}
 use Rattle.laws_clients.specs.Published.{IsOwnPage, IsPublished, Published}

@@ -9,8 +9,8 @@ use Rattle.lc_model.specs.declared.doc.StopsDoc.{StopsDoc}
 use Rattle.lc_model.specs.declared.journey.Journey.{Journey}
 use Rattle.lc_model.specs.declared.query.Query.{Query}
 use Rattle.lc_model.specs.Versions.Pages.{CutPage}
-use Rattle.laws_pages.specs.Chain.{ArePagesOf, connections_along}
-use Rattle.laws_pages.specs.Needed.{needed_pages}
+use Rattle.convoy.specs.PageLaws.Chain.{ArePagesOf, connections_along}
+use Rattle.convoy.specs.PageLaws.Needed.{needed_pages}
 use Rattle.change_rounds.specs.Fewest.{IsFewestChain}
 
 -- each best chain of all connections is a chain of the needed pages

@@ -7,11 +7,11 @@ ghost use Rattle.lc_model.specs.declared.journey.Journey.{Journey as JourneyValu
 ghost use Rattle.lc_model.specs.declared.run.Run.{Run as RunValue};
 ghost use Rattle.lc_model.specs.Versions.Pages.{CutPage};
 ghost use Rattle.change_rounds.specs.Fewest.{IsFewestAnswer, IsFewestChain};
-ghost use Rattle.laws_pages.specs.Chain.{ArePagesOf, connections_along};
-ghost use Rattle.laws_pages.specs.Needed.{AreNeeded};
+ghost use Rattle.convoy.specs.PageLaws.Chain.{ArePagesOf, connections_along};
+ghost use Rattle.convoy.specs.PageLaws.Needed.{AreNeeded};
 ghost use Rattle.laws_rounds.specs.Needed.{BestAreInNeeded, FewestAreInNeeded};
 
-use laws_pages::journeys_along_next;
+use convoy::journeys_along_next;
 use lc_model::{Connections, Query, Runs, StopsDoc};
 
 /// Every connection of every best journey is on the needed pages: it departs no later than the best arrival, and no second is split.

@@ -4,8 +4,8 @@ use Rattle.lc_model.specs.Connection.{NoneArrivesEarly}
 use Rattle.lc_model.specs.Ride.{IsRideAt}
 use Rattle.lc_model.specs.Versions.Pages.{CutPage}
 use Rattle.change_rounds.specs.Fewest.{IsFewestAnswer, IsFewestChain}
-use Rattle.laws_pages.specs.Chain.{connections_along}
-use Rattle.laws_pages.proofs.AlongLemmas.{chains_are_there, least_is_there}
+use Rattle.convoy.specs.PageLaws.Chain.{connections_along}
+use Rattle.convoy.proofs.PageLawsLemmas.AlongLemmas.{chains_are_there, least_is_there}
 use Rattle.laws_rounds.proofs.NeededLemmas.{fewest_of_rides}
 use Rattle.laws_rounds.proofs.needed.fewest_of_journeys.Goals as goal
 

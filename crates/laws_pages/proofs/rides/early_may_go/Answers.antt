@@ -1,5 +1,0 @@
-use Rattle.laws_pages.proofs.AlongLemmas as law
-use Rattle.laws_pages.proofs.rides.early_may_go.Goals as goal
-
-pub returns : goal.returns
-returns c = record { chains_stay = law.early_may_go; least_stays = law.least_without_early }

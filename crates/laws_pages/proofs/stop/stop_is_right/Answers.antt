@@ -1,6 +1,0 @@
-use Rattle.laws_pages.proofs.StopLemmas.{front_may_be_all, front_with_chain}
-use Rattle.laws_pages.proofs.TakenLemmas.{pages_may_be_all}
-use Rattle.laws_pages.proofs.stop.stop_is_right.Goals as goal
-
-pub returns : goal.returns
-returns c = record { front_may_be_all = front_may_be_all; front_with_chain = front_with_chain; pages_may_be_all = pages_may_be_all }
