@@ -16,8 +16,8 @@ use Rattle.laws_arrive.specs.Laws.{OneDepartureAt, OneListOfNeededBackAt}
 use Rattle.laws_arrive.specs.Requests.{requests_of}
 use Rattle.laws_arrive.specs.Right.{EndsAt, HasLatest, IsRefused}
 use Rattle.laws_arrive.specs.ReplyLaws.{SayOneLatest}
-use Rattle.laws_clients.specs.Published.{IsPublished, Published}
-use Rattle.laws_clients.specs.Stated.{version_at}
+use Rattle.convoy.specs.ClientLaws.Published.{IsPublished, Published}
+use Rattle.convoy.specs.ClientLaws.Stated.{version_at}
 use Rattle.lc_io.specs.Counts.{Rose}
 use Rattle.lc_model.specs.Journey.{leaves_at}
 use Rattle.lc_model.specs.declared.journey.Journey.{Journey}

@@ -20,7 +20,7 @@ use Rattle.laws_convoys.proofs.HonestLemmas.{is_get}
 use Rattle.laws_convoys.proofs.RepliesLemmas.{Replied, one_more, recorded_no_more, replied_by, tells_replies_then}
 use Rattle.laws_convoys.specs.Replies.{IsRepliedBy}
 use Rattle.laws_replies.specs.Made.{Made}
-use Rattle.laws_clients.specs.Stated.{version_at}
+use Rattle.convoy.specs.ClientLaws.Stated.{version_at}
 use Rattle.lc_model.specs.Journey.{arrives_at}
 use Rattle.lc_model.specs.declared.connection.Connection.{Connection}
 use Rattle.lc_model.specs.declared.doc.StopsDoc.{StopsDoc}

@@ -9,9 +9,9 @@ use Rattle.cli_arrive.specs.Laws.{SomeWanted}
 use Rattle.cli_ask.proofs.WantsLemmas.{has_ends}
 use Rattle.laws_arrive.specs.Requests.{AreWanted}
 use Rattle.laws_arrive.specs.NeededBack.{needed_pages_back}
-use Rattle.laws_clients.specs.Answered.{names_at}
-use Rattle.laws_clients.specs.Wants.{HasEnds}
-use Rattle.laws_clients.proofs.PublishedLemmas.{is_lawful, is_timetable, made_of}
+use Rattle.convoy.specs.ClientLaws.Answered.{names_at}
+use Rattle.convoy.specs.ClientLaws.Wants.{HasEnds}
+use Rattle.convoy.proofs.ClientLawsLemmas.PublishedLemmas.{is_lawful, is_timetable, made_of}
 use Rattle.convoy.specs.PageLaws.Least.{SomeLeastArrival}
 use Rattle.convoy.proofs.PageLawsLemmas.JourneysLemmas.{journey_is_chain, waits}
 use Rattle.convoy.proofs.PageLawsLemmas.LegLemmas.{in_time_forward, in_time_in_order, leg_goes_forward}

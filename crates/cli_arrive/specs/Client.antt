@@ -8,7 +8,7 @@ use Rattle.connection_uri.specs.Base.{BaseParts}
 use Rattle.laws_arrive.specs.Right.{EndsAt}
 use Rattle.laws_convoys.specs.Replies.{TellsReplies}
 use Rattle.laws_convoys.specs.Requests.{TellsRequests}
-use Rattle.laws_clients.specs.Stated.{version_at}
+use Rattle.convoy.specs.ClientLaws.Stated.{version_at}
 use Rattle.lc_world.specs.declared.entry.Entry.{Entry}
 use Rattle.lc_world.specs.Sides.Side.{Side}
 

@@ -2,9 +2,9 @@
 use Rattle.std.proofs.Common.{◌≡◌, ◌∙◌, ◌+◌, ◌-◌, ◌<◌, ◌≤◌, ◌⊎◌, ℕ, inl, inr, List, [], ◌∷◌, Option, Some, None, arith, subst, sym}
 use Rattle.std.specs.List.{slice_get}
 use Rattle.std.specs.Option.{IfSome, IsSome}
-use Rattle.laws_clients.specs.Answered.{AnswersAt, NeededAt}
-use Rattle.laws_clients.specs.Fits.{FitsAt, HasAnswered, HasEnded, HasFailed, IsDenied}
-use Rattle.laws_clients.specs.Wants.{AreWants, HasEnds}
+use Rattle.convoy.specs.ClientLaws.Answered.{AnswersAt, NeededAt}
+use Rattle.convoy.specs.ClientLaws.Fits.{FitsAt, HasAnswered, HasEnded, HasFailed, IsDenied}
+use Rattle.convoy.specs.ClientLaws.Wants.{AreWants, HasEnds}
 use Rattle.laws_replies.specs.Ends.{EndsBy}
 use Rattle.laws_replies.specs.Made.{Made}
 use Rattle.laws_replies.specs.Run.{HasAsked, HasRun}

@@ -5,10 +5,10 @@ use Rattle.lc_model.specs.declared.answer.Answer.{Answer}
 use Rattle.lc_model.specs.declared.answer.Answer.TheVariants as answers
 use Rattle.lc_model.specs.declared.query.Query.{Query}
 use Rattle.lc_time.specs.declared.zone.Zone.{Zone}
-use Rattle.laws_clients.specs.Answered.{AnswersAt, NeededAt}
-use Rattle.laws_clients.specs.Fits.{HasAnswered, HasEnded, IsDenied}
-use Rattle.laws_clients.specs.Laws.{OneArrivalAt, OneListOfNeededAt}
-use Rattle.laws_clients.specs.Wants.{wants_of}
+use Rattle.convoy.specs.ClientLaws.Answered.{AnswersAt, NeededAt}
+use Rattle.convoy.specs.ClientLaws.Fits.{HasAnswered, HasEnded, IsDenied}
+use Rattle.convoy.specs.ClientLaws.Laws.{OneArrivalAt, OneListOfNeededAt}
+use Rattle.convoy.specs.ClientLaws.Wants.{wants_of}
 use Rattle.laws_replies.specs.Laws.{SayTheSame}
 use Rattle.laws_convoys.specs.OneClient.{version_of}
 use Rattle.page_client.specs.declared.fault.QueryFault.{QueryFault}
@@ -17,7 +17,7 @@ use Rattle.page_client.specs.declared.outcome.Outcome.{Outcome}
 use Rattle.page_client.specs.declared.outcome.Outcome.TheVariants as outcomes
 use Rattle.page_client.specs.declared.want.Want.{Want}
 use Rattle.lc_world.specs.Sides.Side.{Side, date_in}
-use Rattle.laws_clients.specs.Stated.{version_at}
+use Rattle.convoy.specs.ClientLaws.Stated.{version_at}
 use Rattle.cli_ask.specs.Client.{shown_of}
 use Rattle.cli_ask.specs.Laws.{IsNoLinkFault}
 use Rattle.cli_ask.specs.declared.end.ClientEnd.{ClientEnd}

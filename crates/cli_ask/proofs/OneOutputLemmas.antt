@@ -6,7 +6,7 @@ use Rattle.lc_model.specs.Versions.History.{Entry}
 use Rattle.lc_time.specs.declared.zone.Zone.{Zone}
 use Rattle.lc_world.specs.Link.{LinkSeen}
 use Rattle.lc_world.specs.declared.entry.Entry.{Entry as Recorded}
-use Rattle.laws_clients.specs.Laws.{OneArrivalAt, OneListOfNeededAt}
+use Rattle.convoy.specs.ClientLaws.Laws.{OneArrivalAt, OneListOfNeededAt}
 use Rattle.laws_replies.specs.Ends.{EndsBy}
 use Rattle.laws_replies.specs.Made.{Made}
 use Rattle.connection_uri.specs.Base.{BaseParts}

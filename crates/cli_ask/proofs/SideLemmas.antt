@@ -15,9 +15,9 @@ use Rattle.lc_world.specs.Sides.Side.{Side, date_in, first_date}
 use Rattle.cli_words.specs.declared.command.Publishing.{Publishing}
 use Rattle.timetable.specs.Laws.{AreSame}
 use Rattle.timetable.specs.declared.timetable.Timetable.{Timetable}
-use Rattle.laws_clients.specs.Answered.{AnswersAt, NeededAt}
-use Rattle.laws_clients.specs.Fits.{HasAnswered, IsDenied}
-use Rattle.laws_clients.specs.Published.{AreLiveAt, IsPublished, Published}
+use Rattle.convoy.specs.ClientLaws.Answered.{AnswersAt, NeededAt}
+use Rattle.convoy.specs.ClientLaws.Fits.{HasAnswered, IsDenied}
+use Rattle.convoy.specs.ClientLaws.Published.{AreLiveAt, IsPublished, Published}
 use Rattle.page_client.specs.Shown.{Shown}
 use Rattle.page_client.specs.declared.fault.QueryFault.{QueryFault}
 use Rattle.page_client.specs.declared.fault.QueryFault.TheVariants.{HorizonRange, SameStop, UnknownFrom, UnknownTo}

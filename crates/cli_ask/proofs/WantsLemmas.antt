@@ -8,9 +8,9 @@ use Rattle.lc_model.specs.declared.page.PageName.{PageName}
 use Rattle.lc_model.specs.declared.query.Query.{Query}
 use Rattle.lc_model.specs.declared.stop.Stop.{Stop}
 use Rattle.lc_model.specs.Versions.Pages.{CutPage}
-use Rattle.laws_clients.specs.Answered.{names_at}
-use Rattle.laws_clients.specs.Wants.{AreWants, HasEnds, wants_of}
-use Rattle.laws_clients.proofs.PublishedLemmas.{made_of}
+use Rattle.convoy.specs.ClientLaws.Answered.{names_at}
+use Rattle.convoy.specs.ClientLaws.Wants.{AreWants, HasEnds, wants_of}
+use Rattle.convoy.proofs.ClientLawsLemmas.PublishedLemmas.{made_of}
 use Rattle.convoy.specs.PageLaws.Least.{SomeLeastArrival}
 use Rattle.convoy.specs.PageLaws.Needed.{needed_pages}
 use Rattle.page_client.specs.Shown.{HasHorizon, IsRefusal}

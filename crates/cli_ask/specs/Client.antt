@@ -1,7 +1,7 @@
 -- How a client that asked alone ended: by the replies that it got, whatever the link was. It ended rightly by the side of the publisher that
 -- answered, where the replies came as it gave them.
 use Rattle.std.specs.Prelude.{◌≡◌, List, [], ◌∷◌, ◌++◌, length, Option, Some, None}
-use Rattle.laws_clients.specs.Fits.{HasEnded}
+use Rattle.convoy.specs.ClientLaws.Fits.{HasEnded}
 use Rattle.laws_replies.specs.Run.{HasAsked}
 use Rattle.connection_uri.specs.Base.{BaseParts}
 use Rattle.laws_convoys.specs.OneClient.{IsNext, version_of}

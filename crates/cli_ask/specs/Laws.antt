@@ -1,7 +1,7 @@
 -- That the output of a question is one, where the replies come as the publisher gave them. What a publisher has after a message.
 use Rattle.std.specs.Prelude.{◌≡◌, ◌⊎◌, ℕ, Bool, List, [], ◌∷◌, ◌++◌, Option}
-use Rattle.laws_clients.specs.Fits.{IsCutShort}
-use Rattle.laws_clients.specs.Wants.{AreWants, wants_of}
+use Rattle.convoy.specs.ClientLaws.Fits.{IsCutShort}
+use Rattle.convoy.specs.ClientLaws.Wants.{AreWants, wants_of}
 use Rattle.laws_replies.specs.Laws.{SayTheSame}
 use Rattle.cli_words.specs.declared.command.Publishing.{Publishing}
 use Rattle.fragmenter.specs.declared.cutting.Cutting.{Cutting}

@@ -1,7 +1,6 @@
 ghost use Rattle.cli_ask.specs.Laws.{AreGivenInOrder, OneOutput, OnePublisher, SomeFront, SomeWants};
 
-use convoy::some_least_arrival;
-use laws_clients::one_answer;
+use convoy::{one_answer, some_least_arrival};
 use lc_world::Link;
 use publisher::some_timetable;
 use version_store::one_outcome;

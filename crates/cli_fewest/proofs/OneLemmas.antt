@@ -9,7 +9,7 @@ use Rattle.cli_fewest.specs.Client.{HasFewestRides}
 use Rattle.cli_fewest.specs.Laws.{OneFewestOutput}
 use Rattle.laws_rounds.specs.Version.{AlikeAt, FewestAt}
 use Rattle.laws_rounds.specs.ReplyLaws.{HaveAsManyRides}
-use Rattle.laws_clients.specs.Stated.{version_at}
+use Rattle.convoy.specs.ClientLaws.Stated.{version_at}
 use Rattle.lc_model.specs.declared.journey.Journey.{Journey}
 use Rattle.lc_model.specs.declared.query.Query.{Query}
 use Rattle.lc_time.specs.declared.zone.Zone.{Zone}

@@ -8,10 +8,10 @@ use Rattle.cli_ask.specs.Client.{AsksFor, AsksOneMore, shown_of}
 use Rattle.cli_fewest.specs.Client.{EndsRightFewest, HasFewestRides, client_of}
 use Rattle.connection_uri.specs.Base.{BaseParts}
 use Rattle.convoy.specs.Exchange.{Got, IsExchange}
-use Rattle.laws_clients.specs.Answered.{AnswersAt}
-use Rattle.laws_clients.specs.Fits.{HasAnswered, HasEnded, HasFailed}
-use Rattle.laws_clients.specs.Steps.{BeginsInAgreement}
-use Rattle.laws_clients.specs.Wants.{AreWants}
+use Rattle.convoy.specs.ClientLaws.Answered.{AnswersAt}
+use Rattle.convoy.specs.ClientLaws.Fits.{HasAnswered, HasEnded, HasFailed}
+use Rattle.convoy.specs.ClientLaws.Steps.{BeginsInAgreement}
+use Rattle.convoy.specs.ClientLaws.Wants.{AreWants}
 use Rattle.laws_convoys.proofs.RepliesLemmas.{Replied, exchange_replied, recorded_no_more, tells_replies_then}
 use Rattle.laws_convoys.specs.OneClient.{version_of}
 use Rattle.laws_convoys.specs.Replies.{IsRepliedBy, TellsReplies}
@@ -23,7 +23,7 @@ use Rattle.laws_rounds.proofs.CourseLemmas.{AskedJust, AskedOneMore, SoFar, none
 use Rattle.laws_rounds.proofs.EndLemmas.{fewest_ends_right}
 use Rattle.laws_rounds.specs.Right.{EndsAt, IsNamed, IsNamedByGate, IsRight}
 use Rattle.laws_rounds.specs.Asked.{HasAskedFewest}
-use Rattle.laws_clients.specs.Stated.{version_at}
+use Rattle.convoy.specs.ClientLaws.Stated.{version_at}
 use Rattle.lc_model.specs.declared.answer.Answer.TheVariants as answers
 use Rattle.lc_model.specs.declared.journey.Journey.{Journey}
 use Rattle.lc_model.specs.declared.query.Query.{Query}

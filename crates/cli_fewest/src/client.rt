@@ -8,7 +8,7 @@ ghost use Rattle.lc_world.specs.Sides.Side.{Side};
 
 use cli_ask::ClientEnd;
 use connection_uri::Base;
-use laws_clients::steps_keep_agreement;
+use convoy::steps_keep_agreement;
 use laws_rounds::{fewest_at_version, fewest_by_its_replies};
 use lc_model::{NoMemory, Query};
 use lc_world::Link;

@@ -1,3 +1,4 @@
+pub mod ClientLaws
 pub mod Exchange
 pub mod Finish
 pub mod PageLaws

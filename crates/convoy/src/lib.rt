@@ -1,6 +1,7 @@
 //! Many clients that share one bounded cache of pages, over any link. It builds on `page_client` and `lc_world`.
 #![tactic(auto)]
 
+mod client_laws;
 mod convoy;
 mod exchange;
 mod member;
@@ -9,6 +10,10 @@ mod steps;
 mod turn;
 mod turning;
 
+pub use client_laws::{
+    clients_end_right, gate_is_stated, links_lead_on, one_answer, one_published, pages_are_stated,
+    replies_are_read, steps_keep_agreement, stops_are_stated, versions_stay,
+};
 pub use convoy::Convoy;
 pub use exchange::exchanged;
 pub use member::Member;

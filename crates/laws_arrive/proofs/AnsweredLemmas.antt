@@ -15,9 +15,9 @@ use Rattle.live_calls.proofs.LawLemmas.{one_live_list}
 use Rattle.lc_world.specs.Sides.PageAt.{named}
 use Rattle.lc_world.specs.Sides.Side.{IsValidSide, Side}
 use Rattle.convoy.proofs.PageLawsLemmas.JourneysLemmas.{chain_is_journey, journey_is_chain}
-use Rattle.laws_clients.specs.Answered.{names_at}
-use Rattle.laws_clients.specs.Published.{AreLiveAt, IsPublished, Published}
-use Rattle.laws_clients.proofs.PublishedLemmas.{is_lawful, is_timetable, one_published, stays_by_news}
+use Rattle.convoy.specs.ClientLaws.Answered.{names_at}
+use Rattle.convoy.specs.ClientLaws.Published.{AreLiveAt, IsPublished, Published}
+use Rattle.convoy.proofs.ClientLawsLemmas.PublishedLemmas.{is_lawful, is_timetable, one_published, stays_by_news}
 use Rattle.laws_arrive.specs.LatestOf.{IsLatestOf}
 use Rattle.laws_arrive.specs.NeededBack.{AreNeededBack, IsTakenBackUntilOver, connections_back, pages_back}
 use Rattle.laws_arrive.proofs.BackLemmas.{one_list_of_needed_back}

@@ -22,12 +22,12 @@ use Rattle.page_client.specs.declared.outcome.Outcome.TheVariants as outcomes
 use Rattle.lc_world.specs.Sides.PageAt.{named}
 use Rattle.lc_world.specs.Sides.Side.{IsLater, Side}
 use Rattle.convoy.specs.PageLaws.Chain.{ArePagesOf, along_previous}
-use Rattle.laws_clients.specs.Stated.{IsGatePage, version_at}
-use Rattle.laws_clients.specs.Answered.{names_at}
-use Rattle.laws_clients.specs.Laws.{IsAmong}
-use Rattle.laws_clients.specs.Published.{IsPublished, Published}
-use Rattle.laws_clients.specs.Wants.{HasEnds}
-use Rattle.laws_clients.proofs.PublishedLemmas.{is_lawful, pages_are_among, published_stays}
+use Rattle.convoy.specs.ClientLaws.Stated.{IsGatePage, version_at}
+use Rattle.convoy.specs.ClientLaws.Answered.{names_at}
+use Rattle.convoy.specs.ClientLaws.Laws.{IsAmong}
+use Rattle.convoy.specs.ClientLaws.Published.{IsPublished, Published}
+use Rattle.convoy.specs.ClientLaws.Wants.{HasEnds}
+use Rattle.convoy.proofs.ClientLawsLemmas.PublishedLemmas.{is_lawful, pages_are_among, published_stays}
 use Rattle.laws_arrive.specs.NeededBack.{IsTakenBackUntilOver, connections_back, pages_back}
 use Rattle.convoy.specs.Exchange.{Got}
 use Rattle.laws_convoys.specs.Leaves.{LeavesHonest, RoseWithin}

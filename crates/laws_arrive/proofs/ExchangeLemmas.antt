@@ -27,9 +27,9 @@ use Rattle.lc_world.specs.Sides.Response.{IsPageOf}
 use Rattle.lc_world.specs.Sides.Short.{StandsUnder}
 use Rattle.lc_world.specs.Sides.Side.{IsLater, Side, has_version}
 use Rattle.lc_world.proofs.SidesLemmas.VersionLemmas.{still_found}
-use Rattle.laws_clients.specs.Stated.{IsGatePage}
-use Rattle.laws_clients.proofs.PageLemmas.{page_is_stated}
-use Rattle.laws_clients.proofs.ReadLemmas.{gate_is_read, stops_are_read}
+use Rattle.convoy.specs.ClientLaws.Stated.{IsGatePage}
+use Rattle.convoy.proofs.ClientLawsLemmas.PageLemmas.{page_is_stated}
+use Rattle.convoy.proofs.ClientLawsLemmas.ReadLemmas.{gate_is_read, stops_are_read}
 use Rattle.convoy.specs.Exchange.{Got, bytes_of, result_of}
 use Rattle.laws_convoys.specs.Leaves.{LeavesHonest}
 use Rattle.laws_convoys.specs.Requests.{TellsRequests}

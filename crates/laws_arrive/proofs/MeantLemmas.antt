@@ -6,7 +6,7 @@ use Rattle.std.proofs.lemmas.Bool.Decides.{nat_tests}
 use Rattle.lc_model.specs.Versions.History.{moments_of}
 use Rattle.lc_model.specs.Versions.Named.{is_by, last_of}
 use Rattle.convoy.proofs.PageLawsLemmas.FilterLemmas.{filter_drops, filter_takes}
-use Rattle.laws_clients.specs.Stated.{version_at}
+use Rattle.convoy.specs.ClientLaws.Stated.{version_at}
 use Rattle.lc_world.specs.Sides.Side.{Side, has_version}
 
 or_more : (here there : Bool) → there ≡ true → (here || there) ≡ true

@@ -8,9 +8,9 @@ use Rattle.lc_world.specs.Link.{IsHonestWith, LinkSeen}
 use Rattle.page_json.specs.declared.page.Page.{Page}
 use Rattle.page_client.specs.declared.fault.PeerFault.{PeerFault}
 use Rattle.lc_world.specs.Sides.Side.{Side}
-use Rattle.laws_clients.specs.Stated.{IsGatePage, version_at}
-use Rattle.laws_clients.specs.Laws.{IsAmong}
-use Rattle.laws_clients.proofs.PublishedLemmas.{pages_are_among}
+use Rattle.convoy.specs.ClientLaws.Stated.{IsGatePage, version_at}
+use Rattle.convoy.specs.ClientLaws.Laws.{IsAmong}
+use Rattle.convoy.proofs.ClientLawsLemmas.PublishedLemmas.{pages_are_among}
 use Rattle.convoy.specs.Exchange.{Got}
 use Rattle.back_scan.specs.declared.arrive_query.ArriveQuery.{ArriveQuery}
 use Rattle.back_client.specs.Arrives.{AfterGotGate, AfterGotStops, AfterSaidGate, AfterSaidStops}

@@ -10,9 +10,9 @@ use Rattle.lc_world.specs.Link.{LinkSeen}
 use Rattle.page_client.specs.Shown.{answered}
 use Rattle.page_client.specs.declared.outcome.Outcome.{Outcome}
 use Rattle.lc_world.specs.Sides.Side.{IsLater, IsValidSide, Side}
-use Rattle.laws_clients.specs.Stated.{version_at}
-use Rattle.laws_clients.specs.Published.{AreLiveAt}
-use Rattle.laws_clients.specs.Wants.{HasEnds}
+use Rattle.convoy.specs.ClientLaws.Stated.{version_at}
+use Rattle.convoy.specs.ClientLaws.Published.{AreLiveAt}
+use Rattle.convoy.specs.ClientLaws.Wants.{HasEnds}
 use Rattle.back_scan.specs.Forward.{forward_query}
 use Rattle.back_scan.specs.declared.arrive_query.ArriveQuery.{ArriveQuery}
 use Rattle.back_client.specs.declared.outcome.ArriveEnd.{ArriveEnd}

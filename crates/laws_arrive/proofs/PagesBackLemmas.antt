@@ -18,7 +18,7 @@ use Rattle.convoy.proofs.PageLawsLemmas.ChainLemmas.{by_or_not, links_part, next
 use Rattle.convoy.proofs.PageLawsLemmas.RowLemmas.{found_by_name, is_where_next_begins, late_are_along_next}
 use Rattle.convoy.proofs.PageLawsLemmas.StopLemmas.{all_of_rest}
 use Rattle.lc_world.specs.Sides.PageAt.{named}
-use Rattle.laws_clients.specs.Published.{between}
+use Rattle.convoy.specs.ClientLaws.Published.{between}
 use Rattle.laws_arrive.specs.NeededBack.{pages_back}
 use Rattle.laws_arrive.proofs.BackLemmas.{along-append}
 use Rattle.page_client.specs.declared.fault.PeerFault.TheVariants.{GateWrong, Retreat}

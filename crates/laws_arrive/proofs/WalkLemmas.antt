@@ -28,10 +28,10 @@ use Rattle.lc_world.specs.Sides.Response.{IsPageOf}
 use Rattle.lc_world.specs.Sides.Short.{StandsUnder}
 use Rattle.lc_world.specs.Sides.Side.{Side, has_version}
 use Rattle.convoy.specs.PageLaws.Chain.{ArePagesOf, connections_along, names_of}
-use Rattle.laws_clients.specs.Answered.{names_at}
-use Rattle.laws_clients.specs.Published.{IsPublished, Published, between}
-use Rattle.laws_clients.proofs.OwnPageLemmas.{found, own_is_between}
-use Rattle.laws_clients.proofs.PublishedLemmas.{published_stays}
+use Rattle.convoy.specs.ClientLaws.Answered.{names_at}
+use Rattle.convoy.specs.ClientLaws.Published.{IsPublished, Published, between}
+use Rattle.convoy.proofs.ClientLawsLemmas.OwnPageLemmas.{found, own_is_between}
+use Rattle.convoy.proofs.ClientLawsLemmas.PublishedLemmas.{published_stays}
 use Rattle.laws_arrive.specs.Early.{bound_back}
 use Rattle.laws_arrive.specs.NeededBack.{IsOverBack, IsTakenBackUntilOver, connections_back, pages_back}
 use Rattle.convoy.specs.Exchange.{Got}

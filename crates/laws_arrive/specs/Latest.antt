@@ -10,8 +10,8 @@ use Rattle.lc_model.specs.Versions.Pages.{CutPage}
 use Rattle.lc_world.specs.Sides.Side.{Side}
 use Rattle.laws_arrive.specs.LatestOf.{IsLatestOf}
 use Rattle.laws_arrive.specs.NeededBack.{AreNeededBack}
-use Rattle.laws_clients.specs.Answered.{names_at}
-use Rattle.laws_clients.specs.Published.{AreLiveAt, IsPublished, Published}
+use Rattle.convoy.specs.ClientLaws.Answered.{names_at}
+use Rattle.convoy.specs.ClientLaws.Published.{AreLiveAt, IsPublished, Published}
 
 -- the answer is a latest journey over the rides of the runs at a version, or that there is no journey
 pub record LatestAt (side : Side) (version : ℕ) (query : Query) (answer : Option Journey) : Type 0 where

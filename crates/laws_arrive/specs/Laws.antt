@@ -8,9 +8,9 @@ use Rattle.connection_uri.specs.Base.{BaseParts}
 use Rattle.lc_world.specs.Link.{IsHonestWith, IsQuietWith, LinkSeen}
 use Rattle.page_client.specs.Shown.{IsRefusal, answered}
 use Rattle.lc_world.specs.Sides.Side.{Side}
-use Rattle.laws_clients.specs.Stated.{version_at}
-use Rattle.laws_clients.specs.Laws.{Stays}
-use Rattle.laws_clients.specs.Wants.{HasEnds}
+use Rattle.convoy.specs.ClientLaws.Stated.{version_at}
+use Rattle.convoy.specs.ClientLaws.Laws.{Stays}
+use Rattle.convoy.specs.ClientLaws.Wants.{HasEnds}
 use Rattle.back_scan.specs.Forward.{forward_query}
 use Rattle.back_scan.specs.declared.arrive_query.ArriveQuery.{ArriveQuery}
 use Rattle.back_client.specs.Arrives.{Arrives, AsksGate}

@@ -5,7 +5,7 @@ use Rattle.connection_uri.specs.Base.{BaseParts}
 use Rattle.connection_uri.specs.Page.{gate_target_of, page_target_of, stops_target_of}
 use Rattle.http_text.specs.RequestText.{request_text_of}
 use Rattle.lc_world.specs.Sides.Side.{Side}
-use Rattle.laws_clients.specs.Wants.{HasEnds}
+use Rattle.convoy.specs.ClientLaws.Wants.{HasEnds}
 use Rattle.back_scan.specs.Forward.{forward_query}
 use Rattle.back_scan.specs.declared.arrive_query.ArriveQuery.{ArriveQuery}
 use Rattle.laws_arrive.specs.Latest.{NeededBackAt}

@@ -11,8 +11,8 @@ use Rattle.page_client.specs.declared.fault.QueryFault.TheVariants.{HorizonRange
 use Rattle.page_client.specs.declared.outcome.Outcome.{Outcome}
 use Rattle.page_client.specs.declared.outcome.Outcome.TheVariants as outcomes
 use Rattle.lc_world.specs.Sides.Side.{Side, has_version}
-use Rattle.laws_clients.specs.Stated.{version_at}
-use Rattle.laws_clients.specs.Wants.{HasEnds}
+use Rattle.convoy.specs.ClientLaws.Stated.{version_at}
+use Rattle.convoy.specs.ClientLaws.Wants.{HasEnds}
 use Rattle.laws_convoys.specs.Leaves.{LeavesHonest, RoseWithin}
 use Rattle.laws_convoys.specs.Requests.{TellsRequests}
 use Rattle.back_scan.specs.Forward.{forward_query}

@@ -23,12 +23,12 @@ use Rattle.page_client.proofs.PageLemmas.{waits_for}
 use Rattle.lc_world.specs.Sides.PageAt.{named}
 use Rattle.lc_world.specs.Sides.Side.{IsLater, IsValidSide, Side}
 use Rattle.lc_world.proofs.SidesLemmas.LaterLemmas.{with_more}
-use Rattle.laws_clients.specs.Stated.{version_at}
-use Rattle.laws_clients.specs.Answered.{names_at}
-use Rattle.laws_clients.specs.Fits.{FitsAt, FitsSide, WaitsForPage}
-use Rattle.laws_clients.specs.Wants.{AreWants, IsItsVersion, wants_of}
-use Rattle.laws_clients.proofs.OwnPageLemmas.{all_parts, pages_by_cuts}
-use Rattle.laws_clients.proofs.WantsLemmas.{wants_the_next}
+use Rattle.convoy.specs.ClientLaws.Stated.{version_at}
+use Rattle.convoy.specs.ClientLaws.Answered.{names_at}
+use Rattle.convoy.specs.ClientLaws.Fits.{FitsAt, FitsSide, WaitsForPage}
+use Rattle.convoy.specs.ClientLaws.Wants.{AreWants, IsItsVersion, wants_of}
+use Rattle.convoy.proofs.ClientLawsLemmas.OwnPageLemmas.{all_parts, pages_by_cuts}
+use Rattle.convoy.proofs.ClientLawsLemmas.WantsLemmas.{wants_the_next}
 use Rattle.laws_convoys.specs.Leaves.{HasFault, IsNamedBetween, VersionAfter}
 use Rattle.laws_convoys.specs.OneClient.{IsNext, version_of}
 

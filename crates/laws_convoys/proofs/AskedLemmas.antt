@@ -16,10 +16,10 @@ use Rattle.page_client.specs.declared.outcome.Outcome.TheVariants.{LinkFault, Pe
 use Rattle.page_client.specs.declared.want.Want.{Want}
 use Rattle.page_client.specs.declared.want.Want.TheVariants as wants
 use Rattle.lc_world.specs.Sides.Side.{IsLater, IsValidSide, Side, has_version}
-use Rattle.laws_clients.specs.Fits.{FitsSide}
-use Rattle.laws_clients.specs.Steps.{KeepsVersion}
-use Rattle.laws_clients.specs.Wants.{AreWants, IsItsVersion}
-use Rattle.laws_clients.proofs.WantsLemmas.{no_reply_fails_a_test, wants_stay, wants_the_next}
+use Rattle.convoy.specs.ClientLaws.Fits.{FitsSide}
+use Rattle.convoy.specs.ClientLaws.Steps.{KeepsVersion}
+use Rattle.convoy.specs.ClientLaws.Wants.{AreWants, IsItsVersion}
+use Rattle.convoy.proofs.ClientLawsLemmas.WantsLemmas.{no_reply_fails_a_test, wants_stay, wants_the_next}
 use Rattle.laws_convoys.specs.Leaves.{AsksByNames, HasFault, NoneFailed, OneFailed}
 use Rattle.laws_convoys.specs.Names.{asked_for, asked_of, names_after, names_of, names_then, names_with}
 use Rattle.laws_convoys.proofs.AloneLemmas.{waits_at_first}

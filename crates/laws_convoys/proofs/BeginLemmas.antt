@@ -1,8 +1,8 @@
 -- Convoys that begin, clients that come, and sides that admit messages.
 use Rattle.std.proofs.Common.{[], ◌∷◌, ◌++◌, sym, subst}
 use Rattle.std.proofs.lemmas.List.Elements.{All-nil}
-use Rattle.laws_clients.specs.Published.{IsOwnPage}
-use Rattle.laws_clients.specs.Steps.{BeginsInAgreement}
+use Rattle.convoy.specs.ClientLaws.Published.{IsOwnPage}
+use Rattle.convoy.specs.ClientLaws.Steps.{BeginsInAgreement}
 use Rattle.convoy.specs.State.{ConvoyState}
 use Rattle.laws_convoys.specs.Agreement.{FitsConvoy}
 use Rattle.laws_convoys.specs.Laws.{AddedAgrees, LaterAgrees, NoneAgrees}

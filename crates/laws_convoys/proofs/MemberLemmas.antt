@@ -21,11 +21,11 @@ use Rattle.page_client.specs.declared.want.Want.TheVariants as wants
 use Rattle.page_client.proofs.PageLemmas.{waits_for}
 use Rattle.lc_world.specs.Sides.Side.{IsLater, IsValidSide, Side}
 use Rattle.lc_world.proofs.SidesLemmas.LaterLemmas.{later_itself}
-use Rattle.laws_clients.specs.Fits.{FitsAt, FitsSide, WaitsForPage}
-use Rattle.laws_clients.specs.Published.{IsOwnPage}
-use Rattle.laws_clients.specs.Steps.{IsReplyTo, SaysOwnPage}
-use Rattle.laws_clients.proofs.FitsLemmas.{fits_stays, own_pages_stay}
-use Rattle.laws_clients.proofs.StepLemmas.{gate_keeps_it, link_fault_keeps_it, page_is_own, page_keeps_it, stops_keep_it}
+use Rattle.convoy.specs.ClientLaws.Fits.{FitsAt, FitsSide, WaitsForPage}
+use Rattle.convoy.specs.ClientLaws.Published.{IsOwnPage}
+use Rattle.convoy.specs.ClientLaws.Steps.{IsReplyTo, SaysOwnPage}
+use Rattle.convoy.proofs.ClientLawsLemmas.FitsLemmas.{fits_stays, own_pages_stay}
+use Rattle.convoy.proofs.ClientLawsLemmas.StepLemmas.{gate_keeps_it, link_fault_keeps_it, page_is_own, page_keeps_it, stops_keep_it}
 use Rattle.convoy.specs.Exchange.{Got, IsExchange, bytes_of, result_of}
 use Rattle.convoy.specs.Steps.{AfterPage, Takes, TakesAsked, TakesGate, TakesStops, kept_after}
 use Rattle.convoy.specs.Turn.{Asks, IsCached, IsFinished}

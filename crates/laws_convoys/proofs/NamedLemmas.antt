@@ -6,7 +6,7 @@ use Rattle.page_client.specs.declared.want.Want.{Want}
 use Rattle.page_client.specs.declared.want.Want.TheVariants as wants
 use Rattle.lc_world.specs.Sides.Side.{IsLater, Side}
 use Rattle.lc_world.proofs.SidesLemmas.LaterLemmas.{later_itself, later_on}
-use Rattle.laws_clients.specs.Stated.{version_at}
+use Rattle.convoy.specs.ClientLaws.Stated.{version_at}
 use Rattle.laws_convoys.specs.Leaves.{IsNamedBetween, VersionAfter}
 
 -- this does not begin with the time gate

@@ -19,8 +19,8 @@ use Rattle.page_client.specs.declared.outcome.Outcome.TheVariants.{LinkFault, Re
 use Rattle.page_client.specs.declared.want.Want.{Want}
 use Rattle.page_client.specs.declared.want.Want.TheVariants as wants
 use Rattle.lc_world.specs.Sides.Side.{IsValidSide, Side}
-use Rattle.laws_clients.specs.Fits.{FitsSide}
-use Rattle.laws_clients.specs.Steps.{BeginsInAgreement}
+use Rattle.convoy.specs.ClientLaws.Fits.{FitsSide}
+use Rattle.convoy.specs.ClientLaws.Steps.{BeginsInAgreement}
 use Rattle.convoy.specs.Finish.{Ends, HasOutcome, IsStep, Rounds, Step, TurnsOf}
 use Rattle.convoy.specs.State.{ConvoyState, begun}
 use Rattle.convoy.specs.Turn.{IsCached, Turned}

@@ -4,8 +4,8 @@ use Rattle.std.specs.Prelude.{set}
 use Rattle.std.specs.List.{slice_get}
 use Rattle.page_client.specs.declared.want.Want.{Want}
 use Rattle.lc_world.specs.Sides.Side.{IsLater, IsValidSide, Side}
-use Rattle.laws_clients.specs.Fits.{FitsSide}
-use Rattle.laws_clients.proofs.FitsLemmas.{fits_stays}
+use Rattle.convoy.specs.ClientLaws.Fits.{FitsSide}
+use Rattle.convoy.proofs.ClientLawsLemmas.FitsLemmas.{fits_stays}
 use Rattle.convoy.specs.declared.member.Member.{Member}
 use Rattle.laws_convoys.specs.Agreement.{AllFit}
 

@@ -15,7 +15,7 @@ use Rattle.page_client.specs.Shown.{Shown}
 use Rattle.page_client.specs.declared.want.Want.{Want}
 use Rattle.lc_world.specs.Sides.Side.{IsLater, Side}
 use Rattle.lc_world.proofs.SidesLemmas.LaterLemmas.{later_itself}
-use Rattle.laws_clients.proofs.FitsLemmas.{fits_stays, has_own}
+use Rattle.convoy.proofs.ClientLawsLemmas.FitsLemmas.{fits_stays, has_own}
 use Rattle.convoy.specs.Finish.{Ends, HasOutcome, Rounds}
 use Rattle.convoy.specs.State.{ConvoyState}
 use Rattle.convoy.specs.declared.member.Member.{Member}

@@ -20,9 +20,9 @@ use Rattle.page_client.specs.declared.phase.Phase.TheVariants as phases
 use Rattle.page_client.specs.declared.want.Want.{Want}
 use Rattle.page_client.specs.declared.want.Want.TheVariants as wants
 use Rattle.lc_world.specs.Sides.Side.{Side}
-use Rattle.laws_clients.specs.Fits.{FitsAt, FitsSide}
-use Rattle.laws_clients.specs.Published.{IsOwnPage}
-use Rattle.laws_clients.proofs.FitsLemmas.{has_own}
+use Rattle.convoy.specs.ClientLaws.Fits.{FitsAt, FitsSide}
+use Rattle.convoy.specs.ClientLaws.Published.{IsOwnPage}
+use Rattle.convoy.proofs.ClientLawsLemmas.FitsLemmas.{has_own}
 use Rattle.convoy.specs.Finish.{HasOutcome, IsStep, Step, TurnsOf}
 use Rattle.convoy.specs.State.{ConvoyState}
 use Rattle.convoy.specs.Turn.{Turned}

@@ -3,8 +3,8 @@ use Rattle.std.specs.Prelude.{List, [], ◌∷◌}
 use Rattle.std.specs.List.{All}
 use Rattle.page_client.specs.declared.want.Want.{Want}
 use Rattle.lc_world.specs.Sides.Side.{Side}
-use Rattle.laws_clients.specs.Fits.{FitsSide}
-use Rattle.laws_clients.specs.Published.{IsOwnPage}
+use Rattle.convoy.specs.ClientLaws.Fits.{FitsSide}
+use Rattle.convoy.specs.ClientLaws.Published.{IsOwnPage}
 use Rattle.convoy.specs.State.{ConvoyState}
 use Rattle.convoy.specs.declared.member.Member.{Member}
 

@@ -11,9 +11,9 @@ use Rattle.page_client.specs.declared.outcome.Outcome.TheVariants.{LinkFault}
 use Rattle.page_client.specs.declared.want.Want.{Want}
 use Rattle.page_client.specs.declared.want.Want.TheVariants as wants
 use Rattle.lc_world.specs.Sides.Side.{IsLater, Side}
-use Rattle.laws_clients.specs.Stated.{version_at}
-use Rattle.laws_clients.specs.Fits.{FitsSide}
-use Rattle.laws_clients.specs.Wants.{AreWants}
+use Rattle.convoy.specs.ClientLaws.Stated.{version_at}
+use Rattle.convoy.specs.ClientLaws.Fits.{FitsSide}
+use Rattle.convoy.specs.ClientLaws.Wants.{AreWants}
 use Rattle.convoy.specs.Finish.{HasOutcome}
 use Rattle.convoy.specs.State.{ConvoyState}
 use Rattle.convoy.specs.declared.member.Member.{Member}

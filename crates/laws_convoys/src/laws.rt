@@ -1,7 +1,7 @@
 ghost use Rattle.laws_convoys.specs.Laws.{AddedAgrees, EndKeepsAgreement, LaterAgrees, NoneAgrees, RoundsKeepAgreement, TurnKeepsAgreement};
 ghost use Rattle.laws_convoys.specs.OneClient.{OneClientEndsRight};
 
-use laws_clients::steps_keep_agreement;
+use convoy::steps_keep_agreement;
 use lc_world::Link;
 
 /// A convoy without clients agrees with every side, and a client more may come. What agrees with a side agrees with each later one.

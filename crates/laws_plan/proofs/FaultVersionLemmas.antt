@@ -7,7 +7,7 @@ use Rattle.std.proofs.lemmas.List.Elements.{filter-append}
 use Rattle.cli_ask.specs.Client.{shown_of}
 use Rattle.cli_ask.specs.declared.end.ClientEnd.{ClientEnd}
 use Rattle.connection_uri.specs.Base.{BaseParts}
-use Rattle.laws_clients.specs.Fits.{HasEnded, HasFailed}
+use Rattle.convoy.specs.ClientLaws.Fits.{HasEnded, HasFailed}
 use Rattle.laws_convoys.specs.Names.{Round}
 use Rattle.laws_plan.specs.Planned.{VersionFitsFault}
 use Rattle.laws_replay.proofs.FaultLemmas.{fails, fails_in, fails_of}

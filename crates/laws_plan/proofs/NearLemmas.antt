@@ -3,15 +3,15 @@ use Rattle.std.proofs.Common.{◌≡◌, ◌∙◌, ◌<◌, ◌+◌, ℕ, List,
 use Rattle.std.specs.List.{filter}
 use Rattle.cli_ask.specs.Client.{shown_of}
 use Rattle.cli_ask.specs.declared.end.ClientEnd.{ClientEnd}
-use Rattle.laws_clients.specs.Fits.{HasAnswered, HasEnded, IsDenied}
-use Rattle.laws_clients.specs.Wants.{AreWants, IsItsVersion, IsNoFault}
-use Rattle.laws_clients.proofs.WantsLemmas.{one_list_of_wants}
+use Rattle.convoy.specs.ClientLaws.Fits.{HasAnswered, HasEnded, IsDenied}
+use Rattle.convoy.specs.ClientLaws.Wants.{AreWants, IsItsVersion, IsNoFault}
+use Rattle.convoy.proofs.ClientLawsLemmas.WantsLemmas.{one_list_of_wants}
 use Rattle.laws_convoys.specs.Names.{Round}
 use Rattle.laws_plan.specs.Near.{NoVersionAtGate, NoneIsCountedTwice, NoneIsLost, NotAnothersVersion, NotNewer, NotOneMore, SomeVersionElse}
 use Rattle.laws_plan.specs.Planned.{EndsAt, VersionFitsFault}
 use Rattle.laws_plan.specs.Sides.{version_with}
 use Rattle.laws_replay.specs.Turns.{failed_in, given_in}
-use Rattle.laws_clients.specs.Stated.{version_at}
+use Rattle.convoy.specs.ClientLaws.Stated.{version_at}
 use Rattle.lc_model.specs.declared.answer.Answer.{Answer}
 use Rattle.lc_model.specs.declared.query.Query.{Query}
 use Rattle.lc_model.specs.Versions.History.{Entry, moments_of}

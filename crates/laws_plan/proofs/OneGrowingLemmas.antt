@@ -6,9 +6,9 @@ use Rattle.cli_ask.specs.Client.{shown_of}
 use Rattle.cli_ask.specs.Laws.{AreOneEnd, IsNoLinkFault}
 use Rattle.cli_ask.specs.declared.end.ClientEnd.{ClientEnd}
 use Rattle.connection_uri.specs.Base.{BaseParts}
-use Rattle.laws_clients.specs.Fits.{HasAnswered, HasEnded, IsDenied}
-use Rattle.laws_clients.specs.Laws.{AnswersStay, NeededStays, OneArrivalAt, OneListOfNeededAt}
-use Rattle.laws_clients.specs.Wants.{HasEnds}
+use Rattle.convoy.specs.ClientLaws.Fits.{HasAnswered, HasEnded, IsDenied}
+use Rattle.convoy.specs.ClientLaws.Laws.{AnswersStay, NeededStays, OneArrivalAt, OneListOfNeededAt}
+use Rattle.convoy.specs.ClientLaws.Wants.{HasEnds}
 use Rattle.lc_model.specs.Stop.{HasStop}
 use Rattle.laws_convoys.proofs.AloneLemmas.{BeginsAtGate}
 use Rattle.laws_convoys.specs.Names.{Round}
@@ -25,7 +25,7 @@ use Rattle.laws_replay.specs.Events.{TurnsAreOfClients, questions_in}
 use Rattle.laws_replay.specs.Turns.{failed_in, given_in, order_of, rounds_of}
 use Rattle.laws_replay.specs.declared.event.Event.{Event}
 use Rattle.laws_replies.specs.Met.{Met}
-use Rattle.laws_clients.specs.Stated.{version_at}
+use Rattle.convoy.specs.ClientLaws.Stated.{version_at}
 use Rattle.lc_model.specs.declared.answer.Answer.{Answer}
 use Rattle.lc_model.specs.declared.answer.Answer.TheVariants as answers
 use Rattle.lc_model.specs.declared.doc.StopsDoc.{StopsDoc}

@@ -8,9 +8,9 @@ use Rattle.cli_ask.specs.Client.{shown_of}
 use Rattle.cli_ask.specs.Laws.{AreOneEnd, IsNoLinkFault}
 use Rattle.cli_ask.specs.declared.end.ClientEnd.{ClientEnd}
 use Rattle.connection_uri.specs.Base.{BaseParts}
-use Rattle.laws_clients.specs.Fits.{HasEnded, IsDenied}
-use Rattle.laws_clients.specs.Laws.{OneArrivalAt, OneListOfNeededAt}
-use Rattle.laws_clients.specs.Wants.{wants_of}
+use Rattle.convoy.specs.ClientLaws.Fits.{HasEnded, IsDenied}
+use Rattle.convoy.specs.ClientLaws.Laws.{OneArrivalAt, OneListOfNeededAt}
+use Rattle.convoy.specs.ClientLaws.Wants.{wants_of}
 use Rattle.laws_convoys.proofs.AloneLemmas.{BeginsAtGate}
 use Rattle.laws_convoys.specs.Names.{Round}
 use Rattle.laws_convoys.specs.OneClient.{version_of}
@@ -25,7 +25,7 @@ use Rattle.laws_replay.specs.Events.{TurnsAreOfClients, questions_in}
 use Rattle.laws_replay.specs.Turns.{failed_in, given_in, order_of, rounds_of}
 use Rattle.laws_replay.specs.declared.event.Event.{Event}
 use Rattle.laws_replies.specs.Met.{Met}
-use Rattle.laws_clients.specs.Stated.{version_at}
+use Rattle.convoy.specs.ClientLaws.Stated.{version_at}
 use Rattle.lc_model.specs.declared.page.PageName.{PageName}
 use Rattle.lc_model.specs.declared.query.Query.{Query}
 use Rattle.lc_world.specs.Link.{LinkSeen}

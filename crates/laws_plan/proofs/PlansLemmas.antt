@@ -9,8 +9,8 @@ use Rattle.cli_ask.specs.declared.end.ClientEnd.{ClientEnd}
 use Rattle.connection_uri.specs.Base.{BaseParts}
 use Rattle.convoy.specs.State.{ConvoyState, begun}
 use Rattle.convoy.specs.declared.member.Member.{Member}
-use Rattle.laws_clients.specs.Fits.{FitsSide, HasEnded}
-use Rattle.laws_clients.specs.Laws.{WantsStay}
+use Rattle.convoy.specs.ClientLaws.Fits.{FitsSide, HasEnded}
+use Rattle.convoy.specs.ClientLaws.Laws.{WantsStay}
 use Rattle.laws_convoys.proofs.PlaceLemmas.{at_place}
 use Rattle.laws_convoys.specs.Laws.{AddedAgrees, EndKeepsAgreement, NoneAgrees, TurnKeepsAgreement}
 use Rattle.laws_convoys.specs.Names.{Round}

@@ -10,9 +10,9 @@ use Rattle.convoy.specs.Finish.{HasOutcome}
 use Rattle.convoy.specs.State.{ConvoyState}
 use Rattle.convoy.specs.declared.member.Member.{Member}
 use Rattle.csa_scan.proofs.ListPlacesLemmas.{item_within, same_place, slice_get-set_other, slice_get-set_same}
-use Rattle.laws_clients.specs.Fits.{IsOfSide}
-use Rattle.laws_clients.specs.Laws.{WantsStay}
-use Rattle.laws_clients.specs.Wants.{AreWants}
+use Rattle.convoy.specs.ClientLaws.Fits.{IsOfSide}
+use Rattle.convoy.specs.ClientLaws.Laws.{WantsStay}
+use Rattle.convoy.specs.ClientLaws.Wants.{AreWants}
 use Rattle.laws_convoys.proofs.AloneLemmas.{between_itself}
 use Rattle.laws_convoys.proofs.NamedLemmas.{kept_version}
 use Rattle.laws_convoys.specs.Leaves.{HasMoved, LeavesHonest, NoneFailed, OneFailed, AgreesAfterTurnsOf}

@@ -5,9 +5,9 @@ use Rattle.connection_uri.specs.Base.{BaseParts}
 use Rattle.convoy.specs.Finish.{Ends, HasOutcome, IsStep, Rounds}
 use Rattle.convoy.specs.State.{ConvoyState}
 use Rattle.convoy.specs.declared.turn.Turn.{Turn}
-use Rattle.laws_clients.proofs.FitsLemmas.{fits_stays}
-use Rattle.laws_clients.specs.Fits.{FitsSide}
-use Rattle.laws_clients.specs.Laws.{WantsStay}
+use Rattle.convoy.proofs.ClientLawsLemmas.FitsLemmas.{fits_stays}
+use Rattle.convoy.specs.ClientLaws.Fits.{FitsSide}
+use Rattle.convoy.specs.ClientLaws.Laws.{WantsStay}
 use Rattle.laws_convoys.proofs.TurnLemmas.{honest_still}
 use Rattle.laws_convoys.specs.Laws.{EndKeepsAgreement, TurnKeepsAgreement}
 use Rattle.laws_convoys.specs.Leaves.{AgreesAfterOutcome, NoneFailed, OneFailed, AgreesAfterTurn}

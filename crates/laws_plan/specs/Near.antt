@@ -1,12 +1,12 @@
 -- Near values that the definitions of a plan refuse: wrong versions, wrong sides and wrong counts.
 use Rattle.std.specs.Prelude.{◌≡◌, ◌<◌, ℕ, ◌+◌, List, [], ◌∷◌, ◌++◌, Some, None, length}
 use Rattle.cli_ask.specs.declared.end.ClientEnd.{ClientEnd}
-use Rattle.laws_clients.specs.Wants.{IsNoFault}
+use Rattle.convoy.specs.ClientLaws.Wants.{IsNoFault}
 use Rattle.laws_convoys.specs.Names.{Round}
 use Rattle.laws_plan.specs.Planned.{EndsAt}
 use Rattle.laws_plan.specs.Sides.{AreLater, sides_of}
 use Rattle.laws_replay.specs.Turns.{asked_in, failed_in, given_in}
-use Rattle.laws_clients.specs.Stated.{version_at}
+use Rattle.convoy.specs.ClientLaws.Stated.{version_at}
 use Rattle.lc_model.specs.declared.query.Query.{Query}
 use Rattle.lc_model.specs.declared.versions.update.Update.{Update}
 use Rattle.page_client.specs.declared.outcome.Outcome.TheVariants.{LinkFault}

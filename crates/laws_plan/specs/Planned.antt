@@ -4,7 +4,7 @@ use Rattle.std.specs.List.{All}
 use Rattle.cli_ask.specs.Client.{shown_of}
 use Rattle.cli_ask.specs.declared.end.ClientEnd.{ClientEnd}
 use Rattle.connection_uri.specs.Base.{BaseParts}
-use Rattle.laws_clients.specs.Fits.{HasEnded}
+use Rattle.convoy.specs.ClientLaws.Fits.{HasEnded}
 use Rattle.laws_convoys.specs.Leaves.{LeavesHonest}
 use Rattle.laws_convoys.specs.Names.{AskByNames, Round, failures_in}
 use Rattle.laws_convoys.specs.Requests.{TellsRequests}

@@ -2,7 +2,7 @@
 use Rattle.std.specs.Prelude.{◌≡◌, ℕ, [], ◌∷◌, Option, Some, None}
 use Rattle.laws_convoys.specs.Names.{Round}
 use Rattle.laws_plan.specs.Sides.{sides_of, version_after}
-use Rattle.laws_clients.specs.Stated.{version_at}
+use Rattle.convoy.specs.ClientLaws.Stated.{version_at}
 use Rattle.page_client.specs.declared.want.Want.{Want}
 use Rattle.page_client.specs.declared.want.Want.TheVariants as wants
 use Rattle.lc_world.specs.Sides.Side.{Side}

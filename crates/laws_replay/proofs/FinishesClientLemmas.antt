@@ -7,8 +7,8 @@ use Rattle.cli_ask.proofs.ClientLemmas.{at_end, same_end}
 use Rattle.cli_ask.specs.Client.{shown_of}
 use Rattle.cli_ask.specs.Publishing.{side_with, store_of}
 use Rattle.cli_ask.specs.declared.end.ClientEnd.{ClientEnd}
-use Rattle.laws_clients.specs.Fits.{HasEnded, HasFailed, IsDenied}
-use Rattle.laws_clients.specs.Wants.{AreWants}
+use Rattle.convoy.specs.ClientLaws.Fits.{HasEnded, HasFailed, IsDenied}
+use Rattle.convoy.specs.ClientLaws.Wants.{AreWants}
 use Rattle.cli_words.specs.declared.command.Publishing.{Publishing}
 use Rattle.convoy.specs.Finish.{HasOutcome}
 use Rattle.convoy.specs.State.{ConvoyState}

@@ -2,8 +2,8 @@
 use Rattle.std.proofs.Common.{◌≡◌, ℕ, zero, suc, ◌+◌, inl, inr, List, [], ◌∷◌, ◌++◌, length, Option, Some, None, refl, ap, sym, subst, ◌∙◌}
 use Rattle.std.specs.List.{slice_get}
 use Rattle.std.proofs.lemmas.List.{append-nil}
-use Rattle.laws_clients.specs.Fits.{IsOfSide}
-use Rattle.laws_clients.specs.Laws.{WantsStay}
+use Rattle.convoy.specs.ClientLaws.Fits.{IsOfSide}
+use Rattle.convoy.specs.ClientLaws.Laws.{WantsStay}
 use Rattle.cli_words.specs.declared.command.Publishing.{Publishing}
 use Rattle.convoy.specs.State.{ConvoyState}
 use Rattle.convoy.specs.declared.member.Member.{Member}

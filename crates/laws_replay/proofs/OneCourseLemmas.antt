@@ -10,8 +10,8 @@ use Rattle.cli_ask.specs.Client.{shown_of}
 use Rattle.cli_ask.specs.Laws.{AreOneEnd, IsNoLinkFault}
 use Rattle.cli_ask.specs.Publishing.{side_with, store_of}
 use Rattle.cli_ask.specs.declared.end.ClientEnd.{ClientEnd}
-use Rattle.laws_clients.specs.Fits.{HasEnded}
-use Rattle.laws_clients.specs.Laws.{OneArrivalAt, OneListOfNeededAt}
+use Rattle.convoy.specs.ClientLaws.Fits.{HasEnded}
+use Rattle.convoy.specs.ClientLaws.Laws.{OneArrivalAt, OneListOfNeededAt}
 use Rattle.laws_replies.specs.Laws.{SayTheSame}
 use Rattle.cli_words.specs.declared.command.Publishing.{Publishing}
 use Rattle.laws_convoys.specs.Names.{Round}
@@ -25,7 +25,7 @@ use Rattle.page_client.specs.declared.outcome.Outcome.TheVariants as outcomes
 use Rattle.page_client.specs.declared.want.Want.{Want}
 use Rattle.lc_world.specs.Sides.Side.{Side}
 use Rattle.journey_text.specs.Script.{IsClient}
-use Rattle.laws_clients.specs.Stated.{version_at}
+use Rattle.convoy.specs.ClientLaws.Stated.{version_at}
 use Rattle.timetable.specs.Laws.{AreSame}
 use Rattle.timetable.specs.declared.timetable.Timetable.{Timetable}
 use Rattle.version_store.specs.Laws.{OneOutcome}

@@ -2,7 +2,7 @@
 use Rattle.std.proofs.Common.{◌≡◌, ℕ, List, [], ◌∷◌, ◌++◌, length, refl, ap, sym, subst, ◌∙◌}
 use Rattle.std.proofs.Math.Seq.{take-append_seam}
 use Rattle.std.proofs.lemmas.List.{append-nil, append_assoc}
-use Rattle.laws_clients.specs.Laws.{WantsStay}
+use Rattle.convoy.specs.ClientLaws.Laws.{WantsStay}
 use Rattle.laws_replies.specs.Met.{Met}
 use Rattle.cli_words.specs.declared.command.Publishing.{Publishing}
 use Rattle.convoy.specs.Finish.{IsStep, Rounds}

@@ -12,9 +12,9 @@ use Rattle.convoy.specs.declared.turn.Turn.TheVariants.{Cached, Exchanged, Finis
 use Rattle.laws_convoys.specs.Leaves.{Gave, HasFault, NoneFailed, OneFailed, VersionThen}
 use Rattle.laws_convoys.specs.Names.{Round}
 use Rattle.laws_convoys.specs.OneClient.{version_of}
-use Rattle.laws_clients.specs.Answered.{names_at}
-use Rattle.laws_clients.specs.Fits.{FitsAt, FitsSide}
-use Rattle.laws_clients.specs.Wants.{AreWants}
+use Rattle.convoy.specs.ClientLaws.Answered.{names_at}
+use Rattle.convoy.specs.ClientLaws.Fits.{FitsAt, FitsSide}
+use Rattle.convoy.specs.ClientLaws.Wants.{AreWants}
 use Rattle.lc_model.specs.declared.query.Query.{Query}
 use Rattle.page_client.specs.Client.{shown}
 use Rattle.page_client.specs.Shown.{Shown, want_of}
@@ -26,7 +26,7 @@ use Rattle.page_client.specs.declared.phase.Phase.TheVariants as phases
 use Rattle.page_client.specs.declared.want.Want.{Want}
 use Rattle.page_client.specs.declared.want.Want.TheVariants as wants
 use Rattle.lc_world.specs.Sides.Side.{Side}
-use Rattle.laws_clients.specs.Stated.{version_at}
+use Rattle.convoy.specs.ClientLaws.Stated.{version_at}
 use Rattle.timetable.specs.declared.timetable.Timetable.{Timetable}
 use Rattle.version_store.specs.Store.{Stored}
 use Rattle.cli_ask.specs.Publishing.{side_with, store_of}

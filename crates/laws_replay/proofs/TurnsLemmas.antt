@@ -18,7 +18,7 @@ use Rattle.laws_convoys.specs.Leaves.{HasMoved, NoneFailed, OneFailed, AgreesAft
 use Rattle.laws_convoys.specs.Names.{Round, asked_of, failures_in, names_after, names_behind, names_of}
 use Rattle.laws_convoys.specs.Requests.{TellsAsked, TellsRequests, request_of}
 use Rattle.laws_convoys.specs.Rounds.{round_at}
-use Rattle.laws_clients.specs.Fits.{FitsSide}
+use Rattle.convoy.specs.ClientLaws.Fits.{FitsSide}
 use Rattle.lc_io.specs.Counts.{Rose, RoseBy}
 use Rattle.lc_io.proofs.CountLemmas.{RoseBy-none, RoseBy-then}
 use Rattle.lc_model.specs.declared.page.PageName.{PageName}

@@ -1,7 +1,7 @@
 -- How the clients of an event sequence end rightly by the publisher's side, where the replies come as it gave them.
 use Rattle.std.specs.Prelude.{◌≡◌, ℕ, ◌+◌, List, [], ◌∷◌, ◌++◌, Option, Some, length, slice_get}
-use Rattle.laws_clients.specs.Fits.{HasEnded}
-use Rattle.laws_clients.specs.Wants.{AreWants}
+use Rattle.convoy.specs.ClientLaws.Fits.{HasEnded}
+use Rattle.convoy.specs.ClientLaws.Wants.{AreWants}
 use Rattle.laws_replies.specs.Met.{Met}
 use Rattle.cli_words.specs.declared.command.Publishing.{Publishing}
 use Rattle.laws_convoys.specs.Names.{AskByNames, Round, failures_in}

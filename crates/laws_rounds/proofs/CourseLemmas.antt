@@ -13,11 +13,11 @@ use Rattle.page_client.specs.declared.outcome.Outcome.TheVariants.{LinkFault}
 use Rattle.page_client.specs.declared.want.Want.{Want}
 use Rattle.page_client.specs.declared.want.Want.TheVariants as wants
 use Rattle.lc_world.specs.Sides.Side.{Side}
-use Rattle.laws_clients.specs.Stated.{version_at}
-use Rattle.laws_clients.specs.Fits.{FitsSide}
-use Rattle.laws_clients.specs.Published.{IsOwnPage}
-use Rattle.laws_clients.specs.Steps.{BeginsInAgreement}
-use Rattle.laws_clients.specs.Wants.{AreWants}
+use Rattle.convoy.specs.ClientLaws.Stated.{version_at}
+use Rattle.convoy.specs.ClientLaws.Fits.{FitsSide}
+use Rattle.convoy.specs.ClientLaws.Published.{IsOwnPage}
+use Rattle.convoy.specs.ClientLaws.Steps.{BeginsInAgreement}
+use Rattle.convoy.specs.ClientLaws.Wants.{AreWants}
 use Rattle.laws_convoys.specs.Leaves.{HasFault, LeavesHonest, RoseWithin}
 use Rattle.laws_convoys.specs.Requests.{TellsAsked}
 use Rattle.laws_convoys.proofs.AloneLemmas.{no_fault_yet}

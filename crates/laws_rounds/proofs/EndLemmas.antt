@@ -21,11 +21,11 @@ use Rattle.page_client.specs.declared.phase.Phase.TheVariants as phases
 use Rattle.page_client.specs.declared.want.Want.{Want}
 use Rattle.page_client.specs.declared.want.Want.TheVariants as wants
 use Rattle.lc_world.specs.Sides.Side.{Side}
-use Rattle.laws_clients.specs.Answered.{AnswersAt, NeededAt, answer_of}
-use Rattle.laws_clients.specs.Fits.{FitsAt, HasAnswered, HasFailed, IsDenied}
-use Rattle.laws_clients.specs.Steps.{BeginsInAgreement}
-use Rattle.laws_clients.specs.Wants.{AreWants, HasEnds, wants_of}
-use Rattle.laws_clients.proofs.WantsLemmas.{ends_with_an_answer, faults_cut_short, no_reply_fails_a_test, refusals_are_deserved}
+use Rattle.convoy.specs.ClientLaws.Answered.{AnswersAt, NeededAt, answer_of}
+use Rattle.convoy.specs.ClientLaws.Fits.{FitsAt, HasAnswered, HasFailed, IsDenied}
+use Rattle.convoy.specs.ClientLaws.Steps.{BeginsInAgreement}
+use Rattle.convoy.specs.ClientLaws.Wants.{AreWants, HasEnds, wants_of}
+use Rattle.convoy.proofs.ClientLawsLemmas.WantsLemmas.{ends_with_an_answer, faults_cut_short, no_reply_fails_a_test, refusals_are_deserved}
 use Rattle.laws_convoys.specs.Leaves.{HasFault, RoseWithin}
 use Rattle.laws_convoys.specs.Requests.{TellsAsked}
 use Rattle.change_rounds.specs.Fewest.{IsFewestChain}

@@ -22,15 +22,15 @@ use Rattle.page_client.specs.declared.want.Want.TheVariants as wants
 use Rattle.page_client.proofs.PageLemmas.{waits_for}
 use Rattle.lc_world.specs.Sides.Short.{StandsUnder}
 use Rattle.lc_world.specs.Sides.Side.{Side}
-use Rattle.laws_clients.specs.Stated.{version_at}
-use Rattle.laws_clients.proofs.ReadLemmas.{stops_are_read}
-use Rattle.laws_clients.specs.Fits.{FitsAt, FitsSide, WaitsForPage}
-use Rattle.laws_clients.specs.Published.{IsOwnPage}
-use Rattle.laws_clients.specs.Steps.{IsReplyTo, SaysOwnPage}
-use Rattle.laws_clients.specs.Wants.{AreWants, IsItsVersion}
-use Rattle.laws_clients.proofs.FitsLemmas.{fits_stays}
-use Rattle.laws_clients.proofs.StepLemmas.{gate_keeps_it, link_fault_keeps_it, page_is_own, page_keeps_it, stops_keep_it}
-use Rattle.laws_clients.proofs.WantsLemmas.{wants_the_next}
+use Rattle.convoy.specs.ClientLaws.Stated.{version_at}
+use Rattle.convoy.proofs.ClientLawsLemmas.ReadLemmas.{stops_are_read}
+use Rattle.convoy.specs.ClientLaws.Fits.{FitsAt, FitsSide, WaitsForPage}
+use Rattle.convoy.specs.ClientLaws.Published.{IsOwnPage}
+use Rattle.convoy.specs.ClientLaws.Steps.{IsReplyTo, SaysOwnPage}
+use Rattle.convoy.specs.ClientLaws.Wants.{AreWants, IsItsVersion}
+use Rattle.convoy.proofs.ClientLawsLemmas.FitsLemmas.{fits_stays}
+use Rattle.convoy.proofs.ClientLawsLemmas.StepLemmas.{gate_keeps_it, link_fault_keeps_it, page_is_own, page_keeps_it, stops_keep_it}
+use Rattle.convoy.proofs.ClientLawsLemmas.WantsLemmas.{wants_the_next}
 use Rattle.convoy.specs.Exchange.{Got, IsExchange, bytes_of, result_of}
 use Rattle.convoy.specs.Steps.{Takes, TakesGate}
 use Rattle.laws_convoys.specs.Leaves.{HasFault, LeavesHonest, RoseWithin}

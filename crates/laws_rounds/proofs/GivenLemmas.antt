@@ -18,9 +18,9 @@ use Rattle.page_client.specs.declared.phase.Phase.TheVariants as phases
 use Rattle.page_client.specs.declared.want.Want.{Want}
 use Rattle.page_client.specs.declared.want.Want.TheVariants as wants
 use Rattle.lc_world.specs.Sides.Side.{IsLater, IsValidSide, Side}
-use Rattle.laws_clients.specs.Published.{IsOwnPage}
-use Rattle.laws_clients.specs.Wants.{wants_of}
-use Rattle.laws_clients.proofs.FitsLemmas.{own_pages_stay}
+use Rattle.convoy.specs.ClientLaws.Published.{IsOwnPage}
+use Rattle.convoy.specs.ClientLaws.Wants.{wants_of}
+use Rattle.convoy.proofs.ClientLawsLemmas.FitsLemmas.{own_pages_stay}
 use Rattle.rounds_client.specs.Given.{KeepsDoc, Was}
 
 -- the names of the pages among wants

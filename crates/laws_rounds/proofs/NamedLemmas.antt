@@ -7,8 +7,8 @@ use Rattle.page_client.specs.Client.{shown}
 use Rattle.page_client.specs.Shown.{Shown}
 use Rattle.page_client.specs.declared.want.Want.{Want}
 use Rattle.lc_world.specs.Sides.Side.{Side}
-use Rattle.laws_clients.specs.Stated.{version_at}
-use Rattle.laws_clients.specs.Steps.{BeginsInAgreement}
+use Rattle.convoy.specs.ClientLaws.Stated.{version_at}
+use Rattle.convoy.specs.ClientLaws.Steps.{BeginsInAgreement}
 use Rattle.laws_convoys.specs.Leaves.{HasFault}
 use Rattle.laws_convoys.proofs.AloneLemmas.{no_fault_yet}
 use Rattle.rounds_client.specs.Course.{LeadsTo, Point}

@@ -9,10 +9,10 @@ use Rattle.page_client.specs.declared.outcome.Outcome.{Outcome}
 use Rattle.page_client.specs.declared.outcome.Outcome.TheVariants as outcomes
 use Rattle.page_client.specs.declared.want.Want.{Want}
 use Rattle.lc_world.specs.Sides.Side.{Side}
-use Rattle.laws_clients.specs.Stated.{version_at}
-use Rattle.laws_clients.specs.Answered.{NeededAt}
-use Rattle.laws_clients.specs.Laws.{OneListOfNeededAt}
-use Rattle.laws_clients.specs.Wants.{wants_of}
+use Rattle.convoy.specs.ClientLaws.Stated.{version_at}
+use Rattle.convoy.specs.ClientLaws.Answered.{NeededAt}
+use Rattle.convoy.specs.ClientLaws.Laws.{OneListOfNeededAt}
+use Rattle.convoy.specs.ClientLaws.Wants.{wants_of}
 use Rattle.change_rounds.specs.Laws.{AreAlike}
 use Rattle.laws_rounds.specs.Version.{AlikeAt, FewestAt}
 use Rattle.rounds_client.specs.declared.ending.FewestEnd.{FewestEnd}

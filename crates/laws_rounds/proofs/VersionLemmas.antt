@@ -20,12 +20,12 @@ use Rattle.convoy.specs.PageLaws.Needed.{needed_pages}
 use Rattle.convoy.specs.PageLaws.Rides.{pages_on}
 use Rattle.convoy.specs.PageLaws.Stop.{bound_of}
 use Rattle.convoy.proofs.PageLawsLemmas.UpToLemmas.{is_up_to}
-use Rattle.laws_clients.specs.Answered.{names_at}
-use Rattle.laws_clients.specs.Links.{connections_on}
-use Rattle.laws_clients.specs.Published.{IsOwnPage, IsPublished, Published}
-use Rattle.laws_clients.proofs.AnsweredLemmas.{least_of_chains}
-use Rattle.laws_clients.proofs.OwnPageLemmas.{all_parts, own_is_between}
-use Rattle.laws_clients.proofs.PublishedLemmas.{is_lawful, is_timetable}
+use Rattle.convoy.specs.ClientLaws.Answered.{names_at}
+use Rattle.convoy.specs.ClientLaws.Links.{connections_on}
+use Rattle.convoy.specs.ClientLaws.Published.{IsOwnPage, IsPublished, Published}
+use Rattle.convoy.proofs.ClientLawsLemmas.AnsweredLemmas.{least_of_chains}
+use Rattle.convoy.proofs.ClientLawsLemmas.OwnPageLemmas.{all_parts, own_is_between}
+use Rattle.convoy.proofs.ClientLawsLemmas.PublishedLemmas.{is_lawful, is_timetable}
 use Rattle.change_rounds.specs.Fewest.{IsFewestAnswer, IsFewestChain}
 use Rattle.change_rounds.proofs.AlikeLemmas.{journeys_are_alike}
 use Rattle.laws_rounds.specs.Version.{AlikeAt, FewestOfNeededAt}

@@ -7,8 +7,8 @@ use Rattle.connection_uri.specs.Base.{BaseParts}
 use Rattle.lc_world.specs.Link.{IsHonestWith, IsQuietWith, LinkSeen}
 use Rattle.page_client.specs.Shown.{IsRefusal, answered}
 use Rattle.lc_world.specs.Sides.Side.{Side}
-use Rattle.laws_clients.specs.Stated.{version_at}
-use Rattle.laws_clients.specs.Wants.{HasEnds}
+use Rattle.convoy.specs.ClientLaws.Stated.{version_at}
+use Rattle.convoy.specs.ClientLaws.Wants.{HasEnds}
 use Rattle.change_rounds.specs.Laws.{AreAlike}
 use Rattle.rounds_client.specs.Course.{Point}
 use Rattle.rounds_client.specs.End.{EndsSo}

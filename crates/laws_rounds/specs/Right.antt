@@ -14,9 +14,9 @@ use Rattle.page_client.specs.declared.outcome.Outcome.TheVariants as outcomes
 use Rattle.page_client.specs.declared.want.Want.{Want}
 use Rattle.page_client.specs.declared.want.Want.TheVariants as wants
 use Rattle.lc_world.specs.Sides.Side.{Side, has_version}
-use Rattle.laws_clients.specs.Stated.{version_at}
-use Rattle.laws_clients.specs.Answered.{NeededAt}
-use Rattle.laws_clients.specs.Wants.{AreWants, HasEnds, wants_of}
+use Rattle.convoy.specs.ClientLaws.Stated.{version_at}
+use Rattle.convoy.specs.ClientLaws.Answered.{NeededAt}
+use Rattle.convoy.specs.ClientLaws.Wants.{AreWants, HasEnds, wants_of}
 use Rattle.laws_convoys.specs.Leaves.{LeavesHonest, RoseWithin}
 use Rattle.laws_convoys.specs.Requests.{TellsAsked}
 use Rattle.laws_rounds.specs.Version.{FewestAt}

@@ -8,9 +8,9 @@ use Rattle.lc_model.specs.declared.query.Query.{Query}
 use Rattle.lc_model.specs.declared.run.Run.{Run}
 use Rattle.page_json.specs.declared.page.Page.{Page}
 use Rattle.lc_world.specs.Sides.Side.{IsValidSide, Side}
-use Rattle.laws_clients.specs.Answered.{NeededAt}
-use Rattle.laws_clients.specs.Links.{connections_on}
-use Rattle.laws_clients.specs.Published.{AreLiveAt, IsOwnPage}
+use Rattle.convoy.specs.ClientLaws.Answered.{NeededAt}
+use Rattle.convoy.specs.ClientLaws.Links.{connections_on}
+use Rattle.convoy.specs.ClientLaws.Published.{AreLiveAt, IsOwnPage}
 use Rattle.change_rounds.specs.Fewest.{IsFewestAnswer, IsFewestChain}
 use Rattle.change_rounds.specs.Laws.{AreAlike}
 

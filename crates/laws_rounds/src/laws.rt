@@ -1,7 +1,7 @@
 ghost use Rattle.laws_rounds.specs.Laws.{FewestEndsRight, FewestIsFound, NamedAtGate, OneFewestEnd};
 
 use crate::fewest_at_version;
-use laws_clients::{one_answer, steps_keep_agreement};
+use convoy::{one_answer, steps_keep_agreement};
 use lc_world::Link;
 
 /// Over an honest link a client of the fewest rides ends rightly. Without a failure it found a journey that is best at the version which the

@@ -1,7 +1,7 @@
 ghost use Rattle.laws_rounds.specs.Near.{NotAnotherVersion, NotNone, NotOneExchangeMore, NotOneRideFewer, NotOneRideMore};
 
 use crate::fewest_at_version;
-use laws_clients::one_answer;
+use convoy::one_answer;
 use lc_world::Link;
 
 /// What is near a right end is none: a ride more or less, no journey, an exchange more, or another version.

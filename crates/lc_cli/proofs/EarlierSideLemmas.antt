@@ -8,7 +8,7 @@ use Rattle.cli_ask.specs.Admission.{IsBehind}
 use Rattle.cli_ask.specs.Publishing.{side_with}
 use Rattle.cli_ask.proofs.AdmissionLemmas.{of_history, one_behind}
 use Rattle.cli_words.specs.declared.command.Publishing.{Publishing}
-use Rattle.laws_clients.specs.Answered.{AnswersAt}
+use Rattle.convoy.specs.ClientLaws.Answered.{AnswersAt}
 use Rattle.laws_replay.specs.Events.{before_turn_of}
 use Rattle.laws_replay.specs.Versions.{HasHeard}
 use Rattle.laws_replay.specs.declared.event.Event.{Event}

@@ -13,9 +13,9 @@ use Rattle.cli_words.specs.Words.{SaysCommand}
 use Rattle.cli_words.specs.declared.command.Ask.{Ask}
 use Rattle.cli_words.specs.declared.command.Command.{Command}
 use Rattle.cli_words.specs.declared.command.Command.TheVariants as commands
-use Rattle.laws_clients.specs.Answered.{AnswersAt, NeededAt}
-use Rattle.laws_clients.specs.Fits.{HasAnswered, HasEnded}
-use Rattle.laws_clients.specs.Wants.{wants_of}
+use Rattle.convoy.specs.ClientLaws.Answered.{AnswersAt, NeededAt}
+use Rattle.convoy.specs.ClientLaws.Fits.{HasAnswered, HasEnded}
+use Rattle.convoy.specs.ClientLaws.Wants.{wants_of}
 use Rattle.lc_io.specs.Sink.{SinkSeen}
 use Rattle.lc_io.specs.declared.file.File.{File}
 use Rattle.lc_model.specs.declared.answer.Answer.{Answer}

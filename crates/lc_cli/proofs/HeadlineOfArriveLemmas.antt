@@ -20,7 +20,7 @@ use Rattle.laws_arrive.specs.Requests.{page_request, requests_of}
 use Rattle.laws_arrive.specs.Right.{EndsAt, HasLatest}
 use Rattle.laws_arrive.specs.Ends.{EndsBackBy}
 use Rattle.laws_replies.specs.Made.{Made}
-use Rattle.laws_clients.specs.Stated.{version_at}
+use Rattle.convoy.specs.ClientLaws.Stated.{version_at}
 use Rattle.lc_io.specs.declared.file.File.{File}
 use Rattle.lc_model.specs.Journey.{arrives_at}
 use Rattle.lc_model.specs.declared.answer.Answer.{Answer}

@@ -10,7 +10,7 @@ use Rattle.cli_words.specs.Words.{SaysCommand}
 use Rattle.cli_words.specs.declared.command.Command.{Command}
 use Rattle.cli_words.specs.declared.command.Command.TheVariants as commands
 use Rattle.cli_words.specs.declared.command.Fewest.{Fewest}
-use Rattle.laws_clients.specs.Answered.{AnswersAt}
+use Rattle.convoy.specs.ClientLaws.Answered.{AnswersAt}
 use Rattle.lc_io.specs.declared.file.File.{File}
 use Rattle.lc_model.specs.declared.answer.Answer.{Answer}
 use Rattle.lc_model.specs.declared.answer.Answer.TheVariants as answers

@@ -7,8 +7,8 @@ use Rattle.cli_words.specs.Words.{SaysCommand}
 use Rattle.cli_words.specs.declared.command.Command.{Command}
 use Rattle.cli_words.specs.declared.command.Command.TheVariants as commands
 use Rattle.cli_words.specs.declared.command.Plan.{Plan}
-use Rattle.laws_clients.specs.Answered.{AnswersAt}
-use Rattle.laws_clients.specs.Fits.{HasAnswered}
+use Rattle.convoy.specs.ClientLaws.Answered.{AnswersAt}
+use Rattle.convoy.specs.ClientLaws.Fits.{HasAnswered}
 use Rattle.laws_convoys.specs.Names.{Round}
 use Rattle.connection_uri.specs.Base.{BaseParts}
 use Rattle.laws_plan.specs.Planned.{ArePlanned, EndsAt, IsPlanned}
@@ -16,7 +16,7 @@ use Rattle.laws_plan.specs.Replied.{TellsAlong}
 use Rattle.laws_plan.specs.Sides.{version_after, version_with}
 use Rattle.laws_replay.specs.Turns.{given_in}
 use Rattle.laws_replay.specs.declared.event.Event.{Event}
-use Rattle.laws_clients.specs.Stated.{version_at}
+use Rattle.convoy.specs.ClientLaws.Stated.{version_at}
 use Rattle.lc_io.specs.declared.file.File.{File}
 use Rattle.lc_model.specs.declared.query.Query.{Query}
 use Rattle.lc_world.specs.Link.{IsHonestWith, LinkSeen}

@@ -9,8 +9,8 @@ use Rattle.cli_words.specs.declared.command.Command.{Command}
 use Rattle.cli_words.specs.declared.command.Command.TheVariants as commands
 use Rattle.cli_words.specs.declared.command.Publishing.{Publishing}
 use Rattle.cli_words.specs.declared.command.Replay.{Replay}
-use Rattle.laws_clients.specs.Answered.{AnswersAt}
-use Rattle.laws_clients.specs.Fits.{HasAnswered}
+use Rattle.convoy.specs.ClientLaws.Answered.{AnswersAt}
+use Rattle.convoy.specs.ClientLaws.Fits.{HasAnswered}
 use Rattle.laws_replay.specs.Right.{EndsSo}
 use Rattle.laws_replay.specs.Turns.{given_in}
 use Rattle.laws_replay.specs.Versions.{HasHeard}

@@ -2,7 +2,7 @@
 use Rattle.std.proofs.Common.{◌≡◌, ◌∙◌, ◌+◌, ◌<◌, ◌≤◌, ◌∷◌, ℕ, Bool, true, false, [], Some, None, ap, arith, cond, lit<, nat_le, refl, subst, sym}
 use Rattle.std.proofs.lemmas.Bool.Decides.{nat_tests}
 use Rattle.cli_ask.specs.Publishing.{side_with, store_of}
-use Rattle.laws_clients.specs.Answered.{AnswersAt}
+use Rattle.convoy.specs.ClientLaws.Answered.{AnswersAt}
 use Rattle.lc_model.specs.Journey.{IsAnswer, arrives_at}
 use Rattle.lc_model.specs.Laws.{OneArrival}
 use Rattle.lc_model.specs.Ride.{IsRideAt}

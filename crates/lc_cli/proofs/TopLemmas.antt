@@ -8,7 +8,7 @@ use Rattle.cli_ask.specs.Asked.{IsAsked}
 use Rattle.cli_ask.specs.Client.{shown_of}
 use Rattle.cli_ask.specs.Publishing.{side_for, side_with, store_of}
 use Rattle.laws_arrive.specs.Right.{EndsAt}
-use Rattle.laws_clients.specs.Fits.{HasEnded}
+use Rattle.convoy.specs.ClientLaws.Fits.{HasEnded}
 use Rattle.laws_replies.specs.Ends.{EndsBy}
 use Rattle.cli_words.specs.Words.{SaysCommand}
 use Rattle.cli_words.specs.declared.command.Publishing.{Publishing}

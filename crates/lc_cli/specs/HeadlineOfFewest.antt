@@ -6,7 +6,7 @@ use Rattle.cli_serve.specs.Written.{Wrote}
 use Rattle.cli_words.specs.Words.{SaysCommand}
 use Rattle.cli_words.specs.declared.command.Command.TheVariants as commands
 use Rattle.cli_words.specs.declared.command.Fewest.{Fewest}
-use Rattle.laws_clients.specs.Answered.{NeededAt}
+use Rattle.convoy.specs.ClientLaws.Answered.{NeededAt}
 use Rattle.laws_rounds.specs.Version.{FewestAt}
 use Rattle.lc_io.specs.declared.file.File.{File}
 use Rattle.lc_model.specs.declared.journey.Journey.{Journey}

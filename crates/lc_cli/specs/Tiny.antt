@@ -2,7 +2,7 @@
 use Rattle.std.specs.Prelude.{◌≡◌, ℕ, ◌+◌, List, [], ◌∷◌, Option, None, codes}
 use Rattle.std.proofs.Common.{lit≤}
 use Rattle.cli_ask.specs.Publishing.{side_with, store_of}
-use Rattle.laws_clients.specs.Answered.{AnswersAt}
+use Rattle.convoy.specs.ClientLaws.Answered.{AnswersAt}
 use Rattle.cli_words.specs.declared.command.Publishing.{Publishing}
 use Rattle.lc_model.specs.Journey.{IsJourney}
 use Rattle.lc_model.specs.Ride.{IsRideAt}

@@ -1,4 +1,4 @@
-use Rattle.laws_clients.proofs.WantsLemmas.{wants_stay}
+use Rattle.convoy.proofs.ClientLawsLemmas.WantsLemmas.{wants_stay}
 use Rattle.laws_plan.proofs.PlansLemmas.{plans_right}
 use Rattle.laws_plan.proofs.laws.plans_are_right.Goals as goal
 

@@ -1,4 +1,4 @@
-use Rattle.laws_clients.proofs.WantsLemmas.{wants_stay}
+use Rattle.convoy.proofs.ClientLawsLemmas.WantsLemmas.{wants_stay}
 use Rattle.laws_replay.proofs.FinishesLemmas.{finishes}
 use Rattle.laws_replay.proofs.PlaysLemmas.{plays_right}
 use Rattle.laws_replay.proofs.TurnsLemmas.{turns}
