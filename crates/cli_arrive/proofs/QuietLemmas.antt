@@ -16,9 +16,9 @@ use Rattle.convoy.specs.Exchange.{Got, bytes_of, result_of}
 use Rattle.laws_arrive.specs.Right.{EndsAt, IsNamed, IsRight}
 use Rattle.laws_arrive.specs.Asked.{HasAskedLatest}
 use Rattle.laws_arrive.specs.Ends.{EndsBackBy}
-use Rattle.laws_convoys.proofs.HonestLemmas.{is_get}
-use Rattle.laws_convoys.proofs.RepliesLemmas.{Replied, one_more, recorded_no_more, replied_by, tells_replies_then}
-use Rattle.laws_convoys.specs.Replies.{IsRepliedBy}
+use Rattle.convoy.proofs.AgreementLemmas.HonestLemmas.{is_get}
+use Rattle.convoy.proofs.AgreementLemmas.RepliesLemmas.{Replied, one_more, recorded_no_more, replied_by, tells_replies_then}
+use Rattle.convoy.specs.Agreement.Replies.{IsRepliedBy}
 use Rattle.laws_replies.specs.Made.{Made}
 use Rattle.convoy.specs.ClientLaws.Stated.{version_at}
 use Rattle.lc_model.specs.Journey.{arrives_at}

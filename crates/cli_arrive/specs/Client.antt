@@ -6,8 +6,8 @@ use Rattle.back_scan.specs.declared.arrive_query.ArriveQuery.{ArriveQuery}
 use Rattle.cli_ask.specs.declared.end.ClientEnd.{ClientEnd}
 use Rattle.connection_uri.specs.Base.{BaseParts}
 use Rattle.laws_arrive.specs.Right.{EndsAt}
-use Rattle.laws_convoys.specs.Replies.{TellsReplies}
-use Rattle.laws_convoys.specs.Requests.{TellsRequests}
+use Rattle.convoy.specs.Agreement.Replies.{TellsReplies}
+use Rattle.convoy.specs.Agreement.Requests.{TellsRequests}
 use Rattle.convoy.specs.ClientLaws.Stated.{version_at}
 use Rattle.lc_world.specs.declared.entry.Entry.{Entry}
 use Rattle.lc_world.specs.Sides.Side.{Side}

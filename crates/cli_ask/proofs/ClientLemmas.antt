@@ -11,7 +11,7 @@ use Rattle.laws_replies.specs.Run.{HasAsked, HasRun}
 use Rattle.connection_uri.specs.Base.{BaseParts}
 use Rattle.convoy.specs.State.{ConvoyState}
 use Rattle.convoy.specs.declared.member.Member.{Member}
-use Rattle.laws_convoys.specs.OneClient.{AskedAll, AskedOneMore, IsAlone}
+use Rattle.convoy.specs.Agreement.OneClient.{AskedAll, AskedOneMore, IsAlone}
 use Rattle.lc_model.specs.Journey.{arrives_at}
 use Rattle.lc_model.specs.Stop.{HasStop}
 use Rattle.lc_model.specs.declared.answer.Answer.{Answer}

@@ -10,7 +10,7 @@ use Rattle.convoy.specs.ClientLaws.Fits.{HasAnswered, HasEnded, IsDenied}
 use Rattle.convoy.specs.ClientLaws.Laws.{OneArrivalAt, OneListOfNeededAt}
 use Rattle.convoy.specs.ClientLaws.Wants.{wants_of}
 use Rattle.laws_replies.specs.Laws.{SayTheSame}
-use Rattle.laws_convoys.specs.OneClient.{version_of}
+use Rattle.convoy.specs.Agreement.OneClient.{version_of}
 use Rattle.page_client.specs.declared.fault.QueryFault.{QueryFault}
 use Rattle.page_client.specs.declared.fault.QueryFault.TheVariants.{HorizonRange, SameStop, UnknownFrom, UnknownTo}
 use Rattle.page_client.specs.declared.outcome.Outcome.{Outcome}

@@ -10,7 +10,7 @@ use Rattle.convoy.specs.ClientLaws.Laws.{OneArrivalAt, OneListOfNeededAt}
 use Rattle.laws_replies.specs.Ends.{EndsBy}
 use Rattle.laws_replies.specs.Made.{Made}
 use Rattle.connection_uri.specs.Base.{BaseParts}
-use Rattle.laws_convoys.specs.OneClient.{version_of}
+use Rattle.convoy.specs.Agreement.OneClient.{version_of}
 use Rattle.page_client.specs.declared.outcome.Outcome.{Outcome}
 use Rattle.page_client.specs.declared.outcome.Outcome.TheVariants as outcomes
 use Rattle.page_client.specs.declared.want.Want.{Want}

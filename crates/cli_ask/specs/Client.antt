@@ -4,9 +4,9 @@ use Rattle.std.specs.Prelude.{◌≡◌, List, [], ◌∷◌, ◌++◌, length, 
 use Rattle.convoy.specs.ClientLaws.Fits.{HasEnded}
 use Rattle.laws_replies.specs.Run.{HasAsked}
 use Rattle.connection_uri.specs.Base.{BaseParts}
-use Rattle.laws_convoys.specs.OneClient.{IsNext, version_of}
-use Rattle.laws_convoys.specs.Replies.{TellsReplies}
-use Rattle.laws_convoys.specs.Requests.{TellsAsked}
+use Rattle.convoy.specs.Agreement.OneClient.{IsNext, version_of}
+use Rattle.convoy.specs.Agreement.Replies.{TellsReplies}
+use Rattle.convoy.specs.Agreement.Requests.{TellsAsked}
 use Rattle.lc_model.specs.declared.query.Query.{Query}
 use Rattle.lc_world.specs.Link.{LinkSeen}
 use Rattle.lc_world.specs.declared.entry.Entry.{Entry}

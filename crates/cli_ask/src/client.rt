@@ -7,8 +7,7 @@ ghost use Rattle.lc_world.specs.Sides.Side.{Side};
 
 use crate::ClientEnd;
 use connection_uri::Base;
-use convoy::Convoy;
-use laws_convoys::one_client;
+use convoy::{Convoy, one_client};
 use laws_replies::alone_over_any_link;
 use lc_model::{NoMemory, Query};
 use lc_world::Link;

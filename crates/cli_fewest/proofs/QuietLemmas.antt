@@ -12,10 +12,10 @@ use Rattle.convoy.specs.ClientLaws.Answered.{AnswersAt}
 use Rattle.convoy.specs.ClientLaws.Fits.{HasAnswered, HasEnded, HasFailed}
 use Rattle.convoy.specs.ClientLaws.Steps.{BeginsInAgreement}
 use Rattle.convoy.specs.ClientLaws.Wants.{AreWants}
-use Rattle.laws_convoys.proofs.RepliesLemmas.{Replied, exchange_replied, recorded_no_more, tells_replies_then}
-use Rattle.laws_convoys.specs.OneClient.{version_of}
-use Rattle.laws_convoys.specs.Replies.{IsRepliedBy, TellsReplies}
-use Rattle.laws_convoys.specs.Requests.{TellsAsked}
+use Rattle.convoy.proofs.AgreementLemmas.RepliesLemmas.{Replied, exchange_replied, recorded_no_more, tells_replies_then}
+use Rattle.convoy.specs.Agreement.OneClient.{version_of}
+use Rattle.convoy.specs.Agreement.Replies.{IsRepliedBy, TellsReplies}
+use Rattle.convoy.specs.Agreement.Requests.{TellsAsked}
 use Rattle.laws_rounds.specs.Version.{FewestAt, FewestOfNeededAt}
 use Rattle.laws_replies.specs.Ends.{EndsBy}
 use Rattle.laws_replies.specs.Made.{Made}

@@ -1,3 +1,4 @@
+pub mod AgreementLemmas
 pub mod ClientLawsLemmas
 pub mod FinishLemmas
 pub mod PageLawsLemmas

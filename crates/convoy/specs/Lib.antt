@@ -1,3 +1,4 @@
+pub mod Agreement
 pub mod ClientLaws
 pub mod Exchange
 pub mod Finish

@@ -1,6 +1,7 @@
 //! Many clients that share one bounded cache of pages, over any link. It builds on `page_client` and `lc_world`.
 #![tactic(auto)]
 
+mod agreement;
 mod client_laws;
 mod convoy;
 mod exchange;
@@ -10,6 +11,7 @@ mod steps;
 mod turn;
 mod turning;
 
+pub use agreement::{agreement_begins, one_client, turns_keep_agreement, worked_names};
 pub use client_laws::{
     clients_end_right, gate_is_stated, links_lead_on, one_answer, one_published, pages_are_stated,
     replies_are_read, steps_keep_agreement, stops_are_stated, versions_stay,

@@ -31,10 +31,10 @@ use Rattle.convoy.specs.ClientLaws.Stated.{IsGatePage}
 use Rattle.convoy.proofs.ClientLawsLemmas.PageLemmas.{page_is_stated}
 use Rattle.convoy.proofs.ClientLawsLemmas.ReadLemmas.{gate_is_read, stops_are_read}
 use Rattle.convoy.specs.Exchange.{Got, bytes_of, result_of}
-use Rattle.laws_convoys.specs.Leaves.{LeavesHonest}
-use Rattle.laws_convoys.specs.Requests.{TellsRequests}
-use Rattle.laws_convoys.proofs.HonestLemmas.{is_get}
-use Rattle.laws_convoys.proofs.RepliesLemmas.{one_more, recorded_no_more, recorded_then}
+use Rattle.convoy.specs.Agreement.Leaves.{LeavesHonest}
+use Rattle.convoy.specs.Agreement.Requests.{TellsRequests}
+use Rattle.convoy.proofs.AgreementLemmas.HonestLemmas.{is_get}
+use Rattle.convoy.proofs.AgreementLemmas.RepliesLemmas.{one_more, recorded_no_more, recorded_then}
 use Rattle.back_scan.specs.declared.arrive_query.ArriveQuery.{ArriveQuery}
 use Rattle.back_client.specs.Exchange.{IsExchange}
 

@@ -35,10 +35,10 @@ use Rattle.convoy.proofs.ClientLawsLemmas.PublishedLemmas.{published_stays}
 use Rattle.laws_arrive.specs.Early.{bound_back}
 use Rattle.laws_arrive.specs.NeededBack.{IsOverBack, IsTakenBackUntilOver, connections_back, pages_back}
 use Rattle.convoy.specs.Exchange.{Got}
-use Rattle.laws_convoys.specs.Leaves.{LeavesHonest, RoseWithin}
-use Rattle.laws_convoys.specs.Requests.{TellsRequests}
-use Rattle.laws_convoys.proofs.HonestLemmas.{leaves_then, no_less}
-use Rattle.laws_convoys.proofs.TurnLemmas.{rose_wider}
+use Rattle.convoy.specs.Agreement.Leaves.{LeavesHonest, RoseWithin}
+use Rattle.convoy.specs.Agreement.Requests.{TellsRequests}
+use Rattle.convoy.proofs.AgreementLemmas.HonestLemmas.{leaves_then, no_less}
+use Rattle.convoy.proofs.AgreementLemmas.TurnLemmas.{rose_wider}
 use Rattle.back_scan.specs.Forward.{forward_query}
 use Rattle.back_scan.specs.Latest.{IsListLatest}
 use Rattle.back_scan.specs.Over.{IsOver}

@@ -13,8 +13,8 @@ use Rattle.page_client.specs.declared.outcome.Outcome.TheVariants as outcomes
 use Rattle.lc_world.specs.Sides.Side.{Side, has_version}
 use Rattle.convoy.specs.ClientLaws.Stated.{version_at}
 use Rattle.convoy.specs.ClientLaws.Wants.{HasEnds}
-use Rattle.laws_convoys.specs.Leaves.{LeavesHonest, RoseWithin}
-use Rattle.laws_convoys.specs.Requests.{TellsRequests}
+use Rattle.convoy.specs.Agreement.Leaves.{LeavesHonest, RoseWithin}
+use Rattle.convoy.specs.Agreement.Requests.{TellsRequests}
 use Rattle.back_scan.specs.Forward.{forward_query}
 use Rattle.back_scan.specs.declared.arrive_query.ArriveQuery.{ArriveQuery}
 use Rattle.back_client.specs.declared.outcome.ArriveEnd.{ArriveEnd}

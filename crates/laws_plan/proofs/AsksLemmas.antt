@@ -7,10 +7,10 @@ use Rattle.connection_uri.specs.Base.{BaseParts}
 use Rattle.convoy.specs.State.{Adds, ConvoyState, begun}
 use Rattle.convoy.specs.declared.member.Member.{Member}
 use Rattle.csa_scan.proofs.ListPlacesLemmas.{push_cases}
-use Rattle.laws_convoys.specs.Agreement.{FitsConvoy}
-use Rattle.laws_convoys.specs.Laws.{AddedAgrees, NoneAgrees}
-use Rattle.laws_convoys.specs.Names.{Round}
-use Rattle.laws_convoys.specs.Requests.{TellsRequests}
+use Rattle.convoy.specs.Agreement.Agreement.{FitsConvoy}
+use Rattle.convoy.specs.Agreement.Laws.{AddedAgrees, NoneAgrees}
+use Rattle.convoy.specs.Agreement.Names.{Round}
+use Rattle.convoy.specs.Agreement.Requests.{TellsRequests}
 use Rattle.laws_plan.proofs.MetLemmas.{HasMetAt}
 use Rattle.laws_plan.proofs.PlannedTo.{IsMemberAt, IsPlannedTo}
 use Rattle.laws_plan.proofs.SidesLemmas.{sides_of-none}

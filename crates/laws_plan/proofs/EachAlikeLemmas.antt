@@ -6,7 +6,7 @@ use Rattle.cli_ask.specs.Laws.{AreOneEnd}
 use Rattle.cli_ask.specs.declared.end.ClientEnd.{ClientEnd}
 use Rattle.connection_uri.specs.Base.{BaseParts}
 use Rattle.csa_scan.proofs.ListPlacesLemmas.{item_within}
-use Rattle.laws_convoys.specs.Names.{Round}
+use Rattle.convoy.specs.Agreement.Names.{Round}
 use Rattle.laws_plan.specs.Planned.{ArePlanned}
 use Rattle.laws_replay.proofs.OneCourseLemmas.{all_are_clients, zip_places}
 use Rattle.laws_replay.proofs.OneRoundsLemmas.{MetTheSame, met_in_all, same_rounds}

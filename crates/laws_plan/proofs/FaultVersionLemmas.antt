@@ -8,7 +8,7 @@ use Rattle.cli_ask.specs.Client.{shown_of}
 use Rattle.cli_ask.specs.declared.end.ClientEnd.{ClientEnd}
 use Rattle.connection_uri.specs.Base.{BaseParts}
 use Rattle.convoy.specs.ClientLaws.Fits.{HasEnded, HasFailed}
-use Rattle.laws_convoys.specs.Names.{Round}
+use Rattle.convoy.specs.Agreement.Names.{Round}
 use Rattle.laws_plan.specs.Planned.{VersionFitsFault}
 use Rattle.laws_replay.proofs.FaultLemmas.{fails, fails_in, fails_of}
 use Rattle.laws_replay.specs.History.{AreMetIn, wants_of}

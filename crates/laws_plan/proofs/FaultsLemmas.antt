@@ -1,6 +1,6 @@
 -- Whose failure an exchange was that failed over an honest link.
 use Rattle.std.proofs.Common.{◌∙◌, ◌+◌, ℕ, List, ap}
-use Rattle.laws_convoys.specs.Names.{Round}
+use Rattle.convoy.specs.Agreement.Names.{Round}
 use Rattle.laws_plan.specs.Laws.{PlanFaultsAreOwn}
 use Rattle.laws_replay.proofs.FaultLemmas.{none_failed, one_failed, one_pair, only_fault}
 use Rattle.laws_replay.specs.Turns.{failed_in, given_in, order_of, rounds_of}

@@ -3,8 +3,8 @@ use Rattle.std.proofs.Common.{◌≡◌, ◌∙◌, ◌⊎◌, ◌≤◌, ◌<�
 use Rattle.std.specs.Prelude.{IsSome}
 use Rattle.std.proofs.lemmas.List.Elements.{All-append, All-cons, All-nil}
 use Rattle.convoy.specs.declared.member.Member.{Member}
-use Rattle.laws_convoys.specs.Names.{Round}
-use Rattle.laws_convoys.specs.Rounds.{round_with}
+use Rattle.convoy.specs.Agreement.Names.{Round}
+use Rattle.convoy.specs.Agreement.Rounds.{round_with}
 use Rattle.laws_replay.proofs.FailureLemmas.{fails_idle, fails_last}
 use Rattle.laws_replay.proofs.FinishesListLemmas.{ones_and_idle, ones_and_last}
 use Rattle.laws_replay.proofs.PlayedTo.{HasMet}

@@ -6,7 +6,7 @@ use Rattle.cli_ask.specs.declared.end.ClientEnd.{ClientEnd}
 use Rattle.convoy.specs.ClientLaws.Fits.{HasAnswered, HasEnded, IsDenied}
 use Rattle.convoy.specs.ClientLaws.Wants.{AreWants, IsItsVersion, IsNoFault}
 use Rattle.convoy.proofs.ClientLawsLemmas.WantsLemmas.{one_list_of_wants}
-use Rattle.laws_convoys.specs.Names.{Round}
+use Rattle.convoy.specs.Agreement.Names.{Round}
 use Rattle.laws_plan.specs.Near.{NoVersionAtGate, NoneIsCountedTwice, NoneIsLost, NotAnothersVersion, NotNewer, NotOneMore, SomeVersionElse}
 use Rattle.laws_plan.specs.Planned.{EndsAt, VersionFitsFault}
 use Rattle.laws_plan.specs.Sides.{version_with}

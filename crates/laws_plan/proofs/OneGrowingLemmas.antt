@@ -10,9 +10,9 @@ use Rattle.convoy.specs.ClientLaws.Fits.{HasAnswered, HasEnded, IsDenied}
 use Rattle.convoy.specs.ClientLaws.Laws.{AnswersStay, NeededStays, OneArrivalAt, OneListOfNeededAt}
 use Rattle.convoy.specs.ClientLaws.Wants.{HasEnds}
 use Rattle.lc_model.specs.Stop.{HasStop}
-use Rattle.laws_convoys.proofs.AloneLemmas.{BeginsAtGate}
-use Rattle.laws_convoys.specs.Names.{Round}
-use Rattle.laws_convoys.specs.OneClient.{version_of}
+use Rattle.convoy.proofs.AgreementLemmas.AloneLemmas.{BeginsAtGate}
+use Rattle.convoy.specs.Agreement.Names.{Round}
+use Rattle.convoy.specs.Agreement.OneClient.{version_of}
 use Rattle.laws_plan.proofs.EachAlikeLemmas.{EndAlike, come_to_one}
 use Rattle.laws_plan.proofs.OnePlanLemmas.{gate_first}
 use Rattle.laws_plan.proofs.SidesLemmas.{as_many_sides}

@@ -11,9 +11,9 @@ use Rattle.connection_uri.specs.Base.{BaseParts}
 use Rattle.convoy.specs.ClientLaws.Fits.{HasEnded, IsDenied}
 use Rattle.convoy.specs.ClientLaws.Laws.{OneArrivalAt, OneListOfNeededAt}
 use Rattle.convoy.specs.ClientLaws.Wants.{wants_of}
-use Rattle.laws_convoys.proofs.AloneLemmas.{BeginsAtGate}
-use Rattle.laws_convoys.specs.Names.{Round}
-use Rattle.laws_convoys.specs.OneClient.{version_of}
+use Rattle.convoy.proofs.AgreementLemmas.AloneLemmas.{BeginsAtGate}
+use Rattle.convoy.specs.Agreement.Names.{Round}
+use Rattle.convoy.specs.Agreement.OneClient.{version_of}
 use Rattle.laws_plan.proofs.EachAlikeLemmas.{EndAlike, come_to_one}
 use Rattle.laws_plan.proofs.SidesLemmas.{as_many_sides}
 use Rattle.laws_plan.specs.OnePlan.{IsQuietPlan, OnePlan}

@@ -4,10 +4,10 @@ use Rattle.std.specs.List.{All, slice_get}
 use Rattle.connection_uri.specs.Base.{BaseParts}
 use Rattle.convoy.specs.State.{ConvoyState}
 use Rattle.convoy.specs.declared.member.Member.{Member}
-use Rattle.laws_convoys.specs.Agreement.{FitsConvoy}
-use Rattle.laws_convoys.specs.Leaves.{LeavesHonest}
-use Rattle.laws_convoys.specs.Names.{AskByNames, Round, failures_in, names_behind, names_of}
-use Rattle.laws_convoys.specs.Requests.{TellsRequests}
+use Rattle.convoy.specs.Agreement.Agreement.{FitsConvoy}
+use Rattle.convoy.specs.Agreement.Leaves.{LeavesHonest}
+use Rattle.convoy.specs.Agreement.Names.{AskByNames, Round, failures_in, names_behind, names_of}
+use Rattle.convoy.specs.Agreement.Requests.{TellsRequests}
 use Rattle.laws_plan.specs.Sides.{AreLater, sides_of, version_after}
 use Rattle.laws_replay.proofs.PlayedTo.{HasFailedSo}
 use Rattle.laws_replay.specs.Turns.{asked_in, failed_in, given_in, requests_in, rounds_of}

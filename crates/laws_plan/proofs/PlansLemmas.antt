@@ -11,10 +11,10 @@ use Rattle.convoy.specs.State.{ConvoyState, begun}
 use Rattle.convoy.specs.declared.member.Member.{Member}
 use Rattle.convoy.specs.ClientLaws.Fits.{FitsSide, HasEnded}
 use Rattle.convoy.specs.ClientLaws.Laws.{WantsStay}
-use Rattle.laws_convoys.proofs.PlaceLemmas.{at_place}
-use Rattle.laws_convoys.specs.Laws.{AddedAgrees, EndKeepsAgreement, NoneAgrees, TurnKeepsAgreement}
-use Rattle.laws_convoys.specs.Names.{Round}
-use Rattle.laws_convoys.specs.Rounds.{round_at}
+use Rattle.convoy.proofs.AgreementLemmas.PlaceLemmas.{at_place}
+use Rattle.convoy.specs.Agreement.Laws.{AddedAgrees, EndKeepsAgreement, NoneAgrees, TurnKeepsAgreement}
+use Rattle.convoy.specs.Agreement.Names.{Round}
+use Rattle.convoy.specs.Agreement.Rounds.{round_at}
 use Rattle.laws_plan.proofs.AsksLemmas.{asks, begins}
 use Rattle.laws_plan.proofs.FaultVersionLemmas.{lacks_version}
 use Rattle.laws_plan.proofs.MetLemmas.{HasFinished, HasMetAt, HaveFinished}

@@ -9,8 +9,8 @@ use Rattle.convoy.specs.State.{ConvoyState, begun}
 use Rattle.convoy.specs.Turn.{Asks, Turned}
 use Rattle.convoy.specs.declared.turn.Turn.{Turn}
 use Rattle.convoy.specs.declared.turn.Turn.TheVariants.{Cached, Exchanged, Finished}
-use Rattle.laws_convoys.proofs.HonestLemmas.{is_get}
-use Rattle.laws_convoys.proofs.RepliesLemmas.{one_more, recorded_no_more, recorded_then, replied_by}
+use Rattle.convoy.proofs.AgreementLemmas.HonestLemmas.{is_get}
+use Rattle.convoy.proofs.AgreementLemmas.RepliesLemmas.{one_more, recorded_no_more, recorded_then, replied_by}
 use Rattle.laws_plan.specs.Laws.{PlanRecordsReplies}
 use Rattle.laws_plan.specs.Planned.{IsNoMessage, NoneIsMessage}
 use Rattle.laws_plan.specs.Replied.{AreRepliedAlong}

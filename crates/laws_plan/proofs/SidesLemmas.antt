@@ -2,8 +2,8 @@
 use Rattle.std.proofs.Common.{◌≡◌, ◌∙◌, ◌==◌, ℕ, suc, Bool, true, false, List, [], ◌∷◌, ◌++◌, Option, length, refl, ap, sym, arith, append-nil, eq-eqb}
 use Rattle.std.specs.Prelude.{if◌then◌else◌}
 use Rattle.std.proofs.lemmas.Bool.{false≢true, ne_eqb}
-use Rattle.laws_convoys.specs.Leaves.{IsNamedBetween, VersionAfter}
-use Rattle.laws_convoys.specs.Names.{Round}
+use Rattle.convoy.specs.Agreement.Leaves.{IsNamedBetween, VersionAfter}
+use Rattle.convoy.specs.Agreement.Names.{Round}
 use Rattle.laws_plan.specs.Sides.{AreLater, sides_of, version_after, version_with}
 use Rattle.laws_replay.proofs.EventLemmas.{has_turn}
 use Rattle.laws_replay.specs.Turns.{rounds_of}

@@ -13,12 +13,12 @@ use Rattle.csa_scan.proofs.ListPlacesLemmas.{item_within, same_place, slice_get-
 use Rattle.convoy.specs.ClientLaws.Fits.{IsOfSide}
 use Rattle.convoy.specs.ClientLaws.Laws.{WantsStay}
 use Rattle.convoy.specs.ClientLaws.Wants.{AreWants}
-use Rattle.laws_convoys.proofs.AloneLemmas.{between_itself}
-use Rattle.laws_convoys.proofs.NamedLemmas.{kept_version}
-use Rattle.laws_convoys.specs.Leaves.{HasMoved, LeavesHonest, NoneFailed, OneFailed, AgreesAfterTurnsOf}
-use Rattle.laws_convoys.specs.Names.{Round, asked_of, failures_in, names_after, names_behind, names_of}
-use Rattle.laws_convoys.specs.Requests.{TellsAsked, TellsRequests, request_of}
-use Rattle.laws_convoys.specs.Rounds.{round_with}
+use Rattle.convoy.proofs.AgreementLemmas.AloneLemmas.{between_itself}
+use Rattle.convoy.proofs.AgreementLemmas.NamedLemmas.{kept_version}
+use Rattle.convoy.specs.Agreement.Leaves.{HasMoved, LeavesHonest, NoneFailed, OneFailed, AgreesAfterTurnsOf}
+use Rattle.convoy.specs.Agreement.Names.{Round, asked_of, failures_in, names_after, names_behind, names_of}
+use Rattle.convoy.specs.Agreement.Requests.{TellsAsked, TellsRequests, request_of}
+use Rattle.convoy.specs.Agreement.Rounds.{round_with}
 use Rattle.laws_plan.proofs.PlannedTo.{IsMemberAt, IsPlannedTo}
 use Rattle.laws_plan.proofs.SidesLemmas.{IsSideOfTurn, as_many_sides, later_more, side_of_turn, sides_of-other, sides_of-own, version_after-more}
 use Rattle.laws_plan.specs.Sides.{sides_of, version_after, version_with}

@@ -8,11 +8,11 @@ use Rattle.convoy.specs.declared.turn.Turn.{Turn}
 use Rattle.convoy.proofs.ClientLawsLemmas.FitsLemmas.{fits_stays}
 use Rattle.convoy.specs.ClientLaws.Fits.{FitsSide}
 use Rattle.convoy.specs.ClientLaws.Laws.{WantsStay}
-use Rattle.laws_convoys.proofs.TurnLemmas.{honest_still}
-use Rattle.laws_convoys.specs.Laws.{EndKeepsAgreement, TurnKeepsAgreement}
-use Rattle.laws_convoys.specs.Leaves.{AgreesAfterOutcome, NoneFailed, OneFailed, AgreesAfterTurn}
-use Rattle.laws_convoys.specs.Names.{Round}
-use Rattle.laws_convoys.specs.Rounds.{round_at, round_in, rounds_up_to}
+use Rattle.convoy.proofs.AgreementLemmas.TurnLemmas.{honest_still}
+use Rattle.convoy.specs.Agreement.Laws.{EndKeepsAgreement, TurnKeepsAgreement}
+use Rattle.convoy.specs.Agreement.Leaves.{AgreesAfterOutcome, NoneFailed, OneFailed, AgreesAfterTurn}
+use Rattle.convoy.specs.Agreement.Names.{Round}
+use Rattle.convoy.specs.Agreement.Rounds.{round_at, round_in, rounds_up_to}
 use Rattle.laws_plan.proofs.MetLemmas.{HasMetAt, HaveFinished, finished, met_more}
 use Rattle.laws_plan.proofs.PlannedTo.{IsPlannedTo}
 use Rattle.laws_plan.proofs.StepLemmas.{HasStepped, one_step}

@@ -5,9 +5,9 @@ use Rattle.cli_ask.specs.Client.{shown_of}
 use Rattle.cli_ask.specs.declared.end.ClientEnd.{ClientEnd}
 use Rattle.connection_uri.specs.Base.{BaseParts}
 use Rattle.convoy.specs.ClientLaws.Fits.{HasEnded}
-use Rattle.laws_convoys.specs.Leaves.{LeavesHonest}
-use Rattle.laws_convoys.specs.Names.{AskByNames, Round, failures_in}
-use Rattle.laws_convoys.specs.Requests.{TellsRequests}
+use Rattle.convoy.specs.Agreement.Leaves.{LeavesHonest}
+use Rattle.convoy.specs.Agreement.Names.{AskByNames, Round, failures_in}
+use Rattle.convoy.specs.Agreement.Requests.{TellsRequests}
 use Rattle.laws_plan.specs.Replied.{TellsAlong}
 use Rattle.laws_plan.specs.Sides.{AreLater, sides_of, version_after}
 use Rattle.laws_replay.specs.Caused.{AreCaused}

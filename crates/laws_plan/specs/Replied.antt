@@ -1,6 +1,6 @@
 -- That over an honest link each reply that is recorded is that of the publisher's side at its exchange, also where the side grows.
 use Rattle.std.specs.Prelude.{◌≡◌, List, [], ◌∷◌, ◌++◌, Some, option_map}
-use Rattle.laws_convoys.specs.Replies.{IsRepliedBy}
+use Rattle.convoy.specs.Agreement.Replies.{IsRepliedBy}
 use Rattle.lc_world.specs.Link.{LinkSeen}
 use Rattle.lc_world.specs.declared.entry.Entry.{Entry}
 use Rattle.lc_world.specs.Sides.Side.{IsLater, Side}

@@ -1,6 +1,6 @@
 -- The sides of a link that grows while clients have their turns, and which version the time gate names to each client.
 use Rattle.std.specs.Prelude.{◌==◌, ℕ, List, [], ◌∷◌, Option, Some, if◌then◌else◌}
-use Rattle.laws_convoys.specs.Names.{Round}
+use Rattle.convoy.specs.Agreement.Names.{Round}
 use Rattle.convoy.specs.ClientLaws.Stated.{version_at}
 use Rattle.page_client.specs.declared.want.Want.{Want}
 use Rattle.page_client.specs.declared.want.Want.TheVariants as wants

@@ -1,6 +1,6 @@
 -- Worked values: three turns of two clients, at three sides.
 use Rattle.std.specs.Prelude.{◌≡◌, ℕ, [], ◌∷◌, Option, Some, None}
-use Rattle.laws_convoys.specs.Names.{Round}
+use Rattle.convoy.specs.Agreement.Names.{Round}
 use Rattle.laws_plan.specs.Sides.{sides_of, version_after}
 use Rattle.convoy.specs.ClientLaws.Stated.{version_at}
 use Rattle.page_client.specs.declared.want.Want.{Want}

@@ -2,8 +2,9 @@ ghost use Rattle.laws_plan.specs.Laws.{OneClientAsks, PlanFaultsAreOwn, PlanReco
 ghost use Rattle.laws_plan.specs.OneGrowing.{OneGrowingPlan};
 ghost use Rattle.laws_plan.specs.OnePlan.{OnePlan};
 
-use convoy::{one_answer, steps_keep_agreement, versions_stay};
-use laws_convoys::{agreement_begins, turns_keep_agreement};
+use convoy::{
+    agreement_begins, one_answer, steps_keep_agreement, turns_keep_agreement, versions_stay,
+};
 use laws_replies::alone_asks_all;
 use lc_world::Link;
 

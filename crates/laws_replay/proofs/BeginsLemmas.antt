@@ -8,10 +8,10 @@ use Rattle.csa_scan.proofs.ListPlacesLemmas.{push_cases, slice_get-last}
 use Rattle.cli_words.specs.declared.command.Publishing.{Publishing}
 use Rattle.convoy.specs.State.{Adds, ConvoyState, begun}
 use Rattle.convoy.specs.declared.member.Member.{Member}
-use Rattle.laws_convoys.specs.Agreement.{AllFit, FitsConvoy}
-use Rattle.laws_convoys.specs.Laws.{AddedAgrees, NoneAgrees}
-use Rattle.laws_convoys.specs.Names.{Round}
-use Rattle.laws_convoys.specs.Requests.{TellsRequests}
+use Rattle.convoy.specs.Agreement.Agreement.{AllFit, FitsConvoy}
+use Rattle.convoy.specs.Agreement.Laws.{AddedAgrees, NoneAgrees}
+use Rattle.convoy.specs.Agreement.Names.{Round}
+use Rattle.convoy.specs.Agreement.Requests.{TellsRequests}
 use Rattle.lc_io.proofs.CountLemmas.{RoseBy-none}
 use Rattle.lc_model.specs.declared.query.Query.{Query}
 use Rattle.lc_world.specs.Link.{LinkSeen}

@@ -10,8 +10,8 @@ use Rattle.convoy.specs.Finish.{HasOutcome, IsStep, Rounds, Step, TurnsOf}
 use Rattle.convoy.specs.State.{Adds, ConvoyState}
 use Rattle.convoy.specs.declared.member.Member.{Member}
 use Rattle.convoy.specs.declared.turn.Turn.{Turn}
-use Rattle.laws_convoys.specs.Names.{Round}
-use Rattle.laws_convoys.specs.Rounds.{round_at, round_in, round_then, rounds_up_to}
+use Rattle.convoy.specs.Agreement.Names.{Round}
+use Rattle.convoy.specs.Agreement.Rounds.{round_at, round_in, round_then, rounds_up_to}
 use Rattle.csa_scan.proofs.ListPlacesLemmas.{same_place, slice_get-append, slice_get-set_other, slice_get-set_same}
 use Rattle.lc_io.specs.declared.file.File.{File}
 use Rattle.lc_model.specs.declared.query.Query.{Query}

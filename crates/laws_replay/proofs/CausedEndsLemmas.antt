@@ -14,7 +14,7 @@ use Rattle.laws_replies.proofs.StepLemmas.{AtEnd}
 use Rattle.connection_uri.specs.Base.{BaseParts}
 use Rattle.convoy.specs.State.{ConvoyState, begun}
 use Rattle.convoy.specs.declared.member.Member.{Member}
-use Rattle.laws_convoys.specs.Rounds.{rounds_up_to}
+use Rattle.convoy.specs.Agreement.Rounds.{rounds_up_to}
 use Rattle.csa_scan.proofs.ListPlacesLemmas.{item_within}
 use Rattle.lc_model.specs.Journey.{arrives_at}
 use Rattle.lc_model.specs.declared.moment.TheConstants.{MOMENTS_END}

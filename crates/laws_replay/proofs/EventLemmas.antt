@@ -10,9 +10,9 @@ use Rattle.std.proofs.lemmas.List.Elements.{All-append, All-nil}
 use Rattle.csa_scan.proofs.ListPlacesLemmas.{item_within, slice_get-append}
 use Rattle.cli_words.specs.declared.command.Publishing.{Publishing}
 use Rattle.connection_uri.specs.Base.{BaseParts}
-use Rattle.laws_convoys.specs.Names.{AskByNames, Round, failures_in, names_after, names_behind}
-use Rattle.laws_convoys.specs.OneClient.{version_of}
-use Rattle.laws_convoys.specs.Requests.{TellsRequests, request_of}
+use Rattle.convoy.specs.Agreement.Names.{AskByNames, Round, failures_in, names_after, names_behind}
+use Rattle.convoy.specs.Agreement.OneClient.{version_of}
+use Rattle.convoy.specs.Agreement.Requests.{TellsRequests, request_of}
 use Rattle.lc_model.specs.declared.page.PageName.{PageName}
 use Rattle.lc_model.specs.declared.query.Query.{Query}
 use Rattle.lc_world.specs.declared.entry.Entry.{Entry}

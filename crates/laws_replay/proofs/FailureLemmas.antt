@@ -2,7 +2,7 @@
 use Rattle.std.proofs.Common.{◌≡◌, ◌⊎◌, inl, inr, List, [], ◌∷◌, ◌++◌, refl}
 use Rattle.std.specs.List.{All}
 use Rattle.std.proofs.lemmas.List.Elements.{All-nil, All-push}
-use Rattle.laws_convoys.specs.Names.{Round}
+use Rattle.convoy.specs.Agreement.Names.{Round}
 use Rattle.page_client.specs.declared.want.Want.{Want}
 use Rattle.laws_replay.specs.Turns.{EndByFailure, IsIdle, failed_in}
 

@@ -13,11 +13,11 @@ use Rattle.cli_words.specs.declared.command.Publishing.{Publishing}
 use Rattle.convoy.specs.Finish.{HasOutcome}
 use Rattle.convoy.specs.State.{ConvoyState}
 use Rattle.convoy.specs.declared.member.Member.{Member}
-use Rattle.laws_convoys.specs.Leaves.{HasReachedOutcome, NoneFailed, OneFailed, VersionAfter}
-use Rattle.laws_convoys.specs.Names.{Round}
-use Rattle.laws_convoys.specs.OneClient.{version_of}
-use Rattle.laws_convoys.proofs.AloneLemmas.{BeginsAtGate, version_is}
-use Rattle.laws_convoys.proofs.NamedLemmas.{kept_version}
+use Rattle.convoy.specs.Agreement.Leaves.{HasReachedOutcome, NoneFailed, OneFailed, VersionAfter}
+use Rattle.convoy.specs.Agreement.Names.{Round}
+use Rattle.convoy.specs.Agreement.OneClient.{version_of}
+use Rattle.convoy.proofs.AgreementLemmas.AloneLemmas.{BeginsAtGate, version_is}
+use Rattle.convoy.proofs.AgreementLemmas.NamedLemmas.{kept_version}
 use Rattle.lc_model.specs.declared.query.Query.{Query}
 use Rattle.lc_world.specs.Link.{LinkSeen}
 use Rattle.page_client.specs.Client.{shown}

@@ -10,13 +10,13 @@ use Rattle.connection_uri.specs.Base.{BaseParts}
 use Rattle.convoy.specs.Finish.{Rounds}
 use Rattle.convoy.specs.State.{ConvoyState}
 use Rattle.convoy.specs.declared.member.Member.{Member}
-use Rattle.laws_convoys.specs.Laws.{RoundsKeepAgreement}
-use Rattle.laws_convoys.specs.Leaves.{HasReachedOutcome, AgreesAfterRounds}
-use Rattle.laws_convoys.specs.Names.{AskByNames, Round, failures_in, names_of}
-use Rattle.laws_convoys.specs.Requests.{TellsRequests, requests_of}
-use Rattle.laws_convoys.specs.Rounds.{rounds_up_to}
-use Rattle.laws_convoys.proofs.PlaceLemmas.{at_place}
-use Rattle.laws_convoys.proofs.TurnLemmas.{honest_still, one_at}
+use Rattle.convoy.specs.Agreement.Laws.{RoundsKeepAgreement}
+use Rattle.convoy.specs.Agreement.Leaves.{HasReachedOutcome, AgreesAfterRounds}
+use Rattle.convoy.specs.Agreement.Names.{AskByNames, Round, failures_in, names_of}
+use Rattle.convoy.specs.Agreement.Requests.{TellsRequests, requests_of}
+use Rattle.convoy.specs.Agreement.Rounds.{rounds_up_to}
+use Rattle.convoy.proofs.AgreementLemmas.PlaceLemmas.{at_place}
+use Rattle.convoy.proofs.AgreementLemmas.TurnLemmas.{honest_still, one_at}
 use Rattle.csa_scan.proofs.ListPlacesLemmas.{item_within}
 use Rattle.lc_io.specs.Counts.{RoseBy}
 use Rattle.lc_io.proofs.CountLemmas.{RoseBy-then}

@@ -6,8 +6,8 @@ use Rattle.std.proofs.lemmas.Bool.{ne_eqb}
 use Rattle.std.proofs.lemmas.List.Elements.{All-cons, All-head, All-nil, All-tail}
 use Rattle.connection_uri.specs.Base.{BaseParts}
 use Rattle.convoy.specs.declared.member.Member.{Member}
-use Rattle.laws_convoys.specs.Names.{Round}
-use Rattle.laws_convoys.specs.Requests.{requests_of}
+use Rattle.convoy.specs.Agreement.Names.{Round}
+use Rattle.convoy.specs.Agreement.Requests.{requests_of}
 use Rattle.lc_model.specs.declared.query.Query.{Query}
 use Rattle.page_client.specs.Client.{shown}
 use Rattle.laws_replay.specs.Events.{before_turn_of, turns_in}

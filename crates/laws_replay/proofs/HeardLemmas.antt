@@ -11,7 +11,7 @@ use Rattle.convoy.specs.declared.turn.Turn.{Turn}
 use Rattle.convoy.specs.declared.turn.Turn.TheVariants.{Cached, Exchanged, Finished}
 use Rattle.connection_uri.specs.Base.{BaseParts}
 use Rattle.fragmenter.specs.Cutting.{chosen_cuts}
-use Rattle.laws_convoys.proofs.HonestLemmas.{is_get}
+use Rattle.convoy.proofs.AgreementLemmas.HonestLemmas.{is_get}
 use Rattle.lc_io.specs.declared.file.File.{File}
 use Rattle.lc_world.specs.Link.{LinkSeen}
 use Rattle.page_client.specs.Client.{shown}

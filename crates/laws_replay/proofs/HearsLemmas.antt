@@ -7,10 +7,10 @@ use Rattle.convoy.specs.ClientLaws.Laws.{WantsStay}
 use Rattle.cli_words.specs.declared.command.Publishing.{Publishing}
 use Rattle.convoy.specs.State.{ConvoyState}
 use Rattle.convoy.specs.declared.member.Member.{Member}
-use Rattle.laws_convoys.specs.Agreement.{AllFit}
-use Rattle.laws_convoys.specs.Laws.{LaterAgrees}
-use Rattle.laws_convoys.specs.Names.{Round, failures_in}
-use Rattle.laws_convoys.specs.Requests.{TellsRequests}
+use Rattle.convoy.specs.Agreement.Agreement.{AllFit}
+use Rattle.convoy.specs.Agreement.Laws.{LaterAgrees}
+use Rattle.convoy.specs.Agreement.Names.{Round, failures_in}
+use Rattle.convoy.specs.Agreement.Requests.{TellsRequests}
 use Rattle.fragmenter.specs.Cutting.{chosen_cuts}
 use Rattle.fragmenter.specs.declared.cutting.Cutting.{Cutting}
 use Rattle.lc_io.specs.Counts.{RoseBy}

@@ -10,9 +10,9 @@ use Rattle.convoy.specs.Finish.{HasOutcome}
 use Rattle.convoy.specs.declared.member.Member.{Member}
 use Rattle.convoy.specs.declared.turn.Turn.{Turn}
 use Rattle.convoy.specs.declared.turn.Turn.TheVariants.{Cached, Exchanged, Finished}
-use Rattle.laws_convoys.specs.Names.{Round}
-use Rattle.laws_convoys.specs.Rounds.{round_asked, round_at, round_then, round_with}
-use Rattle.laws_convoys.proofs.RoundLemmas.{round_replied}
+use Rattle.convoy.specs.Agreement.Names.{Round}
+use Rattle.convoy.specs.Agreement.Rounds.{round_asked, round_at, round_then, round_with}
+use Rattle.convoy.proofs.AgreementLemmas.RoundLemmas.{round_replied}
 use Rattle.page_client.specs.Client.{shown}
 use Rattle.page_client.specs.Shown.{want_of}
 use Rattle.page_client.specs.declared.want.Want.{Want}

@@ -5,7 +5,7 @@ use Rattle.std.specs.Prelude.{if◌then◌else◌}
 use Rattle.std.proofs.lemmas.Bool.{eq-eqb}
 use Rattle.std.proofs.lemmas.List.{append-nil}
 use Rattle.std.proofs.lemmas.List.Elements.{All-head, All-tail}
-use Rattle.laws_convoys.specs.Names.{AskByNames, Round, asked_of, names_after}
+use Rattle.convoy.specs.Agreement.Names.{AskByNames, Round, asked_of, names_after}
 use Rattle.lc_model.specs.declared.page.PageName.{PageName}
 use Rattle.page_client.specs.declared.want.Want.{Want}
 use Rattle.journey_text.specs.Script.{IsClient}

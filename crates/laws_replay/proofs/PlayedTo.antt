@@ -5,9 +5,9 @@ use Rattle.std.specs.Option.{IsSome}
 use Rattle.cli_words.specs.declared.command.Publishing.{Publishing}
 use Rattle.convoy.specs.State.{ConvoyState}
 use Rattle.convoy.specs.declared.member.Member.{Member}
-use Rattle.laws_convoys.specs.Agreement.{FitsConvoy}
-use Rattle.laws_convoys.specs.Names.{AskByNames, Round, failures_in, names_behind, names_of}
-use Rattle.laws_convoys.specs.Requests.{TellsRequests}
+use Rattle.convoy.specs.Agreement.Agreement.{FitsConvoy}
+use Rattle.convoy.specs.Agreement.Names.{AskByNames, Round, failures_in, names_behind, names_of}
+use Rattle.convoy.specs.Agreement.Requests.{TellsRequests}
 use Rattle.lc_io.specs.Counts.{RoseBy}
 use Rattle.lc_model.specs.declared.query.Query.{Query}
 use Rattle.lc_world.specs.Link.{IsQuietWith, LinkSeen}

@@ -8,9 +8,9 @@ use Rattle.cli_words.specs.declared.command.Publishing.{Publishing}
 use Rattle.convoy.specs.Finish.{IsStep, Rounds}
 use Rattle.convoy.specs.State.{ConvoyState, begun}
 use Rattle.convoy.specs.declared.turn.Turn.{Turn}
-use Rattle.laws_convoys.specs.Laws.{AddedAgrees, LaterAgrees, NoneAgrees}
-use Rattle.laws_convoys.specs.Names.{Round}
-use Rattle.laws_convoys.specs.Rounds.{round_at, rounds_up_to}
+use Rattle.convoy.specs.Agreement.Laws.{AddedAgrees, LaterAgrees, NoneAgrees}
+use Rattle.convoy.specs.Agreement.Names.{Round}
+use Rattle.convoy.specs.Agreement.Rounds.{round_at, rounds_up_to}
 use Rattle.lc_world.specs.Link.{LinkSeen}
 use Rattle.page_client.specs.Client.{shown}
 use Rattle.lc_world.specs.Sides.Short.{IsShort}

@@ -8,10 +8,10 @@ use Rattle.cli_ask.specs.Publishing.{side_with, store_of}
 use Rattle.cli_words.specs.declared.command.Publishing.{Publishing}
 use Rattle.convoy.specs.Finish.{Rounds}
 use Rattle.convoy.specs.State.{ConvoyState, begun}
-use Rattle.laws_convoys.specs.Names.{Round}
-use Rattle.laws_convoys.specs.Replies.{IsRepliedBy}
-use Rattle.laws_convoys.specs.Rounds.{rounds_up_to}
-use Rattle.laws_convoys.proofs.RepliesLemmas.{rounds_replied, recorded_then, turn_replied}
+use Rattle.convoy.specs.Agreement.Names.{Round}
+use Rattle.convoy.specs.Agreement.Replies.{IsRepliedBy}
+use Rattle.convoy.specs.Agreement.Rounds.{rounds_up_to}
+use Rattle.convoy.proofs.AgreementLemmas.RepliesLemmas.{rounds_replied, recorded_then, turn_replied}
 use Rattle.lc_world.specs.Link.{IsQuietWith, LinkSeen}
 use Rattle.lc_world.specs.declared.entry.Entry.{Entry}
 use Rattle.lc_world.specs.Sides.Short.{IsShort}

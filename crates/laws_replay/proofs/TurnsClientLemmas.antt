@@ -9,9 +9,9 @@ use Rattle.cli_words.specs.declared.command.Publishing.{Publishing}
 use Rattle.convoy.specs.declared.member.Member.{Member}
 use Rattle.convoy.specs.declared.turn.Turn.{Turn}
 use Rattle.convoy.specs.declared.turn.Turn.TheVariants.{Cached, Exchanged, Finished}
-use Rattle.laws_convoys.specs.Leaves.{Gave, HasFault, NoneFailed, OneFailed, VersionThen}
-use Rattle.laws_convoys.specs.Names.{Round}
-use Rattle.laws_convoys.specs.OneClient.{version_of}
+use Rattle.convoy.specs.Agreement.Leaves.{Gave, HasFault, NoneFailed, OneFailed, VersionThen}
+use Rattle.convoy.specs.Agreement.Names.{Round}
+use Rattle.convoy.specs.Agreement.OneClient.{version_of}
 use Rattle.convoy.specs.ClientLaws.Answered.{names_at}
 use Rattle.convoy.specs.ClientLaws.Fits.{FitsAt, FitsSide}
 use Rattle.convoy.specs.ClientLaws.Wants.{AreWants}

@@ -12,12 +12,12 @@ use Rattle.convoy.specs.Finish.{IsStep}
 use Rattle.convoy.specs.State.{ConvoyState}
 use Rattle.convoy.specs.declared.member.Member.{Member}
 use Rattle.convoy.specs.declared.turn.Turn.{Turn}
-use Rattle.laws_convoys.specs.Agreement.{AllFit, FitsConvoy}
-use Rattle.laws_convoys.specs.Laws.{TurnKeepsAgreement}
-use Rattle.laws_convoys.specs.Leaves.{HasMoved, NoneFailed, OneFailed, AgreesAfterTurn, VersionThen}
-use Rattle.laws_convoys.specs.Names.{Round, asked_of, failures_in, names_after, names_behind, names_of}
-use Rattle.laws_convoys.specs.Requests.{TellsAsked, TellsRequests, request_of}
-use Rattle.laws_convoys.specs.Rounds.{round_at}
+use Rattle.convoy.specs.Agreement.Agreement.{AllFit, FitsConvoy}
+use Rattle.convoy.specs.Agreement.Laws.{TurnKeepsAgreement}
+use Rattle.convoy.specs.Agreement.Leaves.{HasMoved, NoneFailed, OneFailed, AgreesAfterTurn, VersionThen}
+use Rattle.convoy.specs.Agreement.Names.{Round, asked_of, failures_in, names_after, names_behind, names_of}
+use Rattle.convoy.specs.Agreement.Requests.{TellsAsked, TellsRequests, request_of}
+use Rattle.convoy.specs.Agreement.Rounds.{round_at}
 use Rattle.convoy.specs.ClientLaws.Fits.{FitsSide}
 use Rattle.lc_io.specs.Counts.{Rose, RoseBy}
 use Rattle.lc_io.proofs.CountLemmas.{RoseBy-none, RoseBy-then}

@@ -2,7 +2,7 @@
 use Rattle.std.specs.Prelude.{◌≡◌, ℕ, List, [], ◌∷◌, ◌++◌, None, IsSome, map}
 use Rattle.std.specs.List.{All}
 use Rattle.laws_replies.specs.Met.{Met, asked_in}
-use Rattle.laws_convoys.specs.Names.{Round}
+use Rattle.convoy.specs.Agreement.Names.{Round}
 use Rattle.page_client.specs.declared.want.Want.{Want}
 
 -- what was wanted

@@ -2,8 +2,8 @@
 use Rattle.std.specs.Prelude.{◌≡◌, ℕ, List, [], ◌∷◌, ◌++◌, Option, Some, length, option_map}
 use Rattle.std.specs.List.{All}
 use Rattle.cli_words.specs.declared.command.Publishing.{Publishing}
-use Rattle.laws_convoys.specs.Names.{Round}
-use Rattle.laws_convoys.specs.Replies.{IsRepliedBy}
+use Rattle.convoy.specs.Agreement.Names.{Round}
+use Rattle.convoy.specs.Agreement.Replies.{IsRepliedBy}
 use Rattle.lc_world.specs.declared.entry.Entry.{Entry}
 use Rattle.timetable.specs.declared.timetable.Timetable.{Timetable}
 use Rattle.version_store.specs.Store.{Stored}

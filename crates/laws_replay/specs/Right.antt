@@ -4,8 +4,8 @@ use Rattle.convoy.specs.ClientLaws.Fits.{HasEnded}
 use Rattle.convoy.specs.ClientLaws.Wants.{AreWants}
 use Rattle.laws_replies.specs.Met.{Met}
 use Rattle.cli_words.specs.declared.command.Publishing.{Publishing}
-use Rattle.laws_convoys.specs.Names.{AskByNames, Round, failures_in}
-use Rattle.laws_convoys.specs.Requests.{TellsRequests}
+use Rattle.convoy.specs.Agreement.Names.{AskByNames, Round, failures_in}
+use Rattle.convoy.specs.Agreement.Requests.{TellsRequests}
 use Rattle.lc_io.specs.Counts.{RoseBy}
 use Rattle.lc_model.specs.declared.query.Query.{Query}
 use Rattle.lc_world.specs.declared.entry.Entry.{Entry}

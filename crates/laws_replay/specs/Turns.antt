@@ -2,8 +2,8 @@
 use Rattle.std.specs.Prelude.{◌≡◌, ◌==◌, ◌⊎◌, ℕ, zero, suc, ◌-◌, List, [], ◌∷◌, ◌++◌, Option, Some, None, length, map, slice_get, if◌then◌else◌}
 use Rattle.std.specs.List.{All, flat_map}
 use Rattle.connection_uri.specs.Base.{BaseParts}
-use Rattle.laws_convoys.specs.Names.{Round}
-use Rattle.laws_convoys.specs.Requests.{request_of}
+use Rattle.convoy.specs.Agreement.Names.{Round}
+use Rattle.convoy.specs.Agreement.Requests.{request_of}
 use Rattle.lc_model.specs.declared.query.Query.{Query}
 use Rattle.page_client.specs.declared.want.Want.{Want}
 use Rattle.laws_replay.specs.Events.{questions_in, turns_in}

@@ -1,7 +1,7 @@
 -- Which messages are heard in an event sequence, and which version each client means.
 use Rattle.std.specs.Prelude.{◌≡◌, ℕ, List, [], ◌∷◌, ◌++◌, length, Option, Some, take}
 use Rattle.cli_words.specs.declared.command.Publishing.{Publishing}
-use Rattle.laws_convoys.specs.OneClient.{version_of}
+use Rattle.convoy.specs.Agreement.OneClient.{version_of}
 use Rattle.lc_model.specs.declared.query.Query.{Query}
 use Rattle.page_client.specs.declared.want.Want.{Want}
 use Rattle.lc_world.specs.Sides.Short.{IsShort}

@@ -1,8 +1,7 @@
 ghost use Rattle.laws_replay.specs.Laws.{FaultsAreOwn, OneHearing, PlaysCaused, PlaysHeard, PlaysRight};
 ghost use Rattle.laws_replay.specs.OneCourse.{OneCourse};
 
-use convoy::{one_answer, steps_keep_agreement};
-use laws_convoys::{agreement_begins, turns_keep_agreement};
+use convoy::{agreement_begins, one_answer, steps_keep_agreement, turns_keep_agreement};
 use lc_world::Link;
 use version_store::one_outcome;
 

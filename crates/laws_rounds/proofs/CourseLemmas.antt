@@ -18,11 +18,11 @@ use Rattle.convoy.specs.ClientLaws.Fits.{FitsSide}
 use Rattle.convoy.specs.ClientLaws.Published.{IsOwnPage}
 use Rattle.convoy.specs.ClientLaws.Steps.{BeginsInAgreement}
 use Rattle.convoy.specs.ClientLaws.Wants.{AreWants}
-use Rattle.laws_convoys.specs.Leaves.{HasFault, LeavesHonest, RoseWithin}
-use Rattle.laws_convoys.specs.Requests.{TellsAsked}
-use Rattle.laws_convoys.proofs.AloneLemmas.{no_fault_yet}
-use Rattle.laws_convoys.proofs.HonestLemmas.{leaves_alone, leaves_then, no_less}
-use Rattle.laws_convoys.proofs.TurnLemmas.{rose_wider}
+use Rattle.convoy.specs.Agreement.Leaves.{HasFault, LeavesHonest, RoseWithin}
+use Rattle.convoy.specs.Agreement.Requests.{TellsAsked}
+use Rattle.convoy.proofs.AgreementLemmas.AloneLemmas.{no_fault_yet}
+use Rattle.convoy.proofs.AgreementLemmas.HonestLemmas.{leaves_alone, leaves_then, no_less}
+use Rattle.convoy.proofs.AgreementLemmas.TurnLemmas.{rose_wider}
 use Rattle.rounds_client.specs.Course.{LeadsTo, Point}
 use Rattle.rounds_client.specs.Given.{Gives, Was}
 use Rattle.laws_rounds.specs.Right.{IsNamed, IsNamedByGate}

@@ -26,8 +26,8 @@ use Rattle.convoy.specs.ClientLaws.Fits.{FitsAt, HasAnswered, HasFailed, IsDenie
 use Rattle.convoy.specs.ClientLaws.Steps.{BeginsInAgreement}
 use Rattle.convoy.specs.ClientLaws.Wants.{AreWants, HasEnds, wants_of}
 use Rattle.convoy.proofs.ClientLawsLemmas.WantsLemmas.{ends_with_an_answer, faults_cut_short, no_reply_fails_a_test, refusals_are_deserved}
-use Rattle.laws_convoys.specs.Leaves.{HasFault, RoseWithin}
-use Rattle.laws_convoys.specs.Requests.{TellsAsked}
+use Rattle.convoy.specs.Agreement.Leaves.{HasFault, RoseWithin}
+use Rattle.convoy.specs.Agreement.Requests.{TellsAsked}
 use Rattle.change_rounds.specs.Fewest.{IsFewestChain}
 use Rattle.laws_rounds.specs.Version.{FewestAt, FewestOfNeededAt}
 use Rattle.rounds_client.specs.Course.{AnswersFewest, Point}

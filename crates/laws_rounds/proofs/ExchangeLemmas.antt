@@ -33,13 +33,13 @@ use Rattle.convoy.proofs.ClientLawsLemmas.StepLemmas.{gate_keeps_it, link_fault_
 use Rattle.convoy.proofs.ClientLawsLemmas.WantsLemmas.{wants_the_next}
 use Rattle.convoy.specs.Exchange.{Got, IsExchange, bytes_of, result_of}
 use Rattle.convoy.specs.Steps.{Takes, TakesGate}
-use Rattle.laws_convoys.specs.Leaves.{HasFault, LeavesHonest, RoseWithin}
-use Rattle.laws_convoys.specs.Requests.{TellsAsked, request_of}
-use Rattle.laws_convoys.proofs.AloneLemmas.{waits_at_first}
-use Rattle.laws_convoys.proofs.HonestLemmas.{is_get}
+use Rattle.convoy.specs.Agreement.Leaves.{HasFault, LeavesHonest, RoseWithin}
+use Rattle.convoy.specs.Agreement.Requests.{TellsAsked, request_of}
+use Rattle.convoy.proofs.AgreementLemmas.AloneLemmas.{waits_at_first}
+use Rattle.convoy.proofs.AgreementLemmas.HonestLemmas.{is_get}
 use Rattle.rounds_client.specs.Given.{AfterReply, Gives, KeepsDoc, ReadsReply, TakesDoc, TakesGot, Was}
 use Rattle.laws_rounds.proofs.GivenLemmas.{Holds, doc_after_gate, doc_after_stops, doc_anyhow, doc_by_shown, doc_later, doc_of_reader, named_then, own_later, own_more}
-use Rattle.laws_convoys.proofs.NoFaultLemmas.{gate_no_fault, page_no_fault, stops_no_fault}
+use Rattle.convoy.proofs.AgreementLemmas.NoFaultLemmas.{gate_no_fault, page_no_fault, stops_no_fault}
 use Rattle.laws_rounds.proofs.RecordedLemmas.{asked_one}
 
 -- what the client wanted was replied to

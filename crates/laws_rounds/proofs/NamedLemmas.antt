@@ -9,8 +9,8 @@ use Rattle.page_client.specs.declared.want.Want.{Want}
 use Rattle.lc_world.specs.Sides.Side.{Side}
 use Rattle.convoy.specs.ClientLaws.Stated.{version_at}
 use Rattle.convoy.specs.ClientLaws.Steps.{BeginsInAgreement}
-use Rattle.laws_convoys.specs.Leaves.{HasFault}
-use Rattle.laws_convoys.proofs.AloneLemmas.{no_fault_yet}
+use Rattle.convoy.specs.Agreement.Leaves.{HasFault}
+use Rattle.convoy.proofs.AgreementLemmas.AloneLemmas.{no_fault_yet}
 use Rattle.rounds_client.specs.Course.{LeadsTo, Point}
 use Rattle.rounds_client.specs.Given.{Gives}
 use Rattle.laws_rounds.specs.Laws.{NamedAtGate}

@@ -8,8 +8,8 @@ use Rattle.connection_uri.specs.Base.{BaseParts}
 use Rattle.lc_world.specs.Link.{TellsMore}
 use Rattle.lc_world.specs.declared.entry.Entry.{Entry}
 use Rattle.page_client.specs.declared.want.Want.{Want}
-use Rattle.laws_convoys.specs.Requests.{TellsAsked, request_of}
-use Rattle.laws_convoys.proofs.RepliesLemmas.{recorded_no_more, recorded_then}
+use Rattle.convoy.specs.Agreement.Requests.{TellsAsked, request_of}
+use Rattle.convoy.proofs.AgreementLemmas.RepliesLemmas.{recorded_no_more, recorded_then}
 
 abbrev asked_at : List ℕ → Entry → Type 0
 asked_at authority entry = entry.authority ≡ authority

@@ -17,8 +17,8 @@ use Rattle.lc_world.specs.Sides.Side.{Side, has_version}
 use Rattle.convoy.specs.ClientLaws.Stated.{version_at}
 use Rattle.convoy.specs.ClientLaws.Answered.{NeededAt}
 use Rattle.convoy.specs.ClientLaws.Wants.{AreWants, HasEnds, wants_of}
-use Rattle.laws_convoys.specs.Leaves.{LeavesHonest, RoseWithin}
-use Rattle.laws_convoys.specs.Requests.{TellsAsked}
+use Rattle.convoy.specs.Agreement.Leaves.{LeavesHonest, RoseWithin}
+use Rattle.convoy.specs.Agreement.Requests.{TellsAsked}
 use Rattle.laws_rounds.specs.Version.{FewestAt}
 use Rattle.rounds_client.specs.declared.ending.FewestEnd.{FewestEnd}
 

@@ -9,7 +9,7 @@ use Rattle.cli_words.specs.declared.command.Command.TheVariants as commands
 use Rattle.cli_words.specs.declared.command.Plan.{Plan}
 use Rattle.convoy.specs.ClientLaws.Answered.{AnswersAt}
 use Rattle.convoy.specs.ClientLaws.Fits.{HasAnswered}
-use Rattle.laws_convoys.specs.Names.{Round}
+use Rattle.convoy.specs.Agreement.Names.{Round}
 use Rattle.connection_uri.specs.Base.{BaseParts}
 use Rattle.laws_plan.specs.Planned.{ArePlanned, EndsAt, IsPlanned}
 use Rattle.laws_plan.specs.Replied.{TellsAlong}

@@ -5,7 +5,7 @@ use Rattle.std.proofs.lemmas.List.Elements.{All-cons, All-nil}
 use Rattle.cli_ask.specs.declared.end.ClientEnd.{ClientEnd}
 use Rattle.cli_words.specs.declared.command.Publishing.{Publishing}
 use Rattle.convoy.specs.ClientLaws.Answered.{AnswersAt}
-use Rattle.laws_convoys.specs.Names.{Round}
+use Rattle.convoy.specs.Agreement.Names.{Round}
 use Rattle.laws_plan.specs.Worked.{received}
 use Rattle.laws_replay.proofs.OneCourseLemmas.{at_place}
 use Rattle.lc_model.specs.Journey.{IsAnswer, arrives_at}

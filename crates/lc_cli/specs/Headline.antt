@@ -11,7 +11,7 @@ use Rattle.cli_words.specs.declared.command.Publishing.{Publishing}
 use Rattle.cli_words.specs.declared.command.Replay.{Replay}
 use Rattle.connection_uri.specs.Base.{BaseParts}
 use Rattle.convoy.specs.ClientLaws.Answered.{AnswersAt, NeededAt}
-use Rattle.laws_convoys.specs.Names.{Round}
+use Rattle.convoy.specs.Agreement.Names.{Round}
 use Rattle.laws_plan.specs.Planned.{ArePlanned, IsPlanned}
 use Rattle.laws_plan.specs.Replied.{TellsAlong}
 use Rattle.laws_plan.specs.Sides.{sides_of}
