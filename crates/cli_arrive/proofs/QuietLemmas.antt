@@ -19,7 +19,7 @@ use Rattle.laws_arrive.specs.Ends.{EndsBackBy}
 use Rattle.convoy.proofs.AgreementLemmas.HonestLemmas.{is_get}
 use Rattle.convoy.proofs.AgreementLemmas.RepliesLemmas.{Replied, one_more, recorded_no_more, replied_by, tells_replies_then}
 use Rattle.convoy.specs.Agreement.Replies.{IsRepliedBy}
-use Rattle.laws_replies.specs.Made.{Made}
+use Rattle.convoy.specs.Replies.Made.{Made}
 use Rattle.convoy.specs.ClientLaws.Stated.{version_at}
 use Rattle.lc_model.specs.Journey.{arrives_at}
 use Rattle.lc_model.specs.declared.connection.Connection.{Connection}

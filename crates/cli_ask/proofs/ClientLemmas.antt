@@ -5,9 +5,9 @@ use Rattle.std.specs.Option.{IfSome, IsSome}
 use Rattle.convoy.specs.ClientLaws.Answered.{AnswersAt, NeededAt}
 use Rattle.convoy.specs.ClientLaws.Fits.{FitsAt, HasAnswered, HasEnded, HasFailed, IsDenied}
 use Rattle.convoy.specs.ClientLaws.Wants.{AreWants, HasEnds}
-use Rattle.laws_replies.specs.Ends.{EndsBy}
-use Rattle.laws_replies.specs.Made.{Made}
-use Rattle.laws_replies.specs.Run.{HasAsked, HasRun}
+use Rattle.convoy.specs.Replies.Ends.{EndsBy}
+use Rattle.convoy.specs.Replies.Made.{Made}
+use Rattle.convoy.specs.Replies.Run.{HasAsked, HasRun}
 use Rattle.connection_uri.specs.Base.{BaseParts}
 use Rattle.convoy.specs.State.{ConvoyState}
 use Rattle.convoy.specs.declared.member.Member.{Member}

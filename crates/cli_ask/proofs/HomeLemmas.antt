@@ -7,7 +7,7 @@ use Rattle.lc_links.specs.HomeLink.{HomeLinkState}
 use Rattle.lc_model.specs.declared.query.Query.{Query}
 use Rattle.lc_world.specs.GoneOn.{IsLeftByGets, IsLeftByPasses}
 use Rattle.lc_world.specs.Link.{IsQuietWith, LinkSeen}
-use Rattle.laws_replies.specs.Run.{HasAsked}
+use Rattle.convoy.specs.Replies.Run.{HasAsked}
 use Rattle.page_client.specs.declared.outcome.Outcome.{Outcome}
 use Rattle.publisher.specs.Held.{side_of}
 use Rattle.lc_world.specs.Sides.Short.{StandsUnder}

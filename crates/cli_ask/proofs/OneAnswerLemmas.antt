@@ -9,7 +9,7 @@ use Rattle.convoy.specs.ClientLaws.Answered.{AnswersAt, NeededAt}
 use Rattle.convoy.specs.ClientLaws.Fits.{HasAnswered, HasEnded, IsDenied}
 use Rattle.convoy.specs.ClientLaws.Laws.{OneArrivalAt, OneListOfNeededAt}
 use Rattle.convoy.specs.ClientLaws.Wants.{wants_of}
-use Rattle.laws_replies.specs.Laws.{SayTheSame}
+use Rattle.convoy.specs.Replies.Laws.{SayTheSame}
 use Rattle.convoy.specs.Agreement.OneClient.{version_of}
 use Rattle.page_client.specs.declared.fault.QueryFault.{QueryFault}
 use Rattle.page_client.specs.declared.fault.QueryFault.TheVariants.{HorizonRange, SameStop, UnknownFrom, UnknownTo}

@@ -7,8 +7,8 @@ use Rattle.lc_time.specs.declared.zone.Zone.{Zone}
 use Rattle.lc_world.specs.Link.{LinkSeen}
 use Rattle.lc_world.specs.declared.entry.Entry.{Entry as Recorded}
 use Rattle.convoy.specs.ClientLaws.Laws.{OneArrivalAt, OneListOfNeededAt}
-use Rattle.laws_replies.specs.Ends.{EndsBy}
-use Rattle.laws_replies.specs.Made.{Made}
+use Rattle.convoy.specs.Replies.Ends.{EndsBy}
+use Rattle.convoy.specs.Replies.Made.{Made}
 use Rattle.connection_uri.specs.Base.{BaseParts}
 use Rattle.convoy.specs.Agreement.OneClient.{version_of}
 use Rattle.page_client.specs.declared.outcome.Outcome.{Outcome}

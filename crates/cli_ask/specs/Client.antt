@@ -2,7 +2,7 @@
 -- answered, where the replies came as it gave them.
 use Rattle.std.specs.Prelude.{◌≡◌, List, [], ◌∷◌, ◌++◌, length, Option, Some, None}
 use Rattle.convoy.specs.ClientLaws.Fits.{HasEnded}
-use Rattle.laws_replies.specs.Run.{HasAsked}
+use Rattle.convoy.specs.Replies.Run.{HasAsked}
 use Rattle.connection_uri.specs.Base.{BaseParts}
 use Rattle.convoy.specs.Agreement.OneClient.{IsNext, version_of}
 use Rattle.convoy.specs.Agreement.Replies.{TellsReplies}

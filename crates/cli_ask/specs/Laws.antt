@@ -2,7 +2,7 @@
 use Rattle.std.specs.Prelude.{◌≡◌, ◌⊎◌, ℕ, Bool, List, [], ◌∷◌, ◌++◌, Option}
 use Rattle.convoy.specs.ClientLaws.Fits.{IsCutShort}
 use Rattle.convoy.specs.ClientLaws.Wants.{AreWants, wants_of}
-use Rattle.laws_replies.specs.Laws.{SayTheSame}
+use Rattle.convoy.specs.Replies.Laws.{SayTheSame}
 use Rattle.cli_words.specs.declared.command.Publishing.{Publishing}
 use Rattle.fragmenter.specs.declared.cutting.Cutting.{Cutting}
 use Rattle.lc_io.specs.Counts.{Rose}

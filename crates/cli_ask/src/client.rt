@@ -7,8 +7,7 @@ ghost use Rattle.lc_world.specs.Sides.Side.{Side};
 
 use crate::ClientEnd;
 use connection_uri::Base;
-use convoy::{Convoy, one_client};
-use laws_replies::alone_over_any_link;
+use convoy::{Convoy, alone_over_any_link, one_client};
 use lc_model::{NoMemory, Query};
 use lc_world::Link;
 use std::alloc::Global;

@@ -17,8 +17,8 @@ use Rattle.convoy.specs.Agreement.OneClient.{version_of}
 use Rattle.convoy.specs.Agreement.Replies.{IsRepliedBy, TellsReplies}
 use Rattle.convoy.specs.Agreement.Requests.{TellsAsked}
 use Rattle.laws_rounds.specs.Version.{FewestAt, FewestOfNeededAt}
-use Rattle.laws_replies.specs.Ends.{EndsBy}
-use Rattle.laws_replies.specs.Made.{Made}
+use Rattle.convoy.specs.Replies.Ends.{EndsBy}
+use Rattle.convoy.specs.Replies.Made.{Made}
 use Rattle.laws_rounds.proofs.CourseLemmas.{AskedJust, AskedOneMore, SoFar, none_so_far, so_far}
 use Rattle.laws_rounds.proofs.EndLemmas.{fewest_ends_right}
 use Rattle.laws_rounds.specs.Right.{EndsAt, IsNamed, IsNamedByGate, IsRight}

@@ -11,7 +11,7 @@ use Rattle.laws_plan.specs.Planned.{IsPlanned}
 use Rattle.laws_replay.specs.Caused.{AreCaused}
 use Rattle.laws_replay.specs.Events.{questions_in}
 use Rattle.laws_replay.specs.declared.event.Event.{Event}
-use Rattle.laws_replies.specs.Met.{asked_in, exchanges_by}
+use Rattle.convoy.specs.Replies.Met.{asked_in, exchanges_by}
 use Rattle.lc_world.specs.GoneOn.{IsLeftByGets}
 use Rattle.lc_world.specs.Link.{LinkSeen}
 use Rattle.lc_world.specs.declared.entry.Entry.{Entry}

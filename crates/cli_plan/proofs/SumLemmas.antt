@@ -6,7 +6,7 @@ use Rattle.std.proofs.lemmas.Bool.{cases_eq, eq-eqb, ne_eqb}
 use Rattle.std.proofs.lemmas.List.Elements.{All-head, All-tail}
 use Rattle.std.proofs.lemmas.List.Sums.{sum_by-cons}
 use Rattle.cli_ask.specs.declared.end.ClientEnd.{ClientEnd}
-use Rattle.laws_replies.specs.Met.{AreRecordedOf, IsByOneOf, Met, asked_in, exchanges_by, is_by}
+use Rattle.convoy.specs.Replies.Met.{AreRecordedOf, IsByOneOf, Met, asked_in, exchanges_by, is_by}
 use Rattle.connection_uri.specs.Base.{BaseParts}
 use Rattle.lc_model.specs.declared.query.Query.{Query}
 use Rattle.lc_world.specs.declared.entry.Entry.{Entry}

@@ -3,6 +3,7 @@ pub mod ClientLaws
 pub mod Exchange
 pub mod Finish
 pub mod PageLaws
+pub mod Replies
 pub mod State
 pub mod Steps
 pub mod Turn

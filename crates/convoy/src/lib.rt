@@ -7,6 +7,7 @@ mod convoy;
 mod exchange;
 mod member;
 mod page_laws;
+mod replies;
 mod steps;
 mod turn;
 mod turning;
@@ -23,5 +24,9 @@ pub use page_laws::{
     chains_are_journeys, early_may_go, journeys_along_next, legs_along_next, needed_are_taken,
     needed_of_journeys, no_journey_arrives_earlier, one_list_of_needed, page_of_a_moment,
     pages_in_a_row, some_least_arrival, stop_is_right, worked_pages,
+};
+pub use replies::{
+    alone_asks_all, alone_over_any_link, cached_pages, faults_are_around_last, one_end,
+    one_recorded_end,
 };
 pub use turn::Turn;

@@ -4,8 +4,8 @@ use Rattle.std.specs.List.{slice_get}
 use Rattle.std.proofs.lemmas.List.{length-map}
 use Rattle.lc_io.specs.Counts.{Rose}
 use Rattle.lc_world.specs.Link.{LinkSeen}
-use Rattle.laws_replies.specs.Made.{Made}
-use Rattle.laws_replies.specs.Met.{CountAlong, Met}
+use Rattle.convoy.specs.Replies.Made.{Made}
+use Rattle.convoy.specs.Replies.Met.{CountAlong, Met}
 use Rattle.laws_arrive.specs.ReplyLaws.{LatestFaultsAreAroundLast, NoLatestFaultIsShrunken}
 
 -- before the only one the count is that at first

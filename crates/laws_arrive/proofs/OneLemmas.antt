@@ -30,11 +30,11 @@ use Rattle.back_scan.specs.StandsFor.{IsLatestChain}
 use Rattle.back_scan.specs.declared.arrive_query.ArriveQuery.{ArriveQuery}
 use Rattle.back_client.specs.Wrong.{is_off, retreats}
 use Rattle.back_client.specs.declared.page.Place.TheVariants.{First}
-use Rattle.laws_replies.specs.Course.{IsSentOn}
-use Rattle.laws_replies.specs.Ends.{FailsTest, IsRefusedAtOnce}
-use Rattle.laws_replies.specs.Laws.{replies_of}
-use Rattle.laws_replies.specs.Made.{Made, reply_to}
-use Rattle.laws_replies.proofs.CourseLemmas.{not_behind, stands_last}
+use Rattle.convoy.specs.Replies.Course.{IsSentOn}
+use Rattle.convoy.specs.Replies.Ends.{FailsTest, IsRefusedAtOnce}
+use Rattle.convoy.specs.Replies.Laws.{replies_of}
+use Rattle.convoy.specs.Replies.Made.{Made, reply_to}
+use Rattle.convoy.proofs.RepliesLemmas.CourseLemmas.{not_behind, stands_last}
 use Rattle.laws_arrive.specs.Back.{IsReadingBack, IsSentRight, PassesTests, ReadsBack, WantsBackAfter, connections_back, gate_query, link_back, place_back}
 use Rattle.laws_arrive.specs.Ends.{EndsBackBy, HasAnsweredLatest}
 use Rattle.laws_arrive.specs.ReplyLaws.{OneLatestByReplies, SayOneLatest}

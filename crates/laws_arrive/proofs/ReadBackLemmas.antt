@@ -14,9 +14,9 @@ use Rattle.back_client.specs.Steps.{IsOverAt}
 use Rattle.back_client.specs.Wrong.{is_off, retreats, wrong_of, wrong_retreat}
 use Rattle.back_client.specs.declared.page.Place.{Place}
 use Rattle.back_client.specs.declared.page.Place.TheVariants.{After, First}
-use Rattle.laws_replies.specs.Course.{Reads, connections_in}
-use Rattle.laws_replies.specs.Made.{Made}
-use Rattle.laws_replies.proofs.CourseLemmas.{not_behind, stands_last}
+use Rattle.convoy.specs.Replies.Course.{Reads, connections_in}
+use Rattle.convoy.specs.Replies.Made.{Made}
+use Rattle.convoy.proofs.RepliesLemmas.CourseLemmas.{not_behind, stands_last}
 use Rattle.laws_arrive.specs.Back.{AllPassTests, GoesBackAfterEach, IsSentRight, PassesTests, ReadsBack, connections_back, link_back, place_back}
 
 -- the connections, with one page more

@@ -41,12 +41,12 @@ use Rattle.back_client.specs.Wrong.{wrong_of}
 use Rattle.back_client.specs.declared.outcome.ArriveEnd.{ArriveEnd}
 use Rattle.back_client.specs.declared.page.Place.{Place}
 use Rattle.back_client.specs.declared.page.Place.TheVariants.{After, First}
-use Rattle.laws_replies.specs.Course.{IsSentOn}
-use Rattle.laws_replies.specs.Ends.{FailsTest, IsRefusedBy}
-use Rattle.laws_replies.specs.Made.{Made, TellsAll, reply_to}
-use Rattle.laws_replies.specs.Met.{CountAlong, HasFailedBetween, Met, failures_in}
-use Rattle.laws_replies.proofs.MadeLemmas.{tells_more, tells_none}
-use Rattle.laws_replies.proofs.MetLemmas.{along_more}
+use Rattle.convoy.specs.Replies.Course.{IsSentOn}
+use Rattle.convoy.specs.Replies.Ends.{FailsTest, IsRefusedBy}
+use Rattle.convoy.specs.Replies.Made.{Made, TellsAll, reply_to}
+use Rattle.convoy.specs.Replies.Met.{CountAlong, HasFailedBetween, Met, failures_in}
+use Rattle.convoy.proofs.RepliesLemmas.MadeLemmas.{tells_more, tells_none}
+use Rattle.convoy.proofs.RepliesLemmas.MetLemmas.{along_more}
 use Rattle.laws_arrive.specs.Asked.{HasAskedLatest}
 use Rattle.laws_arrive.specs.Back.{IsReadingBack, WantsBackAfter, connections_back, gate_query, place_back}
 use Rattle.laws_arrive.specs.Ends.{EndsBackBy}

@@ -4,8 +4,8 @@ use Rattle.connection_uri.specs.Base.{BaseParts}
 use Rattle.lc_world.specs.Link.{LinkSeen}
 use Rattle.page_client.specs.declared.outcome.Outcome.{Outcome}
 use Rattle.back_scan.specs.declared.arrive_query.ArriveQuery.{ArriveQuery}
-use Rattle.laws_replies.specs.Made.{Made, TellsAll}
-use Rattle.laws_replies.specs.Run.{IsCounted}
+use Rattle.convoy.specs.Replies.Made.{Made, TellsAll}
+use Rattle.convoy.specs.Replies.Run.{IsCounted}
 use Rattle.laws_arrive.specs.Back.{gate_query}
 use Rattle.laws_arrive.specs.Ends.{EndsBackBy}
 

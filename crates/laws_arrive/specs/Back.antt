@@ -19,8 +19,8 @@ use Rattle.back_client.specs.Steps.{IsOverAt}
 use Rattle.back_client.specs.Wrong.{is_off, retreats}
 use Rattle.back_client.specs.declared.page.Place.{Place}
 use Rattle.back_client.specs.declared.page.Place.TheVariants.{After, First}
-use Rattle.laws_replies.specs.Course.{IsAtGate, IsSentOn, Reads, connections_in}
-use Rattle.laws_replies.specs.Made.{Made, reply_to}
+use Rattle.convoy.specs.Replies.Course.{IsAtGate, IsSentOn, Reads, connections_in}
+use Rattle.convoy.specs.Replies.Made.{Made, reply_to}
 
 -- the question that leaves at the moment of arrival, as the time gate is asked
 abbrev pub gate_query : ArriveQuery → Query

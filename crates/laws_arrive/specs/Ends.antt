@@ -21,8 +21,8 @@ use Rattle.back_scan.specs.declared.arrive_query.ArriveQuery.{ArriveQuery}
 use Rattle.back_client.specs.Steps.{IsOverAt}
 use Rattle.back_client.specs.Wrong.{is_off, retreats}
 use Rattle.back_client.specs.declared.page.Place.TheVariants.{First}
-use Rattle.laws_replies.specs.Ends.{FailsTest, IsRefusedBy}
-use Rattle.laws_replies.specs.Made.{Made, failure_of, reply_to}
+use Rattle.convoy.specs.Replies.Ends.{FailsTest, IsRefusedBy}
+use Rattle.convoy.specs.Replies.Made.{Made, failure_of, reply_to}
 use Rattle.laws_arrive.specs.Back.{IsReadingBack, IsSentRight, PassesTests, WantsBackAfter, connections_back, gate_query, place_back}
 
 -- It read one page more, which passes the tests, and this is the last: it has no previous one, or no earlier page could be better. The answer

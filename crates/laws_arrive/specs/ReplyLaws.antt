@@ -8,8 +8,8 @@ use Rattle.page_client.specs.declared.outcome.Outcome.TheVariants as outcomes
 use Rattle.back_scan.specs.declared.arrive_query.ArriveQuery.{ArriveQuery}
 use Rattle.back_client.specs.Arrives.{Arrives}
 use Rattle.back_client.specs.declared.outcome.ArriveEnd.{ArriveEnd}
-use Rattle.laws_replies.specs.Laws.{AreAroundLast, replies_of}
-use Rattle.laws_replies.specs.Made.{Made}
+use Rattle.convoy.specs.Replies.Laws.{AreAroundLast, replies_of}
+use Rattle.convoy.specs.Replies.Made.{Made}
 use Rattle.laws_arrive.specs.Asked.{HasAskedLatest}
 
 -- whatever the link is, a question for the latest departure ends by the replies that it got

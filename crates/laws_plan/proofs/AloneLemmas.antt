@@ -2,9 +2,9 @@
 use Rattle.std.proofs.Common.{◌∙◌, List, [], ◌∷◌, ap, refl, subst}
 use Rattle.std.specs.List.{slice_get}
 use Rattle.laws_plan.specs.Laws.{OneClientAsks}
-use Rattle.laws_replies.specs.Laws.{AloneAsksAll}
-use Rattle.laws_replies.specs.Met.{AreMet, met_by}
-use Rattle.laws_replies.proofs.AloneLemmas.{met_alone}
+use Rattle.convoy.specs.Replies.Laws.{AloneAsksAll}
+use Rattle.convoy.specs.Replies.Met.{AreMet, met_by}
+use Rattle.convoy.proofs.RepliesLemmas.AloneLemmas.{met_alone}
 use Rattle.lc_model.specs.declared.query.Query.{Query}
 use Rattle.lc_world.specs.Link.{LinkSeen}
 

@@ -13,8 +13,8 @@ use Rattle.laws_replay.proofs.OneRoundsLemmas.{MetTheSame, met_in_all, same_roun
 use Rattle.laws_replay.specs.Events.{TurnsAreOfClients, questions_in}
 use Rattle.laws_replay.specs.Turns.{asked_in, order_of, rounds_of}
 use Rattle.laws_replay.specs.declared.event.Event.{Event}
-use Rattle.laws_replies.specs.Laws.{SayTheSame}
-use Rattle.laws_replies.specs.Met.{Met}
+use Rattle.convoy.specs.Replies.Laws.{SayTheSame}
+use Rattle.convoy.specs.Replies.Met.{Met}
 use Rattle.lc_model.specs.declared.query.Query.{Query}
 use Rattle.lc_world.specs.Link.{LinkSeen}
 use Rattle.lc_world.specs.Sides.Side.{Side}

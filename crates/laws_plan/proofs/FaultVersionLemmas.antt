@@ -14,10 +14,10 @@ use Rattle.laws_replay.proofs.FaultLemmas.{fails, fails_in, fails_of}
 use Rattle.laws_replay.specs.History.{AreMetIn, wants_of}
 use Rattle.laws_replay.specs.Right.{FailsWith}
 use Rattle.laws_replay.specs.Turns.{failed_in, given_in, rounds_of}
-use Rattle.laws_replies.specs.Course.{WantsAfter}
-use Rattle.laws_replies.specs.Ends.{EndsBy, IsCutOff}
-use Rattle.laws_replies.specs.Made.{Made, failure_of}
-use Rattle.laws_replies.specs.Met.{Met, is_by, met_by}
+use Rattle.convoy.specs.Replies.Course.{WantsAfter}
+use Rattle.convoy.specs.Replies.Ends.{EndsBy, IsCutOff}
+use Rattle.convoy.specs.Replies.Made.{Made, failure_of}
+use Rattle.convoy.specs.Replies.Met.{Met, is_by, met_by}
 use Rattle.lc_model.specs.declared.query.Query.{Query}
 use Rattle.page_client.specs.declared.outcome.Outcome.{Outcome}
 use Rattle.page_client.specs.declared.outcome.Outcome.TheVariants as outcomes

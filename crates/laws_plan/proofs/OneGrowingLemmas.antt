@@ -24,7 +24,7 @@ use Rattle.laws_replay.proofs.OneRoundsLemmas.{as_many_rounds, met_the_same}
 use Rattle.laws_replay.specs.Events.{TurnsAreOfClients, questions_in}
 use Rattle.laws_replay.specs.Turns.{failed_in, given_in, order_of, rounds_of}
 use Rattle.laws_replay.specs.declared.event.Event.{Event}
-use Rattle.laws_replies.specs.Met.{Met}
+use Rattle.convoy.specs.Replies.Met.{Met}
 use Rattle.convoy.specs.ClientLaws.Stated.{version_at}
 use Rattle.lc_model.specs.declared.answer.Answer.{Answer}
 use Rattle.lc_model.specs.declared.answer.Answer.TheVariants as answers

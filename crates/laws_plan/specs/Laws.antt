@@ -14,7 +14,7 @@ use Rattle.laws_replay.specs.Played.{HaveEndedSo, Plays}
 use Rattle.laws_replay.specs.Rounds.{all_rounds}
 use Rattle.laws_replay.specs.Turns.{order_of}
 use Rattle.laws_replay.specs.declared.event.Event.{Event}
-use Rattle.laws_replies.specs.Met.{HasFailedBetween}
+use Rattle.convoy.specs.Replies.Met.{HasFailedBetween}
 use Rattle.lc_model.specs.declared.query.Query.{Query}
 use Rattle.lc_world.specs.Link.{IsHonestWith, LinkSeen}
 use Rattle.page_client.specs.declared.outcome.Outcome.TheVariants.{LinkFault}

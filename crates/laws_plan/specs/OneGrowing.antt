@@ -7,7 +7,7 @@ use Rattle.connection_uri.specs.Base.{BaseParts}
 use Rattle.laws_plan.specs.Planned.{ArePlanned}
 use Rattle.laws_replay.specs.Events.{TurnsAreOfClients, questions_in}
 use Rattle.laws_replay.specs.declared.event.Event.{Event}
-use Rattle.laws_replies.specs.Met.{Met}
+use Rattle.convoy.specs.Replies.Met.{Met}
 use Rattle.lc_world.specs.Link.{LinkSeen}
 use Rattle.lc_world.specs.Sides.Side.{IsLater, IsValidSide, Side}
 

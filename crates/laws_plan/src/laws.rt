@@ -3,9 +3,9 @@ ghost use Rattle.laws_plan.specs.OneGrowing.{OneGrowingPlan};
 ghost use Rattle.laws_plan.specs.OnePlan.{OnePlan};
 
 use convoy::{
-    agreement_begins, one_answer, steps_keep_agreement, turns_keep_agreement, versions_stay,
+    agreement_begins, alone_asks_all, one_answer, steps_keep_agreement, turns_keep_agreement,
+    versions_stay,
 };
-use laws_replies::alone_asks_all;
 use lc_world::Link;
 
 /// Over every honest link, also one whose side grows between exchanges, each client ended rightly. It has a best journey by the timetable

@@ -3,8 +3,8 @@ use Rattle.std.proofs.Common.{◌≡◌, ◌≢◌, ◌∙◌, ◌⊎◌, ◌-�
 use Rattle.std.specs.List.{All, slice_get}
 use Rattle.std.proofs.lemmas.List.Elements.{All-append, All-cons, All-head, All-nil, All-tail, All-weaker}
 use Rattle.std.proofs.lemmas.Option.{slice_get_within}
-use Rattle.laws_replies.specs.Met.{Met}
-use Rattle.laws_replies.proofs.ClientsLemmas.{AreSo, HasGrown, Meets, MeetsNone, MeetsOne, are_asked, are_later, not_yet, turn_meets}
+use Rattle.convoy.specs.Replies.Met.{Met}
+use Rattle.convoy.proofs.RepliesLemmas.ClientsLemmas.{AreSo, HasGrown, Meets, MeetsNone, MeetsOne, are_asked, are_later, not_yet, turn_meets}
 use Rattle.connection_uri.specs.Base.{BaseParts}
 use Rattle.convoy.specs.Finish.{HasOutcome, IsStep, Rounds, Step, TurnsOf}
 use Rattle.convoy.specs.State.{Adds, ConvoyState}

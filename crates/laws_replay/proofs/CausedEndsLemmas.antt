@@ -6,11 +6,11 @@ use Rattle.std.proofs.lemmas.List.Elements.{All-cons, All-nil}
 use Rattle.std.proofs.lemmas.Option.{slice_get_within}
 use Rattle.cli_ask.specs.Block.{IsPrintable}
 use Rattle.cli_ask.specs.declared.end.ClientEnd.{ClientEnd}
-use Rattle.laws_replies.specs.Ends.{EndsBy}
-use Rattle.laws_replies.specs.Made.{Made}
-use Rattle.laws_replies.specs.Met.{Met, met_by}
-use Rattle.laws_replies.proofs.ClientsLemmas.{AreSo, IsClientSo, are_begun, has_ended}
-use Rattle.laws_replies.proofs.StepLemmas.{AtEnd}
+use Rattle.convoy.specs.Replies.Ends.{EndsBy}
+use Rattle.convoy.specs.Replies.Made.{Made}
+use Rattle.convoy.specs.Replies.Met.{Met, met_by}
+use Rattle.convoy.proofs.RepliesLemmas.ClientsLemmas.{AreSo, IsClientSo, are_begun, has_ended}
+use Rattle.convoy.proofs.RepliesLemmas.StepLemmas.{AtEnd}
 use Rattle.connection_uri.specs.Base.{BaseParts}
 use Rattle.convoy.specs.State.{ConvoyState, begun}
 use Rattle.convoy.specs.declared.member.Member.{Member}

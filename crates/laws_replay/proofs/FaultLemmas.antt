@@ -4,7 +4,7 @@ use Rattle.std.specs.Prelude.{IsSome}
 use Rattle.std.specs.List.{All, filter, slice_get}
 use Rattle.std.proofs.lemmas.List.{map-append}
 use Rattle.std.proofs.lemmas.List.Elements.{All-head, All-tail, filter-append}
-use Rattle.laws_replies.specs.Met.{HasFailedBetween, Met}
+use Rattle.convoy.specs.Replies.Met.{HasFailedBetween, Met}
 use Rattle.convoy.specs.Agreement.Names.{Round}
 use Rattle.page_client.specs.declared.want.Want.{Want}
 use Rattle.laws_replay.specs.History.{AreMetIn, IsMetIn, wants_of}

@@ -4,8 +4,8 @@ use Rattle.std.specs.Prelude.{IsSome, None}
 use Rattle.std.specs.List.{All}
 use Rattle.std.proofs.lemmas.List.{map-append}
 use Rattle.std.proofs.lemmas.List.Elements.{All-append, All-cons, All-nil, filter-append}
-use Rattle.laws_replies.specs.Met.{Met, asked_in}
-use Rattle.laws_replies.proofs.ClientsLemmas.{GotNone, GotReply, MeetsIn, MeetsWant}
+use Rattle.convoy.specs.Replies.Met.{Met, asked_in}
+use Rattle.convoy.proofs.RepliesLemmas.ClientsLemmas.{GotNone, GotReply, MeetsIn, MeetsWant}
 use Rattle.convoy.specs.Finish.{HasOutcome}
 use Rattle.convoy.specs.declared.member.Member.{Member}
 use Rattle.convoy.specs.declared.turn.Turn.{Turn}

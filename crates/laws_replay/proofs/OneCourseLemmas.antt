@@ -12,7 +12,7 @@ use Rattle.cli_ask.specs.Publishing.{side_with, store_of}
 use Rattle.cli_ask.specs.declared.end.ClientEnd.{ClientEnd}
 use Rattle.convoy.specs.ClientLaws.Fits.{HasEnded}
 use Rattle.convoy.specs.ClientLaws.Laws.{OneArrivalAt, OneListOfNeededAt}
-use Rattle.laws_replies.specs.Laws.{SayTheSame}
+use Rattle.convoy.specs.Replies.Laws.{SayTheSame}
 use Rattle.cli_words.specs.declared.command.Publishing.{Publishing}
 use Rattle.convoy.specs.Agreement.Names.{Round}
 use Rattle.convoy.specs.Agreement.OneClient.{version_of}

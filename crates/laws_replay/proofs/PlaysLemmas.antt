@@ -3,7 +3,7 @@ use Rattle.std.proofs.Common.{◌≡◌, ℕ, List, [], ◌∷◌, ◌++◌, len
 use Rattle.std.proofs.Math.Seq.{take-append_seam}
 use Rattle.std.proofs.lemmas.List.{append-nil, append_assoc}
 use Rattle.convoy.specs.ClientLaws.Laws.{WantsStay}
-use Rattle.laws_replies.specs.Met.{Met}
+use Rattle.convoy.specs.Replies.Met.{Met}
 use Rattle.cli_words.specs.declared.command.Publishing.{Publishing}
 use Rattle.convoy.specs.Finish.{IsStep, Rounds}
 use Rattle.convoy.specs.State.{ConvoyState, begun}

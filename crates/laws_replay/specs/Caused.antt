@@ -2,9 +2,9 @@
 use Rattle.std.specs.Prelude.{◌≡◌, ◌≢◌, ◌⊎◌, ◌≤◌, ℕ, ◌+◌, List, [], ◌∷◌, Option, Some, slice_get}
 use Rattle.std.specs.List.{All}
 use Rattle.cli_ask.specs.declared.end.ClientEnd.{ClientEnd}
-use Rattle.laws_replies.specs.Cached.{AreCached}
-use Rattle.laws_replies.specs.Ends.{EndsBy}
-use Rattle.laws_replies.specs.Met.{AreMet, HasFailedBetween, Met, exchanges_by, met_by}
+use Rattle.convoy.specs.Replies.Cached.{AreCached}
+use Rattle.convoy.specs.Replies.Ends.{EndsBy}
+use Rattle.convoy.specs.Replies.Met.{AreMet, HasFailedBetween, Met, exchanges_by, met_by}
 use Rattle.connection_uri.specs.Base.{BaseParts}
 use Rattle.lc_model.specs.declared.query.Query.{Query}
 use Rattle.lc_world.specs.declared.entry.Entry.{Entry}

@@ -1,7 +1,7 @@
 -- That the rounds of clients and what clients received are one history.
 use Rattle.std.specs.Prelude.{◌≡◌, ℕ, List, [], ◌∷◌, ◌++◌, None, IsSome, map}
 use Rattle.std.specs.List.{All}
-use Rattle.laws_replies.specs.Met.{Met, asked_in}
+use Rattle.convoy.specs.Replies.Met.{Met, asked_in}
 use Rattle.convoy.specs.Agreement.Names.{Round}
 use Rattle.page_client.specs.declared.want.Want.{Want}
 

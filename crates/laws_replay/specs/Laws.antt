@@ -2,7 +2,7 @@
 use Rattle.std.specs.Prelude.{◌≡◌, ◌≤◌, ℕ, ◌+◌, List, Option, Some, length, slice_get}
 use Rattle.std.specs.List.{All}
 use Rattle.cli_words.specs.declared.command.Publishing.{Publishing}
-use Rattle.laws_replies.specs.Met.{HasFailedBetween, Met}
+use Rattle.convoy.specs.Replies.Met.{HasFailedBetween, Met}
 use Rattle.connection_uri.specs.Base.{BaseParts}
 use Rattle.convoy.specs.Finish.{Rounds}
 use Rattle.convoy.specs.State.{ConvoyState, begun}

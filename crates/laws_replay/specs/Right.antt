@@ -2,7 +2,7 @@
 use Rattle.std.specs.Prelude.{◌≡◌, ℕ, ◌+◌, List, [], ◌∷◌, ◌++◌, Option, Some, length, slice_get}
 use Rattle.convoy.specs.ClientLaws.Fits.{HasEnded}
 use Rattle.convoy.specs.ClientLaws.Wants.{AreWants}
-use Rattle.laws_replies.specs.Met.{Met}
+use Rattle.convoy.specs.Replies.Met.{Met}
 use Rattle.cli_words.specs.declared.command.Publishing.{Publishing}
 use Rattle.convoy.specs.Agreement.Names.{AskByNames, Round, failures_in}
 use Rattle.convoy.specs.Agreement.Requests.{TellsRequests}

@@ -15,13 +15,13 @@ use Rattle.page_client.specs.declared.outcome.Outcome.{Outcome}
 use Rattle.page_client.specs.declared.outcome.Outcome.TheVariants as outcomes
 use Rattle.page_client.specs.declared.phase.Phase.{Phase}
 use Rattle.page_client.specs.declared.phase.Phase.TheVariants as phases
-use Rattle.laws_replies.specs.Course.{connections_in}
-use Rattle.laws_replies.specs.Ends.{EndsBy}
-use Rattle.laws_replies.specs.Made.{Made}
-use Rattle.laws_replies.specs.Met.{Met}
-use Rattle.laws_replies.proofs.ClientsLemmas.{has_ended, not_yet}
-use Rattle.laws_replies.proofs.CourseLemmas.{connections_more}
-use Rattle.laws_replies.proofs.StepLemmas.{At, AtEnd}
+use Rattle.convoy.specs.Replies.Course.{connections_in}
+use Rattle.convoy.specs.Replies.Ends.{EndsBy}
+use Rattle.convoy.specs.Replies.Made.{Made}
+use Rattle.convoy.specs.Replies.Met.{Met}
+use Rattle.convoy.proofs.RepliesLemmas.ClientsLemmas.{has_ended, not_yet}
+use Rattle.convoy.proofs.RepliesLemmas.CourseLemmas.{connections_more}
+use Rattle.convoy.proofs.RepliesLemmas.StepLemmas.{At, AtEnd}
 use Rattle.rounds_client.specs.Course.{AnswersFewest, Point}
 use Rattle.rounds_client.specs.Given.{Was, connections_of_pages}
 use Rattle.laws_rounds.specs.Asked.{HasAskedFewest, HasFewestRead}

@@ -14,11 +14,11 @@ use Rattle.page_client.specs.declared.outcome.Outcome.{Outcome}
 use Rattle.page_client.specs.declared.outcome.Outcome.TheVariants as outcomes
 use Rattle.page_client.specs.declared.want.Want.TheVariants as wants
 use Rattle.page_json.specs.declared.page.Page.{Page}
-use Rattle.laws_replies.specs.Course.{ReadsPages, connections_in}
-use Rattle.laws_replies.specs.Ends.{EndsBy, HasAnswered}
-use Rattle.laws_replies.specs.Made.{Made, reply_to}
-use Rattle.laws_replies.proofs.CourseLemmas.{stands_last}
-use Rattle.laws_replies.proofs.OneEndLemmas.{one_end}
+use Rattle.convoy.specs.Replies.Course.{ReadsPages, connections_in}
+use Rattle.convoy.specs.Replies.Ends.{EndsBy, HasAnswered}
+use Rattle.convoy.specs.Replies.Made.{Made, reply_to}
+use Rattle.convoy.proofs.RepliesLemmas.CourseLemmas.{stands_last}
+use Rattle.convoy.proofs.RepliesLemmas.OneEndLemmas.{one_end}
 use Rattle.laws_rounds.specs.Asked.{HasFewestRead}
 use Rattle.laws_rounds.specs.ReplyLaws.{HaveAsManyRides, OneFewestByReplies}
 use Rattle.laws_rounds.proofs.ReadLemmas.{same_doc, same_pages}

@@ -16,11 +16,11 @@ use Rattle.page_client.specs.declared.phase.Phase.{Phase}
 use Rattle.page_client.specs.declared.phase.Phase.TheVariants as phases
 use Rattle.page_client.specs.declared.want.Want.TheVariants as wants
 use Rattle.page_json.specs.declared.page.Page.{Page}
-use Rattle.laws_replies.specs.Course.{IsReading, ReadsPages}
-use Rattle.laws_replies.specs.Ends.{HasAnswered}
-use Rattle.laws_replies.specs.Laws.{replies_of}
-use Rattle.laws_replies.specs.Made.{Made, failure_of, reply_to}
-use Rattle.laws_replies.proofs.CourseLemmas.{reads_more, stands_last}
+use Rattle.convoy.specs.Replies.Course.{IsReading, ReadsPages}
+use Rattle.convoy.specs.Replies.Ends.{HasAnswered}
+use Rattle.convoy.specs.Replies.Laws.{replies_of}
+use Rattle.convoy.specs.Replies.Made.{Made, failure_of, reply_to}
+use Rattle.convoy.proofs.RepliesLemmas.CourseLemmas.{reads_more, stands_last}
 use Rattle.rounds_client.specs.Given.{KeepsDoc, Was}
 
 -- the document and the pages are these

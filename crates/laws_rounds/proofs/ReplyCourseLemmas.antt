@@ -28,14 +28,14 @@ use Rattle.page_client.specs.declared.phase.Phase.TheVariants as phases
 use Rattle.page_client.specs.declared.want.Want.{Want}
 use Rattle.page_client.specs.declared.want.Want.TheVariants as wants
 use Rattle.page_json.specs.declared.page.Page.{Page}
-use Rattle.laws_replies.specs.Course.{IsReading}
-use Rattle.laws_replies.specs.Made.{Made, TellsAll, reply_to}
-use Rattle.laws_replies.specs.Met.{CountAlong, HasFailedBetween, Met, failures_in}
-use Rattle.laws_replies.proofs.ClientsLemmas.{failed_last, same_counts, waits_at_gate, waits_for_stops}
-use Rattle.laws_replies.proofs.CourseLemmas.{not_behind, stands_last}
-use Rattle.laws_replies.proofs.MadeLemmas.{tells_more, tells_none}
-use Rattle.laws_replies.proofs.MetLemmas.{along_more}
-use Rattle.laws_replies.proofs.StepLemmas.{At, AtGate, AtPage, AtStops, Moves, Spans, exchange_of, gate_asked, page_asked, page_taken, stops_asked}
+use Rattle.convoy.specs.Replies.Course.{IsReading}
+use Rattle.convoy.specs.Replies.Made.{Made, TellsAll, reply_to}
+use Rattle.convoy.specs.Replies.Met.{CountAlong, HasFailedBetween, Met, failures_in}
+use Rattle.convoy.proofs.RepliesLemmas.ClientsLemmas.{failed_last, same_counts, waits_at_gate, waits_for_stops}
+use Rattle.convoy.proofs.RepliesLemmas.CourseLemmas.{not_behind, stands_last}
+use Rattle.convoy.proofs.RepliesLemmas.MadeLemmas.{tells_more, tells_none}
+use Rattle.convoy.proofs.RepliesLemmas.MetLemmas.{along_more}
+use Rattle.convoy.proofs.RepliesLemmas.StepLemmas.{At, AtGate, AtPage, AtStops, Moves, Spans, exchange_of, gate_asked, page_asked, page_taken, stops_asked}
 use Rattle.rounds_client.specs.Course.{LeadsTo, Point}
 use Rattle.rounds_client.specs.Given.{AfterReply, Gives, GivesStops, GivesPage, KeepsDoc, ReadsReply, TakesDoc, TakesGot, Was}
 use Rattle.laws_rounds.proofs.ReadLemmas.{ReadAt, ReadsGiven, kept_by_none, kept_by_reply, read_after_gate, read_after_page, read_after_stops}

@@ -2,10 +2,10 @@
 use Rattle.std.specs.Prelude.{ℕ, List, ◌++◌, Option, Some}
 use Rattle.change_rounds.specs.Fewest.{IsFewestChain}
 use Rattle.connection_uri.specs.Base.{BaseParts}
-use Rattle.laws_replies.specs.Course.{connections_in}
-use Rattle.laws_replies.specs.Ends.{EndsBy}
-use Rattle.laws_replies.specs.Made.{Made}
-use Rattle.laws_replies.specs.Run.{HasAsked}
+use Rattle.convoy.specs.Replies.Course.{connections_in}
+use Rattle.convoy.specs.Replies.Ends.{EndsBy}
+use Rattle.convoy.specs.Replies.Made.{Made}
+use Rattle.convoy.specs.Replies.Run.{HasAsked}
 use Rattle.lc_model.specs.declared.query.Query.{Query}
 use Rattle.lc_world.specs.Link.{LinkSeen}
 use Rattle.page_client.specs.declared.outcome.Outcome.{Outcome}

@@ -1,7 +1,7 @@
 -- That a client of the fewest rides ends by the replies that it got, and in one way.
 use Rattle.std.specs.Prelude.{◌≡◌, ℕ, length, Option}
 use Rattle.connection_uri.specs.Base.{BaseParts}
-use Rattle.laws_replies.specs.Laws.{SayTheSame, replies_of}
+use Rattle.convoy.specs.Replies.Laws.{SayTheSame, replies_of}
 use Rattle.lc_model.specs.declared.query.Query.{Query}
 use Rattle.lc_world.specs.Link.{LinkSeen}
 use Rattle.page_client.specs.declared.outcome.Outcome.{Outcome}

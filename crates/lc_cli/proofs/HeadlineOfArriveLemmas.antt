@@ -19,7 +19,7 @@ use Rattle.laws_arrive.specs.Latest.{LatestAt, NeededBackAt}
 use Rattle.laws_arrive.specs.Requests.{page_request, requests_of}
 use Rattle.laws_arrive.specs.Right.{EndsAt, HasLatest}
 use Rattle.laws_arrive.specs.Ends.{EndsBackBy}
-use Rattle.laws_replies.specs.Made.{Made}
+use Rattle.convoy.specs.Replies.Made.{Made}
 use Rattle.convoy.specs.ClientLaws.Stated.{version_at}
 use Rattle.lc_io.specs.declared.file.File.{File}
 use Rattle.lc_model.specs.Journey.{arrives_at}

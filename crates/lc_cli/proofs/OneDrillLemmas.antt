@@ -17,7 +17,7 @@ use Rattle.laws_replay.proofs.OneHeardLemmas.{one_course_heard}
 use Rattle.laws_replay.specs.Events.{messages_in}
 use Rattle.laws_replay.specs.OneCourse.{IsPlayedOut, OneCourse}
 use Rattle.laws_replay.specs.declared.event.Event.{Event}
-use Rattle.laws_replies.specs.Laws.{SayTheSame}
+use Rattle.convoy.specs.Replies.Laws.{SayTheSame}
 use Rattle.lc_model.specs.Versions.History.{Entry}
 use Rattle.lc_model.specs.declared.doc.StopsDoc.{StopsDoc}
 use Rattle.lc_model.specs.declared.journey.Journey.{Journey}

@@ -4,8 +4,8 @@ use Rattle.std.specs.List.{slice_get}
 use Rattle.cli_ask.specs.Client.{shown_of}
 use Rattle.cli_ask.specs.declared.end.ClientEnd.{ClientEnd}
 use Rattle.convoy.specs.ClientLaws.Fits.{HasEnded}
-use Rattle.laws_replies.specs.Ends.{EndsBy}
-use Rattle.laws_replies.specs.Made.{Made}
+use Rattle.convoy.specs.Replies.Ends.{EndsBy}
+use Rattle.convoy.specs.Replies.Made.{Made}
 use Rattle.cli_inputs.specs.Script.{IsEventOf, IsReplayRefused, ReadsEvents, ReadsReplay, StopsAtRecord}
 use Rattle.cli_inputs.specs.declared.refusal.Refusal.{Refusal}
 use Rattle.cli_inputs.specs.declared.refusal.Refusal.TheVariants as refused

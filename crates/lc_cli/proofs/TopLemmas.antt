@@ -9,7 +9,7 @@ use Rattle.cli_ask.specs.Client.{shown_of}
 use Rattle.cli_ask.specs.Publishing.{side_for, side_with, store_of}
 use Rattle.laws_arrive.specs.Right.{EndsAt}
 use Rattle.convoy.specs.ClientLaws.Fits.{HasEnded}
-use Rattle.laws_replies.specs.Ends.{EndsBy}
+use Rattle.convoy.specs.Replies.Ends.{EndsBy}
 use Rattle.cli_words.specs.Words.{SaysCommand}
 use Rattle.cli_words.specs.declared.command.Publishing.{Publishing}
 use Rattle.cli_words.specs.declared.command.Serve.{Serve}

@@ -1,7 +1,7 @@
 use Rattle.std.proofs.Common.{◌≡◌, ◌∙◌, ◌+◌, ◌-◌, ℕ, ap, length, subst}
 use Rattle.std.specs.List.{slice_get}
 use Rattle.std.specs.Option.{IfSome}
-use Rattle.laws_replies.specs.Run.{HasRun}
+use Rattle.convoy.specs.Replies.Run.{HasRun}
 use Rattle.convoy.specs.Finish.{Rounds}
 use Rattle.convoy.specs.State.{Adds, ConvoyState, begun}
 use Rattle.convoy.specs.declared.member.Member.{Member}

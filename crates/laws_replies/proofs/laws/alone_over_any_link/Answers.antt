@@ -1,5 +1,0 @@
-use Rattle.laws_replies.proofs.RunLemmas.{ends_by_its_replies}
-use Rattle.laws_replies.proofs.laws.alone_over_any_link.Goals as goal
-
-pub returns : goal.returns
-returns g c = ends_by_its_replies g.L.Link.seen
