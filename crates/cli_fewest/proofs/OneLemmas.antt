@@ -7,8 +7,8 @@ use Rattle.cli_ask.specs.Laws.{OneOutput}
 use Rattle.cli_ask.specs.Publishing.{side_with}
 use Rattle.cli_fewest.specs.Client.{HasFewestRides}
 use Rattle.cli_fewest.specs.Laws.{OneFewestOutput}
-use Rattle.laws_rounds.specs.Version.{AlikeAt, FewestAt}
-use Rattle.laws_rounds.specs.ReplyLaws.{HaveAsManyRides}
+use Rattle.rounds_client.specs.Ends.Version.{AlikeAt, FewestAt}
+use Rattle.rounds_client.specs.Ends.ReplyLaws.{HaveAsManyRides}
 use Rattle.convoy.specs.ClientLaws.Stated.{version_at}
 use Rattle.lc_model.specs.declared.journey.Journey.{Journey}
 use Rattle.lc_model.specs.declared.query.Query.{Query}

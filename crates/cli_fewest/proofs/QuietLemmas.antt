@@ -16,13 +16,13 @@ use Rattle.convoy.proofs.AgreementLemmas.RepliesLemmas.{Replied, exchange_replie
 use Rattle.convoy.specs.Agreement.OneClient.{version_of}
 use Rattle.convoy.specs.Agreement.Replies.{IsRepliedBy, TellsReplies}
 use Rattle.convoy.specs.Agreement.Requests.{TellsAsked}
-use Rattle.laws_rounds.specs.Version.{FewestAt, FewestOfNeededAt}
+use Rattle.rounds_client.specs.Ends.Version.{FewestAt, FewestOfNeededAt}
 use Rattle.convoy.specs.Replies.Ends.{EndsBy}
 use Rattle.convoy.specs.Replies.Made.{Made}
-use Rattle.laws_rounds.proofs.CourseLemmas.{AskedJust, AskedOneMore, SoFar, none_so_far, so_far}
-use Rattle.laws_rounds.proofs.EndLemmas.{fewest_ends_right}
-use Rattle.laws_rounds.specs.Right.{EndsAt, IsNamed, IsNamedByGate, IsRight}
-use Rattle.laws_rounds.specs.Asked.{HasAskedFewest}
+use Rattle.rounds_client.proofs.EndsLemmas.CourseLemmas.{AskedJust, AskedOneMore, SoFar, none_so_far, so_far}
+use Rattle.rounds_client.proofs.EndsLemmas.EndLemmas.{fewest_ends_right}
+use Rattle.rounds_client.specs.Ends.Right.{EndsAt, IsNamed, IsNamedByGate, IsRight}
+use Rattle.rounds_client.specs.Ends.Asked.{HasAskedFewest}
 use Rattle.convoy.specs.ClientLaws.Stated.{version_at}
 use Rattle.lc_model.specs.declared.answer.Answer.TheVariants as answers
 use Rattle.lc_model.specs.declared.journey.Journey.{Journey}

@@ -9,7 +9,7 @@ use Rattle.cli_words.specs.declared.command.Publishing.{Publishing}
 use Rattle.connection_uri.specs.Base.{BaseParts}
 use Rattle.fragmenter.specs.Cutting.{chosen_cuts}
 use Rattle.fragmenter.specs.declared.cutting.Cutting.{Cutting}
-use Rattle.laws_rounds.specs.Asked.{HasAskedFewest, HasFewestRead}
+use Rattle.rounds_client.specs.Ends.Asked.{HasAskedFewest, HasFewestRead}
 use Rattle.lc_io.specs.declared.file.File.{File}
 use Rattle.lc_model.specs.declared.query.Query.{Query}
 use Rattle.lc_world.specs.Link.{LinkSeen}

@@ -3,7 +3,7 @@ use Rattle.std.specs.Prelude.{List, Option, Some}
 use Rattle.cli_ask.specs.Client.{EndsRight}
 use Rattle.cli_ask.specs.declared.end.ClientEnd.{ClientEnd}
 use Rattle.connection_uri.specs.Base.{BaseParts}
-use Rattle.laws_rounds.specs.Version.{FewestAt}
+use Rattle.rounds_client.specs.Ends.Version.{FewestAt}
 use Rattle.convoy.specs.ClientLaws.Stated.{version_at}
 use Rattle.lc_model.specs.declared.query.Query.{Query}
 use Rattle.lc_world.specs.declared.entry.Entry.{Entry}

@@ -4,7 +4,7 @@ use Rattle.cli_ask.specs.Laws.{IsFair, PrintOneClient}
 use Rattle.cli_ask.specs.declared.end.ClientEnd.{ClientEnd}
 use Rattle.cli_fewest.specs.Asked.{IsAskedFewest}
 use Rattle.cli_words.specs.declared.command.Publishing.{Publishing}
-use Rattle.laws_rounds.specs.ReplyLaws.{HaveAsManyRides}
+use Rattle.rounds_client.specs.Ends.ReplyLaws.{HaveAsManyRides}
 use Rattle.lc_io.specs.declared.file.File.{File}
 use Rattle.lc_model.specs.declared.query.Query.{Query}
 use Rattle.lc_world.specs.Link.{LinkSeen}

@@ -1,7 +1,7 @@
 ghost use Rattle.std.specs.Prelude.{◌≡◌, IfOk};
 ghost use Rattle.cli_ask.specs.Block.{IsPrintable};
 ghost use Rattle.cli_fewest.specs.Client.{EndsRightFewest, client_of};
-ghost use Rattle.laws_rounds.specs.Asked.{HasAskedFewest};
+ghost use Rattle.rounds_client.specs.Ends.Asked.{HasAskedFewest};
 ghost use Rattle.lc_world.specs.GoneOn.{IsLeftByGets};
 ghost use Rattle.lc_world.specs.Link.{IsQuietWith};
 ghost use Rattle.lc_world.specs.Sides.Side.{Side};
@@ -9,10 +9,9 @@ ghost use Rattle.lc_world.specs.Sides.Side.{Side};
 use cli_ask::ClientEnd;
 use connection_uri::Base;
 use convoy::steps_keep_agreement;
-use laws_rounds::{fewest_at_version, fewest_by_its_replies};
 use lc_model::{NoMemory, Query};
 use lc_world::Link;
-use rounds_client::{FewestEnd, fewest};
+use rounds_client::{FewestEnd, fewest, fewest_at_version, fewest_by_its_replies};
 use std::alloc::Global;
 
 /// Lets a client of the fewest rides ask alone, until it ends.

@@ -1,8 +1,8 @@
 ghost use Rattle.cli_fewest.specs.Laws.{OneFewestOutput};
 
 use cli_ask::one_output;
-use laws_rounds::fewest_at_version;
 use lc_world::Link;
+use rounds_client::fewest_at_version;
 use version_store::one_outcome;
 
 /// What is printed of a question for the fewest rides is one, but for the way of the journey, where the replies come as the publisher gave

@@ -1,7 +1,7 @@
 -- Two ends with the fewest rides are alike, and what is near one of them is none.
 use Rattle.std.proofs.Common.{◌≡◌, ◌∙◌, Option, Some, None, length, refl, subst, sym, arith}
 use Rattle.cli_ask.specs.declared.end.ClientEnd.{ClientEnd}
-use Rattle.laws_rounds.specs.Version.{AlikeAt, FewestAt}
+use Rattle.rounds_client.specs.Ends.Version.{AlikeAt, FewestAt}
 use Rattle.lc_model.specs.declared.journey.Journey.{Journey}
 use Rattle.lc_model.specs.declared.query.Query.{Query}
 use Rattle.page_client.specs.Shown.{answered}

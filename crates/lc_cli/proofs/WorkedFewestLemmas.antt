@@ -7,7 +7,7 @@ use Rattle.std.proofs.lemmas.List.Sums.{AllPass-from_list_all}
 use Rattle.std.proofs.lemmas.Slice.Eq.{bytes_eq-Decides}
 use Rattle.cli_ask.specs.Publishing.{side_with, store_of}
 use Rattle.cli_words.specs.declared.command.Publishing.{Publishing}
-use Rattle.laws_rounds.specs.Version.{FewestAt}
+use Rattle.rounds_client.specs.Ends.Version.{FewestAt}
 use Rattle.lc_model.specs.Change.{is_same_id}
 use Rattle.lc_model.specs.Journey.{AreRides, IsBest, IsJourney, alight_of, arrival_of_rides, arrives_at, board_of}
 use Rattle.lc_model.specs.Ride.{IsRideAt}

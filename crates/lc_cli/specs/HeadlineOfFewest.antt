@@ -7,7 +7,7 @@ use Rattle.cli_words.specs.Words.{SaysCommand}
 use Rattle.cli_words.specs.declared.command.Command.TheVariants as commands
 use Rattle.cli_words.specs.declared.command.Fewest.{Fewest}
 use Rattle.convoy.specs.ClientLaws.Answered.{NeededAt}
-use Rattle.laws_rounds.specs.Version.{FewestAt}
+use Rattle.rounds_client.specs.Ends.Version.{FewestAt}
 use Rattle.lc_io.specs.declared.file.File.{File}
 use Rattle.lc_model.specs.declared.journey.Journey.{Journey}
 use Rattle.lc_model.specs.declared.page.PageName.{PageName}

@@ -20,9 +20,9 @@ use journey_text::one_script;
 use laws_arrive::one_latest_answer;
 use laws_plan::{one_growing_plan, one_plan};
 use laws_replay::one_course;
-use laws_rounds::fewest_at_version;
 use lc_world::Link;
 use page_relay::Relay;
+use rounds_client::fewest_at_version;
 use timetable::{one_end, one_timetable};
 use version_store::one_outcome;
 

@@ -1,4 +1,5 @@
 pub mod CourseLemmas
+pub mod EndsLemmas
 mod MomentLemmas
 pub mod StartLemmas
 pub mod StopsLemmas

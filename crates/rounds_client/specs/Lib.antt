@@ -1,3 +1,4 @@
 pub mod Course
 pub mod End
+pub mod Ends
 pub mod Given

@@ -1,7 +1,7 @@
 use Rattle.std.proofs.Common.{subst, sym}
 use Rattle.cli_ask.specs.Block.{IsPrintable}
 use Rattle.cli_ask.specs.declared.end.ClientEnd.{ClientEnd}
-use Rattle.laws_rounds.specs.Asked.{HasAskedFewest}
+use Rattle.rounds_client.specs.Ends.Asked.{HasAskedFewest}
 use Rattle.cli_fewest.specs.Client.{EndsRightFewest}
 use Rattle.cli_fewest.proofs.QuietLemmas.{ends_fewest, printable}
 use Rattle.cli_fewest.proofs.client.client_end.Goals as goal
