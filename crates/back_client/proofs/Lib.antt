@@ -1,2 +1,3 @@
+mod EndsLemmas
 pub mod StepLemmas
 pub mod WalkLemmas

@@ -1,4 +1,5 @@
 pub mod Arrives
+pub mod Ends
 pub mod Exchange
 pub mod Steps
 pub mod Wrong

@@ -4,6 +4,7 @@
 #![tactic(auto)]
 
 mod asking;
+mod ends;
 mod exchange;
 mod outcome;
 mod page;
@@ -12,4 +13,9 @@ mod step;
 mod walk;
 
 pub use asking::arrive;
+pub use ends::{
+    earlier_may_go, journeys_back, latest_by_its_replies, latest_ends_right,
+    latest_faults_are_around_last, near_ends_are_wrong, needed_back_are_taken, one_latest_answer,
+    one_latest_by_replies, one_latest_end, one_list_of_needed_back, pages_back_may_be_all,
+};
 pub use outcome::ArriveEnd;

@@ -12,7 +12,7 @@ use Rattle.cli_words.specs.declared.command.Publishing.{Publishing}
 use Rattle.connection_uri.specs.Base.{BaseParts}
 use Rattle.fragmenter.specs.Cutting.{chosen_cuts}
 use Rattle.fragmenter.specs.declared.cutting.Cutting.{Cutting}
-use Rattle.laws_arrive.specs.Asked.{HasAskedLatest}
+use Rattle.back_client.specs.Ends.Asked.{HasAskedLatest}
 use Rattle.lc_io.specs.declared.file.File.{File}
 use Rattle.lc_links.specs.HomeLink.{HomeLinkState}
 use Rattle.lc_world.specs.Link.{IsQuietWith, LinkSeen}

@@ -11,11 +11,11 @@ use Rattle.cli_ask.specs.Block.{client_text_of}
 use Rattle.cli_ask.specs.Publishing.{side_with, store_of}
 use Rattle.cli_ask.specs.declared.end.ClientEnd.{ClientEnd}
 use Rattle.connection_uri.specs.Base.{BaseParts}
-use Rattle.laws_arrive.specs.Latest.{LatestAt, NeededBackAt, departure_of}
-use Rattle.laws_arrive.specs.Laws.{OneDepartureAt, OneListOfNeededBackAt}
-use Rattle.laws_arrive.specs.Requests.{requests_of}
-use Rattle.laws_arrive.specs.Right.{EndsAt, HasLatest, IsRefused}
-use Rattle.laws_arrive.specs.ReplyLaws.{SayOneLatest}
+use Rattle.back_client.specs.Ends.Latest.{LatestAt, NeededBackAt, departure_of}
+use Rattle.back_client.specs.Ends.Laws.{OneDepartureAt, OneListOfNeededBackAt}
+use Rattle.back_client.specs.Ends.Requests.{requests_of}
+use Rattle.back_client.specs.Ends.Right.{EndsAt, HasLatest, IsRefused}
+use Rattle.back_client.specs.Ends.ReplyLaws.{SayOneLatest}
 use Rattle.convoy.specs.ClientLaws.Published.{IsPublished, Published}
 use Rattle.convoy.specs.ClientLaws.Stated.{version_at}
 use Rattle.lc_io.specs.Counts.{Rose}

@@ -13,9 +13,9 @@ use Rattle.cli_ask.specs.Block.{IsPrintable}
 use Rattle.cli_arrive.specs.Client.{EndsRightLatest, client_of}
 use Rattle.connection_uri.specs.Base.{BaseParts}
 use Rattle.convoy.specs.Exchange.{Got, bytes_of, result_of}
-use Rattle.laws_arrive.specs.Right.{EndsAt, IsNamed, IsRight}
-use Rattle.laws_arrive.specs.Asked.{HasAskedLatest}
-use Rattle.laws_arrive.specs.Ends.{EndsBackBy}
+use Rattle.back_client.specs.Ends.Right.{EndsAt, IsNamed, IsRight}
+use Rattle.back_client.specs.Ends.Asked.{HasAskedLatest}
+use Rattle.back_client.specs.Ends.Ends.{EndsBackBy}
 use Rattle.convoy.proofs.AgreementLemmas.HonestLemmas.{is_get}
 use Rattle.convoy.proofs.AgreementLemmas.RepliesLemmas.{Replied, one_more, recorded_no_more, replied_by, tells_replies_then}
 use Rattle.convoy.specs.Agreement.Replies.{IsRepliedBy}

@@ -7,8 +7,8 @@ use Rattle.back_scan.specs.Latest.{IsLatestDeparture}
 use Rattle.back_scan.specs.declared.arrive_query.ArriveQuery.{ArriveQuery}
 use Rattle.cli_arrive.specs.Laws.{SomeWanted}
 use Rattle.cli_ask.proofs.WantsLemmas.{has_ends}
-use Rattle.laws_arrive.specs.Requests.{AreWanted}
-use Rattle.laws_arrive.specs.NeededBack.{needed_pages_back}
+use Rattle.back_client.specs.Ends.Requests.{AreWanted}
+use Rattle.back_client.specs.Ends.NeededBack.{needed_pages_back}
 use Rattle.convoy.specs.ClientLaws.Answered.{names_at}
 use Rattle.convoy.specs.ClientLaws.Wants.{HasEnds}
 use Rattle.convoy.proofs.ClientLawsLemmas.PublishedLemmas.{is_lawful, is_timetable, made_of}

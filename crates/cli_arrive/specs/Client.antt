@@ -5,7 +5,7 @@ use Rattle.back_client.specs.declared.outcome.ArriveEnd.{ArriveEnd}
 use Rattle.back_scan.specs.declared.arrive_query.ArriveQuery.{ArriveQuery}
 use Rattle.cli_ask.specs.declared.end.ClientEnd.{ClientEnd}
 use Rattle.connection_uri.specs.Base.{BaseParts}
-use Rattle.laws_arrive.specs.Right.{EndsAt}
+use Rattle.back_client.specs.Ends.Right.{EndsAt}
 use Rattle.convoy.specs.Agreement.Replies.{TellsReplies}
 use Rattle.convoy.specs.Agreement.Requests.{TellsRequests}
 use Rattle.convoy.specs.ClientLaws.Stated.{version_at}

@@ -7,8 +7,8 @@ use Rattle.cli_ask.specs.Block.{client_text_of}
 use Rattle.cli_ask.specs.Laws.{IsFair}
 use Rattle.cli_ask.specs.declared.end.ClientEnd.{ClientEnd}
 use Rattle.cli_words.specs.declared.command.Publishing.{Publishing}
-use Rattle.laws_arrive.specs.Requests.{AreWanted}
-use Rattle.laws_arrive.specs.ReplyLaws.{SayOneLatest}
+use Rattle.back_client.specs.Ends.Requests.{AreWanted}
+use Rattle.back_client.specs.Ends.ReplyLaws.{SayOneLatest}
 use Rattle.lc_io.specs.declared.file.File.{File}
 use Rattle.lc_model.specs.declared.page.PageName.{PageName}
 use Rattle.lc_world.specs.Link.{LinkSeen}

@@ -1,7 +1,7 @@
 ghost use Rattle.cli_arrive.specs.Laws.{OneLatestOutput, SomeWanted};
 
+use back_client::one_latest_answer;
 use convoy::some_least_arrival;
-use laws_arrive::one_latest_answer;
 use lc_world::Link;
 use publisher::some_timetable;
 use version_store::one_outcome;

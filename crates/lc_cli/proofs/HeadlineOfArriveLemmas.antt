@@ -15,10 +15,10 @@ use Rattle.cli_words.specs.declared.command.Arrive.{Arrive}
 use Rattle.cli_words.specs.declared.command.Command.{Command}
 use Rattle.cli_words.specs.declared.command.Command.TheVariants as commands
 use Rattle.connection_uri.specs.Base.{BaseParts}
-use Rattle.laws_arrive.specs.Latest.{LatestAt, NeededBackAt}
-use Rattle.laws_arrive.specs.Requests.{page_request, requests_of}
-use Rattle.laws_arrive.specs.Right.{EndsAt, HasLatest}
-use Rattle.laws_arrive.specs.Ends.{EndsBackBy}
+use Rattle.back_client.specs.Ends.Latest.{LatestAt, NeededBackAt}
+use Rattle.back_client.specs.Ends.Requests.{page_request, requests_of}
+use Rattle.back_client.specs.Ends.Right.{EndsAt, HasLatest}
+use Rattle.back_client.specs.Ends.Ends.{EndsBackBy}
 use Rattle.convoy.specs.Replies.Made.{Made}
 use Rattle.convoy.specs.ClientLaws.Stated.{version_at}
 use Rattle.lc_io.specs.declared.file.File.{File}

@@ -3,8 +3,8 @@ use Rattle.std.proofs.Common.{◌≡◌, ◌∙◌, ◌∷◌, ◌++◌, [], Lis
 use Rattle.back_scan.specs.Forward.{forward_query}
 use Rattle.back_scan.specs.declared.arrive_query.ArriveQuery.{ArriveQuery}
 use Rattle.cli_ask.specs.declared.end.ClientEnd.{ClientEnd}
-use Rattle.laws_arrive.specs.Latest.{LatestAt}
-use Rattle.laws_arrive.specs.Laws.{OneDepartureAt, OneListOfNeededBackAt}
+use Rattle.back_client.specs.Ends.Latest.{LatestAt}
+use Rattle.back_client.specs.Ends.Laws.{OneDepartureAt, OneListOfNeededBackAt}
 use Rattle.convoy.specs.ClientLaws.Stated.{version_at}
 use Rattle.lc_model.specs.Journey.{leaves_at}
 use Rattle.lc_model.specs.declared.journey.Journey.{Journey}

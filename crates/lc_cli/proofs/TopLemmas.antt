@@ -7,7 +7,7 @@ use Rattle.cli_ask.specs.Admission.{IsBehind, IsIgnored}
 use Rattle.cli_ask.specs.Asked.{IsAsked}
 use Rattle.cli_ask.specs.Client.{shown_of}
 use Rattle.cli_ask.specs.Publishing.{side_for, side_with, store_of}
-use Rattle.laws_arrive.specs.Right.{EndsAt}
+use Rattle.back_client.specs.Ends.Right.{EndsAt}
 use Rattle.convoy.specs.ClientLaws.Fits.{HasEnded}
 use Rattle.convoy.specs.Replies.Ends.{EndsBy}
 use Rattle.cli_words.specs.Words.{SaysCommand}

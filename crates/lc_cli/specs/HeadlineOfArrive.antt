@@ -9,7 +9,7 @@ use Rattle.cli_serve.specs.Written.{Wrote}
 use Rattle.cli_words.specs.Words.{SaysCommand}
 use Rattle.cli_words.specs.declared.command.Arrive.{Arrive}
 use Rattle.cli_words.specs.declared.command.Command.TheVariants as commands
-use Rattle.laws_arrive.specs.Latest.{LatestAt, NeededBackAt}
+use Rattle.back_client.specs.Ends.Latest.{LatestAt, NeededBackAt}
 use Rattle.convoy.specs.ClientLaws.Stated.{version_at}
 use Rattle.lc_io.specs.declared.file.File.{File}
 use Rattle.lc_model.specs.Journey.{arrives_at}

@@ -6,7 +6,7 @@ use Rattle.back_scan.specs.declared.arrive_query.ArriveQuery.{ArriveQuery}
 use Rattle.cli_ask.specs.Publishing.{side_with, store_of}
 use Rattle.cli_ask.specs.declared.end.ClientEnd.{ClientEnd}
 use Rattle.cli_words.specs.declared.command.Publishing.{Publishing}
-use Rattle.laws_arrive.specs.Latest.{LatestAt}
+use Rattle.back_client.specs.Ends.Latest.{LatestAt}
 use Rattle.lc_model.specs.Journey.{leaves_at}
 use Rattle.lc_model.specs.declared.answer.Answer.{Answer}
 use Rattle.lc_model.specs.declared.answer.Answer.TheVariants as answers

@@ -10,6 +10,7 @@ ghost use Rattle.lc_cli.specs.OnePlan.{OneNamedPlan, OneQuietPlan};
 ghost use Rattle.lc_cli.specs.OneRelay.{OneNamedRelay, OneQuietRelay};
 ghost use Rattle.lc_cli.specs.OneServing.{BeginsFromIt, NotAnotherBase, NotMadeUp, NotUnasked, OneServing, OneSide};
 
+use back_client::one_latest_answer;
 use cli_arrive::one_latest_output;
 use cli_ask::one_output;
 use cli_fewest::one_fewest_output;
@@ -17,7 +18,6 @@ use cli_plan::relays_plan_right;
 use cli_serve::one_over_bytes;
 use cli_words::one_command;
 use journey_text::one_script;
-use laws_arrive::one_latest_answer;
 use laws_plan::{one_growing_plan, one_plan};
 use laws_replay::one_course;
 use lc_world::Link;

@@ -1,7 +1,7 @@
 use Rattle.std.proofs.Common.{subst, sym}
 use Rattle.cli_ask.specs.Block.{IsPrintable}
 use Rattle.cli_ask.specs.declared.end.ClientEnd.{ClientEnd}
-use Rattle.laws_arrive.specs.Asked.{HasAskedLatest}
+use Rattle.back_client.specs.Ends.Asked.{HasAskedLatest}
 use Rattle.cli_arrive.specs.Client.{EndsRightLatest}
 use Rattle.cli_arrive.proofs.QuietLemmas.{ends_right_latest, printable}
 use Rattle.cli_arrive.proofs.client.client_end.Goals as goal

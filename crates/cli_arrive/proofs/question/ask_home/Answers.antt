@@ -1,7 +1,7 @@
 use Rattle.std.proofs.Common.{◌≡◌, ◌++◌}
 use Rattle.lc_world.specs.Link.{IsQuietWith}
 use Rattle.lc_world.specs.Sides.Side.{Side}
-use Rattle.laws_arrive.specs.Asked.{HasAskedLatest}
+use Rattle.back_client.specs.Ends.Asked.{HasAskedLatest}
 use Rattle.cli_ask.proofs.HomeLemmas.{home_seen, left_outside, of_end}
 use Rattle.cli_ask.specs.Block.{client_text_of}
 use Rattle.cli_ask.specs.declared.end.ClientEnd.{ClientEnd}

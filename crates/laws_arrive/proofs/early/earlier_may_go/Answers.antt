@@ -1,5 +1,0 @@
-use Rattle.laws_arrive.proofs.EarlyLemmas.{earlier_may_go, later_may_go}
-use Rattle.laws_arrive.proofs.early.earlier_may_go.Goals as goal
-
-pub returns : goal.returns
-returns c = record { earlier = earlier_may_go; later = later_may_go }

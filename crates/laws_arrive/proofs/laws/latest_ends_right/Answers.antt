@@ -1,8 +1,0 @@
-use Rattle.laws_arrive.proofs.EndLemmas as lemmas
-use Rattle.laws_arrive.proofs.NamedLemmas.{named_at_gate}
-use Rattle.laws_arrive.proofs.laws.latest_ends_right.Goals as goal
-
-pub returns : goal.returns
-returns g c =
-    let seen = g.L.Link.seen in
-    record { right = lemmas.latest_ends_right seen; found = lemmas.latest_is_found seen; gate = named_at_gate seen }

@@ -1,5 +1,0 @@
-use Rattle.laws_arrive.proofs.AroundLemmas.{latest_faults_are_around_last, no_latest_fault_is_shrunken}
-use Rattle.laws_arrive.proofs.replies.latest_faults_are_around_last.Goals as goal
-
-pub returns : goal.returns
-returns g c = record { around = latest_faults_are_around_last g.L.Link.seen; shrunken = no_latest_fault_is_shrunken g.L.Link.seen }

@@ -1,5 +1,0 @@
-use Rattle.laws_arrive.proofs.OneLemmas.{one_latest_by_replies}
-use Rattle.laws_arrive.proofs.replies.one_latest_by_replies.Goals as goal
-
-pub returns : goal.returns
-returns g c = one_latest_by_replies g.L.Link.seen g.M.Link.seen
