@@ -1,5 +1,6 @@
 pub mod AdmissionLemmas
 pub mod ClientLemmas
+mod FewestRidesLemmas
 pub mod HomeLemmas
 pub mod OneAnswerLemmas
 pub mod OneOutputLemmas

@@ -4,7 +4,7 @@ use Rattle.cli_arrive.specs.Laws.{OneLatestOutput, PrintOneLatest}
 use Rattle.cli_ask.specs.Laws.{IsFair, OneOutput, PrintOneClient}
 use Rattle.cli_ask.specs.Publishing.{side_with}
 use Rattle.cli_ask.specs.declared.end.ClientEnd.{ClientEnd}
-use Rattle.cli_fewest.specs.Laws.{OneFewestOutput, PrintOneFewest}
+use Rattle.cli_ask.specs.FewestRides.Laws.{OneFewestOutput, PrintOneFewest}
 use Rattle.cli_words.specs.Laws.{OneCommand}
 use Rattle.cli_words.specs.Words.{SaysCommand}
 use Rattle.cli_words.specs.declared.command.Command.{Command}

@@ -6,7 +6,7 @@ use Rattle.cli_ask.specs.Publishing.{side_for, side_with, store_of}
 use Rattle.cli_arrive.specs.Laws.{OneLatestOutput}
 use Rattle.cli_ask.specs.Laws.{AreOneEnd, OneOutput}
 use Rattle.cli_ask.specs.declared.end.ClientEnd.{ClientEnd}
-use Rattle.cli_fewest.specs.Laws.{OneFewestOutput}
+use Rattle.cli_ask.specs.FewestRides.Laws.{OneFewestOutput}
 use Rattle.back_client.specs.Ends.ReplyLaws.{SayOneLatest}
 use Rattle.convoy.specs.Replies.Laws.{SayTheSame}
 use Rattle.cli_words.specs.Laws.{OneCommand}

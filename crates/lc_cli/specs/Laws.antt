@@ -4,7 +4,7 @@ use Rattle.std.specs.List.{AllZip}
 use Rattle.cli_arrive.specs.Laws.{PrintOneLatest}
 use Rattle.cli_ask.specs.Laws.{AreOneEnd, PrintOneClient}
 use Rattle.cli_ask.specs.declared.end.ClientEnd.{ClientEnd}
-use Rattle.cli_fewest.specs.Laws.{PrintOneFewest}
+use Rattle.cli_ask.specs.FewestRides.Laws.{PrintOneFewest}
 use Rattle.cli_words.specs.Words.{SaysCommand}
 use Rattle.cli_words.specs.declared.command.Command.{Command}
 use Rattle.cli_words.specs.declared.command.Command.TheVariants as commands

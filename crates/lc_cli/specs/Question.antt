@@ -4,7 +4,7 @@ use Rattle.cli_arrive.specs.Asked.{IsAskedLatest}
 use Rattle.cli_ask.specs.Asked.{IsAsked}
 use Rattle.cli_ask.specs.declared.end.ClientEnd.{ClientEnd}
 use Rattle.cli_ask.specs.declared.question.Asked.{Asked}
-use Rattle.cli_fewest.specs.Asked.{IsAskedFewest}
+use Rattle.cli_ask.specs.FewestRides.Asked.{IsAskedFewest}
 use Rattle.cli_words.specs.declared.command.Publishing.{Publishing}
 use Rattle.lc_io.specs.declared.file.File.{File}
 use Rattle.lc_world.specs.Link.{LinkSeen}

@@ -12,8 +12,7 @@ ghost use Rattle.lc_cli.specs.OneServing.{BeginsFromIt, NotAnotherBase, NotMadeU
 
 use back_client::one_latest_answer;
 use cli_arrive::one_latest_output;
-use cli_ask::one_output;
-use cli_fewest::one_fewest_output;
+use cli_ask::{one_fewest_output, one_output};
 use cli_plan::relays_plan_right;
 use cli_serve::one_over_bytes;
 use cli_words::one_command;

@@ -90,9 +90,7 @@ fn ask_publisher<L: Link>(
             cache as usize,
             link,
         ),
-        Asking::Fewest(query) => {
-            cli_fewest::ask_fewest(alloc, made, publishing, file, query, link)
-        }
+        Asking::Fewest(query) => { cli_ask::ask_fewest(alloc, made, publishing, file, query, link) }
         Asking::Latest(query) => {
             cli_arrive::ask_arrive(alloc, made, publishing, file, query, link)
         }

@@ -2,8 +2,8 @@ use Rattle.std.proofs.Common.{subst, sym}
 use Rattle.std.proofs.lemmas.Result.{IfOk-weaker}
 use Rattle.lc_world.specs.GoneOn.{IsLeftByPasses}
 use Rattle.lc_world.proofs.GoneOnLemmas.{no_passes}
-use Rattle.cli_fewest.proofs.HomeLemmas.{is_asked}
-use Rattle.cli_fewest.proofs.question.ask_fewest.Goals as goal
+use Rattle.cli_ask.proofs.FewestRidesLemmas.HomeLemmas.{is_asked}
+use Rattle.cli_ask.proofs.fewest_rides.question.ask_fewest.Goals as goal
 
 pub returns-in-Ok-clause-asked : goal.returns-in-Ok-clause-asked
 returns-in-Ok-clause-asked g c =

@@ -5,8 +5,8 @@ use Rattle.cli_ask.proofs.OneOutputLemmas.{first_side, second_side}
 use Rattle.cli_ask.proofs.SideLemmas.{dates_of, in_zone, live_at}
 use Rattle.cli_ask.specs.Laws.{OneOutput}
 use Rattle.cli_ask.specs.Publishing.{side_with}
-use Rattle.cli_fewest.specs.Client.{HasFewestRides}
-use Rattle.cli_fewest.specs.Laws.{OneFewestOutput}
+use Rattle.cli_ask.specs.FewestRides.Client.{HasFewestRides}
+use Rattle.cli_ask.specs.FewestRides.Laws.{OneFewestOutput}
 use Rattle.rounds_client.specs.Ends.Version.{AlikeAt, FewestAt}
 use Rattle.rounds_client.specs.Ends.ReplyLaws.{HaveAsManyRides}
 use Rattle.convoy.specs.ClientLaws.Stated.{version_at}

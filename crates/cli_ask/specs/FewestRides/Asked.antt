@@ -4,7 +4,7 @@ use Rattle.cli_ask.specs.Asked.{IsAsked}
 use Rattle.cli_ask.specs.Block.{client_text_of}
 use Rattle.cli_ask.specs.Publishing.{side_with}
 use Rattle.cli_ask.specs.declared.end.ClientEnd.{ClientEnd}
-use Rattle.cli_fewest.specs.Client.{EndsRightFewest, HasFewestRides}
+use Rattle.cli_ask.specs.FewestRides.Client.{EndsRightFewest, HasFewestRides}
 use Rattle.cli_words.specs.declared.command.Publishing.{Publishing}
 use Rattle.connection_uri.specs.Base.{BaseParts}
 use Rattle.fragmenter.specs.Cutting.{chosen_cuts}

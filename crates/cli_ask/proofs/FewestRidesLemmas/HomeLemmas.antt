@@ -5,8 +5,8 @@ use Rattle.cli_ask.specs.Block.{client_text_of}
 use Rattle.cli_ask.specs.Opening.{IsOpened}
 use Rattle.cli_ask.specs.Publishing.{held_with, side_with}
 use Rattle.cli_ask.specs.declared.end.ClientEnd.{ClientEnd}
-use Rattle.cli_fewest.specs.Asked.{AsksPublisher, IsAskedFewest}
-use Rattle.cli_fewest.specs.Client.{EndsRightFewest}
+use Rattle.cli_ask.specs.FewestRides.Asked.{AsksPublisher, IsAskedFewest}
+use Rattle.cli_ask.specs.FewestRides.Client.{EndsRightFewest}
 use Rattle.cli_words.specs.declared.command.Publishing.{Publishing}
 use Rattle.connection_uri.specs.Base.{BaseParts}
 use Rattle.fragmenter.specs.Cutting.{chosen_cuts}

@@ -2,7 +2,7 @@
 use Rattle.std.specs.Prelude.{ℕ, List, Option}
 use Rattle.cli_ask.specs.Laws.{IsFair, PrintOneClient}
 use Rattle.cli_ask.specs.declared.end.ClientEnd.{ClientEnd}
-use Rattle.cli_fewest.specs.Asked.{IsAskedFewest}
+use Rattle.cli_ask.specs.FewestRides.Asked.{IsAskedFewest}
 use Rattle.cli_words.specs.declared.command.Publishing.{Publishing}
 use Rattle.rounds_client.specs.Ends.ReplyLaws.{HaveAsManyRides}
 use Rattle.lc_io.specs.declared.file.File.{File}

@@ -5,7 +5,7 @@ use Rattle.std.proofs.lemmas.List.Elements.{All-nil}
 use Rattle.cli_ask.proofs.ClientLemmas.{at_end, same_end}
 use Rattle.cli_ask.specs.Block.{IsPrintable}
 use Rattle.cli_ask.specs.Client.{AsksFor, AsksOneMore, shown_of}
-use Rattle.cli_fewest.specs.Client.{EndsRightFewest, HasFewestRides, client_of}
+use Rattle.cli_ask.specs.FewestRides.Client.{EndsRightFewest, HasFewestRides, client_of}
 use Rattle.connection_uri.specs.Base.{BaseParts}
 use Rattle.convoy.specs.Exchange.{Got, IsExchange}
 use Rattle.convoy.specs.ClientLaws.Answered.{AnswersAt}

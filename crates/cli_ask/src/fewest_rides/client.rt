@@ -1,12 +1,12 @@
 ghost use Rattle.std.specs.Prelude.{◌≡◌, IfOk};
 ghost use Rattle.cli_ask.specs.Block.{IsPrintable};
-ghost use Rattle.cli_fewest.specs.Client.{EndsRightFewest, client_of};
+ghost use Rattle.cli_ask.specs.FewestRides.Client.{EndsRightFewest, client_of};
 ghost use Rattle.rounds_client.specs.Ends.Asked.{HasAskedFewest};
 ghost use Rattle.lc_world.specs.GoneOn.{IsLeftByGets};
 ghost use Rattle.lc_world.specs.Link.{IsQuietWith};
 ghost use Rattle.lc_world.specs.Sides.Side.{Side};
 
-use cli_ask::ClientEnd;
+use crate::ClientEnd;
 use connection_uri::Base;
 use convoy::steps_keep_agreement;
 use lc_model::{NoMemory, Query};

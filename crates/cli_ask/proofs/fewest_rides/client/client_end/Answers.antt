@@ -2,9 +2,9 @@ use Rattle.std.proofs.Common.{subst, sym}
 use Rattle.cli_ask.specs.Block.{IsPrintable}
 use Rattle.cli_ask.specs.declared.end.ClientEnd.{ClientEnd}
 use Rattle.rounds_client.specs.Ends.Asked.{HasAskedFewest}
-use Rattle.cli_fewest.specs.Client.{EndsRightFewest}
-use Rattle.cli_fewest.proofs.QuietLemmas.{ends_fewest, printable}
-use Rattle.cli_fewest.proofs.client.client_end.Goals as goal
+use Rattle.cli_ask.specs.FewestRides.Client.{EndsRightFewest}
+use Rattle.cli_ask.proofs.FewestRidesLemmas.QuietLemmas.{ends_fewest, printable}
+use Rattle.cli_ask.proofs.fewest_rides.client.client_end.Goals as goal
 
 pub returns-in-Ok-clause-asks : goal.returns-in-Ok-clause-asks
 returns-in-Ok-clause-asks g c =

@@ -1,6 +1,6 @@
-ghost use Rattle.cli_fewest.specs.Laws.{OneFewestOutput};
+ghost use Rattle.cli_ask.specs.FewestRides.Laws.{OneFewestOutput};
 
-use cli_ask::one_output;
+use crate::one_output;
 use lc_world::Link;
 use rounds_client::fewest_at_version;
 use version_store::one_outcome;

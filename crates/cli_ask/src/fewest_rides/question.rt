@@ -1,11 +1,11 @@
 ghost use Rattle.std.specs.Prelude.{◌≡◌, ◌≢◌, IfErr, IfOk};
 ghost use Rattle.cli_ask.specs.Admission.{IsFaulty};
-ghost use Rattle.cli_fewest.specs.Asked.{AsksPublisher, IsAskedFewest};
+ghost use Rattle.cli_ask.specs.FewestRides.Asked.{AsksPublisher, IsAskedFewest};
 ghost use Rattle.lc_world.specs.GoneOn.{IsLeftByPasses};
 ghost use Rattle.version_store.specs.declared.message_fault.MessageFault.TheVariants.{NoMemory as OutOfMemory};
 
-use crate::client::client_end;
-use cli_ask::{Asked, Opened, Unopened, open_home, printed};
+use crate::fewest_rides::client::client_end;
+use crate::{Asked, Opened, Unopened, open_home, printed};
 use cli_words::Publishing;
 use lc_io::File;
 use lc_model::Query;
