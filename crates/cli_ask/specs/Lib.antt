@@ -3,6 +3,7 @@ pub mod Asked
 pub mod Block
 pub mod Client
 pub mod FewestRides
+pub mod LatestDeparture
 pub mod Laws
 pub mod Opening
 pub mod Publishing

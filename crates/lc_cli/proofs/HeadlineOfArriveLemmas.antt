@@ -5,7 +5,7 @@ use Rattle.std.specs.List.{slice_get}
 use Rattle.std.specs.Option.{IfSome}
 use Rattle.back_scan.specs.Forward.{forward_query}
 use Rattle.back_scan.specs.declared.arrive_query.ArriveQuery.{ArriveQuery}
-use Rattle.cli_arrive.specs.Client.{EndsRightLatest}
+use Rattle.cli_ask.specs.LatestDeparture.Client.{EndsRightLatest}
 use Rattle.cli_ask.specs.Publishing.{side_with}
 use Rattle.cli_ask.specs.declared.end.ClientEnd.{ClientEnd}
 use Rattle.cli_serve.specs.Written.{Wrote}

@@ -1,6 +1,6 @@
 -- Two runs of one command over the same files print one output.
 use Rattle.std.proofs.Common.{◌≡◌, ◌∙◌, ◌+◌, ◌++◌, ℕ, List, codes, length, None, Some, Option, ap, refl, subst, sym}
-use Rattle.cli_arrive.specs.Laws.{OneLatestOutput, PrintOneLatest}
+use Rattle.cli_ask.specs.LatestDeparture.Laws.{OneLatestOutput, PrintOneLatest}
 use Rattle.cli_ask.specs.Laws.{IsFair, OneOutput, PrintOneClient}
 use Rattle.cli_ask.specs.Publishing.{side_with}
 use Rattle.cli_ask.specs.declared.end.ClientEnd.{ClientEnd}

@@ -3,7 +3,7 @@ use Rattle.std.proofs.Common.{◌≡◌, ◌∙◌, ◌⊎◌, ◌+◌, ◌∷�
 use Rattle.std.specs.List.{AllZip}
 use Rattle.std.specs.Option.{unwrap_or}
 use Rattle.cli_ask.specs.Publishing.{side_for, side_with, store_of}
-use Rattle.cli_arrive.specs.Laws.{OneLatestOutput}
+use Rattle.cli_ask.specs.LatestDeparture.Laws.{OneLatestOutput}
 use Rattle.cli_ask.specs.Laws.{AreOneEnd, OneOutput}
 use Rattle.cli_ask.specs.declared.end.ClientEnd.{ClientEnd}
 use Rattle.cli_ask.specs.FewestRides.Laws.{OneFewestOutput}

@@ -2,7 +2,7 @@
 use Rattle.std.proofs.Common.{◌≡◌, ◌∙◌, ◌⊎◌, ◌+◌, ◌∷◌, ℕ, inl, inr, Bool, false, List, [], None, Some, Option, Result, Ok, Err, ap, arith, refl, subst, sym}
 use Rattle.std.specs.Option.{unwrap_or}
 use Rattle.back_scan.specs.declared.arrive_query.ArriveQuery.{ArriveQuery}
-use Rattle.cli_arrive.specs.Asked.{IsAskedLatest}
+use Rattle.cli_ask.specs.LatestDeparture.Asked.{IsAskedLatest}
 use Rattle.cli_ask.specs.Admission.{IsBehind, IsIgnored}
 use Rattle.cli_ask.specs.Asked.{IsAsked}
 use Rattle.cli_ask.specs.Client.{shown_of}

@@ -1,7 +1,7 @@
 -- That what is printed is one, and so is the status.
 use Rattle.std.specs.Prelude.{◌≡◌, ◌⊎◌, ℕ, List, ◌++◌}
 use Rattle.std.specs.List.{AllZip}
-use Rattle.cli_arrive.specs.Laws.{PrintOneLatest}
+use Rattle.cli_ask.specs.LatestDeparture.Laws.{PrintOneLatest}
 use Rattle.cli_ask.specs.Laws.{AreOneEnd, PrintOneClient}
 use Rattle.cli_ask.specs.declared.end.ClientEnd.{ClientEnd}
 use Rattle.cli_ask.specs.FewestRides.Laws.{PrintOneFewest}

@@ -1,6 +1,6 @@
 -- Questions to an in-process publisher, and what each results in.
 use Rattle.std.specs.Prelude.{◌≡◌, ◌≢◌, ◌≤◌, ℕ, List, [], ◌∷◌, Option, Ok, Err, Result}
-use Rattle.cli_arrive.specs.Asked.{IsAskedLatest}
+use Rattle.cli_ask.specs.LatestDeparture.Asked.{IsAskedLatest}
 use Rattle.cli_ask.specs.Asked.{IsAsked}
 use Rattle.cli_ask.specs.declared.end.ClientEnd.{ClientEnd}
 use Rattle.cli_ask.specs.declared.question.Asked.{Asked}

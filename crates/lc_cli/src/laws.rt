@@ -11,8 +11,7 @@ ghost use Rattle.lc_cli.specs.OneRelay.{OneNamedRelay, OneQuietRelay};
 ghost use Rattle.lc_cli.specs.OneServing.{BeginsFromIt, NotAnotherBase, NotMadeUp, NotUnasked, OneServing, OneSide};
 
 use back_client::one_latest_answer;
-use cli_arrive::one_latest_output;
-use cli_ask::{one_fewest_output, one_output};
+use cli_ask::{one_fewest_output, one_latest_output, one_output};
 use cli_plan::relays_plan_right;
 use cli_serve::one_over_bytes;
 use cli_words::one_command;

@@ -91,9 +91,7 @@ fn ask_publisher<L: Link>(
             link,
         ),
         Asking::Fewest(query) => { cli_ask::ask_fewest(alloc, made, publishing, file, query, link) }
-        Asking::Latest(query) => {
-            cli_arrive::ask_arrive(alloc, made, publishing, file, query, link)
-        }
+        Asking::Latest(query) => { cli_ask::ask_arrive(alloc, made, publishing, file, query, link) }
     }
 }
 

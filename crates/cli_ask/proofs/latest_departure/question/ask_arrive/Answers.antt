@@ -2,8 +2,8 @@ use Rattle.std.proofs.Common.{subst, sym}
 use Rattle.std.proofs.lemmas.Result.{IfOk-weaker}
 use Rattle.lc_world.specs.GoneOn.{IsLeftByPasses}
 use Rattle.lc_world.proofs.GoneOnLemmas.{no_passes}
-use Rattle.cli_arrive.proofs.HomeLemmas.{is_asked}
-use Rattle.cli_arrive.proofs.question.ask_arrive.Goals as goal
+use Rattle.cli_ask.proofs.LatestDepartureLemmas.HomeLemmas.{is_asked}
+use Rattle.cli_ask.proofs.latest_departure.question.ask_arrive.Goals as goal
 
 pub returns-in-Ok-clause-asked : goal.returns-in-Ok-clause-asked
 returns-in-Ok-clause-asked g c =

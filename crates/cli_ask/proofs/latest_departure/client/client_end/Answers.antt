@@ -2,9 +2,9 @@ use Rattle.std.proofs.Common.{subst, sym}
 use Rattle.cli_ask.specs.Block.{IsPrintable}
 use Rattle.cli_ask.specs.declared.end.ClientEnd.{ClientEnd}
 use Rattle.back_client.specs.Ends.Asked.{HasAskedLatest}
-use Rattle.cli_arrive.specs.Client.{EndsRightLatest}
-use Rattle.cli_arrive.proofs.QuietLemmas.{ends_right_latest, printable}
-use Rattle.cli_arrive.proofs.client.client_end.Goals as goal
+use Rattle.cli_ask.specs.LatestDeparture.Client.{EndsRightLatest}
+use Rattle.cli_ask.proofs.LatestDepartureLemmas.QuietLemmas.{ends_right_latest, printable}
+use Rattle.cli_ask.proofs.latest_departure.client.client_end.Goals as goal
 
 pub returns-in-Ok-clause-asks : goal.returns-in-Ok-clause-asks
 returns-in-Ok-clause-asks g c =

@@ -10,7 +10,7 @@ use Rattle.back_client.specs.declared.page.Place.{Place}
 use Rattle.back_client.specs.declared.page.Place.TheVariants.{After}
 use Rattle.back_scan.specs.declared.arrive_query.ArriveQuery.{ArriveQuery}
 use Rattle.cli_ask.specs.Block.{IsPrintable}
-use Rattle.cli_arrive.specs.Client.{EndsRightLatest, client_of}
+use Rattle.cli_ask.specs.LatestDeparture.Client.{EndsRightLatest, client_of}
 use Rattle.connection_uri.specs.Base.{BaseParts}
 use Rattle.convoy.specs.Exchange.{Got, bytes_of, result_of}
 use Rattle.back_client.specs.Ends.Right.{EndsAt, IsNamed, IsRight}

@@ -2,7 +2,7 @@
 use Rattle.std.specs.Prelude.{◌≡◌, ℕ, List, ◌++◌, Option, None}
 use Rattle.back_scan.specs.Forward.{forward_query}
 use Rattle.back_scan.specs.declared.arrive_query.ArriveQuery.{ArriveQuery}
-use Rattle.cli_arrive.specs.Asked.{IsAskedLatest}
+use Rattle.cli_ask.specs.LatestDeparture.Asked.{IsAskedLatest}
 use Rattle.cli_ask.specs.Block.{client_text_of}
 use Rattle.cli_ask.specs.Laws.{IsFair}
 use Rattle.cli_ask.specs.declared.end.ClientEnd.{ClientEnd}

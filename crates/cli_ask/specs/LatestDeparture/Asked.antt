@@ -1,7 +1,7 @@
 -- What a question for the latest departure results in, and what is printed of it.
 use Rattle.std.specs.Prelude.{◌≡◌, ℕ, List, ◌++◌, Option}
 use Rattle.back_scan.specs.declared.arrive_query.ArriveQuery.{ArriveQuery}
-use Rattle.cli_arrive.specs.Client.{EndsRightLatest}
+use Rattle.cli_ask.specs.LatestDeparture.Client.{EndsRightLatest}
 use Rattle.cli_ask.specs.Admission.{IsBehind}
 use Rattle.cli_ask.specs.Block.{client_text_of}
 use Rattle.cli_ask.specs.Publishing.{side_with, store_of}

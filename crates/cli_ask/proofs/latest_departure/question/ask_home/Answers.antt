@@ -6,10 +6,10 @@ use Rattle.cli_ask.proofs.HomeLemmas.{home_seen, left_outside, of_end}
 use Rattle.cli_ask.specs.Block.{client_text_of}
 use Rattle.cli_ask.specs.declared.end.ClientEnd.{ClientEnd}
 use Rattle.cli_ask.specs.declared.question.Asked.{Asked}
-use Rattle.cli_arrive.specs.Asked.{AsksPublisher}
-use Rattle.cli_arrive.specs.Client.{EndsRightLatest}
-use Rattle.cli_arrive.proofs.HomeLemmas.{asks_publisher}
-use Rattle.cli_arrive.proofs.question.ask_home.Goals as goal
+use Rattle.cli_ask.specs.LatestDeparture.Asked.{AsksPublisher}
+use Rattle.cli_ask.specs.LatestDeparture.Client.{EndsRightLatest}
+use Rattle.cli_ask.proofs.LatestDepartureLemmas.HomeLemmas.{asks_publisher}
+use Rattle.cli_ask.proofs.latest_departure.question.ask_home.Goals as goal
 
 pub returns-clause-asks : goal.returns-clause-asks
 returns-clause-asks g c =

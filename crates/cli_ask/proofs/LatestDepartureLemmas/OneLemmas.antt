@@ -2,8 +2,8 @@
 use Rattle.std.proofs.Common.{◌≡◌, ◌∙◌, ℕ, ◌≤◌, List, ◌++◌, arith, length, Option, Some, None, ap, refl, subst, sym}
 use Rattle.std.specs.Option.{IfSome}
 use Rattle.back_scan.specs.declared.arrive_query.ArriveQuery.{ArriveQuery}
-use Rattle.cli_arrive.specs.Client.{EndsRightLatest}
-use Rattle.cli_arrive.specs.Laws.{AreOneLatest, OneLatestOutput}
+use Rattle.cli_ask.specs.LatestDeparture.Client.{EndsRightLatest}
+use Rattle.cli_ask.specs.LatestDeparture.Laws.{AreOneLatest, OneLatestOutput}
 use Rattle.cli_ask.proofs.AdmissionLemmas.{one_behind, store_with}
 use Rattle.cli_ask.proofs.OneOutputLemmas.{first_side, second_side}
 use Rattle.cli_ask.proofs.SideLemmas.{dates_of, in_zone, live_at}

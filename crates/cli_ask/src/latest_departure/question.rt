@@ -1,12 +1,12 @@
 ghost use Rattle.std.specs.Prelude.{◌≡◌, ◌≢◌, IfErr, IfOk};
-ghost use Rattle.cli_arrive.specs.Asked.{AsksPublisher, IsAskedLatest};
+ghost use Rattle.cli_ask.specs.LatestDeparture.Asked.{AsksPublisher, IsAskedLatest};
 ghost use Rattle.cli_ask.specs.Admission.{IsFaulty};
 ghost use Rattle.lc_world.specs.GoneOn.{IsLeftByPasses};
 ghost use Rattle.version_store.specs.declared.message_fault.MessageFault.TheVariants.{NoMemory as OutOfMemory};
 
-use crate::client::client_end;
+use crate::latest_departure::client::client_end;
+use crate::{Asked, Opened, Unopened, open_home, printed};
 use back_scan::ArriveQuery;
-use cli_ask::{Asked, Opened, Unopened, open_home, printed};
 use cli_words::Publishing;
 use lc_io::File;
 use lc_world::Link;

@@ -5,7 +5,7 @@ use Rattle.std.proofs.Math.Nat.{le_trans}
 use Rattle.back_scan.specs.Forward.{forward_query}
 use Rattle.back_scan.specs.Latest.{IsLatestDeparture}
 use Rattle.back_scan.specs.declared.arrive_query.ArriveQuery.{ArriveQuery}
-use Rattle.cli_arrive.specs.Laws.{SomeWanted}
+use Rattle.cli_ask.specs.LatestDeparture.Laws.{SomeWanted}
 use Rattle.cli_ask.proofs.WantsLemmas.{has_ends}
 use Rattle.back_client.specs.Ends.Requests.{AreWanted}
 use Rattle.back_client.specs.Ends.NeededBack.{needed_pages_back}

@@ -1,14 +1,14 @@
 ghost use Rattle.std.specs.Prelude.{◌≡◌, IfOk};
-ghost use Rattle.cli_arrive.specs.Client.{EndsRightLatest, client_of};
+ghost use Rattle.cli_ask.specs.LatestDeparture.Client.{EndsRightLatest, client_of};
 ghost use Rattle.cli_ask.specs.Block.{IsPrintable};
 ghost use Rattle.back_client.specs.Ends.Asked.{HasAskedLatest};
 ghost use Rattle.lc_world.specs.GoneOn.{IsLeftByGets};
 ghost use Rattle.lc_world.specs.Link.{IsQuietWith};
 ghost use Rattle.lc_world.specs.Sides.Side.{Side};
 
+use crate::ClientEnd;
 use back_client::{ArriveEnd, arrive, latest_by_its_replies, latest_ends_right};
 use back_scan::ArriveQuery;
-use cli_ask::ClientEnd;
 use connection_uri::Base;
 use lc_model::NoMemory;
 use lc_world::Link;

@@ -1,4 +1,4 @@
-ghost use Rattle.cli_arrive.specs.Laws.{OneLatestOutput, SomeWanted};
+ghost use Rattle.cli_ask.specs.LatestDeparture.Laws.{OneLatestOutput, SomeWanted};
 
 use back_client::one_latest_answer;
 use convoy::some_least_arrival;

@@ -1,8 +1,8 @@
 -- What is said of a question over a link at home is said of it over the outer link, and of the timetable that is published.
 use Rattle.std.proofs.Common.{◌≡◌, ◌++◌, List, ℕ, Option, refl, subst, sym}
 use Rattle.back_scan.specs.declared.arrive_query.ArriveQuery.{ArriveQuery}
-use Rattle.cli_arrive.specs.Asked.{AsksPublisher, IsAskedLatest}
-use Rattle.cli_arrive.specs.Client.{EndsRightLatest}
+use Rattle.cli_ask.specs.LatestDeparture.Asked.{AsksPublisher, IsAskedLatest}
+use Rattle.cli_ask.specs.LatestDeparture.Client.{EndsRightLatest}
 use Rattle.cli_ask.proofs.HomeLemmas.{home_seen, quiet_home}
 use Rattle.cli_ask.specs.Block.{client_text_of}
 use Rattle.cli_ask.specs.Opening.{IsOpened}
