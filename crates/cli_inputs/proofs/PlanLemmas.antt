@@ -3,9 +3,9 @@ use Rattle.std.proofs.Common.{◌≡◌, ◌+◌, ◌++◌, ◌∷◌, ℕ, zero
 use Rattle.std.proofs.lemmas.List.Elements.{All-cons, All-nil}
 use Rattle.std.specs.List.{slice_get}
 use Rattle.lc_io.specs.Folder.{FolderSeen}
-use Rattle.laws_replay.specs.Events.{TurnsAreOfClients}
-use Rattle.laws_replay.specs.declared.event.Event.{Event}
-use Rattle.laws_replay.specs.declared.event.Event.TheVariants as events
+use Rattle.cli_replay.specs.ReplayLaws.Events.{TurnsAreOfClients}
+use Rattle.cli_replay.specs.declared.replay_laws.event.Event.{Event}
+use Rattle.cli_replay.specs.declared.replay_laws.event.Event.TheVariants as events
 use Rattle.journey_text.specs.Script.{TurnsAreOfClients as AreOfClients}
 use Rattle.journey_text.specs.declared.script.Record.{Record}
 use Rattle.journey_text.specs.declared.script.Record.TheVariants as records

@@ -2,7 +2,7 @@
 use Rattle.std.specs.Prelude.{◌≡◌, ℕ, List, Some}
 use Rattle.lc_io.specs.Folder.{FolderSeen}
 use Rattle.lc_io.specs.declared.file.File.{File}
-use Rattle.laws_replay.specs.declared.event.Event.{Event}
+use Rattle.cli_replay.specs.declared.replay_laws.event.Event.{Event}
 use Rattle.cli_inputs.specs.Plan.{ReadsPlan}
 
 -- two readings of the script of one name, in directories that record the same files, give the same events

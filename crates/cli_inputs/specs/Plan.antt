@@ -1,8 +1,8 @@
 -- What a command reads that has a script and no feed: questions and turns, and no messages.
 use Rattle.std.specs.Prelude.{◌≡◌, ℕ, false, List, [], ◌∷◌, ◌++◌}
 use Rattle.lc_io.specs.Folder.{FolderSeen}
-use Rattle.laws_replay.specs.declared.event.Event.{Event}
-use Rattle.laws_replay.specs.declared.event.Event.TheVariants as events
+use Rattle.cli_replay.specs.declared.replay_laws.event.Event.{Event}
+use Rattle.cli_replay.specs.declared.replay_laws.event.Event.TheVariants as events
 use Rattle.journey_text.specs.declared.script.Record.{Record}
 use Rattle.journey_text.specs.declared.script.Record.TheVariants as records
 use Rattle.cli_inputs.specs.Script.{ReadsScript}

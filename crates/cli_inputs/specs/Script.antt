@@ -6,8 +6,8 @@ use Rattle.lc_io.specs.Counts.{Rose}
 use Rattle.lc_io.specs.Folder.{FolderSeen}
 use Rattle.lc_io.specs.declared.folder.FolderFail.{FolderFail}
 use Rattle.lc_io.specs.declared.folder.FolderFail.TheVariants.{Absent, Failed}
-use Rattle.laws_replay.specs.declared.event.Event.{Event}
-use Rattle.laws_replay.specs.declared.event.Event.TheVariants as events
+use Rattle.cli_replay.specs.declared.replay_laws.event.Event.{Event}
+use Rattle.cli_replay.specs.declared.replay_laws.event.Event.TheVariants as events
 use Rattle.journey_text.specs.ScriptReading.{HasFault, SaysScript}
 use Rattle.journey_text.specs.declared.script_fault.ScriptFault.TheVariants.{Wrong}
 use Rattle.journey_text.specs.declared.script.Record.{Record}

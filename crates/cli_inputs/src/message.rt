@@ -1,6 +1,6 @@
 ghost use Rattle.std.specs.Prelude.{IfErr, OnOk};
 ghost use Rattle.version_store.specs.declared.message_fault.MessageFault.TheVariants.{NoMemory as OutOfMemory};
-ghost use Rattle.laws_replay.specs.Message.{IsMessageText, IsNoText};
+ghost use Rattle.cli_replay.specs.ReplayLaws.Message.{IsMessageText, IsNoText};
 
 use std::alloc::Global;
 use trip_updates::{RtFault, one_meaning, read_message};

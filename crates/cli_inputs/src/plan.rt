@@ -2,13 +2,13 @@ ghost use Rattle.std.specs.Prelude.{◌≡◌, ◌++◌, ◌∷◌, [], All, IfE
 ghost use Rattle.cli_inputs.specs.Plan.{AddsSaid, IsNoMessage, ReadsPlan, SayEvents, SaysEvent};
 ghost use Rattle.cli_inputs.specs.Script.{IsScriptRefused};
 ghost use Rattle.gtfs_tables.specs.Reading.{Keeps};
-ghost use Rattle.laws_replay.specs.Events.{TurnsAreOfClients};
+ghost use Rattle.cli_replay.specs.ReplayLaws.Events.{TurnsAreOfClients};
 ghost use Rattle.journey_text.specs.Script.{NamesNone};
 
 use crate::Refusal;
 use crate::script::read_records;
+use cli_replay::Event;
 use journey_text::{Record, Script};
-use laws_replay::Event;
 use lc_io::Folder;
 use lc_model::{NoMemory, PlainData, Text};
 use std::alloc::Global;

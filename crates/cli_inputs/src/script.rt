@@ -2,14 +2,14 @@ ghost use Rattle.std.specs.Prelude.{◌≡◌, All, IfErr, IfOk, IsFalse, length
 ghost use Rattle.cli_inputs.specs.Inputs.{ReadsFile};
 ghost use Rattle.cli_inputs.specs.Script.{IsEventOf, IsRefusedAt, IsReplayRefused, IsScriptRefused, ReadsEvents, ReadsReplay, ReadsScript, StopsAt, IsMessageOf, IsNone, fault_since};
 ghost use Rattle.gtfs_tables.specs.Reading.{Keeps};
-ghost use Rattle.laws_replay.specs.Events.{TurnsAreOfClients};
+ghost use Rattle.cli_replay.specs.ReplayLaws.Events.{TurnsAreOfClients};
 ghost use Rattle.journey_text.specs.Script.{NamesNone, TurnsAreOfClients as AreOfClients};
 ghost use Rattle.timetable.specs.Scope.{IsWindow};
 
 use crate::Refusal;
 use crate::message::test_message;
+use cli_replay::{Event, Message};
 use journey_text::{Record, Script, ScriptFault, read_script};
-use laws_replay::{Event, Message};
 use lc_io::{File, Folder, FolderFail};
 use lc_model::{Bytes, NoMemory, PlainData, Text};
 use std::alloc::Global;

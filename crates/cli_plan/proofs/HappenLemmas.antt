@@ -10,11 +10,11 @@ use Rattle.convoy.specs.State.{begun}
 use Rattle.cli_plan.specs.Planning.{HaveHappened}
 use Rattle.laws_plan.specs.Laws.{PlanRecordsReplies, PlansRight}
 use Rattle.laws_plan.specs.Planned.{IsNoMessage, IsPlanned, NoneIsMessage}
-use Rattle.laws_replay.specs.Events.{TurnsAreOfClients}
-use Rattle.laws_replay.specs.Laws.{ArePlayedCaused, PlaysCaused}
-use Rattle.laws_replay.specs.Replayed.{clients_text_of}
-use Rattle.laws_replay.specs.Rounds.{all_rounds}
-use Rattle.laws_replay.specs.declared.event.Event.{Event}
+use Rattle.cli_replay.specs.ReplayLaws.Events.{TurnsAreOfClients}
+use Rattle.cli_replay.specs.ReplayLaws.Laws.{ArePlayedCaused, PlaysCaused}
+use Rattle.cli_replay.specs.ReplayLaws.Replayed.{clients_text_of}
+use Rattle.cli_replay.specs.ReplayLaws.Rounds.{all_rounds}
+use Rattle.cli_replay.specs.declared.replay_laws.event.Event.{Event}
 use Rattle.lc_world.specs.Link.{LinkSeen}
 
 -- the event at a place is none

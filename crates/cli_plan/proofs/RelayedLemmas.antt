@@ -8,9 +8,9 @@ use Rattle.cli_plan.specs.RelayedBy.{IsLeftBelow, IsRelayedBy}
 use Rattle.cli_plan.proofs.SumLemmas.{all_asked, ends_summed, recorded_len, sum_after}
 use Rattle.connection_uri.specs.Base.{BaseParts}
 use Rattle.laws_plan.specs.Planned.{IsPlanned}
-use Rattle.laws_replay.specs.Caused.{AreCaused}
-use Rattle.laws_replay.specs.Events.{questions_in}
-use Rattle.laws_replay.specs.declared.event.Event.{Event}
+use Rattle.cli_replay.specs.ReplayLaws.Caused.{AreCaused}
+use Rattle.cli_replay.specs.ReplayLaws.Events.{questions_in}
+use Rattle.cli_replay.specs.declared.replay_laws.event.Event.{Event}
 use Rattle.convoy.specs.Replies.Met.{asked_in, exchanges_by}
 use Rattle.lc_world.specs.GoneOn.{IsLeftByGets}
 use Rattle.lc_world.specs.Link.{LinkSeen}

@@ -4,8 +4,8 @@ use Rattle.cli_ask.specs.declared.end.ClientEnd.{ClientEnd}
 use Rattle.connection_uri.specs.Base.{BaseParts}
 use Rattle.convoy.specs.Finish.{Rounds}
 use Rattle.convoy.specs.State.{ConvoyState, begun}
-use Rattle.laws_replay.specs.Played.{HaveEndedSo, Plays}
-use Rattle.laws_replay.specs.declared.event.Event.{Event}
+use Rattle.cli_replay.specs.ReplayLaws.Played.{HaveEndedSo, Plays}
+use Rattle.cli_replay.specs.declared.replay_laws.event.Event.{Event}
 use Rattle.lc_world.specs.Link.{LinkSeen}
 
 -- The events happened to clients under the base with a cache of so many pages, and then each client was turned until it ended so.

@@ -1,12 +1,12 @@
 ghost use Rattle.std.specs.Prelude.{◌≡◌, [], ◌∷◌, length, OnOk};
 ghost use Rattle.cli_replay.specs.Turns.{MayHappen};
 ghost use Rattle.laws_plan.specs.Planned.{IsNoMessage, NoneIsMessage};
-ghost use Rattle.laws_replay.specs.Events.{TurnsAreOfClients};
-ghost use Rattle.laws_replay.specs.Played.{Plays};
+ghost use Rattle.cli_replay.specs.ReplayLaws.Events.{TurnsAreOfClients};
+ghost use Rattle.cli_replay.specs.ReplayLaws.Played.{Plays};
 ghost use Rattle.lc_world.specs.GoneOn.{IsLeftByGets};
 
+use cli_replay::Event;
 use convoy::Convoy;
-use laws_replay::Event;
 use lc_model::NoMemory;
 use lc_world::Link;
 use std::alloc::Global;

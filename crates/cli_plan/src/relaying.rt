@@ -2,12 +2,12 @@ ghost use Rattle.std.specs.Prelude.{◌≡◌, ◌≤◌, ◌++◌, IfOk, OnOk, 
 ghost use Rattle.cli_plan.specs.Relayed.{IsRelayed, counts_line_of};
 ghost use Rattle.cli_plan.specs.RelayedBy.{IsLeftBelow, IsRelayedBy};
 ghost use Rattle.laws_plan.specs.Planned.{NoneIsMessage};
-ghost use Rattle.laws_replay.specs.Events.{TurnsAreOfClients};
+ghost use Rattle.cli_replay.specs.ReplayLaws.Events.{TurnsAreOfClients};
 ghost use Rattle.lc_world.specs.GoneOn.{IsLeftByGets};
 
 use crate::planning::{Planned, plan};
+use cli_replay::Event;
 use connection_uri::Base;
-use laws_replay::Event;
 use lc_model::{NoMemory, PlainData};
 use lc_world::Link;
 use page_relay::{Relay, counts_are_since, relays_leave_below};

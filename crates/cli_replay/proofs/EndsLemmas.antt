@@ -2,7 +2,7 @@
 use Rattle.std.proofs.Common.{List, [], ◌∷◌, ◌++◌}
 use Rattle.cli_ask.specs.declared.end.ClientEnd.{ClientEnd}
 use Rattle.convoy.specs.declared.member.Member.{Member}
-use Rattle.laws_replay.specs.Played.{HasEndedSo, HaveEndedSo}
+use Rattle.cli_replay.specs.ReplayLaws.Played.{HasEndedSo, HaveEndedSo}
 
 pub one_end_more : (members : List Member) (ends : List ClientEnd) (member : Member) (end : ClientEnd) → HaveEndedSo members ends → HasEndedSo member end → HaveEndedSo (members ++ member ∷ []) (ends ++ end ∷ [])
 one_end_more [] [] member end are is = (is, tt)

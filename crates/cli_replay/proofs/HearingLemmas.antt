@@ -11,8 +11,8 @@ use Rattle.lc_io.specs.declared.file.File.{File}
 use Rattle.lc_world.specs.Link.{LinkSeen}
 use Rattle.publisher.specs.Held.{Held, side_of}
 use Rattle.lc_world.specs.Sides.Side.{IsValidSide, Side}
-use Rattle.laws_replay.proofs.HeardLemmas.{turn_stays}
-use Rattle.laws_replay.specs.Played.{IsGiven}
+use Rattle.cli_replay.proofs.ReplayLawsLemmas.HeardLemmas.{turn_stays}
+use Rattle.cli_replay.specs.ReplayLaws.Played.{IsGiven}
 use Rattle.cli_replay.specs.Course.{HasAdmitted}
 use Rattle.cli_replay.specs.Home.{admitted_at, home_seen}
 

@@ -1,6 +1,7 @@
 mod EndsLemmas
 mod HearingLemmas
 pub mod PlayedLemmas
+pub mod ReplayLawsLemmas
 mod ReplayedLemmas
-mod TextLemmas
 mod SummaryLemmas
+mod TextLemmas

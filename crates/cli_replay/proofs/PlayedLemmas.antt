@@ -8,11 +8,11 @@ use Rattle.convoy.specs.Finish.{IsStep}
 use Rattle.convoy.specs.declared.member.Member.{Member}
 use Rattle.convoy.specs.declared.turn.Turn.{Turn}
 use Rattle.lc_world.specs.Link.{LinkSeen}
-use Rattle.laws_replay.specs.Events.{TurnsAreOfClients, questions_in}
-use Rattle.laws_replay.specs.Played.{IsGiven, Plays}
-use Rattle.laws_replay.specs.declared.event.Event.{Event}
-use Rattle.laws_replay.specs.declared.event.Event.TheVariants as events
-use Rattle.laws_replay.specs.declared.message.Message.{Message}
+use Rattle.cli_replay.specs.ReplayLaws.Events.{TurnsAreOfClients, questions_in}
+use Rattle.cli_replay.specs.ReplayLaws.Played.{IsGiven, Plays}
+use Rattle.cli_replay.specs.declared.replay_laws.event.Event.{Event}
+use Rattle.cli_replay.specs.declared.replay_laws.event.Event.TheVariants as events
+use Rattle.cli_replay.specs.declared.replay_laws.message.Message.{Message}
 use Rattle.cli_replay.specs.Turns.{MayHappen}
 
 -- what was played, and then something more

@@ -10,11 +10,11 @@ use Rattle.lc_world.specs.GoneOn.{IsLeftByPasses}
 use Rattle.lc_world.specs.Link.{LinkSeen}
 use Rattle.publisher.specs.Held.{Held, side_of}
 use Rattle.lc_world.specs.Sides.Side.{IsValidSide}
-use Rattle.laws_replay.specs.Laws.{AreHeardAt, IsQuietAt, IsStillAt, PlaysCaused, PlaysHeard, PlaysRight}
-use Rattle.laws_replay.specs.Events.{TurnsAreOfClients}
-use Rattle.laws_replay.specs.Replayed.{IsReplayed}
-use Rattle.laws_replay.specs.Versions.{HaveAdmitted}
-use Rattle.laws_replay.specs.declared.event.Event.{Event}
+use Rattle.cli_replay.specs.ReplayLaws.Laws.{AreHeardAt, IsQuietAt, IsStillAt, PlaysCaused, PlaysHeard, PlaysRight}
+use Rattle.cli_replay.specs.ReplayLaws.Events.{TurnsAreOfClients}
+use Rattle.cli_replay.specs.ReplayLaws.Replayed.{IsReplayed}
+use Rattle.cli_replay.specs.ReplayLaws.Versions.{HaveAdmitted}
+use Rattle.cli_replay.specs.declared.replay_laws.event.Event.{Event}
 use Rattle.timetable.specs.declared.timetable.Timetable.{Timetable}
 use Rattle.cli_replay.specs.Course.{IsPlayed}
 use Rattle.cli_replay.specs.Home.{home_seen}

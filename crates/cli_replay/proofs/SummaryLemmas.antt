@@ -6,9 +6,9 @@ use Rattle.std.proofs.lemmas.List.{drop_more, map-append, take_more}
 use Rattle.std.proofs.lemmas.List.Recursion.{is_count_by}
 use Rattle.std.proofs.lemmas.List.Sums.{sum_by-cons, sum_by_more, sum_by_push}
 use Rattle.cli_ask.specs.declared.end.ClientEnd.{ClientEnd}
-use Rattle.laws_replay.specs.Events.{messages_in}
-use Rattle.laws_replay.specs.declared.event.Event.{Event}
-use Rattle.laws_replay.specs.declared.event.Event.TheVariants as events
+use Rattle.cli_replay.specs.ReplayLaws.Events.{messages_in}
+use Rattle.cli_replay.specs.declared.replay_laws.event.Event.{Event}
+use Rattle.cli_replay.specs.declared.replay_laws.event.Event.TheVariants as events
 use Rattle.cli_replay.specs.Summary.{arrivals_of, exchanges_of, is_message, leaves_in, seconds_of}
 
 one_message : (event : Event) (all : List Event) → messages_in (event ∷ all) ≡ cond (is_message event) (1 + messages_in all) (messages_in all)

@@ -4,7 +4,7 @@ use Rattle.std.proofs.lemmas.List.{append-nil, length-take-le, take_more}
 use Rattle.std.specs.List.{slice_index_or}
 use Rattle.cli_ask.specs.Block.{client_text_of}
 use Rattle.cli_ask.specs.declared.end.ClientEnd.{ClientEnd}
-use Rattle.laws_replay.specs.Replayed.{clients_text_of}
+use Rattle.cli_replay.specs.ReplayLaws.Replayed.{clients_text_of}
 
 pub one_text_more : (k : ℕ) (ends : List ClientEnd) (end : ClientEnd) → clients_text_of k (ends ++ end ∷ []) ≡ clients_text_of k ends ++ client_text_of (k + length ends) end
 one_text_more k [] end =

@@ -6,9 +6,9 @@ use Rattle.convoy.specs.Finish.{Rounds}
 use Rattle.convoy.specs.State.{ConvoyState, begun}
 use Rattle.lc_world.specs.Link.{LinkSeen}
 use Rattle.lc_world.specs.Sides.Side.{Side}
-use Rattle.laws_replay.specs.Played.{HaveEndedSo, Plays}
-use Rattle.laws_replay.specs.Replayed.{clients_text_of}
-use Rattle.laws_replay.specs.declared.event.Event.{Event}
+use Rattle.cli_replay.specs.ReplayLaws.Played.{HaveEndedSo, Plays}
+use Rattle.cli_replay.specs.ReplayLaws.Replayed.{clients_text_of}
+use Rattle.cli_replay.specs.declared.replay_laws.event.Event.{Event}
 
 -- the history of the side at the other end grew by so many messages
 abbrev pub HasAdmitted : LinkSeen → LinkSeen → ℕ → Type 0

@@ -1,4 +1,5 @@
 pub mod Course
 pub mod Home
-pub mod Turns
+pub mod ReplayLaws
 pub mod Summary
+pub mod Turns

@@ -1,9 +1,9 @@
 -- The sums over the clients of an event sequence, and the lines that say them.
 use Rattle.std.specs.Prelude.{ℕ, ◌-◌, Bool, false, true, List, ◌++◌, codes, count_by, decimal, map, sum, zip}
 use Rattle.cli_ask.specs.declared.end.ClientEnd.{ClientEnd}
-use Rattle.laws_replay.specs.Events.{questions_in}
-use Rattle.laws_replay.specs.declared.event.Event.{Event}
-use Rattle.laws_replay.specs.declared.event.Event.TheVariants as events
+use Rattle.cli_replay.specs.ReplayLaws.Events.{questions_in}
+use Rattle.cli_replay.specs.declared.replay_laws.event.Event.{Event}
+use Rattle.cli_replay.specs.declared.replay_laws.event.Event.TheVariants as events
 use Rattle.lc_model.specs.Journey.{arrives_at}
 use Rattle.lc_model.specs.declared.query.Query.{Query}
 use Rattle.page_client.specs.declared.outcome.Outcome.{Outcome}

@@ -1,8 +1,8 @@
 -- When an event may happen.
 use Rattle.std.specs.Prelude.{ℕ}
 use Rattle.journey_text.specs.Script.{IsClient}
-use Rattle.laws_replay.specs.declared.event.Event.{Event}
-use Rattle.laws_replay.specs.declared.event.Event.TheVariants as events
+use Rattle.cli_replay.specs.declared.replay_laws.event.Event.{Event}
+use Rattle.cli_replay.specs.declared.replay_laws.event.Event.TheVariants as events
 
 -- a turn is one of so many clients
 abbrev pub MayHappen : ℕ → Event → Type 0

@@ -1,7 +1,7 @@
 ghost use Rattle.std.specs.Prelude.{IfOk};
 ghost use Rattle.std.specs.List.{All};
 ghost use Rattle.convoy.specs.Finish.{HasOutcome};
-ghost use Rattle.laws_replay.specs.Played.{HasEndedSo, HaveEndedSo};
+ghost use Rattle.cli_replay.specs.ReplayLaws.Played.{HasEndedSo, HaveEndedSo};
 
 use cli_ask::ClientEnd;
 use convoy::{Convoy, Member};

@@ -1,15 +1,15 @@
 ghost use Rattle.std.specs.Prelude.{◌≡◌, ◌+◌, [], ◌∷◌, ◌++◌, length, IfOk, OnOk};
 ghost use Rattle.lc_world.specs.GoneOn.{IsLeftByPasses};
-ghost use Rattle.laws_replay.specs.Events.{TurnsAreOfClients};
-ghost use Rattle.laws_replay.specs.Played.{Plays};
+ghost use Rattle.cli_replay.specs.ReplayLaws.Events.{TurnsAreOfClients};
+ghost use Rattle.cli_replay.specs.ReplayLaws.Played.{Plays};
 ghost use Rattle.cli_replay.specs.Home.{admitted_at, home_seen};
 ghost use Rattle.cli_replay.specs.Turns.{MayHappen};
 
 use crate::hearing::hear;
+use crate::replay_laws::Event;
 use cli_ask::Heard;
 use convoy::Convoy;
 use fragmenter::Cutting;
-use laws_replay::Event;
 use lc_links::HomeLink;
 use lc_model::NoMemory;
 use lc_world::Link;

@@ -4,12 +4,12 @@ ghost use Rattle.fragmenter.specs.Cutting.{chosen_cuts};
 ghost use Rattle.lc_world.specs.GoneOn.{IsLeftByPasses};
 ghost use Rattle.publisher.specs.Held.{side_of};
 ghost use Rattle.lc_world.specs.Sides.Side.{IsValidSide};
-ghost use Rattle.laws_replay.specs.Played.{IsGiven};
+ghost use Rattle.cli_replay.specs.ReplayLaws.Played.{IsGiven};
 ghost use Rattle.cli_replay.specs.Home.{admitted_at, home_seen};
 
+use crate::replay_laws::Message;
 use cli_ask::{Heard, give};
 use fragmenter::Cutting;
-use laws_replay::Message;
 use lc_links::HomeLink;
 use lc_model::NoMemory;
 use lc_world::Link;

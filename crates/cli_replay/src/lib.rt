@@ -7,10 +7,15 @@ mod ends;
 mod events;
 mod hearing;
 mod playing;
+mod replay_laws;
 mod summary;
 mod text;
 
 pub use ends::ends_of;
 pub use playing::{Replayed, replay};
+pub use replay_laws::{
+    Event, Message, courses_are_caused, courses_are_heard, courses_are_right, faults_are_own,
+    one_course, one_hearing,
+};
 pub use summary::{Measures, measures_of, summary_text};
 pub use text::text_of;

@@ -1,11 +1,11 @@
 ghost use Rattle.std.specs.Prelude.{◌≡◌, ◌+◌, [], ◌∷◌, ◌++◌, IfOk, OnOk, count_by};
-ghost use Rattle.laws_replay.specs.Events.{messages_in};
+ghost use Rattle.cli_replay.specs.ReplayLaws.Events.{messages_in};
 ghost use Rattle.cli_replay.specs.Summary.{arrivals_line_of, arrivals_of, exchanges_line_of, exchanges_of, found_in, found_line_of, has_found, has_none, is_message, leaves_in, none_in, seconds_of, summary_of, updates_line_of};
 
 use crate::Replayed;
+use crate::replay_laws::Event;
 use cli_ask::ClientEnd;
 use journey_text::arrival_seconds;
-use laws_replay::Event;
 use lc_model::{Moment, NoMemory};
 use page_client::Outcome;
 use std::alloc::Global;

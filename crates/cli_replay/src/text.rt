@@ -2,7 +2,7 @@ ghost use Rattle.std.specs.Prelude.{◌≡◌, ◌++◌, IfOk};
 ghost use Rattle.std.specs.List.{All};
 ghost use Rattle.cli_ask.specs.Block.{IsPrintable};
 ghost use Rattle.cli_ask.specs.declared.end.ClientEnd.{ClientEnd as End};
-ghost use Rattle.laws_replay.specs.Replayed.{clients_text_of};
+ghost use Rattle.cli_replay.specs.ReplayLaws.Replayed.{clients_text_of};
 
 use cli_ask::{ClientEnd, push_client};
 use lc_model::NoMemory;

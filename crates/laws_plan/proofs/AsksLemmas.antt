@@ -15,10 +15,10 @@ use Rattle.laws_plan.proofs.MetLemmas.{HasMetAt}
 use Rattle.laws_plan.proofs.PlannedTo.{IsMemberAt, IsPlannedTo}
 use Rattle.laws_plan.proofs.SidesLemmas.{sides_of-none}
 use Rattle.laws_plan.specs.Sides.{sides_of}
-use Rattle.laws_replay.proofs.BeginsLemmas.{begins_without_failure, earlier, last_is, met_nothing, one_given_each}
-use Rattle.laws_replay.proofs.EventLemmas.{AreClients, has_turn, no_turn_yet, requests_of_more, rounds_of-none, tells_none}
-use Rattle.laws_replay.proofs.PlayedTo.{HasFailedSo, HasMet}
-use Rattle.laws_replay.specs.Turns.{rounds_of}
+use Rattle.cli_replay.proofs.ReplayLawsLemmas.BeginsLemmas.{begins_without_failure, earlier, last_is, met_nothing, one_given_each}
+use Rattle.cli_replay.proofs.ReplayLawsLemmas.EventLemmas.{AreClients, has_turn, no_turn_yet, requests_of_more, rounds_of-none, tells_none}
+use Rattle.cli_replay.proofs.ReplayLawsLemmas.PlayedTo.{HasFailedSo, HasMet}
+use Rattle.cli_replay.specs.ReplayLaws.Turns.{rounds_of}
 use Rattle.lc_io.proofs.CountLemmas.{RoseBy-none}
 use Rattle.lc_model.specs.declared.query.Query.{Query}
 use Rattle.lc_world.specs.Link.{IsHonestWith, LinkSeen}

@@ -8,11 +8,11 @@ use Rattle.connection_uri.specs.Base.{BaseParts}
 use Rattle.csa_scan.proofs.ListPlacesLemmas.{item_within}
 use Rattle.convoy.specs.Agreement.Names.{Round}
 use Rattle.laws_plan.specs.Planned.{ArePlanned}
-use Rattle.laws_replay.proofs.OneCourseLemmas.{all_are_clients, zip_places}
-use Rattle.laws_replay.proofs.OneRoundsLemmas.{MetTheSame, met_in_all, same_rounds}
-use Rattle.laws_replay.specs.Events.{TurnsAreOfClients, questions_in}
-use Rattle.laws_replay.specs.Turns.{asked_in, order_of, rounds_of}
-use Rattle.laws_replay.specs.declared.event.Event.{Event}
+use Rattle.cli_replay.proofs.ReplayLawsLemmas.OneCourseLemmas.{all_are_clients, zip_places}
+use Rattle.cli_replay.proofs.ReplayLawsLemmas.OneRoundsLemmas.{MetTheSame, met_in_all, same_rounds}
+use Rattle.cli_replay.specs.ReplayLaws.Events.{TurnsAreOfClients, questions_in}
+use Rattle.cli_replay.specs.ReplayLaws.Turns.{asked_in, order_of, rounds_of}
+use Rattle.cli_replay.specs.declared.replay_laws.event.Event.{Event}
 use Rattle.convoy.specs.Replies.Laws.{SayTheSame}
 use Rattle.convoy.specs.Replies.Met.{Met}
 use Rattle.lc_model.specs.declared.query.Query.{Query}

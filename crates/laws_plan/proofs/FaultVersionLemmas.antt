@@ -10,10 +10,10 @@ use Rattle.connection_uri.specs.Base.{BaseParts}
 use Rattle.convoy.specs.ClientLaws.Fits.{HasEnded, HasFailed}
 use Rattle.convoy.specs.Agreement.Names.{Round}
 use Rattle.laws_plan.specs.Planned.{VersionFitsFault}
-use Rattle.laws_replay.proofs.FaultLemmas.{fails, fails_in, fails_of}
-use Rattle.laws_replay.specs.History.{AreMetIn, wants_of}
-use Rattle.laws_replay.specs.Right.{FailsWith}
-use Rattle.laws_replay.specs.Turns.{failed_in, given_in, rounds_of}
+use Rattle.cli_replay.proofs.ReplayLawsLemmas.FaultLemmas.{fails, fails_in, fails_of}
+use Rattle.cli_replay.specs.ReplayLaws.History.{AreMetIn, wants_of}
+use Rattle.cli_replay.specs.ReplayLaws.Right.{FailsWith}
+use Rattle.cli_replay.specs.ReplayLaws.Turns.{failed_in, given_in, rounds_of}
 use Rattle.convoy.specs.Replies.Course.{WantsAfter}
 use Rattle.convoy.specs.Replies.Ends.{EndsBy, IsCutOff}
 use Rattle.convoy.specs.Replies.Made.{Made, failure_of}

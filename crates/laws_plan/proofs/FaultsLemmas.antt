@@ -2,8 +2,8 @@
 use Rattle.std.proofs.Common.{◌∙◌, ◌+◌, ℕ, List, ap}
 use Rattle.convoy.specs.Agreement.Names.{Round}
 use Rattle.laws_plan.specs.Laws.{PlanFaultsAreOwn}
-use Rattle.laws_replay.proofs.FaultLemmas.{none_failed, one_failed, one_pair, only_fault}
-use Rattle.laws_replay.specs.Turns.{failed_in, given_in, order_of, rounds_of}
+use Rattle.cli_replay.proofs.ReplayLawsLemmas.FaultLemmas.{none_failed, one_failed, one_pair, only_fault}
+use Rattle.cli_replay.specs.ReplayLaws.Turns.{failed_in, given_in, order_of, rounds_of}
 use Rattle.lc_world.specs.Link.{LinkSeen}
 use Rattle.page_client.specs.declared.outcome.Outcome.TheVariants as outcomes
 

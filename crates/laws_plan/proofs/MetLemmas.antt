@@ -5,11 +5,11 @@ use Rattle.std.proofs.lemmas.List.Elements.{All-append, All-cons, All-nil}
 use Rattle.convoy.specs.declared.member.Member.{Member}
 use Rattle.convoy.specs.Agreement.Names.{Round}
 use Rattle.convoy.specs.Agreement.Rounds.{round_with}
-use Rattle.laws_replay.proofs.FailureLemmas.{fails_idle, fails_last}
-use Rattle.laws_replay.proofs.FinishesListLemmas.{ones_and_idle, ones_and_last}
-use Rattle.laws_replay.proofs.PlayedTo.{HasMet}
-use Rattle.laws_replay.proofs.TurnsClientLemmas.{CameOf, all_ones}
-use Rattle.laws_replay.specs.Turns.{EndByFailure, IsIdle, IsOne, TakeOneEach, failed_in}
+use Rattle.cli_replay.proofs.ReplayLawsLemmas.FailureLemmas.{fails_idle, fails_last}
+use Rattle.cli_replay.proofs.ReplayLawsLemmas.FinishesListLemmas.{ones_and_idle, ones_and_last}
+use Rattle.cli_replay.proofs.ReplayLawsLemmas.PlayedTo.{HasMet}
+use Rattle.cli_replay.proofs.ReplayLawsLemmas.TurnsClientLemmas.{CameOf, all_ones}
+use Rattle.cli_replay.specs.ReplayLaws.Turns.{EndByFailure, IsIdle, IsOne, TakeOneEach, failed_in}
 use Rattle.page_client.specs.Client.{shown}
 use Rattle.page_client.specs.declared.outcome.Outcome.{Outcome}
 use Rattle.page_client.specs.declared.want.Want.{Want}

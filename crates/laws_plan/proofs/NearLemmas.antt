@@ -10,7 +10,7 @@ use Rattle.convoy.specs.Agreement.Names.{Round}
 use Rattle.laws_plan.specs.Near.{NoVersionAtGate, NoneIsCountedTwice, NoneIsLost, NotAnothersVersion, NotNewer, NotOneMore, SomeVersionElse}
 use Rattle.laws_plan.specs.Planned.{EndsAt, VersionFitsFault}
 use Rattle.laws_plan.specs.Sides.{version_with}
-use Rattle.laws_replay.specs.Turns.{failed_in, given_in}
+use Rattle.cli_replay.specs.ReplayLaws.Turns.{failed_in, given_in}
 use Rattle.convoy.specs.ClientLaws.Stated.{version_at}
 use Rattle.lc_model.specs.declared.answer.Answer.{Answer}
 use Rattle.lc_model.specs.declared.query.Query.{Query}

@@ -19,11 +19,11 @@ use Rattle.laws_plan.proofs.SidesLemmas.{as_many_sides}
 use Rattle.laws_plan.specs.OnePlan.{IsQuietPlan, OnePlan}
 use Rattle.laws_plan.specs.Planned.{EndsAt}
 use Rattle.laws_plan.specs.Sides.{sides_of, version_after, version_with}
-use Rattle.laws_replay.proofs.OneCourseLemmas.{at_place, none_failed}
-use Rattle.laws_replay.proofs.OneRoundsLemmas.{as_many_rounds, met_the_same}
-use Rattle.laws_replay.specs.Events.{TurnsAreOfClients, questions_in}
-use Rattle.laws_replay.specs.Turns.{failed_in, given_in, order_of, rounds_of}
-use Rattle.laws_replay.specs.declared.event.Event.{Event}
+use Rattle.cli_replay.proofs.ReplayLawsLemmas.OneCourseLemmas.{at_place, none_failed}
+use Rattle.cli_replay.proofs.ReplayLawsLemmas.OneRoundsLemmas.{as_many_rounds, met_the_same}
+use Rattle.cli_replay.specs.ReplayLaws.Events.{TurnsAreOfClients, questions_in}
+use Rattle.cli_replay.specs.ReplayLaws.Turns.{failed_in, given_in, order_of, rounds_of}
+use Rattle.cli_replay.specs.declared.replay_laws.event.Event.{Event}
 use Rattle.convoy.specs.Replies.Met.{Met}
 use Rattle.convoy.specs.ClientLaws.Stated.{version_at}
 use Rattle.lc_model.specs.declared.page.PageName.{PageName}

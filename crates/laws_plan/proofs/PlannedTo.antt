@@ -9,8 +9,8 @@ use Rattle.convoy.specs.Agreement.Leaves.{LeavesHonest}
 use Rattle.convoy.specs.Agreement.Names.{AskByNames, Round, failures_in, names_behind, names_of}
 use Rattle.convoy.specs.Agreement.Requests.{TellsRequests}
 use Rattle.laws_plan.specs.Sides.{AreLater, sides_of, version_after}
-use Rattle.laws_replay.proofs.PlayedTo.{HasFailedSo}
-use Rattle.laws_replay.specs.Turns.{asked_in, failed_in, given_in, requests_in, rounds_of}
+use Rattle.cli_replay.proofs.ReplayLawsLemmas.PlayedTo.{HasFailedSo}
+use Rattle.cli_replay.specs.ReplayLaws.Turns.{asked_in, failed_in, given_in, requests_in, rounds_of}
 use Rattle.lc_io.specs.Counts.{RoseBy}
 use Rattle.lc_model.specs.declared.query.Query.{Query}
 use Rattle.lc_world.specs.Link.{LinkSeen}

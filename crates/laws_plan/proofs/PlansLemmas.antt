@@ -24,18 +24,18 @@ use Rattle.laws_plan.proofs.TurnLemmas.{rounds_planned, turn_planned}
 use Rattle.laws_plan.specs.Laws.{PlansRight}
 use Rattle.laws_plan.specs.Planned.{ArePlanned, EndsAt, IsNoMessage, NoneIsMessage}
 use Rattle.laws_plan.specs.Sides.{sides_of}
-use Rattle.laws_replay.proofs.EventLemmas.{questions_behind_turn, questions_in-append, turns_behind_ask, turns_in-append, turns_in_front, turns_of_clients}
-use Rattle.laws_replay.proofs.FinishesLemmas.{end_at}
-use Rattle.laws_replay.specs.Caused.{AreCaused}
-use Rattle.laws_replay.specs.Events.{TurnsAreOfClients, questions_in, turns_in}
-use Rattle.laws_replay.specs.History.{AreMetIn}
-use Rattle.laws_replay.specs.Played.{HasEndedSo, HaveEndedSo, Plays}
-use Rattle.laws_replay.specs.Right.{FailsWith}
-use Rattle.laws_replay.specs.Rounds.{all_rounds, rounds_along}
-use Rattle.laws_replay.specs.Turns.{counted, failed_in, given_in, order_of, rounds_of}
-use Rattle.laws_replay.specs.declared.event.Event.{Event}
-use Rattle.laws_replay.specs.declared.event.Event.TheVariants as events
-use Rattle.laws_replay.proofs.PlayedTo.{HasFailedSo}
+use Rattle.cli_replay.proofs.ReplayLawsLemmas.EventLemmas.{questions_behind_turn, questions_in-append, turns_behind_ask, turns_in-append, turns_in_front, turns_of_clients}
+use Rattle.cli_replay.proofs.ReplayLawsLemmas.FinishesLemmas.{end_at}
+use Rattle.cli_replay.specs.ReplayLaws.Caused.{AreCaused}
+use Rattle.cli_replay.specs.ReplayLaws.Events.{TurnsAreOfClients, questions_in, turns_in}
+use Rattle.cli_replay.specs.ReplayLaws.History.{AreMetIn}
+use Rattle.cli_replay.specs.ReplayLaws.Played.{HasEndedSo, HaveEndedSo, Plays}
+use Rattle.cli_replay.specs.ReplayLaws.Right.{FailsWith}
+use Rattle.cli_replay.specs.ReplayLaws.Rounds.{all_rounds, rounds_along}
+use Rattle.cli_replay.specs.ReplayLaws.Turns.{counted, failed_in, given_in, order_of, rounds_of}
+use Rattle.cli_replay.specs.declared.replay_laws.event.Event.{Event}
+use Rattle.cli_replay.specs.declared.replay_laws.event.Event.TheVariants as events
+use Rattle.cli_replay.proofs.ReplayLawsLemmas.PlayedTo.{HasFailedSo}
 use Rattle.lc_model.specs.declared.query.Query.{Query}
 use Rattle.lc_world.specs.Link.{LinkSeen}
 use Rattle.page_client.specs.Client.{shown}

@@ -14,9 +14,9 @@ use Rattle.convoy.proofs.AgreementLemmas.RepliesLemmas.{one_more, recorded_no_mo
 use Rattle.laws_plan.specs.Laws.{PlanRecordsReplies}
 use Rattle.laws_plan.specs.Planned.{IsNoMessage, NoneIsMessage}
 use Rattle.laws_plan.specs.Replied.{AreRepliedAlong}
-use Rattle.laws_replay.specs.Played.{Plays}
-use Rattle.laws_replay.specs.declared.event.Event.{Event}
-use Rattle.laws_replay.specs.declared.event.Event.TheVariants as events
+use Rattle.cli_replay.specs.ReplayLaws.Played.{Plays}
+use Rattle.cli_replay.specs.declared.replay_laws.event.Event.{Event}
+use Rattle.cli_replay.specs.declared.replay_laws.event.Event.TheVariants as events
 use Rattle.lc_world.specs.Link.{Exchanges, IsHonestWith, LinkSeen, TellsMore}
 use Rattle.lc_world.specs.declared.entry.Entry.{Entry}
 use Rattle.page_client.specs.Client.{shown}

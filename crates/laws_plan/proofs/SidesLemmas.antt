@@ -5,8 +5,8 @@ use Rattle.std.proofs.lemmas.Bool.{false≢true, ne_eqb}
 use Rattle.convoy.specs.Agreement.Leaves.{IsNamedBetween, VersionAfter}
 use Rattle.convoy.specs.Agreement.Names.{Round}
 use Rattle.laws_plan.specs.Sides.{AreLater, sides_of, version_after, version_with}
-use Rattle.laws_replay.proofs.EventLemmas.{has_turn}
-use Rattle.laws_replay.specs.Turns.{rounds_of}
+use Rattle.cli_replay.proofs.ReplayLawsLemmas.EventLemmas.{has_turn}
+use Rattle.cli_replay.specs.ReplayLaws.Turns.{rounds_of}
 use Rattle.page_client.specs.Shown.{Shown}
 use Rattle.page_client.specs.declared.want.Want.{Want}
 use Rattle.page_client.specs.declared.want.Want.TheVariants as wants

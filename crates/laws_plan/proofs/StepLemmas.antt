@@ -22,12 +22,12 @@ use Rattle.convoy.specs.Agreement.Rounds.{round_with}
 use Rattle.laws_plan.proofs.PlannedTo.{IsMemberAt, IsPlannedTo}
 use Rattle.laws_plan.proofs.SidesLemmas.{IsSideOfTurn, as_many_sides, later_more, side_of_turn, sides_of-other, sides_of-own, version_after-more}
 use Rattle.laws_plan.specs.Sides.{sides_of, version_after, version_with}
-use Rattle.laws_replay.proofs.BeginsLemmas.{one_given_each}
-use Rattle.laws_replay.proofs.EventLemmas.{ask_by_names-append, asked_in-append, failed_in-append, failures_in-append, given_in-append, names_behind-append, requests_in-more, requests_then, rounds_of-other, rounds_of-own}
-use Rattle.laws_replay.proofs.HearsLemmas.{failed_later, of_side_at}
-use Rattle.laws_replay.proofs.PlayedTo.{HasFailedSo}
-use Rattle.laws_replay.proofs.TurnsClientLemmas.{in_vain_by_fault}
-use Rattle.laws_replay.specs.Turns.{asked_in, failed_in, given_in, requests_in, rounds_of}
+use Rattle.cli_replay.proofs.ReplayLawsLemmas.BeginsLemmas.{one_given_each}
+use Rattle.cli_replay.proofs.ReplayLawsLemmas.EventLemmas.{ask_by_names-append, asked_in-append, failed_in-append, failures_in-append, given_in-append, names_behind-append, requests_in-more, requests_then, rounds_of-other, rounds_of-own}
+use Rattle.cli_replay.proofs.ReplayLawsLemmas.HearsLemmas.{failed_later, of_side_at}
+use Rattle.cli_replay.proofs.ReplayLawsLemmas.PlayedTo.{HasFailedSo}
+use Rattle.cli_replay.proofs.ReplayLawsLemmas.TurnsClientLemmas.{in_vain_by_fault}
+use Rattle.cli_replay.specs.ReplayLaws.Turns.{asked_in, failed_in, given_in, requests_in, rounds_of}
 use Rattle.lc_io.proofs.CountLemmas.{RoseBy-none, RoseBy-then}
 use Rattle.lc_io.specs.Counts.{Rose, RoseBy}
 use Rattle.lc_model.specs.declared.page.PageName.{PageName}

@@ -16,9 +16,9 @@ use Rattle.convoy.specs.Agreement.Rounds.{round_at, round_in, rounds_up_to}
 use Rattle.laws_plan.proofs.MetLemmas.{HasMetAt, HaveFinished, finished, met_more}
 use Rattle.laws_plan.proofs.PlannedTo.{IsPlannedTo}
 use Rattle.laws_plan.proofs.StepLemmas.{HasStepped, one_step}
-use Rattle.laws_replay.proofs.TurnsClientLemmas.{came_of, none_in_vain}
-use Rattle.laws_replay.proofs.TurnsLemmas.{fits_at}
-use Rattle.laws_replay.specs.Turns.{counted, failed_in}
+use Rattle.cli_replay.proofs.ReplayLawsLemmas.TurnsClientLemmas.{came_of, none_in_vain}
+use Rattle.cli_replay.proofs.ReplayLawsLemmas.TurnsLemmas.{fits_at}
+use Rattle.cli_replay.specs.ReplayLaws.Turns.{counted, failed_in}
 use Rattle.lc_model.specs.declared.query.Query.{Query}
 use Rattle.lc_world.specs.Link.{LinkSeen}
 use Rattle.page_client.specs.Client.{shown}

@@ -7,13 +7,13 @@ use Rattle.convoy.specs.Finish.{Rounds}
 use Rattle.convoy.specs.State.{ConvoyState, begun}
 use Rattle.laws_plan.specs.Planned.{ArePlanned, IsPlanned, NoneIsMessage}
 use Rattle.laws_plan.specs.Replied.{TellsAlong}
-use Rattle.laws_replay.specs.Caused.{AreCaused}
-use Rattle.laws_replay.specs.Events.{TurnsAreOfClients, questions_in}
-use Rattle.laws_replay.specs.History.{AreMetIn}
-use Rattle.laws_replay.specs.Played.{HaveEndedSo, Plays}
-use Rattle.laws_replay.specs.Rounds.{all_rounds}
-use Rattle.laws_replay.specs.Turns.{order_of}
-use Rattle.laws_replay.specs.declared.event.Event.{Event}
+use Rattle.cli_replay.specs.ReplayLaws.Caused.{AreCaused}
+use Rattle.cli_replay.specs.ReplayLaws.Events.{TurnsAreOfClients, questions_in}
+use Rattle.cli_replay.specs.ReplayLaws.History.{AreMetIn}
+use Rattle.cli_replay.specs.ReplayLaws.Played.{HaveEndedSo, Plays}
+use Rattle.cli_replay.specs.ReplayLaws.Rounds.{all_rounds}
+use Rattle.cli_replay.specs.ReplayLaws.Turns.{order_of}
+use Rattle.cli_replay.specs.declared.replay_laws.event.Event.{Event}
 use Rattle.convoy.specs.Replies.Met.{HasFailedBetween}
 use Rattle.lc_model.specs.declared.query.Query.{Query}
 use Rattle.lc_world.specs.Link.{IsHonestWith, LinkSeen}

@@ -5,7 +5,7 @@ use Rattle.convoy.specs.ClientLaws.Wants.{IsNoFault}
 use Rattle.convoy.specs.Agreement.Names.{Round}
 use Rattle.laws_plan.specs.Planned.{EndsAt}
 use Rattle.laws_plan.specs.Sides.{AreLater, sides_of}
-use Rattle.laws_replay.specs.Turns.{asked_in, failed_in, given_in}
+use Rattle.cli_replay.specs.ReplayLaws.Turns.{asked_in, failed_in, given_in}
 use Rattle.convoy.specs.ClientLaws.Stated.{version_at}
 use Rattle.lc_model.specs.declared.query.Query.{Query}
 use Rattle.lc_model.specs.declared.versions.update.Update.{Update}

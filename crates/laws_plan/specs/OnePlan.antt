@@ -5,8 +5,8 @@ use Rattle.cli_ask.specs.Laws.{AreOneEnd, IsNoLinkFault}
 use Rattle.cli_ask.specs.declared.end.ClientEnd.{ClientEnd}
 use Rattle.connection_uri.specs.Base.{BaseParts}
 use Rattle.laws_plan.specs.Planned.{ArePlanned}
-use Rattle.laws_replay.specs.Events.{TurnsAreOfClients, questions_in}
-use Rattle.laws_replay.specs.declared.event.Event.{Event}
+use Rattle.cli_replay.specs.ReplayLaws.Events.{TurnsAreOfClients, questions_in}
+use Rattle.cli_replay.specs.declared.replay_laws.event.Event.{Event}
 use Rattle.convoy.specs.Replies.Met.{Met}
 use Rattle.lc_world.specs.Link.{LinkSeen}
 use Rattle.lc_world.specs.Sides.Side.{Side}

@@ -10,14 +10,14 @@ use Rattle.convoy.specs.Agreement.Names.{AskByNames, Round, failures_in}
 use Rattle.convoy.specs.Agreement.Requests.{TellsRequests}
 use Rattle.laws_plan.specs.Replied.{TellsAlong}
 use Rattle.laws_plan.specs.Sides.{AreLater, sides_of, version_after}
-use Rattle.laws_replay.specs.Caused.{AreCaused}
-use Rattle.laws_replay.specs.Events.{questions_in}
-use Rattle.laws_replay.specs.History.{AreMetIn}
-use Rattle.laws_replay.specs.Replayed.{clients_text_of}
-use Rattle.laws_replay.specs.Right.{FailsWith}
-use Rattle.laws_replay.specs.Turns.{EndByFailure, TakeOneEach, asked_in, failed_in, given_in, order_of, requests_in, rounds_of}
-use Rattle.laws_replay.specs.declared.event.Event.{Event}
-use Rattle.laws_replay.specs.declared.event.Event.TheVariants as events
+use Rattle.cli_replay.specs.ReplayLaws.Caused.{AreCaused}
+use Rattle.cli_replay.specs.ReplayLaws.Events.{questions_in}
+use Rattle.cli_replay.specs.ReplayLaws.History.{AreMetIn}
+use Rattle.cli_replay.specs.ReplayLaws.Replayed.{clients_text_of}
+use Rattle.cli_replay.specs.ReplayLaws.Right.{FailsWith}
+use Rattle.cli_replay.specs.ReplayLaws.Turns.{EndByFailure, TakeOneEach, asked_in, failed_in, given_in, order_of, requests_in, rounds_of}
+use Rattle.cli_replay.specs.declared.replay_laws.event.Event.{Event}
+use Rattle.cli_replay.specs.declared.replay_laws.event.Event.TheVariants as events
 use Rattle.convoy.specs.Replies.Met.{Met}
 use Rattle.lc_io.specs.Counts.{RoseBy}
 use Rattle.lc_model.specs.declared.query.Query.{Query}

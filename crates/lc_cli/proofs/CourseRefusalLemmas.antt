@@ -10,8 +10,8 @@ use Rattle.gtfs_tables.specs.declared.what.What.TheVariants as what
 use Rattle.lc_io.specs.Counts.{Rose}
 use Rattle.lc_io.specs.Folder.{FolderSeen, bytes_named}
 use Rattle.lc_io.specs.declared.file.File.{File}
-use Rattle.laws_replay.specs.declared.event.Event.{Event}
-use Rattle.laws_replay.specs.declared.message.Message.{Message}
+use Rattle.cli_replay.specs.declared.replay_laws.event.Event.{Event}
+use Rattle.cli_replay.specs.declared.replay_laws.message.Message.{Message}
 use Rattle.journey_text.specs.ScriptLaws.{NeverBoth, OneFault, OneScript}
 use Rattle.journey_text.specs.ScriptReading.{HasFault}
 use Rattle.journey_text.specs.declared.script_fault.ScriptFault.TheVariants.{Wrong}

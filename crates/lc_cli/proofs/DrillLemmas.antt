@@ -8,9 +8,9 @@ use Rattle.cli_inputs.specs.declared.refusal.Refusal.{Refusal}
 use Rattle.cli_words.specs.declared.command.Drill.{Drill}
 use Rattle.cli_words.specs.declared.command.Publishing.{Publishing}
 use Rattle.cli_words.specs.declared.command.Replay.{Replay}
-use Rattle.laws_replay.specs.Events.{messages_in}
-use Rattle.laws_replay.specs.Replayed.{IsReplayed}
-use Rattle.laws_replay.specs.Versions.{HaveAdmitted}
+use Rattle.cli_replay.specs.ReplayLaws.Events.{messages_in}
+use Rattle.cli_replay.specs.ReplayLaws.Replayed.{IsReplayed}
+use Rattle.cli_replay.specs.ReplayLaws.Versions.{HaveAdmitted}
 use Rattle.lc_io.specs.Folder.{FolderSeen}
 use Rattle.lc_io.specs.SureFolder.{SureFolderState}
 use Rattle.lc_world.specs.Link.{LinkSeen}

@@ -9,10 +9,10 @@ use Rattle.cli_ask.specs.Publishing.{side_with}
 use Rattle.cli_ask.proofs.AdmissionLemmas.{of_history, one_behind}
 use Rattle.cli_words.specs.declared.command.Publishing.{Publishing}
 use Rattle.convoy.specs.ClientLaws.Answered.{AnswersAt}
-use Rattle.laws_replay.specs.Events.{before_turn_of}
-use Rattle.laws_replay.specs.Versions.{HasHeard}
-use Rattle.laws_replay.specs.declared.event.Event.{Event}
-use Rattle.laws_replay.specs.declared.event.Event.TheVariants as events
+use Rattle.cli_replay.specs.ReplayLaws.Events.{before_turn_of}
+use Rattle.cli_replay.specs.ReplayLaws.Versions.{HasHeard}
+use Rattle.cli_replay.specs.declared.replay_laws.event.Event.{Event}
+use Rattle.cli_replay.specs.declared.replay_laws.event.Event.TheVariants as events
 use Rattle.lc_io.specs.declared.file.File.{File}
 use Rattle.lc_model.specs.declared.answer.Answer.{Answer}
 use Rattle.lc_model.specs.declared.query.Query.{Query}

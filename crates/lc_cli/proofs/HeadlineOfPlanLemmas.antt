@@ -14,8 +14,8 @@ use Rattle.connection_uri.specs.Base.{BaseParts}
 use Rattle.laws_plan.specs.Planned.{ArePlanned, EndsAt, IsPlanned}
 use Rattle.laws_plan.specs.Replied.{TellsAlong}
 use Rattle.laws_plan.specs.Sides.{version_after, version_with}
-use Rattle.laws_replay.specs.Turns.{given_in}
-use Rattle.laws_replay.specs.declared.event.Event.{Event}
+use Rattle.cli_replay.specs.ReplayLaws.Turns.{given_in}
+use Rattle.cli_replay.specs.declared.replay_laws.event.Event.{Event}
 use Rattle.convoy.specs.ClientLaws.Stated.{version_at}
 use Rattle.lc_io.specs.declared.file.File.{File}
 use Rattle.lc_model.specs.declared.query.Query.{Query}

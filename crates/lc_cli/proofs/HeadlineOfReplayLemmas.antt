@@ -11,10 +11,10 @@ use Rattle.cli_words.specs.declared.command.Publishing.{Publishing}
 use Rattle.cli_words.specs.declared.command.Replay.{Replay}
 use Rattle.convoy.specs.ClientLaws.Answered.{AnswersAt}
 use Rattle.convoy.specs.ClientLaws.Fits.{HasAnswered}
-use Rattle.laws_replay.specs.Right.{EndsSo}
-use Rattle.laws_replay.specs.Turns.{given_in}
-use Rattle.laws_replay.specs.Versions.{HasHeard}
-use Rattle.laws_replay.specs.declared.event.Event.{Event}
+use Rattle.cli_replay.specs.ReplayLaws.Right.{EndsSo}
+use Rattle.cli_replay.specs.ReplayLaws.Turns.{given_in}
+use Rattle.cli_replay.specs.ReplayLaws.Versions.{HasHeard}
+use Rattle.cli_replay.specs.declared.replay_laws.event.Event.{Event}
 use Rattle.lc_io.specs.declared.file.File.{File}
 use Rattle.lc_model.specs.declared.query.Query.{Query}
 use Rattle.lc_world.specs.Link.{LinkSeen}

@@ -7,7 +7,7 @@ use Rattle.cli_words.specs.declared.command.Publishing.{Publishing}
 use Rattle.convoy.specs.ClientLaws.Answered.{AnswersAt}
 use Rattle.convoy.specs.Agreement.Names.{Round}
 use Rattle.laws_plan.specs.Worked.{received}
-use Rattle.laws_replay.proofs.OneCourseLemmas.{at_place}
+use Rattle.cli_replay.proofs.ReplayLawsLemmas.OneCourseLemmas.{at_place}
 use Rattle.lc_model.specs.Journey.{IsAnswer, arrives_at}
 use Rattle.lc_model.specs.Laws.{OneArrival}
 use Rattle.lc_model.specs.Ride.{IsRideAt}

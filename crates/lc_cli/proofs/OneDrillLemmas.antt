@@ -13,10 +13,10 @@ use Rattle.cli_words.specs.declared.command.Command.{Command}
 use Rattle.cli_words.specs.declared.command.Command.TheVariants as commands
 use Rattle.cli_words.specs.declared.command.Drill.{Drill}
 use Rattle.cli_words.specs.declared.command.Replay.{Replay}
-use Rattle.laws_replay.proofs.OneHeardLemmas.{one_course_heard}
-use Rattle.laws_replay.specs.Events.{messages_in}
-use Rattle.laws_replay.specs.OneCourse.{IsPlayedOut, OneCourse}
-use Rattle.laws_replay.specs.declared.event.Event.{Event}
+use Rattle.cli_replay.proofs.ReplayLawsLemmas.OneHeardLemmas.{one_course_heard}
+use Rattle.cli_replay.specs.ReplayLaws.Events.{messages_in}
+use Rattle.cli_replay.specs.ReplayLaws.OneCourse.{IsPlayedOut, OneCourse}
+use Rattle.cli_replay.specs.declared.replay_laws.event.Event.{Event}
 use Rattle.convoy.specs.Replies.Laws.{SayTheSame}
 use Rattle.lc_model.specs.Versions.History.{Entry}
 use Rattle.lc_model.specs.declared.doc.StopsDoc.{StopsDoc}

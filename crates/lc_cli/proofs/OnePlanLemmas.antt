@@ -13,9 +13,9 @@ use Rattle.connection_uri.specs.Base.{BaseParts}
 use Rattle.laws_plan.specs.OneGrowing.{IsGrowingPlan, NameTheSame, OneGrowingPlan}
 use Rattle.laws_plan.specs.OnePlan.{IsQuietPlan, OnePlan}
 use Rattle.laws_plan.specs.Planned.{ArePlanned, IsPlanned}
-use Rattle.laws_replay.specs.Events.{TurnsAreOfClients, questions_in}
-use Rattle.laws_replay.specs.declared.event.Event.{Event}
-use Rattle.laws_replay.specs.declared.event.Event.TheVariants as events
+use Rattle.cli_replay.specs.ReplayLaws.Events.{TurnsAreOfClients, questions_in}
+use Rattle.cli_replay.specs.declared.replay_laws.event.Event.{Event}
+use Rattle.cli_replay.specs.declared.replay_laws.event.Event.TheVariants as events
 use Rattle.lc_io.specs.Counts.{Rose}
 use Rattle.lc_io.specs.Folder.{FolderSeen}
 use Rattle.lc_io.specs.declared.file.File.{File}

@@ -12,8 +12,8 @@ use Rattle.cli_words.specs.declared.command.Relay.{Relay}
 use Rattle.connection_uri.specs.Base.{BaseParts}
 use Rattle.laws_plan.specs.OneGrowing.{OneGrowingPlan}
 use Rattle.laws_plan.specs.OnePlan.{OnePlan}
-use Rattle.laws_replay.specs.Replayed.{clients_text_of}
-use Rattle.laws_replay.specs.declared.event.Event.{Event}
+use Rattle.cli_replay.specs.ReplayLaws.Replayed.{clients_text_of}
+use Rattle.cli_replay.specs.declared.replay_laws.event.Event.{Event}
 use Rattle.lc_io.specs.Counts.{Rose}
 use Rattle.lc_io.specs.declared.file.File.{File}
 use Rattle.lc_world.specs.Link.{IsHonestWith, LinkSeen}

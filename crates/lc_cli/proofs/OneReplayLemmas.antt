@@ -12,13 +12,13 @@ use Rattle.lc_model.specs.declared.query.Query.{Query}
 use Rattle.lc_world.specs.Link.{LinkSeen}
 use Rattle.page_client.specs.declared.outcome.Outcome.{Outcome}
 use Rattle.page_client.specs.declared.outcome.Outcome.TheVariants as outcomes
-use Rattle.laws_replay.specs.Events.{TurnsAreOfClients, questions_in}
-use Rattle.laws_replay.specs.OneCourse.{IsPlayedOut, OneCourse}
-use Rattle.laws_replay.specs.Message.{IsMessageText}
-use Rattle.laws_replay.specs.Replayed.{clients_text_of}
-use Rattle.laws_replay.specs.declared.event.Event.{Event}
-use Rattle.laws_replay.specs.declared.event.Event.TheVariants as events
-use Rattle.laws_replay.specs.declared.message.Message.{Message}
+use Rattle.cli_replay.specs.ReplayLaws.Events.{TurnsAreOfClients, questions_in}
+use Rattle.cli_replay.specs.ReplayLaws.OneCourse.{IsPlayedOut, OneCourse}
+use Rattle.cli_replay.specs.ReplayLaws.Message.{IsMessageText}
+use Rattle.cli_replay.specs.ReplayLaws.Replayed.{clients_text_of}
+use Rattle.cli_replay.specs.declared.replay_laws.event.Event.{Event}
+use Rattle.cli_replay.specs.declared.replay_laws.event.Event.TheVariants as events
+use Rattle.cli_replay.specs.declared.replay_laws.message.Message.{Message}
 use Rattle.journey_text.specs.ScriptLaws.{OneScript}
 use Rattle.journey_text.specs.ScriptReading.{SaysScript}
 use Rattle.journey_text.specs.Script.{IsClient, SayRecords, clients_of}

@@ -15,7 +15,7 @@ use Rattle.lc_io.specs.declared.file.File.{File}
 use Rattle.lc_model.specs.declared.doc.StopsDoc.{StopsDoc}
 use Rattle.lc_model.specs.declared.run.Run.{Run}
 use Rattle.lc_world.specs.Link.{LinkSeen}
-use Rattle.laws_replay.specs.OneCourse.{OneCourse}
+use Rattle.cli_replay.specs.ReplayLaws.OneCourse.{OneCourse}
 use Rattle.journey_text.specs.ScriptLaws.{OneScript}
 use Rattle.timetable.specs.Laws.{AreSame, LoadsRecorded, OneTimetable}
 use Rattle.timetable.specs.declared.timetable.Timetable.{Timetable}

@@ -25,8 +25,8 @@ use Rattle.lc_world.specs.Link.{LinkSeen}
 use Rattle.page_client.specs.declared.fault.QueryFault.{QueryFault}
 use Rattle.page_client.specs.declared.outcome.Outcome.{Outcome}
 use Rattle.page_client.specs.declared.outcome.Outcome.TheVariants as outcomes
-use Rattle.laws_replay.specs.OneCourse.{OneCourse}
-use Rattle.laws_replay.specs.declared.event.Event.{Event}
+use Rattle.cli_replay.specs.ReplayLaws.OneCourse.{OneCourse}
+use Rattle.cli_replay.specs.declared.replay_laws.event.Event.{Event}
 use Rattle.journey_text.specs.ScriptLaws.{NeverBoth, OneFault, OneScript}
 use Rattle.timetable.specs.Laws.{AreSameEnds, IsOfFiles, LoadsRecorded, OneEnd, OneTimetable}
 use Rattle.timetable.specs.Loading.{Loads, LoadsSo}

@@ -10,8 +10,8 @@ use Rattle.cli_words.specs.declared.command.Plan.{Plan}
 use Rattle.cli_words.specs.declared.command.Relay.{Relay}
 use Rattle.connection_uri.specs.Base.{BaseParts}
 use Rattle.laws_plan.specs.Planned.{ArePlanned, IsPlanned}
-use Rattle.laws_replay.specs.Events.{questions_in}
-use Rattle.laws_replay.specs.declared.event.Event.{Event}
+use Rattle.cli_replay.specs.ReplayLaws.Events.{questions_in}
+use Rattle.cli_replay.specs.declared.replay_laws.event.Event.{Event}
 use Rattle.lc_io.specs.Counts.{Rose}
 use Rattle.lc_io.specs.Folder.{FolderSeen}
 use Rattle.lc_io.specs.declared.file.File.{File}

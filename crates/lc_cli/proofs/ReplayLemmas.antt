@@ -19,10 +19,10 @@ use Rattle.page_client.specs.declared.outcome.Outcome.{Outcome}
 use Rattle.page_client.specs.declared.outcome.Outcome.TheVariants as outcomes
 use Rattle.page_client.specs.declared.want.Want.{Want}
 use Rattle.lc_world.specs.Sides.Side.{Side}
-use Rattle.laws_replay.specs.Events.{questions_in}
-use Rattle.laws_replay.specs.declared.event.Event.{Event}
-use Rattle.laws_replay.specs.declared.event.Event.TheVariants as events
-use Rattle.laws_replay.specs.declared.message.Message.{Message}
+use Rattle.cli_replay.specs.ReplayLaws.Events.{questions_in}
+use Rattle.cli_replay.specs.declared.replay_laws.event.Event.{Event}
+use Rattle.cli_replay.specs.declared.replay_laws.event.Event.TheVariants as events
+use Rattle.cli_replay.specs.declared.replay_laws.message.Message.{Message}
 use Rattle.journey_text.specs.ScriptLaws.{NeverBoth, OneScript}
 use Rattle.journey_text.specs.ScriptReading.{HasFault, SaysScript}
 use Rattle.journey_text.specs.declared.script_fault.ScriptFault.TheVariants.{Wrong}

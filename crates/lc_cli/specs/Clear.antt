@@ -23,9 +23,9 @@ use Rattle.lc_io.specs.declared.file.File.{File}
 use Rattle.lc_world.specs.Link.{IsHonestWith, LinkSeen}
 use Rattle.lc_world.specs.Sides.Short.{IsShort}
 use Rattle.lc_world.specs.Sides.Side.{Side}
-use Rattle.laws_replay.specs.Versions.{AreShort}
-use Rattle.laws_replay.specs.declared.event.Event.{Event}
-use Rattle.laws_replay.specs.declared.event.Event.TheVariants as events
+use Rattle.cli_replay.specs.ReplayLaws.Versions.{AreShort}
+use Rattle.cli_replay.specs.declared.replay_laws.event.Event.{Event}
+use Rattle.cli_replay.specs.declared.replay_laws.event.Event.TheVariants as events
 use Rattle.journey_text.specs.ScriptReading.{SaysScript}
 use Rattle.journey_text.specs.declared.script.Record.{Record}
 use Rattle.journey_text.specs.declared.script.Record.TheVariants as records

@@ -15,12 +15,12 @@ use Rattle.convoy.specs.Agreement.Names.{Round}
 use Rattle.laws_plan.specs.Planned.{ArePlanned, IsPlanned}
 use Rattle.laws_plan.specs.Replied.{TellsAlong}
 use Rattle.laws_plan.specs.Sides.{sides_of}
-use Rattle.laws_replay.specs.Events.{before_turn_of, questions_in}
-use Rattle.laws_replay.specs.OneCourse.{IsPlayedOut}
-use Rattle.laws_replay.specs.Replayed.{clients_text_of}
-use Rattle.laws_replay.specs.Turns.{order_of, rounds_of}
-use Rattle.laws_replay.specs.Versions.{AreShort, HasHeard}
-use Rattle.laws_replay.specs.declared.event.Event.{Event}
+use Rattle.cli_replay.specs.ReplayLaws.Events.{before_turn_of, questions_in}
+use Rattle.cli_replay.specs.ReplayLaws.OneCourse.{IsPlayedOut}
+use Rattle.cli_replay.specs.ReplayLaws.Replayed.{clients_text_of}
+use Rattle.cli_replay.specs.ReplayLaws.Turns.{order_of, rounds_of}
+use Rattle.cli_replay.specs.ReplayLaws.Versions.{AreShort, HasHeard}
+use Rattle.cli_replay.specs.declared.replay_laws.event.Event.{Event}
 use Rattle.lc_io.specs.declared.file.File.{File}
 use Rattle.lc_model.specs.declared.answer.Answer.{Answer}
 use Rattle.lc_model.specs.declared.answer.Answer.TheVariants as answers

@@ -6,9 +6,9 @@ use Rattle.cli_words.specs.Words.{SaysCommand}
 use Rattle.cli_words.specs.declared.command.Command.TheVariants as commands
 use Rattle.cli_words.specs.declared.command.Drill.{Drill}
 use Rattle.cli_words.specs.declared.command.Replay.{Replay}
-use Rattle.laws_replay.specs.Events.{questions_in}
-use Rattle.laws_replay.specs.OneCourse.{IsPlayedOut}
-use Rattle.laws_replay.specs.declared.event.Event.{Event}
+use Rattle.cli_replay.specs.ReplayLaws.Events.{questions_in}
+use Rattle.cli_replay.specs.ReplayLaws.OneCourse.{IsPlayedOut}
+use Rattle.cli_replay.specs.declared.replay_laws.event.Event.{Event}
 use Rattle.lc_model.specs.declared.query.Query.{Query}
 use Rattle.lc_world.specs.Link.{LinkSeen}
 use Rattle.timetable.specs.declared.timetable.Timetable.{Timetable}

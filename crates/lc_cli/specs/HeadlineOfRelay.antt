@@ -6,8 +6,8 @@ use Rattle.cli_serve.specs.Written.{Wrote}
 use Rattle.cli_words.specs.Words.{SaysCommand}
 use Rattle.cli_words.specs.declared.command.Command.TheVariants as commands
 use Rattle.cli_words.specs.declared.command.Relay.{Relay}
-use Rattle.laws_replay.specs.Replayed.{clients_text_of}
-use Rattle.laws_replay.specs.declared.event.Event.{Event}
+use Rattle.cli_replay.specs.ReplayLaws.Replayed.{clients_text_of}
+use Rattle.cli_replay.specs.declared.replay_laws.event.Event.{Event}
 use Rattle.lc_io.specs.declared.file.File.{File}
 use Rattle.lc_world.specs.Link.{IsHonestWith, LinkSeen}
 use Rattle.lc_world.specs.Sides.Side.{Side}

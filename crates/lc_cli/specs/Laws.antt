@@ -10,7 +10,7 @@ use Rattle.cli_words.specs.declared.command.Command.{Command}
 use Rattle.cli_words.specs.declared.command.Command.TheVariants as commands
 use Rattle.lc_io.specs.declared.file.File.{File}
 use Rattle.lc_world.specs.Link.{LinkSeen}
-use Rattle.laws_replay.specs.Replayed.{clients_text_of}
+use Rattle.cli_replay.specs.ReplayLaws.Replayed.{clients_text_of}
 use Rattle.lc_cli.specs.Clear.{IsClear, IsUnhindered}
 use Rattle.lc_cli.specs.Top.{HasPrinted, HasServed, IsRight, Past}
 use Rattle.lc_cli.specs.declared.block.Block.{Block}

@@ -6,7 +6,7 @@ use Rattle.cli_plan.specs.Relayed.{counts_line_of}
 use Rattle.cli_words.specs.declared.command.Command.TheVariants as commands
 use Rattle.cli_words.specs.declared.command.Relay.{Relay}
 use Rattle.laws_plan.specs.OneGrowing.{NameTheSame}
-use Rattle.laws_replay.specs.Replayed.{clients_text_of}
+use Rattle.cli_replay.specs.ReplayLaws.Replayed.{clients_text_of}
 use Rattle.lc_io.specs.declared.file.File.{File}
 use Rattle.lc_world.specs.Link.{LinkSeen}
 use Rattle.lc_world.specs.Sides.Side.{IsLater, IsValidSide, Side}

@@ -3,8 +3,8 @@ use Rattle.std.specs.Prelude.{◌≡◌, ℕ, List}
 use Rattle.cli_ask.specs.declared.end.ClientEnd.{ClientEnd}
 use Rattle.cli_inputs.specs.Script.{ReadsReplay}
 use Rattle.cli_words.specs.declared.command.Replay.{Replay}
-use Rattle.laws_replay.specs.Replayed.{IsReplayed}
-use Rattle.laws_replay.specs.declared.event.Event.{Event}
+use Rattle.cli_replay.specs.ReplayLaws.Replayed.{IsReplayed}
+use Rattle.cli_replay.specs.declared.replay_laws.event.Event.{Event}
 use Rattle.lc_io.specs.Folder.{FolderSeen}
 use Rattle.lc_world.specs.Link.{LinkSeen}
 use Rattle.timetable.specs.declared.timetable.Timetable.{Timetable}

@@ -1,8 +1,8 @@
 ghost use Rattle.std.specs.Prelude.{◌≤◌};
-ghost use Rattle.laws_replay.specs.Events.{TurnsAreOfClients};
+ghost use Rattle.cli_replay.specs.ReplayLaws.Events.{TurnsAreOfClients};
 
+use cli_replay::Event;
 use cli_words::Publishing;
-use laws_replay::Event;
 use timetable::Timetable;
 
 /// An event sequence, with what it is played to and how.

@@ -3,9 +3,9 @@ use Rattle.std.proofs.lemmas.Iterator.Adapters.{YieldsList-from_vec}
 use Rattle.std.proofs.lemmas.Iterator.Consumers.{YieldsList-end, YieldsList-so_far, YieldsList-turn}
 use Rattle.convoy.specs.declared.member.Member.{Member}
 use Rattle.lc_world.proofs.GoneOnLemmas.{gets_then, no_gets}
-use Rattle.laws_replay.specs.Events.{questions_in}
-use Rattle.laws_replay.specs.Played.{Plays}
-use Rattle.laws_replay.specs.declared.event.Event.{Event}
+use Rattle.cli_replay.specs.ReplayLaws.Events.{questions_in}
+use Rattle.cli_replay.specs.ReplayLaws.Played.{Plays}
+use Rattle.cli_replay.specs.declared.replay_laws.event.Event.{Event}
 use Rattle.cli_replay.proofs.PlayedLemmas.{clients, may_happen, parts, plays_on}
 use Rattle.cli_plan.proofs.HappenLemmas.{no_message_at}
 use Rattle.cli_plan.proofs.events.happen.Goals as goal

@@ -1,5 +1,5 @@
 use Rattle.std.proofs.Common.{[]}
-use Rattle.laws_replay.specs.Played.{Plays}
+use Rattle.cli_replay.specs.ReplayLaws.Played.{Plays}
 use Rattle.lc_world.specs.GoneOn.{IsLeftByGets}
 use Rattle.cli_plan.proofs.events.happen.Given as goal
 

@@ -2,7 +2,7 @@ use Rattle.std.proofs.Common.{[], subst}
 use Rattle.std.proofs.lemmas.Result.{IfOk-weaker}
 use Rattle.convoy.specs.State.{ConvoyState}
 use Rattle.lc_world.proofs.GoneOnLemmas.{gets_then, no_gets}
-use Rattle.laws_replay.specs.Played.{Plays}
+use Rattle.cli_replay.specs.ReplayLaws.Played.{Plays}
 use Rattle.cli_plan.proofs.planning.ends_over.Goals as goal
 
 pub returns-in_err-convoy-clause-left : goal.returns-in_err-convoy-clause-left

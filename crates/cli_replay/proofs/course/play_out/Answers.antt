@@ -4,8 +4,8 @@ use Rattle.cli_ask.specs.Block.{IsPrintable}
 use Rattle.cli_ask.specs.declared.end.ClientEnd.{ClientEnd}
 use Rattle.convoy.specs.State.{ConvoyState}
 use Rattle.lc_world.proofs.GoneOnLemmas.{no_passes, passes_then}
-use Rattle.laws_replay.specs.Played.{Plays}
-use Rattle.laws_replay.specs.Replayed.{clients_text_of}
+use Rattle.cli_replay.specs.ReplayLaws.Played.{Plays}
+use Rattle.cli_replay.specs.ReplayLaws.Replayed.{clients_text_of}
 use Rattle.cli_replay.specs.Home.{home_seen}
 use Rattle.cli_replay.proofs.HearingLemmas.{sides_admitted}
 use Rattle.cli_replay.proofs.course.play_out.Goals as goal

@@ -1,6 +1,6 @@
 use Rattle.std.proofs.Common.{◌++◌, ◌∷◌, [], List, subst, sym}
 use Rattle.cli_ask.specs.declared.end.ClientEnd.{ClientEnd}
-use Rattle.laws_replay.specs.Played.{HaveEndedSo}
+use Rattle.cli_replay.specs.ReplayLaws.Played.{HaveEndedSo}
 use Rattle.cli_replay.proofs.EndsLemmas.{one_end_more}
 use Rattle.cli_replay.proofs.ends.ends_of.Goals as goal
 

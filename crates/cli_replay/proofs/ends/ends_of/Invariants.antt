@@ -1,4 +1,4 @@
-use Rattle.laws_replay.specs.Played.{HaveEndedSo}
+use Rattle.cli_replay.specs.ReplayLaws.Played.{HaveEndedSo}
 use Rattle.cli_replay.proofs.ends.ends_of.Given as goal
 
 abbrev pub invariant-members : goal.invariant-members

@@ -1,5 +1,5 @@
 use Rattle.std.proofs.Common.{◌≡◌, ◌+◌}
-use Rattle.laws_replay.specs.Played.{Plays}
+use Rattle.cli_replay.specs.ReplayLaws.Played.{Plays}
 use Rattle.lc_world.specs.GoneOn.{IsLeftByPasses}
 use Rattle.cli_replay.specs.Home.{admitted_at, home_seen}
 use Rattle.cli_replay.proofs.events.play.Given as goal

@@ -1,6 +1,6 @@
 use Rattle.std.proofs.Common.{◌∙◌, ◌+◌, ◌++◌, ℕ, List, ap, append_assoc, arith, sym, take}
 use Rattle.cli_ask.specs.Block.{client_text_of}
-use Rattle.laws_replay.specs.Replayed.{clients_text_of}
+use Rattle.cli_replay.specs.ReplayLaws.Replayed.{clients_text_of}
 use Rattle.cli_replay.proofs.TextLemmas.{text_more}
 use Rattle.cli_replay.proofs.text.text_of.Goals as goal
 

@@ -1,5 +1,5 @@
 use Rattle.std.proofs.Common.{◌≡◌, ◌++◌, take}
-use Rattle.laws_replay.specs.Replayed.{clients_text_of}
+use Rattle.cli_replay.specs.ReplayLaws.Replayed.{clients_text_of}
 use Rattle.cli_replay.proofs.text.text_of.Given as goal
 
 abbrev pub invariant-ends : goal.invariant-ends
