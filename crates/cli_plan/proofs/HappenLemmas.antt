@@ -8,8 +8,8 @@ use Rattle.cli_ask.specs.declared.end.ClientEnd.{ClientEnd}
 use Rattle.connection_uri.specs.Base.{BaseParts}
 use Rattle.convoy.specs.State.{begun}
 use Rattle.cli_plan.specs.Planning.{HaveHappened}
-use Rattle.laws_plan.specs.Laws.{PlanRecordsReplies, PlansRight}
-use Rattle.laws_plan.specs.Planned.{IsNoMessage, IsPlanned, NoneIsMessage}
+use Rattle.cli_replay.specs.PlanLaws.Laws.{PlanRecordsReplies, PlansRight}
+use Rattle.cli_replay.specs.PlanLaws.Planned.{IsNoMessage, IsPlanned, NoneIsMessage}
 use Rattle.cli_replay.specs.ReplayLaws.Events.{TurnsAreOfClients}
 use Rattle.cli_replay.specs.ReplayLaws.Laws.{ArePlayedCaused, PlaysCaused}
 use Rattle.cli_replay.specs.ReplayLaws.Replayed.{clients_text_of}

@@ -7,7 +7,7 @@ use Rattle.cli_plan.specs.Relayed.{IsRelayed, counts_line_of, exchanges_in, rela
 use Rattle.cli_plan.specs.RelayedBy.{IsLeftBelow, IsRelayedBy}
 use Rattle.cli_plan.proofs.SumLemmas.{all_asked, ends_summed, recorded_len, sum_after}
 use Rattle.connection_uri.specs.Base.{BaseParts}
-use Rattle.laws_plan.specs.Planned.{IsPlanned}
+use Rattle.cli_replay.specs.PlanLaws.Planned.{IsPlanned}
 use Rattle.cli_replay.specs.ReplayLaws.Caused.{AreCaused}
 use Rattle.cli_replay.specs.ReplayLaws.Events.{questions_in}
 use Rattle.cli_replay.specs.declared.replay_laws.event.Event.{Event}

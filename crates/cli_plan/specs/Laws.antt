@@ -2,8 +2,8 @@
 use Rattle.std.specs.Prelude.{◌≡◌, ◌-◌, ◌^◌, ℕ, min, List, Some, length}
 use Rattle.cli_ask.specs.declared.end.ClientEnd.{ClientEnd}
 use Rattle.connection_uri.specs.Base.{BaseParts}
-use Rattle.laws_plan.specs.Planned.{ArePlanned}
-use Rattle.laws_plan.specs.Replied.{TellsAlong}
+use Rattle.cli_replay.specs.PlanLaws.Planned.{ArePlanned}
+use Rattle.cli_replay.specs.PlanLaws.Replied.{TellsAlong}
 use Rattle.cli_replay.specs.declared.replay_laws.event.Event.{Event}
 use Rattle.lc_world.specs.Link.{IsHonestWith, LinkSeen}
 use Rattle.lc_world.specs.declared.entry.Entry.{Entry}

@@ -2,7 +2,7 @@
 use Rattle.std.specs.Prelude.{◌≡◌, ℕ, true, List, ◌++◌}
 use Rattle.cli_ask.specs.declared.end.ClientEnd.{ClientEnd}
 use Rattle.connection_uri.specs.Base.{BaseParts}
-use Rattle.laws_plan.specs.Planned.{IsPlanned}
+use Rattle.cli_replay.specs.PlanLaws.Planned.{IsPlanned}
 use Rattle.cli_replay.specs.declared.replay_laws.event.Event.{Event}
 use Rattle.lc_world.specs.GoneOn.{IsLeftByGets}
 use Rattle.lc_world.specs.Link.{LinkSeen}

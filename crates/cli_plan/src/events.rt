@@ -1,6 +1,6 @@
 ghost use Rattle.std.specs.Prelude.{◌≡◌, [], ◌∷◌, length, OnOk};
 ghost use Rattle.cli_replay.specs.Turns.{MayHappen};
-ghost use Rattle.laws_plan.specs.Planned.{IsNoMessage, NoneIsMessage};
+ghost use Rattle.cli_replay.specs.PlanLaws.Planned.{IsNoMessage, NoneIsMessage};
 ghost use Rattle.cli_replay.specs.ReplayLaws.Events.{TurnsAreOfClients};
 ghost use Rattle.cli_replay.specs.ReplayLaws.Played.{Plays};
 ghost use Rattle.lc_world.specs.GoneOn.{IsLeftByGets};

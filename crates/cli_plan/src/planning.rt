@@ -3,17 +3,18 @@ ghost use Rattle.std.specs.List.{All};
 ghost use Rattle.cli_ask.specs.Block.{IsPrintable};
 ghost use Rattle.cli_ask.specs.declared.end.ClientEnd.{ClientEnd as End};
 ghost use Rattle.cli_plan.specs.Planning.{HaveHappened};
-ghost use Rattle.laws_plan.specs.Planned.{IsPlanned, NoneIsMessage};
+ghost use Rattle.cli_replay.specs.PlanLaws.Planned.{IsPlanned, NoneIsMessage};
 ghost use Rattle.cli_replay.specs.ReplayLaws.Events.{TurnsAreOfClients};
 ghost use Rattle.cli_replay.specs.ReplayLaws.Replayed.{clients_text_of};
 ghost use Rattle.lc_world.specs.GoneOn.{IsLeftByGets};
 
 use crate::events::happen;
 use cli_ask::ClientEnd;
-use cli_replay::{Event, courses_are_caused, ends_of, text_of};
+use cli_replay::{
+    Event, courses_are_caused, ends_of, plan_records_replies, plans_are_right, text_of,
+};
 use connection_uri::Base;
 use convoy::Convoy;
-use laws_plan::{plan_records_replies, plans_are_right};
 use lc_model::NoMemory;
 use lc_world::Link;
 use std::alloc::Global;

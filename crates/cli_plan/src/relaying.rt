@@ -1,7 +1,7 @@
 ghost use Rattle.std.specs.Prelude.{◌≡◌, ◌≤◌, ◌++◌, IfOk, OnOk, true};
 ghost use Rattle.cli_plan.specs.Relayed.{IsRelayed, counts_line_of};
 ghost use Rattle.cli_plan.specs.RelayedBy.{IsLeftBelow, IsRelayedBy};
-ghost use Rattle.laws_plan.specs.Planned.{NoneIsMessage};
+ghost use Rattle.cli_replay.specs.PlanLaws.Planned.{NoneIsMessage};
 ghost use Rattle.cli_replay.specs.ReplayLaws.Events.{TurnsAreOfClients};
 ghost use Rattle.lc_world.specs.GoneOn.{IsLeftByGets};
 

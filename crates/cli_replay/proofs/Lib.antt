@@ -1,5 +1,6 @@
 mod EndsLemmas
 mod HearingLemmas
+mod PlanLawsLemmas
 pub mod PlayedLemmas
 pub mod ReplayLawsLemmas
 mod ReplayedLemmas

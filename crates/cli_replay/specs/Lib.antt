@@ -1,5 +1,6 @@
 pub mod Course
 pub mod Home
+pub mod PlanLaws
 pub mod ReplayLaws
 pub mod Summary
 pub mod Turns

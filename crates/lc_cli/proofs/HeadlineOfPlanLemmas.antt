@@ -11,9 +11,9 @@ use Rattle.convoy.specs.ClientLaws.Answered.{AnswersAt}
 use Rattle.convoy.specs.ClientLaws.Fits.{HasAnswered}
 use Rattle.convoy.specs.Agreement.Names.{Round}
 use Rattle.connection_uri.specs.Base.{BaseParts}
-use Rattle.laws_plan.specs.Planned.{ArePlanned, EndsAt, IsPlanned}
-use Rattle.laws_plan.specs.Replied.{TellsAlong}
-use Rattle.laws_plan.specs.Sides.{version_after, version_with}
+use Rattle.cli_replay.specs.PlanLaws.Planned.{ArePlanned, EndsAt, IsPlanned}
+use Rattle.cli_replay.specs.PlanLaws.Replied.{TellsAlong}
+use Rattle.cli_replay.specs.PlanLaws.Sides.{version_after, version_with}
 use Rattle.cli_replay.specs.ReplayLaws.Turns.{given_in}
 use Rattle.cli_replay.specs.declared.replay_laws.event.Event.{Event}
 use Rattle.convoy.specs.ClientLaws.Stated.{version_at}

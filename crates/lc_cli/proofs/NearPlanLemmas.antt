@@ -6,7 +6,7 @@ use Rattle.cli_ask.specs.declared.end.ClientEnd.{ClientEnd}
 use Rattle.cli_words.specs.declared.command.Publishing.{Publishing}
 use Rattle.convoy.specs.ClientLaws.Answered.{AnswersAt}
 use Rattle.convoy.specs.Agreement.Names.{Round}
-use Rattle.laws_plan.specs.Worked.{received}
+use Rattle.cli_replay.specs.PlanLaws.Worked.{received}
 use Rattle.cli_replay.proofs.ReplayLawsLemmas.OneCourseLemmas.{at_place}
 use Rattle.lc_model.specs.Journey.{IsAnswer, arrives_at}
 use Rattle.lc_model.specs.Laws.{OneArrival}

@@ -10,9 +10,9 @@ use Rattle.cli_words.specs.declared.command.Command.TheVariants as commands
 use Rattle.cli_words.specs.declared.command.Plan.{Plan}
 use Rattle.cli_ask.specs.declared.end.ClientEnd.{ClientEnd}
 use Rattle.connection_uri.specs.Base.{BaseParts}
-use Rattle.laws_plan.specs.OneGrowing.{IsGrowingPlan, NameTheSame, OneGrowingPlan}
-use Rattle.laws_plan.specs.OnePlan.{IsQuietPlan, OnePlan}
-use Rattle.laws_plan.specs.Planned.{ArePlanned, IsPlanned}
+use Rattle.cli_replay.specs.PlanLaws.OneGrowing.{IsGrowingPlan, NameTheSame, OneGrowingPlan}
+use Rattle.cli_replay.specs.PlanLaws.OnePlan.{IsQuietPlan, OnePlan}
+use Rattle.cli_replay.specs.PlanLaws.Planned.{ArePlanned, IsPlanned}
 use Rattle.cli_replay.specs.ReplayLaws.Events.{TurnsAreOfClients, questions_in}
 use Rattle.cli_replay.specs.declared.replay_laws.event.Event.{Event}
 use Rattle.cli_replay.specs.declared.replay_laws.event.Event.TheVariants as events

@@ -10,8 +10,8 @@ use Rattle.cli_words.specs.Laws.{OneCommand}
 use Rattle.cli_words.specs.declared.command.Command.TheVariants as commands
 use Rattle.cli_words.specs.declared.command.Relay.{Relay}
 use Rattle.connection_uri.specs.Base.{BaseParts}
-use Rattle.laws_plan.specs.OneGrowing.{OneGrowingPlan}
-use Rattle.laws_plan.specs.OnePlan.{OnePlan}
+use Rattle.cli_replay.specs.PlanLaws.OneGrowing.{OneGrowingPlan}
+use Rattle.cli_replay.specs.PlanLaws.OnePlan.{OnePlan}
 use Rattle.cli_replay.specs.ReplayLaws.Replayed.{clients_text_of}
 use Rattle.cli_replay.specs.declared.replay_laws.event.Event.{Event}
 use Rattle.lc_io.specs.Counts.{Rose}

@@ -9,7 +9,7 @@ use Rattle.cli_plan.specs.Laws.{RelaysPlanRight}
 use Rattle.cli_words.specs.declared.command.Plan.{Plan}
 use Rattle.cli_words.specs.declared.command.Relay.{Relay}
 use Rattle.connection_uri.specs.Base.{BaseParts}
-use Rattle.laws_plan.specs.Planned.{ArePlanned, IsPlanned}
+use Rattle.cli_replay.specs.PlanLaws.Planned.{ArePlanned, IsPlanned}
 use Rattle.cli_replay.specs.ReplayLaws.Events.{questions_in}
 use Rattle.cli_replay.specs.declared.replay_laws.event.Event.{Event}
 use Rattle.lc_io.specs.Counts.{Rose}

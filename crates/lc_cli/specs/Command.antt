@@ -18,7 +18,7 @@ use Rattle.lc_io.specs.Folder.{FolderSeen}
 use Rattle.lc_io.specs.declared.file.File.{File}
 use Rattle.lc_world.specs.GoneOn.{IsLeftByGets, IsLeftByPasses}
 use Rattle.lc_world.specs.Link.{LinkSeen}
-use Rattle.laws_plan.specs.Planned.{IsPlanned}
+use Rattle.cli_replay.specs.PlanLaws.Planned.{IsPlanned}
 use Rattle.cli_replay.specs.declared.replay_laws.event.Event.{Event}
 use Rattle.timetable.specs.Loading.{Loads}
 use Rattle.timetable.specs.declared.fault.LoadFault.TheVariants as fault

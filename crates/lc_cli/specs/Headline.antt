@@ -12,9 +12,9 @@ use Rattle.cli_words.specs.declared.command.Replay.{Replay}
 use Rattle.connection_uri.specs.Base.{BaseParts}
 use Rattle.convoy.specs.ClientLaws.Answered.{AnswersAt, NeededAt}
 use Rattle.convoy.specs.Agreement.Names.{Round}
-use Rattle.laws_plan.specs.Planned.{ArePlanned, IsPlanned}
-use Rattle.laws_plan.specs.Replied.{TellsAlong}
-use Rattle.laws_plan.specs.Sides.{sides_of}
+use Rattle.cli_replay.specs.PlanLaws.Planned.{ArePlanned, IsPlanned}
+use Rattle.cli_replay.specs.PlanLaws.Replied.{TellsAlong}
+use Rattle.cli_replay.specs.PlanLaws.Sides.{sides_of}
 use Rattle.cli_replay.specs.ReplayLaws.Events.{before_turn_of, questions_in}
 use Rattle.cli_replay.specs.ReplayLaws.OneCourse.{IsPlayedOut}
 use Rattle.cli_replay.specs.ReplayLaws.Replayed.{clients_text_of}

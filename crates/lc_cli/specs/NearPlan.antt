@@ -6,7 +6,7 @@ use Rattle.cli_ask.specs.Publishing.{side_with, store_of}
 use Rattle.cli_ask.specs.declared.end.ClientEnd.{ClientEnd}
 use Rattle.cli_words.specs.declared.command.Publishing.{Publishing}
 use Rattle.convoy.specs.Agreement.Names.{Round}
-use Rattle.laws_plan.specs.Worked.{received}
+use Rattle.cli_replay.specs.PlanLaws.Worked.{received}
 use Rattle.lc_model.specs.declared.answer.Answer.{Answer}
 use Rattle.lc_model.specs.declared.query.Query.{Query}
 use Rattle.lc_model.specs.declared.versions.update.Update.{Update}

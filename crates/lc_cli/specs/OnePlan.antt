@@ -7,7 +7,7 @@ use Rattle.cli_words.specs.declared.command.Command.{Command}
 use Rattle.cli_words.specs.declared.command.Command.TheVariants as commands
 use Rattle.cli_words.specs.declared.command.Plan.{Plan}
 use Rattle.connection_uri.specs.Base.{BaseParts}
-use Rattle.laws_plan.specs.OneGrowing.{NameTheSame}
+use Rattle.cli_replay.specs.PlanLaws.OneGrowing.{NameTheSame}
 use Rattle.cli_replay.specs.ReplayLaws.Replayed.{clients_text_of}
 use Rattle.lc_io.specs.Counts.{Rose}
 use Rattle.lc_io.specs.declared.file.File.{File}

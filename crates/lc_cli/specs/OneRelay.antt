@@ -5,7 +5,7 @@ use Rattle.cli_ask.specs.Laws.{AreOneEnd}
 use Rattle.cli_plan.specs.Relayed.{counts_line_of}
 use Rattle.cli_words.specs.declared.command.Command.TheVariants as commands
 use Rattle.cli_words.specs.declared.command.Relay.{Relay}
-use Rattle.laws_plan.specs.OneGrowing.{NameTheSame}
+use Rattle.cli_replay.specs.PlanLaws.OneGrowing.{NameTheSame}
 use Rattle.cli_replay.specs.ReplayLaws.Replayed.{clients_text_of}
 use Rattle.lc_io.specs.declared.file.File.{File}
 use Rattle.lc_world.specs.Link.{LinkSeen}

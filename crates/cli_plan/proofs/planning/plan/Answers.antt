@@ -1,6 +1,6 @@
 use Rattle.std.proofs.Common.{List, ap, subst, sym}
 use Rattle.cli_ask.specs.declared.end.ClientEnd.{ClientEnd}
-use Rattle.laws_plan.specs.Planned.{IsPlanned}
+use Rattle.cli_replay.specs.PlanLaws.Planned.{IsPlanned}
 use Rattle.cli_plan.proofs.HappenLemmas.{both, planned, printable}
 use Rattle.cli_plan.proofs.planning.plan.Goals as goal
 

@@ -1,5 +1,0 @@
-use Rattle.laws_plan.proofs.AloneLemmas.{one_client_asks}
-use Rattle.laws_plan.proofs.laws.one_client_asks.Goals as goal
-
-pub returns : goal.returns
-returns g c = one_client_asks g.L.Link.seen c.alone_asks_all.ensures

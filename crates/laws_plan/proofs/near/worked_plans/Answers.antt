@@ -1,5 +1,0 @@
-use Rattle.std.proofs.Common.{refl}
-use Rattle.laws_plan.proofs.near.worked_plans.Goals as goal
-
-pub returns : goal.returns
-returns c = λ a b d known. record { own = refl; other = refl; version = refl; none = refl }
