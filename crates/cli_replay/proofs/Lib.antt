@@ -1,6 +1,7 @@
 mod EndsLemmas
 mod HearingLemmas
 mod PlanLawsLemmas
+mod PlanningLemmas
 pub mod PlayedLemmas
 pub mod ReplayLawsLemmas
 mod ReplayedLemmas

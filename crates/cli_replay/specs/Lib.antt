@@ -1,6 +1,7 @@
 pub mod Course
 pub mod Home
 pub mod PlanLaws
+pub mod Planning
 pub mod ReplayLaws
 pub mod Summary
 pub mod Turns

@@ -7,6 +7,7 @@ mod ends;
 mod events;
 mod hearing;
 mod plan_laws;
+mod planning;
 mod playing;
 mod replay_laws;
 mod summary;
@@ -17,6 +18,7 @@ pub use plan_laws::{
     near_plans, one_client_asks, one_growing_plan, one_plan, plan_faults_are_own,
     plan_records_replies, plans_are_right, worked_plans,
 };
+pub use planning::{Planned, counts_are_growth, plan, relay, relays_plan_right, worked_counts};
 pub use playing::{Replayed, replay};
 pub use replay_laws::{
     Event, Message, courses_are_caused, courses_are_heard, courses_are_right, faults_are_own,

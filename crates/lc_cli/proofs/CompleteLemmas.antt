@@ -6,7 +6,7 @@ use Rattle.cli_inputs.specs.Inputs.{IsRefusedFor}
 use Rattle.cli_inputs.specs.Script.{IsReplayRefused}
 use Rattle.cli_inputs.specs.declared.refusal.Refusal.{Refusal}
 use Rattle.cli_inputs.specs.declared.refusal.Refusal.TheVariants as refused
-use Rattle.cli_plan.specs.Laws.{RelaysPlanRight}
+use Rattle.cli_replay.specs.Planning.Laws.{RelaysPlanRight}
 use Rattle.cli_words.specs.Drill.{drilled_words}
 use Rattle.cli_words.specs.Laws.{OneCommand}
 use Rattle.cli_words.specs.Words.{SaysCommand}

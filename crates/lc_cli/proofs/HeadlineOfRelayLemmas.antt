@@ -1,7 +1,7 @@
 -- Where `relay` ended with status Done over an honest link, it wrote a best journey for each client, or that there is none.
 use Rattle.std.proofs.Common.{◌≡◌, ◌∙◌, ◌⊎◌, ◌++◌, ℕ, inl, inr, List, Some, ap, subst}
-use Rattle.cli_plan.specs.Laws.{RelaysPlanRight}
-use Rattle.cli_plan.specs.Relayed.{counts_line_of}
+use Rattle.cli_replay.specs.Planning.Laws.{RelaysPlanRight}
+use Rattle.cli_replay.specs.Planning.Relayed.{counts_line_of}
 use Rattle.cli_words.specs.Laws.{OneCommand}
 use Rattle.cli_words.specs.Words.{SaysCommand}
 use Rattle.cli_words.specs.declared.command.Command.{Command}

@@ -4,8 +4,8 @@ use Rattle.std.proofs.lemmas.List.Sums.{sum_by-cons}
 use Rattle.std.specs.List.{AllZip}
 use Rattle.cli_ask.specs.Laws.{AreOneEnd}
 use Rattle.cli_ask.specs.declared.end.ClientEnd.{ClientEnd}
-use Rattle.cli_plan.specs.Laws.{RelaysPlanRight}
-use Rattle.cli_plan.specs.Relayed.{IsRelayed, counts_line_of, exchanges_in, relay_after, relay_over}
+use Rattle.cli_replay.specs.Planning.Laws.{RelaysPlanRight}
+use Rattle.cli_replay.specs.Planning.Relayed.{IsRelayed, counts_line_of, exchanges_in, relay_after, relay_over}
 use Rattle.cli_words.specs.Laws.{OneCommand}
 use Rattle.cli_words.specs.declared.command.Command.TheVariants as commands
 use Rattle.cli_words.specs.declared.command.Relay.{Relay}

@@ -5,7 +5,7 @@ use Rattle.cli_inputs.specs.Script.{IsScriptRefused}
 use Rattle.cli_inputs.specs.declared.refusal.Refusal.{Refusal}
 use Rattle.cli_inputs.specs.declared.refusal.Refusal.TheVariants as refused
 use Rattle.cli_ask.specs.declared.end.ClientEnd.{ClientEnd}
-use Rattle.cli_plan.specs.Laws.{RelaysPlanRight}
+use Rattle.cli_replay.specs.Planning.Laws.{RelaysPlanRight}
 use Rattle.cli_words.specs.declared.command.Plan.{Plan}
 use Rattle.cli_words.specs.declared.command.Relay.{Relay}
 use Rattle.connection_uri.specs.Base.{BaseParts}

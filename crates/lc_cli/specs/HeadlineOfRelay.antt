@@ -1,7 +1,7 @@
 -- The main promise of `relay`: where it ends with status Done, it wrote best journeys and how many exchanges were handed on.
 use Rattle.std.specs.Prelude.{◌≡◌, ℕ, List, ◌++◌, Some}
 use Rattle.cli_ask.specs.declared.end.ClientEnd.{ClientEnd}
-use Rattle.cli_plan.specs.Relayed.{IsRelayed, counts_line_of, relay_after, relay_over}
+use Rattle.cli_replay.specs.Planning.Relayed.{IsRelayed, counts_line_of, relay_after, relay_over}
 use Rattle.cli_serve.specs.Written.{Wrote}
 use Rattle.cli_words.specs.Words.{SaysCommand}
 use Rattle.cli_words.specs.declared.command.Command.TheVariants as commands

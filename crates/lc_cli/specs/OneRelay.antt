@@ -2,7 +2,7 @@
 use Rattle.std.specs.Prelude.{◌≡◌, ℕ, List, ◌++◌}
 use Rattle.std.specs.List.{AllZip}
 use Rattle.cli_ask.specs.Laws.{AreOneEnd}
-use Rattle.cli_plan.specs.Relayed.{counts_line_of}
+use Rattle.cli_replay.specs.Planning.Relayed.{counts_line_of}
 use Rattle.cli_words.specs.declared.command.Command.TheVariants as commands
 use Rattle.cli_words.specs.declared.command.Relay.{Relay}
 use Rattle.cli_replay.specs.PlanLaws.OneGrowing.{NameTheSame}

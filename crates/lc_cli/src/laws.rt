@@ -12,8 +12,7 @@ ghost use Rattle.lc_cli.specs.OneServing.{BeginsFromIt, NotAnotherBase, NotMadeU
 
 use back_client::one_latest_answer;
 use cli_ask::{one_fewest_output, one_latest_output, one_output};
-use cli_plan::relays_plan_right;
-use cli_replay::{one_course, one_growing_plan, one_plan};
+use cli_replay::{one_course, one_growing_plan, one_plan, relays_plan_right};
 use cli_serve::one_over_bytes;
 use cli_words::one_command;
 use journey_text::one_script;

@@ -8,7 +8,7 @@ ghost use Rattle.lc_cli.specs.Command.{IsPlanBlock, IsRelayBlock};
 
 use crate::block::Block;
 use cli_inputs::{Refusal, read_plan};
-use cli_plan::Planned;
+use cli_replay::Planned;
 use cli_words::{Plan, Relay};
 use lc_io::Folder;
 use lc_model::NoMemory;
@@ -36,7 +36,7 @@ pub(crate) fn plan_block<F: Folder, L: Link>(
     } = plan;
     match read_plan(alloc, folder, asks) {
         Ok(events) => {
-            let (planned, link) = cli_plan::plan(alloc, base, events, cache as usize, link);
+            let (planned, link) = cli_replay::plan(alloc, base, events, cache as usize, link);
             match planned {
                 Ok(Planned { text, ends }) => (Ok(Block { text, ends }), link),
                 Err(NoMemory) => (Err(Refusal::from(NoMemory)), link),
@@ -68,7 +68,7 @@ pub(crate) fn relay_block<F: Folder, L: Link>(
     } = relay;
     match read_plan(alloc, folder, asks) {
         Ok(events) => {
-            let (planned, link) = cli_plan::relay(
+            let (planned, link) = cli_replay::relay(
                 alloc,
                 base,
                 events,

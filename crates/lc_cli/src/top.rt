@@ -19,7 +19,7 @@ use crate::refusal::refuse;
 use crate::serve::serve;
 use crate::status::Status;
 use crate::work::Work;
-use cli_plan::relays_plan_right;
+use cli_replay::relays_plan_right;
 use cli_words::one_command;
 use journey_text::one_script;
 use lc_io::{Door, Folder, Sink};

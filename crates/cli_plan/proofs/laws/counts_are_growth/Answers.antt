@@ -1,5 +1,0 @@
-use Rattle.cli_plan.proofs.RelayedLemmas.{counts_growth}
-use Rattle.cli_plan.proofs.laws.counts_are_growth.Goals as goal
-
-pub returns : goal.returns
-returns g c = counts_growth g.L.Link.seen c.counts_are_since.ensures.lengths

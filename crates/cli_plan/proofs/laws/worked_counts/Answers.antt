@@ -1,7 +1,0 @@
-use Rattle.std.proofs.Common.{refl}
-use Rattle.std.specs.Fmt.{digits}
-use Rattle.cli_plan.proofs.laws.worked_counts.Goals as goal
-
-pub returns : goal.returns
-unfolding digits
-returns c = refl
