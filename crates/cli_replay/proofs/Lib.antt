@@ -1,5 +1,6 @@
 mod EndsLemmas
 mod HearingLemmas
+pub mod InputsLemmas
 mod PlanLawsLemmas
 mod PlanningLemmas
 pub mod PlayedLemmas

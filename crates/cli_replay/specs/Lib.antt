@@ -1,5 +1,6 @@
 pub mod Course
 pub mod Home
+pub mod Inputs
 pub mod PlanLaws
 pub mod Planning
 pub mod ReplayLaws

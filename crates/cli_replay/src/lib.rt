@@ -6,6 +6,7 @@ mod course;
 mod ends;
 mod events;
 mod hearing;
+mod inputs;
 mod plan_laws;
 mod planning;
 mod playing;
@@ -14,6 +15,9 @@ mod summary;
 mod text;
 
 pub use ends::ends_of;
+pub use inputs::{
+    Inputs, Refusal, ReplayInputs, one_planned_script, read_inputs, read_plan, read_replay,
+};
 pub use plan_laws::{
     near_plans, one_client_asks, one_growing_plan, one_plan, plan_faults_are_own,
     plan_records_replies, plans_are_right, worked_plans,

@@ -1,9 +1,9 @@
 ghost use Rattle.std.specs.Prelude.{◌≡◌, ◌≢◌, ◌↔◌, ◌⊎◌, IfErr};
 ghost use Rattle.timetable.specs.declared.fault.LoadFault.TheVariants.{NoMemory as no_memory};
 ghost use Rattle.std.specs.declared.io.ErrorKind.TheVariants.{OutOfMemory};
-ghost use Rattle.cli_inputs.specs.declared.refusal.Refusal.TheVariants.{Load, Usage};
+ghost use Rattle.cli_replay.specs.declared.inputs.refusal.Refusal.TheVariants.{Load, Usage};
 
-use cli_inputs::Refusal;
+use cli_replay::Refusal;
 use lc_model::NoMemory;
 use std::env;
 use std::io::ErrorKind;

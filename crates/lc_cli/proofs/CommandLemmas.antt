@@ -2,10 +2,10 @@
 use Rattle.std.proofs.Common.{◌≡◌, ◌≢◌, ◌∷◌, inr, ℕ, List, [], Option, Result, Ok, Err, IfErr, IfOk, subst, sym}
 use Rattle.cli_ask.specs.declared.end.ClientEnd.{ClientEnd}
 use Rattle.cli_ask.specs.declared.question.Asked.{Asked}
-use Rattle.cli_inputs.specs.Inputs.{IsMessageRefusal, IsRefusedFor, ReadsInputs}
-use Rattle.cli_inputs.proofs.InputsLemmas.{message_refused}
-use Rattle.cli_inputs.specs.declared.refusal.Refusal.{Refusal}
-use Rattle.cli_inputs.specs.declared.refusal.Refusal.TheVariants.{Load}
+use Rattle.cli_replay.specs.Inputs.Inputs.{IsMessageRefusal, IsRefusedFor, ReadsInputs}
+use Rattle.cli_replay.proofs.InputsLemmas.InputsLemmas.{message_refused}
+use Rattle.cli_replay.specs.declared.inputs.refusal.Refusal.{Refusal}
+use Rattle.cli_replay.specs.declared.inputs.refusal.Refusal.TheVariants.{Load}
 use Rattle.cli_words.specs.Words.{SaysCommand}
 use Rattle.cli_words.specs.declared.command.Command.{Command}
 use Rattle.cli_words.specs.declared.command.Command.TheVariants as commands

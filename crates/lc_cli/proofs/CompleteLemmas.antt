@@ -2,10 +2,10 @@
 use Rattle.std.proofs.Common.{◌≡◌, ◌∙◌, ◌⊎◌, ◌∷◌, ℕ, inl, inr, false, List, None, Option, Some, ap, arith, codes, refl, subst, sym}
 use Rattle.cli_ask.specs.Publishing.{store_of}
 use Rattle.cli_drill.specs.Files.{drill_files}
-use Rattle.cli_inputs.specs.Inputs.{IsRefusedFor}
-use Rattle.cli_inputs.specs.Script.{IsReplayRefused}
-use Rattle.cli_inputs.specs.declared.refusal.Refusal.{Refusal}
-use Rattle.cli_inputs.specs.declared.refusal.Refusal.TheVariants as refused
+use Rattle.cli_replay.specs.Inputs.Inputs.{IsRefusedFor}
+use Rattle.cli_replay.specs.Inputs.Script.{IsReplayRefused}
+use Rattle.cli_replay.specs.declared.inputs.refusal.Refusal.{Refusal}
+use Rattle.cli_replay.specs.declared.inputs.refusal.Refusal.TheVariants as refused
 use Rattle.cli_replay.specs.Planning.Laws.{RelaysPlanRight}
 use Rattle.cli_words.specs.Drill.{drilled_words}
 use Rattle.cli_words.specs.Laws.{OneCommand}

@@ -2,9 +2,9 @@
 use Rattle.std.proofs.Common.{◌≡◌, ◌∙◌, ◌⊎◌, ◌<◌, ◌+◌, ◌++◌, ◌∷◌, ℕ, true, inl, inr, List, [], None, Some, Option, Ok, Err, ap, arith, length, refl, subst, sym}
 use Rattle.cli_ask.specs.Admission.{IsIgnored}
 use Rattle.cli_ask.specs.Publishing.{store_of}
-use Rattle.cli_inputs.specs.Script.{IsReplayRefused, StopsAtRecord}
-use Rattle.cli_inputs.specs.declared.refusal.Refusal.{Refusal}
-use Rattle.cli_inputs.specs.declared.refusal.Refusal.TheVariants as refused
+use Rattle.cli_replay.specs.Inputs.Script.{IsReplayRefused, StopsAtRecord}
+use Rattle.cli_replay.specs.declared.inputs.refusal.Refusal.{Refusal}
+use Rattle.cli_replay.specs.declared.inputs.refusal.Refusal.TheVariants as refused
 use Rattle.cli_words.specs.declared.command.Replay.{Replay}
 use Rattle.gtfs_tables.specs.declared.what.What.TheVariants as what
 use Rattle.lc_io.specs.Counts.{Rose}

@@ -3,8 +3,8 @@ use Rattle.std.proofs.Common.{◌≡◌, ◌∙◌, ◌++◌, ℕ, List, Result,
 use Rattle.std.specs.Prelude.{IfOk}
 use Rattle.cli_replay.specs.Summary.{leaves_in, summary_of}
 use Rattle.cli_replay.specs.declared.playing.Replayed.{Replayed}
-use Rattle.cli_inputs.specs.Script.{IsReplayRefused}
-use Rattle.cli_inputs.specs.declared.refusal.Refusal.{Refusal}
+use Rattle.cli_replay.specs.Inputs.Script.{IsReplayRefused}
+use Rattle.cli_replay.specs.declared.inputs.refusal.Refusal.{Refusal}
 use Rattle.cli_words.specs.declared.command.Drill.{Drill}
 use Rattle.cli_words.specs.declared.command.Publishing.{Publishing}
 use Rattle.cli_words.specs.declared.command.Replay.{Replay}

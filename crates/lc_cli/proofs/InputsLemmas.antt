@@ -7,7 +7,7 @@ use Rattle.gtfs_tables.specs.Reading.{Keeps}
 use Rattle.timetable.specs.declared.scope.Scope.{Scope}
 use Rattle.timetable.specs.declared.timetable.Timetable.{Timetable}
 use Rattle.lc_cli.specs.Clear.{IsRecordedFile}
-use Rattle.cli_inputs.specs.Inputs.{ReadsFile, ReadsInputs, ReadsUpdate}
+use Rattle.cli_replay.specs.Inputs.Inputs.{ReadsFile, ReadsInputs, ReadsUpdate}
 
 -- a directory that records files still records them once the timetable is loaded
 pub still_recorded : (recorded : List File) (old new : FolderSeen) → old.files ≡ Some recorded → Keeps old new → new.files ≡ Some recorded

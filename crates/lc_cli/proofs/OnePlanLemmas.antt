@@ -2,7 +2,7 @@
 use Rattle.std.proofs.Common.{◌≡◌, ◌+◌, ◌∷◌, ℕ, false, List, [], Some, arith, length, subst}
 use Rattle.std.specs.List.{AllZip}
 use Rattle.cli_ask.specs.Laws.{AreOneEnd}
-use Rattle.cli_inputs.specs.Plan.{SayEvents, SaysEvent, ReadsPlan}
+use Rattle.cli_replay.specs.Inputs.Plan.{SayEvents, SaysEvent, ReadsPlan}
 use Rattle.cli_words.specs.Laws.{OneCommand}
 use Rattle.cli_words.specs.Words.{SaysCommand}
 use Rattle.cli_words.specs.declared.command.Command.{Command}

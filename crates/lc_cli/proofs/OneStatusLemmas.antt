@@ -43,15 +43,15 @@ use Rattle.lc_cli.specs.Command.{IsQuestionBlock, IsRefusedAs, IsRightBlock, IsR
 use Rattle.lc_cli.specs.Scope.{scope_of}
 use Rattle.lc_cli.specs.Drill.{IsDrillRefused, IsDrilled, drill_folder, sure_seen}
 use Rattle.cli_drill.specs.Files.{drill_files}
-use Rattle.cli_inputs.specs.Inputs.{AsksForUpdate, IsRefusedFor}
+use Rattle.cli_replay.specs.Inputs.Inputs.{AsksForUpdate, IsRefusedFor}
 use Rattle.lc_cli.specs.Laws.{AreInProcess, DoneIsClear, DoneIsPrinted, IsInProcess, OneStatus}
 use Rattle.lc_cli.specs.Refusal.{IsRefusalEnd, status_of}
 use Rattle.lc_cli.specs.Top.{HasPrinted, HasServed, IsRight, Past}
 use Rattle.lc_cli.specs.declared.block.Block.{Block}
 use Rattle.lc_cli.specs.declared.question.Asking.{Asking}
 use Rattle.lc_cli.specs.declared.question.Asking.TheVariants as askings
-use Rattle.cli_inputs.specs.declared.refusal.Refusal.{Refusal}
-use Rattle.cli_inputs.specs.declared.refusal.Refusal.TheVariants as refused
+use Rattle.cli_replay.specs.declared.inputs.refusal.Refusal.{Refusal}
+use Rattle.cli_replay.specs.declared.inputs.refusal.Refusal.TheVariants as refused
 use Rattle.lc_cli.specs.declared.status.Status.{Status}
 use Rattle.lc_cli.specs.declared.status.Status.TheVariants.{Done, NoMemory, ScriptWrong, UpdateBroken, Usage}
 use Rattle.lc_cli.proofs.CourseRefusalLemmas.{HasLoaded, IsCourseRefused, IsRecordedCause, course_refused, not_refused, one_course_refusal, one_wrong, status_by, status_in}

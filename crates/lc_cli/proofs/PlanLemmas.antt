@@ -1,9 +1,9 @@
 -- What `plan` and `relay` read and result in over recorded files that nothing hinders.
 use Rattle.std.proofs.Common.{◌≡◌, ◌∙◌, ◌⊎◌, ℕ, false, inl, inr, List, Some, refl, subst, sym}
-use Rattle.cli_inputs.specs.Plan.{ReadsPlan}
-use Rattle.cli_inputs.specs.Script.{IsScriptRefused}
-use Rattle.cli_inputs.specs.declared.refusal.Refusal.{Refusal}
-use Rattle.cli_inputs.specs.declared.refusal.Refusal.TheVariants as refused
+use Rattle.cli_replay.specs.Inputs.Plan.{ReadsPlan}
+use Rattle.cli_replay.specs.Inputs.Script.{IsScriptRefused}
+use Rattle.cli_replay.specs.declared.inputs.refusal.Refusal.{Refusal}
+use Rattle.cli_replay.specs.declared.inputs.refusal.Refusal.TheVariants as refused
 use Rattle.cli_ask.specs.declared.end.ClientEnd.{ClientEnd}
 use Rattle.cli_replay.specs.Planning.Laws.{RelaysPlanRight}
 use Rattle.cli_words.specs.declared.command.Plan.{Plan}

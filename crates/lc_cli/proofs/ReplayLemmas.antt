@@ -6,9 +6,9 @@ use Rattle.cli_ask.specs.declared.end.ClientEnd.{ClientEnd}
 use Rattle.convoy.specs.ClientLaws.Fits.{HasEnded}
 use Rattle.convoy.specs.Replies.Ends.{EndsBy}
 use Rattle.convoy.specs.Replies.Made.{Made}
-use Rattle.cli_inputs.specs.Script.{IsEventOf, IsReplayRefused, ReadsEvents, ReadsReplay, StopsAtRecord}
-use Rattle.cli_inputs.specs.declared.refusal.Refusal.{Refusal}
-use Rattle.cli_inputs.specs.declared.refusal.Refusal.TheVariants as refused
+use Rattle.cli_replay.specs.Inputs.Script.{IsEventOf, IsReplayRefused, ReadsEvents, ReadsReplay, StopsAtRecord}
+use Rattle.cli_replay.specs.declared.inputs.refusal.Refusal.{Refusal}
+use Rattle.cli_replay.specs.declared.inputs.refusal.Refusal.TheVariants as refused
 use Rattle.cli_words.specs.declared.command.Replay.{Replay}
 use Rattle.lc_io.specs.Counts.{Rose}
 use Rattle.lc_io.specs.Folder.{FolderSeen, bytes_named}

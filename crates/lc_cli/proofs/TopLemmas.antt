@@ -44,15 +44,15 @@ use Rattle.lc_cli.specs.Clear.{HasFairLink, IsAnswered, IsPublishedSide, IsServe
 use Rattle.lc_cli.specs.Command.{IsQuestionBlock, IsRightRefusal, IsServer}
 use Rattle.lc_cli.specs.Scope.{scope_of}
 use Rattle.lc_cli.specs.Question.{IsAskedSo}
-use Rattle.cli_inputs.specs.Inputs.{AsksForUpdate, IsBrokenUpdate, IsLongUpdate}
+use Rattle.cli_replay.specs.Inputs.Inputs.{AsksForUpdate, IsBrokenUpdate, IsLongUpdate}
 use Rattle.lc_cli.specs.Refusal.{IsRefusalEnd, status_of}
 use Rattle.lc_cli.specs.Top.{IsEarlyRefusal, IsRight, Past}
 use Rattle.lc_cli.specs.declared.block.Block.{Block}
 use Rattle.lc_cli.specs.declared.question.Asking.{Asking}
 use Rattle.lc_cli.specs.declared.question.Asking.TheVariants as askings
 use Rattle.lc_cli.specs.declared.server.Server.{Server}
-use Rattle.cli_inputs.specs.declared.refusal.Refusal.{Refusal}
-use Rattle.cli_inputs.specs.declared.refusal.Refusal.TheVariants as refused
+use Rattle.cli_replay.specs.declared.inputs.refusal.Refusal.{Refusal}
+use Rattle.cli_replay.specs.declared.inputs.refusal.Refusal.TheVariants as refused
 use Rattle.lc_cli.specs.declared.status.Status.{Status}
 use Rattle.lc_cli.specs.declared.status.Status.TheVariants.{Usage, NoMemory}
 use Rattle.cli_words.specs.declared.command.Published.{Published}

@@ -3,7 +3,7 @@ use Rattle.std.specs.Prelude.{◌≡◌, ℕ, Bool, false, true, List, [], ◌�
 use Rattle.cli_ask.specs.Admission.{IsBehind}
 use Rattle.cli_ask.specs.Publishing.{side_for, store_of}
 use Rattle.cli_drill.specs.Files.{drill_files}
-use Rattle.cli_inputs.specs.Plan.{SayEvents}
+use Rattle.cli_replay.specs.Inputs.Plan.{SayEvents}
 use Rattle.cli_words.specs.Words.{SaysCommand}
 use Rattle.cli_words.specs.declared.command.Arrive.{Arrive}
 use Rattle.cli_words.specs.declared.command.Ask.{Ask}

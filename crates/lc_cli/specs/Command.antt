@@ -26,9 +26,9 @@ use Rattle.timetable.specs.declared.timetable.Timetable.{Timetable}
 use Rattle.lc_cli.specs.CheckText.{check_text_of}
 use Rattle.lc_cli.specs.Drill.{IsDrillBlock, IsDrillRefused}
 pub use Rattle.lc_cli.specs.Replay.{IsPlayedBy, IsReplayBlock}
-use Rattle.cli_inputs.specs.Inputs.{IsRefusedFor, ReadsInputs}
-use Rattle.cli_inputs.specs.Plan.{ReadsPlan}
-use Rattle.cli_inputs.specs.Script.{IsReplayRefused, IsScriptRefused}
+use Rattle.cli_replay.specs.Inputs.Inputs.{IsRefusedFor, ReadsInputs}
+use Rattle.cli_replay.specs.Inputs.Plan.{ReadsPlan}
+use Rattle.cli_replay.specs.Inputs.Script.{IsReplayRefused, IsScriptRefused}
 use Rattle.lc_cli.specs.Question.{IsAskedSo}
 use Rattle.lc_cli.specs.Scope.{scope_of}
 use Rattle.lc_cli.specs.declared.block.Block.{Block}
@@ -37,8 +37,8 @@ use Rattle.lc_cli.specs.declared.question.Asking.TheVariants as askings
 use Rattle.lc_cli.specs.declared.server.Server.{Server}
 use Rattle.lc_cli.specs.declared.work.Work.{Work}
 use Rattle.lc_cli.specs.declared.work.Work.TheVariants as works
-use Rattle.cli_inputs.specs.declared.refusal.Refusal.{Refusal}
-use Rattle.cli_inputs.specs.declared.refusal.Refusal.TheVariants.{Usage, Load}
+use Rattle.cli_replay.specs.declared.inputs.refusal.Refusal.{Refusal}
+use Rattle.cli_replay.specs.declared.inputs.refusal.Refusal.TheVariants.{Usage, Load}
 
 -- the timetable of the command's feed was loaded, and what is printed are its counts
 pub record IsCheckBlock (check : Check) (old new : FolderSeen) (block : Block) : Type 0 where

@@ -3,9 +3,9 @@ use Rattle.std.specs.Prelude.{◌≡◌, ◌⊎◌, ℕ, ◌+◌, List, [], ◌�
 use Rattle.cli_ask.specs.declared.end.ClientEnd.{ClientEnd}
 use Rattle.cli_drill.specs.Files.{drill_files}
 use Rattle.cli_replay.specs.Summary.{leaves_in, summary_of}
-use Rattle.cli_inputs.specs.Script.{IsReplayRefused}
-use Rattle.cli_inputs.specs.declared.refusal.Refusal.{Refusal}
-use Rattle.cli_inputs.specs.declared.refusal.Refusal.TheVariants.{Load}
+use Rattle.cli_replay.specs.Inputs.Script.{IsReplayRefused}
+use Rattle.cli_replay.specs.declared.inputs.refusal.Refusal.{Refusal}
+use Rattle.cli_replay.specs.declared.inputs.refusal.Refusal.TheVariants.{Load}
 use Rattle.cli_words.specs.Drill.{drilled_words}
 use Rattle.cli_words.specs.Words.{SaysCommand}
 use Rattle.cli_words.specs.declared.command.Command.TheVariants as commands

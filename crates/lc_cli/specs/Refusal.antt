@@ -8,8 +8,8 @@ use Rattle.timetable.specs.declared.fault.LoadFault.TheVariants as fault
 use Rattle.trip_updates.specs.Texts as messages
 use Rattle.trip_updates.specs.declared.fault.RtFault.{RtFault}
 use Rattle.lc_cli.specs.Writing.{Said}
-use Rattle.cli_inputs.specs.declared.refusal.Refusal.{Refusal}
-use Rattle.cli_inputs.specs.declared.refusal.Refusal.TheVariants as refused
+use Rattle.cli_replay.specs.declared.inputs.refusal.Refusal.{Refusal}
+use Rattle.cli_replay.specs.declared.inputs.refusal.Refusal.TheVariants as refused
 use Rattle.lc_cli.specs.declared.status.Status.{Status}
 use Rattle.lc_cli.specs.declared.status.Status.TheVariants.{Usage, FeedBroken, UpdateBroken, FolderFault, ScriptWrong, TooLarge, NoMemory}
 

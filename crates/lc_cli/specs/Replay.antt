@@ -1,7 +1,7 @@
 -- What a replay results in before anything is written.
 use Rattle.std.specs.Prelude.{◌≡◌, ℕ, List}
 use Rattle.cli_ask.specs.declared.end.ClientEnd.{ClientEnd}
-use Rattle.cli_inputs.specs.Script.{ReadsReplay}
+use Rattle.cli_replay.specs.Inputs.Script.{ReadsReplay}
 use Rattle.cli_words.specs.declared.command.Replay.{Replay}
 use Rattle.cli_replay.specs.ReplayLaws.Replayed.{IsReplayed}
 use Rattle.cli_replay.specs.declared.replay_laws.event.Event.{Event}

@@ -10,7 +10,7 @@ use Rattle.lc_cli.specs.Refusal.{IsRefusalEnd}
 use Rattle.lc_cli.specs.Serving.{IsServingEnd}
 use Rattle.lc_cli.specs.declared.block.Block.{Block}
 use Rattle.lc_cli.specs.declared.server.Server.{Server}
-use Rattle.cli_inputs.specs.declared.refusal.Refusal.{Refusal}
+use Rattle.cli_replay.specs.declared.inputs.refusal.Refusal.{Refusal}
 use Rattle.lc_cli.specs.declared.status.Status.{Status}
 use Rattle.lc_cli.specs.declared.status.Status.TheVariants.{Done, Usage, FeedBroken, UpdateBroken, FolderFault, SinkFault, LinkFault, PeerWrong, QueryRefused, DoorFault, ScriptWrong, TooLarge, NoMemory}
 

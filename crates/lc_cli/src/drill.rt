@@ -2,7 +2,7 @@ ghost use Rattle.std.specs.Prelude.{◌≡◌, ◌≢◌, ◌++◌, IfErr, IfOk,
 ghost use Rattle.cli_replay.specs.Summary.{leaves_in, summary_of};
 ghost use Rattle.cli_replay.specs.ReplayLaws.Events.{messages_in};
 ghost use Rattle.lc_world.specs.GoneOn.{IsLeftByPasses};
-ghost use Rattle.cli_inputs.specs.declared.refusal.Refusal.TheVariants.{Load};
+ghost use Rattle.cli_replay.specs.declared.inputs.refusal.Refusal.TheVariants.{Load};
 ghost use Rattle.timetable.specs.declared.fault.LoadFault.TheVariants.{NoMemory as OutOfMemory};
 ghost use Rattle.lc_cli.specs.Drill.{IsDrillBlock, IsDrillRefused, IsDrilled, IsSummed, drill_folder, drill_line_of, size_line_of};
 
@@ -10,8 +10,7 @@ use crate::block::Block;
 use crate::course::Course;
 use crate::replay::{play_course, read_course};
 use cli_drill::drill_files;
-use cli_inputs::Refusal;
-use cli_replay::{Measures, Replayed, measures_of, summary_text};
+use cli_replay::{Measures, Refusal, Replayed, measures_of, summary_text};
 use cli_words::{Drill, Replay, drilled_replay};
 use lc_io::SureFolder;
 use lc_model::NoMemory;

@@ -1,14 +1,13 @@
 ghost use Rattle.std.specs.Prelude.{◌≡◌, ◌≢◌, IfErr, IfOk, false};
-ghost use Rattle.cli_inputs.specs.Script.{IsScriptRefused};
-ghost use Rattle.cli_inputs.specs.declared.refusal.Refusal.TheVariants.{Load};
+ghost use Rattle.cli_replay.specs.Inputs.Script.{IsScriptRefused};
+ghost use Rattle.cli_replay.specs.declared.inputs.refusal.Refusal.TheVariants.{Load};
 ghost use Rattle.gtfs_tables.specs.Reading.{Keeps};
 ghost use Rattle.lc_world.specs.GoneOn.{IsLeftByGets};
 ghost use Rattle.timetable.specs.declared.fault.LoadFault.TheVariants.{NoMemory as OutOfMemory};
 ghost use Rattle.lc_cli.specs.Command.{IsPlanBlock, IsRelayBlock};
 
 use crate::block::Block;
-use cli_inputs::{Refusal, read_plan};
-use cli_replay::Planned;
+use cli_replay::{Planned, Refusal, read_plan};
 use cli_words::{Plan, Relay};
 use lc_io::Folder;
 use lc_model::NoMemory;

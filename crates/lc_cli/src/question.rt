@@ -1,7 +1,7 @@
 ghost use Rattle.std.specs.Prelude.{◌≡◌, ◌≢◌, [], ◌∷◌, IfErr, IfOk};
 ghost use Rattle.cli_ask.specs.Admission.{IsFaulty};
-ghost use Rattle.cli_inputs.specs.Inputs.{IsMessageRefusal, IsRefusedFor};
-ghost use Rattle.cli_inputs.specs.declared.refusal.Refusal.TheVariants.{Load};
+ghost use Rattle.cli_replay.specs.Inputs.Inputs.{IsMessageRefusal, IsRefusedFor};
+ghost use Rattle.cli_replay.specs.declared.inputs.refusal.Refusal.TheVariants.{Load};
 ghost use Rattle.gtfs_tables.specs.Reading.{Keeps};
 ghost use Rattle.lc_world.specs.GoneOn.{IsLeftByPasses};
 ghost use Rattle.timetable.specs.declared.fault.LoadFault.TheVariants.{NoMemory as OutOfMemory};
@@ -15,7 +15,7 @@ use crate::refusal::message_refusal;
 use crate::scope::scope_of;
 use back_scan::ArriveQuery;
 use cli_ask::Asked;
-use cli_inputs::{Inputs, Refusal, read_inputs};
+use cli_replay::{Inputs, Refusal, read_inputs};
 use cli_words::{Published, Publishing};
 use lc_io::{File, Folder};
 use lc_model::{NoMemory, Query};

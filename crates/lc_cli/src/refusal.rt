@@ -1,7 +1,7 @@
 ghost use Rattle.std.specs.Prelude.{◌≡◌, IfNone, IfOk, IfSome};
 ghost use Rattle.cli_ask.specs.Admission.{IsFaulty};
-ghost use Rattle.cli_inputs.specs.Inputs.{IsMessageRefusal};
-ghost use Rattle.cli_inputs.specs.declared.refusal.Refusal.TheVariants.{Load};
+ghost use Rattle.cli_replay.specs.Inputs.Inputs.{IsMessageRefusal};
+ghost use Rattle.cli_replay.specs.declared.inputs.refusal.Refusal.TheVariants.{Load};
 ghost use Rattle.timetable.specs.declared.fault.LoadFault.TheVariants.{NoMemory as OutOfMemory};
 ghost use Rattle.version_store.specs.declared.message_fault.MessageFault.TheVariants as messages;
 ghost use Rattle.lc_cli.specs.Refusal.{HasMadeLine, IsRefusalEnd, error_line_of, feed_line_of, large_line_of, script_line_of, status_of, update_line_of};
@@ -9,7 +9,7 @@ ghost use Rattle.cli_serve.specs.Written.{SinkNeverFell};
 ghost use Rattle.lc_cli.specs.Writing.{Said};
 
 use crate::status::Status;
-use cli_inputs::Refusal;
+use cli_replay::Refusal;
 use gtfs_tables::What;
 use lc_io::{File, Sink, SinkFail, put_all};
 use lc_model::NoMemory;

@@ -1,6 +1,6 @@
 ghost use Rattle.std.specs.Prelude.{◌≡◌, ◌≢◌, IfErr, IfOk};
-ghost use Rattle.cli_inputs.specs.Script.{IsReplayRefused};
-ghost use Rattle.cli_inputs.specs.declared.refusal.Refusal.TheVariants.{Load};
+ghost use Rattle.cli_replay.specs.Inputs.Script.{IsReplayRefused};
+ghost use Rattle.cli_replay.specs.declared.inputs.refusal.Refusal.TheVariants.{Load};
 ghost use Rattle.gtfs_tables.specs.Reading.{Keeps};
 ghost use Rattle.cli_replay.specs.ReplayLaws.Replayed.{IsReplayed};
 ghost use Rattle.cli_replay.specs.ReplayLaws.Versions.{HaveAdmitted};
@@ -12,8 +12,7 @@ ghost use Rattle.lc_cli.specs.Scope.{scope_of};
 use crate::block::Block;
 use crate::course::Course;
 use crate::scope::scope_of;
-use cli_inputs::{Refusal, ReplayInputs, read_replay};
-use cli_replay::Replayed;
+use cli_replay::{Refusal, ReplayInputs, Replayed, read_replay};
 use cli_words::Replay;
 use lc_io::Folder;
 use lc_model::NoMemory;

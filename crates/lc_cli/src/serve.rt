@@ -1,5 +1,5 @@
 ghost use Rattle.std.specs.Prelude.{IfErr, IfOk};
-ghost use Rattle.cli_inputs.specs.Inputs.{IsRefusedFor};
+ghost use Rattle.cli_replay.specs.Inputs.Inputs.{IsRefusedFor};
 ghost use Rattle.cli_serve.specs.Serve.{DoorNeverFell};
 ghost use Rattle.lc_cli.specs.Serving.{IsServingEnd};
 ghost use Rattle.cli_serve.specs.Written.{SinkNeverFell};
@@ -12,7 +12,7 @@ use crate::scope::scope_of;
 use crate::server::Server;
 use crate::status::Status;
 use cli_ask::serving_publisher;
-use cli_inputs::{Inputs, Refusal, read_inputs};
+use cli_replay::{Inputs, Refusal, read_inputs};
 use cli_serve::ServeFault;
 use cli_words::{Published, Serve};
 use lc_io::{Door, Folder, Sink};

@@ -1,5 +1,5 @@
 use Rattle.std.proofs.Common.{subst}
-use Rattle.cli_inputs.specs.Inputs.{ReadsInputs}
+use Rattle.cli_replay.specs.Inputs.Inputs.{ReadsInputs}
 use Rattle.lc_world.proofs.GoneOnLemmas.{no_passes}
 use Rattle.timetable.specs.declared.scope.Scope.{Scope}
 use Rattle.lc_cli.specs.Scope.{scope_of}

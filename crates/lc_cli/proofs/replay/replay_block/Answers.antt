@@ -1,5 +1,5 @@
 use Rattle.std.proofs.Common.{inr, subst, sym}
-use Rattle.cli_inputs.specs.Script.{IsReplayRefused}
+use Rattle.cli_replay.specs.Inputs.Script.{IsReplayRefused}
 use Rattle.lc_cli.specs.Scope.{scope_of}
 use Rattle.lc_cli.proofs.DrillLemmas.{replay_block_of}
 use Rattle.lc_cli.proofs.replay.replay_block.Goals as goal

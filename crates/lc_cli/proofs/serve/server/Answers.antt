@@ -1,6 +1,6 @@
 use Rattle.std.proofs.Common.{refl, subst}
-use Rattle.cli_inputs.proofs.InputsLemmas.{message_refused}
-use Rattle.cli_inputs.specs.Inputs.{ReadsInputs}
+use Rattle.cli_replay.proofs.InputsLemmas.InputsLemmas.{message_refused}
+use Rattle.cli_replay.specs.Inputs.Inputs.{ReadsInputs}
 use Rattle.timetable.specs.declared.scope.Scope.{Scope}
 use Rattle.lc_cli.proofs.serve.server.Goals as goal
 

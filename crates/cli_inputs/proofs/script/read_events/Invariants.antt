@@ -1,7 +1,0 @@
-use Rattle.std.proofs.Common.{◌≡◌}
-use Rattle.cli_inputs.proofs.ScriptLemmas.{ReadUntil}
-use Rattle.cli_inputs.proofs.script.read_events.Given as goal
-
-abbrev pub invariant-records : goal.invariant-records
-invariant-records g l =
-    (l.records ≡ l.script) × ReadUntil l.script l.place (g.F.Folder.seen l.fn.folder) (g.F.Folder.seen l.folder) l.events.items
