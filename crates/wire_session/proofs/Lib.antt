@@ -1,8 +1,9 @@
 pub mod EndLemmas
-pub mod GrowLemmas
 pub mod FrontLemmas
+pub mod GrowLemmas
 pub mod LongLemmas
 pub mod OneSaidLemmas
+pub mod ServerLemmas
 pub mod SessionLemmas
 pub mod StandLemmas
 pub mod StepLemmas

@@ -1,5 +1,6 @@
 pub mod Laws
 pub mod Phase
+pub mod Server
 pub mod Session
 pub mod SessionOut
 pub mod Stands

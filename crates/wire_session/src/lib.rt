@@ -10,8 +10,10 @@ mod next;
 mod output;
 mod phase;
 mod replies;
+mod server;
 mod session;
 
 pub use fed::Fed;
 pub use laws::{near_outputs, one_output, stands_means};
+pub use server::{ServeFault, near_servings, near_sides, one_over_bytes, one_serving, serve};
 pub use session::Session;
