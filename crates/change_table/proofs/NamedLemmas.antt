@@ -20,7 +20,7 @@ use Rattle.lc_model.specs.declared.change.Change.{Change}
 use Rattle.lc_model.specs.declared.stop.Stop.{Stop}
 use Rattle.lc_model.proofs.OrdersLemmas.{strict_lists_are_one}
 use Rattle.lc_model.proofs.SearchLemmas.{same_id}
-use Rattle.gtfs_calendars.specs.declared.transfer.Transfer.{Transfer}
+use Rattle.gtfs_tables.specs.declared.calendars.transfer.Transfer.{Transfer}
 use Rattle.change_table.specs.ChangeRule.{are_together, given_seconds, is_same_station, said_seconds, usual_seconds}
 use Rattle.change_table.specs.Pairs.{changes_to, timed_change}
 use Rattle.change_table.specs.Partners.{Gains, IsOf, named_ids, stops_at}

@@ -20,7 +20,7 @@ use Rattle.lc_model.specs.Change.{is_same_id}
 use Rattle.lc_model.specs.Text.{id_cmp}
 use Rattle.lc_model.specs.declared.stop.Stop.{Stop}
 use Rattle.lc_model.proofs.SearchLemmas.{same_id}
-use Rattle.gtfs_calendars.specs.declared.transfer.Transfer.{Transfer}
+use Rattle.gtfs_tables.specs.declared.calendars.transfer.Transfer.{Transfer}
 use Rattle.change_table.specs.ChangeRule.{first_row, given_seconds, has_known_kind, is_between, said_seconds, usual_seconds, are_together}
 use Rattle.change_table.specs.Rows.{AreSortedRows, row_cmp, row_for, row_to, rows_from, seconds_by, target, recorded}
 use Rattle.change_table.specs.declared.rows.Row.{Row}

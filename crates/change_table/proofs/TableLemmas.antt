@@ -16,7 +16,7 @@ use Rattle.lc_model.specs.Totals.{change_cmp_total}
 use Rattle.lc_model.specs.declared.change.Change.{Change}
 use Rattle.lc_model.specs.declared.stop.Stop.{Stop}
 use Rattle.lc_model.proofs.OrdersLemmas.{strict_lists_are_one}
-use Rattle.gtfs_calendars.specs.declared.transfer.Transfer.{Transfer}
+use Rattle.gtfs_tables.specs.declared.calendars.transfer.Transfer.{Transfer}
 use Rattle.change_table.specs.ChangeRule.{change_from_to, change_of, given_seconds, stop_of}
 use Rattle.change_table.specs.ChangeTable.{AreChangesOf, OneListOfChanges, count_of_changes}
 use Rattle.change_table.specs.Pairs.{changes_among, changes_to, timed_change}

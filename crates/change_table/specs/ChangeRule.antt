@@ -4,7 +4,7 @@ use Rattle.std.specs.Prelude.{ℕ, max, List, Option, Some, None, option_map, un
 use Rattle.std.specs.Option.{option_and_then, option_map_or, option_or}
 use Rattle.lc_model.specs.Change.{is_same_id}
 use Rattle.lc_model.specs.declared.stop.Stop.{Stop}
-use Rattle.gtfs_calendars.specs.declared.transfer.Transfer.{Transfer}
+use Rattle.gtfs_tables.specs.declared.calendars.transfer.Transfer.{Transfer}
 
 -- the row is of a type that says something of every traveller
 abbrev pub has_known_kind : Transfer → Bool

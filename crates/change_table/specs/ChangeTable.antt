@@ -4,7 +4,7 @@ use Rattle.std.specs.List.{Contains}
 use Rattle.lc_model.specs.Change.{InChangeOrder}
 use Rattle.lc_model.specs.declared.change.Change.{Change}
 use Rattle.lc_model.specs.declared.stop.Stop.{Stop}
-use Rattle.gtfs_calendars.specs.declared.transfer.Transfer.{Transfer}
+use Rattle.gtfs_tables.specs.declared.calendars.transfer.Transfer.{Transfer}
 use Rattle.change_table.specs.ChangeRule.{change_from_to, change_of}
 use Rattle.change_table.specs.declared.fault.ChangeFault.{ChangeFault}
 use Rattle.change_table.specs.declared.fault.ChangeFault.TheVariants.{TooManyChanges, NoMemory}

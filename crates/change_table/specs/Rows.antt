@@ -7,7 +7,7 @@ use Rattle.std.specs.declared.cmp.Ordering.{Ordering}
 use Rattle.lc_model.specs.Change.{is_same_id}
 use Rattle.lc_model.specs.Text.{id_cmp}
 use Rattle.lc_model.specs.declared.stop.Stop.{Stop}
-use Rattle.gtfs_calendars.specs.declared.transfer.Transfer.{Transfer}
+use Rattle.gtfs_tables.specs.declared.calendars.transfer.Transfer.{Transfer}
 use Rattle.change_table.specs.ChangeRule.{are_together, has_known_kind, is_between, said_seconds, usual_seconds}
 use Rattle.change_table.specs.declared.rows.Row.{Row}
 

@@ -2,7 +2,7 @@
 use Rattle.std.specs.Prelude.{ℕ, List, [], ◌∷◌, Option, Some, None, map, codes}
 use Rattle.lc_model.specs.declared.change.Change.{Change}
 use Rattle.lc_model.specs.declared.stop.Stop.{Stop}
-use Rattle.gtfs_calendars.specs.declared.transfer.Transfer.{Transfer}
+use Rattle.gtfs_tables.specs.declared.calendars.transfer.Transfer.{Transfer}
 use Rattle.change_table.specs.ChangeRule.{change_of}
 use Rattle.change_table.specs.Pairs.{timed_change}
 

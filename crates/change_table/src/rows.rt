@@ -7,7 +7,7 @@ ghost use Rattle.lc_model.specs.Text.{id_cmp};
 ghost use Rattle.change_table.specs.ChangeRule.{has_known_kind};
 ghost use Rattle.change_table.specs.Rows.{AreSortedRows, row_cmp, row_to, target, recorded};
 
-use gtfs_calendars::Transfer;
+use gtfs_tables::Transfer;
 use lc_model::{Id, Keyed, NoMemory};
 use std::alloc::Global;
 use std::cmp::Ordering;

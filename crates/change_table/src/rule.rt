@@ -7,7 +7,7 @@ ghost use Rattle.change_table.specs.ChangeRule.{are_together, is_same_station, s
 ghost use Rattle.change_table.specs.Rows.{row_for, seconds_by, target};
 
 use crate::rows::{Row, row_to};
-use gtfs_calendars::Transfer;
+use gtfs_tables::Transfer;
 use lc_model::{Id, Stop};
 
 /// The first of the rows to a stop, else the first to its parent.

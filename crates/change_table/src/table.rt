@@ -9,7 +9,7 @@ ghost use Rattle.change_table.specs.ChangeTable.{AreChangesOf, HasCause, OneList
 ghost use Rattle.change_table.specs.Pairs.{changes_among, changes_to, timed_change};
 ghost use Rattle.change_table.specs.Partners.{AreChildren, child_cmp, stops_at};
 ghost use Rattle.change_table.specs.Rows.{AreSortedRows, row_cmp, seconds_by, target};
-ghost use Rattle.gtfs_calendars.specs.declared.transfer.Transfer.{Transfer as SaidTransfer};
+ghost use Rattle.gtfs_tables.specs.declared.calendars.transfer.Transfer.{Transfer as SaidTransfer};
 
 use crate::children::{Child, children_of};
 use crate::fault::{ChangeFault, MOST_CHANGES};
@@ -17,7 +17,7 @@ use crate::origin::{Origin, origin_at};
 use crate::partners::partners;
 use crate::rows::{Row, sorted_rows};
 use crate::rule::seconds_by;
-use gtfs_calendars::{Transfer, Transfers};
+use gtfs_tables::{Transfer, Transfers};
 use lc_model::{Change, Changes, PlainData, Stop, Stops};
 use std::alloc::Global;
 

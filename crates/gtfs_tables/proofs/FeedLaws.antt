@@ -6,22 +6,22 @@ use Rattle.std.proofs.lemmas.List.{get_or-take, length-take}
 use Rattle.std.proofs.lemmas.Option.{get_or_from_slice_get, slice_get_within}
 use Rattle.std.specs.List.{All, slice_get}
 use Rattle.lc_model.specs.declared.stop.Stop.{Stop}
-use Rattle.gtfs_fields.specs.Laws.{AreNeverBoth, SayOne}
-use Rattle.gtfs_fields.specs.declared.fault.FileFault.{FileFault}
-use Rattle.gtfs_fields.specs.declared.trip_rows.TripRow.{TripRow}
-use Rattle.gtfs_trips.proofs.StopLaws.{stops_are_one, stops_faults_are_one, stops_have_no_fault}
-use Rattle.gtfs_trips.proofs.StopTimeLaws.{stop_times_faults_are_one, stop_times_have_no_fault}
-use Rattle.gtfs_trips.proofs.TripLaws.{trips_are_one, trips_faults_are_one, trips_have_no_fault}
-use Rattle.gtfs_trips.specs.Stops.{AreStopsOf, IsStopsFault}
-use Rattle.gtfs_trips.specs.StopTimes.{AreStopTimesOf, IsStopTimesFault}
-use Rattle.gtfs_trips.specs.Trips.{AreTripsOf, IsTripsFault}
-use Rattle.gtfs_trips.specs.declared.stop_times.StopTime.{StopTime}
-use Rattle.gtfs_calendars.proofs.ReadLaws.{calendar_dates_faults_are_one, calendar_faults_are_one, dates_have_no_fault, frequencies_faults_are_one, frequencies_have_no_fault, transfers_faults_are_one, transfers_have_no_fault, weekly_have_no_fault}
-use Rattle.gtfs_calendars.specs.Calendar.{AreWeekly, IsCalendarFault}
-use Rattle.gtfs_calendars.specs.CalendarDates.{AreDates, IsCalendarDatesFault}
-use Rattle.gtfs_calendars.specs.Frequencies.{AreFrequencies, IsFrequenciesFault}
-use Rattle.gtfs_calendars.specs.Transfers.{AreTransfers, IsTransfersFault}
-use Rattle.gtfs_calendars.specs.declared.calendar_dates.DateRow.{DateRow}
+use Rattle.gtfs_tables.specs.Fields.Laws.{AreNeverBoth, SayOne}
+use Rattle.gtfs_tables.specs.declared.fields.fault.FileFault.{FileFault}
+use Rattle.gtfs_tables.specs.declared.fields.trip_rows.TripRow.{TripRow}
+use Rattle.gtfs_tables.proofs.TripsLemmas.StopLaws.{stops_are_one, stops_faults_are_one, stops_have_no_fault}
+use Rattle.gtfs_tables.proofs.TripsLemmas.StopTimeLaws.{stop_times_faults_are_one, stop_times_have_no_fault}
+use Rattle.gtfs_tables.proofs.TripsLemmas.TripLaws.{trips_are_one, trips_faults_are_one, trips_have_no_fault}
+use Rattle.gtfs_tables.specs.Trips.Stops.{AreStopsOf, IsStopsFault}
+use Rattle.gtfs_tables.specs.Trips.StopTimes.{AreStopTimesOf, IsStopTimesFault}
+use Rattle.gtfs_tables.specs.Trips.Trips.{AreTripsOf, IsTripsFault}
+use Rattle.gtfs_tables.specs.declared.trips.stop_times.StopTime.{StopTime}
+use Rattle.gtfs_tables.proofs.CalendarsLemmas.ReadLaws.{calendar_dates_faults_are_one, calendar_faults_are_one, dates_have_no_fault, frequencies_faults_are_one, frequencies_have_no_fault, transfers_faults_are_one, transfers_have_no_fault, weekly_have_no_fault}
+use Rattle.gtfs_tables.specs.Calendars.Calendar.{AreWeekly, IsCalendarFault}
+use Rattle.gtfs_tables.specs.Calendars.CalendarDates.{AreDates, IsCalendarDatesFault}
+use Rattle.gtfs_tables.specs.Calendars.Frequencies.{AreFrequencies, IsFrequenciesFault}
+use Rattle.gtfs_tables.specs.Calendars.Transfers.{AreTransfers, IsTransfersFault}
+use Rattle.gtfs_tables.specs.declared.calendars.calendar_dates.DateRow.{DateRow}
 use Rattle.gtfs_tables.specs.Feed.{AreFrequenciesRight, AreFrequenciesWrong, AreTables, AreTimesRight, AreTimesWrong, AreTransfersRight, AreTransfersWrong, HasRows, Holds, IsAbsence, IsFaultAt, IsRightAt, StopsAre, TripsAre}
 use Rattle.gtfs_tables.specs.Files.{Found, feed_files}
 use Rattle.gtfs_tables.specs.Laws.{NeverBoth, OneFirst}

@@ -3,16 +3,16 @@ use Rattle.std.proofs.Common.{◌≡◌, ◌∙◌, ◌⊎◌, ℕ, inl, inr, Bo
 use Rattle.std.specs.Prelude.{is_some, unwrap_or, MatchOption}
 use Rattle.lc_model.specs.declared.stop.Stop.{Stop}
 use Rattle.lc_io.specs.Folder.{FolderSeen}
-use Rattle.gtfs_fields.specs.declared.fault.FileFault.{FileFault}
-use Rattle.gtfs_fields.specs.declared.trip_rows.TripRow.{TripRow}
-use Rattle.gtfs_trips.specs.Stops.{HaveKnownParents}
-use Rattle.gtfs_trips.specs.declared.stop_times.StopTime.{StopTime}
-use Rattle.gtfs_trips.specs.declared.timed_trips.TimedTrips.{TimedTrips}
-use Rattle.gtfs_calendars.specs.Calendar.{AreWeekly}
-use Rattle.gtfs_calendars.specs.CalendarDates.{IsCalendarDatesFault}
-use Rattle.gtfs_calendars.specs.declared.calendar.Weekly.{Weekly}
-use Rattle.gtfs_calendars.specs.declared.calendar_dates.DateRow.{DateRow}
-use Rattle.gtfs_calendars.specs.declared.frequency.Frequency.{Frequency}
+use Rattle.gtfs_tables.specs.declared.fields.fault.FileFault.{FileFault}
+use Rattle.gtfs_tables.specs.declared.fields.trip_rows.TripRow.{TripRow}
+use Rattle.gtfs_tables.specs.Trips.Stops.{HaveKnownParents}
+use Rattle.gtfs_tables.specs.declared.trips.stop_times.StopTime.{StopTime}
+use Rattle.gtfs_tables.specs.declared.trips.timed_trips.TimedTrips.{TimedTrips}
+use Rattle.gtfs_tables.specs.Calendars.Calendar.{AreWeekly}
+use Rattle.gtfs_tables.specs.Calendars.CalendarDates.{IsCalendarDatesFault}
+use Rattle.gtfs_tables.specs.declared.calendars.calendar.Weekly.{Weekly}
+use Rattle.gtfs_tables.specs.declared.calendars.calendar_dates.DateRow.{DateRow}
+use Rattle.gtfs_tables.specs.declared.calendars.frequency.Frequency.{Frequency}
 use Rattle.gtfs_tables.specs.Feed.{HasRows, IsAbsence, StopTimesAre, WeeklyAre}
 use Rattle.gtfs_tables.specs.Steps.{HasDates, HasFrequencies, HasStops, HasTimes, HasTransfers, HasTrips, HasWeekly, IsStep, IsWalk, IsWrongDates, IsWrongFrequencies, IsWrongStops, IsWrongTimes, IsWrongTransfers, IsWrongTrips, IsWrongWeekly, StepEnds}
 use Rattle.gtfs_tables.specs.declared.end.End.{End}

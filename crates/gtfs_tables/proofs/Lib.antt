@@ -1,7 +1,10 @@
+pub mod CalendarsLemmas
 pub mod CountLemmas
 pub mod FeedLaws
 pub mod FeedWalkLemmas
+pub mod FieldsLemmas
 pub mod OneTablesLaws
-pub mod StepLemmas
 pub mod ReportedLemmas
+pub mod StepLemmas
+pub mod TripsLemmas
 pub mod WalkLemmas

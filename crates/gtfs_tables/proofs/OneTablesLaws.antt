@@ -2,23 +2,23 @@
 use Rattle.std.proofs.Common.{◌≡◌, ◌∙◌, ℕ, ◌+◌, List, Option, Some, None, length, ap, subst, arith}
 use Rattle.std.proofs.Props.{props}
 use Rattle.lc_model.specs.declared.stop.Stop.{Stop}
-use Rattle.gtfs_fields.specs.declared.trip_rows.TripRow.{TripRow}
-use Rattle.gtfs_trips.proofs.StopLaws.{stops_are_one}
-use Rattle.gtfs_trips.proofs.StopTimeLaws.{stop_times_are_one}
-use Rattle.gtfs_trips.proofs.TripLaws.{trips_are_one}
-use Rattle.gtfs_trips.specs.Stops.{AreStopsOf, HaveKnownParents}
-use Rattle.gtfs_trips.specs.StopTimes.{AreStopTimesOf}
-use Rattle.gtfs_trips.specs.Trips.{AreTripsOf}
-use Rattle.gtfs_trips.specs.declared.stop_times.StopTime.{StopTime}
-use Rattle.gtfs_calendars.proofs.ReadLaws.{dates_are_one, frequencies_are_one, transfers_are_one, weekly_are_one}
-use Rattle.gtfs_calendars.specs.Calendar.{AreWeekly}
-use Rattle.gtfs_calendars.specs.CalendarDates.{AreDates}
-use Rattle.gtfs_calendars.specs.Frequencies.{AreFrequencies}
-use Rattle.gtfs_calendars.specs.Transfers.{AreTransfers}
-use Rattle.gtfs_calendars.specs.declared.calendar.Weekly.{Weekly}
-use Rattle.gtfs_calendars.specs.declared.calendar_dates.DateRow.{DateRow}
-use Rattle.gtfs_calendars.specs.declared.frequency.Frequency.{Frequency}
-use Rattle.gtfs_calendars.specs.declared.transfer.Transfer.{Transfer}
+use Rattle.gtfs_tables.specs.declared.fields.trip_rows.TripRow.{TripRow}
+use Rattle.gtfs_tables.proofs.TripsLemmas.StopLaws.{stops_are_one}
+use Rattle.gtfs_tables.proofs.TripsLemmas.StopTimeLaws.{stop_times_are_one}
+use Rattle.gtfs_tables.proofs.TripsLemmas.TripLaws.{trips_are_one}
+use Rattle.gtfs_tables.specs.Trips.Stops.{AreStopsOf, HaveKnownParents}
+use Rattle.gtfs_tables.specs.Trips.StopTimes.{AreStopTimesOf}
+use Rattle.gtfs_tables.specs.Trips.Trips.{AreTripsOf}
+use Rattle.gtfs_tables.specs.declared.trips.stop_times.StopTime.{StopTime}
+use Rattle.gtfs_tables.proofs.CalendarsLemmas.ReadLaws.{dates_are_one, frequencies_are_one, transfers_are_one, weekly_are_one}
+use Rattle.gtfs_tables.specs.Calendars.Calendar.{AreWeekly}
+use Rattle.gtfs_tables.specs.Calendars.CalendarDates.{AreDates}
+use Rattle.gtfs_tables.specs.Calendars.Frequencies.{AreFrequencies}
+use Rattle.gtfs_tables.specs.Calendars.Transfers.{AreTransfers}
+use Rattle.gtfs_tables.specs.declared.calendars.calendar.Weekly.{Weekly}
+use Rattle.gtfs_tables.specs.declared.calendars.calendar_dates.DateRow.{DateRow}
+use Rattle.gtfs_tables.specs.declared.calendars.frequency.Frequency.{Frequency}
+use Rattle.gtfs_tables.specs.declared.calendars.transfer.Transfer.{Transfer}
 use Rattle.gtfs_tables.specs.Feed.{FrequenciesAre, Holds, StopTimesAre, TransfersAre}
 use Rattle.gtfs_tables.specs.Laws.{OneTables}
 use Rattle.gtfs_tables.specs.declared.feed_file.FeedFile.TheVariants as file

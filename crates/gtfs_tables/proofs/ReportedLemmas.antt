@@ -4,11 +4,11 @@ use Rattle.std.specs.Prelude.{is_none, MatchOption}
 use Rattle.lc_io.specs.Counts.{Rose}
 use Rattle.lc_io.specs.Folder.{FolderSeen}
 use Rattle.gtfs_rows.specs.Sheet.{Sheet}
-use Rattle.gtfs_fields.specs.AnyLength.{IsFirstFault}
-use Rattle.gtfs_fields.specs.Table.{IsFileFault}
-use Rattle.gtfs_fields.specs.declared.fault.FileFault.TheVariants as wrong
-use Rattle.gtfs_fields.specs.declared.trip_rows.TripRow.{TripRow}
-use Rattle.gtfs_trips.specs.StopTimes.{IsStopTimesFault}
+use Rattle.gtfs_tables.specs.Fields.AnyLength.{IsFirstFault}
+use Rattle.gtfs_tables.specs.Fields.Table.{IsFileFault}
+use Rattle.gtfs_tables.specs.declared.fields.fault.FileFault.TheVariants as wrong
+use Rattle.gtfs_tables.specs.declared.fields.trip_rows.TripRow.{TripRow}
+use Rattle.gtfs_tables.specs.Trips.StopTimes.{IsStopTimesFault}
 use Rattle.lc_model.specs.declared.stop.Stop.{Stop}
 use Rattle.gtfs_tables.specs.Feed.{Holds, IsAbsence, IsFaultAt, IsFirstBroken, named_at, what_of}
 use Rattle.gtfs_tables.specs.Files.{Found}

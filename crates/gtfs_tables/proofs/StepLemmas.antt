@@ -2,14 +2,14 @@
 use Rattle.std.proofs.Common.{◌≡◌, ◌⊎◌, ℕ, List, Option, Some, Result, Ok, Err, inl, inr, refl, subst, sym}
 use Rattle.lc_io.specs.Folder.{FolderSeen}
 use Rattle.lc_model.specs.declared.stop.Stop.{Stop}
-use Rattle.gtfs_fields.specs.declared.fault.FileFault.{FileFault}
-use Rattle.gtfs_fields.specs.declared.fault.FileFault.TheVariants as wrong
-use Rattle.gtfs_trips.specs.StopTimes.{IsStopTimesFault}
+use Rattle.gtfs_tables.specs.declared.fields.fault.FileFault.{FileFault}
+use Rattle.gtfs_tables.specs.declared.fields.fault.FileFault.TheVariants as wrong
+use Rattle.gtfs_tables.specs.Trips.StopTimes.{IsStopTimesFault}
 use Rattle.gtfs_tables.specs.Feed.{named_at}
 use Rattle.gtfs_tables.specs.Steps.{Finds, IsStep, IsWrongTimes, Judges, StepEnds, end_of}
 use Rattle.gtfs_tables.specs.declared.end.End.{End}
 use Rattle.gtfs_tables.specs.declared.end.End.TheVariants.{Failed, NoMemory, Wrong}
-use Rattle.gtfs_fields.specs.declared.trip_rows.TripRow.{TripRow}
+use Rattle.gtfs_tables.specs.declared.fields.trip_rows.TripRow.{TripRow}
 use Rattle.gtfs_tables.specs.declared.feed_file.FeedFile.{FeedFile}
 use Rattle.gtfs_tables.specs.declared.feed_file.FeedFile.TheVariants as file
 

@@ -9,7 +9,7 @@ use Rattle.std.proofs.lemmas.List.Sums.{sum_by-append}
 use Rattle.lc_io.specs.Counts.{Rose, RoseBy}
 use Rattle.lc_io.specs.Folder.{FolderSeen, asked_after}
 use Rattle.lc_io.specs.declared.file.File.{File}
-use Rattle.gtfs_fields.specs.declared.fault.FileFault.{FileFault}
+use Rattle.gtfs_tables.specs.declared.fields.fault.FileFault.{FileFault}
 use Rattle.gtfs_tables.specs.Feed.{IsFaultAt, IsRightAt, named_at}
 use Rattle.gtfs_tables.specs.Files.{Found, feed_files, files_of, first_paths, path_of}
 use Rattle.gtfs_tables.specs.Reading.{Keeps, Reads, absent_among}

@@ -3,21 +3,21 @@
 use Rattle.std.specs.Prelude.{◌≡◌, ℕ, ◌+◌, ◌⊎◌, List, [], take, length, Option, Some, None, IsNone, IsSome, IsSomeAnd, MatchOption, is_none, if◌then◌else◌}
 use Rattle.std.specs.List.{All, slice_get}
 use Rattle.lc_model.specs.declared.stop.Stop.{Stop}
-use Rattle.gtfs_fields.specs.declared.fault.FileFault.{FileFault}
-use Rattle.gtfs_fields.specs.declared.fault.FileFault.TheVariants.{Broken}
-use Rattle.gtfs_fields.specs.declared.trip_rows.TripRow.{TripRow}
-use Rattle.gtfs_trips.specs.Stops.{AreStopsOf, IsStopsFault}
-use Rattle.gtfs_trips.specs.StopTimes.{AreStopTimesOf, IsStopTimesFault}
-use Rattle.gtfs_trips.specs.Trips.{AreTripsOf, IsTripsFault}
-use Rattle.gtfs_trips.specs.declared.stop_times.StopTime.{StopTime}
-use Rattle.gtfs_calendars.specs.Calendar.{AreWeekly, IsCalendarFault}
-use Rattle.gtfs_calendars.specs.CalendarDates.{AreDates, IsCalendarDatesFault}
-use Rattle.gtfs_calendars.specs.Frequencies.{AreFrequencies, IsFrequenciesFault}
-use Rattle.gtfs_calendars.specs.Transfers.{AreTransfers, IsTransfersFault}
-use Rattle.gtfs_calendars.specs.declared.calendar.Weekly.{Weekly}
-use Rattle.gtfs_calendars.specs.declared.calendar_dates.DateRow.{DateRow}
-use Rattle.gtfs_calendars.specs.declared.frequency.Frequency.{Frequency}
-use Rattle.gtfs_calendars.specs.declared.transfer.Transfer.{Transfer}
+use Rattle.gtfs_tables.specs.declared.fields.fault.FileFault.{FileFault}
+use Rattle.gtfs_tables.specs.declared.fields.fault.FileFault.TheVariants.{Broken}
+use Rattle.gtfs_tables.specs.declared.fields.trip_rows.TripRow.{TripRow}
+use Rattle.gtfs_tables.specs.Trips.Stops.{AreStopsOf, IsStopsFault}
+use Rattle.gtfs_tables.specs.Trips.StopTimes.{AreStopTimesOf, IsStopTimesFault}
+use Rattle.gtfs_tables.specs.Trips.Trips.{AreTripsOf, IsTripsFault}
+use Rattle.gtfs_tables.specs.declared.trips.stop_times.StopTime.{StopTime}
+use Rattle.gtfs_tables.specs.Calendars.Calendar.{AreWeekly, IsCalendarFault}
+use Rattle.gtfs_tables.specs.Calendars.CalendarDates.{AreDates, IsCalendarDatesFault}
+use Rattle.gtfs_tables.specs.Calendars.Frequencies.{AreFrequencies, IsFrequenciesFault}
+use Rattle.gtfs_tables.specs.Calendars.Transfers.{AreTransfers, IsTransfersFault}
+use Rattle.gtfs_tables.specs.declared.calendars.calendar.Weekly.{Weekly}
+use Rattle.gtfs_tables.specs.declared.calendars.calendar_dates.DateRow.{DateRow}
+use Rattle.gtfs_tables.specs.declared.calendars.frequency.Frequency.{Frequency}
+use Rattle.gtfs_tables.specs.declared.calendars.transfer.Transfer.{Transfer}
 use Rattle.gtfs_tables.specs.Files.{Found, feed_files}
 use Rattle.gtfs_tables.specs.declared.feed_file.FeedFile.{FeedFile}
 use Rattle.gtfs_tables.specs.declared.feed_file.FeedFile.TheVariants as file

@@ -1,6 +1,6 @@
 -- What was found of a feed says one thing of it.
 use Rattle.std.specs.Prelude.{◌≡◌, ℕ}
-use Rattle.gtfs_fields.specs.declared.fault.FileFault.{FileFault}
+use Rattle.gtfs_tables.specs.declared.fields.fault.FileFault.{FileFault}
 use Rattle.gtfs_tables.specs.Feed.{AreTables, IsFirstBroken}
 use Rattle.gtfs_tables.specs.Files.{Found}
 use Rattle.gtfs_tables.specs.declared.feed_file.FeedFile.{FeedFile}

@@ -1,7 +1,10 @@
+pub mod Calendars
 pub mod Feed
+pub mod Fields
 pub mod Files
 pub mod Laws
 pub mod Parts
 pub mod Reading
 pub mod Steps
 pub mod Texts
+pub mod Trips

@@ -3,7 +3,7 @@ use Rattle.std.specs.Prelude.{◌≡◌, ℕ, suc, ◌-◌, ◌≤◌, List, ◌
 use Rattle.std.specs.List.{All}
 use Rattle.lc_io.specs.Counts.{Rose, RoseBy}
 use Rattle.lc_io.specs.Folder.{FolderSeen}
-use Rattle.gtfs_fields.specs.declared.fault.FileFault.TheVariants as wrong
+use Rattle.gtfs_tables.specs.declared.fields.fault.FileFault.TheVariants as wrong
 use Rattle.gtfs_tables.specs.Feed.{AreTables, IsFirstBroken, IsRightAt, named_at, what_of}
 use Rattle.gtfs_tables.specs.Files.{Found, feed_files, files_of, first_paths}
 use Rattle.gtfs_tables.specs.declared.fault.FeedFault.{FeedFault}

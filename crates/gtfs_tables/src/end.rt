@@ -3,7 +3,7 @@ ghost use Rattle.gtfs_tables.specs.Steps.{end_of as said_end};
 ghost use Rattle.gtfs_tables.specs.declared.end.End.TheVariants.{NoMemory as OutOfMemory};
 
 use crate::FeedFile;
-use gtfs_fields::FileFault;
+use crate::fields::FileFault;
 use lc_model::NoMemory;
 
 /// Why the files of a feed are read no further.

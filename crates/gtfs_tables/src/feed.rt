@@ -3,11 +3,11 @@ ghost use Rattle.gtfs_tables.specs.Reading.{EndsSo, Keeps};
 ghost use Rattle.gtfs_tables.specs.Feed.{what_of as said_what};
 ghost use Rattle.gtfs_tables.specs.Steps.{IsFaultOf, IsReportable, IsWalk};
 
+use crate::calendars::{Services, WeeklyList};
 use crate::end::End;
+use crate::fields::FileFault;
 use crate::parts::{feed_rest, feed_rides};
 use crate::{FeedFault, FeedFile, Tables, What};
-use gtfs_calendars::{Services, WeeklyList};
-use gtfs_fields::FileFault;
 use lc_io::Folder;
 use std::alloc::Global;
 

@@ -2,13 +2,13 @@ ghost use Rattle.std.specs.Prelude.{option_map};
 ghost use Rattle.gtfs_tables.specs.Steps.{HasDates, HasFrequencies, HasStops, HasTimes, HasTransfers, HasTrips, HasWeekly, IsWrongDates, IsWrongFrequencies, IsWrongStops, IsWrongTimes, IsWrongTransfers, IsWrongTrips, IsWrongWeekly, Judges};
 
 use crate::FeedFile;
-use crate::end::{End, absent, end_of};
-use gtfs_calendars::{
+use crate::calendars::{
     DateRows, Frequencies, Transfers, WeeklyList, read_calendar, read_calendar_dates,
     read_frequencies, read_transfers,
 };
-use gtfs_fields::TripRows;
-use gtfs_trips::{TimedTrips, read_stop_times, read_stops, read_trips};
+use crate::end::{End, absent, end_of};
+use crate::fields::TripRows;
+use crate::trips::{TimedTrips, read_stop_times, read_stops, read_trips};
 use lc_model::{PlainData, Stops};
 use std::alloc::Global;
 

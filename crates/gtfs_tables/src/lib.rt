@@ -2,26 +2,34 @@
 //! of their rows. It builds on `gtfs_trips`, `gtfs_calendars` and `lc_io`.
 #![tactic(auto)]
 
+mod calendars;
 mod end;
 mod fault;
 mod feed;
 mod feed_file;
+mod fields;
 mod judge;
 mod laws;
 mod look;
 mod parts;
 mod steps;
 mod tables;
+mod trips;
 mod what;
 
+pub use calendars::{
+    DateRow, DateRows, Frequencies, Frequency, Services, Transfer, Transfers, Weekly, WeeklyList,
+    one_calendar, one_calendar_dates, one_frequencies, one_transfers, read_calendar,
+    read_calendar_dates, read_frequencies, read_transfers,
+};
 pub use fault::FeedFault;
 pub use feed::read_feed;
 pub use feed_file::FeedFile;
-pub use gtfs_calendars::{
-    DateRow, DateRows, Frequencies, Frequency, Services, Transfer, Transfers, Weekly, WeeklyList,
-};
-pub use gtfs_fields::{TripRow, TripRows};
-pub use gtfs_trips::{StopTime, StopTimes};
+pub use fields::{FileFault, TripRow, TripRows};
 pub use laws::one_feed;
 pub use tables::Tables;
+pub use trips::{
+    StopTime, StopTimes, TimedTrips, Visit, one_stop_times, one_stops, one_trips, read_stop_times,
+    read_stops, read_trips,
+};
 pub use what::What;

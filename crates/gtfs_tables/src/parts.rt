@@ -1,20 +1,20 @@
 ghost use Rattle.std.specs.Prelude.{List, Option};
-ghost use Rattle.gtfs_calendars.specs.declared.calendar.Weekly.{Weekly};
-ghost use Rattle.gtfs_calendars.specs.declared.calendar_dates.DateRow.{DateRow};
-ghost use Rattle.gtfs_fields.specs.declared.trip_rows.TripRow.{TripRow as Trip};
-ghost use Rattle.gtfs_trips.specs.declared.timed_trips.TimedTrips.{TimedTrips as Timed};
+ghost use Rattle.gtfs_tables.specs.declared.calendars.calendar.Weekly.{Weekly};
+ghost use Rattle.gtfs_tables.specs.declared.calendars.calendar_dates.DateRow.{DateRow};
+ghost use Rattle.gtfs_tables.specs.declared.fields.trip_rows.TripRow.{TripRow as Trip};
+ghost use Rattle.gtfs_tables.specs.declared.trips.timed_trips.TimedTrips.{TimedTrips as Timed};
 ghost use Rattle.lc_io.specs.Folder.{FolderSeen};
 ghost use Rattle.lc_model.specs.declared.stop.Stop.{Stop};
 ghost use Rattle.gtfs_tables.specs.Parts.{Dates, GoesOn, SoFar, Times, Ways};
 
+use crate::calendars::{DateRows, Frequencies, Transfers, WeeklyList};
 use crate::end::End;
+use crate::fields::TripRows;
 use crate::steps::{
     feed_dates, feed_frequencies, feed_stop_times, feed_stops, feed_transfers, feed_trips,
     feed_weekly,
 };
-use gtfs_calendars::{DateRows, Frequencies, Transfers, WeeklyList};
-use gtfs_fields::TripRows;
-use gtfs_trips::TimedTrips;
+use crate::trips::TimedTrips;
 use lc_io::Folder;
 use lc_model::Stops;
 use std::alloc::Global;

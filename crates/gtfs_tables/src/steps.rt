@@ -1,15 +1,15 @@
 ghost use Rattle.gtfs_tables.specs.Steps.{HasDates, HasFrequencies, HasStops, HasTimes, HasTransfers, HasTrips, HasWeekly, IsStep, IsWrongDates, IsWrongFrequencies, IsWrongStops, IsWrongTimes, IsWrongTransfers, IsWrongTrips, IsWrongWeekly};
 
 use crate::FeedFile;
+use crate::calendars::{DateRows, Frequencies, Transfers, WeeklyList};
 use crate::end::End;
+use crate::fields::TripRows;
 use crate::judge::{
     judge_dates, judge_frequencies, judge_stop_times, judge_stops, judge_transfers, judge_trips,
     judge_weekly,
 };
 use crate::look::look;
-use gtfs_calendars::{DateRows, Frequencies, Transfers, WeeklyList};
-use gtfs_fields::TripRows;
-use gtfs_trips::TimedTrips;
+use crate::trips::TimedTrips;
 use lc_io::Folder;
 use lc_model::Stops;
 use std::alloc::Global;

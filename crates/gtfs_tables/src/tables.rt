@@ -1,9 +1,9 @@
 ghost use Rattle.std.specs.Prelude.{◌≡◌, IfOk};
-ghost use Rattle.gtfs_trips.specs.Stops.{HaveKnownParents};
+ghost use Rattle.gtfs_tables.specs.Trips.Stops.{HaveKnownParents};
 
-use gtfs_calendars::{Frequencies, Services, Transfers};
-use gtfs_fields::TripRows;
-use gtfs_trips::StopTimes;
+use crate::calendars::{Frequencies, Services, Transfers};
+use crate::fields::TripRows;
+use crate::trips::StopTimes;
 use lc_model::{NoMemory, PlainData, Stops};
 use std::alloc::Global;
 

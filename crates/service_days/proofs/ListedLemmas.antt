@@ -8,8 +8,8 @@ use Rattle.std.proofs.lemmas.List.Elements.{All-from_recursion}
 use Rattle.std.proofs.lemmas.List.Kept.{AllPairs-cons}
 use Rattle.lc_model.proofs.OrdersLemmas.{strict_lists_are_one}
 use Rattle.lc_model.specs.declared.date.ServiceDate.{ServiceDate}
-use Rattle.gtfs_calendars.specs.declared.calendar.Weekly.{Weekly}
-use Rattle.gtfs_calendars.specs.declared.calendar_dates.DateRow.{DateRow}
+use Rattle.gtfs_tables.specs.declared.calendars.calendar.Weekly.{Weekly}
+use Rattle.gtfs_tables.specs.declared.calendars.calendar_dates.DateRow.{DateRow}
 use Rattle.service_days.specs.Days.{AreDays, InDayOrder, IsAdded, IsInWindow, IsRegular, IsRemoved, RunsWeekly, day_cmp}
 use Rattle.service_days.specs.Laws.{OneListOfDays}
 use Rattle.service_days.specs.Listing.{Gains, IsAddedBy, IsListed, IsRegularBy}

@@ -5,8 +5,8 @@ use Rattle.std.specs.List.{Contains}
 use Rattle.std.specs.List.Sorted.{IsPermutation}
 use Rattle.std.proofs.lemmas.List.Sorted.{Contains-permutation, IsPermutation-sym}
 use Rattle.lc_model.specs.declared.date.ServiceDate.{ServiceDate}
-use Rattle.gtfs_calendars.specs.declared.calendar.Weekly.{Weekly}
-use Rattle.gtfs_calendars.specs.declared.calendar_dates.DateRow.{DateRow}
+use Rattle.gtfs_tables.specs.declared.calendars.calendar.Weekly.{Weekly}
+use Rattle.gtfs_tables.specs.declared.calendars.calendar_dates.DateRow.{DateRow}
 use Rattle.service_days.specs.Days.{IsInWindow, RunsWeekly}
 use Rattle.service_days.specs.Listing.{Gains, IsAddedBy, IsKept, IsRegularOn, IsRemovedBy}
 use Rattle.service_days.specs.declared.service_day.ServiceDay.{ServiceDay}

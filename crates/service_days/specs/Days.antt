@@ -8,8 +8,8 @@ use Rattle.lc_model.specs.Order.{IsStrict}
 use Rattle.lc_model.specs.RunKey.{date_cmp}
 use Rattle.lc_model.specs.Text.{id_cmp}
 use Rattle.lc_model.specs.declared.date.ServiceDate.{ServiceDate}
-use Rattle.gtfs_calendars.specs.declared.calendar.Weekly.{Weekly}
-use Rattle.gtfs_calendars.specs.declared.calendar_dates.DateRow.{DateRow}
+use Rattle.gtfs_tables.specs.declared.calendars.calendar.Weekly.{Weekly}
+use Rattle.gtfs_tables.specs.declared.calendars.calendar_dates.DateRow.{DateRow}
 use Rattle.service_days.specs.declared.service_day.ServiceDay.{ServiceDay}
 
 -- the number of the date's day: 0 for 1970-01-01, and negative before it

@@ -5,8 +5,8 @@ use Rattle.lc_time.specs.Calendar.{day_at}
 use Rattle.lc_time.specs.Zone.{anchor_of, date_shown, moment_at}
 use Rattle.lc_time.specs.declared.zone.Zone.{Zone}
 use Rattle.lc_time.specs.declared.zone.Zone.TheVariants.{Utc}
-use Rattle.gtfs_calendars.specs.declared.calendar.Weekly.{Weekly}
-use Rattle.gtfs_calendars.specs.declared.calendar_dates.DateRow.{DateRow}
+use Rattle.gtfs_tables.specs.declared.calendars.calendar.Weekly.{Weekly}
+use Rattle.gtfs_tables.specs.declared.calendars.calendar_dates.DateRow.{DateRow}
 use Rattle.service_days.specs.Days.{AreDays}
 use Rattle.service_days.specs.ZoneWord.{SaysZone}
 use Rattle.service_days.specs.declared.service_day.ServiceDay.{ServiceDay}

@@ -8,7 +8,7 @@ ghost use Rattle.service_days.specs.declared.service_day.ServiceDay.{ServiceDay 
 use crate::listing::{by_day, push_all_added, push_all_regular, removed_days};
 use crate::window::window_dates;
 use crate::{Days, ServiceDay};
-use gtfs_calendars::{DateRow, Weekly};
+use gtfs_tables::{DateRow, Weekly};
 use lc_model::{NoMemory, ServiceDate};
 use std::alloc::Global;
 

@@ -1,8 +1,8 @@
 ghost use Rattle.std.specs.Prelude.{◌≡◌, ◌↔◌, Any, IfOk, IsTrue, OnOk};
 ghost use Rattle.std.specs.List.{Contains};
 ghost use Rattle.std.specs.List.Sorted.{IsSorted};
-ghost use Rattle.gtfs_calendars.specs.declared.calendar.Weekly.{Weekly as StatedWeekly};
-ghost use Rattle.gtfs_calendars.specs.declared.calendar_dates.DateRow.{DateRow as StatedRow};
+ghost use Rattle.gtfs_tables.specs.declared.calendars.calendar.Weekly.{Weekly as StatedWeekly};
+ghost use Rattle.gtfs_tables.specs.declared.calendars.calendar_dates.DateRow.{DateRow as StatedRow};
 ghost use Rattle.lc_model.specs.declared.date.ServiceDate.{ServiceDate as StatedDate};
 ghost use Rattle.service_days.specs.Days.{IsRemoved, day_cmp};
 ghost use Rattle.service_days.specs.Listing.{Gains, IsAddedBy, IsKept, IsRegularBy, IsRegularOn, IsRemovedBy};
@@ -10,7 +10,7 @@ ghost use Rattle.service_days.specs.declared.service_day.ServiceDay.{ServiceDay 
 
 use crate::ServiceDay;
 use crate::window::{is_in_window, runs_weekly};
-use gtfs_calendars::{DateRow, Weekly};
+use gtfs_tables::{DateRow, Weekly};
 use lc_model::{Id, NoMemory, PlainData, ServiceDate};
 use std::alloc::Global;
 use std::cmp::Ordering;

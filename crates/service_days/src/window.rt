@@ -5,7 +5,7 @@ ghost use Rattle.lc_model.specs.declared.date.ServiceDate.{ServiceDate as Stated
 ghost use Rattle.service_days.specs.Days.{IsInWindow, RunsWeekly, day_number, weekday_of};
 ghost use Rattle.service_days.specs.Listing.{Gains};
 
-use gtfs_calendars::Weekly;
+use gtfs_tables::Weekly;
 use jiff_core::civil::Date;
 use lc_model::{NoMemory, ServiceDate};
 use lc_time::{library_date, service_date};

@@ -11,12 +11,12 @@ use Rattle.change_table.specs.ChangeTable.{OneListOfChanges}
 use Rattle.service_days.specs.Laws.{OneListOfDays, OneZone, ShowSame}
 use Rattle.service_days.specs.ZoneWord.{IsWrong, SaysZone, file_named}
 use Rattle.service_days.specs.declared.service_day.ServiceDay.{ServiceDay}
-use Rattle.gtfs_fields.specs.declared.trip_rows.TripRow.{TripRow}
-use Rattle.gtfs_trips.specs.declared.stop_times.StopTime.{StopTime}
-use Rattle.gtfs_calendars.specs.declared.frequency.Frequency.{Frequency}
+use Rattle.gtfs_tables.specs.declared.fields.trip_rows.TripRow.{TripRow}
+use Rattle.gtfs_tables.specs.declared.trips.stop_times.StopTime.{StopTime}
+use Rattle.gtfs_tables.specs.declared.calendars.frequency.Frequency.{Frequency}
 use Rattle.gtfs_tables.specs.Feed.{AreTables, IsFirstBroken}
-use Rattle.gtfs_fields.specs.declared.fault.FileFault.{FileFault}
-use Rattle.gtfs_fields.specs.declared.fault.FileFault.TheVariants as wrong
+use Rattle.gtfs_tables.specs.declared.fields.fault.FileFault.{FileFault}
+use Rattle.gtfs_tables.specs.declared.fields.fault.FileFault.TheVariants as wrong
 use Rattle.gtfs_tables.specs.Files.{Found, files_of}
 use Rattle.gtfs_tables.specs.Laws.{NeverBoth, OneTables}
 use Rattle.gtfs_tables.specs.Reading.{Reads}

@@ -16,10 +16,10 @@ use Rattle.lc_model.specs.declared.date.ServiceDate.{ServiceDate}
 use Rattle.lc_model.specs.declared.key.RunKey.{RunKey}
 use Rattle.lc_model.specs.declared.run.Run.{Run}
 use Rattle.lc_model.specs.declared.stop.Stop.{Stop}
-use Rattle.gtfs_trips.specs.Stops.{HaveKnownParents}
-use Rattle.gtfs_calendars.specs.declared.calendar.Weekly.{Weekly}
-use Rattle.gtfs_calendars.specs.declared.calendar_dates.DateRow.{DateRow}
-use Rattle.gtfs_calendars.specs.declared.transfer.Transfer.{Transfer}
+use Rattle.gtfs_tables.specs.Trips.Stops.{HaveKnownParents}
+use Rattle.gtfs_tables.specs.declared.calendars.calendar.Weekly.{Weekly}
+use Rattle.gtfs_tables.specs.declared.calendars.calendar_dates.DateRow.{DateRow}
+use Rattle.gtfs_tables.specs.declared.calendars.transfer.Transfer.{Transfer}
 use Rattle.service_days.specs.Days.{AreDays, IsInWindow}
 use Rattle.service_days.specs.declared.service_day.ServiceDay.{ServiceDay}
 use Rattle.change_table.specs.ChangeRule.{change_from_to, change_of, stop_of}

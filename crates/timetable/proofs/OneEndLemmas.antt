@@ -8,8 +8,8 @@ use Rattle.lc_time.specs.declared.zone.Zone.{Zone}
 use Rattle.service_days.specs.Laws.{OneListOfDays, OneZone}
 use Rattle.service_days.specs.ZoneWord.{IsWrong, SaysZone, file_named}
 use Rattle.gtfs_tables.specs.Feed.{AreTables, IsFirstBroken, named_at, what_of}
-use Rattle.gtfs_fields.specs.declared.fault.FileFault.{FileFault}
-use Rattle.gtfs_fields.specs.declared.fault.FileFault.TheVariants as wrong
+use Rattle.gtfs_tables.specs.declared.fields.fault.FileFault.{FileFault}
+use Rattle.gtfs_tables.specs.declared.fields.fault.FileFault.TheVariants as wrong
 use Rattle.gtfs_tables.specs.Files.{Found, files_of, name_of}
 use Rattle.gtfs_tables.specs.Laws.{NeverBoth, OneFirst, OneTables}
 use Rattle.gtfs_tables.specs.declared.feed_file.FeedFile.{FeedFile}

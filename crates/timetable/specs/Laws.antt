@@ -7,7 +7,7 @@ use Rattle.lc_model.specs.declared.run.Run.{Run}
 use Rattle.lc_time.specs.declared.zone.Zone.{Zone}
 use Rattle.service_days.specs.Laws.{ShowSame}
 use Rattle.service_days.specs.ZoneWord.{IsWrong, SaysZone}
-use Rattle.gtfs_fields.specs.declared.fault.FileFault.TheVariants as wrong
+use Rattle.gtfs_tables.specs.declared.fields.fault.FileFault.TheVariants as wrong
 use Rattle.gtfs_tables.specs.Feed.{AreTables, IsFirstBroken, named_at, what_of}
 use Rattle.gtfs_tables.specs.Files.{files_of, name_of}
 use Rattle.gtfs_tables.specs.declared.feed_file.FeedFile.{FeedFile}

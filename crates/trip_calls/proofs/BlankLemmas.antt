@@ -4,8 +4,8 @@ use Rattle.std.specs.List.{position_or_len}
 use Rattle.std.specs.Option.{option_map_or}
 use Rattle.std.proofs.lemmas.Bool.{cases_lt, false≢true}
 use Rattle.std.proofs.lemmas.Option.{slice_get-get_or}
-use Rattle.gtfs_trips.specs.Timely.{AreTimelyRows, is_timed}
-use Rattle.gtfs_trips.specs.declared.stop_times.StopTime.{StopTime}
+use Rattle.gtfs_tables.specs.Trips.Timely.{AreTimelyRows, is_timed}
+use Rattle.gtfs_tables.specs.declared.trips.stop_times.StopTime.{StopTime}
 use Rattle.trip_calls.specs.BlankTimes.{is_timed_at, timed_after, timed_before}
 use Rattle.trip_calls.specs.Laws.{BlankRowsLieBetween}
 

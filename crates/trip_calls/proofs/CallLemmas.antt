@@ -12,10 +12,10 @@ use Rattle.lc_model.specs.Call.{GoesForward, InSequence}
 use Rattle.lc_model.specs.Change.{is_same_id}
 use Rattle.lc_model.specs.Text.{id_cmp}
 use Rattle.lc_model.proofs.SearchLemmas.{same_id}
-use Rattle.gtfs_trips.specs.StopTimeOrder.{InTripOrder, stop_time_cmp}
+use Rattle.gtfs_tables.specs.Trips.StopTimeOrder.{InTripOrder, stop_time_cmp}
 use Rattle.lc_model.specs.declared.call.Call.{Call}
-use Rattle.gtfs_trips.specs.Timely.{AreTimelyRows, rows_of}
-use Rattle.gtfs_trips.specs.declared.stop_times.StopTime.{StopTime}
+use Rattle.gtfs_tables.specs.Trips.Timely.{AreTimelyRows, rows_of}
+use Rattle.gtfs_tables.specs.declared.trips.stop_times.StopTime.{StopTime}
 use Rattle.trip_calls.specs.BlankTimes.{arrives_at}
 use Rattle.trip_calls.specs.Runs.{call_at, calls_from, calls_of}
 use Rattle.trip_calls.specs.Stays.{call_from, first_arrival, stay_at, stays_upto}

@@ -6,8 +6,8 @@ use Rattle.std.specs.Option.{option_map_or}
 use Rattle.std.proofs.lemmas.Bool.{cases_lt, false≢true}
 use Rattle.std.proofs.lemmas.List.FromFn.{get_or-map-range_with_len, length-map-range_with_len, map-range_with_len_more}
 use Rattle.std.proofs.lemmas.Option.{slice_get-get_or, slice_get_within}
-use Rattle.gtfs_trips.specs.Timely.{AreTimelyRows, arrival_of, departure_of, is_timed}
-use Rattle.gtfs_trips.specs.declared.stop_times.StopTime.{StopTime}
+use Rattle.gtfs_tables.specs.Trips.Timely.{AreTimelyRows, arrival_of, departure_of, is_timed}
+use Rattle.gtfs_tables.specs.declared.trips.stop_times.StopTime.{StopTime}
 use Rattle.trip_calls.specs.BlankTimes.{arrival_at, arrives_at, blank_time, departs_at, departure_at, is_timed_at, time_between, timed_after, timed_before}
 use Rattle.trip_calls.specs.Stays.{AreInDay, AreStaysTo, NoneLater, blank_after, blank_stays, stay_at, stay_said, stays_upto}
 use Rattle.trip_calls.specs.declared.stays.Stay.{Stay}

@@ -20,11 +20,11 @@ use Rattle.lc_model.proofs.SearchLemmas.{both_tie, id_tie}
 use Rattle.lc_time.proofs.DateLemmas.{same_date}
 use Rattle.lc_time.specs.Zone.{anchor_of}
 use Rattle.lc_time.specs.declared.zone.Zone.{Zone}
-use Rattle.gtfs_fields.specs.TripRows.{HaveOneRowATrip}
-use Rattle.gtfs_fields.specs.declared.trip_rows.TripRow.{TripRow}
-use Rattle.gtfs_trips.specs.Timely.{rows_of}
-use Rattle.gtfs_trips.specs.declared.stop_times.StopTime.{StopTime}
-use Rattle.gtfs_calendars.specs.declared.frequency.Frequency.{Frequency}
+use Rattle.gtfs_tables.specs.Fields.TripRows.{HaveOneRowATrip}
+use Rattle.gtfs_tables.specs.declared.fields.trip_rows.TripRow.{TripRow}
+use Rattle.gtfs_tables.specs.Trips.Timely.{rows_of}
+use Rattle.gtfs_tables.specs.declared.trips.stop_times.StopTime.{StopTime}
+use Rattle.gtfs_tables.specs.declared.calendars.frequency.Frequency.{Frequency}
 use Rattle.service_days.proofs.OrderLemmas.{day_cmp_total, day_on, same_day}
 use Rattle.service_days.specs.Days.{InDayOrder, day_cmp}
 use Rattle.service_days.specs.declared.service_day.ServiceDay.{ServiceDay}

@@ -13,8 +13,8 @@ use Rattle.std.proofs.lemmas.List.Sorted.{Contains-permutation, IsPermutation-sy
 use Rattle.std.proofs.lemmas.Map.Keys.{IsStrictlyIncreasing-dedup}
 use Rattle.std.proofs.lemmas.Slice.Eq.{bytes_eq-Decides}
 use Rattle.lc_model.specs.Change.{is_same_id}
-use Rattle.gtfs_calendars.specs.Spans.{AreSpans, IsSpan}
-use Rattle.gtfs_calendars.specs.declared.frequency.Frequency.{Frequency}
+use Rattle.gtfs_tables.specs.Calendars.Spans.{AreSpans, IsSpan}
+use Rattle.gtfs_tables.specs.declared.calendars.frequency.Frequency.{Frequency}
 use Rattle.trip_calls.specs.Starts.{AreAllGiven, AreGiven, AreStarts, GainsStarts, GivesSoMany, HaveSameStarts, HaveStarts, IsStartOf, StartsAt, spans_of}
 use Rattle.trip_calls.specs.declared.start.Start.{Start}
 use Rattle.lc_model.proofs.ListLemmas.{All-from_contains, Contains-cases, Contains-filter, Contains-here, Contains-nil, IsKept-filter}

@@ -7,9 +7,9 @@ use Rattle.std.proofs.Math.Nat.{div-le_of_le-mul, div-mul-le_self, mul-le-mul_le
 use Rattle.std.proofs.lemmas.Bool.{cases_lt, false≢true}
 use Rattle.std.proofs.lemmas.Nat.{le-div}
 use Rattle.std.proofs.lemmas.Option.{get_or_from_slice_get, slice_get_within}
-use Rattle.gtfs_fields.specs.Times.{IsInDay}
-use Rattle.gtfs_trips.specs.Timely.{AreTimelyRows, NoneFalls, arrival_of, departure_of, is_timed}
-use Rattle.gtfs_trips.specs.declared.stop_times.StopTime.{StopTime}
+use Rattle.gtfs_tables.specs.Fields.Times.{IsInDay}
+use Rattle.gtfs_tables.specs.Trips.Timely.{AreTimelyRows, NoneFalls, arrival_of, departure_of, is_timed}
+use Rattle.gtfs_tables.specs.declared.trips.stop_times.StopTime.{StopTime}
 use Rattle.trip_calls.specs.BlankTimes.{arrival_at, arrives_at, blank_time, departs_at, departure_at, is_timed_at, time_between, timed_after, timed_before}
 use Rattle.trip_calls.proofs.BlankLemmas.{after_is, lie_between}
 

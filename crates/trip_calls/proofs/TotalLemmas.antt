@@ -18,10 +18,10 @@ use Rattle.lc_model.specs.declared.key.RunKey.{RunKey}
 use Rattle.lc_model.specs.declared.run.Run.{Run}
 use Rattle.lc_model.proofs.OrdersLemmas.{IsStrict-from_sorted, strict_lists_are_one}
 use Rattle.lc_time.specs.declared.zone.Zone.{Zone}
-use Rattle.gtfs_fields.specs.declared.trip_rows.TripRow.{TripRow}
-use Rattle.gtfs_trips.specs.Timely.{AreTimely, rows_of}
-use Rattle.gtfs_trips.specs.declared.stop_times.StopTime.{StopTime}
-use Rattle.gtfs_calendars.specs.declared.frequency.Frequency.{Frequency}
+use Rattle.gtfs_tables.specs.declared.fields.trip_rows.TripRow.{TripRow}
+use Rattle.gtfs_tables.specs.Trips.Timely.{AreTimely, rows_of}
+use Rattle.gtfs_tables.specs.declared.trips.stop_times.StopTime.{StopTime}
+use Rattle.gtfs_tables.specs.declared.calendars.frequency.Frequency.{Frequency}
 use Rattle.service_days.specs.Days.{InDayOrder}
 use Rattle.service_days.specs.declared.service_day.ServiceDay.{ServiceDay}
 use Rattle.trip_calls.specs.Counting.{HaveConnections}

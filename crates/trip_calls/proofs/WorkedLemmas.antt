@@ -1,6 +1,6 @@
 -- The values worked out by hand are those of the definitions.
 use Rattle.std.proofs.Common.{◌≡◌, ◌≢◌, ℕ, ◌+◌, ◌*◌, ◌<◌, List, Some, ap, arith, codes, get_or, length, lit<, refl, subst, suc, sym, zero}
-use Rattle.gtfs_calendars.specs.declared.frequency.Frequency.{Frequency}
+use Rattle.gtfs_tables.specs.declared.calendars.frequency.Frequency.{Frequency}
 use Rattle.trip_calls.specs.Starts.{IsStartOf, StartsTrip}
 use Rattle.trip_calls.specs.Worked.{WorkedStarts, WorkedTimes, each_20_minutes}
 

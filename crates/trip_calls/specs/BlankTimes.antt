@@ -4,8 +4,8 @@ use Rattle.std.specs.Prelude.{ℕ, zero, suc, ◌+◌, ◌-◌, ◌*◌, ◌/◌
 use Rattle.std.specs.List.{slice_get, position_or_len}
 use Rattle.std.specs.Option.{option_map_or}
 use Rattle.std.proofs.Common.{drop}
-use Rattle.gtfs_trips.specs.Timely.{arrival_of, departure_of, is_timed}
-use Rattle.gtfs_trips.specs.declared.stop_times.StopTime.{StopTime}
+use Rattle.gtfs_tables.specs.Trips.Timely.{arrival_of, departure_of, is_timed}
+use Rattle.gtfs_tables.specs.declared.trips.stop_times.StopTime.{StopTime}
 
 -- the row at a place has at least one of its two times
 abbrev pub is_timed_at : List StopTime → ℕ → Bool

@@ -6,10 +6,10 @@ use Rattle.lc_model.specs.declared.call.Call.{Call}
 use Rattle.lc_model.specs.declared.run.Run.{Run}
 use Rattle.lc_time.specs.Zone.{anchor_of}
 use Rattle.lc_time.specs.declared.zone.Zone.{Zone}
-use Rattle.gtfs_fields.specs.declared.trip_rows.TripRow.{TripRow}
-use Rattle.gtfs_trips.specs.Timely.{rows_of}
-use Rattle.gtfs_trips.specs.declared.stop_times.StopTime.{StopTime}
-use Rattle.gtfs_calendars.specs.declared.frequency.Frequency.{Frequency}
+use Rattle.gtfs_tables.specs.declared.fields.trip_rows.TripRow.{TripRow}
+use Rattle.gtfs_tables.specs.Trips.Timely.{rows_of}
+use Rattle.gtfs_tables.specs.declared.trips.stop_times.StopTime.{StopTime}
+use Rattle.gtfs_tables.specs.declared.calendars.frequency.Frequency.{Frequency}
 use Rattle.service_days.specs.declared.service_day.ServiceDay.{ServiceDay}
 use Rattle.trip_calls.specs.BlankTimes.{arrives_at, departs_at}
 use Rattle.trip_calls.specs.Starts.{IsStartOf}

@@ -2,7 +2,7 @@
 use Rattle.std.specs.Prelude.{◌≡◌, ◌≢◌, ◌↔◌, ◌⊎◌, ℕ, ◌+◌, ◌*◌, ◌<◌, ◌≤◌, List, Option, Some, None, filter, length}
 use Rattle.std.specs.List.{All, AllPairs, Any, Contains}
 use Rattle.lc_model.specs.Change.{is_same_id}
-use Rattle.gtfs_calendars.specs.declared.frequency.Frequency.{Frequency}
+use Rattle.gtfs_tables.specs.declared.calendars.frequency.Frequency.{Frequency}
 use Rattle.trip_calls.specs.declared.start.Start.{Start}
 
 -- the row starts its trip at this second of a service day: so many headways after its first start, before its end

@@ -3,8 +3,8 @@ use Rattle.std.specs.Prelude.{◌≡◌, ℕ, pos, ◌+◌, ◌-◌, ◌<◌, �
 use Rattle.std.specs.List.{All, range_with_len, slice_get}
 use Rattle.std.specs.Option.{ForSome, option_map_or}
 use Rattle.lc_model.specs.declared.call.Call.{Call}
-use Rattle.gtfs_trips.specs.Timely.{arrival_of, departure_of, is_timed}
-use Rattle.gtfs_trips.specs.declared.stop_times.StopTime.{StopTime}
+use Rattle.gtfs_tables.specs.Trips.Timely.{arrival_of, departure_of, is_timed}
+use Rattle.gtfs_tables.specs.declared.trips.stop_times.StopTime.{StopTime}
 use Rattle.trip_calls.specs.BlankTimes.{arrives_at, departs_at, is_timed_at, time_between}
 use Rattle.trip_calls.specs.declared.stays.Stay.{Stay}
 

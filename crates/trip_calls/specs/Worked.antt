@@ -1,7 +1,7 @@
 -- Times and starts that were worked out by hand.
 use Rattle.std.specs.Prelude.{◌≡◌, ℕ, true, List, [], ◌∷◌, Option, Some, None, codes}
-use Rattle.gtfs_trips.specs.declared.stop_times.StopTime.{StopTime}
-use Rattle.gtfs_calendars.specs.declared.frequency.Frequency.{Frequency}
+use Rattle.gtfs_tables.specs.declared.trips.stop_times.StopTime.{StopTime}
+use Rattle.gtfs_tables.specs.declared.calendars.frequency.Frequency.{Frequency}
 use Rattle.trip_calls.specs.BlankTimes.{arrives_at, departs_at}
 use Rattle.trip_calls.specs.Starts.{IsStartOf}
 

@@ -3,13 +3,13 @@ ghost use Rattle.std.specs.List.{AllPairs};
 ghost use Rattle.std.specs.List.Sorted.{IsPermutation, IsSorted};
 ghost use Rattle.std.specs.Ordering.{on};
 ghost use Rattle.lc_model.specs.Text.{id_cmp};
-ghost use Rattle.gtfs_calendars.specs.Spans.{AreSpans, IsSpan};
-ghost use Rattle.gtfs_calendars.specs.declared.frequency.Frequency.{Frequency as Row};
+ghost use Rattle.gtfs_tables.specs.Calendars.Spans.{AreSpans, IsSpan};
+ghost use Rattle.gtfs_tables.specs.declared.calendars.frequency.Frequency.{Frequency as Row};
 ghost use Rattle.trip_calls.specs.Starts.{AreAllGiven, AreGiven, AreStarts, GainsStarts, GivesSoMany, HaveSameStarts, HaveStarts};
 ghost use Rattle.trip_calls.specs.declared.start.Start.{Start as Stated};
 
 use crate::start::Start;
-use gtfs_calendars::{Frequencies, Frequency};
+use gtfs_tables::{Frequencies, Frequency};
 use lc_model::{Id, NoMemory, copy_each, items_of};
 use std::alloc::Global;
 use std::cmp::Ordering;

@@ -1,9 +1,9 @@
 ghost use Rattle.std.specs.Prelude.{◌≡◌, ◌+◌, ◌<◌, ◌≤◌, ◌++◌, IfOk, OnOk, length, vec_len};
-ghost use Rattle.gtfs_trips.specs.Timely.{AreTimelyRows};
+ghost use Rattle.gtfs_tables.specs.Trips.Timely.{AreTimelyRows};
 ghost use Rattle.trip_calls.specs.BlankTimes.{time_between};
 ghost use Rattle.trip_calls.specs.Stays.{AreStaysTo, NoneLater, blank_after, blank_stays, first_arrival, stay_said, stays_upto};
 
-use gtfs_trips::StopTime;
+use gtfs_tables::StopTime;
 use lc_model::NoMemory;
 use std::alloc::Global;
 

@@ -1,7 +1,6 @@
 //! Changes between stops, worked out by hand from the GTFS Schedule Reference, transfers.txt.
 use change_table::{ChangeFault, changes};
-use gtfs_calendars::{Transfer, Transfers};
-use gtfs_trips::read_stops;
+use gtfs_tables::{Transfer, Transfers, read_stops};
 use lc_model::{Change, Changes, Id, Stops};
 use lc_time::read_u32;
 use rows_common::{Draft, Unmade};

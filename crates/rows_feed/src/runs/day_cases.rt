@@ -1,5 +1,5 @@
 //! The dates of services, from calendars.
-use gtfs_calendars::{DateRow, Weekly, read_calendar, read_calendar_dates};
+use gtfs_tables::{DateRow, Weekly, read_calendar, read_calendar_dates};
 use lc_model::PlainData;
 use lc_time::{date_text, read_date};
 use rows_common::Draft;

@@ -1,7 +1,9 @@
 //! Runs and their connections, worked out by hand from the GTFS Schedule Reference and from calendars.
 use super::zone_cases::put_moment;
-use gtfs_calendars::{Frequencies, read_calendar_dates, read_frequencies};
-use gtfs_trips::{TimedTrips, read_stop_times, read_stops, read_trips};
+use gtfs_tables::{
+    Frequencies, TimedTrips, read_calendar_dates, read_frequencies, read_stop_times, read_stops,
+    read_trips,
+};
 use lc_model::{Call, Connection, Connections, Run, Runs, Stops};
 use lc_time::{Zone, read_date};
 use rows_common::{Draft, Unmade};

@@ -1,7 +1,6 @@
 //! What calendar.txt and calendar_dates.txt say, or the first rule that each breaks.
 use super::recorded::put_file;
-use gtfs_calendars::{DateRow, Weekly, WeeklyList, read_calendar, read_calendar_dates};
-use gtfs_fields::FileFault;
+use gtfs_tables::{DateRow, FileFault, Weekly, WeeklyList, read_calendar, read_calendar_dates};
 use lc_model::ServiceDate;
 use rows_common::Draft;
 use std::alloc::Global;

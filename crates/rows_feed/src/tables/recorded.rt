@@ -1,5 +1,5 @@
 //! What is said of a file.
-use gtfs_fields::FileFault;
+use gtfs_tables::FileFault;
 use rows_common::Draft;
 
 /// A line for a file: its name and its bytes, and that it is read or what is wrong first with it.

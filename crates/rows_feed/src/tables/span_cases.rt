@@ -1,7 +1,6 @@
 //! What frequencies.txt says of the trip T, or the first rule that it breaks.
 use super::recorded::put_file;
-use gtfs_calendars::{Frequency, read_frequencies};
-use gtfs_trips::read_trips;
+use gtfs_tables::{Frequency, read_frequencies, read_trips};
 use rows_common::Draft;
 use std::alloc::Global;
 

@@ -1,7 +1,6 @@
 //! What stop_times.txt says, or the first rule that it breaks.
 use super::recorded::put_file;
-use gtfs_fields::FileFault;
-use gtfs_trips::{StopTime, TimedTrips, read_stop_times, read_stops, read_trips};
+use gtfs_tables::{FileFault, StopTime, TimedTrips, read_stop_times, read_stops, read_trips};
 use lc_model::Stops;
 use rows_common::Draft;
 use std::alloc::Global;

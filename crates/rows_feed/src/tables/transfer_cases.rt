@@ -1,7 +1,6 @@
 //! What transfers.txt says of the stops A and B, or the first rule that it breaks.
 use super::recorded::put_file;
-use gtfs_calendars::{Transfer, read_transfers};
-use gtfs_trips::read_stops;
+use gtfs_tables::{Transfer, read_stops, read_transfers};
 use rows_common::Draft;
 use std::alloc::Global;
 

@@ -1,6 +1,6 @@
 //! What stops.txt and trips.txt say, or the first rule that each breaks.
 use super::recorded::put_file;
-use gtfs_trips::{read_stops, read_trips};
+use gtfs_tables::{read_stops, read_trips};
 use lc_model::Stop;
 use rows_common::Draft;
 use std::alloc::Global;

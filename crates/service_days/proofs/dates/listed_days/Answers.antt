@@ -2,7 +2,7 @@ use Rattle.std.proofs.Common.{List, sym, subst}
 use Rattle.std.specs.Prelude.{◌↔◌}
 use Rattle.std.specs.List.{Any, Contains}
 use Rattle.lc_model.specs.declared.date.ServiceDate.{ServiceDate}
-use Rattle.gtfs_calendars.specs.declared.calendar.Weekly.{Weekly}
+use Rattle.gtfs_tables.specs.declared.calendars.calendar.Weekly.{Weekly}
 use Rattle.service_days.specs.Days.{IsInWindow}
 use Rattle.service_days.specs.Listing.{Gains, IsRegularBy}
 use Rattle.service_days.specs.declared.service_day.ServiceDay.{ServiceDay}

@@ -1,4 +1,4 @@
-use Rattle.gtfs_calendars.specs.declared.calendar_dates.DateRow.{DateRow}
+use Rattle.gtfs_tables.specs.declared.calendars.calendar_dates.DateRow.{DateRow}
 use Rattle.service_days.specs.Listing.{IsAddedBy}
 use Rattle.service_days.proofs.GainLemmas.{Gains-all, Gains-more, Gains-none}
 use Rattle.service_days.proofs.listing.push_all_added.Goals as goal

@@ -1,4 +1,4 @@
-use Rattle.gtfs_calendars.specs.declared.calendar.Weekly.{Weekly}
+use Rattle.gtfs_tables.specs.declared.calendars.calendar.Weekly.{Weekly}
 use Rattle.service_days.specs.Listing.{IsRegularBy}
 use Rattle.service_days.proofs.GainLemmas.{Gains-all, Gains-more, Gains-none}
 use Rattle.service_days.proofs.listing.push_all_regular.Goals as goal

@@ -1,6 +1,6 @@
 use Rattle.std.proofs.Common.{take}
 use Rattle.std.specs.List.{Any}
-use Rattle.gtfs_calendars.specs.declared.calendar.Weekly.{Weekly}
+use Rattle.gtfs_tables.specs.declared.calendars.calendar.Weekly.{Weekly}
 use Rattle.service_days.specs.Listing.{Gains, IsRegularBy}
 use Rattle.service_days.specs.declared.service_day.ServiceDay.{ServiceDay}
 use Rattle.service_days.proofs.listing.push_all_regular.Given as goal

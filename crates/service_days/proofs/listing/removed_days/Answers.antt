@@ -1,6 +1,6 @@
 use Rattle.std.proofs.Common.{[], List, subst, sym, rules}
 use Rattle.std.specs.List.{Any}
-use Rattle.gtfs_calendars.specs.declared.calendar_dates.DateRow.{DateRow}
+use Rattle.gtfs_tables.specs.declared.calendars.calendar_dates.DateRow.{DateRow}
 use Rattle.lc_model.proofs.OrdersLemmas.{IsSorted-from_closure}
 use Rattle.service_days.specs.Days.{day_cmp}
 use Rattle.service_days.specs.Listing.{Gains, IsRemovedBy}

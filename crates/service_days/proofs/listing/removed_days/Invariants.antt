@@ -1,7 +1,6 @@
-use Rattle.std.proofs.Common.{take}
+use Rattle.std.proofs.Common.{take, []}
 use Rattle.std.specs.List.{Any}
-use Rattle.gtfs_calendars.specs.declared.calendar_dates.DateRow.{DateRow}
-use Rattle.std.proofs.Common.{[]}
+use Rattle.gtfs_tables.specs.declared.calendars.calendar_dates.DateRow.{DateRow}
 use Rattle.service_days.specs.Listing.{Gains, IsRemovedBy}
 use Rattle.service_days.specs.declared.service_day.ServiceDay.{ServiceDay}
 use Rattle.service_days.proofs.listing.removed_days.Given as goal

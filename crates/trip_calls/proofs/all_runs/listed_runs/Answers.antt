@@ -1,6 +1,6 @@
 use Rattle.std.proofs.Common.{[], List, subst, sym, take, ◌+◌}
 use Rattle.std.proofs.lemmas.List.{take_all}
-use Rattle.gtfs_fields.specs.declared.trip_rows.TripRow.{TripRow}
+use Rattle.gtfs_tables.specs.declared.fields.trip_rows.TripRow.{TripRow}
 use Rattle.lc_model.specs.declared.run.Run.{Run}
 use Rattle.trip_calls.specs.TripRuns.{AreAllRuns}
 use Rattle.trip_calls.proofs.RunLemmas.{of_more, of_none}

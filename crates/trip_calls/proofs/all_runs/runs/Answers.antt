@@ -3,8 +3,8 @@ use Rattle.std.proofs.lemmas.Cmp.{on_total}
 use Rattle.lc_model.specs.Totals.{key_cmp_total}
 use Rattle.lc_model.specs.declared.run.Run.{Run}
 use Rattle.lc_model.proofs.OrdersLemmas.{IsSorted-from_closure}
-use Rattle.gtfs_trips.specs.StopTimeOrder.{InTripOrder}
-use Rattle.gtfs_trips.specs.Timely.{AreTimely}
+use Rattle.gtfs_tables.specs.Trips.StopTimeOrder.{InTripOrder}
+use Rattle.gtfs_tables.specs.Trips.Timely.{AreTimely}
 use Rattle.trip_calls.specs.Runs.{AreRunsOf}
 use Rattle.trip_calls.proofs.CallLemmas.{rise_in_rows}
 use Rattle.trip_calls.proofs.TotalLemmas.{all_forward, by_key, counted_of, few_enough, listed_of, sorted_runs, too_many}

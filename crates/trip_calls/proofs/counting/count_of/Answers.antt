@@ -1,6 +1,6 @@
 use Rattle.std.proofs.Common.{◌++◌, [], List, refl, subst}
 use Rattle.std.proofs.lemmas.List.{take_all}
-use Rattle.gtfs_fields.specs.declared.trip_rows.TripRow.{TripRow}
+use Rattle.gtfs_tables.specs.declared.fields.trip_rows.TripRow.{TripRow}
 use Rattle.trip_calls.specs.Counting.{HaveConnections}
 use Rattle.trip_calls.proofs.RunLemmas.{of_more, of_none}
 use Rattle.trip_calls.proofs.TotalLemmas.{connections_more}

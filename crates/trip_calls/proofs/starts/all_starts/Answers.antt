@@ -1,6 +1,6 @@
 use Rattle.std.proofs.Common.{◌+◌, List, subst, take}
 use Rattle.std.proofs.lemmas.List.{take_all}
-use Rattle.gtfs_calendars.specs.declared.frequency.Frequency.{Frequency}
+use Rattle.gtfs_tables.specs.declared.calendars.frequency.Frequency.{Frequency}
 use Rattle.trip_calls.specs.Starts.{AreAllGiven}
 use Rattle.trip_calls.proofs.StartLemmas.{given_more, given_none, given_same}
 use Rattle.trip_calls.proofs.starts.all_starts.Goals as goal

@@ -4,8 +4,8 @@ use Rattle.std.proofs.lemmas.Cmp.{nat_list_cmp_total, on_total}
 use Rattle.std.proofs.lemmas.List.Sorted.{All-permutation}
 use Rattle.lc_model.specs.Text.{id_cmp}
 use Rattle.lc_model.proofs.OrdersLemmas.{IsSorted-from_closure}
-use Rattle.gtfs_calendars.specs.Spans.{AreSpans, IsSpan}
-use Rattle.gtfs_calendars.specs.declared.frequency.Frequency.{Frequency}
+use Rattle.gtfs_tables.specs.Calendars.Spans.{AreSpans, IsSpan}
+use Rattle.gtfs_tables.specs.declared.calendars.frequency.Frequency.{Frequency}
 use Rattle.trip_calls.proofs.starts.sorted_spans.Goals as goal
 
 pub returns-clause-sorted : goal.returns-clause-sorted

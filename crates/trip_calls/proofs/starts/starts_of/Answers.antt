@@ -2,8 +2,8 @@ use Rattle.std.proofs.Common.{◌≡◌, ◌∙◌, ◌<◌, ◌++◌, ◌==◌,
 use Rattle.std.specs.List.{All}
 use Rattle.std.proofs.lemmas.List.Elements.{All-filter, All-weaker}
 use Rattle.lc_model.specs.Change.{is_same_id}
-use Rattle.gtfs_calendars.specs.Spans.{AreSpans, IsSpan}
-use Rattle.gtfs_calendars.specs.declared.frequency.Frequency.{Frequency}
+use Rattle.gtfs_tables.specs.Calendars.Spans.{AreSpans, IsSpan}
+use Rattle.gtfs_tables.specs.declared.calendars.frequency.Frequency.{Frequency}
 use Rattle.trip_calls.specs.declared.start.Start.{Start}
 use Rattle.trip_calls.proofs.StartLemmas.{empty_is, given_in_day, none_pushed, seconds_of, some_there, with_rows, without_rows}
 use Rattle.trip_calls.proofs.starts.starts_of.Goals as goal

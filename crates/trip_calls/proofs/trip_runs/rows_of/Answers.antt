@@ -1,8 +1,8 @@
 use Rattle.std.proofs.Common.{subst, sym}
 use Rattle.std.specs.Ordering.{nat_cmp, on}
 use Rattle.lc_model.proofs.RangesLemmas.{sorted_by_key}
-use Rattle.gtfs_trips.specs.Timely.{AreTimelyRows}
-use Rattle.gtfs_trips.specs.declared.stop_times.StopTime.{StopTime}
+use Rattle.gtfs_tables.specs.Trips.Timely.{AreTimelyRows}
+use Rattle.gtfs_tables.specs.declared.trips.stop_times.StopTime.{StopTime}
 use Rattle.trip_calls.specs.TripRuns.{RiseInSequence}
 use Rattle.trip_calls.proofs.CallLemmas.{rise_in_rows}
 use Rattle.trip_calls.proofs.trip_runs.rows_of.Goals as goal

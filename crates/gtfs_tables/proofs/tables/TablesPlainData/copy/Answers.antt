@@ -1,5 +1,5 @@
 use Rattle.std.proofs.Common.{List, subst, sym}
-use Rattle.gtfs_trips.specs.Stops.{HaveKnownParents}
+use Rattle.gtfs_tables.specs.Trips.Stops.{HaveKnownParents}
 use Rattle.lc_model.specs.declared.stop.Stop.{Stop}
 use Rattle.gtfs_tables.proofs.tables.TablesPlainData.copy.Goals as goal
 

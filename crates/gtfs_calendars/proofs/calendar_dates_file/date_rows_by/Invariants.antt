@@ -1,6 +1,0 @@
-use Rattle.gtfs_fields.proofs.SaidFacts.{AreRead}
-use Rattle.gtfs_calendars.specs.CalendarDates.{calendar_dates_rule, date_row_said}
-use Rattle.gtfs_calendars.proofs.calendar_dates_file.date_rows_by.Given as goal
-
-abbrev pub invariant-rows : goal.invariant-rows
-invariant-rows l = AreRead (calendar_dates_rule l.rows) (date_row_said l.rows) l.rows.rows l.place l.list.items

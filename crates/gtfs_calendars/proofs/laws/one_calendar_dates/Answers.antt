@@ -1,5 +1,0 @@
-use Rattle.gtfs_calendars.proofs.ReadLaws.{calendar_dates_faults_are_one, dates_are_one, dates_have_no_fault}
-use Rattle.gtfs_calendars.proofs.laws.one_calendar_dates.Goals as goal
-
-pub returns : goal.returns
-returns c = record { dates = dates_are_one; fault = calendar_dates_faults_are_one; never_both = dates_have_no_fault }

@@ -1,5 +1,0 @@
-use Rattle.gtfs_trips.proofs.TripLaws.{trips_are_one, trips_faults_are_one, trips_have_no_fault}
-use Rattle.gtfs_trips.proofs.laws.one_trips.Goals as goal
-
-pub returns : goal.returns
-returns c = record { trips = trips_are_one; fault = trips_faults_are_one; never_both = trips_have_no_fault }

@@ -1,7 +1,0 @@
-use Rattle.std.proofs.Common.{◌≡◌, map, take}
-use Rattle.gtfs_trips.specs.KeyPlaces.{lent_key}
-use Rattle.gtfs_trips.specs.StopTimeRows.{key_of}
-use Rattle.gtfs_trips.proofs.stop_time_rows.keys_of_rows.Given as goal
-
-abbrev pub invariant-rows : goal.invariant-rows
-invariant-rows l = map lent_key l.keys.items ≡ map (key_of l.rows) (take l.place l.rows.rows)

@@ -1,7 +1,0 @@
-use Rattle.std.proofs.Common.{List, subst, sym}
-use Rattle.gtfs_trips.specs.Timely.{AreTimely}
-use Rattle.gtfs_trips.specs.declared.stop_times.StopTime.{StopTime}
-use Rattle.gtfs_trips.proofs.stop_times.StopTimesPlainData.copy.Goals as goal
-
-pub from_list-requires-clause-timely : goal.from_list-requires-clause-timely
-from_list-requires-clause-timely c = subst (λ (t : List StopTime). AreTimely t) (sym c.in_ok-items.ensures) c.as_slice.ensures.timely

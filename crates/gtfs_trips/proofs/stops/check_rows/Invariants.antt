@@ -1,7 +1,0 @@
--- No row before this one breaks a rule.
-use Rattle.gtfs_fields.specs.Rules.{IsUnbroken}
-use Rattle.gtfs_trips.specs.Stops.{stop_rule_at}
-use Rattle.gtfs_trips.proofs.stops.check_rows.Given as goal
-
-abbrev pub invariant-rows : goal.invariant-rows
-invariant-rows l = IsUnbroken (stop_rule_at l.rows) l.place

@@ -1,7 +1,0 @@
-use Rattle.std.proofs.Common.{◌≡◌}
-use Rattle.std.specs.List.{filter_map}
-use Rattle.gtfs_trips.specs.LeftOut.{time_unless}
-use Rattle.gtfs_trips.proofs.timed_trips.times_of.Given as goal
-
-abbrev pub invariant-visits : goal.invariant-visits
-invariant-visits l = l.times.items ≡ filter_map (time_unless l.left) l.yielded

@@ -1,7 +1,0 @@
--- No row before this one breaks a rule.
-use Rattle.gtfs_fields.specs.Rules.{IsUnbroken}
-use Rattle.gtfs_trips.specs.Trips.{trip_rule_at}
-use Rattle.gtfs_trips.proofs.trips.check_rows.Given as goal
-
-abbrev pub invariant-rows : goal.invariant-rows
-invariant-rows l = IsUnbroken (trip_rule_at l.rows) l.place
