@@ -1,7 +1,7 @@
 -- A valid side has the wants of a question. What a client received that failed is in front of them.
 use Rattle.std.proofs.Common.{◌≡◌, ◌∙◌, ◌⊎◌, ℕ, inl, inr, List, [], ◌∷◌, ◌++◌, None, ap, map, refl, sym}
 use Rattle.std.proofs.Math.Decide.{dec_le}
-use Rattle.json_members.proofs.DecisionsLemmas.{any, both, same_text, turn}
+use Rattle.page_json.proofs.ObjectMembersLemmas.DecisionsLemmas.{any, both, same_text, turn}
 use Rattle.lc_model.specs.Stop.{HasStop}
 use Rattle.lc_model.specs.declared.doc.StopsDoc.{StopsDoc}
 use Rattle.lc_model.specs.declared.page.PageName.{PageName}

@@ -1,7 +1,7 @@
 -- The tests of a reply, of which the first that it fails is its fault.
 use Rattle.std.specs.Prelude.{◌≡◌, ◌⊎◌, Result, Ok, Err}
 use Rattle.http_text.specs.declared.reply_fault.ReplyFault.TheVariants as replies
-use Rattle.json_members.specs.declared.fault.PageFault.TheVariants as pages
+use Rattle.page_json.specs.declared.object_members.fault.PageFault.TheVariants as pages
 use Rattle.page_client.specs.declared.fault.PeerFault.{PeerFault}
 use Rattle.page_client.specs.declared.fault.PeerFault.TheVariants.{Reply, Body}
 

@@ -6,7 +6,7 @@ use Rattle.lc_model.specs.declared.page.PageName.{PageName}
 use Rattle.connection_uri.specs.Base.{BaseParts}
 use Rattle.http_text.specs.declared.reply.Reply.{Reply}
 use Rattle.page_json.specs.PageReading.{page_of_bytes}
-use Rattle.json_members.specs.declared.fault.PageFault.{PageFault}
+use Rattle.page_json.specs.declared.object_members.fault.PageFault.{PageFault}
 use Rattle.page_json.specs.declared.page.Page.{Page}
 use Rattle.page_client.specs.Fault.{Tested}
 use Rattle.page_client.specs.Replied.{IsTested, body_of}

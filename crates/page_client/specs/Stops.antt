@@ -3,7 +3,7 @@ use Rattle.std.specs.Prelude.{ℕ, List, Result, Ok, Err, ◌≡◌}
 use Rattle.lc_model.specs.declared.doc.StopsDoc.{StopsDoc}
 use Rattle.http_text.specs.declared.reply.Reply.{Reply}
 use Rattle.page_json.specs.StopsReading.{doc_of_bytes}
-use Rattle.json_members.specs.declared.fault.PageFault.{PageFault}
+use Rattle.page_json.specs.declared.object_members.fault.PageFault.{PageFault}
 use Rattle.page_client.specs.Fault.{Tested}
 use Rattle.page_client.specs.Replied.{IsTested, body_of}
 use Rattle.page_client.specs.declared.fault.PeerFault.{PeerFault}

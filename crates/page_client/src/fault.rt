@@ -3,9 +3,8 @@ ghost use Rattle.page_client.specs.Fault.{IsWant};
 ghost use Rattle.page_client.specs.Texts.{peer_fault_text, query_fault_text};
 
 use http_text::ReplyFault;
-use json_members::PageFault;
 use lc_model::{NoMemory, PlainData};
-use page_json::Page;
+use page_json::{Page, PageFault};
 use std::alloc::Global;
 use std::error::Error;
 use std::fmt;

@@ -8,9 +8,8 @@ use crate::PeerFault;
 use crate::replied::{body_of, replied};
 use connection_uri::Base;
 use http_text::ReplyFault;
-use json_members::PageFault;
 use lc_model::{Connection, Moment, NoMemory, PageName};
-use page_json::{Page, read_page};
+use page_json::{Page, PageFault, read_page};
 use std::alloc::Global;
 
 /// The page of this name that a reply says, or the first test that the reply fails. Linear in the reply.

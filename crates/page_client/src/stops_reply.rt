@@ -3,9 +3,8 @@ ghost use Rattle.page_client.specs.Stops.{IsStopsReply};
 
 use crate::PeerFault;
 use crate::replied::{body_of, replied};
-use json_members::PageFault;
 use lc_model::{NoMemory, StopsDoc};
-use page_json::read_stops;
+use page_json::{PageFault, read_stops};
 use std::alloc::Global;
 
 /// The stops document that a reply says, or the first test that the reply fails. It takes the time of `read_stops`.

@@ -6,14 +6,14 @@ use Rattle.lc_model.specs.declared.connection.Connection.{Connection}
 use Rattle.connection_uri.specs.Base.{BaseParts}
 use Rattle.serde_json.specs.Data.{depth, items_depth}
 use Rattle.serde_json.specs.View.{items_of}
-use Rattle.json_members.specs.Members.{formed}
+use Rattle.page_json.specs.ObjectMembers.Members.{formed}
 use Rattle.page_json.specs.PageReading.{connection_in, end_at, joined, unless_early}
 use Rattle.page_json.specs.Sound.{IsSoundConnection}
 use Rattle.page_json.specs.Tree.{connection_tree}
 use Rattle.page_json.specs.declared.connection_reading.End.{End}
-use Rattle.json_members.proofs.JsonLemmas.{AreWritable, IsWritable}
+use Rattle.page_json.proofs.ObjectMembersLemmas.JsonLemmas.{AreWritable, IsWritable}
 use Rattle.page_json.proofs.MembersLemmas.{allowed_read, delay_read, delay_writable, reads_moment, reads_name, reads_stop}
-use Rattle.json_members.proofs.ReadingLemmas.{Reads, reads_exactly, reads_exactly_by, reads_then}
+use Rattle.page_json.proofs.ObjectMembersLemmas.ReadingLemmas.{Reads, reads_exactly, reads_exactly_by, reads_then}
 
 -- what the list holds of each connection
 pub record IsGood (c : Connection) : Type 0 where

@@ -4,6 +4,7 @@ pub mod ConnectionLemmas
 pub mod IdLemmas
 pub mod MembersLemmas
 pub mod MomentTextLemmas
+pub mod ObjectMembersLemmas
 pub mod OneResultLemmas
 pub mod PageLemmas
 pub mod PlainLemmas

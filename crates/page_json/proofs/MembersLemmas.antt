@@ -12,15 +12,15 @@ use Rattle.connection_uri.specs.Name.{name_of}
 use Rattle.connection_uri.specs.Page.{page_url_of}
 use Rattle.serde_json.specs.Data.{Data, number}
 use Rattle.serde_json.specs.Find.{as_i64, of_integer}
-use Rattle.json_members.specs.Members.{said_at, text_of}
+use Rattle.page_json.specs.ObjectMembers.Members.{said_at, text_of}
 use Rattle.page_json.specs.Says.{SaysName, SaysPage, SaysStop}
 use Rattle.page_json.specs.Sound.{IsDelay, IsMoment, IsSoundName}
 use Rattle.page_json.specs.Tree.{allowed_text}
 use Rattle.page_json.specs.Urls.{stop_url_of}
-use Rattle.json_members.proofs.JsonLemmas.{IsWritable}
-use Rattle.json_members.proofs.ReadingLemmas.{Reads}
+use Rattle.page_json.proofs.ObjectMembersLemmas.JsonLemmas.{IsWritable}
+use Rattle.page_json.proofs.ObjectMembersLemmas.ReadingLemmas.{Reads}
 use Rattle.page_json.proofs.SaysLemmas.{one_name, one_page, one_stop}
-use Rattle.json_members.proofs.MembersLemmas.{reads_said_at}
+use Rattle.page_json.proofs.ObjectMembersLemmas.MembersLemmas.{reads_said_at}
 
 pub reads_stop : (base : BaseParts) (key : List ℕ) (tree : Data) (stop : List ℕ) → text_of key tree ≡ Ok (stop_url_of base stop) → IsIdText stop → Reads (said_at (SaysStop base) key tree) stop
 reads_stop base key tree stop e is =

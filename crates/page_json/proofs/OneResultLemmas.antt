@@ -9,15 +9,15 @@ use Rattle.connection_uri.specs.Base.{BaseParts}
 use Rattle.serde_json.specs.Data.{Data}
 use Rattle.serde_json.specs.Find.{get}
 use Rattle.lc_model.specs.Disorder.{first_disorder}
-use Rattle.json_members.specs.Disorder.{unless_disorder}
-use Rattle.json_members.specs.JsonReading.{json_in}
+use Rattle.page_json.specs.ObjectMembers.Disorder.{unless_disorder}
+use Rattle.page_json.specs.ObjectMembers.JsonReading.{json_in}
 use Rattle.page_json.specs.PageReading.{connection_in, end_at, joined, page_in, page_of_bytes, unless_early}
 use Rattle.page_json.specs.Says.{SaysLink, SaysName, SaysPage, SaysStop}
 use Rattle.page_json.specs.StopsReading.{change_in, changes_in, doc_in, doc_of_bytes, if_stop, is_change, is_doc, stop_at, stop_in, stops_in, with_parents}
-use Rattle.json_members.specs.declared.fault.PageFault.{PageFault}
+use Rattle.page_json.specs.declared.object_members.fault.PageFault.{PageFault}
 use Rattle.lc_model.proofs.OneValueLemmas.{documents_are_one}
 use Rattle.page_json.proofs.StopsLemmas.{change_of}
-use Rattle.json_members.proofs.OneReadingLemmas.{HasOne, one_each, one_exactly, one_json, one_said_at, one_said_if, one_then}
+use Rattle.page_json.proofs.ObjectMembersLemmas.OneReadingLemmas.{HasOne, one_each, one_exactly, one_json, one_said_at, one_said_if, one_then}
 
 one_end : (base : BaseParts) (d s m : List ℕ) (tree : Data) → HasOne (end_at base d s m tree)
 unfolding end_at

@@ -13,23 +13,23 @@ use Rattle.serde_json.specs.Find.{get}
 use Rattle.serde_json.specs.Read.{read}
 use Rattle.serde_json.specs.View.{items_of}
 use Rattle.lc_model.specs.Disorder.{first_disorder}
-use Rattle.json_members.specs.Disorder.{unless_disorder}
-use Rattle.json_members.specs.Members.{said_if, said_if_there}
+use Rattle.page_json.specs.ObjectMembers.Disorder.{unless_disorder}
+use Rattle.page_json.specs.ObjectMembers.Members.{said_if, said_if_there}
 use Rattle.page_json.specs.PageReading.{connection_in, page_in, page_of_bytes}
 use Rattle.page_json.specs.Says.{SaysLink}
 use Rattle.page_json.specs.Sound.{IsSoundConnection, IsSoundName, IsSoundPage}
-use Rattle.json_members.specs.MemberWriting.{text_at}
+use Rattle.page_json.specs.ObjectMembers.MemberWriting.{text_at}
 use Rattle.page_json.specs.Tree.{connection_tree, context_tree, link_at, mapping_tree, page_text_of, page_tree, search_tree}
 use Rattle.page_json.specs.Valid.{IsOfVersion, IsValidPage}
 use Rattle.page_json.specs.declared.page.Page.{Page}
 use Rattle.page_json.proofs.ConnectionLemmas.{IsGood, connections_depth, connections_writable, reads_connection}
-use Rattle.json_members.proofs.JsonLemmas.{HasWritable, IsWritable, read_compact, rises}
+use Rattle.page_json.proofs.ObjectMembersLemmas.JsonLemmas.{HasWritable, IsWritable, read_compact, rises}
 use Rattle.lc_model.specs.Totals.{departure_cmp_total}
 use Rattle.lc_model.proofs.DisordersLemmas.{no_disorder}
-use Rattle.json_members.proofs.MembersLemmas.{reads_json}
+use Rattle.page_json.proofs.ObjectMembersLemmas.MembersLemmas.{reads_json}
 use Rattle.page_json.proofs.MembersLemmas.{reads_page_name, says_page}
 use Rattle.page_json.proofs.SaysLemmas.{one_link}
-use Rattle.json_members.proofs.ReadingLemmas.{Reads, reads_each, reads_exactly, reads_exactly_by, reads_said, reads_then}
+use Rattle.page_json.proofs.ObjectMembersLemmas.ReadingLemmas.{Reads, reads_each, reads_exactly, reads_exactly_by, reads_said, reads_then}
 
 url_data : BaseParts → PageName → Data
 url_data base name = string (page_url_of base name)

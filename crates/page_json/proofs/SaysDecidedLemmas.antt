@@ -17,9 +17,9 @@ use Rattle.connection_uri.proofs.EncodingLemmas.{decoded_id}
 use Rattle.connection_uri.proofs.NameLemmas.{name_is}
 use Rattle.connection_uri.proofs.PageLemmas.{page_url_is}
 use Rattle.page_json.specs.Says.{SaysLink, SaysName, SaysPage, SaysStop}
-use Rattle.json_members.proofs.DecisionsLemmas.{Readable, behind, both, joined, numbers, same_number, same_text, turn, utf8}
+use Rattle.page_json.proofs.ObjectMembersLemmas.DecisionsLemmas.{Readable, behind, both, joined, numbers, same_number, same_text, turn, utf8}
 use Rattle.page_json.proofs.SaysLemmas.{one_page}
-use Rattle.json_members.proofs.MomentDecidedLemmas.{Below, SaysOrNot}
+use Rattle.page_json.proofs.ObjectMembersLemmas.MomentDecidedLemmas.{Below, SaysOrNot}
 
 -- ---- stops
 

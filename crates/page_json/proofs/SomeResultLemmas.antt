@@ -17,20 +17,20 @@ use Rattle.connection_uri.specs.Base.{BaseParts}
 use Rattle.serde_json.specs.Data.{Data}
 use Rattle.serde_json.specs.Find.{as_number, as_u64, get}
 use Rattle.lc_model.specs.Disorder.{first_disorder}
-use Rattle.json_members.specs.Disorder.{unless_disorder}
-use Rattle.json_members.specs.Members.{formed, needed}
-use Rattle.json_members.specs.JsonReading.{json_in}
+use Rattle.page_json.specs.ObjectMembers.Disorder.{unless_disorder}
+use Rattle.page_json.specs.ObjectMembers.Members.{formed, needed}
+use Rattle.page_json.specs.ObjectMembers.JsonReading.{json_in}
 use Rattle.page_json.specs.PageReading.{connection_in, end_at, joined, page_in, page_of_bytes, unless_early}
-use Rattle.json_members.specs.Reading.{HasResult}
+use Rattle.page_json.specs.ObjectMembers.Reading.{HasResult}
 use Rattle.page_json.specs.Says.{SaysLink, SaysName, SaysPage, SaysStop}
-use Rattle.json_members.specs.Values.{as_seconds, seconds_from}
+use Rattle.page_json.specs.ObjectMembers.Values.{as_seconds, seconds_from}
 use Rattle.page_json.specs.StopsReading.{AreParents, change_in, changes_in, doc_in, doc_of_bytes, if_stop, stop_at, stop_in, stops_in, with_parents}
-use Rattle.json_members.specs.declared.fault.PageFault.TheVariants.{BadMember}
-use Rattle.json_members.proofs.DecisionsLemmas as decided
-use Rattle.json_members.proofs.DecisionsLemmas.{if_some, same_text, utf8}
+use Rattle.page_json.specs.declared.object_members.fault.PageFault.TheVariants.{BadMember}
+use Rattle.page_json.proofs.ObjectMembersLemmas.DecisionsLemmas as decided
+use Rattle.page_json.proofs.ObjectMembersLemmas.DecisionsLemmas.{if_some, same_text, utf8}
 use Rattle.page_json.proofs.SaysDecidedLemmas.{links, names, pages, stops}
 use Rattle.page_json.proofs.SaysLemmas.{one_link, one_name, one_page, one_stop}
-use Rattle.json_members.proofs.SomeReadingLemmas.{Any, HasSome, Tells, by_fact, has_result, if_ordered, some_each, some_exactly, some_json, some_said_at, some_said_if, some_then, some_value, tell_moment}
+use Rattle.page_json.proofs.ObjectMembersLemmas.SomeReadingLemmas.{Any, HasSome, Tells, by_fact, has_result, if_ordered, some_each, some_exactly, some_json, some_said_at, some_said_if, some_then, some_value, tell_moment}
 
 -- ---- pages
 

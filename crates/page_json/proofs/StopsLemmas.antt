@@ -23,18 +23,18 @@ use Rattle.serde_json.specs.Read.{read}
 use Rattle.serde_json.specs.View.{items_of}
 use Rattle.serde_json.specs.Written.{compact_text}
 use Rattle.lc_model.specs.Disorder.{first_disorder}
-use Rattle.json_members.specs.Disorder.{unless_disorder}
-use Rattle.json_members.specs.Members.{formed, needed}
+use Rattle.page_json.specs.ObjectMembers.Disorder.{unless_disorder}
+use Rattle.page_json.specs.ObjectMembers.Members.{formed, needed}
 use Rattle.page_json.specs.Sound.{IsSoundChange, IsSoundDoc, IsSoundStop}
-use Rattle.json_members.specs.Values.{as_id, id_from, seconds_from}
+use Rattle.page_json.specs.ObjectMembers.Values.{as_id, id_from, seconds_from}
 use Rattle.page_json.specs.StopsReading.{AreParents, change_in, changes_in, doc_in, doc_of_bytes, if_stop, is_change, is_doc, stop_at, stop_in, stops_in, with_parents}
 use Rattle.page_json.specs.Tree.{change_tree, doc_tree, stop_tree, stops_text_of}
 use Rattle.page_json.specs.Valid.{IsValidDoc}
-use Rattle.json_members.proofs.JsonLemmas.{AreWritable, IsWritable, read_compact}
+use Rattle.page_json.proofs.ObjectMembersLemmas.JsonLemmas.{AreWritable, IsWritable, read_compact}
 use Rattle.lc_model.specs.Totals.{change_cmp_total, stop_cmp_total}
 use Rattle.lc_model.proofs.DisordersLemmas.{no_disorder}
-use Rattle.json_members.proofs.MembersLemmas.{reads_json}
-use Rattle.json_members.proofs.ReadingLemmas.{Reads, reads_each, reads_exactly, reads_exactly_by, reads_then}
+use Rattle.page_json.proofs.ObjectMembersLemmas.MembersLemmas.{reads_json}
+use Rattle.page_json.proofs.ObjectMembersLemmas.ReadingLemmas.{Reads, reads_each, reads_exactly, reads_exactly_by, reads_then}
 
 id_read : (id : List ℕ) → IsIdText id → id_from id ≡ Some id
 id_read [] is = absurd (is.0 refl)

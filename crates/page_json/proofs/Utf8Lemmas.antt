@@ -32,7 +32,7 @@ use Rattle.page_json.specs.Sound.{IsDelay, IsSoundChange, IsSoundConnection, IsS
 use Rattle.page_json.specs.Tree.{allowed_text, change_tree, connection_tree, context_tree, link_at, mapping_tree, page_text_of, page_tree, parent_at, search_tree, stop_tree, stops_text_of, stops_tree}
 use Rattle.page_json.specs.Urls.{stop_url_of, trip_url_of}
 use Rattle.page_json.specs.declared.page.Page.{Page}
-use Rattle.json_members.proofs.WrittenUtf8Lemmas.{Fields, Text, Tree, an_array, an_object, begun, both, field, from_ascii, no_field, plain, rows, text_field}
+use Rattle.page_json.proofs.ObjectMembersLemmas.WrittenUtf8Lemmas.{Fields, Text, Tree, an_array, an_object, begun, both, field, from_ascii, no_field, plain, rows, text_field}
 
 -- ---- the texts in them
 

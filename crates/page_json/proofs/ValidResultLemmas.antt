@@ -20,18 +20,18 @@ use Rattle.lc_model.proofs.DisordersLemmas.{strict_without_disorder}
 use Rattle.connection_uri.specs.Base.{BaseParts}
 use Rattle.serde_json.specs.Data.{Data}
 use Rattle.serde_json.specs.Find.{as_str, get}
-use Rattle.json_members.specs.Members.{formed, said_if, said_in}
-use Rattle.json_members.specs.JsonReading.{json_in}
+use Rattle.page_json.specs.ObjectMembers.Members.{formed, said_if, said_in}
+use Rattle.page_json.specs.ObjectMembers.JsonReading.{json_in}
 use Rattle.page_json.specs.PageReading.{connection_in, joined, page_in, page_of_bytes, unless_early}
-use Rattle.json_members.specs.Reading.{Meets}
+use Rattle.page_json.specs.ObjectMembers.Reading.{Meets}
 use Rattle.page_json.specs.Says.{SaysLink}
 use Rattle.page_json.specs.StopsReading.{AreParents, change_in, changes_in, doc_in, doc_of_bytes, is_doc, stop_at, stops_in, with_parents}
 use Rattle.page_json.specs.Valid.{IsOfVersion, IsValidDoc, IsValidPage}
-use Rattle.json_members.specs.declared.fault.PageFault.{PageFault}
-use Rattle.json_members.specs.declared.fault.PageFault.TheVariants.{BadMember}
+use Rattle.page_json.specs.declared.object_members.fault.PageFault.{PageFault}
+use Rattle.page_json.specs.declared.object_members.fault.PageFault.TheVariants.{BadMember}
 use Rattle.page_json.specs.declared.page.Page.{Page}
 use Rattle.page_json.proofs.SomeResultLemmas.{HasEnds, closed}
-use Rattle.json_members.proofs.GivesLemmas.{Any, Gives, any, gives_after, gives_each, gives_exactly, gives_then, if_ordered}
+use Rattle.page_json.proofs.ObjectMembersLemmas.GivesLemmas.{Any, Gives, any, gives_after, gives_each, gives_exactly, gives_then, if_ordered}
 
 -- ---- pages
 

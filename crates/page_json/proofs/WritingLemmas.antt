@@ -18,7 +18,7 @@ use Rattle.connection_uri.specs.Base.{BaseParts}
 use Rattle.connection_uri.specs.Encoding.{encoded}
 use Rattle.connection_uri.specs.Name.{name_of, run_part_of}
 use Rattle.connection_uri.specs.Page.{page_url_of}
-use Rattle.json_members.specs.MemberWriting.{text_at}
+use Rattle.page_json.specs.ObjectMembers.MemberWriting.{text_at}
 use Rattle.page_json.specs.ConnectionWriting.{call_part, delay_part, list_part, members_part, name_part, rest_part, use_front}
 use Rattle.page_json.specs.Fronts.{delay_under, fronts_under, uses_under}
 use Rattle.page_json.specs.PageWriting.{link_part, page_part, search_part, url_part, view_part}

@@ -1,6 +1,7 @@
 pub mod ConnectionWriting
 pub mod Fronts
 pub mod MomentText
+pub mod ObjectMembers
 pub mod PageReading
 pub mod PageWriting
 pub mod Says

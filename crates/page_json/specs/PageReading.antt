@@ -9,15 +9,15 @@ use Rattle.connection_uri.specs.Base.{BaseParts}
 use Rattle.serde_json.specs.Data.{Data}
 use Rattle.serde_json.specs.Find.{as_str, get}
 use Rattle.lc_model.specs.Disorder.{first_disorder}
-use Rattle.json_members.specs.Disorder.{unless_disorder}
-use Rattle.json_members.specs.Members.{delay_of, list_of, object_under, said_at, said_if_there}
-use Rattle.json_members.specs.Reading.{Reading, each_in, exactly, gives, ◌>>=◌}
+use Rattle.page_json.specs.ObjectMembers.Disorder.{unless_disorder}
+use Rattle.page_json.specs.ObjectMembers.Members.{delay_of, list_of, object_under, said_at, said_if_there}
+use Rattle.page_json.specs.ObjectMembers.Reading.{Reading, each_in, exactly, gives, ◌>>=◌}
 use Rattle.page_json.specs.Says.{SaysLink, SaysName, SaysPage, SaysStop}
 use Rattle.page_json.specs.declared.connection_reading.End.{End}
-use Rattle.json_members.specs.declared.fault.PageFault.{PageFault}
-use Rattle.json_members.specs.declared.fault.PageFault.TheVariants.{BadMember}
+use Rattle.page_json.specs.declared.object_members.fault.PageFault.{PageFault}
+use Rattle.page_json.specs.declared.object_members.fault.PageFault.TheVariants.{BadMember}
 use Rattle.page_json.specs.declared.page.Page.{Page}
-use Rattle.json_members.specs.JsonReading.{json_in}
+use Rattle.page_json.specs.ObjectMembers.JsonReading.{json_in}
 
 -- the delay, the stop and the moment of an arrival or a departure, by their members
 unfoldable pub end_at : BaseParts → List ℕ → List ℕ → List ℕ → Data → Reading End

@@ -12,12 +12,12 @@ use Rattle.lc_model.specs.declared.stop.Stop.{Stop}
 use Rattle.serde_json.specs.Data.{Data}
 use Rattle.serde_json.specs.Find.{get}
 use Rattle.lc_model.specs.Disorder.{first_disorder}
-use Rattle.json_members.specs.Disorder.{unless_disorder}
-use Rattle.json_members.specs.Members.{list_of, needed, object_under}
-use Rattle.json_members.specs.JsonReading.{json_in}
-use Rattle.json_members.specs.Reading.{Reading, each_in, exactly, gives, ◌>>=◌}
-use Rattle.json_members.specs.declared.fault.PageFault.TheVariants.{BadMember}
-use Rattle.json_members.specs.Values.{as_id, as_seconds, id_if, text_if}
+use Rattle.page_json.specs.ObjectMembers.Disorder.{unless_disorder}
+use Rattle.page_json.specs.ObjectMembers.Members.{list_of, needed, object_under}
+use Rattle.page_json.specs.ObjectMembers.JsonReading.{json_in}
+use Rattle.page_json.specs.ObjectMembers.Reading.{Reading, each_in, exactly, gives, ◌>>=◌}
+use Rattle.page_json.specs.declared.object_members.fault.PageFault.TheVariants.{BadMember}
+use Rattle.page_json.specs.ObjectMembers.Values.{as_id, as_seconds, id_if, text_if}
 
 -- a stop, its members in the order of their bytes
 unfoldable pub stop_in : Data → Reading Stop

@@ -6,7 +6,7 @@ use Rattle.json.specs.Token.{Token}
 use Rattle.json.specs.Tree.{members_tokens}
 use Rattle.serde_json.specs.Data.{Members, array, no_members, member}
 use Rattle.serde_json.specs.Written.{members_outline}
-use Rattle.json_members.specs.MemberWriting.{items_from}
+use Rattle.page_json.specs.ObjectMembers.MemberWriting.{items_from}
 use Rattle.page_json.specs.Tree.{change_tree, stop_tree}
 
 -- the tokens of members, and of the bracket that closes their object

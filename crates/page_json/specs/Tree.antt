@@ -15,7 +15,7 @@ use Rattle.serde_json.specs.Find.{of_integer}
 use Rattle.serde_json.specs.Written.{compact_text}
 use Rattle.page_json.specs.Urls.{stop_url_of, trip_url_of}
 use Rattle.page_json.specs.declared.page.Page.{Page}
-use Rattle.json_members.specs.MemberWriting.{items_from, text_at}
+use Rattle.page_json.specs.ObjectMembers.MemberWriting.{items_from, text_at}
 
 -- whether one may board or alight (GTFS vocabulary: PickupType and DropOffType)
 abbrev pub allowed_text : Bool → List ℕ

@@ -1,13 +1,13 @@
 ghost use Rattle.std.specs.Prelude.{◌≢◌, All, Ok, Err, IfOk, IfErr};
 ghost use Rattle.lc_model.specs.Stop.{HasStop};
 ghost use Rattle.lc_model.specs.declared.change.Change.{Change as Stated};
-ghost use Rattle.json_members.specs.Reading.{Meets, each_in};
-ghost use Rattle.json_members.specs.View.{items_view, view};
+ghost use Rattle.page_json.specs.ObjectMembers.Reading.{Meets, each_in};
+ghost use Rattle.page_json.specs.ObjectMembers.View.{items_view, view};
 ghost use Rattle.page_json.specs.StopsReading.{change_in, if_stop, stop_at};
-ghost use Rattle.json_members.specs.declared.fault.PageFault.TheVariants.{NoMemory as OutOfMemory};
+ghost use Rattle.page_json.specs.declared.object_members.fault.PageFault.TheVariants.{NoMemory as OutOfMemory};
 
+use crate::object_members::{PageFault, bad_member, id_at, object_under, seconds_at};
 use json::Value;
-use json_members::{PageFault, bad_member, id_at, object_under, seconds_at};
 use lc_model::{Change, Id, Stops};
 use std::alloc::Global;
 

@@ -2,19 +2,19 @@ ghost use Rattle.std.specs.Prelude.{◌≡◌, ◌≢◌, ◌≤◌, ℕ, List, 
 ghost use Rattle.lc_model.specs.Connection.{NoneArrivesEarly};
 ghost use Rattle.lc_model.specs.declared.connection.Connection.{Connection as Stated};
 ghost use Rattle.lc_model.specs.declared.key.RunKey.{RunKey as Key};
-ghost use Rattle.json_members.specs.Members.{said_at};
+ghost use Rattle.page_json.specs.ObjectMembers.Members.{said_at};
 ghost use Rattle.page_json.specs.PageReading.{allows, connection_in, end_at, joined, unless_early};
-ghost use Rattle.json_members.specs.Reading.{Meets, each_in, exactly};
-ghost use Rattle.json_members.specs.View.{items_view, view};
+ghost use Rattle.page_json.specs.ObjectMembers.Reading.{Meets, each_in, exactly};
+ghost use Rattle.page_json.specs.ObjectMembers.View.{items_view, view};
 ghost use Rattle.page_json.specs.Says.{SaysName, SaysStop};
 
-use crate::urls::read_stop_url;
-use connection_uri::{Base, read_name};
-use json::Value;
-use json_members::{
+use crate::object_members::{
     PageFault, bad_member, delay_at, member_at, moment_at, needed_text, object_under, or_bad,
     text_in,
 };
+use crate::urls::read_stop_url;
+use connection_uri::{Base, read_name};
+use json::Value;
 use lc_model::{Connection, Connections, Id, Moment, NoMemory, RunKey};
 use std::alloc::Global;
 

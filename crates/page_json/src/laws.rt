@@ -2,10 +2,10 @@ ghost use Rattle.std.specs.Prelude.{◌≡◌, ℕ, List, Result, Ok};
 ghost use Rattle.connection_uri.specs.Base.{BaseParts};
 ghost use Rattle.lc_model.specs.declared.doc.StopsDoc.{StopsDoc};
 ghost use Rattle.page_json.specs.PageReading.{page_of_bytes};
-ghost use Rattle.json_members.specs.Reading.{HasResult};
+ghost use Rattle.page_json.specs.ObjectMembers.Reading.{HasResult};
 ghost use Rattle.page_json.specs.StopsReading.{doc_of_bytes};
 ghost use Rattle.page_json.specs.Valid.{IsValidDoc, IsValidPage};
-ghost use Rattle.json_members.specs.declared.fault.PageFault.{PageFault};
+ghost use Rattle.page_json.specs.declared.object_members.fault.PageFault.{PageFault};
 ghost use Rattle.page_json.specs.declared.page.Page.{Page};
 
 /// Bytes say one page at most, or one stops document at most, or have one first fault.

@@ -14,6 +14,7 @@ mod known;
 mod laws;
 mod moment_text;
 mod named;
+mod object_members;
 mod page;
 mod page_reading;
 mod page_writing;
@@ -26,8 +27,12 @@ mod urls;
 mod written_page;
 mod written_stops;
 
-pub use json_members::PageFault;
 pub use laws::{one_reading, readings_are_valid, some_reading};
+pub use object_members::{
+    PageFault, bad_member, delay_at, id_at, id_if_there, json_in, member_at, moment_at,
+    needed_list, needed_text, no_member, object_under, or_bad, seconds_at, text_if_there, text_in,
+    text_under, write_moment, write_number, write_text,
+};
 pub use page::Page;
 pub use page_reading::read_page;
 pub use page_writing::page_text;

@@ -2,23 +2,23 @@ ghost use Rattle.std.specs.Prelude.{◌≡◌, ◌<◌, ℕ, List, codes, Some, 
 ghost use Rattle.lc_model.specs.Connection.{InDepartureOrder, NoneArrivesEarly, departure_cmp};
 ghost use Rattle.lc_model.specs.declared.page.PageName.{PageName as Named};
 ghost use Rattle.lc_model.specs.Disorder.{first_disorder};
-ghost use Rattle.json_members.specs.Disorder.{unless_disorder};
-ghost use Rattle.json_members.specs.Members.{said_at, said_if_there, said_in};
+ghost use Rattle.page_json.specs.ObjectMembers.Disorder.{unless_disorder};
+ghost use Rattle.page_json.specs.ObjectMembers.Members.{said_at, said_if_there, said_in};
 ghost use Rattle.page_json.specs.PageReading.{page_in, page_of_bytes};
-ghost use Rattle.json_members.specs.Reading.{Meets, exactly, gives};
-ghost use Rattle.json_members.specs.View.{view};
+ghost use Rattle.page_json.specs.ObjectMembers.Reading.{Meets, exactly, gives};
+ghost use Rattle.page_json.specs.ObjectMembers.View.{view};
 ghost use Rattle.page_json.specs.Says.{SaysLink, SaysPage};
 ghost use Rattle.page_json.specs.Valid.{IsOfVersion, IsValidPage};
 ghost use Rattle.page_json.specs.declared.page.Page.{Page as Stated};
 
 use crate::Page;
 use crate::connection_reading::connections_in;
+use crate::object_members::{
+    PageFault, json_in, member_at, needed_list, needed_text, object_under, or_bad, text_under,
+};
 use crate::written_page::written_page;
 use connection_uri::{Base, read_page_url};
 use json::{Scratch, Value};
-use json_members::{
-    PageFault, json_in, member_at, needed_list, needed_text, object_under, or_bad, text_under,
-};
 use lc_model::{Moment, PageName, first_disorder};
 use std::alloc::Global;
 

@@ -1,11 +1,11 @@
 ghost use Rattle.std.specs.Prelude.{◌≢◌, Ok, Err, IfOk, IfErr};
-ghost use Rattle.json_members.specs.Reading.{Meets, each_in};
-ghost use Rattle.json_members.specs.View.{items_view, view};
+ghost use Rattle.page_json.specs.ObjectMembers.Reading.{Meets, each_in};
+ghost use Rattle.page_json.specs.ObjectMembers.View.{items_view, view};
 ghost use Rattle.page_json.specs.StopsReading.{stop_in};
-ghost use Rattle.json_members.specs.declared.fault.PageFault.TheVariants.{NoMemory as OutOfMemory};
+ghost use Rattle.page_json.specs.declared.object_members.fault.PageFault.TheVariants.{NoMemory as OutOfMemory};
 
+use crate::object_members::{PageFault, id_at, id_if_there, object_under, text_if_there};
 use json::Value;
-use json_members::{PageFault, id_at, id_if_there, object_under, text_if_there};
 use lc_model::Stop;
 use std::alloc::Global;
 

@@ -7,19 +7,19 @@ ghost use Rattle.lc_model.specs.declared.change.Change.{Change as StatedChange};
 ghost use Rattle.lc_model.specs.declared.stop.Stop.{Stop as StatedStop};
 ghost use Rattle.lc_model.specs.declared.doc.StopsDoc.{StopsDoc as Stated};
 ghost use Rattle.lc_model.specs.Disorder.{first_disorder};
-ghost use Rattle.json_members.specs.Disorder.{unless_disorder};
-ghost use Rattle.json_members.specs.Reading.{Meets, exactly, gives};
-ghost use Rattle.json_members.specs.View.{view};
+ghost use Rattle.page_json.specs.ObjectMembers.Disorder.{unless_disorder};
+ghost use Rattle.page_json.specs.ObjectMembers.Reading.{Meets, exactly, gives};
+ghost use Rattle.page_json.specs.ObjectMembers.View.{view};
 ghost use Rattle.page_json.specs.StopsReading.{AreParents, changes_in, doc_in, doc_of_bytes, stops_in};
 ghost use Rattle.page_json.specs.Valid.{IsValidDoc};
-ghost use Rattle.json_members.specs.declared.fault.PageFault.TheVariants.{BadMember as bad, NoMemory as OutOfMemory};
+ghost use Rattle.page_json.specs.declared.object_members.fault.PageFault.TheVariants.{BadMember as bad, NoMemory as OutOfMemory};
 
 use crate::change_reading::each_change;
 use crate::known::have_parents;
+use crate::object_members::{PageFault, bad_member, json_in, needed_list, object_under};
 use crate::stop_reading::each_stop;
 use crate::written_stops::written_stops;
 use json::{Scratch, Value};
-use json_members::{PageFault, bad_member, json_in, needed_list, object_under};
 use lc_model::{Change, Changes, Stop, Stops, StopsDoc};
 use std::alloc::Global;
 

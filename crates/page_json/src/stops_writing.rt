@@ -5,16 +5,16 @@ ghost use Rattle.serde_json.specs.Data.{array};
 ghost use Rattle.serde_json.specs.Written.{compact_text};
 ghost use Rattle.page_json.specs.Sound.{IsSoundChange, IsSoundDoc, IsSoundStop};
 ghost use Rattle.page_json.specs.StopsReading.{doc_of_bytes};
-ghost use Rattle.json_members.specs.Tokens.{Appends, member_tokens, tokens_of};
-ghost use Rattle.json_members.specs.MemberWriting.{items_from};
+ghost use Rattle.page_json.specs.ObjectMembers.Tokens.{Appends, member_tokens, tokens_of};
+ghost use Rattle.page_json.specs.ObjectMembers.MemberWriting.{items_from};
 ghost use Rattle.page_json.specs.Tree.{change_tree, doc_tree, parent_at, stop_tree, stops_text_of};
 ghost use Rattle.page_json.specs.Valid.{IsValidDoc};
 ghost use Rattle.page_json.specs.StopsWriting.{closed_tokens, list_members};
 
+use crate::object_members::write_text;
 use crate::sound::{sound_change, sound_stop};
 use connection_uri::Base;
 use json::Writer;
-use json_members::write_text;
 use lc_model::{Change, Id, NoMemory, Stop, StopsDoc};
 use std::alloc::Global;
 

@@ -4,8 +4,8 @@ use Rattle.std.specs.Prelude.{codes, nat_le, IfSome}
 use Rattle.std.proofs.lemmas.Bool.Decides.{nat_tests}
 use Rattle.httpdate.specs.Date.{IsPartsText}
 use Rattle.httpdate.specs.declared.parts.Parts.{Parts}
-use Rattle.json_members.proofs.DecisionsLemmas.{below, both, same_text, turn}
-use Rattle.json_members.proofs.MomentDecidedLemmas.{moments}
+use Rattle.page_json.proofs.ObjectMembersLemmas.DecisionsLemmas.{below, both, same_text, turn}
+use Rattle.page_json.proofs.ObjectMembersLemmas.MomentDecidedLemmas.{moments}
 use Rattle.lc_time.specs.Http.{SaysHttpDate, http_parts_of, without_blanks}
 use Rattle.lc_model.specs.Versions.History.{moments_of}
 use Rattle.lc_model.specs.Versions.Named.{version_named}

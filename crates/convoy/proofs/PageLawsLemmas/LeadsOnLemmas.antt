@@ -3,7 +3,7 @@ use Rattle.std.proofs.Common.{ℕ, ◌+◌, ◌≤◌, ◌⊎◌, List, [], ◌�
 use Rattle.std.proofs.Math.Decide.{dec_le}
 use Rattle.std.specs.List.{Contains}
 use Rattle.std.specs.Option.{IsSomeAnd}
-use Rattle.json_members.proofs.DecisionsLemmas.{both, turn}
+use Rattle.page_json.proofs.ObjectMembersLemmas.DecisionsLemmas.{both, turn}
 use Rattle.lc_model.specs.Change.{change_between}
 use Rattle.lc_model.specs.Journey.{CanChange, GoesOn}
 use Rattle.lc_model.specs.declared.doc.StopsDoc.{StopsDoc}

@@ -2,7 +2,7 @@
 use Rattle.std.proofs.Common.{◌≡◌, ℕ, zero, suc, ◌+◌, ◌-◌, ◌<◌, ◌≤◌, ◌⊎◌, inl, inr, List, [], ◌∷◌, Option, None, Some, refl, sym, subst, arith}
 use Rattle.std.proofs.Math.Decide.{dec_le, dec_lt}
 use Rattle.std.specs.List.{Any, Contains}
-use Rattle.json_members.proofs.DecisionsLemmas.{any, both, turn}
+use Rattle.page_json.proofs.ObjectMembersLemmas.DecisionsLemmas.{any, both, turn}
 use Rattle.lc_model.specs.Journey.{AreRides, IsJourney, IsLeastArrival, alight_of, arrival_of_rides, arrives_at, board_of, departure_of}
 use Rattle.lc_model.specs.Question.{latest_of}
 use Rattle.lc_model.specs.Ride.{IsRideAt}

@@ -4,7 +4,7 @@ use Rattle.std.proofs.Math.Decide.{dec_le}
 use Rattle.std.proofs.lemmas.List.Elements.{Contains-append_cases, Contains-append_left, Contains-append_right}
 use Rattle.std.proofs.lemmas.Option.{slice_get_within}
 use Rattle.std.specs.List.{Any, Contains, slice_get}
-use Rattle.json_members.proofs.DecisionsLemmas.{same_number, same_text, turn}
+use Rattle.page_json.proofs.ObjectMembersLemmas.DecisionsLemmas.{same_number, same_text, turn}
 use Rattle.lc_model.specs.Question.{IsEnd}
 use Rattle.lc_model.specs.Ride.{IsRideAt, IsRideOn}
 use Rattle.lc_model.specs.declared.call.Call.{Call}

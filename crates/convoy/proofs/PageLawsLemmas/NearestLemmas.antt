@@ -6,7 +6,7 @@ use Rattle.std.specs.List.{Any, Contains}
 use Rattle.std.specs.Ordering.{is_gt, ordering_reverse}
 use Rattle.std.specs.declared.cmp.Ordering.{Ordering}
 use Rattle.std.specs.declared.cmp.Ordering.TheVariants.{Less, Equal, Greater}
-use Rattle.json_members.proofs.DecisionsLemmas.{any, both, same_text}
+use Rattle.page_json.proofs.ObjectMembersLemmas.DecisionsLemmas.{any, both, same_text}
 use Rattle.lc_model.specs.Change.{change_between}
 use Rattle.lc_model.specs.Question.{IsEnd, IsFrom, IsTo}
 use Rattle.lc_model.specs.Text.{id_cmp}

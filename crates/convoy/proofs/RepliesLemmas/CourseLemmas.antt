@@ -11,7 +11,7 @@ use Rattle.lc_model.specs.declared.query.Query.{Query}
 use Rattle.lc_model.specs.Connection.{last_departure}
 use Rattle.connection_uri.specs.Base.{BaseParts}
 use Rattle.page_json.specs.Valid.{IsValidPage}
-use Rattle.json_members.specs.declared.fault.PageFault.{PageFault}
+use Rattle.page_json.specs.declared.object_members.fault.PageFault.{PageFault}
 use Rattle.page_json.specs.declared.page.Page.{Page}
 use Rattle.page_json.specs.PageReading.{page_of_bytes}
 use Rattle.page_json.proofs.ValidResultLemmas.{valid_page_of_bytes}

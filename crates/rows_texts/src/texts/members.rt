@@ -1,10 +1,10 @@
 //! Members of JSON as they are read and written.
 use json::{Scratch, Writer};
-use json_members::{
+use lc_model::{Moment, NoMemory};
+use page_json::{
     delay_at, id_at, json_in, moment_at, needed_text, seconds_at, write_moment, write_number,
     write_text,
 };
-use lc_model::{Moment, NoMemory};
 use rows_common::Draft;
 use std::alloc::Global;
 

@@ -1,8 +1,8 @@
 -- One step after the other.
 use Rattle.std.proofs.Common.{Ok, Err, refl, sym}
-use Rattle.json_members.specs.View.{view}
+use Rattle.page_json.specs.ObjectMembers.View.{view}
 use Rattle.page_json.specs.StopsReading.{change_in}
-use Rattle.json_members.proofs.ReadingsLemmas.{meets_err}
+use Rattle.page_json.proofs.ObjectMembersLemmas.ReadingsLemmas.{meets_err}
 use Rattle.page_json.proofs.change_reading.change_in.Goals as goal
 
 pub returns-clause-said : goal.returns-clause-said

@@ -4,11 +4,11 @@ use Rattle.std.specs.List.{All}
 use Rattle.std.proofs.lemmas.List.Elements.{All-nil, All-push}
 use Rattle.lc_model.specs.Stop.{HasStop}
 use Rattle.lc_model.specs.declared.change.Change.{Change}
-use Rattle.json_members.specs.View.{items_view}
+use Rattle.page_json.specs.ObjectMembers.View.{items_view}
 use Rattle.page_json.specs.StopsReading.{change_in}
-use Rattle.json_members.specs.Reading.{each_in}
-use Rattle.json_members.proofs.EachLemmas.{AreReadTo, all_read, fault_read, nothing_read, one_more_read}
-use Rattle.json_members.proofs.ReadingsLemmas.{err_handed_on}
+use Rattle.page_json.specs.ObjectMembers.Reading.{each_in}
+use Rattle.page_json.proofs.ObjectMembersLemmas.EachLemmas.{AreReadTo, all_read, fault_read, nothing_read, one_more_read}
+use Rattle.page_json.proofs.ObjectMembersLemmas.ReadingsLemmas.{err_handed_on}
 use Rattle.page_json.proofs.change_reading.each_change.Goals as goal
 
 pub loop-value-init : goal.loop-value-init

@@ -3,7 +3,7 @@ use Rattle.std.specs.List.{All}
 use Rattle.lc_model.specs.Stop.{HasStop}
 use Rattle.lc_model.specs.declared.change.Change.{Change}
 use Rattle.page_json.specs.StopsReading.{change_in}
-use Rattle.json_members.proofs.EachLemmas.{AreReadTo}
+use Rattle.page_json.proofs.ObjectMembersLemmas.EachLemmas.{AreReadTo}
 use Rattle.page_json.proofs.change_reading.each_change.Given as goal
 
 abbrev pub invariant-loop-value : goal.invariant-loop-value

@@ -1,8 +1,8 @@
 -- One step after the other.
 use Rattle.std.proofs.Common.{Ok, Err, refl}
-use Rattle.json_members.specs.View.{view}
+use Rattle.page_json.specs.ObjectMembers.View.{view}
 use Rattle.page_json.specs.StopsReading.{if_stop, stop_at}
-use Rattle.json_members.proofs.ReadingsLemmas.{meets_err, meets_last}
+use Rattle.page_json.proofs.ObjectMembersLemmas.ReadingsLemmas.{meets_err, meets_last}
 use Rattle.page_json.proofs.change_reading.stop_at.Goals as goal
 
 pub returns-clause-said : goal.returns-clause-said

@@ -1,9 +1,9 @@
 -- One member after the other.
 use Rattle.std.proofs.Common.{Ok, Err, refl, sym}
-use Rattle.json_members.specs.View.{view}
+use Rattle.page_json.specs.ObjectMembers.View.{view}
 use Rattle.page_json.specs.PageReading.{connection_in, joined, unless_early}
-use Rattle.json_members.specs.Reading.{exactly}
-use Rattle.json_members.proofs.ReadingsLemmas.{meets_err, meets_last}
+use Rattle.page_json.specs.ObjectMembers.Reading.{exactly}
+use Rattle.page_json.proofs.ObjectMembersLemmas.ReadingsLemmas.{meets_err, meets_last}
 use Rattle.page_json.proofs.connection_reading.connection_in.Goals as goal
 
 pub returns-clause-said : goal.returns-clause-said

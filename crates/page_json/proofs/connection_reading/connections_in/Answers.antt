@@ -3,11 +3,11 @@ use Rattle.std.proofs.Common.{◌≤◌, ◌+◌, List, Ok, sym, subst}
 use Rattle.std.proofs.lemmas.List.Elements.{All-nil, All-push}
 use Rattle.lc_model.specs.Connection.{NoneArrivesEarly}
 use Rattle.lc_model.specs.declared.connection.Connection.{Connection}
-use Rattle.json_members.specs.View.{items_view}
+use Rattle.page_json.specs.ObjectMembers.View.{items_view}
 use Rattle.page_json.specs.PageReading.{connection_in}
-use Rattle.json_members.specs.Reading.{each_in}
-use Rattle.json_members.proofs.EachLemmas.{AreReadTo, all_read, fault_read, nothing_read, one_more_read}
-use Rattle.json_members.proofs.ReadingsLemmas.{meets_err}
+use Rattle.page_json.specs.ObjectMembers.Reading.{each_in}
+use Rattle.page_json.proofs.ObjectMembersLemmas.EachLemmas.{AreReadTo, all_read, fault_read, nothing_read, one_more_read}
+use Rattle.page_json.proofs.ObjectMembersLemmas.ReadingsLemmas.{meets_err}
 use Rattle.page_json.proofs.connection_reading.connections_in.Goals as goal
 
 pub loop-value-init : goal.loop-value-init

@@ -1,7 +1,7 @@
 -- The connections so far are read, and none arrives before it departs.
 use Rattle.lc_model.specs.Connection.{NoneArrivesEarly}
 use Rattle.page_json.specs.PageReading.{connection_in}
-use Rattle.json_members.proofs.EachLemmas.{AreReadTo}
+use Rattle.page_json.proofs.ObjectMembersLemmas.EachLemmas.{AreReadTo}
 use Rattle.page_json.proofs.connection_reading.connections_in.Given as goal
 
 abbrev pub invariant-loop-value : goal.invariant-loop-value

@@ -1,8 +1,8 @@
 -- One member after the other.
 use Rattle.std.proofs.Common.{Ok, Err, refl, rules}
-use Rattle.json_members.specs.View.{view}
+use Rattle.page_json.specs.ObjectMembers.View.{view}
 use Rattle.page_json.specs.PageReading.{end_at}
-use Rattle.json_members.proofs.ReadingsLemmas.{meets_err}
+use Rattle.page_json.proofs.ObjectMembersLemmas.ReadingsLemmas.{meets_err}
 use Rattle.page_json.proofs.connection_reading.end_at.Goals as goal
 
 pub returns : goal.returns

@@ -1,10 +1,10 @@
 -- The text of the member says its stop.
 use Rattle.std.proofs.Common.{Ok, ap, sym, ◌∙◌}
 use Rattle.page_json.specs.Says.{SaysStop}
-use Rattle.json_members.specs.View.{view}
-use Rattle.json_members.specs.Members.{text_of}
-use Rattle.json_members.specs.Reading.{what_is_said}
-use Rattle.json_members.proofs.ReadingsLemmas.{after_ok, said_from}
+use Rattle.page_json.specs.ObjectMembers.View.{view}
+use Rattle.page_json.specs.ObjectMembers.Members.{text_of}
+use Rattle.page_json.specs.ObjectMembers.Reading.{what_is_said}
+use Rattle.page_json.proofs.ObjectMembersLemmas.ReadingsLemmas.{after_ok, said_from}
 use Rattle.page_json.proofs.connection_reading.stop_at.Goals as goal
 
 pub returns : goal.returns

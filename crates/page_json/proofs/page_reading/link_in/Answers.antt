@@ -1,11 +1,11 @@
 -- The text of the member says its page.
 use Rattle.std.proofs.Common.{Ok, ap, sym, ◌∙◌}
 use Rattle.serde_json.specs.Find.{as_str}
-use Rattle.json_members.specs.View.{view}
-use Rattle.json_members.specs.Members.{formed}
-use Rattle.json_members.specs.Reading.{what_is_said}
+use Rattle.page_json.specs.ObjectMembers.View.{view}
+use Rattle.page_json.specs.ObjectMembers.Members.{formed}
+use Rattle.page_json.specs.ObjectMembers.Reading.{what_is_said}
 use Rattle.page_json.specs.Says.{SaysLink}
-use Rattle.json_members.proofs.ReadingsLemmas.{after_ok, said_from}
+use Rattle.page_json.proofs.ObjectMembersLemmas.ReadingsLemmas.{after_ok, said_from}
 use Rattle.page_json.proofs.page_reading.link_in.Goals as goal
 
 pub returns-clause-said : goal.returns-clause-said

@@ -1,14 +1,14 @@
 -- One member after the other.
 use Rattle.std.proofs.Common.{Ok, Err, refl, sym}
 use Rattle.lc_model.specs.Connection.{departure_cmp}
-use Rattle.json_members.specs.View.{items_view, view}
+use Rattle.page_json.specs.ObjectMembers.View.{items_view, view}
 use Rattle.lc_model.specs.Disorder.{first_disorder}
-use Rattle.json_members.specs.Disorder.{unless_disorder}
+use Rattle.page_json.specs.ObjectMembers.Disorder.{unless_disorder}
 use Rattle.page_json.specs.PageReading.{page_in}
-use Rattle.json_members.specs.Reading.{exactly}
+use Rattle.page_json.specs.ObjectMembers.Reading.{exactly}
 use Rattle.page_json.specs.declared.page.Page.{Page}
-use Rattle.json_members.proofs.EachLemmas.{items_seen}
-use Rattle.json_members.proofs.ReadingsLemmas.{meets_err, meets_last}
+use Rattle.page_json.proofs.ObjectMembersLemmas.EachLemmas.{items_seen}
+use Rattle.page_json.proofs.ObjectMembersLemmas.ReadingsLemmas.{meets_err, meets_last}
 use Rattle.page_json.proofs.page_reading.page_in.Goals as goal
 
 pub returns-clause-said : goal.returns-clause-said

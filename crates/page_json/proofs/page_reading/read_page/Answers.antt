@@ -1,7 +1,7 @@
 -- The bytes say one page at most.
 use Rattle.std.proofs.Common.{Ok, Option, subst}
 use Rattle.std.specs.Option.{IfSome}
-use Rattle.json_members.proofs.OneReadingLemmas.{meets_one}
+use Rattle.page_json.proofs.ObjectMembersLemmas.OneReadingLemmas.{meets_one}
 use Rattle.page_json.proofs.OneResultLemmas.{one_page_of_bytes}
 use Rattle.page_json.specs.PageReading.{page_of_bytes}
 use Rattle.page_json.specs.declared.page.Page.{Page}

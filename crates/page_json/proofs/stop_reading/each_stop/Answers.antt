@@ -1,11 +1,11 @@
 -- Each item is read in its turn.
 use Rattle.std.proofs.Common.{◌+◌, List, Err, sym, subst}
 use Rattle.lc_model.specs.declared.stop.Stop.{Stop}
-use Rattle.json_members.specs.View.{items_view}
+use Rattle.page_json.specs.ObjectMembers.View.{items_view}
 use Rattle.page_json.specs.StopsReading.{stop_in}
-use Rattle.json_members.specs.Reading.{each_in}
-use Rattle.json_members.proofs.EachLemmas.{AreReadTo, all_read, fault_read, nothing_read, one_more_read}
-use Rattle.json_members.proofs.ReadingsLemmas.{err_handed_on}
+use Rattle.page_json.specs.ObjectMembers.Reading.{each_in}
+use Rattle.page_json.proofs.ObjectMembersLemmas.EachLemmas.{AreReadTo, all_read, fault_read, nothing_read, one_more_read}
+use Rattle.page_json.proofs.ObjectMembersLemmas.ReadingsLemmas.{err_handed_on}
 use Rattle.page_json.proofs.stop_reading.each_stop.Goals as goal
 
 pub loop-value-init : goal.loop-value-init

@@ -1,6 +1,6 @@
 -- The items so far are read.
 use Rattle.page_json.specs.StopsReading.{stop_in}
-use Rattle.json_members.proofs.EachLemmas.{AreReadTo}
+use Rattle.page_json.proofs.ObjectMembersLemmas.EachLemmas.{AreReadTo}
 use Rattle.page_json.proofs.stop_reading.each_stop.Given as goal
 
 abbrev pub invariant-loop-value : goal.invariant-loop-value

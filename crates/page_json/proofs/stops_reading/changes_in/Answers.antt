@@ -1,17 +1,17 @@
 -- One step after the other.
 use Rattle.std.proofs.Common.{List, ◌≡◌, Ok, Err, refl, subst, sym}
-use Rattle.json_members.specs.View.{items_view, view}
+use Rattle.page_json.specs.ObjectMembers.View.{items_view, view}
 use Rattle.lc_model.specs.Disorder.{first_disorder}
-use Rattle.json_members.specs.Disorder.{unless_disorder}
-use Rattle.json_members.specs.Reading.{exactly}
+use Rattle.page_json.specs.ObjectMembers.Disorder.{unless_disorder}
+use Rattle.page_json.specs.ObjectMembers.Reading.{exactly}
 use Rattle.std.proofs.lemmas.Result.{IfOk-weaker}
 use Rattle.std.specs.List.{All}
 use Rattle.lc_model.specs.Change.{change_cmp}
 use Rattle.lc_model.specs.Stop.{HasStop}
 use Rattle.lc_model.specs.declared.change.Change.{Change}
 use Rattle.page_json.specs.StopsReading.{changes_in}
-use Rattle.json_members.proofs.EachLemmas.{items_seen}
-use Rattle.json_members.proofs.ReadingsLemmas.{meets_err, meets_last}
+use Rattle.page_json.proofs.ObjectMembersLemmas.EachLemmas.{items_seen}
+use Rattle.page_json.proofs.ObjectMembersLemmas.ReadingsLemmas.{meets_err, meets_last}
 use Rattle.page_json.proofs.stops_reading.changes_in.Goals as goal
 
 pub returns-clause-said : goal.returns-clause-said

@@ -1,7 +1,7 @@
 -- The bytes say one document at most, and it is valid.
 use Rattle.std.proofs.Common.{Ok, Option, subst}
 use Rattle.std.specs.Option.{IfSome}
-use Rattle.json_members.proofs.OneReadingLemmas.{meets_one}
+use Rattle.page_json.proofs.ObjectMembersLemmas.OneReadingLemmas.{meets_one}
 use Rattle.lc_model.specs.declared.doc.StopsDoc.{StopsDoc}
 use Rattle.page_json.specs.StopsReading.{doc_of_bytes}
 use Rattle.page_json.proofs.OneResultLemmas.{one_doc_of_bytes}

@@ -1,8 +1,8 @@
 -- First the JSON, then the document.
 use Rattle.std.proofs.Common.{Ok, Err, refl}
-use Rattle.json_members.specs.View.{view}
+use Rattle.page_json.specs.ObjectMembers.View.{view}
 use Rattle.page_json.specs.StopsReading.{doc_in, doc_of_bytes}
-use Rattle.json_members.proofs.ReadingsLemmas.{meets_err, meets_last}
+use Rattle.page_json.proofs.ObjectMembersLemmas.ReadingsLemmas.{meets_err, meets_last}
 use Rattle.page_json.proofs.stops_reading.read_tree.Goals as goal
 
 pub returns : goal.returns

@@ -1,15 +1,15 @@
 -- One step after the other.
 use Rattle.std.proofs.Common.{Ok, Err, refl, subst, sym}
-use Rattle.json_members.specs.View.{items_view, view}
+use Rattle.page_json.specs.ObjectMembers.View.{items_view, view}
 use Rattle.lc_model.specs.Disorder.{first_disorder}
-use Rattle.json_members.specs.Disorder.{unless_disorder}
-use Rattle.json_members.specs.Reading.{exactly}
+use Rattle.page_json.specs.ObjectMembers.Disorder.{unless_disorder}
+use Rattle.page_json.specs.ObjectMembers.Reading.{exactly}
 use Rattle.page_json.specs.StopsReading.{AreParents, stops_in}
 use Rattle.std.specs.Ordering.{on}
 use Rattle.lc_model.specs.Text.{id_cmp}
 use Rattle.lc_model.specs.declared.stop.Stop.{Stop}
-use Rattle.json_members.proofs.EachLemmas.{items_seen}
-use Rattle.json_members.proofs.ReadingsLemmas.{meets_err, meets_last}
+use Rattle.page_json.proofs.ObjectMembersLemmas.EachLemmas.{items_seen}
+use Rattle.page_json.proofs.ObjectMembersLemmas.ReadingsLemmas.{meets_err, meets_last}
 use Rattle.page_json.proofs.stops_reading.stops_in.Goals as goal
 
 pub returns-clause-said : goal.returns-clause-said

@@ -1,10 +1,10 @@
 -- What was written is the text of the document's tree.
 use Rattle.std.proofs.Common.{sym, subst, ◌∙◌}
 use Rattle.std.specs.Str.{IsUtf8}
-use Rattle.json_members.specs.Tokens.{tokens_of}
+use Rattle.page_json.specs.ObjectMembers.Tokens.{tokens_of}
 use Rattle.page_json.specs.Tree.{doc_tree}
 use Rattle.page_json.proofs.StopsLemmas.{reads_doc_text}
-use Rattle.json_members.proofs.TokensLemmas.{behind_nothing, text_is}
+use Rattle.page_json.proofs.ObjectMembersLemmas.TokensLemmas.{behind_nothing, text_is}
 use Rattle.page_json.proofs.stops_writing.doc_text.Goals as goal
 
 pub returns-clause-text : goal.returns-clause-text

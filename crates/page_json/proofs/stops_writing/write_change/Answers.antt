@@ -1,6 +1,6 @@
 -- The members follow each other.
 use Rattle.page_json.specs.Tree.{change_tree}
-use Rattle.json_members.proofs.TokensLemmas.{one, ◌>>◌}
+use Rattle.page_json.proofs.ObjectMembersLemmas.TokensLemmas.{one, ◌>>◌}
 use Rattle.page_json.proofs.stops_writing.write_change.Goals as goal
 
 pub returns-clause-tokens : goal.returns-clause-tokens

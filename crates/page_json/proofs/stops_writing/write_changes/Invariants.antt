@@ -2,7 +2,7 @@
 use Rattle.std.proofs.Common.{All, take}
 use Rattle.page_json.specs.Sound.{IsSoundChange}
 use Rattle.page_json.specs.Tree.{change_tree}
-use Rattle.json_members.proofs.TokensLemmas.{AreWrittenTo}
+use Rattle.page_json.proofs.ObjectMembersLemmas.TokensLemmas.{AreWrittenTo}
 use Rattle.page_json.proofs.stops_writing.write_changes.Given as goal
 
 abbrev pub invariant-loop-change : goal.invariant-loop-change

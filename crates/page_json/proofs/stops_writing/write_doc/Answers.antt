@@ -3,7 +3,7 @@ use Rattle.std.proofs.Common.{subst}
 use Rattle.lc_model.specs.Change.{InChangeOrder}
 use Rattle.lc_model.specs.Stop.{InStopOrder}
 use Rattle.page_json.proofs.StopsLemmas.{names_its_stops}
-use Rattle.json_members.proofs.TokensLemmas.{one, ◌>>◌}
+use Rattle.page_json.proofs.ObjectMembersLemmas.TokensLemmas.{one, ◌>>◌}
 use Rattle.page_json.proofs.stops_writing.write_doc.Goals as goal
 
 pub returns-clause-tokens : goal.returns-clause-tokens

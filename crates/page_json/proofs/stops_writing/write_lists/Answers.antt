@@ -1,5 +1,5 @@
 -- The members follow each other.
-use Rattle.json_members.proofs.TokensLemmas.{one, ◌>>◌}
+use Rattle.page_json.proofs.ObjectMembersLemmas.TokensLemmas.{one, ◌>>◌}
 use Rattle.page_json.proofs.stops_writing.write_lists.Goals as goal
 
 pub returns-clause-tokens : goal.returns-clause-tokens

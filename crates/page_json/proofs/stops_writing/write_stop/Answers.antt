@@ -1,6 +1,6 @@
 -- The members follow each other.
 use Rattle.page_json.specs.Tree.{parent_at, stop_tree}
-use Rattle.json_members.proofs.TokensLemmas.{closed, one, ◌>>◌}
+use Rattle.page_json.proofs.ObjectMembersLemmas.TokensLemmas.{closed, one, ◌>>◌}
 use Rattle.page_json.proofs.stops_writing.write_stop.Goals as goal
 
 pub returns-clause-tokens : goal.returns-clause-tokens

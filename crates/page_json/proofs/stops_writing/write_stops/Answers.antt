@@ -4,7 +4,7 @@ use Rattle.std.proofs.lemmas.List.{take_all}
 use Rattle.std.proofs.lemmas.List.Elements.{All-more}
 use Rattle.page_json.specs.Sound.{IsSoundStop}
 use Rattle.page_json.specs.Tree.{stop_tree}
-use Rattle.json_members.proofs.TokensLemmas.{all_written, one, one_more_written, ◌>>◌}
+use Rattle.page_json.proofs.ObjectMembersLemmas.TokensLemmas.{all_written, one, one_more_written, ◌>>◌}
 use Rattle.page_json.proofs.stops_writing.write_stops.Goals as goal
 
 pub loop-stop-preserved : goal.loop-stop-preserved

@@ -2,7 +2,7 @@
 use Rattle.std.proofs.Common.{All, take}
 use Rattle.page_json.specs.Sound.{IsSoundStop}
 use Rattle.page_json.specs.Tree.{stop_tree}
-use Rattle.json_members.proofs.TokensLemmas.{AreWrittenTo}
+use Rattle.page_json.proofs.ObjectMembersLemmas.TokensLemmas.{AreWrittenTo}
 use Rattle.page_json.proofs.stops_writing.write_stops.Given as goal
 
 abbrev pub invariant-loop-stop : goal.invariant-loop-stop

@@ -1,7 +1,0 @@
--- A number was read.
-use Rattle.std.proofs.Common.{◌∙◌}
-use Rattle.json_members.proofs.TreeLemmas.{some_seen}
-use Rattle.json_members.proofs.number.has_value.Goals as goal
-
-pub returns : goal.returns
-returns c = c.is_some.ensures ∙ some_seen c.number_in.result _ c.number_in.ensures
