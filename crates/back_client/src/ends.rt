@@ -1,6 +1,6 @@
 //! That a question for the latest departure ends rightly over an honest link, by the publisher's side at its other end, as laws. It goes
 //! back along the previous links: where it may stop, and which pages it needs. How it ends by the replies that it got, over any link. It builds
-//! on `back_client`, `back_scan`, `laws_pages`, `laws_convoys` and `laws_replies`.
+//! on `back_scan` and on the laws of `convoy`.
 mod early;
 mod journeys;
 mod laws;

@@ -1,5 +1,5 @@
 //! The changes between the stops of a feed, by the rows of transfers.txt and the stations of the stops. It builds on
-//! `lc_model` and `gtfs_calendars`.
+//! `lc_model` and `gtfs_tables`.
 #![tactic(auto)]
 
 mod children;

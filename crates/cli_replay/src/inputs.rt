@@ -1,6 +1,5 @@
 //! What a command reads: the timetable of its feed, a message, and a script that names messages, or one of questions and
-//! turns alone. Else it says why it is refused.
-//! It builds on `laws_replay`.
+//! turns alone. Else it says why it is refused. It builds on `timetable` and `journey_text`.
 mod inputs;
 mod laws;
 mod message;

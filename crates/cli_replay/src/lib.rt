@@ -1,5 +1,5 @@
 //! Replays an event sequence. A publisher of a timetable hears messages, while clients that share a cache of pages ask it in turn.
-//! It says what is printed of it, too. It builds on `cli_ask` and `laws_replay`.
+//! It says what is printed of it, too. Plans over a link are in `planning`, and what a command reads in `inputs`. It builds on `cli_ask`.
 #![tactic(auto)]
 
 mod course;

@@ -1,5 +1,5 @@
 //! Clients that plan over one link, whose side may grow between their exchanges. What it means that each of them ended rightly, and the laws
-//! that they do. It builds on `laws_replay`.
+//! that they do. It builds on `replay_laws`.
 mod laws;
 mod near;
 

@@ -1,6 +1,5 @@
 //! Plans: clients that share a cache of pages ask a publisher over the link handed in, in turn, or over a relay of it. What is printed of them,
-//! and how many of their exchanges a relay handed on. It builds on `laws_plan`, `cli_replay` and `page_relay`, and hands on what its callers
-//! name of the first.
+//! and how many of their exchanges a relay handed on. It builds on `plan_laws` and `page_relay`.
 mod events;
 mod laws;
 mod planning;

@@ -1,5 +1,5 @@
 //! The event sequence of a day that is replayed: who asks, which messages arrive, and who has a turn. What it means that it was played rightly,
-//! and the laws that a sequence which was played over a link was played so. It builds on `cli_ask`.
+//! and the laws that a sequence which was played over a link was played so. It builds on the laws of `convoy`.
 mod event;
 mod laws;
 mod message;

@@ -1,5 +1,5 @@
 //! That clients which take turns over an honest link agree with the publisher's side at its other end, turn after turn, as laws. What
-//! one client alone asks and finds. It builds on `convoy` and `laws_clients`.
+//! one client alone asks and finds. It builds on `client_laws`.
 mod laws;
 mod worked;
 

@@ -1,6 +1,6 @@
 //! When a client agrees with the publisher's side that it asks, as definitions with their laws. The side's replies say the page to which the
 //! time gate sends, the stops document and the pages. The client ends with an answer by the timetable of its version, after exactly the
-//! needed pages. It builds on `page_client`, `laws_pages` and `publisher_spec`.
+//! needed pages. It builds on `page_client`, on `page_laws` and on the sides of `lc_world`.
 mod laws;
 mod sides;
 mod steps;

@@ -1,4 +1,6 @@
-//! Many clients that share one bounded cache of pages, over any link. It builds on `page_client` and `lc_world`.
+//! Many clients that share one bounded cache of pages, over any link. Beside the clients are their laws: of pages, of
+//! one client over the replies of a publisher, of clients that agree with it turn after turn, and of what any replies mean.
+//! It builds on `page_client` and `lc_world`.
 #![tactic(auto)]
 
 mod agreement;

@@ -1,6 +1,6 @@
 //! The laws of pages and of their connections. A list in departure order has the journeys of the timetable that it comes from, and a least
 //! arrival of them. Along the links of pages the order of departures goes on, and rides are legs from the page asked for on. They say
-//! where a page may be last and which are needed. It builds on `lc_model` and `lc_versions`.
+//! where a page may be last and which are needed. It builds on `lc_model`.
 mod chain;
 mod journeys;
 mod needed;

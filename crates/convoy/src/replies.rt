@@ -1,5 +1,5 @@
 //! What clients have read, over any link, those that take turns and one that asks alone. How each ended by that, and which pages were
-//! cached, as definitions with their laws. It builds on `convoy` and the crates below it.
+//! cached, as definitions with their laws. It asks nothing of the link.
 mod laws;
 
 pub use laws::{

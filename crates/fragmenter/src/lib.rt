@@ -1,4 +1,4 @@
-//! Cuts: where the pages of a version begin. It builds on the definitions of `lc_versions`.
+//! Cuts: where the pages of a version begin. It builds on the definitions of `lc_model`.
 #![tactic(auto)]
 
 mod by_count;

@@ -1,5 +1,5 @@
 //! What calendar.txt, calendar_dates.txt, frequencies.txt and transfers.txt of a GTFS feed say, as typed rows, or the first
-//! rule that each breaks, with the row. It builds on `gtfs_fields`.
+//! rule that each breaks, with the row. It builds on `fields`.
 mod calendar;
 mod calendar_dates;
 mod calendar_dates_file;

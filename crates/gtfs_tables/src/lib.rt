@@ -1,5 +1,5 @@
-//! The tables of a GTFS feed in a directory, or the first rule or limit that it breaks, with file and row. It hands on the types
-//! of their rows. It builds on `gtfs_trips`, `gtfs_calendars` and `lc_io`.
+//! The tables of a GTFS feed in a directory, or the first rule or limit that it breaks, with file and row. What the
+//! files share is in `fields`, and each file in `trips` or `calendars`. It builds on `gtfs_rows`, `lc_io` and `lc_time`.
 #![tactic(auto)]
 
 mod calendars;

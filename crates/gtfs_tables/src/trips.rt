@@ -1,5 +1,5 @@
 //! What stops.txt, trips.txt and stop_times.txt of a GTFS feed say, as typed rows, or the first rule that each breaks, with
-//! the row. It builds on `gtfs_fields`.
+//! the row. It builds on `fields`.
 mod groups;
 mod guesses;
 mod keyed;

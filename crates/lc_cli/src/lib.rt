@@ -1,5 +1,5 @@
 //! The commands of `lc`: they check feeds, publish them, and plan journeys over pages that a publisher gives. It builds on the
-//! arguments, the timetable of a feed, `cli_ask`, `cli_fewest`, `cli_arrive`, `cli_replay`, `cli_drill`, `cli_serve` and `cli_plan`.
+//! arguments, the timetable of a feed, `cli_ask`, `cli_replay`, `cli_drill` and `wire_session`.
 #![tactic(auto)]
 
 mod block;

@@ -1,5 +1,5 @@
 //! Versions of a timetable: what realtime messages say of trips and stops, and the definitions of what was known when. It
-//! builds on `lc_model`.
+//! builds on the words of the timetable above it.
 mod entity;
 mod event;
 mod stop_news;

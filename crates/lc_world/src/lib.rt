@@ -1,6 +1,6 @@
 //! Links to a publisher as a trait with the meanings that contracts cite and a count of its faults, with a form in memory. It hands on
-//! the rest of the outside: the directories, sinks, doors and talks of `lc_io`. It builds on `lc_io`, on `http_text` for requests, and on
-//! `publisher_spec` for what a link may have at its other end.
+//! the rest of the outside: the directories, sinks, doors and talks of `lc_io`. What a link may have at its other end is in `sides`. It builds
+//! on `lc_io`, and on `http_text` for requests.
 #![tactic(auto)]
 
 mod entry;

@@ -1,4 +1,4 @@
-//! What a publisher's side is and what it replies, as definitions with their laws. It builds on `lc_versions` for what was known
+//! What a publisher's side is and what it replies, as definitions with their laws. It builds on `lc_model` for what was known
 //! when, on `trip_updates` for messages, on `memento`, and on `page_json` and `http_text` for the texts.
 mod asked;
 mod laws;

@@ -1,5 +1,5 @@
 //! The calls of runs as news change them, their connections, and the runs that news of added trips make. It builds on the
-//! words of `lc_model` and the definitions of `lc_versions`.
+//! words and definitions of `lc_model`.
 #![tactic(auto)]
 
 mod added_calls;

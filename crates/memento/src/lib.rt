@@ -1,5 +1,5 @@
 //! Which version of a timetable is meant by what is known (RFC 7089), and the URLs that name versions and ask for them. It
-//! builds on `connection_uri`, `lc_time` and the definitions of `lc_versions`.
+//! builds on `connection_uri`, `lc_time` and the definitions of `lc_model`.
 #![tactic(auto)]
 
 mod gate;

@@ -1,5 +1,5 @@
 //! The pages of connections and the stops document as JSON, each with its exact text, which is read back. Every other text has
-//! its first fault. It hands on the fault of `json_members`, and builds on it, on `lc_model`, on `lc_time`, on
+//! its first fault. Members of objects are read and written in `object_members`. It builds on `lc_model`, on `lc_time`, on
 //! `connection_uri`, on `itoa`, on `json` and on `serde_json`.
 #![tactic(auto)]
 

@@ -1,5 +1,5 @@
 //! A link over a link that keeps replies: pages at their versions and the stops document, which never change. It answers from bounded memory
-//! what it keeps, and hands on the rest. It builds on `lc_world`, on `publisher_spec` and `http_text`, and on `lru` and the log for proofs of `http_server` of the kit.
+//! what it keeps, and hands on the rest. It builds on `lc_world`, on `http_text`, and on `lru` and the log for proofs of `http_server` of the kit.
 #![tactic(auto)]
 
 mod exchanger;

@@ -1,5 +1,5 @@
 //! A publisher of a timetable with its versions as pages over HTTP: it stands for a side, and answers each request as that side
-//! replies. It builds on `version_store`, on `fragmenter`, on the definitions of `publisher_spec`, and on `lru` of the kit.
+//! replies. It builds on `version_store`, on `fragmenter`, on the sides of `lc_world`, and on `lru` of the kit.
 #![tactic(auto)]
 
 mod cut_cache;

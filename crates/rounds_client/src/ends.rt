@@ -1,6 +1,6 @@
 //! That a client of the fewest rides over an honest link ends rightly by the publisher's side at its other end, as laws. The pages that a
 //! question needs have every best journey, and so one of the fewest rides. How such a client ends by the replies that it got, over any link.
-//! It builds on `rounds_client`, `change_rounds`, `laws_clients`, `laws_convoys` and `laws_replies`.
+//! It builds on `change_rounds` and on the laws of `convoy`.
 mod laws;
 mod near;
 mod needed;

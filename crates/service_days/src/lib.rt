@@ -1,5 +1,5 @@
 //! Zones as words, and the dates of services; it hands on what a zone's clock shows. It builds on `lc_time`, on the typed
-//! rows of `gtfs_calendars` and on the zones of `jiff`.
+//! rows of `gtfs_tables` and on the zones of `jiff`.
 #![tactic(auto)]
 
 mod dates;

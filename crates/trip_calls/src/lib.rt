@@ -1,5 +1,5 @@
 //! The runs of a feed's trips on the dates of their services, in the feed's zone, and their connections. It builds on
-//! `gtfs_trips`, `gtfs_calendars` and `service_days`.
+//! `gtfs_tables` and `service_days`.
 #![tactic(auto)]
 
 mod all_runs;

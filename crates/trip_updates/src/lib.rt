@@ -1,5 +1,5 @@
 //! Trip updates of GTFS Realtime: which bytes are a message, of which update, and the first fault of all others. It
-//! builds on `rt_protobuf` for the fields, on `lc_time` for dates and times of day, and on `lc_versions` for what is said.
+//! builds on `rt_protobuf` for the fields, on `lc_time` for dates and times of day, and on `lc_model` for what is said.
 #![tactic(auto)]
 
 mod descriptor;

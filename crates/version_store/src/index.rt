@@ -1,5 +1,5 @@
 //! One index of the runs of all versions. It has each run with the span of version numbers over which it holds, and all
-//! connections in departure order. It builds on the words of `lc_model` and `lc_versions`, and knows nothing of messages.
+//! connections in departure order. It builds on the words of `lc_model`, and knows nothing of messages.
 mod base;
 mod gather;
 mod heaps;

@@ -1,5 +1,5 @@
 //! The laws on which an index of versions rests: which runs the next news change and which stay. Runs in any order are the live runs, and
-//! a walk over their connections gives theirs. What is in force after one message more. It builds on `lc_versions` and `live_calls`.
+//! a walk over their connections gives theirs. What is in force after one message more. It builds on `lc_model` and `live_calls`.
 mod held;
 mod kept;
 mod rows;

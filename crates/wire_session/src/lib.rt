@@ -1,5 +1,6 @@
 //! The session of one HTTP connection: it is fed bytes in pieces, however they were cut, and gives the replies to the requests in
-//! them. It builds on `publisher`, which answers each request, and on `http_text`, which takes the requests from the bytes.
+//! them. How connections are served by sessions, one after the other, is in `server`. It builds on `publisher`, which answers
+//! each request, and on `http_text`, which takes the requests from the bytes.
 #![tactic(auto)]
 
 mod answering;

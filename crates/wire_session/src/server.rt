@@ -1,6 +1,6 @@
 //! What `serve` does with a publisher: it listens, serves one connection after the other, and writes what came of it. A connection is answered
-//! by a session, which keeps the publisher for the next one. It builds on `wire_session`, which says what is replied, on `lc_io`, by whose trait
-//! a connection is served.
+//! by a session, which keeps the publisher for the next one. It builds on `lc_io`, by whose trait a
+//! connection is served.
 mod clients;
 mod command;
 mod fault;
