@@ -1,17 +1,17 @@
-mod AnsweredLemmas
-mod AroundLemmas
-mod BackLemmas
-mod EarlyLemmas
-mod EndLemmas
-mod ExchangeLemmas
-mod FrontLemmas
-mod JourneyLemmas
-mod MeantLemmas
-mod NamedLemmas
-mod NearLemmas
-mod OneLemmas
-mod PagesBackLemmas
-mod ReadBackLemmas
-mod ReplyEndLemmas
-mod TakenLemmas
-mod WalkLemmas
+pub mod AnsweredLemmas
+pub mod AroundLemmas
+pub mod BackLemmas
+pub mod EarlyLemmas
+pub mod EndLemmas
+pub mod ExchangeLemmas
+pub mod FrontLemmas
+pub mod JourneyLemmas
+pub mod MeantLemmas
+pub mod NamedLemmas
+pub mod NearLemmas
+pub mod OneLemmas
+pub mod PagesBackLemmas
+pub mod ReadBackLemmas
+pub mod ReplyEndLemmas
+pub mod TakenLemmas
+pub mod WalkLemmas

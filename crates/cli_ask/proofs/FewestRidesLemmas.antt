@@ -1,3 +1,3 @@
-mod HomeLemmas
-mod OneLemmas
-mod QuietLemmas
+pub mod HomeLemmas
+pub mod OneLemmas
+pub mod QuietLemmas

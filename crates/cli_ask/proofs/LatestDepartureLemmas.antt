@@ -1,4 +1,4 @@
-mod HomeLemmas
-mod OneLemmas
-mod QuietLemmas
-mod WantedLemmas
+pub mod HomeLemmas
+pub mod OneLemmas
+pub mod QuietLemmas
+pub mod WantedLemmas

@@ -1,4 +1,4 @@
 pub mod InputsLemmas
-mod OnePlanLemmas
-mod PlanLemmas
-mod ScriptLemmas
+pub mod OnePlanLemmas
+pub mod PlanLemmas
+pub mod ScriptLemmas

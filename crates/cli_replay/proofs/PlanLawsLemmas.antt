@@ -1,15 +1,15 @@
-mod AloneLemmas
-mod AsksLemmas
-mod EachAlikeLemmas
-mod FaultVersionLemmas
-mod FaultsLemmas
-mod MetLemmas
-mod NearLemmas
-mod OneGrowingLemmas
-mod OnePlanLemmas
-mod PlannedTo
-mod PlansLemmas
-mod RepliedLemmas
-mod SidesLemmas
-mod StepLemmas
-mod TurnLemmas
+pub mod AloneLemmas
+pub mod AsksLemmas
+pub mod EachAlikeLemmas
+pub mod FaultVersionLemmas
+pub mod FaultsLemmas
+pub mod MetLemmas
+pub mod NearLemmas
+pub mod OneGrowingLemmas
+pub mod OnePlanLemmas
+pub mod PlannedTo
+pub mod PlansLemmas
+pub mod RepliedLemmas
+pub mod SidesLemmas
+pub mod StepLemmas
+pub mod TurnLemmas

@@ -1,3 +1,3 @@
-mod HappenLemmas
-mod RelayedLemmas
-mod SumLemmas
+pub mod HappenLemmas
+pub mod RelayedLemmas
+pub mod SumLemmas

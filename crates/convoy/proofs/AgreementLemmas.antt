@@ -1,15 +1,15 @@
 pub mod AloneLemmas
-mod AskedLemmas
+pub mod AskedLemmas
 pub mod BeginLemmas
 pub mod HonestLemmas
-mod MemberLemmas
+pub mod MemberLemmas
 pub mod NamedLemmas
-mod NamesLemmas
+pub mod NamesLemmas
 pub mod NoFaultLemmas
 pub mod OneClientLemmas
 pub mod PlaceLemmas
 pub mod RepliesLemmas
-mod RequestLemmas
+pub mod RequestLemmas
 pub mod RoundLemmas
 pub mod RoundsLemmas
 pub mod TurnLemmas

@@ -1,16 +1,16 @@
 pub mod AnsweredLemmas
-mod AskedLemmas
-mod CutPageLemmas
+pub mod AskedLemmas
+pub mod CutPageLemmas
 pub mod FitsLemmas
-mod GateLemmas
-mod LinkLemmas
+pub mod GateLemmas
+pub mod LinkLemmas
 pub mod OwnPageLemmas
 pub mod PageLemmas
 pub mod PublishedLemmas
 pub mod ReadLemmas
 pub mod StepLemmas
-mod StopsLemmas
-mod TextLemmas
-mod TimetableLemmas
-mod WaitsForPageLemmas
+pub mod StopsLemmas
+pub mod TextLemmas
+pub mod TimetableLemmas
+pub mod WaitsForPageLemmas
 pub mod WantsLemmas

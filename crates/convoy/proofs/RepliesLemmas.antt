@@ -1,5 +1,5 @@
 pub mod AloneLemmas
-mod AroundLemmas
+pub mod AroundLemmas
 pub mod CachedLawsLemmas
 pub mod CachedLemmas
 pub mod ClientsLemmas

@@ -1,14 +1,14 @@
-mod AnswerLemmas
+pub mod AnswerLemmas
 pub mod CourseLemmas
 pub mod EndLemmas
-mod ExchangeLemmas
-mod GivenLemmas
-mod NamedLemmas
-mod NearLemmas
-mod NeededLemmas
-mod OneLemmas
-mod PartLemmas
-mod ReadLemmas
-mod RecordedLemmas
-mod ReplyCourseLemmas
-mod VersionLemmas
+pub mod ExchangeLemmas
+pub mod GivenLemmas
+pub mod NamedLemmas
+pub mod NearLemmas
+pub mod NeededLemmas
+pub mod OneLemmas
+pub mod PartLemmas
+pub mod ReadLemmas
+pub mod RecordedLemmas
+pub mod ReplyCourseLemmas
+pub mod VersionLemmas

@@ -1,10 +1,10 @@
-mod AnswerLemmas
-mod ClientLemmas
-mod EndLemmas
-mod FedLemmas
-mod LawLemmas
-mod OneSessionLemmas
-mod RecordedLemmas
-mod SameBytesLemmas
-mod WrittenLemmas
+pub mod AnswerLemmas
+pub mod ClientLemmas
+pub mod EndLemmas
+pub mod FedLemmas
+pub mod LawLemmas
+pub mod OneSessionLemmas
+pub mod RecordedLemmas
+pub mod SameBytesLemmas
+pub mod WrittenLemmas
 pub mod ZoneLemmas
