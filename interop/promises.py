@@ -3,8 +3,8 @@
 
 usage: promises.py [FILE]
 
-FILE is the document, docs/PROMISES.md if it is not named. A name has to be in a crate of its section, in one that this builds on by crates.txt, or in
-the crate that is named beside it; what makes a value one may be in any crate. It prints a line for each section as `ok: ..`, one for each name that is
+FILE is the document, docs/PROMISES.md if it is not named. A name has to be in a crate of its section, in just one of those that this builds on, or in the
+crate that is named beside it; what makes a value one may be in any crate. It prints a line for each section as `ok: ..`, one for each name that is
 not there as `FAILED: ..`, and then `N passed, M failed`. The status is 0 where M is 0.
 """
 
@@ -61,7 +61,7 @@ class Names:
     def __init__(self, top: Path) -> None:
         self.listed = dict(listed_crates(top / "crates.txt"))
         self.found: dict[str, list[Named]] = {}
-        for crate in self.listed:
+        for crate in filter(is_promising, self.listed):
             for path in sorted((top / "crates" / crate / "src").rglob("*.rt")):
                 self.read_code(crate, path.read_text(encoding="utf-8").splitlines())
             for path in sorted((top / "crates" / crate / "specs").rglob("*.antt")):
@@ -114,8 +114,8 @@ class Names:
                 left.extend(below for below in self.listed[crate] if below in self.listed)
         return reached
 
-    def has(self, reference: Reference, within: set[str]) -> str:
-        """What is not there of a reference, or an empty text."""
+    def has(self, reference: Reference, own: list[str], within: set[str]) -> str:
+        """What is not there of a reference, or an empty text. Where `own` crates do not have it, one of the others has to."""
         name, owner, part = reference.name, "", ""
         if "::" in name:
             owner, _, name = name.partition("::")
@@ -127,15 +127,28 @@ class Names:
         if not every:
             return f"`{reference.name}` is nowhere"
         # A clause may have the name of a crate.
-        crates = {name for name in reference.beside if name in self.listed and not any(name in named.parts for named in every)}
-        near = [named for named in every if named.crate in (crates or within)]
+        beside = {name for name in reference.beside if name in self.listed and not any(name in named.parts for named in every)}
+        near = [named for named in every if named.crate in (beside or within)]
         if not near:
-            return f"`{reference.name}` is in {', '.join(sorted({named.crate for named in every}))} and not here or below"
-        wanted = set(reference.beside) - crates | ({part} if part else set())
-        if any(wanted <= named.parts for named in near):
-            return ""
-        missing = min((wanted - named.parts for named in near), key=len)
-        return f"`{reference.name}` has no {', '.join(f'`{part}`' for part in sorted(missing))}"
+            return f"`{reference.name}` is in {crates_of(every)} and not here or below"
+        wanted = set(reference.beside) - beside | ({part} if part else set())
+        fitting = [named for named in near if wanted <= named.parts]
+        if not fitting:
+            missing = min((wanted - named.parts for named in near), key=len)
+            return f"`{reference.name}` has no {', '.join(f'`{part}`' for part in sorted(missing))}"
+        if len({named.crate for named in fitting}) > 1 and not any(named.crate in own for named in fitting):
+            return f"`{reference.name}` is in {crates_of(fitting)}: the row has to say which"
+        return ""
+
+
+def is_promising(crate: str) -> bool:
+    """Whether the crate promises something to others: not the program, nor cases and what they share."""
+    return not re.fullmatch(r"lc|tiny_feed|rows_\w+", crate)
+
+
+def crates_of(every: list[Named]) -> str:
+    """The crates of these, each once."""
+    return ", ".join(sorted({named.crate for named in every}))
 
 
 def listed_crates(path: Path) -> Iterator[tuple[str, list[str]]]:
@@ -192,7 +205,7 @@ def check(section: Section, names: Names) -> tuple[int, list[str]]:
     for number, cells in section.rows:
         for place, cell in enumerate(cells[1:], 1):
             for reference in references_of(cell):
-                fault = names.has(reference, below if place == 1 else set(names.listed))
+                fault = names.has(reference, section.crates, below if place == 1 else set(names.listed))
                 if fault:
                     faults.append(f"line {number}: {fault}")
                 else:
@@ -200,15 +213,36 @@ def check(section: Section, names: Names) -> tuple[int, list[str]]:
     return count, faults
 
 
-def planted(section: Section, names: Names) -> Iterator[tuple[str, str]]:
-    """Copies of names of the section with a letter too many: what each is, and the cell that has it."""
+def misspelt(sections: list[Section], names: Names) -> Iterator[tuple[str, bool]]:
+    """Writes a letter of one name of each kind wrong: which kind it is, and whether the name is then missed."""
+    every = set(names.listed)
     kinds = {"a method": r"`\w+::\w+`", "a clause": r"\(`[a-z_]+`", "a field": r"`\w+\.\w+`", "a function": r"`[a-z_]+`"}
     for kind, pattern in kinds.items():
-        for _, cells in section.rows:
-            found = re.search(pattern, cells[1])
-            if found and all(not names.has(reference, set(names.listed)) for reference in references_of(cells[1])):
-                yield kind, cells[1].replace(found[0], found[0][:-1] + "x`", 1)
+        for section, cell in ((section, cells[1]) for section in sections for _, cells in section.rows):
+            found = re.search(pattern, cell)
+            if found and not any(names.has(it, section.crates, every) for it in references_of(cell)):
+                wrong = cell.replace(found[0], found[0][:-1] + "x`", 1)
+                yield kind, any(names.has(it, section.crates, every) for it in references_of(wrong))
                 break
+        else:
+            yield kind, False
+
+
+def results(text: str, names: Names) -> tuple[list[str], list[str]]:
+    """What holds of the document, and what does not."""
+    holds, faults = [], []
+    sections = [section for section in sections_of(text, names.listed) if section.rows]
+    for section in sections:
+        count, missing = check(section, names)
+        faults += missing
+        holds += [] if missing else [f"{section.title}: {count} names"]
+    spoken_of = {crate for section in sections for crate in section.crates}
+    for crate in names.listed:
+        if is_promising(crate) and crate not in spoken_of:
+            faults.append(f"the crate {crate} has no section")
+    for kind, is_missed in misspelt(sections, names):
+        (holds if is_missed else faults).append(f"{kind} that is misspelt is found")
+    return holds, faults
 
 
 def main() -> int:
@@ -217,36 +251,14 @@ def main() -> int:
         return 0 if len(sys.argv) == 2 else 2
     document = Path(sys.argv[1]) if len(sys.argv) == 2 else TOP / "docs" / "PROMISES.md"
     if not document.is_file():
-        print(f"promises.py: there is no {document}", file=sys.stderr)
+        print(f"promises.py: there is no file {document}", file=sys.stderr)
         return 2
-    names = Names(TOP)
-    sections = [section for section in sections_of(document.read_text(encoding="utf-8"), names.listed) if section.rows]
-    passed, faults = 0, []
-    for section in sections:
-        count, missing = check(section, names)
-        faults += missing
-        if not missing:
-            passed += 1
-            print(f"ok: {section.title}: {count} names")
-    spoken_of = {crate for section in sections for crate in section.crates}
-    cases = re.compile(r"rows_|tiny_feed$|lc$")
-    for crate in names.listed:
-        if not cases.match(crate) and crate not in spoken_of:
-            faults.append(f"the crate {crate} has no section")
-    tried = set()
-    for section in sections:
-        for kind, cell in planted(section, names):
-            if kind in tried:
-                continue
-            tried.add(kind)
-            if any(names.has(reference, set(names.listed)) for reference in references_of(cell)):
-                passed += 1
-                print(f"ok: {kind} that is misspelt is found")
-            else:
-                faults.append(f"{kind} that is misspelt is not found: {cell}")
-    for fault in faults:
-        print(f"FAILED: {fault}")
-    print(f"{passed} passed, {len(faults)} failed")
+    holds, faults = results(document.read_text(encoding="utf-8"), Names(TOP))
+    for line in holds:
+        print(f"ok: {line}")
+    for line in faults:
+        print(f"FAILED: {line}")
+    print(f"{len(holds)} passed, {len(faults)} failed")
     return 1 if faults else 0
 
 
