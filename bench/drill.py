@@ -4,30 +4,34 @@
 It generates the network, the delays and the questions from the number, searches each question over plain lists, and counts the pages
 that its client has to ask for. The first LOST clients get no version, as where the first replies are lost. It shares nothing with the crates.
 """
+from __future__ import annotations
+
 import sys
 from collections import OrderedDict
 
 MIDNIGHT = 1714521600  # 2024-05-01T00:00:00Z
 CHANGE, HORIZON, SPAN, CACHE = 120, 86400, 1800, 100
 
+Connection = tuple[int, int, int, int, tuple[int, int]]  # the departure, the arrival, from, to, and the run
+
 
 class Draws:
-    def __init__(self, seed):
+    def __init__(self, seed: int) -> None:
         self.state = seed
 
-    def below(self, n):
+    def below(self, n: int) -> int:
         self.state = (self.state * 6364136223846793005 + 1442695040888963407) % 2**64
         return (self.state >> 33) % n
 
 
-def stop_of(side, line, place):
+def stop_of(side: int, line: int, place: int) -> int:
     way, along = divmod(line, side)
     back = side - 1 - place
     return [along * side + place, along * side + back, place * side + along, back * side + along][way]
 
 
-def connections_of(side, days, delays):
-    """(departure, arrival, from, to, run), in departure order. A delay holds on the first date alone, from the first departure on."""
+def connections_of(side: int, days: int, delays: dict[int, int]) -> list[Connection]:
+    """The connections, in departure order. A delay holds on the first date alone, from the first departure on."""
     found = []
     for trip in range(432 * side):
         line, turn = divmod(trip, 108)
@@ -40,9 +44,11 @@ def connections_of(side, days, delays):
     return sorted(found)
 
 
-def best_arrival(connections, origin, target, leave):
+def best_arrival(connections: list[Connection], origin: int, target: int, leave: int) -> int | None:
     """The least arrival of a journey, or None: every connection that is within reach is taken, in departure order."""
-    reached, boarded, best = {}, set(), None
+    reached: dict[int, int] = {}
+    boarded: set[tuple[int, int]] = set()
+    best: int | None = None
     for leaves, arrives, here, there, run in connections:
         if leaves < leave or arrives > leave + HORIZON:
             continue
@@ -57,9 +63,9 @@ def best_arrival(connections, origin, target, leave):
     return best
 
 
-def pages_of(connections):
+def pages_of(connections: list[Connection]) -> list[list[int]]:
     """The first and the last departure of each page: a page begins with each span of half an hour in which something departs."""
-    pages = []
+    pages: list[list[int]] = []
     for leaves, *_ in connections:
         if not pages or pages[-1][0] // SPAN < leaves // SPAN:
             pages.append([leaves, leaves])
@@ -67,7 +73,7 @@ def pages_of(connections):
     return pages
 
 
-def needed(pages, leave, bound):
+def needed(pages: list[list[int]], leave: int, bound: int) -> list[list[int]]:
     first = max([at for at, page in enumerate(pages) if page[0] <= leave], default=0)
     for at in range(first, len(pages)):
         if pages[at][1] >= bound:
@@ -75,13 +81,13 @@ def needed(pages, leave, bound):
     return pages[first:]
 
 
-def main():
+def main() -> None:
     seed = int(sys.argv[1])
     days = int(sys.argv[2]) if len(sys.argv) > 2 else 1
     lost = int(sys.argv[3]) if len(sys.argv) > 3 else 0
     side = 5 + seed % 26
     draws = Draws(seed)
-    messages = [{} for _ in range(10)]
+    messages: list[dict[int, int]] = [{} for _ in range(10)]
     for message in messages:
         for _ in range(20):
             trip = draws.below(432 * side)
@@ -90,8 +96,8 @@ def main():
     for i in range(20):
         origin = draws.below(side * side)
         questions.append((origin, (origin + 1 + draws.below(side * side - 1)) % (side * side), MIDNIGHT + 7 * 3600 + 600 * i))
-    timetables = {}
-    cache = OrderedDict()
+    timetables: dict[int, tuple[list[Connection], list[list[int]]]] = {}
+    cache: OrderedDict[tuple[int, int], bool] = OrderedDict()
     found, none, arrivals, exchanges = 0, 0, 0, 0
     for i, (origin, target, leave) in enumerate(questions):
         if i < lost:

@@ -4,19 +4,22 @@
 It writes the generated files of three drills by itself, with the tag, length and number of each field of a message by hand, and says how
 many bytes each has and what they sum up to (FNV-1a, 64 bits). The script of the first drill is printed whole.
 """
+from __future__ import annotations
+
 import time
+from collections.abc import Iterator
 
 DRILLS = [(1, 1), (25, 7), (1000000, 3)]
 
 
-def draws(seed):
+def draws(seed: int) -> Iterator[int]:
     state = seed
     while True:
         state = (state * 6364136223846793005 + 1442695040888963407) % 2**64
         yield state >> 33
 
 
-def varint(number):
+def varint(number: int) -> bytes:
     out = bytearray()
     while number > 127:
         out.append(number % 128 + 128)
@@ -25,30 +28,30 @@ def varint(number):
     return bytes(out)
 
 
-def number(field, value):
+def number(field: int, value: int) -> bytes:
     return varint(field * 8) + varint(value)
 
 
-def text(field, value):
-    value = value.encode() if isinstance(value, str) else value
-    return varint(field * 8 + 2) + varint(len(value)) + value
+def text(field: int, value: str | bytes) -> bytes:
+    inner = value.encode() if isinstance(value, str) else value
+    return varint(field * 8 + 2) + varint(len(inner)) + inner
 
 
-def name(trip):
+def name(trip: int) -> str:
     return f"t{trip // 108}-{trip % 108}"
 
 
-def clock(seconds):
+def clock(seconds: int) -> str:
     return f"{seconds // 3600:02}:{seconds // 60 % 60:02}:{seconds % 60:02}"
 
 
-def stop(side, line, place):
+def stop(side: int, line: int, place: int) -> int:
     way, along = divmod(line, side)
     back = side - 1 - place
     return [along * side + place, along * side + back, place * side + along, back * side + along][way]
 
 
-def message(moment, late):
+def message(moment: int, late: list[tuple[int, int]]) -> bytes:
     out = text(1, text(1, "2.0") + number(2, 0) + number(3, moment))
     for entity, (trip, delay) in enumerate(late):
         descriptor = text(1, name(trip)) + text(3, "20240501")
@@ -57,7 +60,7 @@ def message(moment, late):
     return out
 
 
-def files(seed, days):
+def files(seed: int, days: int) -> Iterator[tuple[str, bytes]]:
     side = 5 + seed % 26
     stops, trips = side * side, 432 * side
     drawn = draws(seed)
@@ -86,7 +89,7 @@ def files(seed, days):
         yield f"u{i}.pb", message(1714543200 + 600 * (i + 1), late[i])
 
 
-def total(data):
+def total(data: bytes) -> int:
     value = 0xCBF29CE484222325
     for byte in data:
         value = (value ^ byte) * 0x100000001B3 % 2**64

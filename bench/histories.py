@@ -7,23 +7,27 @@ The drawn messages are those of crates/rows_versions/src/histories/messages.rt. 
 beside the others, another one takes the place of those of its id, and of the news of a trip the last ones count.
 """
 
+from __future__ import annotations
+
 MESSAGES = 50
 TRIPS = [f"T{trip}" for trip in range(10)]
 FURTHER = [f"X{trip}" for trip in range(5)]
+
+News = tuple[str, str, int]  # the trip, what they are, and how many stops they leave out or serve
 
 
 class Draws:
     """A linear congruential generator."""
 
-    def __init__(self, seed):
+    def __init__(self, seed: int) -> None:
         self.state = seed
 
-    def below(self, end):
+    def below(self, end: int) -> int:
         self.state = (self.state * 1_664_525 + 1_013_904_223) % (1 << 32)
         return (self.state >> 16) % end
 
 
-def entity(draws):
+def entity(draws: Draws) -> tuple[str, News | None]:
     """The id of an entity, and its news: the trip, what they are, and the stops that are left out or served."""
     trip, second, act, amount, _ = draws.below(15), draws.below(4) == 0, draws.below(6), draws.below(600), draws.below(5)
     name = (TRIPS + FURTHER)[trip]
@@ -38,7 +42,7 @@ def entity(draws):
     return identity, (name, "added", 2 + amount % 3 - (1 if act == 5 else 0))
 
 
-def connections(force):
+def connections(force: list[tuple[str, News]]) -> int:
     """How many connections there are under the news in force."""
     count = 0
     for number, name in enumerate(TRIPS):
@@ -54,9 +58,9 @@ def connections(force):
     return count
 
 
-def history(name, seed, full_of):
+def history(name: str, seed: int, full_of: int) -> None:
     draws = Draws(seed)
-    force = []
+    force: list[tuple[str, News]] = []
     counts = [connections(force)]
     for _ in range(MESSAGES):
         is_full = draws.below(full_of) == 0

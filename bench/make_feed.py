@@ -29,24 +29,24 @@ STOP_TIMES = "trip_id,arrival_time,departure_time,stop_id,stop_sequence"
 CALENDAR_DATES = "service_id,date,exception_type"
 
 
-def stop_count(rows):
+def stop_count(rows: int) -> int:
     """How many stops a feed of so many rows has: enough for the calls of a trip, each at another stop."""
     return max(CALLS, round(math.sqrt(rows))) if rows > 0 else 0
 
 
-def stop_id(place):
+def stop_id(place: int) -> str:
     return f"s{place:05}"
 
 
-def trip_id(place):
+def trip_id(place: int) -> str:
     return f"t{place:05}"
 
 
-def clock(seconds):
+def clock(seconds: int) -> str:
     return f"{seconds // 3600:02}:{seconds // 60 % 60:02}:{seconds % 60:02}"
 
 
-def trip_calls(chance, trip, stops, calls):
+def trip_calls(chance: random.Random, trip: int, stops: int, calls: int) -> list[str]:
     """The rows of one trip, at so many different stops. The times rise."""
     lines = []
     arrival = chance.randrange(FIRST_START, LAST_START)
@@ -57,12 +57,12 @@ def trip_calls(chance, trip, stops, calls):
     return lines
 
 
-def feed(rows, days):
+def feed(rows: int, days: int) -> dict[str, list[str]]:
     """The lines of each file."""
     chance = random.Random(1)
     stops = stop_count(rows)
     trips = -(-rows // CALLS)
-    times = []
+    times: list[str] = []
     for trip in range(trips):
         times += trip_calls(chance, trip, stops, min(CALLS, rows - len(times)))
     return {
@@ -73,7 +73,7 @@ def feed(rows, days):
     }
 
 
-def main(words):
+def main(words: list[str]) -> None:
     if not 2 <= len(words) <= 3 or not words[0].isdecimal() or int(words[0]) > MOST_ROWS:
         sys.exit(f"usage: make_feed.py ROWS DIR [DAYS], with at most {MOST_ROWS} rows")
     rows, folder = int(words[0]), words[1]

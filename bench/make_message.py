@@ -17,7 +17,7 @@ UNKNOWN = 1001  # The number of a field that no reader knows.
 LATE, EARLY = 60, -30  # Seconds.
 
 
-def varint(number):
+def varint(number: int) -> bytes:
     """The seven bits of each byte, least first. Negative numbers stand for themselves modulo 2^64."""
     number %= 1 << 64
     out = bytearray()
@@ -28,15 +28,15 @@ def varint(number):
     return bytes(out)
 
 
-def number(field, value):
+def number(field: int, value: int) -> bytes:
     return varint(field * 8) + varint(value)
 
 
-def text(field, inner):
+def text(field: int, inner: bytes) -> bytes:
     return varint(field * 8 + 2) + varint(len(inner)) + inner
 
 
-def trip_update(place):
+def trip_update(place: int) -> bytes:
     descriptor = text(1, b"trip%06d" % place) + text(3, DATE)
     first = number(1, 1) + text(2, number(1, LATE)) + text(3, number(1, LATE))
     stop_id = b"stop%04d" % (place % 1000)
@@ -44,7 +44,7 @@ def trip_update(place):
     return text(1, descriptor) + text(2, first) + text(2, second)
 
 
-def message(updates, size):
+def message(updates: int, size: int) -> bytes:
     """The bytes of the message."""
     header = text(1, b"2.0") + number(2, 0) + number(3, MOMENT)
     parts = [text(1, header)]
@@ -58,7 +58,7 @@ def message(updates, size):
     sys.exit(f"make_message.py: {updates} trip updates leave no room in {size} bytes")
 
 
-def main(words):
+def main(words: list[str]) -> None:
     if len(words) != 3 or not (words[0].isdecimal() and words[1].isdecimal()):
         sys.exit("usage: make_message.py UPDATES BYTES FILE")
     with open(words[2], "wb") as file:

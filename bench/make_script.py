@@ -19,24 +19,24 @@ SPREAD = 240  # Questions leave within so many minutes.
 DELAYED = 10  # trips a message
 
 
-def moment(minutes):
+def moment(minutes: int) -> str:
     return f"2024-05-01T{6 + minutes // 60:02}:{minutes % 60:02}:00Z"
 
 
-def delayed(trip, seconds):
+def delayed(trip: int, seconds: int) -> bytes:
     """A trip update: the trip is late from its first stop on."""
     descriptor = text(1, trip_id(trip).encode()) + text(3, b"20240501")
     event = number(1, seconds)
     return text(1, descriptor) + text(2, number(1, 1) + text(2, event) + text(3, event))
 
 
-def message(place, trips, chance):
+def message(place: int, trips: int, chance: random.Random) -> bytes:
     header = text(1, b"2.0") + number(2, 1) + number(3, FIRST + 60 * place)
     entities = [text(2, text(1, b"e%06d" % trip) + text(3, delayed(trip, chance.randrange(30, 600)))) for trip in chance.sample(range(trips), min(DELAYED, trips))]
     return text(1, header) + b"".join(entities)
 
 
-def main(words):
+def main(words: list[str]) -> None:
     if len(words) != 4 or not all(word.isdecimal() for word in words[:3]):
         sys.exit("usage: make_script.py ROWS CLIENTS UPDATES DIR")
     rows, clients, updates = map(int, words[:3])

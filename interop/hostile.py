@@ -7,6 +7,8 @@ LC is the program, and FEED a feed whose timetable is a page of some megabytes. 
 some 70 seconds.
 """
 
+from __future__ import annotations
+
 import os
 import socket
 import struct
@@ -14,12 +16,13 @@ import subprocess
 import sys
 import threading
 import time
+from collections.abc import Callable
 
 FEED = sys.argv[1]
 LOCK = threading.Lock()
 
 
-def say(holds, name):
+def say(holds: bool, name: str) -> None:
     with LOCK:
         print(("ok: " if holds else "FAILED: ") + name, flush=True)
 
@@ -27,31 +30,32 @@ def say(holds, name):
 class Server:
     """A publisher of one page at a free port."""
 
-    def __init__(self):
+    def __init__(self) -> None:
         with socket.socket() as free:
             free.bind(("127.0.0.1", 0))
             self.port = free.getsockname()[1]
         words = ["serve", FEED, "20240501", "--port", str(self.port), "--connections", "1000000", "--cuts", "whole"]
         self.process = subprocess.Popen([os.environ["LC"], *words], stdout=subprocess.PIPE, stderr=subprocess.STDOUT, text=True)
+        assert self.process.stdout is not None
         self.said = self.process.stdout.readline()
 
-    def connect(self):
+    def connect(self) -> socket.socket:
         return socket.create_connection(("127.0.0.1", self.port), timeout=100)
 
-    def is_answering(self):
+    def is_answering(self) -> bool:
         """Whether a further client is answered."""
         with self.connect() as peer:
             return answered(peer)
 
-    def runs(self):
+    def runs(self) -> bool:
         return self.process.poll() is None
 
-    def stop(self):
+    def stop(self) -> None:
         self.process.kill()
         self.process.wait()
 
 
-def answered(peer):
+def answered(peer: socket.socket) -> bool:
     peer.sendall(b"GET /stops HTTP/1.1\r\nHost: localhost\r\nConnection: close\r\n\r\n")
     reply = b""
     while piece := peer.recv(65536):
@@ -59,24 +63,24 @@ def answered(peer):
     return reply.startswith(b"HTTP/1.1 200 OK\r\n")
 
 
-def page():
+def page() -> bytes:
     return b"GET /memento/connections?version=1970-01-01T00:00:00Z&departureTime=2024-05-01T00:00:00Z HTTP/1.1\r\nHost: x\r\n\r\n"
 
 
-def reset(peer):
+def reset(peer: socket.socket) -> None:
     peer.setsockopt(socket.SOL_SOCKET, socket.SO_LINGER, struct.pack("ii", 1, 0))
     peer.close()
 
 
-def silent(server):
+def silent(server: Server) -> list[socket.socket]:
     return [server.connect()]
 
 
-def drip(server):
+def drip(server: Server) -> list[socket.socket]:
     """A byte a second."""
     peer = server.connect()
 
-    def send():
+    def send() -> None:
         try:
             for byte in STREAM:
                 peer.sendall(bytes([byte]))
@@ -92,7 +96,7 @@ def drip(server):
 STREAM = b"GET /stops HTTP/1.1\r\nHost: localhost\r\nX-Long: " + b"x" * 1000
 
 
-def reads_nothing(server):
+def reads_nothing(server: Server) -> list[socket.socket]:
     """Asks for more than any buffer takes, and reads nothing."""
     peer = server.connect()
     peer.sendall(page() * 2)
@@ -100,7 +104,7 @@ def reads_nothing(server):
     return [peer]
 
 
-def resets_in_mid_reply(server):
+def resets_in_mid_reply(server: Server) -> list[socket.socket]:
     peer = server.connect()
     peer.sendall(page() * 2)
     peer.recv(1000)
@@ -108,7 +112,7 @@ def resets_in_mid_reply(server):
     return []
 
 
-def goes_away(server):
+def goes_away(server: Server) -> list[socket.socket]:
     """Closes with a reply on its way."""
     peer = server.connect()
     peer.sendall(page() * 2)
@@ -117,17 +121,17 @@ def goes_away(server):
     return []
 
 
-def resets_at_once(server):
+def resets_at_once(server: Server) -> list[socket.socket]:
     for _ in range(20):
         reset(server.connect())
     return []
 
 
-def floods(server):
+def floods(server: Server) -> list[socket.socket]:
     """Sends what is no request, without an end."""
     peer = server.connect()
 
-    def send():
+    def send() -> None:
         try:
             while True:
                 peer.sendall(b"x" * 65536)
@@ -139,7 +143,7 @@ def floods(server):
     return [peer]
 
 
-def meet(name, limit, attack):
+def meet(name: str, limit: int, attack: Callable[[Server], list[socket.socket]]) -> None:
     server = Server()
     start = time.monotonic()
     try:
@@ -154,12 +158,12 @@ def meet(name, limit, attack):
     server.stop()
 
 
-def crowd():
+def crowd() -> None:
     """200 connections at once: each is answered."""
     server = Server()
-    counts = []
+    counts: list[bool] = []
 
-    def ask():
+    def ask() -> None:
         try:
             with server.connect() as peer:
                 counts.append(answered(peer))
