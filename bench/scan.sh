@@ -9,14 +9,15 @@
 . "$(dirname "$0")/begin.sh"
 
 ROUNDS=${ROUNDS:-7}
-crates='lc_model connection_uri page_json csa_scan anyhow'
-SCAN=${SCAN:-$("$bench/build.sh" "$work/this" "$bench/scan_main.txt" $crates)}
+# build CHECKOUT NAME: builds the program there, and prints where it is.
+build() { "$1/bench/build.sh" "$work/$2" "$bench/scan_main.txt" lc_model connection_uri page_json csa_scan anyhow; }
+SCAN=${SCAN:-$(build "$bench/.." this)}
 OTHER=${OTHER:-}
 if [ -z "$OTHER" ] && [ $# -gt 0 ]; then
-    OTHER=$("$1/bench/build.sh" "$work/other" "$bench/scan_main.txt" $crates)
+    OTHER=$(build "$1" other)
 fi
 
-python3 - "$work" "$ROUNDS" "$SCAN" $OTHER <<'PYTHON'
+python3 - "$work" "$ROUNDS" "$SCAN" ${OTHER:+"$OTHER"} <<'PYTHON'
 import json
 import os
 import random
