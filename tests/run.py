@@ -1,7 +1,7 @@
 #!/usr/bin/env python3
 """Runs what tests this repository, some parts at once, and prints a line for each.
 
-    ./lc test [--list] [--without-cases] [--seconds N] [NAME]...
+    ./lc test [--list] [--without-cases] [--seconds N] [--at-once N] [NAME]...
 
 A part is a program of cases, which is named as its crate, or a line of tests/parts.txt. With no NAME all of them run. A part that needs the proved
 program is skipped where that is not built, or is older than its sources. A part that takes longer than it may is ended, and has failed. What a
@@ -150,9 +150,8 @@ def program_in_use() -> str | None:
     return str(PROGRAM) if is_current(Crates()) else None
 
 
-def run_parts(parts: list[Part], run: Run, says_all: bool) -> Found:
+def run_parts(parts: list[Part], run: Run, tries: int, says_all: bool) -> Found:
     """Runs the parts, prints a line for each as it ends with what is amiss or all that it said, and sums up what they found."""
-    tries = at_once(MEMORY_OF_TRY, of_processors=2)
     total = Found()
     with ThreadPoolExecutor(tries) as heavy, ThreadPoolExecutor(OTHERS_AT_ONCE) as others:
         ends: dict[Future[Found], Part] = {(heavy if run.is_heavy(part) else others).submit(run.found, part): part for part in parts}
@@ -174,6 +173,8 @@ def arguments(words: list[str]) -> argparse.Namespace:
     parser.add_argument("--list", action="store_true", help="print the names of the parts")
     parser.add_argument("--without-cases", action="store_true", help="leave the programs of cases out, as after rt ci, which ran them")
     parser.add_argument("--seconds", metavar="N", type=int, default=3600, help="how long all of it may take (default %(default)s)")
+    tries = at_once(MEMORY_OF_TRY, of_processors=2)
+    parser.add_argument("--at-once", metavar="N", type=int, default=tries, help="how many programs are compiled at once (default here %(default)s)")
     return parser.parse_args(words)
 
 
@@ -192,7 +193,7 @@ def main(words: list[str]) -> int:
         chosen = [part for part in chosen if part.program != "unproved"]
     LOGS.mkdir(exist_ok=True)
     run = Run(program_in_use(), time.monotonic() + asked.seconds)
-    total = run_parts(chosen, run, says_all=bool(asked.names))
+    total = run_parts(chosen, run, max(1, asked.at_once), says_all=bool(asked.names))
     print(total, flush=True)
     return 0 if total.failed == 0 else 1
 
