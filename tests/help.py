@@ -21,42 +21,22 @@ from usage import HELP, commands, usage_of  # noqa: E402
 WIDTH = 78
 PARTS = ["Arguments", "Options", "Exit status", "Example"]
 SOURCES = TOP / "crates/cli_words/src"
-LINES = TOP / "crates/cli_words/specs/Line.antt"
 
 
-def words_in(text: str) -> list[str]:
-    return re.findall(r'"([a-z-]+)"', text)
+def options_of(source: str) -> set[str]:
+    """The options in the tables of a command's source. Its proof says that its definition has the same."""
+    tables = re.findall(r"^static (?:OPTIONS|FLAGS): [^=]*= \[(.*?)\];", source, re.M | re.S)
+    return {f"--{word}" for table in tables for word in re.findall(r'"([a-z-]+)"', table)}
 
 
-def table(source: str, name: str) -> list[str]:
-    """The words of a table of a command's source."""
-    found = re.search(rf"^static {name}: [^=]*= \[(.*?)\];", source, re.M | re.S)
-    return words_in(found[1]) if found else []
-
-
-def options_by_code() -> dict[str, set[str]]:
-    """The options that each command of the sources takes."""
-    found = {}
-    for file in SOURCES.glob("*.rt"):
-        source = file.read_text(encoding="utf-8")
-        command = re.search(r'read_line\(\s*alloc,\s*"([a-z]+)"', source)
-        if command:
-            found[command[1]] = {f"--{word}" for word in table(source, "OPTIONS") + table(source, "FLAGS")}
-    return found
-
-
-def options_by_definition() -> dict[str, set[str]]:
-    """The options of each command's line in the definitions: of the lists of its plain arguments, options and flags the last two."""
-    found = {}
-    for text in re.split(r"^unfoldable pub \w+_line : App$", LINES.read_text(encoding="utf-8"), flags=re.M)[1:]:
-        command = re.search(r'line \(codes "([a-z]+)"\)', text)
-        lists = re.findall(r"\(((?:codes \"[a-z-]+\"\s*∷\s*)+)\[\]\)|(?<= )\[\]", text)
-        if command and len(lists) == 3:
-            found[command[1]] = {f"--{word}" for part in lists[1:] for word in words_in(part)}
-    return found
+def options_by_source() -> dict[str, set[str]]:
+    """The options of each command. Its source is named as it is, and has a table of them."""
+    sources = {file.stem: file.read_text(encoding="utf-8") for file in SOURCES.glob("*.rt")}
+    return {command: options_of(source) for command, source in sources.items() if re.search("^static OPTIONS:", source, re.M)}
 
 
 def check_form(checks: Checks, file: Path) -> None:
+    """Checks what a reader at a terminal meets."""
     lines = file.read_text(encoding="utf-8").splitlines()
     wide = [line for line in lines if len(line) > WIDTH or line != line.rstrip()]
     checks.same(f"{file.name}: lines of at most {WIDTH} columns, without spaces at their ends", [], wide)
@@ -72,15 +52,12 @@ def check_form(checks: Checks, file: Path) -> None:
 
 def main() -> None:
     checks = Checks()
-    by_code, by_definition = options_by_code(), options_by_definition()
-    checks.same("a help file for each command", sorted(by_code), commands())
-    checks.same("the definitions have the same commands", sorted(by_code), sorted(by_definition))
+    sources = options_by_source()
+    checks.same("a help file for each command", sorted(sources), commands())
     listed = re.findall(r"^  ([a-z]+)  ", (HELP / "lc.txt").read_text(encoding="utf-8"), re.M)
-    checks.same("lc.txt lists each command", sorted(by_code), sorted(listed))
-    for command in sorted(by_code):
-        options = set(usage_of(command).options)
-        checks.same(f"{command}: the options of its source", sorted(by_code[command]), sorted(options))
-        checks.same(f"{command}: the options of its definition", sorted(by_definition.get(command, set())), sorted(options))
+    checks.same("lc.txt lists each command", sorted(sources), sorted(listed))
+    for command, options in sorted(sources.items()):
+        checks.same(f"{command}: the options of its source", sorted(options), sorted(usage_of(command).options))
     for file in sorted(HELP.glob("*.txt")):
         check_form(checks, file)
     checks.end()

@@ -146,6 +146,8 @@ def judged(lines: list[str], status: int, limit: int, seconds: float) -> Found:
 def program_in_use() -> str | None:
     """The program that LC names, or the proved one of this repository where it is current."""
     if "LC" in os.environ:
+        if not os.access(os.environ["LC"], os.X_OK):
+            sys.exit(f"./lc test: LC names no program: {os.environ['LC']}")
         return os.path.abspath(os.environ["LC"])
     return str(PROGRAM) if is_current(Crates()) else None
 

@@ -23,7 +23,7 @@ sys.path.insert(0, str(TOP / "tools"))
 from crates import Crates  # noqa: E402
 from run import judged  # noqa: E402
 from unproved import CARRIES_OUT, without_body  # noqa: E402
-from usage import faults, usage_of  # noqa: E402
+from usage import faults, plain_places, usage_of  # noqa: E402
 
 # It makes what the kit's makes, refuses a crate with a file `wrong`, and notes each call. `rt ci` ends with the status in the file `ci`.
 RT = """#!/usr/bin/env bash
@@ -162,6 +162,7 @@ class Usages(unittest.TestCase):
         self.assertEqual(list(faults(serve, "serve", "feed 20240501 --port 1 --connections".split())), ["--connections has no value"])
         self.assertEqual(list(faults(serve, "serve", "feed 1 --port 1 --connections 2 --cache 3".split())), ["serve has no option --cache"])
         self.assertEqual(list(faults(serve, "serve", ["feed", "1", "--port", "1"])), ["serve needs the option --connections"])
+        self.assertEqual(plain_places(serve, "--days 3 feed --accept-updates 1 --cuts=whole -- --a".split()), [2, 4, 7])
         self.assertEqual(list(faults(usage_of("drill"), "drill", ["--", "--1", "2"])), ["drill takes 1 arguments beside its options, and here are 2"])
 
 
@@ -169,7 +170,7 @@ class Unproved(unittest.TestCase):
     def test_without_body(self) -> None:
         """unproved: a function without its body, and the others as they were"""
         rest = "/// Another.\nfn next() {\n    true\n}\n"
-        clauses = "pub(crate) fn plan_block<F: Folder>(\n    folder: &mut F,\n) -> Block\n    ensures { IsX {} }\n"
+        clauses = "pub(crate) fn plan_block<F: Folder>(\n    folder: &mut F,\n) -> Block\n    ensures { IsX (record {\n        a = 1;\n    }) }\n"
         self.assertEqual(without_body(clauses + "{\n    made(Block { a })\n}\n\n" + rest, "plan_block"), clauses + "{\n    unreachable!()\n}\n\n" + rest)
         self.assertEqual(without_body("fn f(a: u8) -> u8 {\n    a\n}\n", "f"), "fn f(a: u8) -> u8 {\n    unreachable!()\n}\n")
         self.assertIsNone(without_body(rest, "plan_block"))

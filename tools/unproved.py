@@ -20,6 +20,7 @@ from pathlib import Path
 
 from command import FAILED, end_on_signals, say
 from crates import Crates
+from usage import commands, plain_places, usage_of
 
 # The functions that carry out one command each, and nothing else.
 CARRIES_OUT = {
@@ -46,7 +47,7 @@ def without_body(text: str, name: str) -> str | None:
     head = re.search(rf"^(pub(\(crate\))? )?fn {name}\b", text, re.M)
     if head is None:
         return None
-    begin = re.compile(r"^(\{|.*[^ ] \{)$", re.M).search(text, head.start())
+    begin = re.compile(r"^(\{|\S.*\S \{)$", re.M).search(text, head.start())
     end = re.compile(r"^\}$", re.M).search(text, head.start())
     if begin is None or end is None or end.start() < begin.end():
         return None
@@ -95,6 +96,12 @@ def laid(names: Iterable[str]) -> list[str]:
     return [word for name in dict.fromkeys(names) for word in ("--data", f"{name}={os.path.abspath(name)}")]
 
 
+def with_whole_feed(command: str, words: list[str]) -> list[str]:
+    """The arguments of a command with the whole path of the feed, since the program runs in a directory of its own."""
+    feed = plain_places(usage_of(command), words)[:1] if command in commands() else []
+    return [os.path.abspath(word) if place in feed and os.path.isdir(word) else word for place, word in enumerate(words)]
+
+
 def main(words: list[str]) -> int:
     command = words[0] if words else ""
     if command in NOT_UNPROVED:
@@ -104,9 +111,8 @@ def main(words: list[str]) -> int:
         say("the program is not built, and rt, of the Rattle toolchain, is not on PATH")
         return FAILED
     say("not proved: the sources run by rt try, which takes about a minute each time; ./lc prove builds the proved program")
-    data = laid(named_files(words[2:]))
-    # The program runs in a directory of its own, so the feed gets its whole path.
-    words = [os.path.abspath(word) if place == 1 and os.path.isdir(word) else word for place, word in enumerate(words)]
+    data = laid(named_files(words[1:]))
+    words = [command, *with_whole_feed(command, words[1:])]
     with tempfile.TemporaryDirectory(prefix="lc-") as folder:
         crate = lay_sources([command], Path(folder))
         tried = ["rt", "try", *data, "--", *words]

@@ -44,27 +44,32 @@ def usage_of(command: str, folder: Path = HELP) -> Usage:
     return Usage(lines[0], tuple(plain[2:]), dict(options))
 
 
+def plain_places(usage: Usage, words: list[str]) -> list[int]:
+    """The places of the arguments that are no options and no values of options."""
+    found = []
+    place = 0
+    while place < len(words) and words[place] != "--":
+        word = words[place]
+        if not word.startswith("--"):
+            found.append(place)
+        elif "=" not in word and usage.options.get(word, "VALUE"):
+            place += 1
+        place += 1
+    return [*found, *range(place + 1, len(words))]
+
+
 def faults(usage: Usage, command: str, words: list[str]) -> Iterator[str]:
     """What is wrong with the arguments of a command."""
-    given: set[str] = set()
-    plain = 0
-    rest = iter(words)
-    for word in rest:
-        if word == "--":
-            plain += len(list(rest))
-            break
-        if not word.startswith("--"):
-            plain += 1
-            continue
-        name, equals, _ = word.partition("=")
-        given.add(name)
-        if name not in usage.options:
-            yield f"{command} has no option {name}"
-        if not equals and usage.options.get(name, "VALUE") and next(rest, None) is None:
-            yield f"{name} has no value"
-    yield from (f"{command} needs the option {name}" for name in usage.required() if name not in given)
-    if plain != len(usage.places):
-        yield f"{command} takes {len(usage.places)} arguments beside its options, and here are {plain}"
+    plain = plain_places(usage, words)
+    end = words.index("--") if "--" in words else len(words)
+    given = [word for place, word in enumerate(words[:end]) if word.startswith("--")]
+    names = {word.partition("=")[0] for word in given}
+    yield from (f"{command} has no option {name}" for name in sorted(names - set(usage.options)))
+    yield from (f"{command} needs the option {name}" for name in usage.required() if name not in names)
+    if given and words[-1] == given[-1] and usage.options.get(given[-1]):
+        yield f"{given[-1]} has no value"
+    if len(plain) != len(usage.places):
+        yield f"{command} takes {len(usage.places)} arguments beside its options, and here are {len(plain)}"
 
 
 def main(words: list[str]) -> None:
