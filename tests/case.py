@@ -15,8 +15,8 @@ from pathlib import Path
 from checks import Checks
 
 TOP = Path(__file__).resolve().parent.parent
-# `rt try` runs a program on an interpreter too, which the larger programs of cases bring to its limit.
-STEPS = "1"
+# `rt try` runs a program on an interpreter too, which the larger programs of cases bring to its limit. The compiled one has so many seconds.
+STEPS, SECONDS = "1", "240"
 
 
 def words_of(crate: Path) -> list[str]:
@@ -25,7 +25,7 @@ def words_of(crate: Path) -> list[str]:
     files = sorted(file for file in data.rglob("*") if file.is_file()) if data.is_dir() else []
     laid = [word for file in files for word in ("--data", f"{file.relative_to(data)}={file}")]
     arguments = text_of(crate / "args").splitlines()
-    return ["rt", "try", "--steps", STEPS, *laid, "--", *arguments]
+    return ["rt", "try", "--steps", STEPS, "--seconds", SECONDS, *laid, "--", *arguments]
 
 
 def text_of(file: Path) -> str:

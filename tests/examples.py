@@ -93,8 +93,8 @@ class Session:
                 self.wait_for_lines(place, len(step.lines))
                 shown += self.said(place)[: len(step.lines)]
             else:
-                process.wait(SECONDS)
-                shown += self.said(place)
+                status = process.wait(SECONDS)
+                shown += self.said(place) + [f"status {status}"] * (status != 0)
         for place, step in enumerate(steps):
             if step.is_left_running:
                 self.running[place].wait(SECONDS)
