@@ -31,7 +31,7 @@ from machine import at_once  # noqa: E402
 BOUNDED = TOP / "tests/bounded.py"
 LOGS = TOP / "tests/out"
 TIME_OVER = 124
-SECONDS_OF_CASES = 300
+SECONDS_OF_CASES = 400
 MEMORY_OF_TRY = 7_000_000  # kB, of one `rt try`
 OTHERS_AT_ONCE = 2
 COUNTS = re.compile(r"(\d+) passed, (\d+) failed(?:, (\d+) skipped)?")
@@ -66,15 +66,15 @@ class Found:
 
 
 def parts_of(top: Path) -> Iterator[Part]:
-    """The programs of cases, those with the most crates first, and then the lines of tests/parts.txt."""
-    crates = Crates(top)
-    cases = [name for name in crates.lines if name != "lc" and (crates.folder(name) / "src/main.rt").is_file()]
-    for name in sorted(cases, key=lambda name: -len(crates.used_by(name))):
-        yield Part(name, "unproved", SECONDS_OF_CASES, (str(top / "tests/case.py"), name))
+    """The lines of tests/parts.txt, and then the programs of cases, those with the most crates first."""
     for line in (top / "tests/parts.txt").read_text(encoding="utf-8").splitlines():
         words = line.partition("#")[0].split()
         if words:
             yield part_of(top, words)
+    crates = Crates(top)
+    cases = [name for name in crates.lines if name != "lc" and (crates.folder(name) / "src/main.rt").is_file()]
+    for name in sorted(cases, key=lambda name: -len(crates.used_by(name))):
+        yield Part(name, "unproved", SECONDS_OF_CASES, (str(top / "tests/case.py"), name))
 
 
 def part_of(top: Path, words: list[str]) -> Part:
@@ -130,7 +130,8 @@ def judged(lines: list[str], status: int, limit: int, seconds: float) -> Found:
     """What a part found, by the lines that it printed and its status."""
     amiss = [line for line in lines if line.startswith(("FAILED:", "skipped:"))]
     counts = COUNTS.fullmatch(lines[-1]) if lines else None
-    passed, failed, skipped = (int(count or 0) for count in counts.groups()) if counts else (0, 0, 0)
+    passed, failed = (int(counts[1]), int(counts[2])) if counts else (0, 0)
+    skipped = int(counts[3]) if counts and counts[3] else sum(line.startswith("skipped:") for line in lines)
     if status == TIME_OVER:
         failed += 1
         amiss.append(f"FAILED: it took longer than {limit} seconds")
