@@ -14,6 +14,7 @@ import os
 import signal
 import subprocess
 import sys
+import time
 from pathlib import Path
 from typing import NoReturn
 
@@ -46,8 +47,9 @@ def end_descendants() -> None:
             with contextlib.suppress(ProcessLookupError):
                 os.kill(process, signal.SIGKILL)
         with contextlib.suppress(ChildProcessError):
-            while os.waitpid(-1, 0) != (0, 0):
+            while os.waitpid(-1, os.WNOHANG) != (0, 0):
                 pass
+        time.sleep(0.02)
 
 
 def end(number: int, _: object) -> NoReturn:

@@ -76,7 +76,7 @@ class Proving:
 
     def prove(self) -> None:
         shutil.rmtree(ROOMS, ignore_errors=True)
-        ROOMS.mkdir(parents=True)
+        ROOMS.mkdir(parents=True, exist_ok=True)
         most = at_once(MEMORY_OF_ONE)
         try:
             while len(self.proved) < len(self.libraries()):
