@@ -56,7 +56,9 @@ done
 "$python" "$here/from_usage.py" manual "$version" "$day" <"$top/docs/USAGE.md" | gzip -9n >"$man/lc.1.gz"
 install -d -m 755 "$root/usr/share/bash-completion/completions"
 "$python" "$here/from_usage.py" completion <"$top/docs/USAGE.md" >"$root/usr/share/bash-completion/completions/lc"
-lay 644 "$here/monteneem@.service" "$root/lib/systemd/system/monteneem@.service"
+for unit in "$here"/monteneem@.service "$here"/operating/*@.*; do lay 644 "$unit" "$root/lib/systemd/system/$(basename "$unit")"; done
+lay 755 "$here/operating/haproxy.py" "$root/usr/lib/monteneem/haproxy.py"
+for file in tiny.toml nginx.conf varnish.vcl; do lay 644 "$here/operating/$file" "$doc/examples/operating/$file"; done
 for document in "$top"/docs/*.md "$top"/README.md "$top"/CHANGELOG.md; do lay 644 "$document" "$doc/$(basename "$document")"; done
 cp -R "$top/examples/." "$doc/examples"
 find "$doc" -type d -exec chmod 755 {} +

@@ -57,7 +57,7 @@ manual() { awk -v line="    \$ ./lc $1" '$0 == line { found = 1; next } found &&
 
 scripts() {
   if need 'scripts' shellcheck; then check 'scripts' shellcheck "$here"/*.sh; fi
-  if need 'types' mypy; then check 'types' mypy --strict --config-file '' --cache-dir "$work/mypy" "$here/from_usage.py"; fi
+  if need 'types' mypy; then check 'types' mypy --strict --config-file '' --cache-dir "$work/mypy" "$here/from_usage.py" "$here/operating/haproxy.py"; fi
 }
 
 # The package that is made, and what is in it.
