@@ -170,6 +170,7 @@ def options_of(words: Sequence[str]) -> argparse.Namespace:
     parser.add_argument("--first", type=date_of, metavar="DATE", help="the first service date (default: yesterday in the feed's zone)")
     parser.add_argument("--days", type=days_of, default=7, metavar="N", help="how many service dates, 1 to 62 (default: 7)")
     parser.add_argument("--zone", metavar="ZONE", help="the value of --zone with which the program is run")
+    parser.add_argument("--change", metavar="N", help="as check takes it; no rule and no limit depends on it")
     parser.add_argument("--all", action="store_true", help=f"print every finding, not {SHOWN} of one code and file")
     parser.add_argument("--json", action="store_true", help="print one JSON object")
     options = parser.parse_args(words)

@@ -58,13 +58,12 @@ read -r varnish haproxy one two three <<<"$(free_ports 5)"
 printf '{"name":"feed","windows":[{"window":"20240501","path":"/feed/","ports":[%s,%s,%s]}]}' "$one" "$two" "$three" >"$work/feed.upstreams.json"
 "$top/packaging/operating/haproxy.py" "$haproxy" "$work/feed.upstreams.json" >"$work/haproxy.cfg" || exit 2
 # The limit of a client goes, since all readers here are one client.
-sed -e "s/\"8081\"/\"$haproxy\"/" -e 's/vsthrottle.is_denied([^)]*)/false/' "$top/examples/proxies/varnish.vcl" >"$work/one.vcl"
-sed "s|/usr/share/doc/monteneem/examples/proxies/varnish.vcl|$work/one.vcl|" "$top/packaging/operating/varnish.vcl" >"$work/varnish.vcl"
+sed -e "s/\"8081\"/\"$haproxy\"/" -e 's/vsthrottle.is_denied([^)]*)/false/' "$top/examples/proxies/varnish.vcl" >"$work/publisher.vcl"
 
 # Those who start take some seconds, and none longer than this script.
 timeout $((seconds + 300)) haproxy -db -f "$work/haproxy.cfg" >"$work/haproxy.log" 2>&1 &
 running+=($!)
-timeout $((seconds + 300)) varnishd -F -j none -n "$work/varnish" -a "127.0.0.1:$varnish" -f "$work/varnish.vcl" -s malloc,64m >"$work/varnish.log" 2>&1 &
+timeout $((seconds + 300)) varnishd -F -j none -n "$work/varnish" -a "127.0.0.1:$varnish" -p "vcl_path=$work" -f "$top/packaging/operating/varnish.vcl" -s malloc,64m >"$work/varnish.log" 2>&1 &
 running+=($!)
 if ! until_open "$haproxy" || ! until_open "$varnish"; then
   echo "FAILED: the proxies do not start: $(tail -n 3 "$work/haproxy.log" "$work/varnish.log")"

@@ -1,5 +1,4 @@
-# Varnish before haproxy and replicas: what is in examples/proxies/varnish.vcl, and once more for what a replica did not answer whole.
-# haproxy listens where that file has the publisher, at port 8081.
+# Varnish before haproxy and replicas, as /etc/varnish/default.vcl. /etc/varnish/publisher.vcl is examples/proxies/varnish.vcl with the port of haproxy.
 vcl 4.1;
 
 # A replica ended while it sent a reply. haproxy had begun to hand it on, and cannot ask another one; Varnish holds it back until it is whole.
@@ -15,4 +14,4 @@ sub vcl_backend_response {
     }
 }
 
-include "/usr/share/doc/monteneem/examples/proxies/varnish.vcl";
+include "publisher.vcl";
