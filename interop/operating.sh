@@ -57,6 +57,8 @@ inside() {
   cp "$1"/monteneem_*.deb "$top/docs/OPERATING.md" "$root/root/operating"
   cp -R "$top/examples/tiny" "$root/root/operating/tiny"
   echo '127.0.0.1 localhost agency.example' >"$root/etc/hosts"
+  # What is installed stays as it is, since the network of this copy has no mirror.
+  echo 'APT::Get::Upgrade "false";' >"$root/etc/apt/apt.conf.d/99operating"
   stand_in >"$root/usr/local/bin/systemctl"
   # shellcheck disable=SC2016 # The dollar signs are those of the script that is written.
   printf '#!/bin/sh\n# journalctl -u UNIT -n COUNT -o cat\ntail -n "$4" "/run/units/$2.log"\n' >"$root/usr/local/bin/journalctl"
@@ -189,6 +191,9 @@ def watch(name, unit):
     if os.fork():
         return
     os.setsid()
+    log = os.open(log_of(name), os.O_WRONLY | os.O_CREAT | os.O_APPEND, 0o644)
+    os.dup2(log, 1)
+    os.dup2(log, 2)
     path, before = Path(unit["PathChanged"][-1]), None
     _, service = unit_of(name.replace(".path", ".service"))
     while True:
@@ -355,8 +360,10 @@ def main():
     for name, block in blocks():
         if "catalog.json" in block:
             serves()
-        done = subprocess.run(["bash", "-euc", block], cwd=ROOM, stdout=subprocess.PIPE, stderr=subprocess.STDOUT, timeout=300)
-        said = done.stdout.decode("utf-8", "replace")
+        # A file and no pipe: what a block starts may hold it open.
+        with open(ROOM / "said", "wb") as file:
+            done = subprocess.run(["bash", "-euc", block], cwd=ROOM, stdout=file, stderr=subprocess.STDOUT, timeout=120)
+        said = (ROOM / "said").read_text(errors="replace")
         wrong = [word for word, wanted in WANTED.items() if word in block and not re.search(wanted, said, re.MULTILINE)]
         if done.returncode == 0 and not wrong:
             passed += 1

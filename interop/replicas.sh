@@ -56,7 +56,8 @@ until_open() {
 read -r varnish haproxy one two three <<<"$(free_ports 5)"
 "$python" "$top/bench/make_feed.py" 20000 "$work/feed" || exit 2
 printf '{"name":"feed","windows":[{"window":"20240501","path":"/feed/","ports":[%s,%s,%s]}]}' "$one" "$two" "$three" >"$work/feed.upstreams.json"
-"$top/packaging/operating/haproxy.py" "$haproxy" "$work/feed.upstreams.json" >"$work/haproxy.cfg" || exit 2
+# The socket says which replicas haproxy takes for ready.
+"$top/packaging/operating/haproxy.py" "$haproxy" "$work/feed.upstreams.json" | sed "s|^global|&\n    stats socket $work/haproxy.sock|" >"$work/haproxy.cfg"
 # The limit of a client goes, since all readers here are one client.
 sed -e "s/\"8081\"/\"$haproxy\"/" -e 's/vsthrottle.is_denied([^)]*)/false/' "$top/examples/proxies/varnish.vcl" >"$work/publisher.vcl"
 
@@ -76,9 +77,11 @@ cat >"$work/drive.py" <<'PYTHON'
 
 from __future__ import annotations
 
+import csv
 import hashlib
 import http.client
 import random
+import socket
 import subprocess
 import sys
 import threading
@@ -86,7 +89,7 @@ import time
 import urllib.request
 from datetime import datetime, timezone
 
-program, feed, log = sys.argv[1:4]
+program, feed, haproxy = sys.argv[1:4]
 seconds, varnish = int(sys.argv[4]), int(sys.argv[5])
 ports = [int(word) for word in sys.argv[6:]]
 BASE = f"http://localhost:{varnish}/feed/"
@@ -166,10 +169,28 @@ class Replicas:
             time.sleep(0.3)
             self.processes[nth] = self.start(ports[nth])
 
+    def until_ready(self) -> None:
+        """Waits until haproxy takes each for ready."""
+        left = time.monotonic() + 60
+        while ready(haproxy) < len(ports):
+            if time.monotonic() > left:
+                sys.exit("FAILED: haproxy does not take the replicas for ready")
+            time.sleep(0.1)
+
     def end(self) -> None:
         for process in self.processes:
             process.kill()
             process.wait()
+
+
+def ready(path: str) -> int:
+    """How many replicas haproxy takes for ready."""
+    with socket.socket(socket.AF_UNIX) as one:
+        one.connect(path)
+        one.sendall(b"show stat\n")
+        said = b"".join(iter(lambda: one.recv(65536), b"")).decode()
+    rows = list(csv.DictReader(said.removeprefix("# ").splitlines()))
+    return sum(row["svname"].startswith("port") and row["status"] == "UP" for row in rows)
 
 
 class Readers:
@@ -238,8 +259,7 @@ def main() -> int:
     replicas = Replicas()
     try:
         replicas.tell(FIRST_MOMENT + 60)
-        # haproxy looks at each replica once a second.
-        time.sleep(3)
+        replicas.until_ready()
         readers = Readers(replicas)
         threads = [threading.Thread(target=readers.read, args=(seed,)) for seed in range(READERS)]
         for thread in threads:
@@ -251,7 +271,8 @@ def main() -> int:
             replicas.kill(chance.randrange(len(ports)))
             kills += 1
             # The others are there while this one comes back, and haproxy sees it before the next one goes.
-            time.sleep(3)
+            time.sleep(1)
+            replicas.until_ready()
         readers.over.set()
         for thread in threads:
             thread.join()
@@ -282,4 +303,4 @@ def differing_replicas(bodies: dict[str, str]) -> list[str]:
 sys.exit(main())
 PYTHON
 
-timeout $((seconds + 240)) "$python" "$work/drive.py" "$LC" "$work/feed" "$work/log" "$seconds" "$varnish" "$one" "$two" "$three"
+timeout $((seconds + 240)) "$python" "$work/drive.py" "$LC" "$work/feed" "$work/haproxy.sock" "$seconds" "$varnish" "$one" "$two" "$three"

@@ -33,8 +33,9 @@ defaults
     retries 3
     option redispatch 1
     retry-on conn-failure empty-response junk-response response-timeout 404 500 502 503 504
-    # One reply at a time is made by a replica.
-    default-server maxconn 2 check inter 1s fall 1 rise 2
+    # A replica makes one reply at a time. One that takes no connection is left out at once: it would look free, and get each request that is tried
+    # again. It gets requests once two checks have found it.
+    default-server maxconn 2 check inter 1s fall 1 rise 2 observe layer4 error-limit 1 on-error mark-down
 """
 
 
