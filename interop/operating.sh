@@ -53,19 +53,20 @@ inside() {
   mount -t proc proc "$root/proc"
   mount --rbind /dev "$root/dev"
   mount -t tmpfs tmpfs "$root/run"
-  mkdir -p "$root/root/operating" "$root/usr/local/bin"
+  mkdir -p "$root/root/operating"
   cp "$1"/monteneem_*.deb "$top/docs/OPERATING.md" "$root/root/operating"
   cp -R "$top/examples/tiny" "$root/root/operating/tiny"
   echo '127.0.0.1 localhost agency.example' >"$root/etc/hosts"
   # What is installed stays as it is, since the network of this copy has no mirror.
   echo 'APT::Get::Upgrade "false";' >"$root/etc/apt/apt.conf.d/99operating"
-  stand_in >"$root/usr/local/bin/systemctl"
+  rm -f "$root"/usr/bin/systemctl "$root"/usr/bin/journalctl
+  stand_in >"$root/usr/bin/systemctl"
   # shellcheck disable=SC2016 # The dollar signs are those of the script that is written.
-  printf '#!/bin/sh\n# journalctl -u UNIT -n COUNT -o cat\ntail -n "$4" "/run/units/$2.log"\n' >"$root/usr/local/bin/journalctl"
-  chmod 755 "$root"/usr/local/bin/{systemctl,journalctl}
+  printf '#!/bin/sh\n# journalctl -u UNIT -n COUNT -o cat\ntail -n "$4" "/run/units/$2.log"\n' >"$root/usr/bin/journalctl"
+  chmod 755 "$root"/usr/bin/{systemctl,journalctl}
   driver >"$root/root/operating/driver.py"
   cd "$root"
-  exec chroot "$root" env -i HOME=/root PATH=/usr/local/bin:/usr/sbin:/usr/bin:/sbin:/bin LC_ALL=C.UTF-8 DEBIAN_FRONTEND=noninteractive \
+  exec chroot "$root" env -i HOME=/root PATH=/usr/sbin:/usr/bin:/sbin:/bin LC_ALL=C.UTF-8 DEBIAN_FRONTEND=noninteractive \
     VERBOSE="${VERBOSE:-}" /usr/bin/python3 /root/operating/driver.py
 }
 
@@ -73,11 +74,20 @@ inside() {
 stand_in() {
   cat <<'PYTHON'
 #!/usr/bin/python3
-import os, re, shlex, signal, socket, subprocess, sys, time
+import fcntl, os, re, shlex, signal, socket, subprocess, sys, time
 from pathlib import Path
 
 STATE = Path("/run/units")
 STATE.mkdir(exist_ok=True)
+# What is locked here. A process that stays does not keep it.
+LOCKS = []
+
+
+def stay():
+    """Makes this a process that stays when the command ends."""
+    os.setsid()
+    for lock in LOCKS:
+        lock.close()
 
 
 def unit_of(name):
@@ -118,7 +128,7 @@ def supervise(name, unit):
     """Starts the unit in a process of its own, which holds its socket, and waits until it is ready."""
     reader, writer = os.pipe()
     if os.fork() == 0:
-        os.setsid()
+        stay()
         os.close(reader)
         run(name, unit, writer)
         os._exit(0)
@@ -190,7 +200,7 @@ def watch(name, unit):
     """Runs the service of a path unit each time its file changes."""
     if os.fork():
         return
-    os.setsid()
+    stay()
     log = os.open(log_of(name), os.O_WRONLY | os.O_CREAT | os.O_APPEND, 0o644)
     os.dup2(log, 1)
     os.dup2(log, 2)
@@ -240,15 +250,20 @@ def reload(name):
 def main(arguments):
     verb, *names = [word for word in arguments if not word.startswith("--")]
     for name in names:
-        if verb in ("enable", "start"):
-            start(name)
-        elif verb == "reload" or (verb == "reload-or-restart" and pid_of(unit_of(name)[0])):
-            reload(name)
-        elif verb in ("restart", "reload-or-restart"):
-            stop(name)
-            start(name)
-        elif verb == "stop":
-            stop(name)
+        # One at a time does something to a unit.
+        with open(STATE / f"{unit_of(name)[0]}.lock", "w") as lock:
+            fcntl.flock(lock, fcntl.LOCK_EX)
+            LOCKS.append(lock)
+            is_active = pid_of(unit_of(name)[0]) != 0
+            if verb in ("enable", "start"):
+                start(name)
+            elif verb == "reload" or (verb == "try-reload-or-restart" and is_active):
+                reload(name)
+            elif verb == "restart":
+                stop(name)
+                start(name)
+            elif verb == "stop":
+                stop(name)
 
 
 main(sys.argv[1:])
@@ -258,7 +273,7 @@ PYTHON
 # driver: a program that is the agency's server, and runs the blocks.
 driver() {
   cat <<'PYTHON'
-import io, os, re, subprocess, sys, threading, time, urllib.request, zipfile
+import io, json, os, re, subprocess, sys, threading, time, urllib.request, zipfile
 from datetime import date, timedelta
 from http.server import BaseHTTPRequestHandler, ThreadingHTTPServer
 from pathlib import Path
@@ -273,7 +288,7 @@ WANTED = {
     "lc plan": r"http://localhost/tiny/\d+/memento/connections[^\n]*\n?[\s\S]*journey 2 arrives \d{4}-\d\d-\d\dT08:31:00|journey 2 arrives",
     "jq '{ok": r'"ok": true[\s\S]*\{',
     "--against": r"the feed does not know 0 of 1 trips",
-    "haproxy.py": r"@context|\"@graph\"",
+    "haproxy.py": r"\"@context\"",
     "monteneem-split": r"\d parts connections \d+[\s\S]*\nok$",
 }
 
@@ -343,6 +358,38 @@ def blocks():
             name = re.sub(r"^\*\*([^*]*)\*\*.*", r"\1", line).strip("# .")
 
 
+class Reader(threading.Thread):
+    """Somebody who reads through nginx all the time, and counts what fails."""
+
+    def __init__(self):
+        super().__init__(daemon=True)
+        self.base, self.count, self.failed = "", 0, []
+
+    def run(self):
+        while True:
+            if self.base:
+                try:
+                    with urllib.request.urlopen(f"{self.base}connections", timeout=60) as reply:
+                        reply.read()
+                except OSError as error:
+                    self.failed.append(repr(error))
+                self.count += 1
+            time.sleep(0.02)
+
+    def begin(self):
+        """Reads from here on, of the window to plan by, once nginx knows the processes that a restart before this began."""
+        for _ in range(150):
+            try:
+                with urllib.request.urlopen("http://localhost/tiny/catalog.json", timeout=5) as reply:
+                    said = json.load(reply)
+                base = next(one["base"] for one in said["windows"] if one["window"] == said["current"])
+                with urllib.request.urlopen(f"{base}connections", timeout=5):
+                    self.base = base
+                return
+            except (OSError, ValueError):
+                time.sleep(0.2)
+
+
 def serves():
     """Waits until nginx serves the catalog: the unit that watches for windows may be on its way."""
     for _ in range(300):
@@ -356,14 +403,31 @@ def serves():
 
 def main():
     threading.Thread(target=ThreadingHTTPServer(("127.0.0.1", 9000), Agency).serve_forever, daemon=True).start()
+    # Somebody may be installing on the machine that this is a copy of.
+    subprocess.run(["dpkg", "--configure", "-a"], stdout=subprocess.DEVNULL, stderr=subprocess.DEVNULL)
+    reader = Reader()
+    reader.start()
     passed = failed = 0
     for name, block in blocks():
-        if "catalog.json" in block:
+        if "$base" in block:
             serves()
+        # A restart may have readers wait, and a reload may not.
+        is_reload = "systemctl reload" in block
+        if is_reload:
+            reader.begin()
+        reader.count, reader.failed = 0, []
         # A file and no pipe: what a block starts may hold it open.
         with open(ROOM / "said", "wb") as file:
-            done = subprocess.run(["bash", "-euc", block], cwd=ROOM, stdout=file, stderr=subprocess.STDOUT, timeout=120)
+            # timeout ends with status 124.
+            done = subprocess.run(["timeout", "120", "bash", "-euc", block], cwd=ROOM, stdout=file, stderr=subprocess.STDOUT)
         said = (ROOM / "said").read_text(errors="replace")
+        if is_reload:
+            # The old process goes a few seconds after the reload.
+            time.sleep(8)
+            reader.base = ""
+            if reader.failed or not reader.count:
+                said += f"{len(reader.failed)} of {reader.count} requests failed, as {reader.failed[:1]}"
+                done.returncode = done.returncode or 1
         wrong = [word for word, wanted in WANTED.items() if word in block and not re.search(wanted, said, re.MULTILINE)]
         if done.returncode == 0 and not wrong:
             passed += 1
@@ -371,6 +435,8 @@ def main():
         else:
             failed += 1
             print(f"FAILED: {name}: status {done.returncode}, wanted of {wrong}: {block}\n{said[-3000:]}", flush=True)
+            for log in sorted(Path("/run/units").glob("*.log")):
+                print(f"{log.name}:", *log.read_text(errors="replace").splitlines()[-8:], sep="\n  ", flush=True)
         if os.environ.get("VERBOSE"):
             print(said, flush=True)
     print(f"{passed} passed, {failed} failed, 0 skipped", flush=True)
