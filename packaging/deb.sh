@@ -108,6 +108,8 @@ cat >"$root/DEBIAN/prerm" <<'SCRIPT'
 #!/bin/sh
 set -e
 if [ "$1" = remove ] && [ -d /run/systemd/system ]; then systemctl stop 'monteneem@*.service' || true; fi
+# What Python wrote beside its sources is of no package.
+find /usr/lib/monteneem -name __pycache__ -prune -exec rm -rf {} +
 SCRIPT
 cat >"$root/DEBIAN/postrm" <<'SCRIPT'
 #!/bin/sh

@@ -8,6 +8,8 @@ mirror=${MIRROR:-http://deb.debian.org/debian}
 [ "$(id -u)" -eq 0 ] || { echo 'root.sh: only root can make a Debian root' >&2; exit 1; }
 command -v debootstrap >/dev/null || { echo 'root.sh: debootstrap is not here' >&2; exit 1; }
 debootstrap --variant=minbase bookworm "$root" "$mirror" >&2
+# Each machine has this, and each engine gives it to a container.
+[ -s "$root/etc/hosts" ] || echo '127.0.0.1 localhost' >"$root/etc/hosts"
 cp "$package" "$root/tmp/monteneem.deb"
 # No service is started in a root that is no machine.
 printf '#!/bin/sh\nexit 101\n' >"$root/usr/sbin/policy-rc.d"
