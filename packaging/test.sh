@@ -146,37 +146,109 @@ root_checks() {
   check 'monteneem-lint judges a feed' inside monteneem-lint "$tiny" --first 20240501
   check 'monteneem-split parts a feed' inside monteneem-split "$tiny" /tmp/parts --connections 3
   check 'lc takes a part' inside lc check /tmp/parts/part-1 20240501
-  if [ -e "$root/usr/bin/monteneem-keep" ]; then keep_checks "$tiny"; else say skipped 'monteneem-keep, since agency/keep.py is not here'; fi
+  if [ -e "$root/usr/bin/monteneem-keep" ]; then
+    feed_of_today "$root$tiny" "$root/srv/feed"
+    keep_checks
+    unit_checks
+  else 
+    say skipped 'monteneem-keep, since agency/keep.py is not here'
+  fi
   check 'the package goes' inside dpkg --purge monteneem
   status=$(find "$root/usr" "$root/lib" -name '*monteneem*' | grep -v __pycache__ | head -n 3)
   same 'and nothing of it stays' '' "$status"
 }
 
+# feed_of_today FEED DIR: the small feed, on the days round today.
+feed_of_today() {
+  local n
+  cp -R "$1" "$2"
+  printf 'agency_name,agency_timezone\nA,UTC\n' >"$2/agency.txt"
+  {
+    echo service_id,date,exception_type
+    for n in $(seq -2 30); do date -u -d "$n days" +w,%Y%m%d,1; done
+  } >"$2/calendar_dates.txt"
+  chmod -R a+rX "$2"
+}
+
+# configured PORT STATUS_PORT: the configuration of the feed tiny.
+configured() {
+  cat >"$root/etc/monteneem/tiny.toml" <<CONFIG
+name = "tiny"
+base = "http://localhost:$1/"
+feed = "/srv/feed"
+archive = "tiny.sqlite"
+port = $1
+status_port = $2
+CONFIG
+}
+
 # A feed that is kept, as the unit runs it: by the user monteneem, in its directory.
 keep_checks() {
-  local tiny=$1 port status_port state=/var/lib/monteneem/tiny window
+  local port status_port state=/var/lib/monteneem/tiny window
   port=$(free_port)
   status_port=$(free_port)
   inside install -d -o monteneem -g monteneem "$state"
-  cat >"$root/etc/monteneem/tiny.toml" <<CONFIG
-name = "tiny"
-base = "http://localhost:$port/"
-feed = "$tiny"
-first = "20240501"
-archive = "tiny.sqlite"
-port = $port
-status_port = $status_port
-CONFIG
+  configured "$port" "$status_port"
   check 'monteneem-keep takes the configuration' inside monteneem-keep /etc/monteneem/tiny.toml --check
   inside setpriv --reuid monteneem --regid monteneem --init-groups env --chdir="$state" timeout 120 /usr/lib/monteneem/agency/keep.py \
     /etc/monteneem/tiny.toml >"$work/keep" 2>&1 &
   servers+=($!)
-  if until_true 60 fetch "http://localhost:$status_port/status"; then say ok 'it answers /status'; else say FAILED "it does not answer: $(tail -n 5 "$work/keep")"; fi
-  window=$(until_true 60 test -s "$root$state/public/tiny/catalog.json" && sed -nE 's/.*"current": ?"([^"]*)".*/\1/p' "$root$state/public/tiny/catalog.json")
+  if until_true 60 test -s "$root$state/public/tiny/catalog.json"; then
+    say ok 'it writes its catalog'
+  else
+    say FAILED "it writes no catalog: $(tail -n 5 "$work/keep")"
+  fi
+  check 'it answers /status' fetch "http://localhost:$status_port/status"
+  window=$(sed -nE 's/.*"current": ?"([^"]*)".*/\1/p' "$root$state/public/tiny/catalog.json")
   check 'it serves the stops of its window' fetch "http://localhost:$port/tiny/$window/stops"
   kill "${servers[-1]}" 2>/dev/null
   wait "${servers[-1]}" 2>/dev/null
   check 'its archive is there' test -s "$root$state/tiny.sqlite"
+  rm -rf "${root:?}$state"
+}
+
+# The unit in its sandbox, in the fresh Debian that systemd boots.
+unit_checks() {
+  local line
+  need 'the unit under systemd' systemd-nspawn || return
+  if ! DEBIAN_FRONTEND=noninteractive inside apt-get install -y --no-install-recommends systemd systemd-sysv dbus >"$work/log" 2>&1; then
+    say FAILED "systemd is not installed: $(tail -n 3 "$work/log")"
+    return
+  fi
+  umount "$root/proc" 2>/dev/null
+  configured 8081 8090
+  cat >"$root/root/unit.sh" <<'SCRIPT'
+#!/bin/sh
+# Says what became of the unit, and ends the machine.
+status() { python3 -c 'import json, urllib.request; print(json.load(urllib.request.urlopen("http://localhost:8090/status"))["ok"])'; }
+exec >/root/unit.log 2>&1
+timeout 60 systemctl start monteneem@tiny
+echo "start $?"
+echo "ok $(status)"
+timeout 60 systemctl reload monteneem@tiny
+echo "reload $?"
+sleep 8
+echo "then $(status)"
+timeout 60 systemctl stop monteneem@tiny
+echo "stop $?"
+journalctl -u monteneem@tiny --no-pager -o cat | tail -n 20 >/root/unit.journal
+poweroff
+SCRIPT
+  chmod 755 "$root/root/unit.sh"
+  printf '[Unit]\nAfter=multi-user.target\n[Service]\nType=oneshot\nExecStart=/root/unit.sh\n[Install]\nWantedBy=multi-user.target\n' \
+    >"$root/etc/systemd/system/unit-test.service"
+  inside systemctl enable unit-test.service >/dev/null 2>&1
+  timeout 200 systemd-nspawn -q -D "$root" --boot --console=pipe --private-network --register=no --keep-unit >"$work/boot" 2>&1
+  if [ ! -s "$root/root/unit.log" ]; then
+    say skipped "the unit under systemd, which does not boot here: $(tail -n 1 "$work/boot")"
+  else
+    for line in 'start 0' 'ok True' 'reload 0' 'then True' 'stop 0'; do
+      check "the unit under systemd: $line" grep -qxF "$line" "$root/root/unit.log"
+    done
+    grep -qxF 'then True' "$root/root/unit.log" || sed 's/^/  /' "$root/root/unit.journal" 2>/dev/null
+  fi
+  rm -f "$root/etc/systemd/system/unit-test.service" "$root"/etc/systemd/system/*/unit-test.service
+  mount -t proc proc "$root/proc" 2>/dev/null
 }
 
 # The image that is made, and what is in it.
