@@ -40,7 +40,7 @@ units() {
     result=${BASH_REMATCH[2]}
     case $result in
       ok) say ok "$name" ;;
-      skipped) say skipped "$name, since $LC is not here" ;;
+      skipped) say skipped "$name, since the program or its cases are not here" ;;
       *) say FAILED "$name" ;;
     esac
   done <"$work/log"
@@ -50,7 +50,7 @@ units() {
 
 types() {
   if command -v mypy >/dev/null; then
-    check 'types' mypy --strict --cache-dir "$work/mypy" lint.py split.py feeds.py rules*.py tests/test_lint*.py tests/test_split.py
+    check 'types' mypy --strict --config-file '' --cache-dir "$work/mypy" lint.py split.py feeds.py rules*.py tests/test_lint*.py tests/test_split.py
   else
     say skipped 'types, since mypy is not here'
   fi
@@ -137,7 +137,7 @@ cd "$here" || exit 2
 types
 PYTHONPATH=$here:$here/tests
 export PYTHONPATH
-for module in test_lint_rules test_lint_mend test_lint_message test_split; do units "$module"; done
+for module in test_lint_rules test_lint_cases test_lint_mend test_lint_message test_split; do units "$module"; done
 check 'help of lint.py' ./lint.py --help
 check 'help of split.py' ./split.py --help
 [ "${1:-}" != --large ] || large
