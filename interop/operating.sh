@@ -287,6 +287,7 @@ WANTED = {
     "enable --now monteneem@tiny": r"true",
     "lc plan": r"http://localhost/tiny/\d+/memento/connections[^\n]*\n?[\s\S]*journey 2 arrives \d{4}-\d\d-\d\dT08:31:00|journey 2 arrives",
     "jq '{ok": r'"ok": true[\s\S]*\{',
+    "--past": r"\"changes\"",
     "--against": r"the feed does not know 0 of 1 trips",
     "haproxy.py": r"\"@context\"",
     "monteneem-split": r"\d parts connections \d+[\s\S]*\nok$",
