@@ -2,7 +2,7 @@
 # packaging/deb.sh [DIR]: makes monteneem_VERSION_amd64.deb in DIR, `packaging/out` if it is not given, and prints its name. It has the proved
 # program, agency/, examples/, the documents, manual pages, completion for Bash and the unit monteneem@.service. LC is the program,
 # crates/lc/out/lc of this repository if it is not set. The version is that of version.sh. The same files give the same package, byte for byte.
-set -eu
+set -euo pipefail
 here=$(dirname "$(realpath "${BASH_SOURCE[0]}")")
 top=$(dirname "$here")
 LC=${LC:-$top/crates/lc/out/lc}
@@ -77,7 +77,7 @@ CHANGELOG
 
 install -d -m 755 "$root/DEBIAN"
 # The program needs the C library of the machine that it was built on, or a later one.
-libc=$(grep -aoE 'GLIBC_2\.[0-9]+' "$LC" | sed 's/GLIBC_//' | sort -uV | tail -n 1)
+libc=$(grep -aoE 'GLIBC_2\.[0-9]+' "$LC" | sed 's/GLIBC_//' | sort -uV | tail -n 1 || true)
 cat >"$root/DEBIAN/control" <<CONTROL
 Package: monteneem
 Version: $version
