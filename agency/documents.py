@@ -46,7 +46,7 @@ def json_bytes(value: object) -> bytes:
     return json.dumps(value, ensure_ascii=False, separators=(",", ":")).encode() + b"\n"
 
 
-def catalog(config: Config, windows: list[Listed], current: str | None) -> bytes:
+def catalog(config: Config, windows: list[Listed], current: str) -> bytes:
     """catalog.json: the windows that are served."""
     parts = [f"{config.base}{part}/catalog.json" for part in config.parts]
     return json_bytes({"name": config.name, "parts": parts, "current": current, "windows": [listed_window(one) for one in windows]})

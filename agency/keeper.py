@@ -102,7 +102,9 @@ class Keeper:
             if window.ended is None:
                 feed = self.store.laid(self.archive, window.feed)
                 live = self._live(window, feed, self.store.trips(window.feed, window.zone))
+                # What the proxy and the catalog say stays, until there is something new to say.
                 live.ports = ports.get(window.name, [])
+                live.listed = bool(live.ports)
         self.intake.moment = max([self.archive.last_posted(), *(live.window.base_moment for live in self.windows)])
         if self.windows:
             self.intake.recover(self.windows[-1].window)
@@ -513,10 +515,11 @@ class Keeper:
             self._routes = routes
         self._routes_stale = False
         for live in self.windows:
-            if not live.listed and live.ready():
+            if live.ready():
+                self._documents_stale |= not live.listed
                 live.listed = True
-                self._documents_stale = True
-                say_ready(f"window {live.window.name} is served")
+        if self.windows[-1].ready():
+            say_ready(f"window {self.windows[-1].window.name} is served")
 
     def _tell_proxy(self, routes: list[documents.Route]) -> str | None:
         """Writes the files for the proxy and has it read them. Gives what went wrong."""
@@ -537,6 +540,8 @@ class Keeper:
             return
         self._documents_from = time.monotonic() + TURN_SECONDS
         served = [live for live in self.windows if live.listed and not live.ending]
+        if not served:
+            return
         try:
             for live in served:
                 folder = self._folder(live.window)
@@ -546,8 +551,8 @@ class Keeper:
                     live.time_map.write(self.archive.versions(live.window.id))
                     live.time_map_stale = False
             listed = [Listed(live.window, live.shelf.held.versions, live.shelf.held.last_version or live.window.base_moment) for live in served]
-            current = served[-1].window.name if served else None
-            documents.write(self.config.public / self.config.name / "catalog.json", documents.catalog(self.config, listed, current))
+            catalog = documents.catalog(self.config, listed, served[-1].window.name)
+            documents.write(self.config.public / self.config.name / "catalog.json", catalog)
         except (OSError, FeedError) as error:
             self.problems["documents"] = f"documents cannot be written: {error}"
             self._documents_from = time.monotonic() + AGAIN_SECONDS

@@ -9,6 +9,7 @@ from __future__ import annotations
 from dataclasses import dataclass
 from datetime import date
 from typing import Iterable
+from warnings import filterwarnings
 
 from google.protobuf.message import DecodeError
 
@@ -16,6 +17,8 @@ from clock import day_text
 from feeds import clock, day
 from gtfs_realtime_pb2 import FeedEntity, FeedHeader, FeedMessage, TripDescriptor
 from trips import Trips
+
+filterwarnings("ignore", "Unexpected end-group tag", RuntimeWarning)
 
 MOST_BYTES = 16_777_216  # of one message, as `serve` takes it
 MOST_MOMENT = 253_402_128_000  # 9999-12-30T00:00:00Z: `serve` takes no message of then or later
@@ -67,11 +70,15 @@ class Posted:
 
 def read(body: bytes, timetables: list[Trips]) -> Message:
     """Reads a message. Dates that are missing are those of the first timetable that knows the trip. Raises MessageError."""
+    if not body:
+        raise MessageError("the body is empty")
     found = FeedMessage()
     try:
-        if not body:
-            raise MessageError("the body is empty")
-        found.ParseFromString(body)
+        taken = found.ParseFromString(body)
+        lacking = found.FindInitializationErrors()
+        # An end of a group that has no beginning ends the parser without an error.
+        if taken != len(body) or lacking:
+            raise MessageError(f"{what_it_looks_like(body)}: " + (f"{', '.join(lacking[:3])} missing" if lacking else f"it ends at byte {taken}"))
         return mended(found, timetables)
     except (DecodeError, UnicodeDecodeError) as error:
         raise MessageError(f"{what_it_looks_like(body)}: {one_line(str(error))}") from None
