@@ -518,8 +518,6 @@ class Keeper:
             if live.ready():
                 self._documents_stale |= not live.listed
                 live.listed = True
-        if self.windows[-1].ready():
-            say_ready(f"window {self.windows[-1].window.name} is served")
 
     def _tell_proxy(self, routes: list[documents.Route]) -> str | None:
         """Writes the files for the proxy and has it read them. Gives what went wrong."""
@@ -560,3 +558,5 @@ class Keeper:
             return
         self._documents_stale = False
         self.problems.pop("documents", None)
+        if self.windows[-1].ready():
+            say_ready(f"window {self.windows[-1].window.name} is served")
