@@ -216,6 +216,7 @@ class Keeper:
         for live in list(self.windows):
             self._manage(live)
         self._write_routes()
+        self._list_windows()
         self._write_documents()
 
     # Messages
@@ -301,6 +302,8 @@ class Keeper:
             if publisher.leaving and now >= publisher.leaves_at and not self._routes_stale:
                 publisher.stop()
         if live.ending:
+            for publisher in live.staying() if now >= live.unroute_at else []:
+                self._leave(publisher, self.config.drain)
             if not live.publishers:
                 self.windows.remove(live)
             return
@@ -462,9 +465,8 @@ class Keeper:
             self.problems["archive"] = f"the end of a window cannot be written: {error}"
             return
         live.ending = True
+        live.unroute_at = time.monotonic() + TURN_SECONDS + self.config.drain
         self._documents_stale = True
-        for publisher in live.staying():
-            self._leave(publisher, self.config.drain)
         self.log.info("window ends", window=live.window.name)
 
     def _reload(self) -> None:
@@ -503,7 +505,7 @@ class Keeper:
             return
         for live in self.windows:
             live.ports = [one.port for one in live.ready()] or live.ports
-        routes = [documents.route_of(live.window, live.ports) for live in self.windows if live.ports and not live.ending]
+        routes = [documents.route_of(live.window, live.ports) for live in self.windows if live.ports and (live.staying() or not live.ending)]
         if routes != self._routes:
             error = self._tell_proxy(routes)
             if error is not None:
@@ -515,9 +517,16 @@ class Keeper:
             self._routes = routes
         self._routes_stale = False
         for live in self.windows:
-            if live.ready():
-                self._documents_stale |= not live.listed
+            if live.routed is None and live.ready():
+                live.routed = time.monotonic()
+
+    def _list_windows(self) -> None:
+        """Lists windows in the catalog once the proxy sends requests there, which takes it a moment after `reload`."""
+        patience = 0.0 if self.config.reload is None else self.config.drain
+        for live in self.windows:
+            if not live.listed and live.routed is not None and time.monotonic() >= live.routed + patience:
                 live.listed = True
+                self._documents_stale = True
 
     def _tell_proxy(self, routes: list[documents.Route]) -> str | None:
         """Writes the files for the proxy and has it read them. Gives what went wrong."""
@@ -533,7 +542,7 @@ class Keeper:
         return None
 
     def _write_documents(self) -> None:
-        """Writes the static documents that are not as they should be, at most once in half a second."""
+        """Writes the static documents that are not as they should be, at most once in half a second. systemd hears of the first that are written."""
         if not self._documents_stale or time.monotonic() < self._documents_from:
             return
         self._documents_from = time.monotonic() + TURN_SECONDS

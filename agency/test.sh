@@ -71,7 +71,7 @@ for package in google.protobuf prometheus_client; do
   fi
 done
 for name in "${classes[@]}"; do
-  timeout 300 "$python" -m unittest -v "$name" >"$work/$name" 2>&1 &
+  timeout 900 "$python" -m unittest -v "$name" >"$work/$name" 2>&1 &
 done
 wait
 for name in "${classes[@]}"; do read_units "$name"; done

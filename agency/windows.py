@@ -31,7 +31,9 @@ class Live:
     publishers: list[Publisher] = field(default_factory=list)
     ports: list[int] = field(default_factory=list)  # as the proxy knows them
     listed: bool = False  # in the catalog
+    routed: float | None = None  # since when the proxy knows it
     ending: bool = False
+    unroute_at: float = 0.0  # when an ending window's processes may leave: clients read the catalog before they ask
     time_map_stale: bool = True
     restarts: int = 0
     failures: int = 0  # processes that ended at once, one after the other

@@ -276,6 +276,7 @@ def a_rollover(program: Path, given: argparse.Namespace) -> None:
     readers = [Reader(port, seed) for seed in range(4)]
     try:
         (run.folder / "nginx.conf").write_text(NGINX.format(port=port))
+        run.folder.chmod(0o755)  # Workers of nginx are of another user.
         (run.folder / "proxy").mkdir()
         for name in ("tiny.upstreams.conf", "tiny.windows.map"):
             (run.folder / "proxy" / name).write_text("")

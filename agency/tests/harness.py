@@ -2,6 +2,7 @@
 
 from __future__ import annotations
 
+import contextlib
 import http.client
 import json
 import os
@@ -27,7 +28,7 @@ sys.path.insert(0, str(AGENCY))
 from gtfs_realtime_pb2 import FeedHeader, FeedMessage, TripDescriptor  # noqa: E402
 
 STAND_IN = HERE / "stand_in.py"
-PATIENCE = 60.0  # A busy machine may take so long for anything.
+PATIENCE = 240.0  # A busy machine may take so long for anything.
 
 Late = dict[str, int]  # seconds by which trips are late
 
@@ -259,7 +260,8 @@ class Site:
                 self.send_response(document if isinstance(document, int) else 200)
                 self.send_header("Content-Length", str(len(body)))
                 self.end_headers()
-                self.wfile.write(body)
+                with contextlib.suppress(OSError):
+                    self.wfile.write(body)
 
             def log_message(self, format: str, *args: object) -> None:
                 pass

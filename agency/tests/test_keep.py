@@ -12,9 +12,10 @@ import subprocess
 import time
 import unittest
 from datetime import date, timedelta
+from pathlib import Path
 from typing import Any
 
-from harness import AGENCY, Running, Site, ask, make_feed, message, wait_for
+from harness import AGENCY, PATIENCE, TOP, Running, Site, ask, make_feed, message, wait_for
 
 TODAY = date.today()
 
@@ -48,7 +49,7 @@ class Restarts(KeepTest):
         before = {version: run.memento(window, version) for version in versions}
         self.assertGreater(len(before), 5)
         os.kill(run.status()["windows"][0]["processes"][0]["pid"], signal.SIGKILL)
-        wait_for("the process is there again", lambda: run.status()["windows"][0]["restarts"] == 1 and run.served())
+        wait_for("the process is there again", lambda: run.status()["windows"][0]["restarts"] >= 1 and run.served())
         self.assertEqual(before, {version: run.memento(window, version) for version in versions})
         run.kill()
         run.start()
@@ -215,7 +216,7 @@ class FromOutside(KeepTest):
 
 class Refusals(KeepTest):
     def refused(self, run: Running, status: int) -> str:
-        done = subprocess.run([str(AGENCY / "keep.py"), "config.toml"], cwd=run.folder, stdin=subprocess.DEVNULL, capture_output=True, text=True, timeout=60)
+        done = subprocess.run([str(AGENCY / "keep.py"), "config.toml"], cwd=run.folder, stdin=subprocess.DEVNULL, capture_output=True, text=True, timeout=PATIENCE)
         self.assertEqual(done.returncode, status, done.stderr)
         self.assertNotIn("Traceback", done.stderr)
         return done.stderr
@@ -276,10 +277,38 @@ class Past(KeepTest):
             for version, body in before.items():
                 self.assertEqual(ask(port, f"/tiny/{old}/memento/connections?version={version}").body, body)
             past.terminate()
-            self.assertEqual(past.wait(60), 0)
+            self.assertEqual(past.wait(PATIENCE), 0)
         done = subprocess.run([*words[:3], "20200101", *words[4:]], cwd=run.folder, capture_output=True, text=True)
         self.assertEqual(done.returncode, 1)
         self.assertIn("no window of the archive", done.stderr)
+
+
+LC = Path(os.environ.get("LC", TOP / "crates" / "lc" / "out" / "lc")).resolve()
+
+
+@unittest.skipUnless(os.access(LC, os.X_OK), "the program is not here")
+class Program(KeepTest):
+    """With the program itself."""
+
+    def test_every_memento_comes_back_from_the_program(self) -> None:
+        run = self.running(program=LC).start()
+        window = run.catalog()["current"]
+        self.posted(run, 20)
+        wait_for("all are admitted", run.served)
+        before = {version: run.memento(window, version) for version in run.versions(window)}
+        self.assertEqual(len(before), 21)
+        self.assertGreater(len(set(before.values())), 10)
+        run.kill()
+        run.start()
+        self.assertEqual(before, {version: run.memento(window, version) for version in run.versions(window)})
+
+    def test_a_feed_that_check_refuses_is_mended(self) -> None:
+        run = self.running(program=LC)
+        with open(run.folder / "feed" / "stop_times.txt", "a") as file:
+            file.write("T1,09:00:00,09:00:00,NOWHERE,9\n")
+        run.start()
+        self.assertTrue(run.log("mended"))
+        self.assertEqual(run.status()["windows"][0]["versions"], 0)
 
 
 if __name__ == "__main__":
