@@ -33,7 +33,7 @@ case $1 in
   lib) mkdir -p out/rlib out/incremental && sleep 0.1 && touch out/rlib/stamp ;;
   run) mkdir -p out && cp src/program out/lc && chmod +x out/lc ;;
   ci) cat ci_says; exit "$(cat ci)" ;;
-  try) echo "tried ${*: -1}" ;;
+  try) echo "tried ${*: -1}"; [ "${*: -1}" = broken ] && exit 2; echo 'run=ended status=0 runners=1 proved=no' >&2 ;;
 esac
 """
 PROGRAM = """#!/usr/bin/env bash
@@ -140,6 +140,12 @@ class Runs(InRepository):
         """lc: what needs sockets does not run unproved, which status 70 says"""
         ran = self.run_in("./lc", "serve", "feed")
         self.assertEqual((ran.returncode, ran.stdout), (70, ""))
+
+    def test_no_answer(self) -> None:
+        """lc: where rt try itself fails the status is 70, and no usage is said to be wrong"""
+        ran = self.run_in("./lc", "check", "broken")
+        self.assertEqual(ran.returncode, 70)
+        self.assertNotIn("argument", ran.stderr)
 
     def test_hint(self) -> None:
         """lc: after `error usage` standard error says what is wrong"""

@@ -115,8 +115,14 @@ def main(words: list[str]) -> int:
     words = [command, *with_whole_feed(command, words[1:])]
     with tempfile.TemporaryDirectory(prefix="lc-") as folder:
         crate = lay_sources([command], Path(folder))
-        tried = ["rt", "try", *data, "--", *words]
-        return subprocess.run(tried, cwd=crate, stdin=subprocess.DEVNULL, check=False).returncode
+        tried = subprocess.run(["rt", "try", *data, "--", *words], cwd=crate, stdin=subprocess.DEVNULL, stderr=subprocess.PIPE, check=False)
+    said = tried.stderr.decode(errors="replace")
+    print(said, end="", file=sys.stderr, flush=True)
+    # `rt try` has statuses of its own where the program did not end.
+    ended = re.search(r"^run=ended status=(\d+)", said, re.M)
+    if ended is None:
+        say("rt try gave no answer")
+    return int(ended[1]) if ended else FAILED
 
 
 if __name__ == "__main__":
