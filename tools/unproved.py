@@ -102,6 +102,16 @@ def with_whole_feed(command: str, words: list[str]) -> list[str]:
     return [os.path.abspath(word) if place in feed and os.path.isdir(word) else word for place, word in enumerate(words)]
 
 
+def tried(words: list[str], crate: Path) -> str:
+    """Runs `rt try`, and gives what it says beside the program's output. Where it is told to end it ends what it has begun."""
+    with subprocess.Popen(words, cwd=crate, stdin=subprocess.DEVNULL, stderr=subprocess.PIPE, text=True, errors="replace") as process:
+        try:
+            return process.communicate()[1]
+        except SystemExit:
+            process.terminate()
+            raise
+
+
 def main(words: list[str]) -> int:
     command = words[0] if words else ""
     if command in NOT_UNPROVED:
@@ -115,8 +125,7 @@ def main(words: list[str]) -> int:
     words = [command, *with_whole_feed(command, words[1:])]
     with tempfile.TemporaryDirectory(prefix="lc-") as folder:
         crate = lay_sources([command], Path(folder))
-        tried = subprocess.run(["rt", "try", *data, "--", *words], cwd=crate, stdin=subprocess.DEVNULL, stderr=subprocess.PIPE, check=False)
-    said = tried.stderr.decode(errors="replace")
+        said = tried(["rt", "try", *data, "--", *words], crate)
     print(said, end="", file=sys.stderr, flush=True)
     # `rt try` has statuses of its own where the program did not end.
     ended = re.search(r"^run=ended status=(\d+)", said, re.M)
