@@ -1,107 +1,12 @@
 #!/usr/bin/env bash
 # interop/run.sh [PART]...: lets `serve`, `plan` and `relay` meet peers that share no code with them. The parts are curl, python, wrk, node, relay,
 # nginx and hostile, all of them if none is named. It ends by itself, in about three minutes, and prints a line for each check. The last line is
-# `N passed, M failed`, and the status is 0 where none failed. A part whose tool is not here is skipped, and said so.
+# `N passed, M failed, K skipped`, and the status is 0 where none failed. A part whose tool is not here is skipped, and said so.
 #
 # LC is the program, `crates/lc/out/lc` of this repository if it is not set.
-set -u
-here=$(cd "$(dirname "${BASH_SOURCE[0]}")" && pwd)
-top=$(dirname "$here")
-LC=${LC:-$top/crates/lc/out/lc}
-[ -x "$LC" ] || { echo "run.sh: no program at $LC: build it by ./lc prove" >&2; exit 2; }
-LC=$(realpath "$LC")
-export LC
-work=$(mktemp -d)
-passed=0
-failed=0
-servers=()
+# shellcheck source-path=SCRIPTDIR source=lib.sh
+source "$(dirname "${BASH_SOURCE[0]}")/lib.sh"
 
-finish() {
-  for pid in "${servers[@]}"; do kill "$pid" 2>/dev/null; done
-  [ -s "$work/nginx/nginx.pid" ] && kill "$(cat "$work/nginx/nginx.pid")" 2>/dev/null
-  wait 2>/dev/null
-  rm -rf "$work"
-}
-trap finish EXIT
-
-# say RESULT NAME: counts a check and prints it.
-say() {
-  if [ "$1" = ok ]; then passed=$((passed + 1)); else failed=$((failed + 1)); fi
-  echo "$1: $2"
-}
-
-# same NAME WANTED FOUND: a check that two texts are the same.
-same() {
-  if [ "$2" = "$3" ]; then say ok "$1"; else say FAILED "$1: wanted '$2', found '$3'"; fi
-}
-
-# has NAME WANTED TEXT: a check that a text has a line, whose end may be CR.
-has() {
-  if tr -d '\r' <<<"$3" | grep -qxF -- "$2"; then say ok "$1"; else say FAILED "$1: no line '$2'"; fi
-}
-
-# take NAME COMMAND...: runs checks of another program, one on each line as `ok: ..` or `FAILED: ..`, and at least one.
-take() {
-  local name=$1 count=0 line
-  shift
-  while IFS= read -r line; do
-    case $line in
-      ok:*) say ok "$name: ${line#ok: }" ;;
-      FAILED:*) say FAILED "$name: ${line#FAILED: }" ;;
-      *) echo "  $line" ;;
-    esac
-    count=$((count + 1))
-  done < <("$@" 2>&1)
-  [ "$count" -gt 0 ] || say FAILED "$name: said nothing"
-}
-
-# need NAME TOOL...: whether all these tools are here; else what is skipped is said.
-need() {
-  local tool
-  for tool in "${@:2}"; do
-    command -v "$tool" >/dev/null || { echo "skipped: $1, since $tool is not here"; return 1; }
-  done
-}
-
-# free_port: a port at which nobody listens now.
-free_port() { python3 -c 'import socket; s = socket.socket(); s.bind(("127.0.0.1", 0)); print(s.getsockname()[1])'; }
-
-# serve LOG PORT CONNECTIONS FEED ARGUMENT...: starts a server and waits until it listens. It is stopped after ten minutes in any case.
-serve() {
-  local log=$work/$1 port=$2 connections=$3 feed=$4 tries=0
-  timeout 600 "$LC" serve "$feed" 20240501 --port "$port" --connections "$connections" "${@:5}" >"$log" 2>&1 &
-  server=$!
-  servers+=("$server")
-  until grep -qx "listening $port" "$log" 2>/dev/null; do
-    tries=$((tries + 1))
-    if [ "$tries" -gt 1200 ] || ! kill -0 "$server" 2>/dev/null; then
-      say FAILED "serve does not listen: $(cat "$log")"
-      return 1
-    fi
-    sleep 0.1
-  done
-}
-
-# stop PID: ends a server and waits for it.
-stop() {
-  kill "$1" 2>/dev/null
-  wait "$1" 2>/dev/null
-}
-
-# ended LOG SECONDS: waits until the server of the log has ended, and gives its last line.
-ended() {
-  local tries=0
-  until grep -q '^served\|^error' "$work/$1" || [ "$tries" -gt $(($2 * 10)) ]; do
-    tries=$((tries + 1))
-    sleep 0.1
-  done
-  tail -n 1 "$work/$1"
-}
-
-# status ARGUMENT...: the status that curl is answered with.
-status() { curl -s -m 30 -o "$work/body" -w '%{http_code}' "$@"; }
-
-command -v python3 >/dev/null || { echo 'run.sh: python3 is not here' >&2; exit 2; }
 python3 "$top/bench/make_feed.py" 20000 "$work/feed" || exit 2
 
 curl_checks() {
@@ -236,13 +141,14 @@ relay_checks() {
   same 'relay: each client answers as a plan does' "$times" "$(grep -cxFf "$work/wanted" "$work/relayed")"
 }
 
-# start_nginx FRONT FIRST SECOND: nginx by the example, at these ports and in the work directory.
+# start_nginx: nginx by the example, in the work directory. `load` passes its limit on the rate by far.
 start_nginx() {
-  mkdir -p "$work/nginx"
-  chmod 755 "$work"
-  sed -e "s|/tmp/lc-nginx|$work/nginx|; s|listen 8000|listen $1|; s|127.0.0.1:8081|127.0.0.1:$2|; s|127.0.0.1:8082|127.0.0.1:$3|" \
-    "$top/examples/nginx.conf" >"$work/nginx.conf"
-  nginx -e "$work/nginx/error.log" -c "$work/nginx.conf" >"$work/nginx.log" 2>&1
+  prepare "$work/nginx" || return
+  sed -i 's|rate=100r/s|rate=1000000r/s|' "$directory/nginx.conf"
+  run nginx.log nginx -e stderr -g 'daemon off;' -c "$directory/nginx.conf"
+  within 30 listens "$front" && return
+  say FAILED "nginx does not start: $(cat "$work/nginx.log")"
+  return 1
 }
 
 # load URL: at least 20,000 requests by wrk, and what was wrong with them, if anything.
@@ -261,18 +167,15 @@ load() {
 # the time gate and the other pages. That is its exchanges - 2, since the stops and one page are cached. Of that plan again it gets the time gate
 # (1). Then a message (1) and a last time gate (1) come. That is four connections more than a plan makes exchanges, and the publisher ends after them.
 nginx_checks() {
-  local front first second base gate page made head own
-  front=$(free_port)
-  first=$(free_port)
-  second=$(free_port)
+  local base gate page made head
+  start_nginx || return
   base=http://localhost:$front/tiny/
   questions 1 2 >"$work/one.csv"
   gate="connections?departureTime=$(cut -d, -f4 "$work/one.csv")"
-  serve alone.log "$first" 1000000 "$work/feed" --cuts count:100 || return
-  made=$(exchanges "http://localhost:$first/")
+  serve alone.log "$publisher" 1000000 "$work/feed" --cuts count:100 || return
+  made=$(exchanges "http://localhost:$publisher/")
   stop "$server"
-  start_nginx "$front" "$first" "$second" || { say FAILED "nginx does not start: $(cat "$work/nginx.log")"; return; }
-  serve behind.log "$first" $((made + 4)) "$work/feed" --cuts count:100 --base "$base" --accept-updates || return
+  serve behind.log "$publisher" $((made + 4)) "$work/feed" --cuts count:100 --base "$base" --accept-updates || return
   serve other.log "$second" 1 "$top/examples/tiny" --base "http://localhost:$front/other/" || return
   same 'nginx: the stops are asked for once' 'MISS HIT' "$(kept "${base}stops") $(kept "${base}stops")"
   has 'nginx: the stops may be kept for an hour' 'Cache-Control: public, max-age=3600' "$(curl -s -m 60 -o /dev/null -D - "${base}stops")"
@@ -286,12 +189,7 @@ nginx_checks() {
   same 'nginx: a plan' "$made" "$(exchanges "$base")"
   same 'nginx: the same plan again' "$made" "$(exchanges "$base")"
   same 'nginx: a message from this machine' 204 "$(status --data-binary "@$top/examples/late.pb" "${base}updates")"
-  own=$(hostname -I 2>/dev/null | tr ' ' '\n' | grep -v '^127\.' | grep -m 1 '\.')
-  if [ -n "$own" ]; then
-    same 'nginx: a message from elsewhere' 403 "$(status --data-binary x "http://$own:$front/tiny/updates")"
-  else
-    echo 'skipped: nginx: a message from elsewhere, since this machine has one address'
-  fi
+  same 'nginx: a message from elsewhere' 403 "$(status --interface 127.0.0.2 --data-binary x "${base}updates")"
   same 'nginx: the path of no publisher' 404 "$(status "http://localhost:$front/none/stops")"
   same 'nginx: the path of another publisher' 200 "$(status "http://localhost:$front/other/stops")"
   same 'nginx: which is asked alone' 'served 1 requests 1 faults 0' "$(ended other.log 30)"
@@ -310,5 +208,4 @@ for part in "$@"; do
     *) echo "run.sh: no part $part" >&2; exit 2 ;;
   esac
 done
-echo "$passed passed, $failed failed"
-[ "$failed" -eq 0 ]
+summary
