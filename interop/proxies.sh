@@ -24,7 +24,6 @@ export XDG_CONFIG_HOME=$work/config XDG_DATA_HOME=$work/data
 # What the proxies differ in. docs/PROXIES.md says the same in a table.
 keeps_pages() { [[ $1 =~ ^(nginx|haproxy|apache|varnish)$ ]]; }
 changes_bodies() { [[ $1 =~ ^(nginx|apache)$ ]]; }
-limits_rate() { [[ $1 =~ ^(nginx|haproxy|varnish)$ ]]; }
 
 # tools PROXY: the programs that it needs.
 tools() {
@@ -201,7 +200,10 @@ message_checks() {
 
 rate_checks() {
   local proxy=$1 counts
-  limits_rate "$proxy" || { say skipped "$proxy: a limit on the rate, since it has none"; return; }
+  case $proxy in
+    caddy) say skipped "$proxy: a limit on the rate, since it has none"; return ;;
+    apache) [ -e /usr/lib/apache2/modules/mod_security2.so ] || { say skipped "$proxy: a limit on the rate, since mod_security2 is not here"; return; } ;;
+  esac
   counts=$(by --interface 127.0.0.3 -o /dev/null -w '%{http_code} %header{access-control-allow-origin}\n' "${secure_name}stops#[1-2500]" |
     sort | uniq -c | tr -s ' \n' ' ')
   holds "$proxy: of 2,500 requests at once some are refused, which can be read:$counts" grep -qE '^ [0-9]+ 200 \* [0-9]+ 429 \* $' <<<"$counts"
