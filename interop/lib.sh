@@ -15,6 +15,7 @@ passed=0
 failed=0
 skipped=0
 running=()
+prepared=()
 
 # end_running: ends what was started, the last first, and waits for it.
 end_running() {
@@ -82,16 +83,18 @@ need() {
   done
 }
 
-# free_ports N: so many ports at which nobody listens now.
+# free_ports N: so many ports at which nobody listens, none of which was prepared before.
 free_ports() {
-  python3 - "$1" <<'PYTHON'
+  python3 - "$1" "${prepared[@]}" <<'PYTHON'
 import socket
 import sys
 
-held = [socket.socket() for _ in range(int(sys.argv[1]))]
-for one in held:
-    one.bind(("127.0.0.1", 0))
-print(*(one.getsockname()[1] for one in held))
+count, taken = int(sys.argv[1]), {int(port) for port in sys.argv[2:]}
+held: list[socket.socket] = []
+while len(held) < count + len(taken):
+    held.append(socket.socket())
+    held[-1].bind(("127.0.0.1", 0))
+print(*[port for port in (one.getsockname()[1] for one in held) if port not in taken][:count])
 PYTHON
 }
 
@@ -162,10 +165,12 @@ documented() { sed -n 's/^    //p' "$top/docs/PROXIES.md" | grep -E "^$1 " | sed
 prepare() {
   local command
   read -r front secure inner publisher second < <(free_ports 5)
+  prepared+=("$front" "$secure" "$inner" "$publisher" "$second")
   directory=$1
   rm -rf "$directory"
   chmod 755 "$work"
   while IFS= read -r command; do
+    [[ $command == chown* && $EUID -ne 0 ]] && continue
     (cd "$top" && bash -c "$command") >"$directory.log" 2>&1 || { say FAILED "$command: $(cat "$directory.log")"; return 1; }
   done < <(documented '(mkdir|cp|openssl|cat|chown)')
   find "$directory" -maxdepth 1 -type f ! -name '*.pem' | while IFS= read -r command; do

@@ -34,18 +34,17 @@ tools() {
   esac
 }
 
-# start_proxy PROXY DIRECTORY: the proxy at free ports, with nothing kept from before. Its processes are in `proxy_processes`.
+# start_proxy PROXY: the proxy as it is prepared, with nothing kept from before. Its processes are in `proxy_processes`.
 start_proxy() {
   local tool command
-  prepare "$2" || return
   proxy_processes=()
   for tool in $(tools "$1"); do
     command=$(documented "$tool")
-    run "$1.$tool.log" bash -c "exec ${command:-false}"
+    run "${directory##*/}.$tool.log" bash -c "exec ${command:-false}"
     proxy_processes+=("$started")
   done
   within 30 listens "$front" && within 30 listens "$secure" && return
-  say FAILED "$1 does not start: $(tail -n 5 "$work/$1".*.log)"
+  say FAILED "$1 does not start: $(tail -n 5 "$directory".*.log)"
   return 1
 }
 
@@ -116,7 +115,7 @@ serve_pages() {
 # measure PROXY: each client reads eight pages by the reference and by the proxy, and again other pages where the proxy was slower.
 measure() {
   local client first=0 attempt wanted took
-  start_proxy "$1" "$work/measured" && serve_pages "$1" || return
+  prepare "$work/measured" && start_proxy "$1" && serve_pages "$1" || return
   for client in "${found_clients[@]}"; do
     for ((attempt = 0; attempt < tries; attempt++, first += 24)); do
       wanted=$("${client}_client" "${reference_pages[@]:first:24}" 2>&1 | tail -n 1)
@@ -255,14 +254,15 @@ restart_checks() {
   holds "$1: a publisher that is started anew is asked" within 10 answers 302 "${name}connections"
 }
 
-# slow_checks PROXY: slow clients meet a proxy and a publisher of their own, of one page of some megabytes.
+# slow_checks PROXY: slow clients meet a proxy and a publisher of their own. Its page is the whole timetable, of some megabytes, and before haproxy a
+# part of it: what the kernel does not hold of a reply waits for the client there.
 slow_checks() {
-  local base
+  local cuts=whole
   running=()
   trap end_running EXIT
-  start_proxy "$1" "$work/slow" || return
-  base=http://lc.example/tiny/
-  serve slow.log "$publisher" 1000000 "$feed" --cuts whole --base "$base" || return
+  [ "$1" = haproxy ] && cuts=count:5000
+  start_proxy "$1" || return
+  serve slow.log "$publisher" 1000000 "$feed" --cuts "$cuts" --base "$name" || return
   "$clients/slow.py" "$front" "/tiny/$page" /tiny/connections
 }
 
@@ -270,11 +270,12 @@ check() {
   local proxy=$1 slow
   # shellcheck disable=SC2046
   need "$proxy" $(tools "$proxy") || return
+  prepare "$work/slow" || return
   (slow_checks "$proxy") >"$work/slow.out" 2>&1 &
   slow=$!
   running+=("$slow")
   [ "${#reference_pages[@]}" -eq 0 ] || measure "$proxy"
-  start_proxy "$proxy" "$work/proxy" || return
+  prepare "$work/proxy" && start_proxy "$proxy" || return
   readable "$proxy: before the publisher is there an error can be read" '50[234]' "${name}connections"
   start_publisher
   holds "$proxy: once it is there it is asked" within 10 answers 302 "${name}connections"

@@ -28,20 +28,26 @@ def connect(port: int) -> socket.socket:
     return socket.create_connection(("127.0.0.1", port), timeout=60)
 
 
-def honest(port: int, path: str) -> float:
-    """The least seconds that some requests take, each on a connection of its own."""
-    times = []
-    for _ in range(TRIES):
-        begun = time.monotonic()
-        with connect(port) as peer:
-            peer.sendall(f"GET {path} HTTP/1.1\r\nHost: {HOST}\r\nConnection: close\r\n\r\n".encode())
-            reply = b""
-            while piece := peer.recv(65536):
-                reply += piece
-        if not reply.startswith(b"HTTP/1.1 302"):
-            raise OSError(f"an honest client got {reply[:40]!r}")
-        times.append(time.monotonic() - begun)
-    return min(times)
+def honest(port: int, path: str, beside: str) -> None:
+    """The least time that some requests take, each on a connection of its own."""
+    try:
+        least = min(request(port, path) for _ in range(TRIES))
+        say(least < SOON, f"beside {beside} a request takes {least * 1000:.0f} ms")
+    except OSError as error:
+        say(False, f"beside {beside} a request ends with: {error}")
+
+
+def request(port: int, path: str) -> float:
+    """The seconds that one takes to be redirected."""
+    begun = time.monotonic()
+    with connect(port) as peer:
+        peer.sendall(f"GET {path} HTTP/1.1\r\nHost: {HOST}\r\nConnection: close\r\n\r\n".encode())
+        reply = b""
+        while piece := peer.recv(65536):
+            reply += piece
+    if not reply.startswith(b"HTTP/1.1 302"):
+        raise OSError(f"the reply {reply[:40]!r}")
+    return time.monotonic() - begun
 
 
 def is_ended(peer: socket.socket) -> bool:
@@ -64,8 +70,7 @@ def heads(port: int, gate: str, send: Callable[[socket.socket], None], name: str
     peers = [connect(port) for _ in range(20)]
     for peer in peers:
         send(peer)
-    cost = honest(port, gate)
-    say(cost < SOON, f"beside twenty {name} a request takes {cost * 1000:.0f} ms")
+    honest(port, gate, f"twenty {name}")
     waiting = peers
     while waiting and time.monotonic() - begun < ENDS_WITHIN:
         for peer in waiting:
@@ -83,7 +88,7 @@ def heads(port: int, gate: str, send: Callable[[socket.socket], None], name: str
 def reader(port: int, page: str, gate: str) -> None:
     """Clients that ask for a large page, and read nothing of it."""
     peers = []
-    for number in range(3):
+    for _ in range(3):
         peer = socket.socket()
         peer.setsockopt(socket.SOL_SOCKET, socket.SO_RCVBUF, 4096)
         peer.settimeout(60)
@@ -91,8 +96,7 @@ def reader(port: int, page: str, gate: str) -> None:
         peer.sendall(f"GET {page} HTTP/1.1\r\nHost: {HOST}\r\n\r\n".encode())
         peers.append(peer)
     time.sleep(0.5)
-    cost = honest(port, gate)
-    say(cost < SOON, f"beside three clients that read nothing of a large page a request takes {cost * 1000:.0f} ms")
+    honest(port, gate, "three clients that read nothing of a large page")
     for peer in peers:
         peer.close()
 
