@@ -17,10 +17,9 @@ skipped=0
 running=()
 prepared=()
 
-# end_running: ends what was started, the last first, and waits for it.
+# end_running: ends what was started and not stopped, and waits for it.
 end_running() {
-  local index
-  for ((index = ${#running[@]} - 1; index >= 0; index--)); do kill "${running[index]}" 2>/dev/null; done
+  [ "${#running[@]}" -eq 0 ] || kill "${running[@]}" 2>/dev/null
   wait 2>/dev/null
 }
 
@@ -117,7 +116,7 @@ run() {
   : >"$work/$1"
   timeout -k 5 600 "${@:2}" >"$work/$1" 2>&1 &
   started=$!
-  running+=("$started")
+  running[started]=$started
 }
 
 # serve LOG PORT CONNECTIONS FEED ARGUMENT...: starts a server and waits until it listens.
@@ -137,6 +136,7 @@ says_listening() { grep -qx "listening $2" "$1" || ! kill -0 "$3" 2>/dev/null; }
 stop() {
   kill "$1" 2>/dev/null
   wait "$1" 2>/dev/null
+  unset "running[$1]"
 }
 
 # ended LOG SECONDS: waits until the server of the log has ended, and gives its last line.

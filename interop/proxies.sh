@@ -87,7 +87,7 @@ go_client() { timeout 60 "$work/pages" "$@"; }
 aiohttp_client() { timeout 60 "$clients/pages.py" "$@"; }
 chromium_client() { timeout 120 "$clients/browser.py" pages.html "${@/#/--query=url=}"; }
 
-# clients_here: those of the five whose programs are here. It says which are not.
+# find_clients: those of the five whose programs are here. It says which are not.
 find_clients() {
   found_clients=(curl)
   need 'the client of node' node && found_clients+=(node)
@@ -117,21 +117,20 @@ measure() {
   local client first=0 attempt wanted took
   prepare "$work/measured" && start_proxy "$1" && serve_pages "$1" || return
   for client in "${found_clients[@]}"; do
-    for ((attempt = 0; attempt < tries; attempt++, first += 24)); do
+    for ((attempt = 0; attempt < tries; attempt++)); do
       wanted=$("${client}_client" "${reference_pages[@]:first:24}" 2>&1 | tail -n 1)
       took=$("${client}_client" "${pages[@]:first:24}" 2>&1 | tail -n 1)
-      [[ $wanted =~ ^[0-9]+$ && $took =~ ^[0-9]+$ ]] || break
-      [ "$took" -le $((wanted * 3 / 2 + slack)) ] && break
+      first=$((first + 24))
+      is_near "$took" "$wanted" && break
     done
-    if [ "$attempt" -lt "$tries" ] && [[ $wanted$took =~ ^[0-9]+$ ]]; then
-      say ok "$1: $client reads eight pages in $took ms, and by nginx that closes each connection in $wanted"
-    else
-      say FAILED "$1: $client reads eight pages in '$took' ms, and by nginx that closes each connection in '$wanted'"
-    fi
+    holds "$1: $client reads eight pages in $took ms, and by nginx that closes each connection in $wanted" is_near "$took" "$wanted"
   done
   stop_proxy
   stop "$server"
 }
+
+# is_near TOOK WANTED: whether both are milliseconds, and the first at most 1.5 times the second.
+is_near() { [[ $1 =~ ^[0-9]+$ && $2 =~ ^[0-9]+$ ]] && [ "$1" -le $(($2 * 3 / 2 + slack)) ]; }
 
 # start_publisher: as the document starts it.
 start_publisher() {
@@ -270,10 +269,14 @@ check() {
   local proxy=$1 slow
   # shellcheck disable=SC2046
   need "$proxy" $(tools "$proxy") || return
+  if [ "$proxy" = varnish ] && ! compgen -G '/usr/lib/*/varnish/vmods/libvmod_vsthrottle.so' >/dev/null; then
+    say skipped 'varnish, since varnish-modules is not here'
+    return
+  fi
   prepare "$work/slow" || return
   (slow_checks "$proxy") >"$work/slow.out" 2>&1 &
   slow=$!
-  running+=("$slow")
+  running[slow]=$slow
   [ "${#reference_pages[@]}" -eq 0 ] || measure "$proxy"
   prepare "$work/proxy" && start_proxy "$proxy" || return
   readable "$proxy: before the publisher is there an error can be read" '50[234]' "${name}connections"
@@ -290,6 +293,7 @@ check() {
   stop_proxy
   stop "$server"
   wait "$slow"
+  unset "running[slow]"
   take "$proxy" cat "$work/slow.out"
 }
 
