@@ -5,6 +5,8 @@ set -u
 here=$(cd "$(dirname "${BASH_SOURCE[0]}")" && pwd)
 top=$(dirname "$here")
 script=$(basename "$0")
+# `--help` prints the comment with which the script begins.
+case " $* " in *' --help '*) sed -n '2,/^[^#]/s/^# \{0,1\}//p' "$0" | grep -v '^shellcheck'; exit 0 ;; esac
 LC=${LC:-$top/crates/lc/out/lc}
 [ -x "$LC" ] || { echo "$script: no program at $LC: build it by ./lc prove" >&2; exit 2; }
 command -v python3 >/dev/null || { echo "$script: python3 is not here" >&2; exit 2; }

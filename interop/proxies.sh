@@ -15,7 +15,7 @@ name=http://lc.example/tiny/
 secure_name=https://lc.example/tiny/
 page='memento/connections?version=1970-01-01T00:00:00.000Z&departureTime=2024-05-01T08:00:00.000Z'
 slack=20
-tries=3
+tries=5
 reference_pages=()
 
 # Programs of the machine keep what they keep in the directory of this run.
