@@ -115,6 +115,47 @@ export function planMany(
   question: Ends & Moment & Wire & { known?: Date; near?: Nearness },
 ): Promise<PlanOfMany>;
 
+/** The stops of a publisher and the changes between them, from the cache that `plan` uses. Errors are those of `plan`. */
+export function stops(question: Pick<Publisher, 'base'> & Wire): Promise<Stops>;
+
+export interface Stops {
+  readonly stops: readonly Readonly<{ id: string; /** Empty where the feed has none. */ name: string; parent?: string }>[];
+  readonly changes: readonly Readonly<{ from: string; to: string; seconds: number }>[];
+}
+
+/**
+ * The connections that depart from one moment to another, both included, page after page, for who draws or counts them. It reads a page when it is
+ * asked for. Errors are those of `plan`; a span without a departure is none.
+ */
+export function pages(question: Publisher & Wire & { since: Date; until: Date }): AsyncGenerator<Page, void, void>;
+
+export interface Page {
+  /** The page's URL, which names its content for ever. */
+  url: string;
+  version: Date;
+  /** In the order of departures. */
+  connections: Connection[];
+}
+
+/** The way of a vehicle from one stop to its next. */
+export interface Connection {
+  run: string;
+  trip: string;
+  date: string;
+  start: string | null;
+  route: string | null;
+  sequence: number;
+  from: string;
+  to: string;
+  departs: Date;
+  arrives: Date;
+  departureDelay: number;
+  arrivalDelay: number;
+  /** Whether one may board at `from`, and alight at `to`. */
+  boards: boolean;
+  alights: boolean;
+}
+
 /** An answer. */
 export interface Plan {
   /** The version of the timetable by which it was planned. */
@@ -217,7 +258,11 @@ export class PlannerError extends Error {
 }
 
 /** The publisher has no such document (404 or 410). */
-export class NotFound extends PlannerError {}
+export class NotFound extends PlannerError {
+  status: number;
+  /** Of a page: the version that the publisher has no longer. Else null: then the base is none. */
+  version: Date | null;
+}
 
 /** There is no reply: no connection, no answer in time, or a status of 429 or 500 and above. A later try may succeed. */
 export class Unreachable extends PlannerError {

@@ -3,6 +3,7 @@
 import { Session } from './planner/session.mjs';
 
 export { PageMap } from './planner/cache.mjs';
+export { pages, stops } from './planner/reading.mjs';
 export { BadQuestion, NoSuchStop, NotAPage, NotFound, NotKept, OutOfWindow, PlannerError, Unreachable } from './planner/errors.mjs';
 
 /** Plans a journey. */

@@ -10,7 +10,13 @@ export class PlannerError extends Error {
 }
 
 /** The publisher has no such document. */
-export class NotFound extends PlannerError {}
+export class NotFound extends PlannerError {
+  constructor(message, { status, version, ...rest }) {
+    super(message, rest);
+    this.status = status;
+    this.version = version;
+  }
+}
 
 /** There is no reply, or one that says that the publisher cannot answer at the time. */
 export class Unreachable extends PlannerError {
@@ -52,9 +58,12 @@ export class BadQuestion extends PlannerError {}
 /** A page could not be kept. */
 export class NotKept extends PlannerError {}
 
-/** The error that a status stands for, where another one was expected. */
-export function errorOfStatus(status, url) {
-  if (status === 404 || status === 410) return new NotFound(`there is no document at ${url}`, { url });
+/** The error that a status stands for, where another one was expected. `version` is that of a page, in seconds. */
+export function errorOfStatus(status, url, version = null) {
+  if (status === 404 || status === 410) {
+    const message = version === null ? `there is no document at ${url}` : `the publisher has no longer the version of the page ${url}`;
+    return new NotFound(message, { url, status, version: version === null ? null : new Date(version * 1000) });
+  }
   if (status === 429 || status >= 500) return new Unreachable(`the publisher cannot answer at the time: status ${status} of ${url}`, { url, status });
   // A browser hides which redirect it was: then the status is 0.
   return new NotAPage(`the publisher answers otherwise than expected at ${url}`, { url, test: `status ${status === 0 ? '3xx' : status}` });

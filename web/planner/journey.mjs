@@ -30,17 +30,24 @@ function callsOf(connections) {
   return [...calls, { stop: last.to, arrives: dateOf(last.arrives), arrivalDelay: last.arrivalDelay, departs: null, departureDelay: null, sequence: null }];
 }
 
+/** What the name of a connection's run says, and its route by the names of the publisher. */
+function runParts(connection, names) {
+  const run = runOf(connection);
+  const parts = readRun(run);
+  return { run, ...parts, route: names?.trips?.[parts.trip]?.route ?? null };
+}
+
+/** A connection as it is handed out. */
+export function connectionOf(connection, names) {
+  const { sequence, from, to, departs, arrives, departureDelay, arrivalDelay, boards, alights } = connection;
+  return { ...runParts(connection, names), sequence, from, to, departs: dateOf(departs), arrives: dateOf(arrives), departureDelay, arrivalDelay, boards, alights };
+}
+
 function rideOf({ first, last }, connections, names) {
-  const run = runOf(first);
-  const { trip, date, start } = readRun(run);
   return {
     kind: 'ride',
     base: first.base,
-    run,
-    trip,
-    date,
-    start,
-    route: names.get(first.base)?.trips?.[trip]?.route ?? null,
+    ...runParts(first, names.get(first.base)),
     from: first.from,
     to: last.to,
     departs: dateOf(first.departs),

@@ -50,8 +50,8 @@ export class Publisher {
   /** The page to which a browser followed the redirect on its own. What comes of a page that is kept is not read. */
   async #followed(url, reply) {
     if (reply.redirected) this.#wire.requests += 1;
-    if (!reply.ok) throw errorOfStatus(reply.status, reply.url);
     const name = readPageUrl(this.base, reply.url);
+    if (!reply.ok) throw errorOfStatus(reply.status, reply.url, name?.version);
     if (!name) throw leadsNowhere(url, reply.url);
     const page = await this.#kept(name);
     if (!page) return this.#read(name, reply);
@@ -76,7 +76,7 @@ export class Publisher {
   }
 
   async #read(name, reply) {
-    if (reply.status !== 200) throw errorOfStatus(reply.status, name.url);
+    if (reply.status !== 200) throw errorOfStatus(reply.status, name.url, name.version);
     const text = await reply.text();
     return { page: readPage(this.base, name, text, reply.headers.get('Memento-Datetime')), text };
   }

@@ -31,6 +31,11 @@ export function readQuestion({ from, to, leave, arrive, horizon = DAY, fewest = 
   return { ends, isBack, moment, horizon, fewest, until: span };
 }
 
+/** The two moments of a span, in seconds. */
+export function readSpan({ since, until }) {
+  return { since: secondsOf(since, 'since', Math.ceil), until: secondsOf(until, 'until', Math.floor) };
+}
+
 /** What of a publisher is asked for: its base, and what is known, in seconds, or undefined. */
 export function readPartner({ base, known, stop, names }) {
   const read = readBase(base);

@@ -3,7 +3,7 @@
 import { NotAPage } from './errors.mjs';
 
 /** The test of docs/PROTOCOL.md that the first page fails as the one for a moment, if it fails it. */
-function testGate(page, moment) {
+export function testGate(page, moment) {
   const isLate = page.previous !== null && moment < page.departs;
   const isEarly = page.next !== null && page.next.departs <= moment;
   if (isLate || isEarly) throw new NotAPage(`the time gate leads to ${page.url}, and another page is for the moment`, { url: page.url, test: 'gate' });
