@@ -85,8 +85,9 @@ export function plan(question: Question): Promise<Plan>;
 
 /**
  * All best journeys of a span, one after the other: none leaves later and arrives as early, or arrives earlier and leaves as late. With `leave`
- * they leave from then to `until`, the earliest first. With `arrive` they arrive from then back to `until`, the latest first. It reads pages as
- * journeys are asked for. All are of one version. Errors are those of `plan`.
+ * they leave from then to `until`, the earliest first, and arrive within the horizon after `until`. With `arrive` they arrive from then back to
+ * `until`, the latest first, and leave within the horizon before `until`. It reads pages as journeys are asked for, and asks for nothing more once
+ * it is left. All are of one version. A journey takes two scans of the connections between its ends. Errors are those of `plan`.
  */
 export function profile(question: Question & { until: Date }): AsyncGenerator<Plan & { journey: Journey }, void, void>;
 

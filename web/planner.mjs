@@ -1,5 +1,6 @@
 // A planner over published pages of connections, for browsers and for node from 18 on. planner.d.ts says what each export is, README.md how to use
 // it, and docs/PROTOCOL.md what it follows.
+import { BadQuestion } from './planner/errors.mjs';
 import { Session } from './planner/session.mjs';
 
 export { PageMap } from './planner/cache.mjs';
@@ -8,7 +9,7 @@ export { BadQuestion, NoSuchStop, NotAPage, NotFound, NotKept, OutOfWindow, Plan
 
 /** Plans a journey. */
 export async function plan(question) {
-  const session = new Session([question], question);
+  const session = new Session([question], { ...question, until: undefined });
   try {
     await session.open();
     return { version: session.versions[0], ...(await session.answer()) };
@@ -21,7 +22,7 @@ export async function plan(question) {
 export async function planMany(partners, question) {
   const session = new Session(
     partners.map((partner) => ({ known: question.known, ...partner })),
-    question,
+    { ...question, until: undefined },
   );
   try {
     await session.open();
@@ -33,6 +34,7 @@ export async function planMany(partners, question) {
 
 /** All best journeys of a span, one after the other. */
 export async function* profile(question) {
+  if (question.until === undefined) throw new BadQuestion('a profile has a moment until');
   const session = new Session([question], question);
   try {
     await session.open();

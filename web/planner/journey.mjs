@@ -7,7 +7,7 @@ const dateOf = (seconds) => new Date(seconds * 1000);
 /** The connections of each ride, found in one pass over lists of connections. */
 function connectionsOf(rides, lists) {
   const runs = new Map(rides.map(({ first }) => [first.run, []]));
-  for (const { connections } of lists) {
+  for (const connections of lists) {
     for (const connection of connections) runs.get(connection.run)?.push(connection);
   }
   return rides.map(({ first, last }) => {
@@ -79,11 +79,11 @@ function endsOf(network, query, rides) {
   return { first, last, before: network.walksFrom(query.from).get(first.from), after: network.walksTo(query.to).get(last.to) };
 }
 
-/** The journey of these rides, whose connections are in the lists. `names` has those of publishers by their base. */
-export function journeyOf(network, query, rides, lists, names) {
+/** The journey of these rides, whose connections are in the timetable. `names` has those of publishers by their base. */
+export function journeyOf(network, query, rides, timetable, names) {
   const { before, after } = endsOf(network, query, rides);
   const { leaves, arrives } = spanOf(network, query, rides);
-  const connections = connectionsOf(rides, lists);
+  const connections = connectionsOf(rides, timetable.between(leaves, arrives));
   const legs = rides.flatMap((ride, at) => {
     const leg = rideOf(ride, connections[at], names);
     return at === 0 ? [leg] : [changeBetween(network, rides[at - 1].last.to, ride.first.from), leg];

@@ -27,8 +27,14 @@ export function readQuestion({ from, to, leave, arrive, horizon = DAY, fewest = 
   const isBack = arrive !== undefined;
   // Whoever leaves a fraction of a second later leaves at the next second, and whoever has to be there has to at the one before.
   const moment = isBack ? secondsOf(arrive, 'arrive', Math.floor) : secondsOf(leave, 'leave', Math.ceil);
-  const span = until === undefined ? null : secondsOf(until, 'until', isBack ? Math.ceil : Math.floor);
-  return { ends, isBack, moment, horizon, fewest, until: span };
+  return { ends, isBack, moment, horizon, fewest, until: until === undefined ? null : readUntil(until, isBack, moment) };
+}
+
+/** The other end of a profile's span, in seconds. */
+function readUntil(until, isBack, moment) {
+  const seconds = secondsOf(until, 'until', isBack ? Math.ceil : Math.floor);
+  if (isBack ? seconds > moment : seconds < moment) throw new BadQuestion(isBack ? 'until has to be before arrive' : 'until has to be after leave');
+  return seconds;
 }
 
 /** The two moments of a span, in seconds. */

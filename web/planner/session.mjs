@@ -43,10 +43,10 @@ export class Session {
     this.#timetable = new Timetable(this.#partners, isBack, isBack ? query.leave : query.end, this.#wire);
   }
 
-  /** What is searched where one leaves at a moment, or has to be there. */
+  /** What is searched where one leaves at a moment, or has to be there. The horizon of a profile counts from the end of its span. */
   #query(moment) {
-    const { ends, isBack, horizon } = this.#question;
-    return isBack ? { ...ends, leave: moment - horizon, end: moment } : { ...ends, leave: moment, end: moment + horizon };
+    const { ends, isBack, horizon, until } = this.#question;
+    return isBack ? { ...ends, leave: (until ?? moment) - horizon, end: moment } : { ...ends, leave: moment, end: (until ?? moment) + horizon };
   }
 
   /** Asks each publisher for its stops and its first page. */
@@ -84,7 +84,7 @@ export class Session {
 
   #answerOf(query, rides) {
     const names = new Map(this.#partners.map((partner) => [partner.base, partner.names]));
-    const journey = rides && journeyOf(this.#network, query, rides, this.#timetable.lists, names);
+    const journey = rides && journeyOf(this.#network, query, rides, this.#timetable, names);
     return { journey, pages: this.#wire.pages, requests: this.#wire.requests };
   }
 
@@ -104,7 +104,7 @@ export class Session {
     const { isBack } = this.#question;
     // One that leaves as late as any and arrives by the moment is as good, if it is asked from the end.
     const narrow = isBack ? { ...query, leave: span.leaves } : { ...query, end: span.arrives };
-    const lists = this.#timetable.lists.map(({ connections }) => connections);
+    const lists = this.#timetable.between(narrow.leave, narrow.end);
     return fewestRides(this.#network, narrow, lists, narrow.end, rides.length) ?? rides;
   }
 
@@ -123,7 +123,6 @@ export class Session {
   /** The best journeys of the span, one after the other. */
   async *answers() {
     const { isBack, moment, until } = this.#question;
-    if (until === null) throw new BadQuestion('a profile has a moment until');
     for (let at = moment; isBack ? at >= until : at <= until; ) {
       const found = await (isBack ? this.#endingBy(at) : this.#leavingFrom(at));
       if (!found) break;
@@ -138,7 +137,7 @@ export class Session {
   async #leavingFrom(moment) {
     const query = this.#query(moment);
     const first = await earliest(this.#world, query);
-    if (!first) return this.#nothing(query);
+    if (!first) return this.#nothing(moment, query);
     const within = { ...query, end: spanOf(this.#network, query, first).arrives };
     return this.#found(within, await latest(this.#world, within));
   }
@@ -147,13 +146,14 @@ export class Session {
   async #endingBy(moment) {
     const query = this.#query(moment);
     const last = await latest(this.#world, query);
-    if (!last) return this.#nothing(query);
+    if (!last) return this.#nothing(moment, query);
     const within = { ...query, leave: spanOf(this.#network, query, last).leaves };
     return this.#found(within, await earliest(this.#world, within));
   }
 
-  #nothing(query) {
-    if (query.leave === this.#query(this.#question.moment).leave) this.#testWindow(query);
+  /** No journey. Where it is the first that was looked for, the window may be another one. */
+  #nothing(moment, query) {
+    if (moment === this.#question.moment) this.#testWindow(query);
     return null;
   }
 

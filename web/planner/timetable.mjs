@@ -180,6 +180,11 @@ export class Timetable {
     return true;
   }
 
+  /** The lists of connections that have what departs between two moments. */
+  between(first, last) {
+    return this.lists.filter(({ from, until }) => from <= last && until >= first).map(({ connections }) => connections);
+  }
+
   /** The first departure of all that were read, and the last one; null where there is none. */
   get edges() {
     const filled = this.lists.filter(({ connections }) => connections.length > 0);
