@@ -6,10 +6,11 @@
 // BASE ends with a slash, and FROM and TO are ids of stops. MOMENT is in UTC, as 2024-05-01T08:00:00Z. HORIZON is in seconds, 86400 if it is not
 // given. It prints the best arrival, or `no journey`, then the walks and rides as `lc ask` does, and how many pages it took.
 import { OutOfWindow, PlannerError, plan } from '../web/planner.mjs';
+import { encodeId } from '../web/planner/texts.mjs';
 
 /** A leg as a line of `lc ask`, which has none for a change between two rides. */
 function lineOf(leg) {
-  const [from, to] = [leg.from, leg.to].map(encodeURIComponent);
+  const [from, to] = [leg.from, leg.to].map(encodeId);
   if (leg.kind === 'walk') return [`walk ${from} ${to} ${leg.seconds}`];
   if (leg.kind === 'change') return [];
   const [first, last] = [leg.calls[0], leg.calls.at(-2)];
