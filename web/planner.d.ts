@@ -107,14 +107,17 @@ export interface Nearness {
   least?: number;
 }
 
+/** A question to several publishers. What `known` says is of those that say nothing else. */
+export type QuestionOfMany = Ends & Moment & Wire & { known?: Date; near?: Nearness };
+
 /**
  * Plans a journey over several publishers at once. Stops with one id, after `stop` of each partner, are one. Where two publishers list a
  * change between two stops, the shorter one counts. Errors are those of `plan`, each with the `base` that it is about.
  */
-export function planMany(
-  partners: Partner[],
-  question: Ends & Moment & Wire & { known?: Date; near?: Nearness },
-): Promise<PlanOfMany>;
+export function planMany(partners: Partner[], question: QuestionOfMany): Promise<PlanOfMany>;
+
+/** All best journeys of a span over several publishers at once, as `profile` has them of one. */
+export function profileMany(partners: Partner[], question: QuestionOfMany & { until: Date }): AsyncGenerator<PlanOfMany & { journey: Journey }, void, void>;
 
 /** The stops of a publisher and the changes between them, from the cache that `plan` uses. Errors are those of `plan`. */
 export function stops(question: Pick<Publisher, 'base'> & Wire): Promise<Stops>;

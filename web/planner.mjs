@@ -7,23 +7,16 @@ export { PageMap } from './planner/cache.mjs';
 export { pages, stops } from './planner/reading.mjs';
 export { BadQuestion, NoSuchStop, NotAPage, NotFound, NotKept, OutOfWindow, PlannerError, Unreachable } from './planner/errors.mjs';
 
-/** Plans a journey. */
-export async function plan(question) {
-  const session = new Session([question], { ...question, until: undefined });
-  try {
-    await session.open();
-    return { version: session.versions[0], ...(await session.answer()) };
-  } finally {
-    session.close();
-  }
+/** The session of a question to one publisher or several, which ends with its use. */
+function begin(partners, question) {
+  return new Session(
+    partners.map((partner) => ({ known: question.known, ...partner })),
+    question,
+  );
 }
 
-/** Plans a journey over several publishers at once. */
-export async function planMany(partners, question) {
-  const session = new Session(
-    partners.map((partner) => ({ known: question.known, ...partner })),
-    { ...question, until: undefined },
-  );
+async function answerOf(partners, question) {
+  const session = begin(partners, { ...question, until: undefined });
   try {
     await session.open();
     return { versions: session.versions, ...(await session.answer()) };
@@ -32,14 +25,34 @@ export async function planMany(partners, question) {
   }
 }
 
-/** All best journeys of a span, one after the other. */
-export async function* profile(question) {
+async function* answersOf(partners, question) {
   if (question.until === undefined) throw new BadQuestion('a profile has a moment until');
-  const session = new Session([question], question);
+  const session = begin(partners, question);
   try {
     await session.open();
-    for await (const answer of session.answers()) yield { version: session.versions[0], ...answer };
+    for await (const answer of session.answers()) yield { versions: session.versions, ...answer };
   } finally {
     session.close();
   }
 }
+
+/** An answer of one publisher. */
+function single({ versions: [version], ...answer }) {
+  return { version, ...answer };
+}
+
+/** Plans a journey. */
+export async function plan(question) {
+  return single(await answerOf([question], question));
+}
+
+/** All best journeys of a span, one after the other. */
+export async function* profile(question) {
+  for await (const answer of answersOf([question], question)) yield single(answer);
+}
+
+/** Plans a journey over several publishers at once. */
+export const planMany = answerOf;
+
+/** All best journeys of a span over several publishers at once. */
+export const profileMany = answersOf;

