@@ -309,16 +309,25 @@ test('a question that is aborted ends with the reason of its signal, at any poin
   }
 });
 
-test('an aborted question closes its requests', async () => {
-  const closed = [];
-  const server = net.createServer((socket) => socket.on('error', () => {}).on('close', () => closed.push(socket))).listen(0, '127.0.0.1');
-  await new Promise((resolve) => server.once('listening', resolve));
+test('an aborted question ends its requests, and so does one that has failed', async () => {
+  const ended = [];
+  const waits = (url, { signal }) =>
+    new Promise((resolve, reject) => {
+      signal.addEventListener('abort', () => {
+        ended.push(url.split('?')[0]);
+        reject(signal.reason);
+      });
+    });
   const controller = new AbortController();
-  const asked = plan({ ...QUESTION, base: `http://127.0.0.1:${server.address().port}/`, cache: null, signal: controller.signal });
-  server.once('connection', () => controller.abort());
+  const asked = ask(tinyStub(), { fetch: waits, signal: controller.signal });
+  controller.abort();
   assert.equal((await failure(asked)).name, 'AbortError');
-  while (closed.length < 1) await new Promise((resolve) => setTimeout(resolve, 5));
-  server.close();
+  assert.deepEqual(ended.sort(), ['http://lc.example/connections', 'http://lc.example/stops']);
+  // The time gate fails, and nobody waits for the stops any more.
+  ended.length = 0;
+  const fails = async (url, options) => (url.endsWith('stops') ? waits(url, options) : new Response('', { status: 404 }));
+  assert.ok((await failure(ask(tinyStub(), { fetch: fails }))) instanceof NotFound);
+  assert.deepEqual(ended, ['http://lc.example/stops']);
 });
 
 test('a signal that ended before is heard before anything is asked', async () => {
