@@ -117,7 +117,10 @@ export type QuestionOfMany = Ends & Moment & Wire & { known?: Date; near?: Nearn
 export function planMany(partners: Partner[], question: QuestionOfMany): Promise<PlanOfMany>;
 
 /** All best journeys of a span over several publishers at once, as `profile` has them of one. */
-export function profileMany(partners: Partner[], question: QuestionOfMany & { until: Date }): AsyncGenerator<PlanOfMany & { journey: Journey }, void, void>;
+export function profileMany(
+  partners: Partner[],
+  question: QuestionOfMany & { until: Date },
+): AsyncGenerator<PlanOfMany & { journey: Journey }, void, void>;
 
 /** The stops of a publisher and the changes between them, from the cache that `plan` uses. Errors are those of `plan`. */
 export function stops(question: Pick<Publisher, 'base'> & Wire): Promise<Stops>;
@@ -243,7 +246,7 @@ export interface Names {
 
 /** Pages in memory, those that were used last. */
 export class PageMap {
-  /** @param most how many connections it keeps at most, in all its pages. The default is 500,000, some 150 MB. */
+  /** @param most how many connections it keeps at most, in all its pages. The default is 250,000, some 70 MB. */
   constructor(most?: number);
   /** Forgets all pages. */
   clear(): void;

@@ -1,7 +1,7 @@
 // Where documents are kept. A page of a version never changes, so that it can be kept as long as there is room.
 import { BadQuestion, NotKept } from './errors.mjs';
 
-const MOST = 500_000; // connections in memory, some 150 MB
+const MOST = 250_000; // connections in memory, some 70 MB
 const STOPS_AGE = 3_600_000; // Milliseconds: the stops have no version, and may be others once the publisher has another feed.
 
 /** Documents in memory, those that were used last. */

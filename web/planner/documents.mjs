@@ -180,7 +180,8 @@ export function readStops(url, text) {
   const known = new Set(stops.map((stop) => stop.id));
   const isKnown = (id) => known.has(id);
   if (!areRising(stops, (one, next) => compareIds(one.id, next.id))) refuse(url, 'body', 'its stops are out of order');
-  if (!areRising(changes, (one, next) => compareIds(one.from, next.from) || compareIds(one.to, next.to))) refuse(url, 'body', 'its changes are out of order');
+  const compareChanges = (one, next) => compareIds(one.from, next.from) || compareIds(one.to, next.to);
+  if (!areRising(changes, compareChanges)) refuse(url, 'body', 'its changes are out of order');
   if (!stops.every(({ parent }) => parent === undefined || isKnown(parent))) refuse(url, 'body', 'a parent is not listed');
   if (!changes.every(({ from, to }) => isKnown(from) && isKnown(to))) refuse(url, 'body', 'a change is between stops that are not listed');
   return { stops, changes };

@@ -26,8 +26,8 @@ function callsOf(connections) {
     departureDelay: connection.departureDelay,
     sequence: connection.sequence,
   }));
-  const last = connections.at(-1);
-  return [...calls, { stop: last.to, arrives: dateOf(last.arrives), arrivalDelay: last.arrivalDelay, departs: null, departureDelay: null, sequence: null }];
+  const { to, arrives, arrivalDelay } = connections.at(-1);
+  return [...calls, { stop: to, arrives: dateOf(arrives), arrivalDelay, departs: null, departureDelay: null, sequence: null }];
 }
 
 /** What the name of a connection's run says, and its route by the names of the publisher. */
@@ -39,8 +39,8 @@ function runParts(connection, names) {
 
 /** A connection as it is handed out. */
 export function connectionOf(connection, names) {
-  const { sequence, from, to, departs, arrives, departureDelay, arrivalDelay, boards, alights } = connection;
-  return { ...runParts(connection, names), sequence, from, to, departs: dateOf(departs), arrives: dateOf(arrives), departureDelay, arrivalDelay, boards, alights };
+  const { base, departs, arrives, ...rest } = connection;
+  return { ...rest, ...runParts(connection, names), departs: dateOf(departs), arrives: dateOf(arrives) };
 }
 
 function rideOf({ first, last }, connections, names) {

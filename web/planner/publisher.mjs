@@ -8,6 +8,11 @@ function hidesRedirects() {
   return 'document' in globalThis || 'WorkerGlobalScope' in globalThis;
 }
 
+/** Gives up the body of a reply. Nobody waits for it, so that a failure of it is none. */
+function giveUp(reply) {
+  reply.body?.cancel().catch(() => {});
+}
+
 function leadsNowhere(url, target) {
   return new NotAPage(`the time gate ${url} leads to no page under its base but to ${target}`, { url, test: 'location' });
 }
@@ -33,7 +38,7 @@ export class Publisher {
 
   /** The name of the page to which a reply redirects. */
   #named(url, reply) {
-    void reply.body?.cancel();
+    giveUp(reply);
     if (reply.status !== 302) throw errorOfStatus(reply.status, url);
     const location = reply.headers.get('Location');
     let target = null;
@@ -55,7 +60,7 @@ export class Publisher {
     if (!name) throw leadsNowhere(url, reply.url);
     const page = await this.#kept(name);
     if (!page) return this.#read(name, reply);
-    void reply.body?.cancel();
+    giveUp(reply);
     return { page, text: null };
   }
 

@@ -21,23 +21,30 @@ function renamedStops({ stops, changes }, stop) {
   };
 }
 
+/** What to say of a timetable that ends, or begins, with the departure of a moment; NaN where it has none. */
+function windowMessage(isAfter, edge) {
+  if (Number.isNaN(edge)) return 'the timetable has no departure at all';
+  return `the timetable ${isAfter ? 'ends' : 'begins'} with the departure of ${momentText(edge)}`;
+}
+
+/** A question under way. */
 export class Session {
   #wire;
   #partners;
   #question;
-  #near;
+  #near; // changes between stops of several publishers
   #timetable;
   #network;
 
   constructor(partners, question) {
     if (partners.length === 0) throw new BadQuestion('there is no publisher to ask');
     this.#question = readQuestion(question);
-    this.#near = question.near;
     this.#wire = new Wire(question);
     this.#partners = partners.map((partner) => {
       const read = readPartner(partner);
       return { ...read, publisher: new Publisher(read.base, read.known, this.#wire) };
     });
+    this.#near = question.near ? changesNear(this.#partners, question.near) : [];
     const { isBack, moment } = this.#question;
     const query = this.#query(moment);
     this.#timetable = new Timetable(this.#partners, isBack, isBack ? query.leave : query.end, this.#wire);
@@ -46,13 +53,14 @@ export class Session {
   /** What is searched where one leaves at a moment, or has to be there. The horizon of a profile counts from the end of its span. */
   #query(moment) {
     const { ends, isBack, horizon, until } = this.#question;
-    return isBack ? { ...ends, leave: (until ?? moment) - horizon, end: moment } : { ...ends, leave: moment, end: (until ?? moment) + horizon };
+    const bound = until ?? moment;
+    return isBack ? { ...ends, leave: bound - horizon, end: moment } : { ...ends, leave: moment, end: bound + horizon };
   }
 
   /** Asks each publisher for its stops and its first page. */
   async open() {
     const [documents] = await Promise.all([Promise.all(this.#partners.map((partner) => this.#stopsOf(partner))), this.#timetable.begin(this.#question.moment)]);
-    this.#network = documents.length === 1 ? networkOf(documents[0]) : joinedNetwork(documents, this.#near ? changesNear(this.#partners, this.#near) : []);
+    this.#network = documents.length === 1 ? networkOf(documents[0]) : joinedNetwork(documents, this.#near);
     const { ends } = this.#question;
     for (const end of ['from', 'to']) {
       if (!this.#network.has(ends[end])) throw new NoSuchStop(ends[end], end, { url: this.#base });
@@ -115,9 +123,8 @@ export class Session {
     const isAfter = close === Infinity && (edges === null || edges.last < leave);
     const isBefore = begin === -Infinity && edges !== null && edges.first > end;
     if (!isAfter && !isBefore) return;
-    const edge = edges && (isAfter ? edges.last : edges.first);
-    const message = edges ? `the timetable ${isAfter ? 'ends with the departure of' : 'begins with the departure of'} ${momentText(edge)}` : 'the timetable has no departure at all';
-    throw new OutOfWindow(message, { url: this.#base, side: isAfter ? 'after' : 'before', edge: dateOf(edge ?? NaN) });
+    const edge = edges === null ? NaN : isAfter ? edges.last : edges.first;
+    throw new OutOfWindow(windowMessage(isAfter, edge), { url: this.#base, side: isAfter ? 'after' : 'before', edge: dateOf(edge) });
   }
 
   /** The best journeys of the span, one after the other. */

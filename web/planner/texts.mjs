@@ -86,13 +86,17 @@ export function readRun(text) {
   return trip ? { trip, date: parts[2], start: parts[3] === '-' ? null : parts[3] } : null;
 }
 
+/** The place of a code unit in the order of bytes: those of signs above U+FFFF come after all others. */
+function rankOf(unit) {
+  return unit >= 0xd800 && unit <= 0xdfff ? unit + 0x10000 : unit;
+}
+
 /** Compares two ids by the bytes of UTF-8: below 0, 0 or above. */
 export function compareIds(one, other) {
-  if (one === other) return 0;
-  // Code units are in the order of bytes but for those of surrogates.
-  const [first, second] = [Array.from(one), Array.from(other)];
-  const at = first.findIndex((sign, place) => sign !== second[place]);
-  if (at < 0) return -1;
-  if (at >= second.length) return 1;
-  return first[at].codePointAt(0) - second[at].codePointAt(0);
+  const length = Math.min(one.length, other.length);
+  for (let at = 0; at < length; at += 1) {
+    const [unit, next] = [one.charCodeAt(at), other.charCodeAt(at)];
+    if (unit !== next) return rankOf(unit) - rankOf(next);
+  }
+  return one.length - other.length;
 }

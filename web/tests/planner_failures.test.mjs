@@ -290,6 +290,9 @@ test('questions that are none are BadQuestion, and nothing is asked', async () =
     assert.ok((await failure(profile({ base: stub.base, fetch: stub.fetch, ...QUESTION, ...more }).next())) instanceof BadQuestion);
   }
   assert.ok((await failure(planMany([], QUESTION))) instanceof BadQuestion);
+  for (const near of [{ metres: 100 }, { metres: 0 }, { metres: 100, pace: 0 }]) {
+    assert.ok((await failure(planMany([{ base: stub.base }], { ...QUESTION, fetch: stub.fetch, near }))) instanceof BadQuestion);
+  }
   assert.deepEqual(stub.requests, []);
 });
 
