@@ -24,7 +24,7 @@ function ask(stub, more = {}) {
 
 test('the worked example of docs/USAGE.md is planned, with its rides, its change and its requests', async () => {
   const stub = tinyStub();
-  const answer = await ask(stub, { known: date('06:59') , cache: null });
+  const answer = await ask(stub, { known: date('06:59'), cache: null });
   const [first, change, second] = answer.journey.legs;
   assert.deepEqual([answer.version, answer.pages, answer.requests], [new Date(0), 2, 4]);
   assert.deepEqual([answer.journey.departs, answer.journey.arrives], [date('08:00'), date('08:31')]);
@@ -147,7 +147,8 @@ test('at most four pages are fetched ahead, and none that cannot help once the b
   const stub = line(12);
   for (let ahead = 0; ahead <= 4; ahead += 1) {
     stub.requests.length = 0;
-    const generator = profile({ base: stub.base, fetch: stub.fetch, from: 'A', to: 'C', leave: date('08:00'), until: date('12:00'), cache: null, ahead });
+    const span = { leave: date('08:00'), until: date('12:00') };
+    const generator = profile({ base: stub.base, fetch: stub.fetch, from: 'A', to: 'C', ...span, cache: null, ahead });
     const first = await generator.next();
     assert.equal(first.value.journey.arrives.getTime(), at('08:40') * 1000);
     // Who looks at the first journey for long finds no more pages fetched than may be needed for it.
@@ -161,7 +162,8 @@ test('at most four pages are fetched ahead, and none that cannot help once the b
 
 test('a profile that is left asks for nothing more', async () => {
   const stub = line(12);
-  for await (const { journey } of profile({ base: stub.base, fetch: stub.fetch, from: 'A', to: 'C', leave: date('08:00'), until: date('18:00'), cache: null })) {
+  const span = { leave: date('08:00'), until: date('18:00') };
+  for await (const { journey } of profile({ base: stub.base, fetch: stub.fetch, from: 'A', to: 'C', ...span, cache: null })) {
     assert.ok(journey);
     break;
   }
@@ -174,7 +176,9 @@ test('a profile goes on where another one ended', async () => {
   const stub = line(3);
   const leaving = async (leave, until) => {
     const found = [];
-    for await (const { journey } of profile({ base: stub.base, fetch: stub.fetch, from: 'A', to: 'C', leave, until })) found.push(journey.departs.toISOString().slice(11, 16));
+    for await (const { journey } of profile({ base: stub.base, fetch: stub.fetch, from: 'A', to: 'C', leave, until })) {
+      found.push(journey.departs.toISOString().slice(11, 16));
+    }
     return found;
   };
   assert.deepEqual(await leaving(date('08:00'), date('08:20')), ['08:00', '08:10', '08:20']);
@@ -243,8 +247,10 @@ test('the connections of a span are handed out page after page', async () => {
 
 /** Two publishers that share a stop under two ids, or two stops that are near. */
 function partners() {
-  const one = new Stub({ base: 'http://one.example/', versions: [[0, [connection('T', 1, 'a', at('08:00'), 'hub', at('08:20'))]]], stops: ['a', 'hub'], changes: [['hub', 'hub', 60]] });
-  const other = new Stub({ base: 'http://two.example/', versions: [[0, [connection('T', 1, 'HUB', at('08:25'), 'b', at('08:40'))]]], stops: ['HUB', 'b'], changes: [['HUB', 'HUB', 240]] });
+  const there = [connection('T', 1, 'a', at('08:00'), 'hub', at('08:20'))];
+  const on = [connection('T', 1, 'HUB', at('08:25'), 'b', at('08:40'))];
+  const one = new Stub({ base: 'http://one.example/', versions: [[0, there]], stops: ['a', 'hub'], changes: [['hub', 'hub', 60]] });
+  const other = new Stub({ base: 'http://two.example/', versions: [[0, on]], stops: ['HUB', 'b'], changes: [['HUB', 'HUB', 240]] });
   const fetch = (url, options) => (url.startsWith(one.base) ? one : other).fetch(url, options);
   return { one, other, question: { from: 'a', to: 'b', leave: date('08:00'), fetch, cache: null } };
 }
@@ -305,7 +311,8 @@ test('moments have one spelling, and exist', () => {
   assert.equal(secondsOf('2024-05-01T08:00:00Z'), 1714550400);
   assert.equal(secondsOf('2024-05-01T08:00:00.999Z'), 1714550400);
   assert.equal(secondsOf('2024-02-29T23:59:59.000Z'), 1709251199);
-  const none = ['2023-02-29T08:00:00.000Z', '2024-13-01T08:00:00Z', '2024-05-01T24:00:00Z', '2024-05-01T08:60:00Z', '2024-05-01 08:00:00Z', '2024-05-01T08:00Z', '', null, 7];
+  const days = ['2023-02-29T08:00:00.000Z', '2024-13-01T08:00:00Z'];
+  const none = [...days, '2024-05-01T24:00:00Z', '2024-05-01T08:60:00Z', '2024-05-01 08:00:00Z', '2024-05-01T08:00Z', '', null, 7];
   for (const text of none) assert.ok(Number.isNaN(secondsOf(text)), String(text));
 });
 
@@ -327,12 +334,14 @@ test('ids are in the order of their bytes', () => {
 test('a base is as the URL Standard writes it', () => {
   assert.equal(readBase('HTTP://LC.example:80'), 'http://lc.example/');
   assert.equal(readBase('https://lc.example/tiny/'), 'https://lc.example/tiny/');
-  for (const text of ['http://lc.example/tiny', 'http://u:p@lc.example/', 'http://lc.example/#a', 'file:///tmp/', '/tiny/']) assert.equal(readBase(text), null, text);
+  const none = ['http://lc.example/tiny', 'http://u:p@lc.example/', 'http://lc.example/#a', 'file:///tmp/', '/tiny/'];
+  for (const text of none) assert.equal(readBase(text), null, text);
 });
 
 test('the URL of a page has one spelling', () => {
   const base = 'http://lc.example/';
   const url = `${base}memento/connections?version=1970-01-01T00:00:10.000Z&departureTime=1970-01-01T00:01:00.000Z`;
   assert.deepEqual(readPageUrl(base, url), { url, version: 10, departs: 60 });
-  for (const text of [url.replace('.000Z&', 'Z&'), url.replace('.000Z&', '.001Z&'), `${url}&a=b`, url.replace('lc', 'other'), undefined]) assert.equal(readPageUrl(base, text), null);
+  const none = [url.replace('.000Z&', 'Z&'), url.replace('.000Z&', '.001Z&'), `${url}&a=b`, url.replace('lc', 'other'), undefined];
+  for (const text of none) assert.equal(readPageUrl(base, text), null);
 });

@@ -51,7 +51,8 @@ async function freePort() {
 /** Publishes a feed until `stop` is called. */
 export async function serve(feed, words = []) {
   const port = await freePort();
-  const child = spawn(LC, ['serve', feed, '20240430', '--days', '3', '--port', String(port), '--connections', '1000000', ...words], { stdio: ['ignore', 'pipe', 'inherit'] });
+  const options = ['--days', '3', '--port', String(port), '--connections', '1000000', ...words];
+  const child = spawn(LC, ['serve', feed, '20240430', ...options], { stdio: ['ignore', 'pipe', 'inherit'] });
   const ended = new Promise((resolve) => child.once('exit', resolve));
   const stop = async () => {
     child.kill();

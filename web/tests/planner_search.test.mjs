@@ -36,7 +36,8 @@ function runOf(draw, trip) {
 
 function timetable(draw) {
   const connections = Array.from({ length: 4 + draw(6) }, (_, place) => runOf(draw, `T${place}`)).flat();
-  const changes = STOPS.flatMap(({ id }) => STOPS.map((other) => [id, other.id, 60 * (1 + draw(6))])).filter(([one, other]) => one === other ? draw(8) > 0 : draw(4) === 0);
+  const pairs = STOPS.flatMap(({ id }) => STOPS.map((other) => [id, other.id, 60 * (1 + draw(6))]));
+  const changes = pairs.filter(([one, other]) => (one === other ? draw(8) > 0 : draw(4) === 0));
   return { connections, changes };
 }
 
@@ -118,7 +119,8 @@ test('a profile has each best journey of a span once, in both directions', async
   for (const { number, draw, stub, connections, changes, moment, horizon, ends: { from, to }, ahead } of cases(COUNT, 3000)) {
     const span = 60 * draw(60);
     const isBack = draw(2) === 0;
-    const all = journeys({ connections, stops: STOPS, changes, from, to, leave: isBack ? moment - span - horizon : moment, end: isBack ? moment : moment + span + horizon });
+    const within = isBack ? { leave: moment - span - horizon, end: moment } : { leave: moment, end: moment + span + horizon };
+    const all = journeys({ connections, stops: STOPS, changes, from, to, ...within });
     const wanted = best(all).filter(({ leaves, arrives }) => (isBack ? arrives >= moment - span : leaves <= moment + span));
     const reach = isBack ? { arrive: date(moment), until: date(moment - span) } : { leave: date(moment), until: date(moment + span) };
     const got = [];
@@ -145,7 +147,9 @@ test('over the parts of a split timetable a journey is as good as over the whole
       if (!placeOf.has(entry.trip)) placeOf.set(entry.trip, draw(3));
       parts[placeOf.get(entry.trip)].push(entry);
     }
-    const stubs = parts.map((part, place) => new Stub({ base: `http://part${place}.example/`, versions: [[place, part]], stops: STOPS, changes, span: 60 * (1 + draw(40)) }));
+    const stubs = parts.map((part, place) => {
+      return new Stub({ base: `http://part${place}.example/`, versions: [[place, part]], stops: STOPS, changes, span: 60 * (1 + draw(40)) });
+    });
     const fetch = (url, options) => stubs.find(({ base }) => url.startsWith(base)).fetch(url, options);
     const isBack = draw(2) === 0;
     const reach = isBack ? { arrive: date(moment + 1800) } : { leave: date(moment) };
