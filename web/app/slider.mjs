@@ -57,6 +57,20 @@ export class VersionSlider {
     this.#say();
   }
 
+  /** Goes to the version of a place, counted from 0. */
+  go(place) {
+    this.#range.value = String(place);
+    this.#say();
+  }
+
+  /** Goes to the next version. It gives whether there is one. */
+  next() {
+    const place = Number(this.#range.value);
+    if (place >= this.#versions.length - 1) return false;
+    this.go(place + 1);
+    return true;
+  }
+
   #say() {
     if (this.#versions.length === 0) return;
     const moment = this.#versions[Number(this.#range.value)];

@@ -2,6 +2,7 @@
 
 import { readNames, readStops, readVersions, windowFor } from './documents.mjs';
 import { StopList } from './stops.mjs';
+import { wallOf } from './zone.mjs';
 
 const NEAR = 300; // Metres: one can go on foot between stops of two publishers that are so near.
 const METRES = 111_320; // of a degree of latitude
@@ -56,10 +57,10 @@ function joinedStops(lists) {
 }
 
 /** One publisher on a day, as the planner asks it. */
-async function partnerAt(window, signal) {
+async function partnerAt({ name, window }, signal) {
   const names = await readNames(window.base, signal);
   const [stops, versions] = await Promise.all([readStops(window.base, names, signal), readVersions(window.base, signal)]);
-  return { base: window.base, names, stops, versions };
+  return { name, base: window.base, names, stops, versions };
 }
 
 /** The publishers on a day. */
@@ -91,13 +92,24 @@ export class World {
 
   /** What is known of a day, as 2024-05-01. It rejects with `OutsideWindows` where no publisher has the day. */
   async at(date, signal) {
-    const windows = this.publishers.map((publisher) => windowFor(publisher, date)).filter((window) => window !== null);
-    if (windows.length === 0) {
+    const those = this.publishers.map((publisher) => ({ name: publisher.name, window: windowFor(publisher, date) })).filter(({ window }) => window !== null);
+    if (those.length === 0) {
       const { first, last } = daysOf(this.publishers);
       throw new OutsideWindows(first, last);
     }
-    const key = windows.map((window) => window.base).join(' ');
-    if (!this.#days.has(key)) this.#days.set(key, new Day(await Promise.all(windows.map((window) => partnerAt(window, signal))), this.zone));
+    const key = those.map(({ window }) => window.base).join(' ');
+    if (!this.#days.has(key)) this.#days.set(key, new Day(await Promise.all(those.map((one) => partnerAt(one, signal))), this.zone));
     return this.#days.get(key);
   }
+}
+
+/** The date and time that a form begins with: those of now if the timetable has them, else those of its last version, else its first morning. */
+export function firstMoment(world) {
+  const { first, last } = daysOf(world.publishers);
+  const versions = world.publishers.flatMap((publisher) => publisher.windows.map((window) => window.lastVersion ?? 0));
+  for (const moment of [Date.now(), Math.max(...versions)]) {
+    const { date, time } = wallOf(moment, world.zone);
+    if (first <= date && date <= last) return { date, time };
+  }
+  return { date: first, time: '08:00' };
 }
