@@ -53,7 +53,7 @@ export class Picture {
     this.#setting = { ...setting, left, width, height };
     this.time = new TimeScale(setting.since, setting.until, left, width - left - RIGHT);
     this.heights = new Map(setting.places.map((place, index) => [place, TOP + heights[index]]));
-    const clip = drawing('clipPath', { id: 'inside' }, drawing('rect', { x: left, y: TOP - 6, width: width - left, height: height - TOP - BOTTOM + 12 }));
+    const clip = drawing('clipPath', { id: 'inside' }, drawing('rect', { x: left, y: 0, width: width - left, height }));
     const strings = drawing('g', { 'clip-path': 'url(#inside)' });
     this.#parts = {
       planned: drawing('path', { class: 'planned', d: this.#plannedPath(setting.planned) }),
