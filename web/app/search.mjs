@@ -7,6 +7,7 @@ const SECOND = 1000;
 const FIRST = 4; // How many journeys a list begins with,
 const MORE = 3; // and how many more one asks for.
 const AHEAD = 2; // pages on their way before they are needed
+const WAIT = 20_000; // Milliseconds that one document may take.
 
 /** One question over the publishers of a day, and the journeys found so far in the order in which they leave. */
 export class Search {
@@ -72,6 +73,6 @@ export class Search {
     const partners = this.#day.partners.map(({ base, names }) => ({ base, names }));
     const until = new Date(moment.leave ? moment.leave.getTime() + DAY : moment.arrive.getTime() - DAY);
     const question = { from, to, ...moment, until, known: this.version ?? known ?? undefined, fewest: mode === 'fewest', near: this.#day.near };
-    return profileMany(partners, { ...question, ...wire, cache: this.#cache, ahead: AHEAD });
+    return profileMany(partners, { ...question, ...wire, cache: this.#cache, ahead: AHEAD, timeout: WAIT });
   }
 }

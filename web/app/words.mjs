@@ -223,7 +223,7 @@ const dutch = {
   legend: { planned: 'dienstregeling', good: 'minder dan 1 min te laat', some: '1 tot 5 min te laat', much: '5 min of meer te laat', cancelled: 'uitgevallen', now: 'bekend op dit moment' },
   run: (trip, headsign) => `${trip} richting ${headsign}`,
   stopColumn: 'Halte',
-  plannedColumn: 'Dienstregeling',
+  plannedColumn: 'Gepland',
   knownColumn: 'Bekend',
   delayColumn: 'Vertraging',
   hoverHelp: 'Wijs een rit aan, of kies de tekening en druk op de pijltjestoetsen, om de vertraging bij elke halte te zien.',
