@@ -123,7 +123,11 @@ class JourneyPage {
     if (!this.#test()) return;
     const address = addressOf(this.#question, location.href);
     if (address !== location.href) history.pushState(null, '', address);
-    if (await this.#loadDay()) await this.#ask();
+    if (!(await this.#loadDay())) return;
+    const results = byId('results');
+    // On a phone the form fills the screen: what is found comes into sight.
+    if (results.getBoundingClientRect().top > innerHeight * 0.75) results.scrollIntoView();
+    await this.#ask();
   }
 
   /** Plans anew by what was known at another moment. */

@@ -85,9 +85,13 @@ export async function readNames(base, signal) {
   return { stops: names.stops ?? {}, routes: names.routes ?? {}, trips: names.trips ?? {} };
 }
 
-/** The stops of a window, with what `names` says of them. */
-export async function readStops(base, names, signal) {
-  const { stops } = await stopsAt({ base, signal, timeout: WAIT });
+/**
+ * The stops of a window, with what `names` says of them.
+ *
+ * @param wire `cache` and `signal` of the planner
+ */
+export async function readStops(base, names, wire) {
+  const { stops } = await stopsAt({ base, ...wire, timeout: WAIT });
   return stops.map(({ id, name, parent }) => {
     const { lat, lon, platform } = names.stops[id] ?? {};
     return { id, name, parent, platform, lat, lon };

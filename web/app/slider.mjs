@@ -78,8 +78,6 @@ export class VersionSlider {
     const isNewest = this.known === null;
     this.#text.textContent = isNewest ? words.newest(text) : text;
     this.#range.setAttribute('aria-valuetext', this.#text.textContent);
-    // It stays where it is, so that nothing moves and the focus is not lost.
-    this.#newest.classList.toggle('unseen', isNewest);
     this.#newest.disabled = isNewest;
   }
 }

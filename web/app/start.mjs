@@ -38,7 +38,7 @@ export async function start(title, open) {
   document.title = words[title];
   try {
     const [found, store] = await Promise.all([publishers(), openStore()]);
-    await open(new World(found), store);
+    await open(new World(found, store), store);
   } catch (error) {
     showFault(explained(error), { again: () => location.reload() });
   }

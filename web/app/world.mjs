@@ -57,9 +57,9 @@ function joinedStops(lists) {
 }
 
 /** One publisher on a day, as the planner asks it. */
-async function partnerAt({ name, window }, signal) {
+async function partnerAt({ name, window }, cache, signal) {
   const names = await readNames(window.base, signal);
-  const [stops, versions] = await Promise.all([readStops(window.base, names, signal), readVersions(window.base, signal)]);
+  const [stops, versions] = await Promise.all([readStops(window.base, names, { cache, signal }), readVersions(window.base, signal)]);
   return { name, base: window.base, names, stops, versions };
 }
 
@@ -84,9 +84,12 @@ export class Day {
 /** Reads what is known of days, each set of windows once. */
 export class World {
   #days = new Map();
+  #cache;
 
-  constructor(publishers) {
+  /** @param cache where the planner keeps documents */
+  constructor(publishers, cache) {
     this.publishers = publishers;
+    this.#cache = cache;
     this.zone = zoneOf(publishers);
   }
 
@@ -98,7 +101,7 @@ export class World {
       throw new OutsideWindows(first, last);
     }
     const key = those.map(({ window }) => window.base).join(' ');
-    if (!this.#days.has(key)) this.#days.set(key, new Day(await Promise.all(those.map((one) => partnerAt(one, signal))), this.zone));
+    if (!this.#days.has(key)) this.#days.set(key, new Day(await Promise.all(those.map((one) => partnerAt(one, this.#cache, signal))), this.zone));
     return this.#days.get(key);
   }
 }

@@ -20,7 +20,7 @@ export function runTable(run, nameOf, zone) {
       element('th', { scope: 'row' }, nameOf(call.stop)),
       element('td', {}, clockWithSeconds(last(plannedTimes(call)), zone)),
       element('td', {}, clockWithSeconds(last(knownTimes(call)), zone)),
-      element('td', { class: delay === 0 ? '' : lateness(delay) === 'good' ? 'early' : 'late' }, words.seconds(delay)),
+      element('td', { class: delay < 0 ? 'early' : lateness(delay) === 'good' ? null : 'late' }, words.seconds(delay)),
     );
   });
   const heads = [words.stopColumn, words.plannedColumn, words.knownColumn, words.delayColumn].map((text) => element('th', { scope: 'col' }, text));

@@ -26,7 +26,7 @@ from typing import Callable, Iterable
 from zoneinfo import ZoneInfo
 
 sys.path.insert(0, str(Path(__file__).resolve().parents[2] / "bench"))
-from make_message import number, text  # noqa: E402  (the fields of Protocol Buffers)
+from make_message import number, text  # type: ignore[import]  # noqa: E402  (the fields of Protocol Buffers)
 
 ZONE = "Europe/Brussels"
 CENTRE = (51.054, 3.722)  # The latitude and longitude of the centre.
@@ -192,7 +192,9 @@ def trips_of(line: Line, stations: list[Station], headways: float) -> Iterable[T
         step = max(1, round(line.headway * headways)) * 60
         begin = 5 * 3600 + 20 * 60 + direction * step // 2 // 60 * 60
         for place, start in enumerate(range(begin, 24 * 3600 + 20 * 60, step)):
-            arrivals, departures, clock = [], [], start
+            arrivals: list[int] = []
+            departures: list[int] = []
+            clock = start
             for ride in rides + [0]:
                 arrivals.append(clock)
                 departures.append(clock + (20 if departures and ride else 0))
@@ -264,7 +266,8 @@ class Delays:
 
 def delays_of(trip: Trip, chance: random.Random) -> Delays:
     slack = {0: 40, 1: 15, 2: 60, 3: 55}[trip.line.kind]
-    delay, calls = 0.0, []
+    delay = 0.0
+    calls: list[int] = []
     for departure in trip.departures:
         rush = 1 + 1.2 * math.exp(-((departure - 8 * 3600) / 3000) ** 2)
         delay = max(-20.0, delay * 0.93 + chance.gauss(slack * 0.32 * rush, slack * 0.8))
@@ -280,7 +283,7 @@ def trip_update(trip: Trip, delays: Delays, day: date, now: int) -> bytes:
     is_cancelled = delays.cancelled is not None and delays.cancelled <= now
     descriptor = text(1, trip.id.encode()) + text(3, f"{day:%Y%m%d}".encode())
     if is_cancelled:
-        return text(1, descriptor + number(4, CANCELED))
+        return bytes(text(1, descriptor + number(4, CANCELED)))
     calls, last = b"", None
     for place, (departure, delay) in enumerate(zip(trip.departures, delays.of_calls), start=1):
         if place > 1 and departure + delay > now:
@@ -288,7 +291,7 @@ def trip_update(trip: Trip, delays: Delays, day: date, now: int) -> bytes:
         if delay != last:
             calls += text(2, number(1, place) + text(2, number(1, delay)) + text(3, number(1, delay)))
         last = delay
-    return text(1, descriptor + number(4, SCHEDULED)) + calls
+    return bytes(text(1, descriptor + number(4, SCHEDULED)) + calls)
 
 
 def message(net: Network, delays: dict[str, Delays], day: date, minutes: int, every: int) -> bytes:

@@ -11,6 +11,7 @@ import argparse
 import csv
 import json
 import os
+import random
 import re
 import shutil
 import subprocess
@@ -126,9 +127,9 @@ class Browser:
     def __init__(self, profile: Path, site: str) -> None:
         options = webdriver.ChromeOptions()
         for word in ["--headless=new", "--no-sandbox", "--disable-gpu", "--hide-scrollbars", "--lang=en-GB", f"--user-data-dir={profile}", "--disable-dev-shm-usage"]:
-            options.add_argument(word)
+            options.add_argument(word)  # type: ignore[no-untyped-call]
         options.set_capability("goog:loggingPrefs", {"performance": "ALL", "browser": "ALL"})
-        self.driver = webdriver.Chrome(options=options, service=Service(shutil.which("chromedriver")))
+        self.driver = webdriver.Chrome(options=options, service=Service(str(shutil.which("chromedriver"))))
         self.site = site
         self.size(1280, 900)
 
@@ -151,7 +152,10 @@ class Browser:
         return str(self.one(selector).text)
 
     def run(self, script: str, *words: object) -> object:
-        return self.driver.execute_script(script, *words)
+        return self.driver.execute_script(script, *words)  # type: ignore[no-untyped-call]
+
+    def log(self, kind: str) -> list[dict[str, str]]:
+        return list(self.driver.get_log(kind))  # type: ignore[no-untyped-call]
 
     def press(self, *keys: str) -> None:
         """Sends keys to whatever has the focus."""
@@ -187,7 +191,10 @@ class Tests:
         if self.pictures:
             self.pictures.mkdir(parents=True, exist_ok=True)
             until(lambda: self.page.run("return document.fonts.status") == "loaded")
-            self.page.driver.save_screenshot(str(self.pictures / f"{name}.png"))
+            file = str(self.pictures / f"{name}.png")
+            self.page.driver.save_screenshot(file)
+            if shutil.which("pngquant"):
+                subprocess.run(["pngquant", "--force", "--strip", "--ext", ".png", "64", file], check=True)
 
     def question(self, **more: str) -> str:
         return address(**{"from": self.ids["Toll House"], "to": self.ids["Lighthouse"], "at": f"{DAY}T08:10", **more})
@@ -305,7 +312,9 @@ class Tests:
                     page.journeys(4)
                 same(f"{name}, {scheme}: names, headings, contrast", [], page.run(RULES))
                 same(f"{name}, {scheme}: nothing is wider than the page", True, page.run("return document.documentElement.scrollWidth") == width)
-                if scheme == "light" or name == "journeys-360":
+                if name.endswith("360"):
+                    page.run("document.getElementById('results').scrollIntoView()")
+                if (scheme == "light") != (name == "journeys-360"):
                     self.picture(name if scheme == "light" else f"{name}-dark")
         page.scheme("light")
         page.size(1280, 900)
@@ -340,7 +349,7 @@ class Tests:
 
     def drawn(self, trip: city.Trip) -> list[int]:
         """The delays of a trip, as a message has them once it is over: no call is earlier than the one before it."""
-        chance = city.random.Random(11)
+        chance = random.Random(11)
         all_delays = {one.id: city.delays_of(one, chance) for one in self.net.trips}
         return all_delays[trip.id].of_calls
 
@@ -387,12 +396,12 @@ class Tests:
 
     def requests(self) -> None:
         """No request left the host of the page, and nothing was written to the console but failed loads."""
-        messages = [json.loads(entry["message"])["message"] for entry in self.page.driver.get_log("performance")]
+        messages = [json.loads(entry["message"])["message"] for entry in self.page.log("performance")]
         urls = [message["params"]["request"]["url"] for message in messages if message["method"] == "Network.requestWillBeSent"]
         own = [url for url in urls if url.startswith(self.page.site)]
         # What begins with chrome: is the browser's own first tab.
         same("requests: all are to the page's host", [], [url for url in urls if re.match("https?:|wss?:", url) and url not in own] or ([] if own else ["none"]))
-        errors = [entry["message"] for entry in self.page.driver.get_log("browser") if entry["level"] == "SEVERE" and "Failed to load resource" not in entry["message"]]
+        errors = [entry["message"] for entry in self.page.log("browser") if entry["level"] == "SEVERE" and "Failed to load resource" not in entry["message"]]
         same("console: no error", [], errors)
 
 
@@ -430,8 +439,12 @@ def demo() -> None:
         return
     with urllib.request.urlopen(f"{url}city/20240501/connections?departureTime=2024-05-01T06:00:00Z", timeout=30) as reply:
         same("demo.sh: pages behind nginx", (200, True), (reply.status, "version=2024-05-01T08:00:00.000Z" in reply.url))
-    process.send_signal(2)
-    same("demo.sh: it ends", 0, process.wait(timeout=30))
+    process.terminate()
+    try:
+        same("demo.sh: it ends", 0, process.wait(timeout=PATIENCE))
+    except subprocess.TimeoutExpired:
+        process.kill()
+        say("FAILED", "demo.sh: it does not end")
 
 
 @contextmanager
