@@ -69,7 +69,7 @@ post() {
 }
 
 [ "$port" != 0 ] || port=$(free_port)
-/usr/bin/python3 "$here/demo/city.py" "$work/city" --base "http://localhost:$port/" || fail "the city could not be made"
+/usr/bin/python3 -B "$here/demo/city.py" "$work/city" --base "http://localhost:$port/" || fail "the city could not be made"
 city=$(free_port)
 region=$(free_port)
 publish city "$city"

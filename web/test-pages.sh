@@ -10,4 +10,4 @@ if [ ! -x /usr/bin/python3 ]; then
   echo "0 passed, 0 failed, 1 skipped"
   exit 0
 fi
-exec /usr/bin/python3 web/tests/pages_test.py "$@"
+exec /usr/bin/python3 -B web/tests/pages_test.py "$@"
