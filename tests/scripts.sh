@@ -39,10 +39,11 @@ shell_scripts() {
   done
 }
 
-# typed DIRECTORY: mypy over the Python files of a directory, by the mypy.ini there or in a directory above, if there is one.
+# typed DIRECTORY: mypy over the Python files of a directory, by the mypy.ini there or in a directory above, if there is one. What has
+# its types beside it, in a .pyi, was made by a program.
 typed() {
   local above=$1 words=()
-  mapfile -t words < <(files "^$1/[^/]+\.py$")
+  mapfile -t words < <(files "^$1/[^/]+\.py$" | while read -r file; do [ -f "${file}i" ] || echo "$file"; done)
   until [ -f "$above/mypy.ini" ] || [ "$above" = . ]; do above=$(dirname "$above"); done
   [ "$above" = . ] || words=(--config-file "$above/mypy.ini" "${words[@]}")
   MYPYPATH=$1:$above:tools mypy --strict --cache-dir tests/out/mypy --scripts-are-modules "${words[@]}"

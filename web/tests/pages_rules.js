@@ -1,4 +1,4 @@
-// What assistive technology needs, tested in the page: names, references, headings, contrast. It returns a list of what is wrong. The rules are
+// What assistive technology needs, tested in the page: names, references, headings, contrast. The list `faults` says what is wrong. The rules are
 // those of WCAG 2.2 (1.3.1, 1.4.3, 2.4.6, 3.1.1, 4.1.2).
 const faults = [];
 const say = (rule, node) => faults.push(`${rule}: ${node.outerHTML.slice(0, 120)}`);
@@ -78,4 +78,3 @@ while (walker.nextNode()) {
   const contrast = (high + 0.05) / (low + 0.05);
   if (contrast < least) say(`contrast ${contrast.toFixed(2)}`, node);
 }
-return faults;
