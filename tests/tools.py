@@ -68,7 +68,7 @@ class Repository:
 
     def run(self, *words: str, **variables: str) -> subprocess.CompletedProcess[str]:
         how = {**self.environment, **variables}
-        return subprocess.run(words, cwd=self.top, env=how, stdin=subprocess.DEVNULL, capture_output=True, text=True, timeout=60, check=False)
+        return subprocess.run(words, cwd=self.top, env=how, stdin=subprocess.DEVNULL, capture_output=True, text=True, timeout=150, check=False)
 
     def noted(self) -> list[str]:
         """What `rt` was called for since the last look."""
@@ -192,7 +192,7 @@ class Unproved(unittest.TestCase):
 class Bounds(unittest.TestCase):
     def bounded(self, seconds: str, script: str) -> tuple[int, float]:
         begun = time.monotonic()
-        ran = subprocess.run([TOP / "tests/bounded.py", seconds, "bash", "-c", script], timeout=60, check=False)
+        ran = subprocess.run([TOP / "tests/bounded.py", seconds, "bash", "-c", script], timeout=150, check=False)
         return ran.returncode, time.monotonic() - begun
 
     def is_gone(self, file: Path) -> bool:

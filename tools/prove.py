@@ -137,7 +137,8 @@ class Proving:
             if made.is_dir():
                 shutil.rmtree(to / part, ignore_errors=True)
                 made.rename(to / part)
-        shutil.rmtree(room)
+        # What a command had begun may write for a moment after it was ended.
+        shutil.rmtree(room, ignore_errors=True)
 
     def stop(self) -> None:
         """Ends the commands at work, and keeps what they made."""
