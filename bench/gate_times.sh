@@ -1,11 +1,10 @@
 #!/bin/sh
 # What each crate costs the merge gate where nothing is kept, in processor seconds: its proof and its mutants. The first mutant proves the crate
-# once more. A program also costs its first build and its run. Prints the table of docs/GATE.md.
+# once more. A program also costs its first build and its run.
 #
-#   bench/gate_times.sh [--write] [CRATE..]
+#   bench/gate_times.sh [CRATE..]
 #
-# With no CRATE it measures each of crates.txt, which takes hours of one processor. With --write the rows also go into docs/GATE.md,
-# where those of other crates stay.
+# With no CRATE it measures each of crates.txt, which takes hours of one processor.
 . "$(dirname "$0")/begin.sh"
 
 python3 - "$bench/.." "$work" "$@" <<'PYTHON'
@@ -17,16 +16,13 @@ import subprocess
 import sys
 
 top, work, *words = sys.argv[1:]
-writes = "--write" in words
-GATE = f"{top}/docs/GATE.md"
-BEGIN, END = "<!-- The table of bench/gate_times.sh begins. -->\n", "<!-- It ends. -->\n"
 CHECK = ["check", "--jobs", "1"]
 HEAD = "| crate | proof | mutants | build and run | together |\n|---|---:|---:|---:|---:|\n"
 
 with open(f"{top}/crates.txt", encoding="utf-8") as file:
     listed = [line.partition("#")[0].partition(":") for line in file]
 named = {line[0].split()[0]: line[2].split() for line in listed if line[1]}
-crates = [word for word in words if word != "--write"] or [*named]
+crates = words or [*named]
 unknown = [name for name in crates if name not in named]
 if unknown:
     sys.exit(f"gate_times.sh: {unknown[0]} is no crate of crates.txt")
@@ -103,13 +99,4 @@ def table(rows):
 
 
 print(table(rows), end="")
-if writes:
-    with open(GATE, encoding="utf-8") as file:
-        before, _, rest = file.read().partition(BEGIN)
-    old, mark, after = rest.partition(END)
-    if not mark:
-        sys.exit("gate_times.sh: docs/GATE.md has no two marks for the table")
-    kept = {it[0]: it[1] for it in re.findall(r"(?m)(?=^\| `(\w+)`)(.*\n)", old) if it[0] in named}
-    with open(GATE, "w", encoding="utf-8") as file:
-        file.write(before + BEGIN + table({**kept, **rows}) + END + after)
 PYTHON
