@@ -36,7 +36,7 @@ use Rattle.lc_cli.specs.Clear.{IsAskedSide}
 use Rattle.lc_cli.specs.Command.{IsAskBlock, Prints}
 use Rattle.lc_cli.specs.Headline.{EndsBest, Headline, StaysShort, WroteBest, outcome_of, version_meant}
 use Rattle.lc_cli.specs.Top.{HasPrinted, HasServed, Past}
-use Rattle.wire_session.specs.Server.Written.{Wrote}
+use Rattle.cli_serve.specs.Written.{Wrote}
 use Rattle.lc_cli.specs.declared.block.Block.{Block}
 use Rattle.lc_cli.specs.declared.status.Status.{Status}
 use Rattle.lc_cli.specs.declared.status.Status.TheVariants.{Done, NoMemory, SinkFault}

@@ -8,7 +8,7 @@ use Rattle.back_scan.specs.declared.arrive_query.ArriveQuery.{ArriveQuery}
 use Rattle.cli_ask.specs.LatestDeparture.Client.{EndsRightLatest}
 use Rattle.cli_ask.specs.Publishing.{side_with}
 use Rattle.cli_ask.specs.declared.end.ClientEnd.{ClientEnd}
-use Rattle.wire_session.specs.Server.Written.{Wrote}
+use Rattle.cli_serve.specs.Written.{Wrote}
 use Rattle.cli_words.specs.Laws.{OneCommand}
 use Rattle.cli_words.specs.Words.{SaysCommand}
 use Rattle.cli_words.specs.declared.command.Arrive.{Arrive}

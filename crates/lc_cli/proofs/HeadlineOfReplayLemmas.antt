@@ -26,7 +26,7 @@ use Rattle.lc_cli.specs.Block.{IsBlockEnd}
 use Rattle.lc_cli.specs.Command.{IsReplayBlock, Prints}
 use Rattle.lc_cli.specs.Headline.{EndsBestThen, HeadlineOfReplay, StaysShortThroughout, WroteEachBest, version_meant}
 use Rattle.lc_cli.specs.Top.{HasPrinted, HasServed, Past}
-use Rattle.wire_session.specs.Server.Written.{Wrote}
+use Rattle.cli_serve.specs.Written.{Wrote}
 use Rattle.lc_cli.specs.declared.block.Block.{Block}
 use Rattle.lc_cli.specs.declared.status.Status.TheVariants.{Done}
 use Rattle.lc_cli.proofs.EarlierSideLemmas.{HasMore, Rises, answers_before, more_since, rises_first, rises_heard}

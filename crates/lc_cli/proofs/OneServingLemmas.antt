@@ -4,11 +4,11 @@ use Rattle.cli_ask.proofs.AdmissionLemmas.{of_history, one_behind, store_with}
 use Rattle.cli_ask.proofs.SideLemmas.{dates_of}
 use Rattle.cli_ask.specs.Admission.{IsBehind}
 use Rattle.cli_ask.specs.Publishing.{side_for, store_of}
-use Rattle.wire_session.proofs.ServerLemmas.ZoneLemmas.{in_zone, one_in_zone}
-use Rattle.wire_session.specs.Server.SameBytes.{AreOneSide, AskOne, OneOverBytes}
-use Rattle.wire_session.specs.Server.Serve.{IsServedWhole, ServesTo}
-use Rattle.wire_session.specs.declared.server.fault.ServeFault.{ServeFault}
-use Rattle.wire_session.specs.declared.server.fault.ServeFault.TheVariants as faults
+use Rattle.cli_serve.proofs.ZoneLemmas.{in_zone, one_in_zone}
+use Rattle.cli_serve.specs.SameBytes.{AreOneSide, AskOne, OneOverBytes}
+use Rattle.cli_serve.specs.Serve.{IsServedWhole, ServesTo}
+use Rattle.cli_serve.specs.declared.fault.ServeFault.{ServeFault}
+use Rattle.cli_serve.specs.declared.fault.ServeFault.TheVariants as faults
 use Rattle.cli_words.specs.Laws.{OneCommand}
 use Rattle.cli_words.specs.Words.{SaysCommand}
 use Rattle.cli_words.specs.declared.command.Command.TheVariants as commands

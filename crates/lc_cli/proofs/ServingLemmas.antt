@@ -1,8 +1,8 @@
 -- What follows from the end of serving.
 use Rattle.std.proofs.Common.{Result, Ok, Err, arith, subst, sym}
-use Rattle.wire_session.specs.Server.Serve.{DoorNeverFell, ServesTo}
-use Rattle.wire_session.specs.declared.server.fault.ServeFault.{ServeFault}
-use Rattle.wire_session.specs.declared.server.fault.ServeFault.TheVariants as faults
+use Rattle.cli_serve.specs.Serve.{DoorNeverFell, ServesTo}
+use Rattle.cli_serve.specs.declared.fault.ServeFault.{ServeFault}
+use Rattle.cli_serve.specs.declared.fault.ServeFault.TheVariants as faults
 use Rattle.lc_io.specs.Door.{DoorSeen}
 use Rattle.lc_io.specs.Counts.{Rose}
 use Rattle.lc_io.specs.Sink.{SinkSeen}

@@ -5,7 +5,7 @@ use Rattle.lc_io.specs.Counts.{Rose}
 use Rattle.lc_io.specs.Sink.{SinkSeen}
 use Rattle.page_client.specs.declared.outcome.Outcome.{Outcome}
 use Rattle.page_client.specs.declared.outcome.Outcome.TheVariants as outcomes
-use Rattle.wire_session.specs.Server.Written.{Wrote, WroteFront}
+use Rattle.cli_serve.specs.Written.{Wrote, WroteFront}
 use Rattle.lc_cli.specs.declared.block.Block.{Block}
 use Rattle.lc_cli.specs.declared.status.Status.{Status}
 use Rattle.lc_cli.specs.declared.status.Status.TheVariants.{Done, SinkFault, LinkFault, PeerWrong, QueryRefused, NoMemory}

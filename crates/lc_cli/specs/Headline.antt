@@ -39,7 +39,7 @@ use Rattle.timetable.specs.declared.timetable.Timetable.{Timetable}
 use Rattle.version_store.specs.Store.{Stored}
 use Rattle.lc_cli.specs.Clear.{AreRecordedAsks, IsAskedSide, IsRecordedCourse}
 use Rattle.lc_cli.specs.Top.{IsRight, Past}
-use Rattle.wire_session.specs.Server.Written.{Wrote}
+use Rattle.cli_serve.specs.Written.{Wrote}
 use Rattle.lc_cli.specs.declared.status.Status.TheVariants.{Done}
 
 -- A question means the last version at or before the moment that it names, else the base. Where it names no moment, it means the newest.

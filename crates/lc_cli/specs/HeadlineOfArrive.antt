@@ -5,7 +5,7 @@ use Rattle.back_scan.specs.Forward.{forward_query}
 use Rattle.back_scan.specs.declared.arrive_query.ArriveQuery.{ArriveQuery}
 use Rattle.cli_ask.specs.Block.{client_text_of}
 use Rattle.cli_ask.specs.declared.end.ClientEnd.{ClientEnd}
-use Rattle.wire_session.specs.Server.Written.{Wrote}
+use Rattle.cli_serve.specs.Written.{Wrote}
 use Rattle.cli_words.specs.Words.{SaysCommand}
 use Rattle.cli_words.specs.declared.command.Arrive.{Arrive}
 use Rattle.cli_words.specs.declared.command.Command.TheVariants as commands

@@ -17,7 +17,7 @@ use Rattle.lc_cli.specs.Drill.{IsDrilled, IsSummary}
 use Rattle.lc_cli.specs.Headline.{EndsBestThen, StaysShortThroughout}
 use Rattle.lc_cli.specs.Top.{IsRight, Past}
 use Rattle.lc_cli.specs.declared.status.Status.TheVariants.{Done}
-use Rattle.wire_session.specs.Server.Written.{Wrote}
+use Rattle.cli_serve.specs.Written.{Wrote}
 
 -- `drill` played the event sequence of its files, and wrote the summary of its clients, of which each ended best.
 pub record DrilledEachBest {X : Type 0} (p : Past X) (drill : Drill) : Type 0 where

@@ -1,6 +1,6 @@
 -- A command begins from one side by its files. Two runs of `serve` over the same files and the same bytes answer the same.
 use Rattle.std.specs.Prelude.{◌≡◌, ◌≢◌, Bool, [], List, None, Some}
-use Rattle.wire_session.specs.Server.SameBytes.{AreOneSide, RecordsWell, ServeAlike}
+use Rattle.cli_serve.specs.SameBytes.{AreOneSide, RecordsWell, ServeAlike}
 use Rattle.cli_words.specs.declared.command.Published.{Published}
 use Rattle.cli_words.specs.declared.command.Serve.{Serve}
 use Rattle.lc_io.specs.Door.{DoorRecorded}

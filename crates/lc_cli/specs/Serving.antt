@@ -1,14 +1,14 @@
 -- How a run ends that serves connections.
 use Rattle.std.specs.Prelude.{◌≡◌, codes, Result, Ok, Err}
-use Rattle.wire_session.specs.Server.Serve.{Asked, ServesTo}
-use Rattle.wire_session.specs.declared.server.fault.ServeFault.{ServeFault}
-use Rattle.wire_session.specs.declared.server.fault.ServeFault.TheVariants as faults
+use Rattle.cli_serve.specs.Serve.{Asked, ServesTo}
+use Rattle.cli_serve.specs.declared.fault.ServeFault.{ServeFault}
+use Rattle.cli_serve.specs.declared.fault.ServeFault.TheVariants as faults
 use Rattle.fragmenter.specs.Cutting.{chosen_cuts}
 use Rattle.lc_io.specs.Door.{DoorSeen}
 use Rattle.lc_io.specs.Sink.{SinkSeen}
 use Rattle.publisher.specs.Held.{side_of}
 use Rattle.lc_cli.specs.Refusal.{no_memory_line}
-use Rattle.wire_session.specs.Server.Written.{SinkNeverFell}
+use Rattle.cli_serve.specs.Written.{SinkNeverFell}
 use Rattle.lc_cli.specs.Writing.{Said}
 use Rattle.lc_cli.specs.declared.server.Server.{Server}
 use Rattle.lc_cli.specs.declared.status.Status.{Status}

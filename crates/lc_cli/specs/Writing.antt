@@ -2,7 +2,7 @@
 use Rattle.std.specs.Prelude.{◌⊎◌, ℕ, List}
 use Rattle.lc_io.specs.Counts.{Rose}
 use Rattle.lc_io.specs.Sink.{SinkSeen}
-use Rattle.wire_session.specs.Server.Written.{Wrote, WroteFront}
+use Rattle.cli_serve.specs.Written.{Wrote, WroteFront}
 
 -- the sink counted a fault, or ran out of memory
 abbrev pub FellShort : SinkSeen → SinkSeen → Type 0

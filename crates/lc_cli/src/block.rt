@@ -1,6 +1,6 @@
 ghost use Rattle.std.specs.Prelude.{◌≡◌, ◌+◌, ◌<◌, ◌^◌};
 ghost use Rattle.lc_cli.specs.Block.{IsBlockEnd, client_status_of, failed_status_of};
-ghost use Rattle.wire_session.specs.Server.Written.{SinkNeverFell};
+ghost use Rattle.cli_serve.specs.Written.{SinkNeverFell};
 
 use crate::status::Status;
 use cli_ask::ClientEnd;

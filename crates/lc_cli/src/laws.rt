@@ -13,6 +13,7 @@ ghost use Rattle.lc_cli.specs.OneServing.{BeginsFromIt, NotAnotherBase, NotMadeU
 use back_client::one_latest_answer;
 use cli_ask::{one_fewest_output, one_latest_output, one_output};
 use cli_replay::{one_course, one_growing_plan, one_plan, relays_plan_right};
+use cli_serve::one_over_bytes;
 use cli_words::one_command;
 use journey_text::one_script;
 use lc_world::Link;
@@ -20,7 +21,6 @@ use page_relay::Relay;
 use rounds_client::fewest_at_version;
 use timetable::{one_end, one_timetable};
 use version_store::one_outcome;
-use wire_session::one_over_bytes;
 
 /// A run of `ask` with status Done wrote a best journey at the version that its question means, or that there is none. A run of `replay` did so for
 /// each client that asked, at the version that its question meant before its first turn. A run of `plan` over an honest link did so for each

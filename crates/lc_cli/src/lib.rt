@@ -1,5 +1,5 @@
 //! The commands of `lc`: they check feeds, publish them, and plan journeys over pages that a publisher gives. It builds on the
-//! arguments, the timetable of a feed, `cli_ask`, `cli_replay`, `cli_drill` and `wire_session`.
+//! arguments, the timetable of a feed, `cli_ask`, `cli_replay`, `cli_drill` and `cli_serve`.
 #![tactic(auto)]
 
 mod block;

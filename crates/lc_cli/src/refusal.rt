@@ -5,7 +5,7 @@ ghost use Rattle.cli_replay.specs.declared.inputs.refusal.Refusal.TheVariants.{L
 ghost use Rattle.timetable.specs.declared.fault.LoadFault.TheVariants.{NoMemory as OutOfMemory};
 ghost use Rattle.version_store.specs.declared.message_fault.MessageFault.TheVariants as messages;
 ghost use Rattle.lc_cli.specs.Refusal.{HasMadeLine, IsRefusalEnd, error_line_of, feed_line_of, large_line_of, script_line_of, status_of, update_line_of};
-ghost use Rattle.wire_session.specs.Server.Written.{SinkNeverFell};
+ghost use Rattle.cli_serve.specs.Written.{SinkNeverFell};
 ghost use Rattle.lc_cli.specs.Writing.{Said};
 
 use crate::status::Status;

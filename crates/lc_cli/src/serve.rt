@@ -1,8 +1,8 @@
 ghost use Rattle.std.specs.Prelude.{IfErr, IfOk};
 ghost use Rattle.cli_replay.specs.Inputs.Inputs.{IsRefusedFor};
-ghost use Rattle.wire_session.specs.Server.Serve.{DoorNeverFell};
+ghost use Rattle.cli_serve.specs.Serve.{DoorNeverFell};
 ghost use Rattle.lc_cli.specs.Serving.{IsServingEnd};
-ghost use Rattle.wire_session.specs.Server.Written.{SinkNeverFell};
+ghost use Rattle.cli_serve.specs.Written.{SinkNeverFell};
 ghost use Rattle.gtfs_tables.specs.Reading.{Keeps};
 ghost use Rattle.lc_cli.specs.Command.{IsServer};
 ghost use Rattle.lc_cli.specs.Scope.{scope_of};
@@ -13,10 +13,10 @@ use crate::server::Server;
 use crate::status::Status;
 use cli_ask::serving_publisher;
 use cli_replay::{Inputs, Refusal, read_inputs};
+use cli_serve::ServeFault;
 use cli_words::{Published, Serve};
 use lc_io::{Door, Folder, Sink};
 use std::alloc::Global;
-use wire_session::ServeFault;
 
 /// Reads what is to be served, and makes its publisher.
 pub(crate) fn server<F: Folder>(
@@ -75,7 +75,7 @@ pub(crate) fn serve<D: Door, S: Sink>(
         connections,
         ..
     } = server;
-    match wire_session::serve(alloc, publisher, line, port, connections, door, out) {
+    match cli_serve::serve(alloc, publisher, line, port, connections, door, out) {
         Ok(()) => Status::Done,
         Err(ServeFault::Door { before, after }) => {
             say(b"error door\n", out);

@@ -5,13 +5,13 @@ ghost use Rattle.cli_words.specs.declared.command.Check.{Check};
 ghost use Rattle.cli_words.specs.declared.command.Command.{Command};
 ghost use Rattle.cli_words.specs.declared.command.Command.TheVariants as commands;
 ghost use Rattle.cli_words.specs.declared.command.Serve.{Serve as Served};
-ghost use Rattle.wire_session.specs.Server.Serve.{DoorNeverFell};
+ghost use Rattle.cli_serve.specs.Serve.{DoorNeverFell};
 ghost use Rattle.gtfs_tables.specs.Reading.{Keeps};
 ghost use Rattle.lc_world.specs.GoneOn.{HasGoneOn};
 ghost use Rattle.lc_cli.specs.Clear.{IsAnswered, IsClear};
 ghost use Rattle.lc_cli.specs.Command.{LeavesLink};
 ghost use Rattle.lc_cli.specs.Top.{IsEarlyRefusal, IsRight};
-ghost use Rattle.wire_session.specs.Server.Written.{SinkNeverFell};
+ghost use Rattle.cli_serve.specs.Written.{SinkNeverFell};
 
 use crate::block::write_block;
 use crate::command::outcome;

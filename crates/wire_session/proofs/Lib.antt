@@ -1,9 +1,8 @@
 pub mod EndLemmas
-pub mod FrontLemmas
 pub mod GrowLemmas
+pub mod FrontLemmas
 pub mod LongLemmas
 pub mod OneSaidLemmas
-pub mod ServerLemmas
 pub mod SessionLemmas
 pub mod StandLemmas
 pub mod StepLemmas

@@ -1,6 +1,5 @@
 pub mod Laws
 pub mod Phase
-pub mod Server
 pub mod Session
 pub mod SessionOut
 pub mod Stands
