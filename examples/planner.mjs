@@ -8,6 +8,11 @@
 import { OutOfWindow, PlannerError, plan } from '../web/planner.mjs';
 import { encodeId } from '../web/planner/texts.mjs';
 
+/** A publisher without a proxy serves one connection after the other: so each ends with its reply. */
+function closingFetch(url, options) {
+  return fetch(url, { ...options, headers: { ...options.headers, Connection: 'close' } });
+}
+
 /** A leg as a line of `lc ask`, which has none for a change between two rides. */
 function lineOf(leg) {
   const [from, to] = [leg.from, leg.to].map(encodeId);
@@ -27,7 +32,7 @@ function linesOf({ journey, pages }) {
 /** Plans by the words of the command. */
 async function answer([base, from, to, moment, horizon = '86400']) {
   try {
-    return linesOf(await plan({ base, from, to, leave: new Date(moment), horizon: Number(horizon) }));
+    return linesOf(await plan({ base, from, to, leave: new Date(moment), horizon: Number(horizon), fetch: closingFetch }));
   } catch (error) {
     if (error instanceof OutOfWindow) return ['no journey', error.message];
     throw error;
