@@ -170,7 +170,7 @@ test(`${QUESTIONS} questions have the answers of lc, in as many requests, by jou
     await stop();
     await remove();
   }
-  context.diagnostic(JSON.stringify(seen));
+  context.diagnostic(`seen ${JSON.stringify(seen)}`);
   for (const [what, count] of Object.entries(seen)) assert.ok(count > 0, `no question with ${what}`);
   assert.ok(seen.journeys > QUESTIONS / 3, `${seen.journeys} journeys`);
 });

@@ -1,4 +1,4 @@
-// Reports tests of node as the lines of a test.sh: `ok: ..`, `FAILED: ..` or `skipped: ..`, and what failed below it.
+// Reports tests of node as the lines of a test.sh: `ok: ..`, `FAILED: ..` or `skipped: ..`, with why it failed, and what a test says that it has seen.
 
 /** The lines of a failure: its message, as it stands in the error. */
 function causeOf({ details }) {
@@ -13,6 +13,6 @@ export default async function* report(events) {
     if (type === 'test:pass' && data.skip !== undefined) yield `skipped: ${data.name}, since ${data.skip}\n`;
     else if (type === 'test:pass' && !isFile) yield `ok: ${data.name}\n`;
     else if (type === 'test:fail' && (!isFile || data.details.error?.failureType !== 'subtestsFailed')) yield `FAILED: ${data.name}\n${causeOf(data)}\n`;
-    else if (type === 'test:diagnostic' && data.nesting > 0) yield `  ${data.message}\n`;
+    else if (type === 'test:diagnostic' && data.message.startsWith('seen ')) yield `  ${data.message}\n`;
   }
 }

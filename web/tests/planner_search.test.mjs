@@ -73,7 +73,7 @@ function* cases(count, seed) {
   }
 }
 
-const COUNT = 400;
+const COUNT = 250;
 
 test('leaving at a moment, a journey arrives as early as any, in as few rides as any where that is asked', async () => {
   let found = 0;
